@@ -1,2 +1,4 @@
 pub mod Pool
 pub mod ClassFile
+pub mod References
+pub mod Members

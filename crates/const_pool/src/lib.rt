@@ -2,7 +2,9 @@
 #![tactic(auto)]
 
 mod class;
+mod descriptor;
 mod pool;
 
 pub use class::{Attribute, ClassFile, CodeAttribute, Handler, Member, Raw};
-pub use pool::{Const, Pool};
+pub use descriptor::{Kind, Shape};
+pub use pool::{Const, MemberRef, Pool, PoolError};

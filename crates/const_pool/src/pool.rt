@@ -3,6 +3,8 @@
 ghost use Rattle.std.specs.Prelude.{◌≡◌};
 ghost use Rattle.std.specs.Option.{option_copied};
 ghost use Rattle.const_pool.specs.Pool.{entry_at};
+ghost use Rattle.const_pool.specs.Members.{reference_view};
+ghost use Rattle.const_pool.specs.References.{Walks, entry_walk, text_walk, class_walk, name_type_walk, member_walk, reference_walk};
 
 use jf_bytes::{Seq, Text16};
 use std::marker::Model;
@@ -26,6 +28,22 @@ pub enum Const {
     Method(u16, u16),
     InterfaceMethod(u16, u16),
     NameType(u16, u16),
+}
+
+/// Why a look-up gives nothing: an index that names no entry, or an entry of another tag.
+#[derive(Clone, Copy, Debug, PartialEq, Eq)]
+pub enum PoolError {
+    /// 0, the second index of a `Long` or `Double`, or past the end.
+    BadIndex,
+    WrongKind,
+}
+
+/// A member as a class file names it (4.4.2): its class with slashes, its name, its descriptor.
+#[derive(Clone, Copy, Debug)]
+pub struct MemberRef<'a> {
+    pub class: &'a Text16,
+    pub name: &'a Text16,
+    pub descriptor: &'a Text16,
 }
 
 /// A constant pool, from index 0 on. A clause sees the list of its entries.
@@ -61,6 +79,65 @@ impl Pool {
             None => None,
             Some(Const::Gap) => None,
             Some(entry) => Some(entry),
+        }
+    }
+
+    fn entry(&self, i: u16) -> Result<&Const, PoolError>
+        ensures { Walks (λ c. c.now) result (entry_walk self.now i) }
+    {
+        self.get(i).ok_or(PoolError::BadIndex)
+    }
+
+    /// The text of a Utf8 entry (4.4.7).
+    pub fn text(&self, i: u16) -> Result<&Text16, PoolError>
+        ensures { Walks (λ t. t.now) result (text_walk self.now i) }
+    {
+        match self.entry(i)? {
+            Const::Utf8(text) => Ok(text),
+            _ => Err(PoolError::WrongKind),
+        }
+    }
+
+    /// The name of a class entry (4.4.1), with slashes.
+    pub fn class_name(&self, i: u16) -> Result<&Text16, PoolError>
+        ensures { Walks (λ t. t.now) result (class_walk self.now i) }
+    {
+        match self.entry(i)? {
+            Const::Class(name) => self.text(*name),
+            _ => Err(PoolError::WrongKind),
+        }
+    }
+
+    fn name_type(&self, i: u16) -> Result<(&Text16, &Text16), PoolError>
+        ensures { Walks (λ p. record { name = p.0.now; descriptor = p.1.now }) result (name_type_walk self.now i) }
+    {
+        match self.entry(i)? {
+            Const::NameType(name, descriptor) => Ok((self.text(*name)?, self.text(*descriptor)?)),
+            _ => Err(PoolError::WrongKind),
+        }
+    }
+
+    fn reference(&self, class: u16, name_type: u16) -> Result<MemberRef<'_>, PoolError>
+        ensures { Walks reference_view result (reference_walk self.now class name_type) }
+    {
+        let class = self.class_name(class)?;
+        let (name, descriptor) = self.name_type(name_type)?;
+        Ok(MemberRef {
+            class,
+            name,
+            descriptor,
+        })
+    }
+
+    /// What a Fieldref, a Methodref or an InterfaceMethodref names (4.4.2).
+    pub fn member(&self, i: u16) -> Result<MemberRef<'_>, PoolError>
+        ensures { Walks reference_view result (member_walk self.now i) }
+    {
+        match self.entry(i)? {
+            Const::Field(class, member) => self.reference(*class, *member),
+            Const::Method(class, member) => self.reference(*class, *member),
+            Const::InterfaceMethod(class, member) => self.reference(*class, *member),
+            _ => Err(PoolError::WrongKind),
         }
     }
 }
