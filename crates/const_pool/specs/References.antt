@@ -1,7 +1,7 @@
 -- Following the pool's indices to the texts (JVM Specification 4.4.1, 4.4.2, 4.4.6). A walk goes from the index to the
 -- texts, for a member to the class before the name and the descriptor, and gives the first fault on its way.
-use Rattle.std.specs.Prelude.{◌≡◌, ℕ, List, Option, Some, None, Result, Ok, Err}
-use Rattle.std.specs.Option.{ok_or}
+use Rattle.std.specs.Prelude.{◌≡◌, ℕ, Bool, true, false, List, Option, Some, None, Result, Ok, Err, if◌then◌else◌}
+use Rattle.std.specs.Option.{ok_or, option_map_or}
 use Rattle.std.specs.Result.{result_ok}
 use Rattle.const_pool.specs.declared.pool.Const.{Const}
 use Rattle.const_pool.specs.declared.pool.Const.TheVariants.{Utf8, Class, Field, Method, InterfaceMethod, NameType}
@@ -78,3 +78,18 @@ named_class pool i = result_ok (class_walk pool i)
 
 abbrev pub named_member : List Const → ℕ → Option Reference
 named_member pool i = result_ok (member_walk pool i)
+
+abbrev pub is_field : Const → Bool
+is_field (Field c n) = true
+is_field _ = false
+
+abbrev pub is_method : Const → Bool
+is_method (Method c n) = true
+is_method _ = false
+
+-- what a Fieldref names, and what a Methodref names
+abbrev pub named_field : List Const → ℕ → Option Reference
+named_field pool i = if option_map_or is_field (entry_at pool i) false then named_member pool i else None
+
+abbrev pub named_method : List Const → ℕ → Option Reference
+named_method pool i = if option_map_or is_method (entry_at pool i) false then named_member pool i else None

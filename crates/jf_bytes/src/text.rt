@@ -1,6 +1,7 @@
 //! Texts as the class file has them: lists of UTF-16 units.
 
 ghost use Rattle.std.specs.Prelude.{◌≡◌};
+ghost use Rattle.std.specs.Str.{bytes_eq};
 
 use crate::seq::Seq;
 use std::marker::Model;
@@ -34,5 +35,30 @@ impl Text16 {
         ensures { result.now ≡ self.now }
     {
         self.units.as_slice()
+    }
+}
+
+impl Text16 {
+    /// Whether the two texts have the same units.
+    pub fn same(&self, other: &Text16) -> bool
+        ensures { result ≡ bytes_eq self.now other.now }
+    {
+        self.units() == other.units()
+    }
+
+    /// Whether the units are these bytes, one by one.
+    pub fn is_bytes(&self, bytes: &[u8]) -> bool
+        ensures { result ≡ bytes_eq self.now bytes.now }
+    {
+        let units = self.units();
+        if units.len() != bytes.len() {
+            return false;
+        }
+        for i in 0..units.len() {
+            if units[i] != u16::from(bytes[i]) {
+                return false;
+            }
+        }
+        true
     }
 }
