@@ -1,10 +1,14 @@
 //! Texts, lists, sources, sinks and files: what every other crate of jfluid stands on.
 #![tactic(auto)]
 
+mod error;
 mod seq;
 mod stack;
+mod streams;
 mod text;
 
+pub use error::{Failed, FetchError, NoMemory};
 pub use seq::Seq;
 pub use stack::Stack;
+pub use streams::{Files, Sink, Source};
 pub use text::Text16;
