@@ -2,12 +2,14 @@
 #![tactic(auto)]
 
 mod error;
+mod memory;
 mod seq;
 mod stack;
 mod streams;
 mod text;
 
 pub use error::{Failed, FetchError, NoMemory};
+pub use memory::{MemSink, MemSource};
 pub use seq::Seq;
 pub use stack::Stack;
 pub use streams::{Files, Sink, Source};
