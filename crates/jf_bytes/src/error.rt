@@ -55,3 +55,14 @@ impl<T: Drop> From<AllocFailed<T>> for FetchError {
         FetchError::NoMemory
     }
 }
+
+impl From<Failed> for FetchError {
+    ghost use Rattle.std.specs.Prelude.{◌≡◌};
+    ghost use Rattle.jf_bytes.specs.declared.error.FetchError.TheVariants.{Failed as fault};
+
+    ghost from_gives = { λ _ e. e ≡ fault };
+
+    fn from(_failed: Failed) -> FetchError {
+        FetchError::Failed
+    }
+}

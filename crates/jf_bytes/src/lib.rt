@@ -9,7 +9,7 @@ mod streams;
 mod text;
 
 pub use error::{Failed, FetchError, NoMemory};
-pub use memory::{MemSink, MemSource};
+pub use memory::{MemFiles, MemSink, MemSource};
 pub use seq::Seq;
 pub use stack::Stack;
 pub use streams::{Files, Sink, Source};

@@ -1,7 +1,8 @@
 //! Sources, sinks and files in memory, which fail at the calls that they are told to fail at.
 
-ghost use Rattle.std.specs.Prelude.{◌≡◌, ◌+◌, ◌^◌, ◌≤◌, ◌<◌, ◌↔◌, [], Some, None, ◌++◌, length, take, drop, map, min, vec_items, string_bytes, is_err, IfOk, IfSome, IsErr, OnOk, IsErrOf, IsTrue, IsFalse};
+ghost use Rattle.std.specs.Prelude.{◌≡◌, ◌+◌, ◌^◌, ◌≤◌, ◌<◌, ◌↔◌, [], Some, None, ◌++◌, length, take, drop, map, min, vec_items, vec_len, string_bytes, is_err, IfOk, IfSome, IsErr, OnOk, IsErrOf, IsTrue, IsFalse};
 ghost use Rattle.std.specs.List.{zip};
+ghost use Rattle.std.specs.Option.{option_copied};
 ghost use Rattle.std.specs.Io.KnownBytes.{append_known, prepend_known};
 ghost use Rattle.jf_bytes.specs.Streams.{HasCause, PutsFront, FetchCause, greatest, contents_at, front_at, failed_name};
 ghost use Rattle.jf_bytes.specs.Calls.{first_calls, is_failing, after_call};
@@ -188,5 +189,140 @@ impl Sink for MemSink {
         let count = wanted.min(self.room - self.bytes.len());
         self.bytes.extend_from_slice(&bytes[..count]).unwrap();
         self.calls.count(is_failing || count < bytes.len())
+    }
+}
+
+/// The contents beside the first name that equals this one.
+fn find<'a>(names: &[String], contents: &'a [Vec<u8>], name: &str) -> Option<&'a [u8]>
+    requires { length names.now ≡ length contents.now }
+    ensures { option_copied result ≡ contents_at (zip (map string_bytes names.now) (map vec_items contents.now)) name.now }
+{
+    for (at, known) in names.iter().enumerate() {
+        if known.as_str() == name {
+            return Some(contents[at].as_slice());
+        }
+    }
+    None
+}
+
+/// Files in memory. A fetch fails exactly where its number is one of those that are to fail, and where no file has the
+/// name, unless memory is wanting first.
+#[derive(Debug, Drop)]
+pub struct MemFiles {
+    names: Vec<String>,
+    contents: Vec<Vec<u8>>,
+    calls: Calls,
+    last_failed: String,
+}
+
+impl Model for MemFiles {
+    ghost use Rattle.std.specs.Prelude.{◌≡◌, map, vec_items, vec_len, string_bytes};
+    ghost use Rattle.std.specs.List.{zip};
+    ghost use Rattle.jf_bytes.specs.Memory.{FilesView};
+
+    ghost Value = { FilesView };
+
+    ghost view = { λ f. record {
+      contents = zip (map string_bytes f.names.items) (map vec_items f.contents.items);
+      calls = f.calls;
+      last_failed = string_bytes f.last_failed;
+    } };
+
+    ghost invariant = { λ f. vec_len f.names ≡ vec_len f.contents };
+}
+
+impl MemFiles {
+    /// Files of these names and contents; of a repeated name the first counts. The fetches whose numbers are in
+    /// `failing`, counted from 1, fail.
+    pub fn new(
+        alloc: Global,
+        names: Vec<String>,
+        contents: Vec<Vec<u8>>,
+        failing: Vec<u64>,
+    ) -> MemFiles
+        requires { vec_len names ≡ vec_len contents }
+        ensures { result ≡ record {
+          contents = zip (map string_bytes names.items) (map vec_items contents.items);
+          calls = first_calls failing.items;
+          last_failed = [];
+        } }
+    {
+        MemFiles {
+            names,
+            contents,
+            calls: Calls::new(failing),
+            last_failed: String::new(alloc),
+        }
+    }
+
+    /// The contents of the first file of a name.
+    fn find(&self, name: &str) -> Option<&[u8]>
+        ensures { option_copied result ≡ contents_at self.now.contents name.now }
+    {
+        find(self.names.as_slice(), self.contents.as_slice(), name)
+    }
+
+    /// What the next fetch answers, but for the want of memory for the name.
+    fn answer(&self, alloc: Global, name: &str, most: usize) -> Result<Vec<u8>, FetchError>
+        requires { most < 2 ^ 32 }
+        ensures found { IfOk result (λ bytes. front_at self.now.contents name.now most ≡ Some bytes.items) }
+        ensures given { OnOk result (IsFalse (fetch_fails self.now name.now)) }
+        ensures failed { IsErrOf result FetchError.Failed → IsTrue (fetch_fails self.now name.now) }
+    {
+        if self.calls.is_failing() {
+            return Err(FetchError::Failed);
+        }
+        match self.find(name) {
+            Some(bytes) => {
+                let count = bytes.len().min(most + 1);
+                Ok(Vec::from_slice(alloc, &bytes[..count])?)
+            }
+            None => Err(FetchError::Failed),
+        }
+    }
+
+    /// Counts a fetch, and keeps its name where it failed.
+    fn settle(
+        &mut self,
+        name: String,
+        answer: Result<Vec<u8>, FetchError>,
+    ) -> Result<Vec<u8>, FetchError>
+        ensures same { result ≡ answer }
+        ensures after { self.new ≡ after_fetch self.old (string_bytes name) (is_fault answer) }
+        ensures cause { FetchCause self.old.calls.faults self.new.calls.faults result }
+    {
+        let failed = matches!(answer, Err(FetchError::Failed));
+        if failed {
+            self.last_failed = name;
+        }
+        self.calls.count(failed)?;
+        answer
+    }
+}
+
+impl Files for MemFiles {
+    ghost contents = { λ f. Some f.contents };
+
+    ghost faults = { λ f. f.calls.faults };
+
+    ghost last_failed = { λ f. f.last_failed };
+
+    fn fetch(&mut self, alloc: Global, name: &str, most: usize) -> Result<Vec<u8>, FetchError>
+        requires { most < 2 ^ 32 }
+        ensures found { IfOk result (λ bytes. front_at self.old.contents name.now most ≡ Some bytes.items) }
+        ensures absent { contents_at self.old.contents name.now ≡ None → IsErr result }
+        ensures contents_stay { self.new.contents ≡ self.old.contents }
+        ensures cause { FetchCause self.old.calls.faults self.new.calls.faults result }
+        ensures last_failed { self.new.last_failed ≡ failed_name self.old.last_failed name.now result }
+        ensures given { OnOk result (IsFalse (fetch_fails self.old name.now)) }
+        ensures failed { IsErrOf result FetchError.Failed → IsTrue (fetch_fails self.old name.now) }
+        ensures after { self.new ≡ after_fetch self.old name.now (is_fault result) }
+    {
+        let Ok(kept) = String::from_str(alloc, name) else {
+            self.calls.count(false)?;
+            return Err(FetchError::NoMemory);
+        };
+        let answer = self.answer(alloc, name, most);
+        self.settle(kept, answer)
     }
 }
