@@ -1,1 +1,2 @@
+pub mod AdapterLemmas
 pub mod FilesLemmas

@@ -5,6 +5,7 @@ mod error;
 mod memory;
 mod seq;
 mod stack;
+mod standard;
 mod streams;
 mod text;
 
@@ -12,5 +13,6 @@ pub use error::{Failed, FetchError, NoMemory};
 pub use memory::{MemFiles, MemSink, MemSource};
 pub use seq::Seq;
 pub use stack::Stack;
+pub use standard::{StdSink, StdSource};
 pub use streams::{Files, Sink, Source};
 pub use text::Text16;
