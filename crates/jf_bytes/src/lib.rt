@@ -1,6 +1,7 @@
 //! Texts, lists, sources, sinks and files: what every other crate of jfluid stands on.
 #![tactic(auto)]
 
+mod disk;
 mod error;
 mod memory;
 mod seq;
@@ -9,6 +10,7 @@ mod standard;
 mod streams;
 mod text;
 
+pub use disk::{DiskFiles, LateFile};
 pub use error::{Failed, FetchError, NoMemory};
 pub use memory::{MemFiles, MemSink, MemSource};
 pub use seq::Seq;
