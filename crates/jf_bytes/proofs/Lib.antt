@@ -1,1 +1,3 @@
 pub mod Reversed
+pub mod AdapterLemmas
+pub mod FilesLemmas
