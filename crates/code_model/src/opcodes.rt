@@ -1,0 +1,38 @@
+//! What stands behind each opcode.
+
+ghost use Rattle.std.specs.Prelude.{◌≡◌};
+ghost use Rattle.code_model.specs.Instructions.{form_of, operand_size};
+
+/// How an instruction's operand is spelled behind its opcode.
+#[derive(Clone, Copy, Debug, PartialEq, Eq)]
+pub enum Form {
+    NoOperand,
+    SignedByte,
+    SignedShort,
+    PoolIndex,
+}
+
+impl Form {
+    /// How many bytes the operand takes.
+    pub fn size(self) -> u16
+        ensures { result ≡ operand_size self }
+    {
+        match self {
+            Form::NoOperand => 0,
+            Form::SignedByte => 1,
+            Form::SignedShort | Form::PoolIndex => 2,
+        }
+    }
+}
+
+/// The form of an opcode of the built part.
+pub fn find_form(op: u8) -> Option<Form>
+    ensures { result ≡ form_of op }
+{
+    match op {
+        4 | 26 | 96 | 172 | 177 => Some(Form::NoOperand),
+        16 => Some(Form::SignedByte),
+        178 | 182 | 184 => Some(Form::PoolIndex),
+        _ => None,
+    }
+}
