@@ -1,0 +1,31 @@
+-- The operands that an instruction takes from the top, where they are of the kinds that it needs, and what is left.
+use Rattle.std.specs.Prelude.{ℕ, ℤ, List, [], ◌∷◌, Option, Some, None}
+use Rattle.heap_objects.specs.declared.Value.{Value}
+use Rattle.heap_objects.specs.declared.Value.TheVariants.{Int, Ref}
+
+-- two ints, the deeper one first
+abbrev pub ints_of : List Value → Option (ℤ × ℤ)
+ints_of (Int b ∷ Int a ∷ below) = Some (a, b)
+ints_of _ = None
+
+abbrev pub below_ints : List Value → List Value
+below_ints (Int b ∷ Int a ∷ below) = below
+below_ints operands = operands
+
+-- an int
+abbrev pub int_of : List Value → Option ℤ
+int_of (Int n ∷ below) = Some n
+int_of _ = None
+
+abbrev pub below_int : List Value → List Value
+below_int (Int n ∷ below) = below
+below_int operands = operands
+
+-- an int over a reference: the argument and the receiver of println
+abbrev pub print_of : List Value → Option (ℕ × ℤ)
+print_of (Int n ∷ Ref r ∷ below) = Some (r, n)
+print_of _ = None
+
+abbrev pub below_print : List Value → List Value
+below_print (Int n ∷ Ref r ∷ below) = below
+below_print operands = operands

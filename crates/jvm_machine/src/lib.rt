@@ -1,0 +1,13 @@
+//! The machine that runs a class (JVM Specification 2.6, 2.11, 5.2, 6). What it does is the run of jvm_model, one step
+//! a call.
+#![tactic(auto)]
+
+mod frames;
+mod invoking;
+mod rules;
+mod tables;
+mod turn;
+
+pub use rules::execute;
+pub use tables::{Method, Tables};
+pub use turn::Turn;

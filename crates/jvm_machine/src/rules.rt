@@ -1,0 +1,168 @@
+//! What each instruction does, as the rules of jvm_model say it: the state is without the current frame, which a rule
+//! is given and puts back.
+
+ghost use Rattle.std.specs.Prelude.{◌≡◌, ◌++◌, OnOk};
+ghost use Rattle.jvm_model.specs.Rules.{with_frame, unverifiable, unverifiable_return, goes_on, constant, load, adds, pushes_out, line_text, prints, returns_int, rule};
+
+use crate::frames::{take_int, take_ints, take_print};
+use crate::invoking::{call, return_to_caller};
+use crate::tables::Tables;
+use heap_objects::Value;
+use jf_bytes::{NoMemory, Seq};
+use jvm_model::{Ending, Frame, Line, Operation, State};
+use std::alloc::Global;
+
+/// System.out's object.
+const OUT: u32 = 3;
+
+/// System.err's object, which is a PrintStream too.
+const ERR: u32 = 4;
+
+/// Puts a frame on top.
+pub fn put_frame(state: &mut State, frame: Frame) -> Result<(), NoMemory>
+    ensures { OnOk result (state.new ≡ with_frame state.old frame) }
+{
+    state.frames.push(frame)?;
+    Ok(())
+}
+
+/// Ends the run at this frame's instruction; its activation stays live.
+pub fn end_unverifiable(state: &mut State, frame: Frame) -> Result<(), NoMemory>
+    ensures { OnOk result (state.new ≡ unverifiable state.old frame) }
+{
+    state.ending = Some(Ending::Unverifiable(frame.method, frame.offset));
+    put_frame(state, frame)
+}
+
+/// Ends the run at this frame's return, which ends its activation.
+fn end_at_return(state: &mut State, frame: &Frame)
+    ensures { state.new ≡ unverifiable_return state.old frame.now }
+{
+    state.ending = Some(Ending::Unverifiable(frame.method, frame.offset));
+}
+
+/// The frame goes on behind its instruction, unless its operands are too deep.
+pub fn go_on(
+    tables: &Tables,
+    state: &mut State,
+    mut frame: Frame,
+    next: u16,
+) -> Result<(), NoMemory>
+    ensures { OnOk result (state.new ≡ goes_on tables.now state.old frame frame.operands next) }
+{
+    if frame.operands.len() > tables.max_stack(frame.method) as usize {
+        return end_unverifiable(state, frame);
+    }
+    frame.offset = next;
+    put_frame(state, frame)
+}
+
+fn push_constant(
+    tables: &Tables,
+    state: &mut State,
+    mut frame: Frame,
+    n: i32,
+    next: u16,
+) -> Result<(), NoMemory>
+    ensures { OnOk result (state.new ≡ constant tables.now state.old frame n next) }
+{
+    frame.operands.push(Value::Int(n))?;
+    go_on(tables, state, frame, next)
+}
+
+fn push_local(
+    tables: &Tables,
+    state: &mut State,
+    mut frame: Frame,
+    slot: u16,
+    next: u16,
+) -> Result<(), NoMemory>
+    ensures { OnOk result (state.new ≡ load tables.now state.old frame slot next) }
+{
+    match frame.locals.at(slot as usize) {
+        Some(Some(Value::Int(n))) => {
+            frame.operands.push(Value::Int(n))?;
+            go_on(tables, state, frame, next)
+        }
+        _ => end_unverifiable(state, frame),
+    }
+}
+
+fn add(tables: &Tables, state: &mut State, mut frame: Frame, next: u16) -> Result<(), NoMemory>
+    ensures { OnOk result (state.new ≡ adds tables.now state.old frame frame.operands next) }
+{
+    let Some((a, b)) = take_ints(&mut frame.operands) else {
+        return end_unverifiable(state, frame);
+    };
+    frame.operands.push(Value::Int(a.wrapping_add(b)))?;
+    go_on(tables, state, frame, next)
+}
+
+fn push_out(tables: &Tables, state: &mut State, mut frame: Frame, next: u16) -> Result<(), NoMemory>
+    ensures { OnOk result (state.new ≡ pushes_out tables.now state.old frame next) }
+{
+    frame.operands.push(Value::Ref(OUT))?;
+    go_on(tables, state, frame, next)
+}
+
+/// The text of a number, and the end of the line.
+fn write_line(alloc: Global, output: &mut Seq<u8>, n: i32) -> Result<(), NoMemory>
+    ensures { OnOk result (output.new ≡ output.old ++ line_text n) }
+{
+    let text = format!(in alloc; "{n}\n")?;
+    output.extend_from_slice(text.as_bytes())?;
+    Ok(())
+}
+
+fn println(
+    alloc: Global,
+    tables: &Tables,
+    state: &mut State,
+    mut frame: Frame,
+    next: u16,
+) -> Result<(), NoMemory>
+    ensures { OnOk result (state.new ≡ prints tables.now state.old frame frame.operands next) }
+{
+    match frame.operands.peek(1) {
+        Some(Value::Ref(OUT | ERR)) => {}
+        _ => return end_unverifiable(state, frame),
+    }
+    let Some((_, n)) = take_print(&mut frame.operands) else {
+        return end_unverifiable(state, frame);
+    };
+    write_line(alloc, &mut state.output, n)?;
+    go_on(tables, state, frame, next)
+}
+
+fn return_int(tables: &Tables, state: &mut State, mut frame: Frame) -> Result<(), NoMemory>
+    ensures { OnOk result (state.new ≡ returns_int tables.now state.old frame frame.operands) }
+{
+    let Some(n) = take_int(&mut frame.operands) else {
+        end_at_return(state, &frame);
+        return Ok(());
+    };
+    return_to_caller(tables, state, Some(Value::Int(n)))
+}
+
+/// Does one instruction.
+pub fn execute(
+    alloc: Global,
+    tables: &Tables,
+    state: &mut State,
+    frame: Frame,
+    line: Line,
+) -> Result<(), NoMemory>
+    ensures { OnOk result (state.new ≡ rule tables.now state.old frame line.operation line.next) }
+{
+    let next = line.next;
+    match line.operation {
+        Operation::Constant(n) => push_constant(tables, state, frame, n, next),
+        Operation::Load(slot) => push_local(tables, state, frame, slot, next),
+        Operation::Add => add(tables, state, frame, next),
+        Operation::ReturnInt => return_int(tables, state, frame),
+        Operation::Return => return_to_caller(tables, state, None),
+        Operation::Out => push_out(tables, state, frame, next),
+        Operation::Println => println(alloc, tables, state, frame, next),
+        Operation::Call(method) => call(alloc, tables, state, frame, method),
+    }
+}

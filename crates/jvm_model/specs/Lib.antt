@@ -1,0 +1,5 @@
+pub mod Descriptors
+pub mod Methods
+pub mod Lines
+pub mod Rules
+pub mod Run

@@ -1,0 +1,153 @@
+-- What each instruction does to the state (JVM Specification 2.6, 2.11, 6.5). A rule takes the class, the state without
+-- the current frame, that frame, and the offset that follows the instruction.
+use Rattle.std.specs.Prelude.{◌≡◌, ℕ, ◌-◌, ◌≤◌, Bool, true, false, List, [], ◌∷◌, ◌++◌, length, map, reverse, take, drop, replicate, Option, Some, None, ℤ, codes, ◌==◌, ◌||◌, ◌&&◌, nat_le, if◌then◌else◌}
+use Rattle.std.specs.Option.{option_and_then, option_map, option_map_or}
+use Rattle.std.specs.List.{slice_get}
+use Rattle.std.specs.Int.{w32, int_wrapping_add}
+use Rattle.std.specs.Fmt.{signed_decimal}
+use Rattle.heap_objects.specs.declared.Value.{Value}
+use Rattle.heap_objects.specs.declared.Value.TheVariants.{Int, Ref}
+use Rattle.const_pool.specs.declared.descriptor.Kind.{Kind}
+use Rattle.const_pool.specs.declared.class.ClassFile.{ClassFile}
+use Rattle.const_pool.specs.declared.class.CodeAttribute.{CodeAttribute}
+use Rattle.jvm_model.specs.declared.ending.Ending.{Ending}
+use Rattle.jvm_model.specs.declared.ending.Ending.TheVariants.{Returned, Unverifiable}
+use Rattle.jvm_model.specs.declared.operation.Operation.{Operation}
+use Rattle.jvm_model.specs.declared.operation.Operation.TheVariants.{Constant, Load, Add, ReturnInt, Return, Out, Println, Call}
+use Rattle.jvm_model.specs.declared.operation.Line.{Line}
+use Rattle.jvm_model.specs.declared.state.Frame.{Frame}
+use Rattle.jvm_model.specs.declared.state.State.{State}
+use Rattle.jvm_model.specs.Descriptors.{have_kinds}
+use Rattle.jvm_model.specs.Methods.{method_code, method_params}
+use Rattle.jvm_model.specs.Lines.{line_at}
+
+-- ---- parts of a rule
+
+-- this frame on top of those of the state
+abbrev pub with_frame : State → Frame → State
+with_frame s f = record s { frames = f ∷ s.frames }
+
+-- The code breaks what a verifier would have asked of it: the run ends at this instruction, and its activation stays live.
+abbrev pub unverifiable : State → Frame → State
+unverifiable s f = record s { frames = f ∷ s.frames; ending = Some (Unverifiable f.method f.offset) }
+
+-- the same at a return, which ends the activation
+abbrev pub unverifiable_return : State → Frame → State
+unverifiable_return s f = record s { ending = Some (Unverifiable f.method f.offset) }
+
+abbrev pub max_stack_of : ClassFile → ℕ → ℕ
+max_stack_of c method = option_map_or (λ code. code.max_stack) (method_code c method) 0
+
+abbrev pub max_locals_of : ClassFile → ℕ → ℕ
+max_locals_of c method = option_map_or (λ code. code.max_locals) (method_code c method) 0
+
+-- the operand depth (2.6.2): each value of the built part has one unit of it
+abbrev pub depth : List Value → ℕ
+depth operands = length operands
+
+-- The frame has these operands now, and goes on behind the instruction, unless they are deeper than its method allows (4.9.2).
+abbrev pub goes_on : ClassFile → State → Frame → List Value → ℕ → State
+goes_on c s f operands next =
+    if nat_le (depth operands) (max_stack_of c f.method)
+    then with_frame s (record f { offset = next; operands = operands })
+    else unverifiable s (record f { operands = operands })
+
+-- ---- instructions within one frame
+
+-- iconst, bipush
+abbrev pub constant : ClassFile → State → Frame → ℤ → ℕ → State
+constant c s f n next = goes_on c s f (Int n ∷ f.operands) next
+
+-- iload: the local must hold an int
+abbrev pub pushes_local : ClassFile → State → Frame → Option (Option Value) → ℕ → State
+pushes_local c s f (Some (Some (Int n))) next = goes_on c s f (Int n ∷ f.operands) next
+pushes_local c s f _ next = unverifiable s f
+
+abbrev pub load : ClassFile → State → Frame → ℕ → ℕ → State
+load c s f slot next = pushes_local c s f (slice_get f.locals slot) next
+
+-- iadd: two's complement, 32 bits (2.11.3)
+abbrev pub adds : ClassFile → State → Frame → List Value → ℕ → State
+adds c s f (Int b ∷ Int a ∷ below) next = goes_on c s f (Int (int_wrapping_add w32 a b) ∷ below) next
+adds c s f _ next = unverifiable s f
+
+-- ---- System.out
+
+-- System.out is object 3, and System.err object 4
+abbrev pub is_print_stream : ℕ → Bool
+is_print_stream r = r == 3 || r == 4
+
+-- getstatic of System.out
+abbrev pub pushes_out : ClassFile → State → Frame → ℕ → State
+pushes_out c s f next = goes_on c s f (Ref 3 ∷ f.operands) next
+
+-- println writes the number in decimal, and ends the line with byte 10
+abbrev pub line_text : ℤ → List ℕ
+line_text n = signed_decimal n ++ codes "\n"
+
+abbrev pub written : State → List ℕ → State
+written s text = record s { output = s.output ++ text }
+
+-- println(I)V: the receiver below the argument must be a PrintStream
+abbrev pub prints : ClassFile → State → Frame → List Value → ℕ → State
+prints c s f (Int n ∷ Ref r ∷ below) next =
+    if is_print_stream r then goes_on c (written s (line_text n)) f below next else unverifiable s f
+prints c s f _ next = unverifiable s f
+
+-- ---- invocation and return (2.6, 2.6.4)
+
+-- the arguments, the first one first: as many of the topmost operands as there are parameters, each of its kind
+abbrev pub arguments : List Kind → List Value → Option (List Value)
+arguments params operands =
+    let args = reverse (take (length params) operands) in
+    if have_kinds params args then Some args else None
+
+-- locals: the arguments from slot 0 on, and the others unwritten
+abbrev pub locals_with : List Value → ℕ → List (Option Value)
+locals_with args max_locals = map Some args ++ replicate (max_locals - length args) None
+
+abbrev pub new_frame : ℕ → List Value → ℕ → Frame
+new_frame method args max_locals = record { method = method; offset = 0; locals = locals_with args max_locals; operands = [] }
+
+-- The callee begins; the caller stays at its invoke instruction without the arguments. They must fit into the callee's locals.
+abbrev pub begins : ClassFile → State → Frame → ℕ → List Kind → Option (List Value) → State
+begins c s f method params None = unverifiable s f
+begins c s f method params (Some args) =
+    if nat_le (length args) (max_locals_of c method)
+    then with_frame (with_frame s (record f { operands = drop (length params) f.operands })) (new_frame method args (max_locals_of c method))
+    else unverifiable s f
+
+-- invokestatic
+abbrev pub calls : ClassFile → State → Frame → ℕ → State
+calls c s f method = option_map_or (λ params. begins c s f method params (arguments params f.operands)) (method_params c method) (unverifiable s f)
+
+-- where the caller goes on
+abbrev pub next_of : ClassFile → Frame → ℕ
+next_of c f = option_map_or (λ line. line.next) (line_at c f.method f.offset) f.offset
+
+-- the caller's operands with the result, where there is one, on top
+abbrev pub with_result : Option Value → List Value → List Value
+with_result None operands = operands
+with_result (Some v) operands = v ∷ operands
+
+-- The callee is off: its caller goes on with the result, or, without a caller, the run has returned.
+abbrev pub returns : ClassFile → State → Option Value → List Frame → State
+returns c s result [] = record s { frames = []; ending = Some Returned }
+returns c s result (caller ∷ below) = goes_on c (record s { frames = below }) caller (with_result result caller.operands) (next_of c caller)
+
+-- ireturn
+abbrev pub returns_int : ClassFile → State → Frame → List Value → State
+returns_int c s f (Int n ∷ below) = returns c s (Some (Int n)) s.frames
+returns_int c s f _ = unverifiable_return s f
+
+-- ---- every instruction
+
+abbrev pub rule : ClassFile → State → Frame → Operation → ℕ → State
+rule c s f (Constant n) next = constant c s f n next
+rule c s f (Load slot) next = load c s f slot next
+rule c s f Add next = adds c s f f.operands next
+rule c s f ReturnInt next = returns_int c s f f.operands
+rule c s f Return next = returns c s None s.frames
+rule c s f Out next = pushes_out c s f next
+rule c s f Println next = prints c s f f.operands next
+rule c s f (Call method) next = calls c s f method

@@ -1,0 +1,29 @@
+//! Instructions whose names are looked up.
+
+/// What an instruction does, once the names that it gives are looked up (JVM Specification 5.4.3, 6.5).
+#[derive(Clone, Copy, Debug, PartialEq, Eq)]
+pub enum Operation {
+    /// Pushes an int.
+    Constant(i32),
+    /// Pushes the int in a local.
+    Load(u16),
+    /// Adds two ints.
+    Add,
+    /// Returns an int.
+    ReturnInt,
+    /// Returns nothing.
+    Return,
+    /// Pushes System.out.
+    Out,
+    /// PrintStream.println of an int.
+    Println,
+    /// Invokes the static method with this number.
+    Call(u32),
+}
+
+/// An instruction, and the offset of the one that follows it.
+#[derive(Clone, Copy, Debug, PartialEq, Eq)]
+pub struct Line {
+    pub operation: Operation,
+    pub next: u16,
+}
