@@ -3,3 +3,4 @@ pub mod Methods
 pub mod Lines
 pub mod Rules
 pub mod Run
+pub mod SmallClass
