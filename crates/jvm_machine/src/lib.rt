@@ -4,10 +4,10 @@
 
 mod frames;
 mod invoking;
+mod machine;
 mod rules;
 mod tables;
 mod turn;
 
-pub use rules::execute;
-pub use tables::{Method, Tables};
+pub use machine::Vm;
 pub use turn::Turn;
