@@ -51,6 +51,7 @@ pub enum Form {
 /// What the table says of one opcode.
 #[derive(Clone, Copy, Debug, PartialEq, Eq)]
 pub struct OpRow {
+    /// How the operands lie.
     pub form: Form,
     /// The instruction's length in bytes, its opcode counted, or 0 where the operands decide it or
     /// there is no instruction.
