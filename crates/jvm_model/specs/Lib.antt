@@ -4,3 +4,4 @@ pub mod Lines
 pub mod Rules
 pub mod Run
 pub mod SmallClass
+pub mod Growth
