@@ -1,5 +1,5 @@
 -- Puts one after the other, for what is put in parts.
-use Rattle.std.proofs.Common.{◌≡◌, ◌+◌, ◌≤◌, zero, ℕ, List, ◌++◌, Option, None, Some, length, take, refl, sym, ap, ◌∙◌, subst, append_assoc, append-nil, arith, length-append}
+use Rattle.std.proofs.Common.{◌≡◌, ◌+◌, ℕ, List, ◌++◌, Option, None, Some, length, take, refl, sym, ap, ◌∙◌, append_assoc, append-nil, arith, length-append}
 use Rattle.std.proofs.lemmas.List.{take-append-le}
 use Rattle.std.proofs.Math.Seq.{take-append-add, take-length}
 use Rattle.std.specs.Io.KnownBytes.{append_known}

@@ -1,5 +1,5 @@
 -- What objects in memory hold, and what each call does to it.
-use Rattle.std.specs.Prelude.{◌≡◌, ◌+◌, ◌-◌, ◌/◌, ◌++◌, ◌||◌, ℕ, Bool, true, false, min, List, length, take, drop, is_none, nat_lt, if◌then◌else◌, Result, Ok, Err}
+use Rattle.std.specs.Prelude.{◌+◌, ◌-◌, ◌/◌, ◌++◌, ◌||◌, ℕ, Bool, true, false, min, List, length, take, drop, is_none, nat_lt, if◌then◌else◌, Result, Ok, Err}
 use Rattle.jf_bytes.specs.Streams.{Told, contents_at}
 use Rattle.jf_bytes.specs.Calls.{is_failing, after_call}
 use Rattle.jf_bytes.specs.declared.memory.Calls.{Calls}

@@ -1,5 +1,5 @@
 -- What sources, sinks and files do to what they tell and to their count of faults.
-use Rattle.std.specs.Prelude.{◌≡◌, ◌+◌, ◌-◌, ◌^◌, ◌≤◌, ℕ, min, List, [], length, take, Option, None, Some, Result, Ok, Err, OnOk, OnErr, option_map, bytes_eq, find}
+use Rattle.std.specs.Prelude.{◌≡◌, ◌+◌, ◌-◌, ◌^◌, ◌≤◌, ℕ, min, List, length, take, Option, Result, Ok, Err, OnOk, OnErr, IfErr, option_map, bytes_eq, find}
 use Rattle.std.specs.Io.KnownBytes.{append_known}
 use Rattle.jf_bytes.specs.declared.error.FetchError.{FetchError}
 use Rattle.jf_bytes.specs.declared.error.FetchError.TheVariants.{Failed, NoMemory}
@@ -34,11 +34,16 @@ contents_at files name = option_map (λ file. file.1) (find (λ file. bytes_eq f
 abbrev pub front_at : Told → List ℕ → ℕ → Option (List ℕ)
 front_at files name most = option_map (take (most + 1)) (contents_at files name)
 
--- a fault comes only where the count rose, and each other answer leaves it
-abbrev pub FetchCause : {A : Type 0} → ℕ → ℕ → Result A FetchError → Type 0
-FetchCause old new (Ok bytes) = new ≡ old
-FetchCause old new (Err NoMemory) = new ≡ old
-FetchCause old new (Err Failed) = (old ≤ new) × Rose old new
+-- a fault comes only where the count rose, and want of memory leaves it
+abbrev pub ErrorCause : ℕ → ℕ → FetchError → Type 0
+ErrorCause old new Failed = Rose old new
+ErrorCause old new NoMemory = new ≡ old
+
+-- the count never falls, an `Ok` leaves it, and each error has its cause
+pub record FetchCause {A : Type 0} (old new : ℕ) (result : Result A FetchError) : Type 0 where
+  pub later : old ≤ new
+  pub ok : OnOk result (new ≡ old)
+  pub err : IfErr result (ErrorCause old new)
 
 -- the name of the last fetch that failed, after a fetch of a name
 abbrev pub failed_name : {A : Type 0} → List ℕ → List ℕ → Result A FetchError → List ℕ

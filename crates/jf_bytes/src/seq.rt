@@ -1,8 +1,7 @@
 //! A list that contracts see as nothing but the list of its items.
 
-ghost use Rattle.std.specs.Prelude.{◌≡◌, ◌==◌, ◌<◌, ◌++◌, ◌∷◌, [], length, take, is_ok, IfErr, IfOk, OnErr, slice_get, slice_set, if◌then◌else◌};
+ghost use Rattle.std.specs.Prelude.{◌≡◌, ◌==◌, ◌<◌, ◌++◌, ◌∷◌, [], length, take, is_ok, IfErr, IfOk, slice_get, slice_set, if◌then◌else◌};
 ghost use Rattle.std.specs.Option.{option_copied};
-ghost use Rattle.std.specs.Vec.{vec_len};
 
 use std::alloc::{AllocError, AllocFailed, Global};
 use std::marker::Model;

@@ -1,8 +1,8 @@
 //! The library's readers and writers as sources and sinks, which count their faults.
 
-ghost use Rattle.std.specs.Prelude.{◌≡◌, ◌≤◌, ◌<◌, [], None, length, take, min, IfOk, OnOk, OnErr, IsOk};
-ghost use Rattle.std.specs.Io.KnownBytes.{Appends, Consumes, IsAtEnd, Keeps, append_known, prepend_known};
-ghost use Rattle.jf_bytes.specs.Streams.{HasCause, PutsFront, greatest};
+ghost use Rattle.std.specs.Prelude.{◌≡◌, ◌≤◌, ◌<◌, [], None, length, take, IfOk, OnOk, OnErr, IsOk};
+ghost use Rattle.std.specs.Io.KnownBytes.{Appends, Consumes, IsAtEnd, Keeps};
+ghost use Rattle.jf_bytes.specs.Streams.{HasCause};
 ghost use Rattle.jf_bytes.specs.Adapters.{WritesFront};
 
 use crate::error::Failed;

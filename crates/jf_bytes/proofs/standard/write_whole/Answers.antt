@@ -1,4 +1,3 @@
-use Rattle.std.proofs.Common.{arith}
 use Rattle.jf_bytes.proofs.AdapterLemmas.{Appends-more, count-within}
 use Rattle.jf_bytes.proofs.standard.write_whole.Goals as goal
 
