@@ -29,10 +29,6 @@ pub bind_some : {A B : Type 0} (r : Option A) (f : A → Option B) (y : B) → (
 bind_some (Some x) f y e = (x, refl, e)
 bind_some None f y e = absurd cc
 
--- the next step, where the first did not fail
-pub bind_at : {A B : Type 0} (r : Option A) (f : A → Option B) (x : A) (o : Option B) → r ≡ Some x → f x ≡ o → (r >>= f) ≡ o
-bind_at r f x o e h = rw e h
-
 -- a test that came out true
 pub passed : {A : Type 0} (b : Bool) (x y : A) → cond b (Some x) None ≡ Some y → (b ≡ true) × (x ≡ y)
 passed true x y e = (refl, cc)

@@ -1,4 +1,5 @@
--- Reading a class file from left to right: the item at the front of the bytes, and the bytes after it.
+-- Reading a class file from left to right: the item at the front of the bytes, and the bytes after it. Only functions of
+-- this crate cite it; what the reader owes its callers is in Plain.
 use Rattle.std.specs.Prelude.{◌≡◌, ℕ, zero, suc, ◌-◌, Bool, true, false, ◌&&◌, ◌||◌, List, [], ◌∷◌, length, take, drop, Option, Some, None, Result, Ok, Err, nat_lt, nat_le, ◌==◌, slice_get, if◌then◌else◌}
 use Rattle.std.specs.Int.{Width, w8, w16, w32, byte_len, from_be_bytes}
 use Rattle.std.specs.List.{list_all}

@@ -3,8 +3,7 @@
 ghost use Rattle.std.specs.Prelude.{◌≡◌, ◌-◌, IfOk};
 ghost use Rattle.std.specs.List.{list_all};
 ghost use Rattle.const_pool.specs.Pool.{is_utf8, is_class, is_name_type};
-ghost use Rattle.const_pool.specs.ClassFile.{code_name};
-ghost use Rattle.class_reader.specs.Reading.{Gives, are_ascii, ascii_at, pair_at, contents_at, entry_at, entries_at, pool_at, names, names_text, fits_in};
+ghost use Rattle.class_reader.specs.Reading.{Gives, are_ascii, ascii_at, pair_at, contents_at, entry_at, entries_at, pool_at, names, fits_in};
 
 use crate::error::ReadError;
 use crate::numbers::{bytes_of, u8_at, u16_at};
