@@ -1,2 +1,4 @@
 pub mod Prepared
 pub mod Operands
+pub mod Shapes
+pub mod TableEntries

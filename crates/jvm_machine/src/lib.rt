@@ -2,8 +2,11 @@
 //! a call.
 #![tactic(auto)]
 
+mod descriptor;
 mod frames;
 mod invoking;
+mod lookup;
+mod prepare;
 mod rules;
 mod tables;
 mod turn;
