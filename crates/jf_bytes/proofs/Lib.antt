@@ -1,3 +1,4 @@
 pub mod Reversed
 pub mod AdapterLemmas
 pub mod FilesLemmas
+pub mod StreamLemmas

@@ -18,3 +18,6 @@ pub use stack::Stack;
 pub use standard::{StdSink, StdSource};
 pub use streams::{Files, Sink, Source};
 pub use text::Text16;
+
+#[cfg(test)]
+mod tests;

@@ -1,3 +1,4 @@
 pub mod Filled
 pub mod Entries
 pub mod FitsLemmas
+pub mod Stepped

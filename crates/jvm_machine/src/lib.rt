@@ -6,11 +6,11 @@ mod descriptor;
 mod frames;
 mod invoking;
 mod lookup;
+mod machine;
 mod prepare;
 mod rules;
 mod tables;
 mod turn;
 
-pub use rules::execute;
-pub use tables::{Method, Tables};
+pub use machine::Vm;
 pub use turn::Turn;

@@ -3,3 +3,5 @@ pub mod Methods
 pub mod Lines
 pub mod Rules
 pub mod Run
+pub mod SmallClass
+pub mod Growth

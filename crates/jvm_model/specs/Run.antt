@@ -1,6 +1,6 @@
 -- The run of a class as a function of the number of steps. One step is the attempt of one instruction.
 use Rattle.std.specs.Prelude.{◌≡◌, ℕ, zero, suc, ◌+◌, Bool, true, false, List, [], ◌∷◌, Option, Some, None, refl, is_some, nat_le, if◌then◌else◌}
-use Rattle.std.specs.Option.{option_map_or}
+use Rattle.std.proofs.Common.{ap, ◌∙◌, add-one}
 use Rattle.heap_objects.specs.declared.Value.TheVariants.{Ref}
 use Rattle.const_pool.specs.declared.class.ClassFile.{ClassFile}
 use Rattle.jvm_model.specs.declared.ending.Ending.{Ending}
@@ -11,16 +11,16 @@ use Rattle.jvm_model.specs.declared.state.State.{State}
 use Rattle.jvm_model.specs.Lines.{line_at}
 use Rattle.jvm_model.specs.Rules.{rule, unverifiable, new_frame, max_locals_of}
 
--- Nothing runs yet: the built-in classes stand, and the input is whole.
-abbrev pub blank : List ℕ → State
-blank input = record { frames = []; begun = true; input = input; output = []; ending = None }
+-- Nothing runs yet, and nothing was read or written.
+abbrev pub blank : State
+blank = record { frames = []; begun = true; read = 0; output = []; ending = None }
 
 -- The start (5.2): `main` begins with its argument array, which is object 5, unless it has no local for it.
-abbrev pub start : ClassFile → ℕ → List ℕ → State
-start c main input =
+abbrev pub start : ClassFile → ℕ → State
+start c main =
     if nat_le 1 (max_locals_of c main)
-    then record (blank input) { frames = new_frame main (Ref 5 ∷ []) (max_locals_of c main) ∷ [] }
-    else record (blank input) { ending = Some (Unverifiable main 0) }
+    then record blank { frames = new_frame main (Ref 5 ∷ []) (max_locals_of c main) ∷ [] }
+    else record blank { ending = Some (Unverifiable main 0) }
 
 -- the instruction at the frame's offset is done
 abbrev pub does : ClassFile → State → Frame → Option Line → State
@@ -39,9 +39,9 @@ attempt c s = attempts c s s.frames
 abbrev pub step_of : ClassFile → State → State
 step_of c s = if is_some s.ending then s else attempt c s
 
--- the state after so many steps
+-- The state after so many steps. No instruction of the built part reads the input.
 unfoldable pub run : ClassFile → ℕ → List ℕ → ℕ → State
-run c main input zero = start c main input
+run c main input zero = start c main
 run c main input (suc n) = step_of c (run c main input n)
 
 abbrev pub output_of : ClassFile → ℕ → List ℕ → ℕ → List ℕ
@@ -52,10 +52,13 @@ ending_of c main input n = (run c main input n).ending
 
 -- ---- how the run goes: all that is needed of it
 
-pub run-zero : (c : ClassFile) (main : ℕ) (input : List ℕ) → run c main input 0 ≡ start c main input
+pub run-zero : (c : ClassFile) (main : ℕ) (input : List ℕ) → run c main input 0 ≡ start c main
 unfolding run
 run-zero c main input = refl
 
 pub run-suc : (c : ClassFile) (main : ℕ) (input : List ℕ) (n : ℕ) → run c main input (suc n) ≡ step_of c (run c main input n)
 unfolding run
 run-suc c main input n = refl
+
+pub run-more : (c : ClassFile) (main : ℕ) (input : List ℕ) (n : ℕ) → run c main input (n + 1) ≡ step_of c (run c main input n)
+run-more c main input n = ap (run c main input) (add-one n) ∙ run-suc c main input n

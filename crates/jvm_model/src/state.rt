@@ -15,13 +15,13 @@ pub struct Frame {
     pub operands: Stack<Value>,
 }
 
-/// The state of a run: the frames, the current one first; whether `main` has begun; the rest of the input; what was
-/// written; and how the run ended, if it has.
+/// The state of a run: the frames, the current one first; whether `main` has begun; how many bytes of the input were
+/// read; what was written; and how the run ended, if it has.
 #[derive(Debug, Drop)]
 pub struct State {
     pub frames: Stack<Frame>,
     pub begun: bool,
-    pub input: Seq<u8>,
+    pub read: usize,
     pub output: Seq<u8>,
     pub ending: Option<Ending>,
 }
