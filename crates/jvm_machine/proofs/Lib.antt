@@ -1,2 +1,4 @@
 pub mod Filled
+pub mod Entries
+pub mod FitsLemmas
 pub mod Stepped

@@ -2,9 +2,12 @@
 //! a call.
 #![tactic(auto)]
 
+mod descriptor;
 mod frames;
 mod invoking;
+mod lookup;
 mod machine;
+mod prepare;
 mod rules;
 mod tables;
 mod turn;
