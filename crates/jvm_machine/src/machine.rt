@@ -1,9 +1,10 @@
 //! The machine: one step a call.
 
-ghost use Rattle.std.specs.Prelude.{◌≡◌, ◌^◌, ◌-◌, ◌<◌, min, true, false, length, OnOk, OnErr};
+ghost use Rattle.std.specs.Prelude.{◌≡◌, ◌^◌, ◌-◌, ◌<◌, min, true, false, length, OnOk, OnErr, IfOk};
 ghost use Rattle.jvm_model.specs.Run.{blank, start, attempt};
-ghost use Rattle.jvm_machine.specs.View.{state_of, has_ended, advanced, broken_of};
+ghost use Rattle.jvm_machine.specs.View.{made, state_of, has_ended, advanced, broken_of};
 ghost use Rattle.jvm_machine.specs.Turns.{Turns};
+ghost use Rattle.jvm_machine.specs.TableEntries.{FitsTables};
 
 use crate::invoking::frame_of;
 use crate::rules::{end_unverifiable, execute};
@@ -71,6 +72,31 @@ fn attempt_one(alloc: Global, tables: &Tables, state: &mut State) -> Result<(), 
 }
 
 impl Vm {
+    /// A machine that will run the class from the method with this number. It looks up every line of every code once.
+    pub fn new(alloc: Global, class: ClassFile, main: u16, input: Vec<u8>) -> Result<Vm, NoMemory>
+        requires { FitsTables class }
+        ensures { IfOk result (λ vm. vm ≡ made class main input.items) }
+    {
+        let tables = Tables::new(alloc, class)?;
+        let state = State {
+            frames: Stack::new(alloc),
+            begun: true,
+            read: 0,
+            output: Seq::new(alloc),
+            ending: None,
+        };
+        Ok(Vm {
+            alloc,
+            tables,
+            main: u32::from(main),
+            input: Seq::from_vec(input),
+            state,
+            started: false,
+            broken: false,
+            clock: 0,
+        })
+    }
+
     /// The start.
     fn make_start(&mut self) -> Result<(), NoMemory>
         requires whole { self.old.broken ≡ false }
