@@ -83,10 +83,10 @@ IsEntry pool (NameType n d) = (n < 2 ^ 16) × (d < 2 ^ 16) × Names is_utf8 pool
 -- Entries follow one another; a Long or a Double takes two indices, of which the second is a gap (4.4.5).
 abbrev pub AreEntries : List Const → List Const → Type 0
 AreEntries pool [] = Unit {0}
-AreEntries pool (Long n ∷ []) = ⊥
-AreEntries pool (Double n ∷ []) = ⊥
 AreEntries pool (Long n ∷ Gap ∷ rest) = IsEntry pool (Long n) × AreEntries pool rest
 AreEntries pool (Double n ∷ Gap ∷ rest) = IsEntry pool (Double n) × AreEntries pool rest
+AreEntries pool (Long n ∷ rest) = ⊥
+AreEntries pool (Double n ∷ rest) = ⊥
 AreEntries pool (c ∷ rest) = IsEntry pool c × AreEntries pool rest
 
 -- index 0 is a gap, and the count is a u2
