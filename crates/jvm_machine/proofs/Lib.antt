@@ -1,2 +1,4 @@
 pub mod Filled
 pub mod Stepped
+pub mod Entries
+pub mod FitsLemmas

@@ -2,12 +2,18 @@
 //! a call.
 #![tactic(auto)]
 
+mod descriptor;
 mod frames;
 mod invoking;
+mod lookup;
 mod machine;
+mod prepare;
 mod rules;
 mod tables;
 mod turn;
 
+pub use descriptor::shape_of;
+pub use lookup::{method_named, operation_of};
 pub use machine::Vm;
+pub use prepare::code_of;
 pub use turn::Turn;

@@ -5,10 +5,13 @@ ghost use Rattle.std.specs.Option.{option_copied};
 ghost use Rattle.jvm_model.specs.Lines.{line_at};
 ghost use Rattle.jvm_model.specs.Rules.{max_stack_of, max_locals_of};
 ghost use Rattle.jvm_model.specs.Methods.{method_params};
+ghost use Rattle.jvm_machine.specs.TableEntries.{FitsTables};
 
+use crate::prepare::prepare_methods;
 use const_pool::{ClassFile, Kind};
-use jf_bytes::Seq;
+use jf_bytes::{NoMemory, Seq};
 use jvm_model::Line;
+use std::alloc::Global;
 use std::marker::Model;
 
 /// What the machine keeps of a method: the line at each offset where one stands, what it takes, and its limits.
@@ -39,6 +42,21 @@ impl Model for Tables {
 }
 
 impl Tables {
+    /// Prepares a class. It looks at each offset of each code once.
+    pub fn new(alloc: Global, class: ClassFile) -> Result<Tables, NoMemory>
+        requires { FitsTables class }
+        ensures { IfOk result (λ tables. tables ≡ class) }
+    {
+        let methods = prepare_methods(alloc, &class)?;
+        Ok(Tables { class, methods })
+    }
+
+    pub fn class(&self) -> &ClassFile
+        ensures { result.now ≡ self.now }
+    {
+        &self.class
+    }
+
     /// The line at an offset of a method, by two look-ups.
     pub fn line(&self, method: u32, offset: u16) -> Option<Line>
         ensures { result ≡ line_at self.now method offset }

@@ -1,0 +1,120 @@
+//! Reading the method descriptors of the built part (JVM Specification 4.3.3).
+
+ghost use Rattle.std.specs.Prelude.{◌≡◌, [], IfOk};
+ghost use Rattle.std.specs.Option.{option_map};
+ghost use Rattle.jvm_model.specs.Descriptors.{result_of, params_of, ints_shape, shape_of};
+ghost use Rattle.jvm_machine.specs.Shapes.{with_params};
+
+use const_pool::{Kind, Shape};
+use jf_bytes::{NoMemory, Seq, Text16};
+use std::alloc::Global;
+
+/// The descriptor of `main`.
+const MAIN_DESCRIPTOR: &[u8] = b"([Ljava/lang/String;)V";
+
+/// `(`, before the parameters.
+const OPEN: u16 = 40;
+
+/// `)`, behind the parameters.
+const CLOSE: u16 = 41;
+
+/// `I`, an int.
+const INT: u16 = 73;
+
+/// `V`, no result.
+const VOID: u16 = 86;
+
+/// The result that the letters behind the parameters spell: an absent one for void.
+fn find_result(units: &[u16]) -> Option<Option<Kind>>
+    ensures { option_map (with_params []) result ≡ result_of units.now }
+{
+    if units == [INT].as_slice() {
+        Some(Some(Kind::Int))
+    } else if units == [VOID].as_slice() {
+        Some(None)
+    } else {
+        None
+    }
+}
+
+/// The parameters, each an int, and the result.
+fn params_shape(alloc: Global, units: &[u16]) -> Result<Option<Shape>, NoMemory>
+    ensures { IfOk result (λ shape. shape ≡ params_of units.now) }
+{
+    let mut params = Seq::new(alloc);
+    for i in 0..units.len() {
+        if units[i] == CLOSE {
+            let Some(result) = find_result(&units[i + 1..]) else {
+                return Ok(None);
+            };
+            return Ok(Some(Shape { params, result }));
+        }
+        if units[i] != INT {
+            return Ok(None);
+        }
+        params.push(Kind::Int)?;
+    }
+    Ok(None)
+}
+
+/// The ints between parentheses, and the result.
+fn ints_shape(alloc: Global, units: &[u16]) -> Result<Option<Shape>, NoMemory>
+    ensures { IfOk result (λ shape. shape ≡ ints_shape units.now) }
+{
+    if units.first() != Some(&OPEN) {
+        return Ok(None);
+    }
+    params_shape(alloc, &units[1..])
+}
+
+/// The shape that a descriptor of the built part spells; none for another text.
+pub fn shape_of(alloc: Global, descriptor: &Text16) -> Result<Option<Shape>, NoMemory>
+    ensures { IfOk result (λ shape. shape ≡ shape_of descriptor.now) }
+{
+    if !descriptor.is_bytes(MAIN_DESCRIPTOR) {
+        return ints_shape(alloc, descriptor.units());
+    }
+    let mut params = Seq::with_capacity(alloc, 1)?;
+    params.push(Kind::Ref)?;
+    Ok(Some(Shape {
+        params,
+        result: None,
+    }))
+}
+
+#[cfg(test)]
+mod tests {
+    use super::shape_of;
+    use jf_bytes::Text16;
+    use std::test::*;
+
+    // each text with what JVM Specification 4.3.3 has it mean
+    const TEXTS: [(&str, &str); 6] = [
+        ("()V", "[] None"),
+        ("(II)I", "[Int, Int] Some(Int)"),
+        ("([Ljava/lang/String;)V", "[Ref] None"),
+        ("(I", "no shape"),
+        ("(J)V", "no shape"),
+        ("()VV", "no shape"),
+    ];
+
+    #[test]
+    fn reads_descriptors(rt: HostRuntime) -> Result<(), Fail> {
+        for (text, wanted) in TEXTS {
+            let units = text.bytes().map(u16::from).collect(rt.alloc())?;
+            let shape = shape_of(rt.alloc(), &Text16::new(units))
+                .ok()
+                .ok_or("no memory")?;
+            let shown = match &shape {
+                Some(shape) => format!(in rt.alloc();
+                    "{:?} {:?}",
+                    shape.params.as_slice(),
+                    shape.result
+                )?,
+                None => format!(in rt.alloc(); "no shape")?,
+            };
+            assert_eq!(rt; shown.as_str(), wanted);
+        }
+        Ok(())
+    }
+}
