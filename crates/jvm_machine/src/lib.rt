@@ -12,5 +12,8 @@ mod rules;
 mod tables;
 mod turn;
 
+pub use descriptor::shape_of;
+pub use lookup::{method_named, operation_of};
 pub use machine::Vm;
+pub use prepare::code_of;
 pub use turn::Turn;
