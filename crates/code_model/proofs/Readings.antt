@@ -38,9 +38,9 @@ short_at_within : (bytes : List ℕ) (at n : ℕ) → short_at bytes at ≡ Some
 short_at_within bytes at n e =
     option_and_then_some (λ high. option_map (λ low. from_be_bytes w16 (high ∷ low ∷ [])) (slice_get bytes (at + 1))) (slice_get bytes at) n e
     (λ high is_high after.
-        let low = in_map (λ low. from_be_bytes w16 (high ∷ low ∷ [])) (slice_get bytes (at + 1)) n after in
-        let within = slice_get_within bytes (at + 1) low.0 low.1 in
-        omega arith)
+    let low = in_map (λ low. from_be_bytes w16 (high ∷ low ∷ [])) (slice_get bytes (at + 1)) n after in
+    let within = slice_get_within bytes (at + 1) low.0 low.1 in
+    omega arith)
 
 -- an operand ends before the bytes do
 operand_at_within : (form : Form) (bytes : List ℕ) (at : ℕ) (arg : Arg) → at ≤ length bytes → operand_at form bytes at ≡ Some arg → at + operand_size form ≤ length bytes
@@ -68,11 +68,11 @@ end_of-within bytes at i e =
     option_and_then_some (λ op. option_and_then (after_op_of op) (form_of op)) (slice_get bytes at) i e
     (λ op is_op after_op. option_and_then_some (after_op_of op) (form_of op) i after_op
     (λ form is_form after_form.
-        let start = slice_get_within bytes at op is_op in
-        let arg = in_map (with_operand at op) (operand_at form bytes (at + 1)) i after_form in
-        let within = operand_at_within form bytes (at + 1) arg.0 (omega arith) arg.1 in
-        let ends = end_of_kept at op form (operand_at form bytes (at + 1)) i is_form after_form in
-        omega arith))
+    let start = slice_get_within bytes at op is_op in
+    let arg = in_map (with_operand at op) (operand_at form bytes (at + 1)) i after_form in
+    let within = operand_at_within form bytes (at + 1) arg.0 (omega arith) arg.1 in
+    let ends = end_of_kept at op form (operand_at form bytes (at + 1)) i is_form after_form in
+    omega arith))
 
 -- two readings of the same bytes from the same offset are the same
 pub Reads-unique : (bytes : List ℕ) (at : ℕ) (is js : List Instr) → Reads bytes at is → Reads bytes at js → is ≡ js

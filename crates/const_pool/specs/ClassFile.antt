@@ -1,6 +1,6 @@
 -- The class file format: which bytes spell which class (JVM Specification 4). Bytes spell at most one class, and
 -- a class has one spelling.
-use Rattle.std.specs.Prelude.{◌≡◌, ◌≢◌, ℕ, ◌+◌, ◌<◌, ◌≤◌, ◌^◌, ◌⊎◌, List, [], ◌∷◌, ◌++◌, length, Option, Some, None, codes}
+use Rattle.std.specs.Prelude.{◌≡◌, ◌≢◌, ℕ, ◌<◌, ◌≤◌, ◌^◌, ◌⊎◌, List, ◌++◌, length, Some, codes}
 use Rattle.std.specs.List.{flat_map, AllByRecursion}
 use Rattle.const_pool.specs.declared.pool.Const.{Const}
 use Rattle.const_pool.specs.declared.class.ClassFile.{ClassFile}

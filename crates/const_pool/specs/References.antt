@@ -1,6 +1,6 @@
 -- Following the pool's indices to the texts (JVM Specification 4.4.1, 4.4.2, 4.4.6). A walk goes from the index to the
 -- texts, for a member to the class before the name and the descriptor, and gives the first fault on its way.
-use Rattle.std.specs.Prelude.{◌≡◌, ℕ, Bool, true, false, List, Option, Some, None, Result, Ok, Err, if◌then◌else◌}
+use Rattle.std.specs.Prelude.{◌≡◌, ℕ, Bool, true, false, List, Option, None, Result, Ok, Err, if◌then◌else◌}
 use Rattle.std.specs.Option.{ok_or, option_map_or}
 use Rattle.std.specs.Result.{result_ok}
 use Rattle.const_pool.specs.declared.pool.Const.{Const}

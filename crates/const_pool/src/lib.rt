@@ -8,3 +8,6 @@ mod pool;
 pub use class::{Attribute, ClassFile, CodeAttribute, Handler, Member, Raw};
 pub use descriptor::{Kind, Shape};
 pub use pool::{Const, MemberRef, Pool, PoolError};
+
+#[cfg(test)]
+mod tests;

@@ -1,3 +1,9 @@
 pub mod Codes
 pub mod Formed
 pub mod Methods
+pub mod Outputs
+pub mod Steps
+pub mod Underway
+pub mod ToldFiles
+pub mod Texts
+pub mod Refused

@@ -51,12 +51,12 @@ impl From<NoMemory> for AdmitError {
 }
 
 /// The number, if that method is public and static.
-fn public_static(class: &ClassFile, k: u16) -> Option<u16>
-    ensures { result ≡ public_static_of class.now k }
+fn public_static(class: &ClassFile, number: u16) -> Option<u16>
+    ensures { result ≡ public_static_of class.now number }
 {
-    let method = class.methods.get(k as usize)?;
+    let method = class.methods.get(number as usize)?;
     if is_public_static(method.access) {
-        Some(k)
+        Some(number)
     } else {
         None
     }
@@ -77,9 +77,9 @@ fn main_number(class: &ClassFile) -> Option<u16>
     requires { length class.now.methods < 2 ^ 16 }
     ensures { result ≡ method_named class.now main_member }
 {
-    for (k, method) in class.methods.as_slice().iter().enumerate() {
+    for (number, method) in class.methods.as_slice().iter().enumerate() {
         if is_main(class, method) {
-            return Some(k as u16);
+            return Some(number as u16);
         }
     }
     None
@@ -109,3 +109,6 @@ pub fn admit(alloc: Global, class: &ClassFile, main: &Text16) -> Result<u16, Adm
     }
     find_main(class, main).ok_or(AdmitError::NoMain)
 }
+
+#[cfg(test)]
+mod tests;

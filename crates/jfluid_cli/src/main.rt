@@ -1,9 +1,36 @@
-//! The program jfluid.
+//! jfluid: runs a class file and reports on its run.
 #![tactic(auto)]
 
 mod admission;
+mod kept;
+mod loading;
 mod names;
+mod refusal;
+mod reporting;
+mod running;
 mod small_class;
 mod small_code;
+mod top;
+mod words;
 
-fn main() {}
+use jf_bytes::{DiskFiles, LateFile, StdSink, StdSource};
+use std::process::ExitCode;
+use std::{env, io};
+use top::jfluid;
+
+/// Gives the real words, files and streams to the top call. The report goes to standard error.
+fn main(rt: HostRuntime) -> io::Result<ExitCode> {
+    let words: Vec<String> = env::args(&rt)?.collect(rt.alloc())?;
+    let images = String::from_str(rt.alloc(), "jfluid.images")?;
+    let status = jfluid(
+        rt.alloc(),
+        &words,
+        &mut DiskFiles::new(rt.alloc(), &rt),
+        &mut StdSource::new(rt.stdin()),
+        &mut StdSink::new(rt.stdout()),
+        &mut StdSink::new(rt.stderr()),
+        &mut LateFile::new(&rt, images),
+        &mut None,
+    );
+    Ok(ExitCode::from(status))
+}

@@ -1,7 +1,8 @@
 //! The names that a small class and its methods may have, and the access flags of its methods.
 
-ghost use Rattle.std.specs.Prelude.{◌≡◌, ◌&&◌};
-ghost use Rattle.std.specs.List.{list_any};
+ghost use Rattle.std.specs.Prelude.{◌≡◌, ◌&&◌, map};
+ghost use Rattle.std.specs.List.{list_any, slice_get};
+ghost use Rattle.std.specs.Option.{option_copied};
 ghost use Rattle.const_pool.specs.BuiltIn.{built_in_names};
 ghost use Rattle.jvm_model.specs.Descriptors.{main_descriptor, main_name, same_text};
 ghost use Rattle.jvm_model.specs.SmallClass.{begins_with as first_is, is_free_name as free_name, is_plain_name as plain_name, is_plain_member as plain_member, is_plain_static as plain_static, is_public_static as public_static};
@@ -13,6 +14,15 @@ const BRACKET: u16 = 91;
 
 /// `<`, with which the names of constructors and initializers begin.
 const ANGLE: u16 = 60;
+
+/// The access flags of methods (JVM Specification 4.6).
+const PUBLIC: u16 = 0x0001;
+
+const STATIC: u16 = 0x0008;
+
+const NATIVE: u16 = 0x0100;
+
+const ABSTRACT: u16 = 0x0400;
 
 const MAIN_NAME: &[u8] = b"main";
 
@@ -129,16 +139,30 @@ pub fn is_plain_member(name: &Text16, descriptor: &Text16) -> bool
     is_plain_name(name) && (!descriptor.is_bytes(MAIN_DESCRIPTOR) || name.is_bytes(MAIN_NAME))
 }
 
-/// Whether the flags say static, and neither native nor abstract (JVM Specification 4.6).
+/// Whether the flags say static, and neither native nor abstract.
 pub fn is_plain_static(access: u16) -> bool
     ensures { result ≡ plain_static access }
 {
-    access & 0x0008 != 0 && access & 0x0100 == 0 && access & 0x0400 == 0
+    access & STATIC != 0 && access & NATIVE == 0 && access & ABSTRACT == 0
 }
 
-/// Whether the flags say public and static (JVM Specification 4.6).
+/// Whether the flags say public and static.
 pub fn is_public_static(access: u16) -> bool
     ensures { result ≡ public_static access }
 {
-    access & 0x0001 != 0 && access & 0x0008 != 0
+    access & PUBLIC != 0 && access & STATIC != 0
+}
+
+/// The name at this place of a list of names.
+fn name_at<'a>(names: &[&'a [u8]], place: usize) -> Option<&'a [u8]>
+    ensures { option_copied result ≡ slice_get (map (λ name. name.now) names.now) place }
+{
+    names.get(place).copied()
+}
+
+/// The name of the built-in class at this place of their order.
+pub fn built_in_name(place: usize) -> Option<&'static [u8]>
+    ensures { option_copied result ≡ slice_get built_in_names place }
+{
+    name_at(&BUILT_IN_NAMES, place)
 }

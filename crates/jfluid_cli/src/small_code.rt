@@ -18,14 +18,14 @@ const RETURN_INT: u8 = 172;
 const RETURN: u8 = 177;
 
 /// Whether an operation goes with the method that it stands in: its number, its locals and its descriptor.
-fn fits_method(k: u32, max_locals: u16, shape: &Shape, operation: Operation) -> bool
-    ensures { result ≡ fits k max_locals shape.now operation }
+fn fits_method(number: u32, max_locals: u16, shape: &Shape, operation: Operation) -> bool
+    ensures { result ≡ fits number max_locals shape.now operation }
 {
     match operation {
         Operation::Load(slot) => slot < max_locals,
         Operation::ReturnInt => shape.result.is_some(),
         Operation::Return => shape.result.is_none(),
-        Operation::Call(method) => method < k,
+        Operation::Call(method) => method < number,
         Operation::Constant(_) | Operation::Add | Operation::Out | Operation::Println => true,
     }
 }
@@ -33,16 +33,16 @@ fn fits_method(k: u32, max_locals: u16, shape: &Shape, operation: Operation) -> 
 /// Whether the instruction may stand in that method.
 fn is_small_instr(
     class: &ClassFile,
-    k: u32,
+    number: u32,
     max_locals: u16,
     shape: &Shape,
     instr: &Instr,
 ) -> bool
     requires { length class.now.methods < 2 ^ 32 }
-    ensures { result ≡ small_instr class.now k max_locals shape.now instr.now }
+    ensures { result ≡ small_instr class.now number max_locals shape.now instr.now }
 {
     match operation_of(class, instr) {
-        Some(operation) => fits_method(k, max_locals, shape, operation),
+        Some(operation) => fits_method(number, max_locals, shape, operation),
         None => false,
     }
 }
@@ -50,17 +50,15 @@ fn is_small_instr(
 /// Whether all the instructions may stand in that method.
 fn are_small_instrs(
     class: &ClassFile,
-    k: u32,
+    number: u32,
     max_locals: u16,
     shape: &Shape,
     instrs: &[Instr],
 ) -> bool
     requires { length class.now.methods < 2 ^ 32 }
-    ensures { result ≡ list_all (small_instr class.now k max_locals shape.now) instrs.now }
+    ensures { result ≡ list_all (small_instr class.now number max_locals shape.now) instrs.now }
 {
-    instrs
-        .iter()
-        .all(|instr| is_small_instr(class, k, max_locals, shape, instr))
+    instrs.iter().all(|instr| is_small_instr(class, number, max_locals, shape, instr))
 }
 
 /// Whether the instruction is a return.
@@ -84,14 +82,14 @@ fn ends_in_return(instrs: &[Instr]) -> bool
 pub fn is_small_code(
     alloc: Global,
     class: &ClassFile,
-    k: u32,
+    number: u32,
     shape: &Shape,
     code: &CodeAttribute,
 ) -> Result<bool, NoMemory>
     requires methods { length class.now.methods < 2 ^ 32 }
     requires some { 0 < length code.now.code }
     requires short { length code.now.code < 2 ^ 16 }
-    ensures { IfOk result (λ small. IsTrue small ↔ IsSmallCode class.now k shape.now code.now) }
+    ensures { IfOk result (λ small. IsTrue small ↔ IsSmallCode class.now number shape.now code.now) }
 {
     let decoded = match decode(alloc, code.code.as_slice()) {
         Ok(decoded) => decoded,
@@ -99,7 +97,9 @@ pub fn is_small_code(
         Err(CodeError::NoMemory) => return Err(NoMemory),
     };
     let instrs = decoded.instrs.as_slice();
-    let small = are_small_instrs(class, k, code.max_locals, shape, instrs);
     let fits = shape.params.len() <= code.max_locals as usize;
-    Ok(small && ends_in_return(instrs) && fits)
+    Ok(
+        fits && ends_in_return(instrs)
+            && are_small_instrs(class, number, code.max_locals, shape, instrs),
+    )
 }

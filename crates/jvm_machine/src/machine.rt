@@ -170,6 +170,13 @@ impl Vm {
         self.clock
     }
 
+    /// The class that it runs.
+    pub fn class(&self) -> &ClassFile
+        ensures { result.now ≡ self.now.class }
+    {
+        self.tables.class()
+    }
+
     /// What the program has written.
     pub fn output(&self) -> &[u8]
         ensures { self.now.broken ≡ false → result.now ≡ (state_of self.now).output }

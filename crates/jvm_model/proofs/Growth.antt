@@ -108,14 +108,14 @@ step_of-grows c s = chosen-grows s.output (is_some s.ending) s (attempt c s) (Ex
 from_on : (P : ℕ → Type 0) (n : ℕ) → P n → ((k : ℕ) → P k → P (suc k)) → (m : ℕ) → n ≤ m → P m
 from_on P n here more zero le = let at : n ≡ zero = omega arith in subst P at here
 from_on P n here more (suc m) le = elim (cases_lt m n) as (λ _. P (suc m)) [
-    inl lt ↦ let at : n ≡ suc m = omega arith in subst P at here
+  | inl lt ↦ let at : n ≡ suc m = omega arith in subst P at here
   | inr before ↦ more m (from_on P n here more m before)
-  ]
+]
 
 pub run-grows : (c : ClassFile) (main : ℕ) (input : List ℕ) (n m : ℕ) → n ≤ m → Extends (output_of c main input n) (output_of c main input m)
 run-grows c main input n m le = from_on (λ k. Extends (output_of c main input n) (output_of c main input k)) n (Extends-same (output_of c main input n))
     (λ k so_far. subst (λ (s : State). Extends (output_of c main input n) s.output) (sym (run-suc c main input k))
-        (Extends-trans so_far (step_of-grows c (run c main input k)))) m le
+    (Extends-trans so_far (step_of-grows c (run c main input k)))) m le
 
 -- what was written first stays in front
 pub output-is-front : (c : ClassFile) (main : ℕ) (input : List ℕ) (n m : ℕ) → n ≤ m → take (length (output_of c main input n)) (output_of c main input m) ≡ output_of c main input n

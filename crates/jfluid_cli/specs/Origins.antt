@@ -1,0 +1,26 @@
+-- Where what is kept came from.
+use Rattle.std.specs.Prelude.{◌≡◌, ℕ, List, [], ◌∷◌, Option, Some}
+use Rattle.jf_bytes.specs.Streams.{Told}
+use Rattle.const_pool.specs.declared.class.ClassFile.{ClassFile}
+use Rattle.class_reader.specs.Plain.{IsPlainFile}
+use Rattle.jfluid_cli.specs.declared.kept.Kept.{Kept}
+use Rattle.jfluid_cli.specs.Words.{Command, command_of}
+use Rattle.jfluid_cli.specs.Top.{IsProgram, IsToldAs}
+
+-- The kept class file is what the files tell under the word, it is the program that the kept machine runs, and the
+-- input is empty.
+pub record HasOrigin (told : Option Told) (words : List (List ℕ)) (k : Kept) : Type 0 where
+  pub command : Command
+  pub commanded : command_of words ≡ Some command
+  pub bytes : List ℕ
+  pub classes : k.classes ≡ bytes ∷ []
+  pub told_as : IsToldAs told command.file bytes
+  pub program : IsProgram bytes command.main k.vm.class k.vm.main
+  pub input : k.input ≡ []
+  pub no_input : k.vm.input ≡ []
+
+-- No other class than the one that runs is spelled by the bytes that are kept.
+pub record IsOnlyProgram (k : Kept) : Type 0 where
+  pub bytes : List ℕ
+  pub classes : k.classes ≡ bytes ∷ []
+  pub only : (c : ClassFile) → IsPlainFile bytes c → c ≡ k.vm.class

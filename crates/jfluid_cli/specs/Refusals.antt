@@ -1,0 +1,28 @@
+-- The refusals of the program: their statuses, and the line that is put to the report.
+use Rattle.std.specs.Prelude.{◌≡◌, ℕ, ◌⊎◌, List, ◌++◌, Option, codes}
+use Rattle.std.specs.Io.KnownBytes.{append_known}
+use Rattle.jf_bytes.specs.Streams.{PutsFront, Rose}
+use Rattle.jfluid_cli.specs.declared.refusal.Refusal.{Refusal}
+use Rattle.jfluid_cli.specs.declared.refusal.Refusal.TheVariants.{Words, NotBuilt, NoMain, NotFetched, OutFailed, NoMemory}
+
+abbrev pub status_of : Refusal → ℕ
+status_of Words = 2
+status_of NotBuilt = 3
+status_of NoMain = 3
+status_of OutFailed = 6
+status_of NotFetched = 7
+status_of NoMemory = 9
+
+-- the line, with its end; a file is called by its word
+abbrev pub line_of : Refusal → List ℕ → List ℕ
+line_of Words file = codes "jfluid: words refused\n"
+line_of NotBuilt file = codes "jfluid: " ++ (file ++ codes ": NotBuilt\n")
+line_of NoMain file = codes "jfluid: NoMain\n"
+line_of OutFailed file = codes "jfluid: output failed\n"
+line_of NotFetched file = codes "jfluid: " ++ (file ++ codes ": fetch failed\n")
+line_of NoMemory file = codes "jfluid: no memory\n"
+
+-- These bytes were put, or a front of them where the count of faults rose.
+pub record PutsOrRose (old new : Option (List ℕ)) (before after : ℕ) (bytes : List ℕ) : Type 0 where
+  pub front : PutsFront old new bytes
+  pub whole : (new ≡ append_known old bytes) ⊎ Rose before after

@@ -1,0 +1,125 @@
+-- What a call of the top says: where the program came from, what its status means, and why each refusal came.
+use Rattle.std.specs.Prelude.{◌≡◌, ◌≢◌, ℕ, ◌+◌, ◌<◌, ◌≤◌, ◌⊎◌, Bool, true, false, List, [], ◌∷◌, map, Option, Some, None, Result, Ok, Err, IfSome, slice_get, unwrap_or, ◌==◌}
+use Rattle.std.specs.List.{list_any}
+use Rattle.std.specs.Io.KnownBytes.{append_known}
+use Rattle.jf_bytes.specs.Streams.{Told, contents_at, front_at, PutsFront, Rose, greatest}
+use Rattle.const_pool.specs.declared.class.ClassFile.{ClassFile}
+use Rattle.class_reader.specs.Plain.{IsPlainFile}
+use Rattle.jvm_model.specs.declared.ending.Ending.{Ending}
+use Rattle.jvm_model.specs.declared.ending.Ending.TheVariants.{Returned, Exited, Uncaught, Unverifiable}
+use Rattle.jvm_model.specs.Run.{ending_of}
+use Rattle.jvm_model.specs.SmallClass.{IsSmallClass, main_of}
+use Rattle.jvm_machine.specs.View.{View}
+use Rattle.jfluid_cli.specs.declared.refusal.Refusal.{Refusal}
+use Rattle.jfluid_cli.specs.declared.refusal.Refusal.TheVariants.{Words, NotBuilt, NoMain, NotFetched, OutFailed, NoMemory}
+use Rattle.jfluid_cli.specs.Words.{Command, command_of}
+use Rattle.jfluid_cli.specs.Runs.{ending_at}
+use Rattle.jfluid_cli.specs.Reports.{report_text}
+use Rattle.jfluid_cli.specs.Refusals.{status_of, line_of, PutsOrRose}
+
+-- ---- statuses
+
+-- returned or exited; uncaught; unverifiable; the budget was spent
+abbrev pub status_of_ending : Option Ending → ℕ
+status_of_ending None = 4
+status_of_ending (Some Returned) = 0
+status_of_ending (Some (Exited code)) = 0
+status_of_ending (Some (Uncaught class)) = 1
+status_of_ending (Some (Unverifiable method offset)) = 10
+
+abbrev pub is_among : List ℕ → ℕ → Bool
+is_among statuses status = list_any (λ s. s == status) statuses
+
+-- the report was put
+abbrev pub is_reported : ℕ → Bool
+is_reported = is_among (0 ∷ 1 ∷ 4 ∷ 10 ∷ [])
+
+-- the run was carried out up to its end or the budget
+abbrev pub is_run : ℕ → Bool
+is_run = is_among (0 ∷ 1 ∷ 4 ∷ 8 ∷ 10 ∷ [])
+
+-- a machine was made and is kept
+abbrev pub is_kept : ℕ → Bool
+is_kept = is_among (0 ∷ 1 ∷ 4 ∷ 6 ∷ 8 ∷ 10 ∷ [])
+
+-- nothing was made
+abbrev pub is_refused : ℕ → Bool
+is_refused = is_among (2 ∷ 3 ∷ 5 ∷ 7 ∷ 11 ∷ [])
+
+-- the statuses that there are
+abbrev pub is_status : ℕ → Bool
+is_status = is_among (0 ∷ 1 ∷ 2 ∷ 3 ∷ 4 ∷ 6 ∷ 7 ∷ 8 ∷ 9 ∷ 10 ∷ [])
+
+-- ---- the program
+
+-- The bytes are a file of a small class whose main method has this number, in a class of this name.
+pub record IsProgram (bytes name : List ℕ) (class : ClassFile) (main : ℕ) : Type 0 where
+  pub file : IsPlainFile bytes class
+  pub small : IsSmallClass class
+  pub main_is : main_of class name ≡ Some main
+
+-- no small class is spelled
+abbrev pub IsOutside : List ℕ → Type 0
+IsOutside bytes = (c : ClassFile) → IsPlainFile bytes c → IsSmallClass c → ⊥
+
+-- a small class is spelled, but it has another name or no public static main
+abbrev pub LacksMain : List ℕ → List ℕ → Type 0
+LacksMain bytes name = (c : ClassFile) × IsPlainFile bytes c × IsSmallClass c × (main_of c name ≡ None)
+
+-- one or the other
+abbrev pub IsNoProgram : List ℕ → List ℕ → Type 0
+IsNoProgram bytes name = IsOutside bytes ⊎ LacksMain bytes name
+
+-- the files, where they tell their contents, have this under the name
+abbrev pub Has : Option Told → List ℕ → (List ℕ → Type 0) → Type 0
+Has told name P = IfSome told (λ files. IfSome (contents_at files name) P)
+
+-- the contents of the file, where the files tell them, are these bytes
+abbrev pub IsToldAs : Option Told → List ℕ → List ℕ → Type 0
+IsToldAs told name bytes = IfSome told (λ files. contents_at files name ≡ Some bytes)
+
+-- the greatest length of a class file
+abbrev pub most : ℕ
+most = 4194304
+
+-- the contents of the file are these bytes, or begin with them where they are too long
+abbrev pub IsFrontOf : Option Told → List ℕ → List ℕ → Type 0
+IsFrontOf told name bytes = IfSome told (λ files. front_at files name most ≡ Some bytes)
+
+-- what a fetch refuses
+abbrev pub IsFetchRefusal : Refusal → Type 0
+IsFetchRefusal refusal = (refusal ≡ NotFetched) ⊎ (refusal ≡ NoMemory)
+
+-- ---- the report
+
+-- what is reported of a machine's run, which has no swaps and no root
+abbrev pub report_of : View → List ℕ
+report_of v = report_text v.class (ending_at v v.clock) v.clock 0 []
+
+-- the third word, which is the file's name
+abbrev pub file_word : List (List ℕ) → List ℕ
+file_word words = unwrap_or (slice_get words 2) []
+
+-- ---- refusals
+
+-- The words are a command, and what the files tell under its file's name is refused for this reason, which is said of
+-- the bytes and the main class.
+pub record RefusesFile (told : Option Told) (words : List (List ℕ)) (Reason : List ℕ → List ℕ → Type 0) : Type 0 where
+  pub command : Command
+  pub commanded : command_of words ≡ Some command
+  pub reason : Has told command.file (λ bytes. Reason bytes command.main)
+
+-- the count is as before, and can still rise
+pub record IsCalm (old new : ℕ) : Type 0 where
+  pub same : new ≡ old
+  pub low : new < greatest
+
+-- The words are a command, and the files tell a program for it.
+pub record IsAccepted (told : Option Told) (words : List (List ℕ)) (class : ClassFile) (main : ℕ) : Type 0 where
+  pub command : Command
+  pub commanded : command_of words ≡ Some command
+  pub files : Told
+  pub telling : told ≡ Some files
+  pub bytes : List ℕ
+  pub told_as : contents_at files command.file ≡ Some bytes
+  pub program : IsProgram bytes command.main class main

@@ -1,0 +1,95 @@
+//! Fetches, reads and admits the class file.
+
+ghost use Rattle.std.specs.Prelude.{◌≡◌, ◌≢◌, Err, IfOk, IfErr};
+ghost use Rattle.const_pool.specs.declared.class.ClassFile.{ClassFile as Class};
+ghost use Rattle.class_reader.specs.Plain.{IsPlainFile};
+ghost use Rattle.jf_bytes.specs.Streams.{Rose};
+ghost use Rattle.jfluid_cli.specs.Top.{IsProgram, IsOutside, LacksMain, Has, IsToldAs, IsFrontOf, IsFetchRefusal};
+ghost use Rattle.jfluid_cli.specs.Words.{slashed};
+
+use crate::admission::{AdmitError, admit};
+use crate::refusal::Refusal;
+use crate::words::{Command, class_name};
+use class_reader::{ReadError, read_class};
+use const_pool::ClassFile;
+use jf_bytes::{FetchError, Files, Text16};
+use std::alloc::Global;
+
+/// The greatest length of a class file.
+const MOST: usize = 4_194_304;
+
+/// A class file that was read and admitted.
+#[derive(Drop)]
+pub struct Program {
+    pub class: ClassFile,
+    /// The number of its main method.
+    pub main: u16,
+}
+
+/// Reads and admits a class file.
+fn read_program(alloc: Global, bytes: &[u8], name: &Text16) -> Result<Program, Refusal>
+    ensures ok { IfOk result (λ p. IsProgram bytes.now name.now p.class p.main) }
+    ensures not_built { result ≡ Err Refusal.NotBuilt → IsOutside bytes.now }
+    ensures no_main { result ≡ Err Refusal.NoMain → LacksMain bytes.now name.now }
+    ensures not_words { result ≢ Err Refusal.Words }
+    ensures not_out { result ≢ Err Refusal.OutFailed }
+    ensures not_fetch { result ≢ Err Refusal.NotFetched }
+    ensures one { (c d : Class) → IsPlainFile bytes.now c → IsPlainFile bytes.now d → c ≡ d }
+{
+    let class = match read_class(alloc, bytes) {
+        Ok(class) => class,
+        Err(ReadError::NotBuilt) => return Err(Refusal::NotBuilt),
+        Err(ReadError::NoMemory) => return Err(Refusal::NoMemory),
+    };
+    match admit(alloc, &class, name) {
+        Ok(main) => Ok(Program { class, main }),
+        Err(AdmitError::NotBuilt) => Err(Refusal::NotBuilt),
+        Err(AdmitError::NoMain) => Err(Refusal::NoMain),
+        Err(AdmitError::NoMemory) => Err(Refusal::NoMemory),
+    }
+}
+
+/// A program with the bytes of its file.
+#[derive(Drop)]
+pub struct Loaded {
+    pub bytes: Vec<u8>,
+    pub program: Program,
+}
+
+/// Fetches a class file, or, of a longer one, enough to see that it is too long.
+fn fetch<F: Files>(alloc: Global, name: &str, files: &mut F) -> Result<Vec<u8>, Refusal>
+    ensures found { IfOk result (λ bytes. IsFrontOf (F.contents files.old) name.now bytes.items) }
+    ensures failed { result ≡ Err Refusal.NotFetched → Rose (F.faults files.old) (F.faults files.new) }
+    ensures name { result ≡ Err Refusal.NotFetched → F.last_failed files.new ≡ name.now }
+    ensures calm { result ≢ Err Refusal.NotFetched → F.faults files.new ≡ F.faults files.old }
+    ensures errors { IfErr result IsFetchRefusal }
+{
+    match files.fetch(alloc, name, MOST) {
+        Ok(bytes) => Ok(bytes),
+        Err(FetchError::Failed) => Err(Refusal::NotFetched),
+        Err(FetchError::NoMemory) => Err(Refusal::NoMemory),
+    }
+}
+
+/// Fetches, reads and admits the class file of a command.
+pub fn load<F: Files>(alloc: Global, command: Command<'_>, files: &mut F) -> Result<Loaded, Refusal>
+    ensures told { IfOk result (λ l. IsToldAs (F.contents files.old) command.entry.file.now l.bytes.items) }
+    ensures program { IfOk result (λ l. IsProgram l.bytes.items (slashed command.entry.main.now) l.program.class l.program.main) }
+    ensures one { IfOk result (λ l. (c : Class) → IsPlainFile l.bytes.items c → c ≡ l.program.class) }
+    ensures not_built { result ≡ Err Refusal.NotBuilt → Has (F.contents files.old) command.entry.file.now IsOutside }
+    ensures no_main { result ≡ Err Refusal.NoMain → Has (F.contents files.old) command.entry.file.now (λ bytes. LacksMain bytes (slashed command.entry.main.now)) }
+    ensures failed { result ≡ Err Refusal.NotFetched → Rose (F.faults files.old) (F.faults files.new) }
+    ensures name { result ≡ Err Refusal.NotFetched → F.last_failed files.new ≡ command.entry.file.now }
+    ensures calm { result ≢ Err Refusal.NotFetched → F.faults files.new ≡ F.faults files.old }
+    ensures not_words { result ≢ Err Refusal.Words }
+    ensures not_out { result ≢ Err Refusal.OutFailed }
+{
+    let Ok(name) = class_name(alloc, command.main) else {
+        return Err(Refusal::NoMemory);
+    };
+    let bytes = fetch(alloc, command.file, files)?;
+    match read_program(alloc, &bytes, &name) {
+        Ok(program) => Ok(Loaded { bytes, program }),
+        Err(refusal) => Err(refusal),
+    }
+}

@@ -1,0 +1,82 @@
+//! What the program answers in place of a report.
+
+ghost use Rattle.std.specs.Prelude.{◌≡◌, ◌⊎◌, true, false, IfOk};
+ghost use Rattle.std.specs.String.{string_bytes};
+ghost use Rattle.std.specs.Io.KnownBytes.{append_known};
+ghost use Rattle.jf_bytes.specs.Streams.{Rose};
+ghost use Rattle.jfluid_cli.specs.Refusals.{status_of, line_of, PutsOrRose};
+
+use jf_bytes::Sink;
+use std::alloc::{AllocError, Global};
+
+/// Why the program gives no report. Each has a status, and a line that is put to the report.
+#[derive(Clone, Copy, Debug, PartialEq, Eq)]
+pub enum Refusal {
+    /// The words are no command: status 2.
+    Words,
+    /// The file is no class file of the part that is built so far: status 3.
+    NotBuilt,
+    /// The class has another name, or no public static main: status 3.
+    NoMain,
+    /// A put of the program's output failed: status 6.
+    OutFailed,
+    /// The file could not be fetched: status 7.
+    NotFetched,
+    /// Status 9.
+    NoMemory,
+}
+
+impl Refusal {
+    /// The exit status.
+    pub fn status(self) -> u8
+        ensures { result ≡ status_of self }
+    {
+        match self {
+            Refusal::Words => 2,
+            Refusal::NotBuilt | Refusal::NoMain => 3,
+            Refusal::OutFailed => 6,
+            Refusal::NotFetched => 7,
+            Refusal::NoMemory => 9,
+        }
+    }
+}
+
+/// The line of a refusal; a file is called by its word.
+fn line(alloc: Global, refusal: Refusal, file: &str) -> Result<String, AllocError>
+    ensures { IfOk result (λ line. string_bytes line ≡ line_of refusal file.now) }
+{
+    match refusal {
+        Refusal::Words => String::from_str(alloc, "jfluid: words refused\n"),
+        Refusal::NotBuilt => format!(in alloc; "jfluid: {file}: NotBuilt\n"),
+        Refusal::NoMain => String::from_str(alloc, "jfluid: NoMain\n"),
+        Refusal::OutFailed => String::from_str(alloc, "jfluid: output failed\n"),
+        Refusal::NotFetched => format!(in alloc; "jfluid: {file}: fetch failed\n"),
+        Refusal::NoMemory => String::from_str(alloc, "jfluid: no memory\n"),
+    }
+}
+
+/// Puts bytes to the report. A fault changes no status.
+pub fn put_bytes<P: Sink>(report: &mut P, bytes: &[u8]) -> bool
+    ensures put { PutsOrRose (P.taken report.old) (P.taken report.new) (P.faults report.old) (P.faults report.new) bytes.now }
+    ensures ok { result ≡ true → (P.taken report.new ≡ append_known (P.taken report.old) bytes.now) × (P.faults report.new ≡ P.faults report.old) }
+    ensures failed { result ≡ false → Rose (P.faults report.old) (P.faults report.new) }
+{
+    report.put(bytes).is_ok()
+}
+
+/// Puts the line of a refusal, and answers which refusal it was in the end: where no memory is left for the line, that.
+pub fn tell<P: Sink>(alloc: Global, refusal: Refusal, file: &str, report: &mut P) -> Refusal
+    ensures told { (result ≡ refusal) ⊎ (result ≡ Refusal.NoMemory) }
+    ensures line { PutsOrRose (P.taken report.old) (P.taken report.new) (P.faults report.old) (P.faults report.new) (line_of result file.now) }
+{
+    match line(alloc, refusal, file) {
+        Ok(line) => {
+            let _put = put_bytes(report, line.as_bytes());
+            refusal
+        }
+        Err(_) => {
+            let _put = put_bytes(report, b"jfluid: no memory\n");
+            Refusal::NoMemory
+        }
+    }
+}
