@@ -7,3 +7,4 @@ pub mod Underway
 pub mod ToldFiles
 pub mod Texts
 pub mod Refused
+pub mod Complete

@@ -26,3 +26,7 @@ line_of NoMemory file = codes "jfluid: no memory\n"
 pub record PutsOrRose (old new : Option (List ℕ)) (before after : ℕ) (bytes : List ℕ) : Type 0 where
   pub front : PutsFront old new bytes
   pub whole : (new ≡ append_known old bytes) ⊎ Rose before after
+
+-- The line of this refusal was put, or a front of it where the report's count of faults rose.
+abbrev pub Tells : Option (List ℕ) → Option (List ℕ) → ℕ → ℕ → List ℕ → Refusal → Type 0
+Tells old new before after file refusal = PutsOrRose old new before after (line_of refusal file)

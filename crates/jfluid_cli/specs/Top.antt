@@ -66,10 +66,6 @@ IsOutside bytes = (c : ClassFile) → IsPlainFile bytes c → IsSmallClass c →
 abbrev pub LacksMain : List ℕ → List ℕ → Type 0
 LacksMain bytes name = (c : ClassFile) × IsPlainFile bytes c × IsSmallClass c × (main_of c name ≡ None)
 
--- one or the other
-abbrev pub IsNoProgram : List ℕ → List ℕ → Type 0
-IsNoProgram bytes name = IsOutside bytes ⊎ LacksMain bytes name
-
 -- the files, where they tell their contents, have this under the name
 abbrev pub Has : Option Told → List ℕ → (List ℕ → Type 0) → Type 0
 Has told name P = IfSome told (λ files. IfSome (contents_at files name) P)
@@ -108,6 +104,10 @@ pub record RefusesFile (told : Option Told) (words : List (List ℕ)) (Reason : 
   pub command : Command
   pub commanded : command_of words ≡ Some command
   pub reason : Has told command.file (λ bytes. Reason bytes command.main)
+
+-- What the files tell is no small class, or lacks its main method, and the line says which.
+abbrev pub IsRefusedFile : Option Told → List (List ℕ) → (Refusal → Type 0) → Type 0
+IsRefusedFile told words Line = (RefusesFile told words (λ bytes main. IsOutside bytes) × Line NotBuilt) ⊎ (RefusesFile told words LacksMain × Line NoMain)
 
 -- the count is as before, and can still rise
 pub record IsCalm (old new : ℕ) : Type 0 where

@@ -29,7 +29,11 @@ pub enum Refusal {
 impl Refusal {
     /// The exit status.
     pub fn status(self) -> u8
-        ensures { result ≡ status_of self }
+        ensures value { result ≡ status_of self }
+        ensures words { result ≡ 2 → self ≡ Refusal.Words }
+        ensures stopped { result ≡ 6 → self ≡ Refusal.OutFailed }
+        ensures not_fetched { result ≡ 7 → self ≡ Refusal.NotFetched }
+        ensures memory { result ≡ 9 → self ≡ Refusal.NoMemory }
     {
         match self {
             Refusal::Words => 2,

@@ -1,12 +1,15 @@
 //! The top call: from the words to a status.
 
-ghost use Rattle.std.specs.Prelude.{◌≡◌, ◌≢◌, ◌⊎◌, ◌↔◌, ◌∷◌, [], true, None, Err, map, IfOk, IfErr, IfSome, IsOk, IsSome, OnOk};
+ghost use Rattle.std.specs.Prelude.{◌≡◌, ◌≢◌, ◌⊎◌, ◌↔◌, ◌∷◌, ℕ, [], true, None, Err, map, MatchResult, IfOk, IfErr, IfSome, IsOk, IsSome, OnOk};
 ghost use Rattle.const_pool.specs.ClassFile.{IsClassFile};
+ghost use Rattle.const_pool.specs.declared.class.ClassFile.{ClassFile as Class};
+ghost use Rattle.jvm_model.specs.Run.{ending_of};
+ghost use Rattle.jfluid_cli.specs.Refusals.{Tells};
 ghost use Rattle.std.specs.Io.KnownBytes.{append_known};
 ghost use Rattle.jf_bytes.specs.Streams.{PutsFront, Rose};
 ghost use Rattle.jvm_machine.specs.View.{made};
 ghost use Rattle.jfluid_cli.specs.Runs.{IsGoing, SameProgram, IsCarriedOut, PutsAtMost, ending_at};
-ghost use Rattle.jfluid_cli.specs.Top.{status_of_ending, is_status, is_reported, is_run, is_kept, is_refused, report_of, file_word, IsOutside, LacksMain, IsNoProgram, RefusesFile};
+ghost use Rattle.jfluid_cli.specs.Top.{status_of_ending, is_status, is_reported, is_run, is_kept, is_refused, report_of, file_word, IsOutside, LacksMain, RefusesFile, IsRefusedFile, IsAccepted, IsCalm};
 ghost use Rattle.jfluid_cli.specs.Origins.{HasOrigin, IsOnlyProgram};
 ghost use Rattle.jfluid_cli.specs.Words.{command_of};
 ghost use Rattle.std.specs.String.{string_bytes};
@@ -153,6 +156,7 @@ fn carry_out<F: Files, O: Sink, P: Sink>(
     ensures stopped { result ≡ Err Refusal.OutFailed → Rose (O.faults out.old) (O.faults out.new) }
     ensures not_fetched { result ≡ Err Refusal.NotFetched → (kept.new ≡ None) × Rose (F.faults files.old) (F.faults files.new) × (F.last_failed files.new ≡ file_word (map string_bytes words.now)) }
     ensures not_words { result ≡ Err Refusal.Words → kept.new ≡ None }
+    ensures complete { (c : Class) (main : ℕ) → IsAccepted (F.contents files.old) (map string_bytes words.now) c main → IsCalm (F.faults files.old) (F.faults files.new) → IsCalm (O.faults out.old) (O.faults out.new) → MatchResult result (λ s. s ≢ 8 → s ≡ status_of_ending (ending_of c main [] BUDGET)) (λ e. e ≡ Refusal.NoMemory) }
 {
     *kept = None;
     let Some(command) = read_words(words) else {
@@ -216,10 +220,18 @@ pub fn jfluid<F: Files, I: Source, O: Sink, P: Sink, G: Sink>(
     // Why each refusal comes.
     ensures words { result ≡ 2 → command_of (map string_bytes words.now) ≡ None }
     ensures words_only { command_of (map string_bytes words.now) ≡ None → (result ≡ 2) ⊎ (result ≡ 9) }
-    ensures file { result ≡ 3 → RefusesFile (F.contents files.old) (map string_bytes words.now) IsNoProgram }
+    ensures file { result ≡ 3 → IsRefusedFile (F.contents files.old) (map string_bytes words.now) (Tells (P.taken report.old) (P.taken report.new) (P.faults report.old) (P.faults report.new) (file_word (map string_bytes words.now))) }
     ensures stopped { result ≡ 6 → Rose (O.faults out.old) (O.faults out.new) }
     ensures not_fetched { result ≡ 7 → Rose (F.faults files.old) (F.faults files.new) × (F.last_failed files.new ≡ file_word (map string_bytes words.now)) }
     ensures not_reported { result ≡ 8 → Rose (P.faults report.old) (P.faults report.new) }
+    // The line of each refusal was put; with status 3 the clause above says which.
+    ensures words_line { result ≡ 2 → Tells (P.taken report.old) (P.taken report.new) (P.faults report.old) (P.faults report.new) (file_word (map string_bytes words.now)) Refusal.Words }
+    ensures stopped_line { result ≡ 6 → Tells (P.taken report.old) (P.taken report.new) (P.faults report.old) (P.faults report.new) (file_word (map string_bytes words.now)) Refusal.OutFailed }
+    ensures not_fetched_line { result ≡ 7 → Tells (P.taken report.old) (P.taken report.new) (P.faults report.old) (P.faults report.new) (file_word (map string_bytes words.now)) Refusal.NotFetched }
+    ensures memory_line { result ≡ 9 → Tells (P.taken report.old) (P.taken report.new) (P.faults report.old) (P.faults report.new) (file_word (map string_bytes words.now)) Refusal.NoMemory }
+
+    // Where all is accepted and nothing failed, the status is that of the run at the budget, or memory ran out.
+    ensures complete { (c : Class) (main : ℕ) → IsAccepted (F.contents files.old) (map string_bytes words.now) c main → IsCalm (F.faults files.old) (F.faults files.new) → IsCalm (O.faults out.old) (O.faults out.new) → IsCalm (P.faults report.old) (P.faults report.new) → (result ≡ status_of_ending (ending_of c main [] BUDGET)) ⊎ (result ≡ 9) }
     ensures calm { is_reported result ≡ true → (F.faults files.new ≡ F.faults files.old) × (O.faults out.new ≡ O.faults out.old) × (P.faults report.new ≡ P.faults report.old) }
 
     ensures input_stays { input.new ≡ input.old }

@@ -1,12 +1,23 @@
-use Rattle.std.proofs.Common.{◌≡◌, sym, ap, ◌∙◌, inl, inr, Err}
+use Rattle.std.proofs.Common.{◌≡◌, List, ℕ, refl, sym, ap, subst, ◌∙◌, Err, inr}
 use Rattle.std.specs.Prelude.{map}
 use Rattle.std.specs.String.{string_bytes}
-use Rattle.jfluid_cli.proofs.Refused.{outside_is_none, lacking_is_none, told_of_file}
+use Rattle.jfluid_cli.specs.Refusals.{Tells, PutsOrRose, line_of}
+use Rattle.jfluid_cli.specs.Top.{file_word}
+use Rattle.jfluid_cli.proofs.Refused.{tells, file_refused, memory_told}
 use Rattle.jfluid_cli.proofs.top.jfluid.Goals as goal
 
 pub returns-clause-file : goal.returns-clause-file
 returns-clause-file g c status =
-    elim (told_of_file c.in-Err.refusal c.tell.result c.tell.ensures.told (sym c.status.ensures ∙ status)) [
-      | inl e ↦ outside_is_none (g.F.Files.contents c.args.files.now) (map string_bytes c.args.words.now) (c.in-Err.ensures.not_built (ap Err e)).1
-      | inr e ↦ lacking_is_none (g.F.Files.contents c.args.files.now) (map string_bytes c.args.words.now) (c.in-Err.ensures.no_main (ap Err e)).1
-    ]
+    let words : List (List ℕ) = map string_bytes c.args.words.now in
+    let word : c.third_word.result.now ≡ file_word words = c.third_word.ensures in
+    file_refused (g.F.Files.contents c.args.files.now) words
+    (Tells (g.P.Sink.taken c.args.report.now) (g.P.Sink.taken c.tell.new.report) (g.P.Sink.faults c.args.report.now) (g.P.Sink.faults c.tell.new.report) (file_word words))
+    c.in-Err.refusal c.tell.result c.tell.ensures.told (sym c.status.ensures.value ∙ status)
+    (λ e. (c.in-Err.ensures.not_built (ap Err e)).1) (λ e. (c.in-Err.ensures.no_main (ap Err e)).1)
+    (λ r e. tells (g.P.Sink.taken c.args.report.now) (g.P.Sink.taken c.carry_out.new.report) (g.P.Sink.taken c.tell.new.report) (g.P.Sink.faults c.args.report.now) (g.P.Sink.faults c.carry_out.new.report) (g.P.Sink.faults c.tell.new.report)
+    (file_word words) c.tell.result r c.in-Err.ensures.stays.0 c.in-Err.ensures.stays.1 e
+    (subst (λ (file : List ℕ). PutsOrRose (g.P.Sink.taken c.carry_out.new.report) (g.P.Sink.taken c.tell.new.report) (g.P.Sink.faults c.carry_out.new.report) (g.P.Sink.faults c.tell.new.report) (line_of c.tell.result file)) word c.tell.ensures.line))
+
+pub returns-clause-complete : goal.returns-clause-complete
+returns-clause-complete g c = λ class main accepted calm still _.
+    inr (c.status.ensures.value ∙ memory_told c.in-Err.refusal c.tell.result c.tell.ensures.told (c.in-Err.ensures.complete class main accepted calm still))

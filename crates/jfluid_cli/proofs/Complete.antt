@@ -1,0 +1,129 @@
+-- Where all is accepted and nothing fails, the status is that of the run at the budget.
+use Rattle.std.proofs.Common.{◌≡◌, ◌≢◌, ℕ, ◌+◌, ◌-◌, ◌^◌, ◌<◌, ◌≤◌, Bool, true, false, List, [], ◌∷◌, Option, Some, None, refl, sym, ap, subst, ◌∙◌, arith, inl, inr}
+use Rattle.std.specs.Prelude.{◌⊎◌, min, Result, Ok, Err, IfSome, IfOk, IfErr, IsSome, MatchResult}
+use Rattle.class_reader.proofs.Files.{only_one}
+use Rattle.jfluid_cli.specs.declared.kept.Kept.{Kept}
+use Rattle.jfluid_cli.specs.declared.refusal.Refusal.{Refusal}
+use Rattle.jfluid_cli.specs.declared.refusal.Refusal.TheVariants.{Words, NotBuilt, NoMain, NotFetched, OutFailed, NoMemory}
+use Rattle.jf_bytes.specs.Streams.{Told, contents_at, Rose, greatest}
+use Rattle.const_pool.specs.declared.class.ClassFile.{ClassFile}
+use Rattle.class_reader.specs.Plain.{IsPlainFile}
+use Rattle.jvm_model.specs.declared.ending.Ending.{Ending}
+use Rattle.jvm_model.specs.declared.state.State.{State}
+use Rattle.jvm_model.specs.Run.{ending_of, run}
+use Rattle.jvm_model.specs.SmallClass.{IsSmallClass, main_of}
+use Rattle.jvm_model.proofs.Growth.{run-stays}
+use Rattle.jvm_machine.specs.View.{View, made}
+use Rattle.jfluid_cli.specs.Words.{Command, command_of}
+use Rattle.jfluid_cli.specs.Runs.{ending_at, SameProgram, IsCarriedOut, EndedIn}
+use Rattle.jfluid_cli.specs.Top.{status_of_ending, IsProgram, IsOutside, LacksMain, Has, IsToldAs, IsCalm, IsAccepted, RefusesFile}
+
+-- a calm count did not rise
+pub calm_not_rose : (old new : ℕ) → IsCalm old new → Rose old new → ⊥
+calm_not_rose old new calm rose =
+    let same : new ≡ old = calm.same in
+    let low : new < greatest = calm.low in
+    let above : min (old + 1) greatest ≤ new = rose in
+    absurd (omega arith)
+
+-- the run has the same ending at the budget
+pub ends_as : (v : View) (budget : ℕ) (old new : Option (List ℕ)) → IsCarriedOut v budget old new → ending_at v v.clock ≡ ending_at v budget
+ends_as v budget old new carried =
+    elim carried.stop [
+      | inl (at, on) ↦ ap (ending_at v) at
+      | inr ended ↦ ap (λ (s : State). s.ending) (sym (run-stays v.class v.main v.input v.clock budget carried.within ended.ended))
+    ]
+
+-- ---- what is accepted is no other program
+
+abbrev some_files : Told → Option Told
+some_files files = Some files
+
+abbrev some_bytes : List ℕ → Option (List ℕ)
+some_bytes bytes = Some bytes
+
+-- a file with this name has no other contents than those that are accepted
+accepted_has : (told : Option Told) (words : List (List ℕ)) (c : ClassFile) (main : ℕ) (a : IsAccepted told words c main) (P : List ℕ → Type 0) → Has told a.command.file P → P a.bytes
+accepted_has told words c main a P has =
+    let files : Has (Some a.files) a.command.file P = subst (λ (t : Option Told). Has t a.command.file P) a.telling has in
+    subst (λ (o : Option (List ℕ)). IfSome o P) a.told_as files
+
+abbrev some_command : Command → Option Command
+some_command k = Some k
+
+-- the words are no other command
+accepted_command : (told : Option Told) (words : List (List ℕ)) (c : ClassFile) (main : ℕ) (a : IsAccepted told words c main) (command : Command) → command_of words ≡ Some command → command ≡ a.command
+accepted_command told words c main a command e =
+    let both : some_command command ≡ some_command a.command = sym e ∙ a.commanded in
+    cc
+
+-- What a load refused was not accepted, unless memory ran out.
+pub load_refused : (told : Option Told) (words : List (List ℕ)) (c : ClassFile) (main : ℕ) (command : Command) (refusal : Refusal) (before after : ℕ) → IsAccepted told words c main → command_of words ≡ Some command
+    → IsCalm before after → (refusal ≢ Words) → (refusal ≢ OutFailed) → (refusal ≡ NotFetched → Rose before after)
+    → (refusal ≡ NotBuilt → Has told command.file IsOutside) → (refusal ≡ NoMain → Has told command.file (λ bytes. LacksMain bytes command.main)) → refusal ≡ NoMemory
+load_refused told words c main command Words before after a e calm not_words not_out failed outside lacking = absurd (not_words refl)
+load_refused told words c main command OutFailed before after a e calm not_words not_out failed outside lacking = absurd (not_out refl)
+load_refused told words c main command NotFetched before after a e calm not_words not_out failed outside lacking = absurd (calm_not_rose before after calm (failed refl))
+load_refused told words c main command NoMemory before after a e calm not_words not_out failed outside lacking = refl
+load_refused told words c main command NotBuilt before after a e calm not_words not_out failed outside lacking =
+    let same : command ≡ a.command = accepted_command told words c main a command e in
+    let has : Has told a.command.file IsOutside = subst (λ (k : Command). Has told k.file IsOutside) same (outside refl) in
+    absurd (accepted_has told words c main a IsOutside has c a.program.file a.program.small)
+load_refused told words c main command NoMain before after a e calm not_words not_out failed outside lacking =
+    let same : command ≡ a.command = accepted_command told words c main a command e in
+    let has : Has told a.command.file (λ bytes. LacksMain bytes a.command.main) = subst (λ (k : Command). Has told k.file (λ bytes. LacksMain bytes k.main)) same (lacking refl) in
+    let lacks : LacksMain a.bytes a.command.main = accepted_has told words c main a (λ bytes. LacksMain bytes a.command.main) has in
+    let one : lacks.0 ≡ c = only_one a.bytes lacks.0 c lacks.1 a.program.file in
+    let none : main_of c a.command.main ≡ None = ap (λ (k : ClassFile). main_of k a.command.main) (sym one) ∙ lacks.3 in
+    absurd (let found : main_of c a.command.main ≡ Some main = a.program.main_is in cc)
+
+abbrev some_number : ℕ → Option ℕ
+some_number n = Some n
+
+number_is : (m n : ℕ) → some_number m ≡ some_number n → m ≡ n
+number_is m n e = cc
+
+-- What was loaded is the program that is accepted.
+pub accepted_is : (told : Option Told) (words : List (List ℕ)) (c : ClassFile) (main : ℕ) (a : IsAccepted told words c main) (command : Command) (bytes : List ℕ) (class : ClassFile) (number : ℕ) → command_of words ≡ Some command
+    → IsToldAs told command.file bytes → IsProgram bytes command.main class number → (c ≡ class) × (main ≡ number)
+accepted_is told words c main a command bytes class number e as_told program =
+    let same : command ≡ a.command = accepted_command told words c main a command e in
+    let files : IsToldAs (Some a.files) a.command.file bytes = subst (λ (t : Option Told). IsToldAs t a.command.file bytes) a.telling (subst (λ (k : Command). IsToldAs told k.file bytes) same as_told) in
+    let contents : some_bytes a.bytes ≡ some_bytes bytes = sym a.told_as ∙ files in
+    let bytes_are : a.bytes ≡ bytes = cc in
+    let file : IsPlainFile bytes c = subst (λ (bs : List ℕ). IsPlainFile bs c) bytes_are a.program.file in
+    let class_is : c ≡ class = only_one bytes c class file program.file in
+    let found : main_of class command.main ≡ Some main = ap (λ (k : ClassFile). main_of k command.main) (sym class_is) ∙ (ap (λ (k : Command). main_of c k.main) same ∙ a.program.main_is) in
+    (class_is, number_is main number (sym found ∙ program.main_is))
+
+ending_of_same : (c d : ClassFile) (m n : ℕ) (x y : List ℕ) (budget : ℕ) → c ≡ d → m ≡ n → x ≡ y → ending_of c m x budget ≡ ending_of d n y budget
+ending_of_same c d m n x y budget e f h =
+    ap (λ (k : ClassFile). ending_of k m x budget) e ∙ (ap (λ (k : ℕ). ending_of d k x budget) f ∙ ap (λ (i : List ℕ). ending_of d n i budget) h)
+
+abbrev failed_with : Refusal → Result ℕ Refusal
+failed_with e = Err e
+
+made_same : (c d : ClassFile) (m n : ℕ) → c ≡ d → m ≡ n → made d n [] ≡ made c m []
+made_same c d m n e f = sym (ap (λ (k : ClassFile). made k m []) e ∙ ap (λ (k : ℕ). made d k []) f)
+
+not_both : false ≡ true → ⊥
+not_both e = cc
+
+-- The answer to a run of it that was carried out, or that stopped for want of memory.
+pub run_answers : (A B : Kept → Type 0) (C D : Kept → Type 0) (r : Result ℕ Refusal) (kept : Option Kept) (c d : ClassFile) (m n budget : ℕ) (from : View) (before after : ℕ) (old new : Option (List ℕ))
+    → (c ≡ d) × (m ≡ n) → from ≡ made d n [] → IsCalm before after → IsSome kept
+    → IfSome kept (λ k. SameProgram from k.vm × A k × B k) → IfOk r (λ s. IfSome kept (λ k. IsCarriedOut k.vm budget old new))
+    → IfOk r (λ s. s ≢ 8 → IfSome kept (λ k. (s ≡ status_of_ending (ending_at k.vm k.vm.clock)) × C k × D k))
+    → (r ≡ Err OutFailed → Rose before after) → IfErr r (λ e. (e ≡ OutFailed) ⊎ (e ≡ NoMemory))
+    → MatchResult r (λ s. s ≢ 8 → s ≡ status_of_ending (ending_of c m [] budget)) (λ e. e ≡ NoMemory)
+run_answers A B C D (Ok s) None c d m n budget from before after old new accepted is calm some same carried whole stopped errors = absurd (not_both some)
+run_answers A B C D (Ok s) (Some k) c d m n budget from before after old new accepted is calm some same carried whole stopped errors = λ not_eight.
+    let began : from ≡ made c m [] = is ∙ made_same c d m n accepted.0 accepted.1 in
+    let seen : ending_at k.vm budget ≡ ending_of c m [] budget =
+    ending_of_same k.vm.class c k.vm.main m k.vm.input [] budget (same.0.class ∙ ap (λ (v : View). v.class) began) (same.0.main ∙ ap (λ (v : View). v.main) began) (same.0.input ∙ ap (λ (v : View). v.input) began) in
+    (whole not_eight).0 ∙ ap status_of_ending (ends_as k.vm budget old new carried ∙ seen)
+run_answers A B C D (Err e) kept c d m n budget from before after old new accepted is calm some same carried whole stopped errors =
+    elim errors [
+      | inl out ↦ absurd (calm_not_rose before after calm (stopped (ap failed_with out)))
+      | inr memory ↦ memory
+    ]
