@@ -39,7 +39,7 @@ ends_as v budget old new carried =
 abbrev some_files : Told → Option Told
 some_files files = Some files
 
-abbrev some_bytes : List ℕ → Option (List ℕ)
+abbrev pub some_bytes : List ℕ → Option (List ℕ)
 some_bytes bytes = Some bytes
 
 -- a file with this name has no other contents than those that are accepted
@@ -48,7 +48,7 @@ accepted_has told words c main a P has =
     let files : Has (Some a.files) a.command.file P = subst (λ (t : Option Told). Has t a.command.file P) a.telling has in
     subst (λ (o : Option (List ℕ)). IfSome o P) a.told_as files
 
-abbrev some_command : Command → Option Command
+abbrev pub some_command : Command → Option Command
 some_command k = Some k
 
 -- the words are no other command

@@ -8,3 +8,4 @@ pub mod ToldFiles
 pub mod Texts
 pub mod Refused
 pub mod Complete
+pub mod Refusable

@@ -123,3 +123,13 @@ pub record IsAccepted (told : Option Told) (words : List (List ℕ)) (class : Cl
   pub bytes : List ℕ
   pub told_as : contents_at files command.file ≡ Some bytes
   pub program : IsProgram bytes command.main class main
+
+-- The words are a command, and what the files tell for it is no small class, or lacks its main method.
+pub record IsRefusable (told : Option Told) (words : List (List ℕ)) : Type 0 where
+  pub command : Command
+  pub commanded : command_of words ≡ Some command
+  pub files : Told
+  pub telling : told ≡ Some files
+  pub bytes : List ℕ
+  pub told_as : contents_at files command.file ≡ Some bytes
+  pub reason : IsOutside bytes ⊎ LacksMain bytes command.main

@@ -9,7 +9,7 @@ ghost use Rattle.std.specs.Io.KnownBytes.{append_known};
 ghost use Rattle.jf_bytes.specs.Streams.{PutsFront, Rose};
 ghost use Rattle.jvm_machine.specs.View.{made};
 ghost use Rattle.jfluid_cli.specs.Runs.{IsGoing, SameProgram, IsCarriedOut, PutsAtMost, ending_at};
-ghost use Rattle.jfluid_cli.specs.Top.{status_of_ending, is_status, is_reported, is_run, is_kept, is_refused, report_of, file_word, IsOutside, LacksMain, RefusesFile, IsRefusedFile, IsAccepted, IsCalm};
+ghost use Rattle.jfluid_cli.specs.Top.{status_of_ending, is_status, is_reported, is_run, is_kept, is_refused, report_of, file_word, IsOutside, LacksMain, RefusesFile, IsRefusedFile, IsRefusable, IsAccepted, IsCalm};
 ghost use Rattle.jfluid_cli.specs.Origins.{HasOrigin, IsOnlyProgram};
 ghost use Rattle.jfluid_cli.specs.Words.{command_of};
 ghost use Rattle.std.specs.String.{string_bytes};
@@ -221,6 +221,7 @@ pub fn jfluid<F: Files, I: Source, O: Sink, P: Sink, G: Sink>(
     ensures words { result ≡ 2 → command_of (map string_bytes words.now) ≡ None }
     ensures words_only { command_of (map string_bytes words.now) ≡ None → (result ≡ 2) ⊎ (result ≡ 9) }
     ensures file { result ≡ 3 → IsRefusedFile (F.contents files.old) (map string_bytes words.now) (Tells (P.taken report.old) (P.taken report.new) (P.faults report.old) (P.faults report.new) (file_word (map string_bytes words.now))) }
+    ensures file_only { IsRefusable (F.contents files.old) (map string_bytes words.now) → IsCalm (F.faults files.old) (F.faults files.new) → (result ≡ 3) ⊎ (result ≡ 9) }
     ensures stopped { result ≡ 6 → Rose (O.faults out.old) (O.faults out.new) }
     ensures not_fetched { result ≡ 7 → Rose (F.faults files.old) (F.faults files.new) × (F.last_failed files.new ≡ file_word (map string_bytes words.now)) }
     ensures not_reported { result ≡ 8 → Rose (P.faults report.old) (P.faults report.new) }

@@ -4,6 +4,7 @@ use Rattle.std.specs.String.{string_bytes}
 use Rattle.jfluid_cli.specs.Refusals.{Tells, PutsOrRose, line_of}
 use Rattle.jfluid_cli.specs.Top.{file_word}
 use Rattle.jfluid_cli.proofs.Refused.{tells, file_refused, memory_told}
+use Rattle.jfluid_cli.proofs.Refusable.{not_kept, told_three}
 use Rattle.jfluid_cli.proofs.top.jfluid.Goals as goal
 
 pub returns-clause-file : goal.returns-clause-file
@@ -21,3 +22,12 @@ returns-clause-file g c status =
 pub returns-clause-complete : goal.returns-clause-complete
 returns-clause-complete g c = λ class main accepted calm still _.
     inr (c.status.ensures.value ∙ memory_told c.in-Err.refusal c.tell.result c.tell.ensures.told (c.in-Err.ensures.complete class main accepted calm still))
+
+pub returns-in-Ok-clause-file_only : goal.returns-in-Ok-clause-file_only
+returns-in-Ok-clause-file_only g c = λ refused _. absurd (not_kept (g.F.Files.contents c.args.files.now) (map string_bytes c.args.words.now) c.carry_out.new.kept refused c.in-Ok.ensures.kept c.in-Ok.ensures.origin)
+
+pub returns-clause-file_only : goal.returns-clause-file_only
+returns-clause-file_only g c = λ refused calm.
+    rw c.status.ensures.value
+    (told_three (g.F.Files.contents c.args.files.now) (map string_bytes c.args.words.now) c.carry_out.new.kept c.in-Err.refusal c.tell.result (g.F.Files.faults c.args.files.now) (g.F.Files.faults c.carry_out.new.files) refused calm c.tell.ensures.told
+        (λ e. c.in-Err.ensures.words.0 (ap Err e)) (λ e. (c.in-Err.ensures.not_fetched (ap Err e)).1) (λ e. c.in-Err.ensures.kept_stopped (ap Err e)) c.in-Err.ensures.origin)
