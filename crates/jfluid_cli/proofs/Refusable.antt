@@ -28,11 +28,11 @@ has_no_origin told words k refused origin =
     let both : some_command origin.command ≡ some_command refused.command = sym origin.commanded ∙ refused.commanded in
     let same : origin.command ≡ refused.command = cc in
     let files : IsToldAs (Some refused.files) refused.command.file origin.bytes =
-        subst (λ (t : Option Told). IsToldAs t refused.command.file origin.bytes) refused.telling (subst (λ (c : Command). IsToldAs told c.file origin.bytes) same origin.told_as) in
+    subst (λ (t : Option Told). IsToldAs t refused.command.file origin.bytes) refused.telling (subst (λ (c : Command). IsToldAs told c.file origin.bytes) same origin.told_as) in
     let contents : some_bytes refused.bytes ≡ some_bytes origin.bytes = sym refused.told_as ∙ files in
     let bytes_are : origin.bytes ≡ refused.bytes = cc in
     let program : IsProgram refused.bytes refused.command.main k.vm.class k.vm.main =
-        subst (λ (bs : List ℕ). IsProgram bs refused.command.main k.vm.class k.vm.main) bytes_are (subst (λ (c : Command). IsProgram origin.bytes c.main k.vm.class k.vm.main) same origin.program) in
+    subst (λ (bs : List ℕ). IsProgram bs refused.command.main k.vm.class k.vm.main) bytes_are (subst (λ (c : Command). IsProgram origin.bytes c.main k.vm.class k.vm.main) same origin.program) in
     no_program refused.bytes refused.command.main k.vm.class k.vm.main program refused.reason
 
 pub not_kept : (told : Option Told) (words : List (List ℕ)) (kept : Option Kept) → IsRefusable told words → IsSome kept → IfSome kept (HasOrigin told words) → ⊥

@@ -30,4 +30,4 @@ pub returns-clause-file_only : goal.returns-clause-file_only
 returns-clause-file_only g c = λ refused calm.
     rw c.status.ensures.value
     (told_three (g.F.Files.contents c.args.files.now) (map string_bytes c.args.words.now) c.carry_out.new.kept c.in-Err.refusal c.tell.result (g.F.Files.faults c.args.files.now) (g.F.Files.faults c.carry_out.new.files) refused calm c.tell.ensures.told
-        (λ e. c.in-Err.ensures.words.0 (ap Err e)) (λ e. (c.in-Err.ensures.not_fetched (ap Err e)).1) (λ e. c.in-Err.ensures.kept_stopped (ap Err e)) c.in-Err.ensures.origin)
+    (λ e. c.in-Err.ensures.words.0 (ap Err e)) (λ e. (c.in-Err.ensures.not_fetched (ap Err e)).1) (λ e. c.in-Err.ensures.kept_stopped (ap Err e)) c.in-Err.ensures.origin)
