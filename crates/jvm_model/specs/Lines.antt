@@ -1,9 +1,8 @@
 -- What the instruction at an offset does: its operand looked up by names (JVM Specification 5.4.3, 6.5).
-use Rattle.std.specs.Prelude.{◌≡◌, ℕ, Bool, true, false, List, [], ◌∷◌, Option, Some, None, pos, negsuc, codes, ◌==◌, ◌&&◌, if◌then◌else◌}
+use Rattle.std.specs.Prelude.{ℕ, Bool, List, Option, Some, None, pos, negsuc, codes, ◌==◌, ◌&&◌, if◌then◌else◌}
 use Rattle.std.specs.Option.{option_and_then, option_map}
 use Rattle.const_pool.specs.declared.class.ClassFile.{ClassFile}
-use Rattle.const_pool.specs.declared.class.CodeAttribute.{CodeAttribute}
-use Rattle.const_pool.specs.References.{NameAndType, Reference, named_class, named_field, named_method}
+use Rattle.const_pool.specs.References.{Reference, named_class, named_field, named_method}
 use Rattle.code_model.specs.declared.instr.Instr.{Instr}
 use Rattle.code_model.specs.declared.instr.Arg.{Arg}
 use Rattle.code_model.specs.declared.instr.Arg.TheVariants as arg

@@ -1,7 +1,7 @@
 -- What each instruction does to the state (JVM Specification 2.6, 2.11, 6.5). A rule takes the class, the state without
 -- the current frame, that frame, and the offset that follows the instruction.
-use Rattle.std.specs.Prelude.{◌≡◌, ℕ, ◌-◌, ◌≤◌, Bool, true, false, List, [], ◌∷◌, ◌++◌, length, map, reverse, take, drop, replicate, Option, Some, None, ℤ, codes, ◌==◌, ◌||◌, ◌&&◌, nat_le, if◌then◌else◌}
-use Rattle.std.specs.Option.{option_and_then, option_map, option_map_or}
+use Rattle.std.specs.Prelude.{ℕ, ◌-◌, Bool, List, [], ◌∷◌, ◌++◌, length, map, reverse, take, drop, replicate, Option, Some, None, ℤ, codes, ◌==◌, ◌||◌, nat_le, if◌then◌else◌}
+use Rattle.std.specs.Option.{option_map_or}
 use Rattle.std.specs.List.{slice_get}
 use Rattle.std.specs.Int.{w32, int_wrapping_add, int_wrapping_sub, int_wrapping_mul}
 use Rattle.std.specs.Fmt.{signed_decimal}
@@ -9,12 +9,9 @@ use Rattle.heap_objects.specs.declared.Value.{Value}
 use Rattle.heap_objects.specs.declared.Value.TheVariants.{Int, Ref}
 use Rattle.const_pool.specs.declared.descriptor.Kind.{Kind}
 use Rattle.const_pool.specs.declared.class.ClassFile.{ClassFile}
-use Rattle.const_pool.specs.declared.class.CodeAttribute.{CodeAttribute}
-use Rattle.jvm_model.specs.declared.ending.Ending.{Ending}
 use Rattle.jvm_model.specs.declared.ending.Ending.TheVariants.{Returned, Unverifiable}
 use Rattle.jvm_model.specs.declared.operation.Operation.{Operation}
 use Rattle.jvm_model.specs.declared.operation.Operation.TheVariants.{Nothing, Constant, Load, Add, Subtract, Multiply, ReturnInt, Return, Out, Println, Call}
-use Rattle.jvm_model.specs.declared.operation.Line.{Line}
 use Rattle.jvm_model.specs.declared.state.Frame.{Frame}
 use Rattle.jvm_model.specs.declared.state.State.{State}
 use Rattle.jvm_model.specs.Descriptors.{have_kinds}

@@ -1,5 +1,5 @@
 -- The run of a class as a function of the number of steps. One step is the attempt of one instruction.
-use Rattle.std.specs.Prelude.{◌≡◌, ℕ, zero, suc, ◌+◌, Bool, true, false, List, [], ◌∷◌, Option, Some, None, refl, is_some, nat_le, if◌then◌else◌}
+use Rattle.std.specs.Prelude.{◌≡◌, ℕ, zero, suc, ◌+◌, true, List, [], ◌∷◌, Option, Some, None, refl, is_some, nat_le, if◌then◌else◌}
 use Rattle.std.proofs.Common.{ap, ◌∙◌, add-one}
 use Rattle.heap_objects.specs.declared.Value.TheVariants.{Ref}
 use Rattle.const_pool.specs.declared.class.ClassFile.{ClassFile}

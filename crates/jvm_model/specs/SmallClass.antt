@@ -1,7 +1,7 @@
 -- A small class: the part of the language that is built so far.
-use Rattle.std.specs.Prelude.{◌≡◌, ◌≢◌, ℕ, ◌<◌, ◌≤◌, Bool, true, false, not, List, [], ◌∷◌, length, Option, Some, None, IsTrue, IfSome, codes, bit_and, ◌==◌, ◌&&◌, ◌||◌, nat_lt, is_none, if◌then◌else◌}
+use Rattle.std.specs.Prelude.{◌≡◌, ℕ, ◌≤◌, Bool, true, false, not, List, [], ◌∷◌, length, Option, Some, None, codes, bit_and, ◌==◌, ◌&&◌, ◌||◌, nat_lt, is_none, if◌then◌else◌}
 use Rattle.std.specs.Option.{option_and_then, option_map, option_map_or}
-use Rattle.std.specs.List.{list_any, list_all, slice_get, AllByRecursion}
+use Rattle.std.specs.List.{list_any, list_all, slice_get}
 use Rattle.const_pool.specs.declared.pool.Const.{Const}
 use Rattle.const_pool.specs.declared.class.ClassFile.{ClassFile}
 use Rattle.const_pool.specs.declared.class.Member.{Member}
