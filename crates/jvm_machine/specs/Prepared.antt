@@ -1,8 +1,7 @@
 -- What the machine's tables say of a class: at each number and offset, what the definitions look up there.
-use Rattle.std.specs.Prelude.{◌≡◌, ℕ, List, Option, Some, None, slice_get}
+use Rattle.std.specs.Prelude.{◌≡◌, ℕ, List, Option, slice_get}
 use Rattle.std.specs.Option.{option_and_then, option_map_or}
 use Rattle.const_pool.specs.declared.class.ClassFile.{ClassFile}
-use Rattle.const_pool.specs.declared.descriptor.Kind.{Kind}
 use Rattle.jvm_machine.specs.declared.tables.Method.{Method}
 use Rattle.jvm_model.specs.declared.operation.Line.{Line}
 use Rattle.jvm_model.specs.Methods.{method_params}

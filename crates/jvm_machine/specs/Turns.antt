@@ -1,5 +1,5 @@
 -- What each turn of a machine says: whether it comes, and how the machine has moved.
-use Rattle.std.specs.Prelude.{◌≡◌, Bool, true, false, if◌then◌else◌}
+use Rattle.std.specs.Prelude.{◌≡◌, true, false, if◌then◌else◌}
 use Rattle.jvm_machine.specs.declared.turn.Turn.{Turn}
 use Rattle.jvm_machine.specs.declared.turn.Turn.TheVariants.{Settled, Ended, Broken, NoMemory}
 use Rattle.jvm_machine.specs.View.{View, has_ended, advanced, broken_of}

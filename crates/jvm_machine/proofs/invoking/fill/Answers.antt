@@ -1,4 +1,4 @@
-use Rattle.std.proofs.Common.{◌≡◌, ◌-◌, ◌++◌, length, subst}
+use Rattle.std.proofs.Common.{◌-◌, ◌++◌, length}
 use Rattle.std.specs.Prelude.{replicate, None}
 use Rattle.jvm_machine.proofs.Filled.{filled-more}
 use Rattle.jvm_machine.proofs.invoking.fill.Goals as goal

@@ -1,4 +1,4 @@
-use Rattle.std.proofs.Common.{◌≡◌, ℕ, true, false, ap, sym, ◌∙◌}
+use Rattle.std.proofs.Common.{◌≡◌, ℕ, true, false, ap, ◌∙◌}
 use Rattle.jvm_machine.specs.View.{View}
 use Rattle.jvm_machine.proofs.Stepped.{is_started}
 use Rattle.jvm_machine.proofs.machine.Vm.make_start.Goals as goal
