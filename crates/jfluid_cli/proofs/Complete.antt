@@ -1,22 +1,21 @@
 -- Where all is accepted and nothing fails, the status is that of the run at the budget.
-use Rattle.std.proofs.Common.{◌≡◌, ◌≢◌, ℕ, ◌+◌, ◌-◌, ◌^◌, ◌<◌, ◌≤◌, Bool, true, false, List, [], ◌∷◌, Option, Some, None, refl, sym, ap, subst, ◌∙◌, arith, inl, inr}
+use Rattle.std.proofs.Common.{◌≡◌, ◌≢◌, ℕ, ◌+◌, ◌<◌, ◌≤◌, true, false, List, [], Option, Some, None, refl, sym, ap, subst, ◌∙◌, arith, inl, inr}
 use Rattle.std.specs.Prelude.{◌⊎◌, min, Result, Ok, Err, IfSome, IfOk, IfErr, IsSome, MatchResult}
 use Rattle.class_reader.proofs.Files.{only_one}
 use Rattle.jfluid_cli.specs.declared.kept.Kept.{Kept}
 use Rattle.jfluid_cli.specs.declared.refusal.Refusal.{Refusal}
 use Rattle.jfluid_cli.specs.declared.refusal.Refusal.TheVariants.{Words, NotBuilt, NoMain, NotFetched, OutFailed, NoMemory}
-use Rattle.jf_bytes.specs.Streams.{Told, contents_at, Rose, greatest}
+use Rattle.jf_bytes.specs.Streams.{Told, Rose, greatest}
 use Rattle.const_pool.specs.declared.class.ClassFile.{ClassFile}
 use Rattle.class_reader.specs.Plain.{IsPlainFile}
-use Rattle.jvm_model.specs.declared.ending.Ending.{Ending}
 use Rattle.jvm_model.specs.declared.state.State.{State}
-use Rattle.jvm_model.specs.Run.{ending_of, run}
-use Rattle.jvm_model.specs.SmallClass.{IsSmallClass, main_of}
+use Rattle.jvm_model.specs.Run.{ending_of}
+use Rattle.jvm_model.specs.SmallClass.{main_of}
 use Rattle.jvm_model.proofs.Growth.{run-stays}
 use Rattle.jvm_machine.specs.View.{View, made}
 use Rattle.jfluid_cli.specs.Words.{Command, command_of}
-use Rattle.jfluid_cli.specs.Runs.{ending_at, SameProgram, IsCarriedOut, EndedIn}
-use Rattle.jfluid_cli.specs.Top.{status_of_ending, IsProgram, IsOutside, LacksMain, Has, IsToldAs, IsCalm, IsAccepted, RefusesFile}
+use Rattle.jfluid_cli.specs.Runs.{ending_at, SameProgram, IsCarriedOut}
+use Rattle.jfluid_cli.specs.Top.{status_of_ending, IsProgram, IsOutside, LacksMain, Has, IsToldAs, IsCalm, IsAccepted}
 
 -- a calm count did not rise
 pub calm_not_rose : (old new : ℕ) → IsCalm old new → Rose old new → ⊥

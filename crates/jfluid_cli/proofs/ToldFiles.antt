@@ -1,14 +1,11 @@
 -- What the files tell, from the front of a file that was fetched.
-use Rattle.std.proofs.Common.{◌≡◌, ℕ, ◌+◌, ◌<◌, ◌≤◌, List, length, take, Option, Some, None, refl, sym, ap, subst, ◌∙◌, arith, inl, inr}
+use Rattle.std.proofs.Common.{◌≡◌, ℕ, ◌+◌, ◌≤◌, List, length, take, Option, Some, None, sym, ap, subst, ◌∙◌, arith}
 use Rattle.std.specs.Prelude.{IfSome, Result, Err}
 use Rattle.jfluid_cli.specs.declared.refusal.Refusal.{Refusal}
 use Rattle.std.specs.Option.{option_map}
-use Rattle.std.proofs.lemmas.Bool.{cases_lt}
 use Rattle.std.proofs.lemmas.List.{length-take, take_all}
 use Rattle.jf_bytes.specs.Streams.{Told, contents_at}
-use Rattle.const_pool.specs.declared.class.ClassFile.{ClassFile}
 use Rattle.class_reader.specs.Plain.{IsPlainFile}
-use Rattle.jvm_model.specs.SmallClass.{IsSmallClass, main_of}
 use Rattle.jfluid_cli.specs.Top.{most, IsOutside, LacksMain, Has, IsToldAs, IsFrontOf}
 
 abbrev some : List ℕ → Option (List ℕ)

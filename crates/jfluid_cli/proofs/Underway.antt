@@ -1,9 +1,9 @@
 -- A run between two slices.
-use Rattle.std.proofs.Common.{◌≡◌, ℕ, ◌<◌, ◌≤◌, Bool, true, false, List, Option, refl, sym, ap, subst, ◌∙◌, arith}
+use Rattle.std.proofs.Common.{◌≡◌, ℕ, ◌<◌, ◌≤◌, Bool, true, false, List, Option, sym, ap, subst, ◌∙◌, arith}
 use Rattle.std.specs.Io.KnownBytes.{append_known}
 use Rattle.jvm_machine.specs.View.{View}
 use Rattle.jf_bytes.specs.Streams.{PutsFront}
-use Rattle.jfluid_cli.specs.Runs.{IsGoing, RanTo, output_at, written_between, is_ended_at}
+use Rattle.jfluid_cli.specs.Runs.{RanTo, output_at, written_between, is_ended_at}
 use Rattle.jfluid_cli.proofs.Outputs.{front-of, front-then, all-then}
 
 -- The machine has come from where it was made to this step, and its output was put.

@@ -1,5 +1,5 @@
 -- How far a run has come, and what was put of its output.
-use Rattle.std.specs.Prelude.{◌≡◌, ℕ, ◌+◌, ◌<◌, ◌≤◌, ◌⊎◌, Bool, true, false, List, length, drop, Option, Some, None, Result, Ok, Err, is_some}
+use Rattle.std.specs.Prelude.{◌≡◌, ℕ, ◌+◌, ◌<◌, ◌≤◌, ◌⊎◌, Bool, true, false, List, length, drop, Option, Result, Ok, Err, is_some}
 use Rattle.std.specs.Io.KnownBytes.{append_known}
 use Rattle.jf_bytes.specs.Streams.{PutsFront, Rose}
 use Rattle.jvm_model.specs.declared.ending.Ending.{Ending}

@@ -1,21 +1,18 @@
 -- What a call of the top says: where the program came from, what its status means, and why each refusal came.
-use Rattle.std.specs.Prelude.{◌≡◌, ◌≢◌, ℕ, ◌+◌, ◌<◌, ◌≤◌, ◌⊎◌, Bool, true, false, List, [], ◌∷◌, map, Option, Some, None, Result, Ok, Err, IfSome, slice_get, unwrap_or, ◌==◌}
+use Rattle.std.specs.Prelude.{◌≡◌, ℕ, ◌<◌, ◌⊎◌, Bool, List, [], ◌∷◌, Option, Some, None, IfSome, slice_get, unwrap_or, ◌==◌}
 use Rattle.std.specs.List.{list_any}
-use Rattle.std.specs.Io.KnownBytes.{append_known}
-use Rattle.jf_bytes.specs.Streams.{Told, contents_at, front_at, PutsFront, Rose, greatest}
+use Rattle.jf_bytes.specs.Streams.{Told, contents_at, front_at, greatest}
 use Rattle.const_pool.specs.declared.class.ClassFile.{ClassFile}
 use Rattle.class_reader.specs.Plain.{IsPlainFile}
 use Rattle.jvm_model.specs.declared.ending.Ending.{Ending}
 use Rattle.jvm_model.specs.declared.ending.Ending.TheVariants.{Returned, Exited, Uncaught, Unverifiable}
-use Rattle.jvm_model.specs.Run.{ending_of}
 use Rattle.jvm_model.specs.SmallClass.{IsSmallClass, main_of}
 use Rattle.jvm_machine.specs.View.{View}
 use Rattle.jfluid_cli.specs.declared.refusal.Refusal.{Refusal}
-use Rattle.jfluid_cli.specs.declared.refusal.Refusal.TheVariants.{Words, NotBuilt, NoMain, NotFetched, OutFailed, NoMemory}
+use Rattle.jfluid_cli.specs.declared.refusal.Refusal.TheVariants.{NotBuilt, NoMain, NotFetched, NoMemory}
 use Rattle.jfluid_cli.specs.Words.{Command, command_of}
 use Rattle.jfluid_cli.specs.Runs.{ending_at}
 use Rattle.jfluid_cli.specs.Reports.{report_text}
-use Rattle.jfluid_cli.specs.Refusals.{status_of, line_of, PutsOrRose}
 
 -- ---- statuses
 

@@ -1,4 +1,4 @@
-use Rattle.std.proofs.Common.{◌≡◌, ◌∙◌, sym, ap, refl, arith}
+use Rattle.std.proofs.Common.{◌∙◌, arith}
 use Rattle.jfluid_cli.proofs.Outputs.{PutsFront-longer, grows}
 use Rattle.jfluid_cli.proofs.Underway.{goes_further, front_so_far, front_after}
 use Rattle.jfluid_cli.specs.Runs.{output_at}

@@ -1,4 +1,4 @@
-use Rattle.std.proofs.Common.{◌≡◌, ◌+◌, ◌≤◌, ◌∙◌, sym, ap, arith}
+use Rattle.std.proofs.Common.{◌+◌, ◌≤◌, arith}
 use Rattle.jfluid_cli.proofs.Outputs.{sent_fits, slice_front}
 use Rattle.jfluid_cli.proofs.running.run_slice.Goals as goal
 

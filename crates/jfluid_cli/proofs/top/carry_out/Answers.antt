@@ -1,8 +1,7 @@
-use Rattle.std.proofs.Common.{◌≡◌, List, ℕ, refl, sym, ap, ◌∙◌}
+use Rattle.std.proofs.Common.{◌≡◌, sym, ap}
 use Rattle.std.specs.Prelude.{map}
 use Rattle.std.specs.String.{string_bytes}
 use Rattle.std.specs.Io.KnownBytes.{append_known}
-use Rattle.jfluid_cli.specs.declared.kept.Kept.{Kept}
 use Rattle.jfluid_cli.specs.declared.loading.Loaded.{Loaded}
 use Rattle.jfluid_cli.specs.declared.top.TheConstants.{BUDGET}
 use Rattle.jfluid_cli.specs.Words.{Command, slashed}
