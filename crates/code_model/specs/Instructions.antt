@@ -12,11 +12,13 @@ use Rattle.code_model.specs.declared.opcodes.Form.TheVariants.{NoOperand, Signed
 use Rattle.code_model.specs.declared.error.CodeError.{CodeError}
 use Rattle.code_model.specs.declared.error.CodeError.TheVariants.{NotBuilt, NoMemory}
 
--- the opcodes of the built part, by their form: iconst_1, iload_0, iadd, ireturn, return; bipush; getstatic, invokevirtual, invokestatic
+-- The opcodes of the built part, by their form (6.5): nop, iconst_m1 to iconst_5, iload_0 to iload_3, iadd, isub, imul, ireturn and return;
+-- bipush; sipush; getstatic, invokevirtual and invokestatic.
 abbrev pub form_of : ℕ → Option Form
 form_of op =
-    if list_any (λ n. n == op) (4 ∷ 26 ∷ 96 ∷ 172 ∷ 177 ∷ []) then Some NoOperand
+    if list_any (λ n. n == op) (0 ∷ 2 ∷ 3 ∷ 4 ∷ 5 ∷ 6 ∷ 7 ∷ 8 ∷ 26 ∷ 27 ∷ 28 ∷ 29 ∷ 96 ∷ 100 ∷ 104 ∷ 172 ∷ 177 ∷ []) then Some NoOperand
     else if op == 16 then Some SignedByte
+    else if op == 17 then Some SignedShort
     else if list_any (λ n. n == op) (178 ∷ 182 ∷ 184 ∷ []) then Some PoolIndex
     else None
 

@@ -30,8 +30,9 @@ pub fn find_form(op: u8) -> Option<Form>
     ensures { result ≡ form_of op }
 {
     match op {
-        4 | 26 | 96 | 172 | 177 => Some(Form::NoOperand),
+        0 | 2..=8 | 26..=29 | 96 | 100 | 104 | 172 | 177 => Some(Form::NoOperand),
         16 => Some(Form::SignedByte),
+        17 => Some(Form::SignedShort),
         178 | 182 | 184 => Some(Form::PoolIndex),
         _ => None,
     }

@@ -20,12 +20,15 @@ const OF_F: [&str; 4] = [
 
 const OF_BIPUSH: [&str; 1] = ["Instr { at: 0, op: 16, wide: false, arg: Value(-128) }"];
 
+const OF_SIPUSH: [&str; 1] = ["Instr { at: 0, op: 17, wide: false, arg: Value(-32768) }"];
+
 #[test]
 fn decodes_whole_codes(rt: HostRuntime) -> Result<(), Fail> {
     let codes = [
         (MAIN.as_slice(), OF_MAIN.as_slice()),
         ([0x1A, 0x04, 0x60, 0xAC].as_slice(), OF_F.as_slice()),
         ([0x10, 0x80].as_slice(), OF_BIPUSH.as_slice()),
+        ([0x11, 0x80, 0x00].as_slice(), OF_SIPUSH.as_slice()),
     ];
     for (bytes, wanted) in codes {
         let code = decode(rt.alloc(), bytes).ok().ok_or("no code")?;
@@ -43,6 +46,7 @@ fn decodes_whole_codes(rt: HostRuntime) -> Result<(), Fail> {
 fn refuses_other_bytes(rt: HostRuntime) {
     let no_codes = [
         [0x10].as_slice(),
+        [0x11, 0x80].as_slice(),
         [0x04, 0xB2, 0].as_slice(),
         [0xB8].as_slice(),
         [0xBA, 0, 1, 0, 0].as_slice(),

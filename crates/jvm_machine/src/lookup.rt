@@ -112,9 +112,12 @@ fn plain_operation(op: u8) -> Option<Operation>
     ensures { result ≡ plain_operation op }
 {
     match op {
-        4 => Some(Operation::Constant(1)),
-        26 => Some(Operation::Load(0)),
+        0 => Some(Operation::Nothing),
+        2..=8 => Some(Operation::Constant(i32::from(op) - 3)),
+        26..=29 => Some(Operation::Load(u16::from(op) - 26)),
         96 => Some(Operation::Add),
+        100 => Some(Operation::Subtract),
+        104 => Some(Operation::Multiply),
         172 => Some(Operation::ReturnInt),
         177 => Some(Operation::Return),
         _ => None,

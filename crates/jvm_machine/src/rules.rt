@@ -2,7 +2,8 @@
 //! is given and puts back.
 
 ghost use Rattle.std.specs.Prelude.{◌≡◌, ◌++◌, OnOk};
-ghost use Rattle.jvm_model.specs.Rules.{with_frame, unverifiable, unverifiable_return, goes_on, constant, load, adds, pushes_out, line_text, prints, returns_int, rule};
+ghost use Rattle.std.specs.Int.{w32, int_wrapping_add, int_wrapping_sub, int_wrapping_mul};
+ghost use Rattle.jvm_model.specs.Rules.{with_frame, unverifiable, unverifiable_return, goes_on, constant, load, arithmetic, pushes_out, line_text, prints, returns_int, rule};
 
 use crate::frames::{take_int, take_ints, take_print};
 use crate::invoking::{call, return_to_caller};
@@ -89,12 +90,32 @@ fn push_local(
 }
 
 fn add(tables: &Tables, state: &mut State, mut frame: Frame, next: u16) -> Result<(), NoMemory>
-    ensures { OnOk result (state.new ≡ adds tables.now state.old frame frame.operands next) }
+    ensures { OnOk result (state.new ≡ arithmetic (int_wrapping_add w32) tables.now state.old frame frame.operands next) }
 {
     let Some((a, b)) = take_ints(&mut frame.operands) else {
         return end_unverifiable(state, frame);
     };
     frame.operands.push(Value::Int(a.wrapping_add(b)))?;
+    go_on(tables, state, frame, next)
+}
+
+fn subtract(tables: &Tables, state: &mut State, mut frame: Frame, next: u16) -> Result<(), NoMemory>
+    ensures { OnOk result (state.new ≡ arithmetic (int_wrapping_sub w32) tables.now state.old frame frame.operands next) }
+{
+    let Some((a, b)) = take_ints(&mut frame.operands) else {
+        return end_unverifiable(state, frame);
+    };
+    frame.operands.push(Value::Int(a.wrapping_sub(b)))?;
+    go_on(tables, state, frame, next)
+}
+
+fn multiply(tables: &Tables, state: &mut State, mut frame: Frame, next: u16) -> Result<(), NoMemory>
+    ensures { OnOk result (state.new ≡ arithmetic (int_wrapping_mul w32) tables.now state.old frame frame.operands next) }
+{
+    let Some((a, b)) = take_ints(&mut frame.operands) else {
+        return end_unverifiable(state, frame);
+    };
+    frame.operands.push(Value::Int(a.wrapping_mul(b)))?;
     go_on(tables, state, frame, next)
 }
 
@@ -156,9 +177,12 @@ pub fn execute(
 {
     let next = line.next;
     match line.operation {
+        Operation::Nothing => go_on(tables, state, frame, next),
         Operation::Constant(n) => push_constant(tables, state, frame, n, next),
         Operation::Load(slot) => push_local(tables, state, frame, slot, next),
         Operation::Add => add(tables, state, frame, next),
+        Operation::Subtract => subtract(tables, state, frame, next),
+        Operation::Multiply => multiply(tables, state, frame, next),
         Operation::ReturnInt => return_int(tables, state, frame),
         Operation::Return => return_to_caller(tables, state, None),
         Operation::Out => push_out(tables, state, frame, next),

@@ -1,8 +1,8 @@
 -- A run's output only grows, and a run that has ended stays as it is.
-use Rattle.std.proofs.Common.{◌≡◌, ℕ, zero, suc, ◌≤◌, Bool, true, false, List, [], ◌∷◌, ◌++◌, length, take, Option, Some, None, is_some, nat_le, if◌then◌else◌, refl, sym, ap, subst, ◌∙◌, inl, inr, append_assoc, arith}
+use Rattle.std.proofs.Common.{◌≡◌, ℕ, zero, suc, ◌≤◌, Bool, true, false, List, [], ◌∷◌, ◌++◌, length, take, Option, Some, None, is_some, ℤ, nat_le, if◌then◌else◌, refl, sym, ap, subst, ◌∙◌, inl, inr, append_assoc, arith}
 use Rattle.std.specs.List.{slice_get}
 use Rattle.std.specs.Option.{option_map_or}
-use Rattle.std.specs.Int.{w32, int_wrapping_add}
+use Rattle.std.specs.Int.{w32, int_wrapping_add, int_wrapping_sub, int_wrapping_mul}
 use Rattle.std.proofs.lemmas.Bool.{both_ways, cases_lt, cond-true, false_from_ne_true}
 use Rattle.std.proofs.lemmas.List.{append-nil, take_at}
 use Rattle.heap_objects.specs.declared.Value.{Value}
@@ -10,13 +10,13 @@ use Rattle.heap_objects.specs.declared.Value.TheVariants.{Int, Ref}
 use Rattle.const_pool.specs.declared.descriptor.Kind.{Kind}
 use Rattle.const_pool.specs.declared.class.ClassFile.{ClassFile}
 use Rattle.jvm_model.specs.declared.operation.Operation.{Operation}
-use Rattle.jvm_model.specs.declared.operation.Operation.TheVariants.{Constant, Load, Add, ReturnInt, Return, Out, Println, Call}
+use Rattle.jvm_model.specs.declared.operation.Operation.TheVariants.{Nothing, Constant, Load, Add, Subtract, Multiply, ReturnInt, Return, Out, Println, Call}
 use Rattle.jvm_model.specs.declared.operation.Line.{Line}
 use Rattle.jvm_model.specs.declared.state.Frame.{Frame}
 use Rattle.jvm_model.specs.declared.state.State.{State}
 use Rattle.jvm_model.specs.Methods.{method_params}
 use Rattle.jvm_model.specs.Lines.{line_at}
-use Rattle.jvm_model.specs.Rules.{goes_on, max_stack_of, max_locals_of, depth, pushes_local, adds, is_print_stream, line_text, written, prints, arguments, begins, next_of, with_result, returns, returns_int, rule, unverifiable}
+use Rattle.jvm_model.specs.Rules.{goes_on, max_stack_of, max_locals_of, depth, pushes_local, arithmetic, is_print_stream, line_text, written, prints, arguments, begins, next_of, with_result, returns, returns_int, rule, unverifiable}
 use Rattle.jvm_model.specs.Run.{does, attempts, attempt, step_of, run, run-suc, output_of, ending_of}
 use Rattle.jvm_model.specs.Growth.{Extends}
 
@@ -48,9 +48,9 @@ pub pushes_local-grows : (c : ClassFile) (s : State) (f : Frame) (found : Option
 pushes_local-grows c s f (Some (Some (Int n))) next = goes_on-grows c s f (Int n ∷ f.operands) next
 pushes_local-grows c s f _ next = Extends-same s.output
 
-pub adds-grows : (c : ClassFile) (s : State) (f : Frame) (operands : List Value) (next : ℕ) → Extends s.output (adds c s f operands next).output
-adds-grows c s f (Int b ∷ Int a ∷ below) next = goes_on-grows c s f (Int (int_wrapping_add w32 a b) ∷ below) next
-adds-grows c s f _ next = Extends-same s.output
+pub arithmetic-grows : (op : ℤ → ℤ → ℤ) (c : ClassFile) (s : State) (f : Frame) (operands : List Value) (next : ℕ) → Extends s.output (arithmetic op c s f operands next).output
+arithmetic-grows op c s f (Int b ∷ Int a ∷ below) next = goes_on-grows c s f (Int (op a b) ∷ below) next
+arithmetic-grows op c s f _ next = Extends-same s.output
 
 pub prints-grows : (c : ClassFile) (s : State) (f : Frame) (operands : List Value) (next : ℕ) → Extends s.output (prints c s f operands next).output
 prints-grows c s f (Int n ∷ Ref r ∷ below) next =
@@ -77,9 +77,12 @@ returns_int-grows c s f (Int n ∷ below) = returns-grows c s (Some (Int n)) s.f
 returns_int-grows c s f _ = Extends-same s.output
 
 pub rule-grows : (c : ClassFile) (s : State) (f : Frame) (operation : Operation) (next : ℕ) → Extends s.output (rule c s f operation next).output
+rule-grows c s f Nothing next = goes_on-grows c s f f.operands next
 rule-grows c s f (Constant n) next = goes_on-grows c s f (Int n ∷ f.operands) next
 rule-grows c s f (Load slot) next = pushes_local-grows c s f (slice_get f.locals slot) next
-rule-grows c s f Add next = adds-grows c s f f.operands next
+rule-grows c s f Add next = arithmetic-grows (int_wrapping_add w32) c s f f.operands next
+rule-grows c s f Subtract next = arithmetic-grows (int_wrapping_sub w32) c s f f.operands next
+rule-grows c s f Multiply next = arithmetic-grows (int_wrapping_mul w32) c s f f.operands next
 rule-grows c s f ReturnInt next = returns_int-grows c s f f.operands
 rule-grows c s f Return next = returns-grows c s None s.frames
 rule-grows c s f Out next = goes_on-grows c s f (Ref 3 ∷ f.operands) next

@@ -1,2 +1,3 @@
 pub mod PlainRun
+pub mod ArithmeticRun
 pub mod Growth

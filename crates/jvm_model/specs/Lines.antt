@@ -1,5 +1,5 @@
 -- What the instruction at an offset does: its operand looked up by names (JVM Specification 5.4.3, 6.5).
-use Rattle.std.specs.Prelude.{◌≡◌, ℕ, Bool, true, false, List, [], ◌∷◌, Option, Some, None, pos, codes, ◌==◌, ◌&&◌, if◌then◌else◌}
+use Rattle.std.specs.Prelude.{◌≡◌, ℕ, Bool, true, false, List, [], ◌∷◌, Option, Some, None, pos, negsuc, codes, ◌==◌, ◌&&◌, if◌then◌else◌}
 use Rattle.std.specs.Option.{option_and_then, option_map}
 use Rattle.const_pool.specs.declared.class.ClassFile.{ClassFile}
 use Rattle.const_pool.specs.declared.class.CodeAttribute.{CodeAttribute}
@@ -9,7 +9,7 @@ use Rattle.code_model.specs.declared.instr.Arg.{Arg}
 use Rattle.code_model.specs.declared.instr.Arg.TheVariants as arg
 use Rattle.code_model.specs.Instructions.{instruction_at, end_of}
 use Rattle.jvm_model.specs.declared.operation.Operation.{Operation}
-use Rattle.jvm_model.specs.declared.operation.Operation.TheVariants.{Constant, Load, Add, ReturnInt, Return, Out, Println, Call}
+use Rattle.jvm_model.specs.declared.operation.Operation.TheVariants.{Nothing, Constant, Load, Add, Subtract, Multiply, ReturnInt, Return, Out, Println, Call}
 use Rattle.jvm_model.specs.declared.operation.Line.{Line}
 use Rattle.jvm_model.specs.Descriptors.{same_text}
 use Rattle.jvm_model.specs.Methods.{method_code, method_named}
@@ -36,12 +36,25 @@ println_of r = if is_println r then Some Println else None
 abbrev pub call_of : ClassFile → Reference → Option Operation
 call_of c r = option_and_then (λ own. if same_text r.class own then option_map Call (method_named c r.member) else None) (named_class c.pool c.this_class)
 
--- the instructions without operand
+-- The instructions without operand: nop; iconst_m1, which pushes -1, to iconst_5; iload_0 to iload_3; iadd, isub and imul;
+-- ireturn and return.
 abbrev pub plain_operation : ℕ → Option Operation
 plain_operation op =
-    if op == 4 then Some (Constant (pos 1))
+    if op == 0 then Some Nothing
+    else if op == 2 then Some (Constant (negsuc 0))
+    else if op == 3 then Some (Constant (pos 0))
+    else if op == 4 then Some (Constant (pos 1))
+    else if op == 5 then Some (Constant (pos 2))
+    else if op == 6 then Some (Constant (pos 3))
+    else if op == 7 then Some (Constant (pos 4))
+    else if op == 8 then Some (Constant (pos 5))
     else if op == 26 then Some (Load 0)
+    else if op == 27 then Some (Load 1)
+    else if op == 28 then Some (Load 2)
+    else if op == 29 then Some (Load 3)
     else if op == 96 then Some Add
+    else if op == 100 then Some Subtract
+    else if op == 104 then Some Multiply
     else if op == 172 then Some ReturnInt
     else if op == 177 then Some Return
     else None

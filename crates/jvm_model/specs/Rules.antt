@@ -3,7 +3,7 @@
 use Rattle.std.specs.Prelude.{◌≡◌, ℕ, ◌-◌, ◌≤◌, Bool, true, false, List, [], ◌∷◌, ◌++◌, length, map, reverse, take, drop, replicate, Option, Some, None, ℤ, codes, ◌==◌, ◌||◌, ◌&&◌, nat_le, if◌then◌else◌}
 use Rattle.std.specs.Option.{option_and_then, option_map, option_map_or}
 use Rattle.std.specs.List.{slice_get}
-use Rattle.std.specs.Int.{w32, int_wrapping_add}
+use Rattle.std.specs.Int.{w32, int_wrapping_add, int_wrapping_sub, int_wrapping_mul}
 use Rattle.std.specs.Fmt.{signed_decimal}
 use Rattle.heap_objects.specs.declared.Value.{Value}
 use Rattle.heap_objects.specs.declared.Value.TheVariants.{Int, Ref}
@@ -13,7 +13,7 @@ use Rattle.const_pool.specs.declared.class.CodeAttribute.{CodeAttribute}
 use Rattle.jvm_model.specs.declared.ending.Ending.{Ending}
 use Rattle.jvm_model.specs.declared.ending.Ending.TheVariants.{Returned, Unverifiable}
 use Rattle.jvm_model.specs.declared.operation.Operation.{Operation}
-use Rattle.jvm_model.specs.declared.operation.Operation.TheVariants.{Constant, Load, Add, ReturnInt, Return, Out, Println, Call}
+use Rattle.jvm_model.specs.declared.operation.Operation.TheVariants.{Nothing, Constant, Load, Add, Subtract, Multiply, ReturnInt, Return, Out, Println, Call}
 use Rattle.jvm_model.specs.declared.operation.Line.{Line}
 use Rattle.jvm_model.specs.declared.state.Frame.{Frame}
 use Rattle.jvm_model.specs.declared.state.State.{State}
@@ -54,7 +54,11 @@ goes_on c s f operands next =
 
 -- ---- instructions within one frame
 
--- iconst, bipush
+-- nop
+abbrev pub nothing : ClassFile → State → Frame → ℕ → State
+nothing c s f next = goes_on c s f f.operands next
+
+-- iconst, bipush, sipush
 abbrev pub constant : ClassFile → State → Frame → ℤ → ℕ → State
 constant c s f n next = goes_on c s f (Int n ∷ f.operands) next
 
@@ -66,10 +70,10 @@ pushes_local c s f _ next = unverifiable s f
 abbrev pub load : ClassFile → State → Frame → ℕ → ℕ → State
 load c s f slot next = pushes_local c s f (slice_get f.locals slot) next
 
--- iadd: two's complement, 32 bits (2.11.3)
-abbrev pub adds : ClassFile → State → Frame → List Value → ℕ → State
-adds c s f (Int b ∷ Int a ∷ below) next = goes_on c s f (Int (int_wrapping_add w32 a b) ∷ below) next
-adds c s f _ next = unverifiable s f
+-- iadd, isub, imul: the topmost operand is the second one (6.5)
+abbrev pub arithmetic : (ℤ → ℤ → ℤ) → ClassFile → State → Frame → List Value → ℕ → State
+arithmetic op c s f (Int b ∷ Int a ∷ below) next = goes_on c s f (Int (op a b) ∷ below) next
+arithmetic op c s f _ next = unverifiable s f
 
 -- ---- System.out
 
@@ -142,10 +146,14 @@ returns_int c s f _ = unverifiable_return s f
 
 -- ---- every instruction
 
+-- the arithmetic is two's complement, 32 bits (2.11.3)
 abbrev pub rule : ClassFile → State → Frame → Operation → ℕ → State
+rule c s f Nothing next = nothing c s f next
 rule c s f (Constant n) next = constant c s f n next
 rule c s f (Load slot) next = load c s f slot next
-rule c s f Add next = adds c s f f.operands next
+rule c s f Add next = arithmetic (int_wrapping_add w32) c s f f.operands next
+rule c s f Subtract next = arithmetic (int_wrapping_sub w32) c s f f.operands next
+rule c s f Multiply next = arithmetic (int_wrapping_mul w32) c s f f.operands next
 rule c s f ReturnInt next = returns_int c s f f.operands
 rule c s f Return next = returns c s None s.frames
 rule c s f Out next = pushes_out c s f next

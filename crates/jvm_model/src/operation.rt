@@ -3,12 +3,18 @@
 /// What an instruction does, once the names that it gives are looked up (JVM Specification 5.4.3, 6.5).
 #[derive(Clone, Copy, Debug, PartialEq, Eq)]
 pub enum Operation {
+    /// Does nothing.
+    Nothing,
     /// Pushes an int.
     Constant(i32),
     /// Pushes the int in a local.
     Load(u16),
     /// Adds two ints.
     Add,
+    /// Subtracts the topmost int from the one below it.
+    Subtract,
+    /// Multiplies two ints.
+    Multiply,
     /// Returns an int.
     ReturnInt,
     /// Returns nothing.
