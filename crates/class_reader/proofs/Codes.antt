@@ -11,7 +11,7 @@ use Rattle.const_pool.specs.declared.pool.Const.{Const}
 use Rattle.const_pool.specs.declared.class.CodeAttribute.{CodeAttribute}
 use Rattle.const_pool.specs.declared.class.Attribute.{Attribute}
 use Rattle.const_pool.specs.declared.class.Attribute.TheVariants.{Code}
-use Rattle.const_pool.specs.Pool.{text_at}
+use Rattle.const_pool.specs.References.{named_text}
 use Rattle.const_pool.specs.ClassFile.{code_bytes, attribute_bytes, code_name}
 use Rattle.class_reader.specs.Reading.{code_at, attribute_at, names_text}
 use Rattle.class_reader.proofs.Items.{IsBytes, IsBytes-each, Takes, Takes-then, Takes-same, IsItem, bind_some, passed}
@@ -97,21 +97,21 @@ code_item = record { takes = code_takes; again = code_again }
 
 -- ---- the attribute
 
-names_text-true : (pool : List Const) (i : ℕ) (text : List ℕ) → names_text pool i text ≡ true → text_at pool i ≡ Some text
+names_text-true : (pool : List Const) (i : ℕ) (text : List ℕ) → names_text pool i text ≡ true → named_text pool i ≡ Some text
 unfolding names_text
-names_text-true pool i text e = same_text (text_at pool i) text e
+names_text-true pool i text e = same_text (named_text pool i) text e
   where
     same_text : (o : Option (List ℕ)) (text : List ℕ) → option_map_or (λ t. bytes_eq t text) o false ≡ true → o ≡ Some text
     same_text (Some t) text e = ap (λ (u : List ℕ). Some u) ((bytes_eq-Decides t text).0 e)
     same_text None text e = absurd cc
 
-true_names_text : (pool : List Const) (i : ℕ) (text : List ℕ) → text_at pool i ≡ Some text → names_text pool i text ≡ true
+true_names_text : (pool : List Const) (i : ℕ) (text : List ℕ) → named_text pool i ≡ Some text → names_text pool i text ≡ true
 unfolding names_text
 true_names_text pool i text e = rw e ((bytes_eq-Decides text text).1 refl)
 
 -- an attribute of the built part
 abbrev pub FitsAttribute : List Const → Attribute → Type 0
-FitsAttribute pool (Code name code) = (name < 2 ^ 16) × (text_at pool name ≡ Some code_name) × FitsCode code × (length (code_bytes code) < 2 ^ 32)
+FitsAttribute pool (Code name code) = (name < 2 ^ 16) × (named_text pool name ≡ Some code_name) × FitsCode code × (length (code_bytes code) < 2 ^ 32)
 FitsAttribute pool _ = ⊥
 
 module _ (pool : List Const) where

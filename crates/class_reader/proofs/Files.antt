@@ -16,7 +16,8 @@ use Rattle.class_reader.specs.declared.error.ReadError.{ReadError}
 use Rattle.class_reader.specs.declared.error.ReadError.TheVariants.{NotBuilt, NoMemory}
 use Rattle.class_reader.specs.declared.heading.Version.{Version}
 use Rattle.class_reader.specs.declared.heading.Itself.{Itself}
-use Rattle.class_reader.specs.Plain.{IsLoneCode, HasPlainShape, IsPlainFile, IsReadAs}
+use Rattle.const_pool.specs.Plain.{IsLoneCode, HasPlainShape}
+use Rattle.class_reader.specs.Plain.{IsPlainFile, IsReadAs}
 use Rattle.class_reader.specs.Reading.{Gives, names, version_at, self_at, members_at, class_of, file_of}
 use Rattle.class_reader.proofs.Items.{IsBytes, Takes, Takes-then, IsItem, bind_some, passed, not_failed, some_is}
 use Rattle.class_reader.proofs.Widths.{wide16, wide32, exact_takes, exact_again, u2_item}

@@ -1,13 +1,15 @@
 -- The constant pool of the built part.
-use Rattle.std.proofs.Common.{◌≡◌, ℕ, suc, ◌-◌, ◌^◌, ◌<◌, ◌≤◌, true, false, ltb, eqb, List, [], ◌∷◌, ◌++◌, length, drop, Some, refl, sym, ap, subst, arith}
+use Rattle.std.proofs.Common.{◌≡◌, ℕ, suc, ◌-◌, ◌^◌, ◌<◌, ◌≤◌, true, false, ltb, eqb, List, [], ◌∷◌, ◌++◌, length, drop, Some, Result, Ok, Err, IfOk, IsTrue, refl, sym, ap, subst, arith}
 use Rattle.std.specs.List.{flat_map, AllByRecursion, list_all}
 use Rattle.std.specs.Int.{w16, to_be_bytes}
 use Rattle.std.proofs.lemmas.Bool.{and_parts, and_from, or_parts, eqb-false, ne_eqb, ltb-false, le-ltb}
 use Rattle.const_pool.specs.declared.pool.Const.{Const}
 use Rattle.const_pool.specs.declared.pool.Const.TheVariants.{Gap, Utf8, Class, Field, Method, NameType}
-use Rattle.const_pool.specs.Pool.{IsPool, IsEntry, AreEntries, entry_bytes, pool_bytes}
-use Rattle.class_reader.specs.Plain.{IsPlainEntry}
-use Rattle.class_reader.specs.Reading.{entry_at, entries_at, pool_at, fits_in}
+use Rattle.const_pool.specs.Pool.{IsPool, IsEntry, AreEntries, entry_bytes, pool_bytes, has_gaps}
+use Rattle.const_pool.proofs.Gaps.{has_gaps-from_pool}
+use Rattle.const_pool.specs.Plain.{IsPlainEntry}
+use Rattle.class_reader.specs.declared.error.ReadError.{ReadError}
+use Rattle.class_reader.specs.Reading.{Gives, entry_at, entries_at, pool_at, fits_in}
 use Rattle.class_reader.proofs.Items.{IsBytes, Takes, Takes-then, Takes-same, IsItem, bind_some, passed, not_failed, some_is, many_take, many_again}
 use Rattle.class_reader.proofs.Widths.{u2_item}
 use Rattle.class_reader.proofs.Texts.{IsAscii, modified_utf8-ascii}
@@ -130,3 +132,14 @@ pool_again (c ∷ entries) rest h =
 
 pub pool_item : IsItem pool_at pool_bytes IsPlainPool
 pool_item = record { takes = pool_takes; again = pool_again }
+
+-- ---- what a `Pool` asks of its entries
+
+module _ {X : Type 0} (view : X → List Const × List ℕ) (bytes : List ℕ) (fits : IsBytes bytes) where
+  pub gaps_of : (r : Result X ReadError) → Gives view r (pool_at bytes) → IfOk r (λ x. IsTrue (has_gaps (view x).0))
+  gaps_of (Ok x) given = has_gaps-from_pool (view x).0 (pool_takes bytes (view x) fits given).1.formed
+  gaps_of (Err e) given = tt
+
+  pub count_of : (r : Result X ReadError) → Gives view r (pool_at bytes) → IfOk r (λ x. length (view x).0 < 2 ^ 16)
+  count_of (Ok x) given = (pool_takes bytes (view x) fits given).1.formed.count
+  count_of (Err e) given = tt

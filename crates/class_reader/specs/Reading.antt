@@ -12,7 +12,8 @@ use Rattle.const_pool.specs.declared.class.Member.{Member}
 use Rattle.const_pool.specs.declared.class.CodeAttribute.{CodeAttribute}
 use Rattle.const_pool.specs.declared.class.Attribute.{Attribute}
 use Rattle.const_pool.specs.declared.class.Attribute.TheVariants.{Code}
-use Rattle.const_pool.specs.Pool.{is_utf8, is_class, is_name_type, text_at}
+use Rattle.const_pool.specs.Pool.{is_utf8, is_class, is_name_type}
+use Rattle.const_pool.specs.References.{named_text}
 use Rattle.const_pool.specs.ClassFile.{code_name}
 use Rattle.class_reader.specs.declared.heading.Version.{Version}
 use Rattle.class_reader.specs.declared.heading.Itself.{Itself}
@@ -126,7 +127,7 @@ code_at bytes = do
 
 -- the index names this text
 unfoldable pub names_text : List Const → ℕ → List ℕ → Bool
-names_text pool i text = option_map_or (λ t. bytes_eq t text) (text_at pool i) false
+names_text pool i text = option_map_or (λ t. bytes_eq t text) (named_text pool i) false
 
 -- an attribute that is a Code: its contents are taken whole, and must be the code and no more
 unfoldable pub attribute_at : List Const → List ℕ → Option (Attribute × List ℕ)

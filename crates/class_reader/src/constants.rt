@@ -1,8 +1,8 @@
 //! The constant pool (JVM Specification 4.4).
 
-ghost use Rattle.std.specs.Prelude.{◌≡◌, ◌-◌, IfOk};
+ghost use Rattle.std.specs.Prelude.{◌≡◌, ◌-◌, ◌<◌, ◌^◌, length, IfOk, IsTrue};
 ghost use Rattle.std.specs.List.{list_all};
-ghost use Rattle.const_pool.specs.Pool.{is_utf8, is_class, is_name_type};
+ghost use Rattle.const_pool.specs.Pool.{is_utf8, is_class, is_name_type, has_gaps};
 ghost use Rattle.class_reader.specs.Reading.{Gives, are_ascii, ascii_at, pair_at, contents_at, entry_at, entries_at, pool_at, names, fits_in};
 
 use crate::error::ReadError;
@@ -162,10 +162,10 @@ fn entries_of(alloc: Global, count: u16, bytes: &[u8]) -> Result<(Vec<Const>, &[
     Ok((entries, rest))
 }
 
-/// The constant pool behind its count, from index 0 on. Indices are looked at once all entries are there, since an
+/// The entries of the constant pool behind their count, from index 0 on. Indices are looked at once all entries are there, since an
 /// entry may name a later one.
 #[tactic(auto, unfolding(crate::specs::Reading::pool_at))]
-pub(crate) fn pool_of(alloc: Global, bytes: &[u8]) -> Result<(Vec<Const>, &[u8]), ReadError>
+fn fitting_entries_of(alloc: Global, bytes: &[u8]) -> Result<(Vec<Const>, &[u8]), ReadError>
     ensures { Gives (λ x. (x.0.items, x.1.now)) result (pool_at bytes.now) }
 {
     let (count, rest) = u16_at(bytes)?;
@@ -177,4 +177,13 @@ pub(crate) fn pool_of(alloc: Global, bytes: &[u8]) -> Result<(Vec<Const>, &[u8])
         return Err(ReadError::NotBuilt);
     }
     Ok((pool, rest))
+}
+
+/// The same, with what a `Pool` asks of its entries.
+pub(crate) fn pool_of(alloc: Global, bytes: &[u8]) -> Result<(Vec<Const>, &[u8]), ReadError>
+    ensures read { Gives (λ x. (x.0.items, x.1.now)) result (pool_at bytes.now) }
+    ensures gaps { IfOk result (λ x. IsTrue (has_gaps x.0.items)) }
+    ensures count { IfOk result (λ x. length x.0.items < 2 ^ 16) }
+{
+    fitting_entries_of(alloc, bytes)
 }

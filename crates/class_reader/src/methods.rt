@@ -2,7 +2,7 @@
 
 ghost use Rattle.std.specs.Prelude.{◌≡◌};
 ghost use Rattle.std.specs.Option.{option_copied};
-ghost use Rattle.const_pool.specs.Pool.{text_at};
+ghost use Rattle.const_pool.specs.References.{named_text};
 ghost use Rattle.const_pool.specs.ClassFile.{code_name};
 ghost use Rattle.class_reader.specs.Reading.{Gives, names_text, code_at, attribute_at, method_at, methods_at, many_at};
 
@@ -27,7 +27,7 @@ const CODE: [u16; 4] = [b'C' as u16, b'o' as u16, b'd' as u16, b'e' as u16];
 
 /// The text that the index names, where it names one.
 fn text_named(pool: &[Const], index: u16) -> Option<&Text16>
-    ensures { option_copied result ≡ text_at pool.now index }
+    ensures { option_copied result ≡ named_text pool.now index }
 {
     match pool.get(usize::from(index)) {
         Some(Const::Utf8(text)) => Some(text),

@@ -1,1 +1,4 @@
 pub mod Instructions
+pub mod Layout
+pub mod Groups
+pub mod Built

@@ -4,11 +4,16 @@
 mod decoding;
 mod error;
 mod instr;
+mod laying;
 mod opcodes;
+mod sizes;
+mod spelling;
+mod spots;
 
 pub use decoding::{decode, instr_at};
 pub use error::CodeError;
 pub use instr::{Arg, Code, Instr};
+pub use laying::{Group, Homes, Laid, LayError, lay_out};
 
 #[cfg(test)]
 mod tests;

@@ -3,6 +3,19 @@
 ghost use Rattle.std.specs.Prelude.{◌≡◌};
 ghost use Rattle.code_model.specs.Instructions.{form_of, operand_size};
 
+/// The forms with a constant or an index in one byte.
+pub const BIPUSH: u8 = 16;
+
+pub const LDC: u8 = 18;
+
+/// The prefix of instructions whose slots have two bytes.
+pub const WIDE: u8 = 196;
+
+/// The jumps with a branch offset of four bytes.
+pub const GOTO_W: u8 = 200;
+
+pub const JSR_W: u8 = 201;
+
 /// How an instruction's operand is spelled behind its opcode.
 #[derive(Clone, Copy, Debug, PartialEq, Eq)]
 pub enum Form {

@@ -10,7 +10,8 @@ use Rattle.const_pool.specs.declared.class.Handler.{Handler}
 use Rattle.const_pool.specs.declared.class.CodeAttribute.{CodeAttribute}
 use Rattle.const_pool.specs.declared.class.Attribute.{Attribute}
 use Rattle.const_pool.specs.declared.class.Attribute.TheVariants.{ConstantValue, Code, Other}
-use Rattle.const_pool.specs.Pool.{u2, u4, IsPool, pool_bytes, Names, is_utf8, is_class, is_constant, text_at}
+use Rattle.const_pool.specs.Pool.{u2, u4, IsPool, pool_bytes, Names, is_utf8, is_class, is_constant}
+use Rattle.const_pool.specs.References.{named_text}
 
 -- ---- how a class is spelled, in the order of the format
 
@@ -96,15 +97,15 @@ constant_value_name = codes "ConstantValue"
 
 -- an attribute of a field: ConstantValue is parsed, every other is kept as bytes (4.7.2)
 abbrev pub IsFieldAttribute : List Const → Attribute → Type 0
-IsFieldAttribute pool (ConstantValue name index) = IsU2 name × (text_at pool name ≡ Some constant_value_name) × IsU2 index × Names is_constant pool index
+IsFieldAttribute pool (ConstantValue name index) = IsU2 name × (named_text pool name ≡ Some constant_value_name) × IsU2 index × Names is_constant pool index
 IsFieldAttribute pool (Code name code) = ⊥
-IsFieldAttribute pool (Other raw) = IsRaw pool raw × (text_at pool raw.name ≢ Some constant_value_name)
+IsFieldAttribute pool (Other raw) = IsRaw pool raw × (named_text pool raw.name ≢ Some constant_value_name)
 
 -- an attribute of a method: Code is parsed (4.7.3)
 abbrev pub IsMethodAttribute : List Const → Attribute → Type 0
 IsMethodAttribute pool (ConstantValue name index) = ⊥
-IsMethodAttribute pool (Code name code) = IsU2 name × (text_at pool name ≡ Some code_name) × IsCode pool code
-IsMethodAttribute pool (Other raw) = IsRaw pool raw × (text_at pool raw.name ≢ Some code_name)
+IsMethodAttribute pool (Code name code) = IsU2 name × (named_text pool name ≡ Some code_name) × IsCode pool code
+IsMethodAttribute pool (Other raw) = IsRaw pool raw × (named_text pool raw.name ≢ Some code_name)
 
 -- an attribute of the class is kept as bytes
 abbrev pub IsClassAttribute : List Const → Attribute → Type 0

@@ -1,5 +1,6 @@
 -- The constant pool of a class file, as a list of its entries (JVM Specification 4.4).
-use Rattle.std.specs.Prelude.{◌≡◌, ℕ, ◌<◌, ◌^◌, Bool, true, false, List, [], ◌∷◌, ◌++◌, length, Option, Some, None, IsTrue, slice_get, FitsSigned}
+use Rattle.std.specs.Prelude.{◌≡◌, ℕ, zero, suc, ◌<◌, ◌≤◌, ◌^◌, ◌⊎◌, Bool, true, false, not, ◌&&◌, List, [], ◌∷◌, ◌++◌, length, Option, Some, None, IsTrue, slice_get, FitsSigned}
+use Rattle.std.specs.Bool.{beq}
 use Rattle.std.specs.Option.{option_and_then, option_map_or}
 use Rattle.std.specs.List.{flat_map, AllByRecursion}
 use Rattle.std.specs.Int.{w16, w32, w64, to_be_bytes, cast_unsigned}
@@ -55,13 +56,36 @@ is_constant _ = false
 abbrev pub Names : (Const → Bool) → List Const → ℕ → Type 0
 Names kind pool i = IsTrue (option_map_or kind (slice_get pool i) false)
 
--- the text of a Utf8 entry
-abbrev pub units_of : Const → Option (List ℕ)
-units_of (Utf8 t) = Some t
-units_of _ = None
+-- ---- where gaps stand
 
-abbrev pub text_at : List Const → ℕ → Option (List ℕ)
-text_at pool i = option_and_then units_of (slice_get pool i)
+abbrev pub is_gap : Const → Bool
+is_gap Gap = true
+is_gap _ = false
+
+-- what takes two indices (4.4.5)
+abbrev pub is_wide : Const → Bool
+is_wide (Long n) = true
+is_wide (Double n) = true
+is_wide _ = false
+
+-- each entry is a gap exactly where one is due: behind what takes two indices, and first where the Bool says so; none is
+-- due behind the last
+abbrev pub gaps_due : Bool → List Const → Bool
+gaps_due due [] = not due
+gaps_due due (c ∷ pool) = beq (is_gap c) due && gaps_due (is_wide c) pool
+
+-- gaps stand exactly at index 0 and at each second index
+abbrev pub has_gaps : List Const → Bool
+has_gaps pool = gaps_due true pool
+
+-- the second index of an entry
+abbrev pub is_second : List Const → ℕ → Bool
+is_second pool zero = false
+is_second pool (suc i) = option_map_or is_wide (slice_get pool i) false
+
+-- an index that names no entry
+abbrev pub IsUnusable : List Const → ℕ → Type 0
+IsUnusable pool i = (i ≡ 0) ⊎ (IsTrue (is_second pool i) ⊎ (length pool ≤ i))
 
 -- ---- what a pool may be
 

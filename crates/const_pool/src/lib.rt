@@ -1,13 +1,17 @@
-//! The class file as a value (JVM Specification 4): its types, its constant pool, and what bytes spell it.
+//! The class file as a value (JVM Specification 4): its types, its constant pool with the tail of a rewritten class, its
+//! descriptors, and what bytes spell it.
 #![tactic(auto)]
 
 mod class;
 mod descriptor;
 mod pool;
+mod stages;
+mod tail;
 
 pub use class::{Attribute, ClassFile, CodeAttribute, Handler, Member, Raw};
-pub use descriptor::{Kind, Shape};
+pub use descriptor::{DescriptorError, Kind, Shape, parse_field, parse_method};
 pub use pool::{Const, MemberRef, Pool, PoolError};
+pub use tail::{Tail, TailError, append_tail, copy_pool};
 
 #[cfg(test)]
 mod tests;

@@ -1,8 +1,8 @@
 //! The constant pool (JVM Specification 4.4).
 
-ghost use Rattle.std.specs.Prelude.{◌≡◌};
+ghost use Rattle.std.specs.Prelude.{◌≡◌, ◌↔◌, ◌<◌, ◌^◌, length, IsTrue, IsNone};
 ghost use Rattle.std.specs.Option.{option_copied};
-ghost use Rattle.const_pool.specs.Pool.{entry_at};
+ghost use Rattle.const_pool.specs.Pool.{entry_at, has_gaps, IsUnusable};
 ghost use Rattle.const_pool.specs.Members.{reference_view};
 ghost use Rattle.const_pool.specs.References.{Walks, entry_walk, text_walk, class_walk, name_type_walk, member_walk, reference_walk};
 
@@ -46,24 +46,30 @@ pub struct MemberRef<'a> {
     pub descriptor: &'a Text16,
 }
 
-/// A constant pool, from index 0 on. A clause sees the list of its entries.
+/// A constant pool, from index 0 on: 1 to 65,535 entries, of which index 0 and the second index of each `Long` and
+/// `Double` are gaps, and no others. A clause sees the list of its entries.
 #[derive(Debug, Drop)]
 pub struct Pool {
     entries: Seq<Const>,
 }
 
 impl Model for Pool {
-    ghost use Rattle.std.specs.Prelude.{List};
+    ghost use Rattle.std.specs.Prelude.{◌<◌, ◌^◌, List, length, IsTrue};
     ghost use Rattle.const_pool.specs.declared.pool.Const.{Const};
+    ghost use Rattle.const_pool.specs.Pool.{has_gaps};
 
     ghost Value = { List Const };
 
     ghost view = { λ p. p.entries };
+
+    ghost invariant = { λ p. IsTrue (has_gaps p.entries) × (length p.entries < 2 ^ 16) };
 }
 
 impl Pool {
-    /// The pool of these entries, a `Gap` first. It takes no memory.
+    /// The pool of these entries. It takes no memory.
     pub fn new(entries: Vec<Const>) -> Pool
+        requires gaps { IsTrue (has_gaps entries.items) }
+        requires count { length entries.items < 2 ^ 16 }
         ensures { result ≡ entries.items }
     {
         Pool {
@@ -71,15 +77,40 @@ impl Pool {
         }
     }
 
-    /// The entry at an index: none at 0, at a second index, and past the end.
-    pub fn get(&self, i: u16) -> Option<&Const>
-        ensures { option_copied result ≡ entry_at self.now i }
+    /// The constant_pool_count (4.1): how many entries there are, the gaps among them.
+    pub fn count(&self) -> u16
+        ensures count { result ≡ length self.now }
+        ensures gaps { IsTrue (has_gaps self.now) }
+    {
+        self.entries.len() as u16
+    }
+
+    /// The entries from index 0 on, the gaps among them.
+    pub(crate) fn entries(&self) -> &[Const]
+        ensures all { result.now ≡ self.now }
+        ensures gaps { IsTrue (has_gaps self.now) }
+        ensures count { length self.now < 2 ^ 16 }
+    {
+        self.entries.as_slice()
+    }
+
+    fn find(&self, i: u16) -> Option<&Const>
+        ensures entry { option_copied result ≡ entry_at self.now i }
+        ensures gaps { IsTrue (has_gaps self.now) }
     {
         match self.entries.get(i as usize) {
             None => None,
             Some(Const::Gap) => None,
             Some(entry) => Some(entry),
         }
+    }
+
+    /// The entry at an index: none at 0, at a second index, and past the end.
+    pub fn get(&self, i: u16) -> Option<&Const>
+        ensures entry { option_copied result ≡ entry_at self.now i }
+        ensures none { IsNone result ↔ IsUnusable self.now i }
+    {
+        self.find(i)
     }
 
     fn entry(&self, i: u16) -> Result<&Const, PoolError>

@@ -2,3 +2,8 @@ pub mod Reversed
 pub mod AdapterLemmas
 pub mod FilesLemmas
 pub mod StreamLemmas
+pub mod UnitLemmas
+pub mod SpellingLemmas
+pub mod FrontLemmas
+pub mod UnicodeLemmas
+pub mod TextRow

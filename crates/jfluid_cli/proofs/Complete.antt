@@ -1,10 +1,12 @@
 -- Where all is accepted and nothing fails, the status is that of the run at the budget.
 use Rattle.std.proofs.Common.{◌≡◌, ◌≢◌, ℕ, ◌+◌, ◌<◌, ◌≤◌, true, false, List, [], Option, Some, None, refl, sym, ap, subst, ◌∙◌, arith, inl, inr}
 use Rattle.std.specs.Prelude.{◌⊎◌, min, Result, Ok, Err, IfSome, IfOk, IfErr, IsSome, MatchResult}
+use Rattle.std.specs.Option.{option_and_then}
+use Rattle.std.proofs.lemmas.Option.{same_Some, none-some}
 use Rattle.class_reader.proofs.Files.{only_one}
 use Rattle.jfluid_cli.specs.declared.kept.Kept.{Kept}
 use Rattle.jfluid_cli.specs.declared.refusal.Refusal.{Refusal}
-use Rattle.jfluid_cli.specs.declared.refusal.Refusal.TheVariants.{Words, NotBuilt, NoMain, NotFetched, OutFailed, NoMemory}
+use Rattle.jfluid_cli.specs.declared.refusal.Refusal.TheVariants.{Words, BadRoot, NotBuilt, NoMain, NoSuchRoot, NotFetched, OutFailed, NoMemory}
 use Rattle.jf_bytes.specs.Streams.{Told, Rose, greatest}
 use Rattle.const_pool.specs.declared.class.ClassFile.{ClassFile}
 use Rattle.class_reader.specs.Plain.{IsPlainFile}
@@ -12,10 +14,13 @@ use Rattle.jvm_model.specs.declared.state.State.{State}
 use Rattle.jvm_model.specs.Run.{ending_of}
 use Rattle.jvm_model.specs.SmallClass.{main_of}
 use Rattle.jvm_model.proofs.Growth.{run-stays}
-use Rattle.jvm_machine.specs.View.{View, made}
+use Rattle.jvm_machine.specs.View.{View}
+use Rattle.jfluid_cli.specs.Roots.{IsRoot, IsChosen, IsBadRoot, LacksRoot, root_said, root_method}
+use Rattle.jfluid_cli.specs.Selections.{RunsProgram}
+use Rattle.const_pool.specs.References.{Reference}
 use Rattle.jfluid_cli.specs.Words.{Command, command_of}
 use Rattle.jfluid_cli.specs.Runs.{ending_at, SameProgram, IsCarriedOut}
-use Rattle.jfluid_cli.specs.Top.{status_of_ending, IsProgram, IsOutside, LacksMain, Has, IsToldAs, IsCalm, IsAccepted}
+use Rattle.jfluid_cli.specs.Top.{status_of_ending, IsProgram, IsOutside, LacksMain, Has, IsToldAs, IsCalm, IsAccepted, LacksRootMethod}
 
 -- a calm count did not rise
 pub calm_not_rose : (old new : ℕ) → IsCalm old new → Rose old new → ⊥
@@ -56,25 +61,58 @@ accepted_command told words c main a command e =
     let both : some_command command ≡ some_command a.command = sym e ∙ a.commanded in
     cc
 
+-- ---- roots
+
+-- a word names one method at most
+one-root : (word : List ℕ) (r s : Reference) → IsRoot word r → IsRoot word s → r ≡ s
+one-root word r s p q = same_Some r s (sym p.parts ∙ q.parts)
+
+-- what is chosen is no word outside the grammar
+pub chosen-fine : (word : Option (List ℕ)) (c : ClassFile) (root : Option ℕ) → IsChosen word c root → IsBadRoot word → ⊥
+chosen-fine None c root chosen bad = bad
+chosen-fine (Some word) c root chosen bad = bad chosen.0 chosen.2
+
+-- and the class has it
+pub chosen-known : (word : Option (List ℕ)) (c : ClassFile) (root : Option ℕ) → IsChosen word c root → LacksRoot word c → ⊥
+chosen-known None c root chosen lacks = lacks
+chosen-known (Some word) c root chosen lacks =
+    let same : chosen.0 ≡ lacks.0 = one-root word chosen.0 lacks.0 chosen.2 lacks.1 in
+    none-some chosen.1 (sym lacks.2 ∙ (ap (root_method c) (sym same) ∙ chosen.3))
+
+-- it is the one that the function of the words gives
+pub chosen-said : (word : Option (List ℕ)) (c : ClassFile) (root : Option ℕ) → IsChosen word c root → root_said word c ≡ root
+chosen-said None c root chosen = sym chosen
+chosen-said (Some word) c root chosen = ap (option_and_then (root_method c)) chosen.2.parts ∙ (chosen.3 ∙ sym chosen.4)
+
 -- What a load refused was not accepted, unless memory ran out.
 pub load_refused : (told : Option Told) (words : List (List ℕ)) (c : ClassFile) (main : ℕ) (command : Command) (refusal : Refusal) (before after : ℕ) → IsAccepted told words c main → command_of words ≡ Some command
     → IsCalm before after → (refusal ≢ Words) → (refusal ≢ OutFailed) → (refusal ≡ NotFetched → Rose before after)
-    → (refusal ≡ NotBuilt → Has told command.file IsOutside) → (refusal ≡ NoMain → Has told command.file (λ bytes. LacksMain bytes command.main)) → refusal ≡ NoMemory
-load_refused told words c main command Words before after a e calm not_words not_out failed outside lacking = absurd (not_words refl)
-load_refused told words c main command OutFailed before after a e calm not_words not_out failed outside lacking = absurd (not_out refl)
-load_refused told words c main command NotFetched before after a e calm not_words not_out failed outside lacking = absurd (calm_not_rose before after calm (failed refl))
-load_refused told words c main command NoMemory before after a e calm not_words not_out failed outside lacking = refl
-load_refused told words c main command NotBuilt before after a e calm not_words not_out failed outside lacking =
+    → (refusal ≡ NotBuilt → Has told command.file IsOutside) → (refusal ≡ NoMain → Has told command.file (λ bytes. LacksMain bytes command.main))
+    → (refusal ≡ BadRoot → IsBadRoot command.options.root) → (refusal ≡ NoSuchRoot → Has told command.file (λ bytes. LacksRootMethod command.options.root bytes command.main)) → refusal ≡ NoMemory
+load_refused told words c main command Words before after a e calm not_words not_out failed outside lacking bad rootless = absurd (not_words refl)
+load_refused told words c main command OutFailed before after a e calm not_words not_out failed outside lacking bad rootless = absurd (not_out refl)
+load_refused told words c main command NotFetched before after a e calm not_words not_out failed outside lacking bad rootless = absurd (calm_not_rose before after calm (failed refl))
+load_refused told words c main command NoMemory before after a e calm not_words not_out failed outside lacking bad rootless = refl
+load_refused told words c main command NotBuilt before after a e calm not_words not_out failed outside lacking bad rootless =
     let same : command ≡ a.command = accepted_command told words c main a command e in
     let has : Has told a.command.file IsOutside = subst (λ (k : Command). Has told k.file IsOutside) same (outside refl) in
     absurd (accepted_has told words c main a IsOutside has c a.program.file a.program.small)
-load_refused told words c main command NoMain before after a e calm not_words not_out failed outside lacking =
+load_refused told words c main command NoMain before after a e calm not_words not_out failed outside lacking bad rootless =
     let same : command ≡ a.command = accepted_command told words c main a command e in
     let has : Has told a.command.file (λ bytes. LacksMain bytes a.command.main) = subst (λ (k : Command). Has told k.file (λ bytes. LacksMain bytes k.main)) same (lacking refl) in
     let lacks : LacksMain a.bytes a.command.main = accepted_has told words c main a (λ bytes. LacksMain bytes a.command.main) has in
     let one : lacks.0 ≡ c = only_one a.bytes lacks.0 c lacks.1 a.program.file in
     let none : main_of c a.command.main ≡ None = ap (λ (k : ClassFile). main_of k a.command.main) (sym one) ∙ lacks.3 in
     absurd (let found : main_of c a.command.main ≡ Some main = a.program.main_is in cc)
+load_refused told words c main command BadRoot before after a e calm not_words not_out failed outside lacking bad rootless =
+    let same : command ≡ a.command = accepted_command told words c main a command e in
+    absurd (chosen-fine a.command.options.root c a.root a.chosen (subst (λ (k : Command). IsBadRoot k.options.root) same (bad refl)))
+load_refused told words c main command NoSuchRoot before after a e calm not_words not_out failed outside lacking bad rootless =
+    let same : command ≡ a.command = accepted_command told words c main a command e in
+    let has : Has told a.command.file (λ bytes. LacksRootMethod a.command.options.root bytes a.command.main) = subst (λ (k : Command). Has told k.file (λ bytes. LacksRootMethod k.options.root bytes k.main)) same (rootless refl) in
+    let lacks : LacksRootMethod a.command.options.root a.bytes a.command.main = accepted_has told words c main a (λ bytes. LacksRootMethod a.command.options.root bytes a.command.main) has in
+    let one : lacks.0 ≡ c = only_one a.bytes lacks.0 c lacks.2.file a.program.file in
+    absurd (chosen-known a.command.options.root c a.root a.chosen (subst (LacksRoot a.command.options.root) one lacks.3))
 
 abbrev some_number : ℕ → Option ℕ
 some_number n = Some n
@@ -102,24 +140,20 @@ ending_of_same c d m n x y budget e f h =
 abbrev failed_with : Refusal → Result ℕ Refusal
 failed_with e = Err e
 
-made_same : (c d : ClassFile) (m n : ℕ) → c ≡ d → m ≡ n → made d n [] ≡ made c m []
-made_same c d m n e f = sym (ap (λ (k : ClassFile). made k m []) e ∙ ap (λ (k : ℕ). made d k []) f)
-
 not_both : false ≡ true → ⊥
 not_both e = cc
 
 -- The answer to a run of it that was carried out, or that stopped for want of memory.
 pub run_answers : (A B : Kept → Type 0) (C D : Kept → Type 0) (r : Result ℕ Refusal) (kept : Option Kept) (c d : ClassFile) (m n budget : ℕ) (from : View) (before after : ℕ) (old new : Option (List ℕ))
-    → (c ≡ d) × (m ≡ n) → from ≡ made d n [] → IsCalm before after → IsSome kept
+    → (c ≡ d) × (m ≡ n) → RunsProgram d n from → IsCalm before after → IsSome kept
     → IfSome kept (λ k. SameProgram from k.vm × A k × B k) → IfOk r (λ s. IfSome kept (λ k. IsCarriedOut k.vm budget old new))
     → IfOk r (λ s. s ≢ 8 → IfSome kept (λ k. (s ≡ status_of_ending (ending_at k.vm k.vm.clock)) × C k × D k))
     → (r ≡ Err OutFailed → Rose before after) → IfErr r (λ e. (e ≡ OutFailed) ⊎ (e ≡ NoMemory))
     → MatchResult r (λ s. s ≢ 8 → s ≡ status_of_ending (ending_of c m [] budget)) (λ e. e ≡ NoMemory)
 run_answers A B C D (Ok s) None c d m n budget from before after old new accepted is calm some same carried whole stopped errors = absurd (not_both some)
 run_answers A B C D (Ok s) (Some k) c d m n budget from before after old new accepted is calm some same carried whole stopped errors = λ not_eight.
-    let began : from ≡ made c m [] = is ∙ made_same c d m n accepted.0 accepted.1 in
     let seen : ending_at k.vm budget ≡ ending_of c m [] budget =
-    ending_of_same k.vm.class c k.vm.main m k.vm.input [] budget (same.0.class ∙ ap (λ (v : View). v.class) began) (same.0.main ∙ ap (λ (v : View). v.main) began) (same.0.input ∙ ap (λ (v : View). v.input) began) in
+    ending_of_same k.vm.class c k.vm.main m k.vm.input [] budget (same.0.class ∙ (is.class_is ∙ sym accepted.0)) (same.0.main ∙ (is.main_is ∙ sym accepted.1)) (same.0.input ∙ is.input_is) in
     (whole not_eight).0 ∙ ap status_of_ending (ends_as k.vm budget old new carried ∙ seen)
 run_answers A B C D (Err e) kept c d m n budget from before after old new accepted is calm some same carried whole stopped errors =
     elim errors [

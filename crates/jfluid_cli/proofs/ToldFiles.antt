@@ -40,7 +40,7 @@ pub told_outside : (told : Option Told) (name bytes : List ℕ) → IsFrontOf to
 told_outside None name bytes front outside = tt
 told_outside (Some files) name bytes front outside = front_outside (contents_at files name) bytes front outside
 
-has_told : (P : List ℕ → Type 0) (told : Option Told) (name bytes : List ℕ) → IsToldAs told name bytes → P bytes → Has told name P
+pub has_told : (P : List ℕ → Type 0) (told : Option Told) (name bytes : List ℕ) → IsToldAs told name bytes → P bytes → Has told name P
 has_told P None name bytes as_told p = tt
 has_told P (Some files) name bytes as_told p = subst (λ (o : Option (List ℕ)). IfSome o P) (sym as_told) p
 

@@ -1,7 +1,9 @@
 pub mod Admission
 pub mod Refusals
-pub mod Reports
 pub mod Runs
 pub mod Words
 pub mod Top
 pub mod Origins
+pub mod Selections
+pub mod Roots
+pub mod Views

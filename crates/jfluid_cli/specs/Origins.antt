@@ -4,11 +4,13 @@ use Rattle.jf_bytes.specs.Streams.{Told}
 use Rattle.const_pool.specs.declared.class.ClassFile.{ClassFile}
 use Rattle.class_reader.specs.Plain.{IsPlainFile}
 use Rattle.jfluid_cli.specs.declared.kept.Kept.{Kept}
+use Rattle.jfluid_cli.specs.Roots.{IsChosen}
+use Rattle.jfluid_cli.specs.Selections.{IsSelected}
 use Rattle.jfluid_cli.specs.Words.{Command, command_of}
 use Rattle.jfluid_cli.specs.Top.{IsProgram, IsToldAs}
 
--- The kept class file is what the files tell under the word, it is the program that the kept machine runs, and the
--- input is empty.
+-- The kept class file is what the files tell under the word, it is the program that the kept machine runs, in the versions
+-- for the root that the words name, and the input is empty.
 pub record HasOrigin (told : Option Told) (words : List (List ℕ)) (k : Kept) : Type 0 where
   pub command : Command
   pub commanded : command_of words ≡ Some command
@@ -16,6 +18,9 @@ pub record HasOrigin (told : Option Told) (words : List (List ℕ)) (k : Kept) :
   pub classes : k.classes ≡ bytes ∷ []
   pub told_as : IsToldAs told command.file bytes
   pub program : IsProgram bytes command.main k.vm.class k.vm.main
+  pub root : Option ℕ
+  pub chosen : IsChosen command.options.root k.vm.class root
+  pub selected : IsSelected root k.vm
   pub input : k.input ≡ []
   pub no_input : k.vm.input ≡ []
 

@@ -3,12 +3,14 @@ use Rattle.std.specs.Prelude.{◌≡◌, ℕ, ◌⊎◌, List, ◌++◌, Option,
 use Rattle.std.specs.Io.KnownBytes.{append_known}
 use Rattle.jf_bytes.specs.Streams.{PutsFront, Rose}
 use Rattle.jfluid_cli.specs.declared.refusal.Refusal.{Refusal}
-use Rattle.jfluid_cli.specs.declared.refusal.Refusal.TheVariants.{Words, NotBuilt, NoMain, NotFetched, OutFailed, NoMemory}
+use Rattle.jfluid_cli.specs.declared.refusal.Refusal.TheVariants.{Words, BadRoot, NotBuilt, NoMain, NoSuchRoot, NotFetched, OutFailed, NoMemory}
 
 abbrev pub status_of : Refusal → ℕ
 status_of Words = 2
+status_of BadRoot = 2
 status_of NotBuilt = 3
 status_of NoMain = 3
+status_of NoSuchRoot = 3
 status_of OutFailed = 6
 status_of NotFetched = 7
 status_of NoMemory = 9
@@ -16,8 +18,10 @@ status_of NoMemory = 9
 -- the line, with its end; a file is called by its word
 abbrev pub line_of : Refusal → List ℕ → List ℕ
 line_of Words file = codes "jfluid: words refused\n"
+line_of BadRoot file = codes "jfluid: plan: BadLine 0 Root\n"
 line_of NotBuilt file = codes "jfluid: " ++ (file ++ codes ": NotBuilt\n")
 line_of NoMain file = codes "jfluid: NoMain\n"
+line_of NoSuchRoot file = codes "jfluid: NoSuchRoot 1\n"
 line_of OutFailed file = codes "jfluid: output failed\n"
 line_of NotFetched file = codes "jfluid: " ++ (file ++ codes ": fetch failed\n")
 line_of NoMemory file = codes "jfluid: no memory\n"

@@ -1,5 +1,6 @@
 -- What a call of the top says: where the program came from, what its status means, and why each refusal came.
-use Rattle.std.specs.Prelude.{◌≡◌, ℕ, ◌<◌, ◌⊎◌, Bool, List, [], ◌∷◌, Option, Some, None, IfSome, slice_get, unwrap_or, ◌==◌}
+use Rattle.std.specs.Prelude.{◌≡◌, ℕ, ◌<◌, ◌⊎◌, Bool, false, List, [], ◌∷◌, Option, Some, None, IfSome, slice_get, unwrap_or, ◌==◌}
+use Rattle.std.specs.Option.{option_and_then}
 use Rattle.std.specs.List.{list_any}
 use Rattle.jf_bytes.specs.Streams.{Told, contents_at, front_at, greatest}
 use Rattle.const_pool.specs.declared.class.ClassFile.{ClassFile}
@@ -9,10 +10,13 @@ use Rattle.jvm_model.specs.declared.ending.Ending.TheVariants.{Returned, Exited,
 use Rattle.jvm_model.specs.SmallClass.{IsSmallClass, main_of}
 use Rattle.jvm_machine.specs.View.{View}
 use Rattle.jfluid_cli.specs.declared.refusal.Refusal.{Refusal}
-use Rattle.jfluid_cli.specs.declared.refusal.Refusal.TheVariants.{NotBuilt, NoMain, NotFetched, NoMemory}
+use Rattle.jfluid_cli.specs.declared.refusal.Refusal.TheVariants.{Words, BadRoot, NotBuilt, NoMain, NoSuchRoot, NotFetched, NoMemory}
 use Rattle.jfluid_cli.specs.Words.{Command, command_of}
+use Rattle.jfluid_cli.specs.Roots.{IsChosen, IsBadRoot, LacksRoot, root_said}
 use Rattle.jfluid_cli.specs.Runs.{ending_at}
-use Rattle.jfluid_cli.specs.Reports.{report_text}
+use Rattle.profile_report.specs.Reports.{report_text}
+use Rattle.jvm_model.specs.Projection.{projection}
+use Rattle.jfluid_cli.specs.Selections.{acts_for, swaps_for}
 
 -- ---- statuses
 
@@ -63,6 +67,10 @@ IsOutside bytes = (c : ClassFile) → IsPlainFile bytes c → IsSmallClass c →
 abbrev pub LacksMain : List ℕ → List ℕ → Type 0
 LacksMain bytes name = (c : ClassFile) × IsPlainFile bytes c × IsSmallClass c × (main_of c name ≡ None)
 
+-- a small class with its main method is spelled, but the root names no method of it
+abbrev pub LacksRootMethod : Option (List ℕ) → List ℕ → List ℕ → Type 0
+LacksRootMethod root bytes name = (c : ClassFile) × (main : ℕ) × IsProgram bytes name c main × LacksRoot root c
+
 -- the files, where they tell their contents, have this under the name
 abbrev pub Has : Option Told → List ℕ → (List ℕ → Type 0) → Type 0
 Has told name P = IfSome told (λ files. IfSome (contents_at files name) P)
@@ -85,9 +93,17 @@ IsFetchRefusal refusal = (refusal ≡ NotFetched) ⊎ (refusal ≡ NoMemory)
 
 -- ---- the report
 
--- what is reported of a machine's run, which has no swaps and no root
-abbrev pub report_of : View → List ℕ
-report_of v = report_text v.class (ending_at v v.clock) v.clock 0 []
+-- what is reported of a machine's run, with the tree that is projected on the activations of the root
+abbrev pub report_of : Option ℕ → View → List ℕ
+report_of root v = report_text v.class (ending_at v v.clock) v.clock (swaps_for root) false (projection (acts_for root) v.class v.main v.input v.clock)
+
+-- the root that the words name in a class
+abbrev pub root_of : List (List ℕ) → ClassFile → Option ℕ
+root_of words c = option_and_then (λ command. root_said command.options.root c) (command_of words)
+
+-- what is reported of the run of these words
+abbrev pub reported_of : List (List ℕ) → View → List ℕ
+reported_of words v = report_of (root_of words v.class) v
 
 -- the third word, which is the file's name
 abbrev pub file_word : List (List ℕ) → List ℕ
@@ -102,9 +118,26 @@ pub record RefusesFile (told : Option Told) (words : List (List ℕ)) (Reason : 
   pub commanded : command_of words ≡ Some command
   pub reason : Has told command.file (λ bytes. Reason bytes command.main)
 
--- What the files tell is no small class, or lacks its main method, and the line says which.
+-- The words are a command whose root names no method of the class that the files tell.
+pub record RefusesRoot (told : Option Told) (words : List (List ℕ)) : Type 0 where
+  pub command : Command
+  pub commanded : command_of words ≡ Some command
+  pub reason : Has told command.file (λ bytes. LacksRootMethod command.options.root bytes command.main)
+
+-- The words are a command whose word for the root is outside the grammar.
+pub record HasBadRoot (words : List (List ℕ)) : Type 0 where
+  pub command : Command
+  pub commanded : command_of words ≡ Some command
+  pub bad : IsBadRoot command.options.root
+
+-- The words are refused, and the line says whether they are no command, or their root is outside the grammar.
+abbrev pub AreRefused : List (List ℕ) → (Refusal → Type 0) → Type 0
+AreRefused words Line = ((command_of words ≡ None) × Line Words) ⊎ (HasBadRoot words × Line BadRoot)
+
+-- What the files tell is no small class, lacks its main method, or lacks the root, and the line says which.
 abbrev pub IsRefusedFile : Option Told → List (List ℕ) → (Refusal → Type 0) → Type 0
-IsRefusedFile told words Line = (RefusesFile told words (λ bytes main. IsOutside bytes) × Line NotBuilt) ⊎ (RefusesFile told words LacksMain × Line NoMain)
+IsRefusedFile told words Line =
+    ((RefusesFile told words (λ bytes main. IsOutside bytes) × Line NotBuilt) ⊎ (RefusesFile told words LacksMain × Line NoMain)) ⊎ (RefusesRoot told words × Line NoSuchRoot)
 
 -- the count is as before, and can still rise
 pub record IsCalm (old new : ℕ) : Type 0 where
@@ -120,8 +153,11 @@ pub record IsAccepted (told : Option Told) (words : List (List ℕ)) (class : Cl
   pub bytes : List ℕ
   pub told_as : contents_at files command.file ≡ Some bytes
   pub program : IsProgram bytes command.main class main
+  pub root : Option ℕ
+  pub chosen : IsChosen command.options.root class root
 
--- The words are a command, and what the files tell for it is no small class, or lacks its main method.
+-- The words are a command whose root is one, and what the files tell for it is no small class, or lacks its main method or
+-- the root.
 pub record IsRefusable (told : Option Told) (words : List (List ℕ)) : Type 0 where
   pub command : Command
   pub commanded : command_of words ≡ Some command
@@ -129,4 +165,5 @@ pub record IsRefusable (told : Option Told) (words : List (List ℕ)) : Type 0 w
   pub telling : told ≡ Some files
   pub bytes : List ℕ
   pub told_as : contents_at files command.file ≡ Some bytes
-  pub reason : IsOutside bytes ⊎ LacksMain bytes command.main
+  pub rooted : IsBadRoot command.options.root → ⊥
+  pub reason : (IsOutside bytes ⊎ LacksMain bytes command.main) ⊎ LacksRootMethod command.options.root bytes command.main

@@ -4,9 +4,11 @@
 mod admission;
 mod kept;
 mod loading;
+mod making;
 mod names;
 mod refusal;
 mod reporting;
+mod roots;
 mod running;
 mod small_class;
 mod small_code;

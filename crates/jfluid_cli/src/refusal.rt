@@ -14,10 +14,14 @@ use std::alloc::{AllocError, Global};
 pub enum Refusal {
     /// The words are no command: status 2.
     Words,
+    /// The word for the root is outside its grammar: status 2.
+    BadRoot,
     /// The file is no class file of the part that is built so far: status 3.
     NotBuilt,
     /// The class has another name, or no public static main: status 3.
     NoMain,
+    /// The class has no method as the word for the root names one: status 3.
+    NoSuchRoot,
     /// A put of the program's output failed: status 6.
     OutFailed,
     /// The file could not be fetched: status 7.
@@ -30,14 +34,14 @@ impl Refusal {
     /// The exit status.
     pub fn status(self) -> u8
         ensures value { result ≡ status_of self }
-        ensures words { result ≡ 2 → self ≡ Refusal.Words }
+        ensures words { result ≡ 2 → (self ≡ Refusal.Words) ⊎ (self ≡ Refusal.BadRoot) }
         ensures stopped { result ≡ 6 → self ≡ Refusal.OutFailed }
         ensures not_fetched { result ≡ 7 → self ≡ Refusal.NotFetched }
         ensures memory { result ≡ 9 → self ≡ Refusal.NoMemory }
     {
         match self {
-            Refusal::Words => 2,
-            Refusal::NotBuilt | Refusal::NoMain => 3,
+            Refusal::Words | Refusal::BadRoot => 2,
+            Refusal::NotBuilt | Refusal::NoMain | Refusal::NoSuchRoot => 3,
             Refusal::OutFailed => 6,
             Refusal::NotFetched => 7,
             Refusal::NoMemory => 9,
@@ -51,8 +55,10 @@ fn line(alloc: Global, refusal: Refusal, file: &str) -> Result<String, AllocErro
 {
     match refusal {
         Refusal::Words => String::from_str(alloc, "jfluid: words refused\n"),
+        Refusal::BadRoot => String::from_str(alloc, "jfluid: plan: BadLine 0 Root\n"),
         Refusal::NotBuilt => format!(in alloc; "jfluid: {file}: NotBuilt\n"),
         Refusal::NoMain => String::from_str(alloc, "jfluid: NoMain\n"),
+        Refusal::NoSuchRoot => String::from_str(alloc, "jfluid: NoSuchRoot 1\n"),
         Refusal::OutFailed => String::from_str(alloc, "jfluid: output failed\n"),
         Refusal::NotFetched => format!(in alloc; "jfluid: {file}: fetch failed\n"),
         Refusal::NoMemory => String::from_str(alloc, "jfluid: no memory\n"),

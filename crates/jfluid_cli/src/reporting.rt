@@ -1,118 +1,85 @@
-//! The report of a run.
+//! The report of a run, and the status that goes with it.
 
-ghost use Rattle.std.specs.Prelude.{◌≡◌, ◌++◌, [], codes, IfOk, OnOk, map};
-ghost use Rattle.std.specs.Option.{option_copied};
-ghost use Rattle.std.specs.Fmt.{decimal};
-ghost use Rattle.jfluid_cli.specs.Reports.{shown, shown_unit, method_text, class_text, ending_text, report_text};
+ghost use Rattle.std.specs.Prelude.{◌≡◌, ◌≢◌, ◌<◌, ℕ, true, false, IfOk, IfErr};
+ghost use Rattle.std.specs.Io.KnownBytes.{append_known};
+ghost use Rattle.jf_bytes.specs.Streams.{PutsFront, Rose};
+ghost use Rattle.jfluid_cli.specs.Runs.{IsGoing, IsTold, ending_at, is_ended_at};
+ghost use Rattle.jfluid_cli.specs.Selections.{IsSelected, swaps_for};
+ghost use Rattle.jfluid_cli.specs.Top.{status_of_ending, is_run, report_of};
 
-use crate::names::built_in_name;
-use const_pool::ClassFile;
-use jf_bytes::{NoMemory, Text16};
+use crate::refusal::{Refusal, put_bytes};
+use context_tree::Tree;
+use jf_bytes::{NoMemory, Sink};
+use jvm_machine::Vm;
 use jvm_model::Ending;
+use profile_report::{Facts, report};
 use std::alloc::Global;
 
-/// Adds the characters of a text.
-fn push_text(out: &mut Vec<u8>, text: &Text16) -> Result<(), NoMemory>
-    ensures { OnOk result (out.new.items ≡ out.old.items ++ map shown_unit text.now) }
-{
-    for unit in text.units() {
-        out.push(if *unit < 128 { *unit as u8 } else { b'?' })?;
-    }
-    Ok(())
-}
-
-/// Adds a text that the pool may have.
-fn push_named(out: &mut Vec<u8>, text: Option<&Text16>) -> Result<(), NoMemory>
-    ensures { OnOk result (out.new.items ≡ out.old.items ++ shown (option_copied text.entry)) }
-{
-    match text {
-        Some(text) => push_text(out, text),
-        None => Ok(()),
-    }
-}
-
-/// Adds a method's class, a dot, its name and its descriptor.
-fn push_method(out: &mut Vec<u8>, class: &ClassFile, method: u32) -> Result<(), NoMemory>
-    ensures { OnOk result (out.new.items ≡ out.old.items ++ method_text class.now method) }
-{
-    push_named(out, class.pool.class_name(class.this_class).ok())?;
-    out.push(b'.')?;
-    let Some(method) = class.methods.get(method as usize) else {
-        return Ok(());
-    };
-    push_named(out, class.pool.text(method.name).ok())?;
-    push_named(out, class.pool.text(method.descriptor).ok())
-}
-
-/// Adds the place of an unverifiable instruction.
-fn push_unverifiable(
-    alloc: Global,
-    out: &mut Vec<u8>,
-    class: &ClassFile,
-    method: u32,
-    offset: u16,
-) -> Result<(), NoMemory>
-    ensures { OnOk result (out.new.items ≡ out.old.items ++ (codes "unverifiable " ++ (method_text class.now method ++ (codes " " ++ decimal offset)))) }
-{
-    out.extend_from_slice(b"unverifiable ")?;
-    push_method(out, class, method)?;
-    let place = format!(in alloc; " {offset}")?;
-    out.extend_from_slice(place.as_bytes())?;
-    Ok(())
-}
-
-/// Adds the class of a throwable that was caught by nothing.
-fn push_uncaught(out: &mut Vec<u8>, class: &ClassFile, number: u32) -> Result<(), NoMemory>
-    ensures { OnOk result (out.new.items ≡ out.old.items ++ (codes "uncaught " ++ class_text class.now number)) }
-{
-    out.extend_from_slice(b"uncaught ")?;
-    if number == 0 {
-        return push_named(out, class.pool.class_name(class.this_class).ok());
-    }
-    if let Some(name) = built_in_name(number as usize - 1) {
-        out.extend_from_slice(name)?;
-    }
-    Ok(())
-}
-
-/// Adds how a run ended, or that its budget was spent.
-fn push_ending(
-    alloc: Global,
-    out: &mut Vec<u8>,
-    class: &ClassFile,
-    ending: Option<Ending>,
-) -> Result<(), NoMemory>
-    ensures { OnOk result (out.new.items ≡ out.old.items ++ ending_text class.now ending) }
+/// The exit status of a run that ended so, or did not.
+fn status_of_run(ending: Option<Ending>) -> u8
+    ensures value { result ≡ status_of_ending ending }
+    ensures run { is_run result ≡ true }
 {
     match ending {
-        None => out.extend_from_slice(b"budget")?,
-        Some(Ending::Returned) => out.extend_from_slice(b"returned")?,
-        Some(Ending::Exited(code)) => {
-            let text = format!(in alloc; "exit {code}")?;
-            out.extend_from_slice(text.as_bytes())?;
-        }
-        Some(Ending::Uncaught(number)) => push_uncaught(out, class, number)?,
-        Some(Ending::Unverifiable(method, offset)) => {
-            push_unverifiable(alloc, out, class, method, offset)?;
-        }
+        None => 4,
+        Some(Ending::Returned) => 0,
+        Some(Ending::Exited(_)) => 0,
+        Some(Ending::Uncaught(_)) => 1,
+        Some(Ending::Unverifiable(..)) => 10,
     }
-    Ok(())
 }
 
-/// The report of a run without swaps and without a root.
-pub fn report(
-    alloc: Global,
-    class: &ClassFile,
-    ending: Option<Ending>,
-    steps: u64,
-) -> Result<Vec<u8>, NoMemory>
-    ensures { IfOk result (λ text. text.items ≡ report_text class.now ending steps 0 []) }
+/// How often the class was rewritten: once where there is a root.
+fn swaps_of(root: Option<u32>) -> u64
+    ensures { result ≡ swaps_for root }
 {
-    let mut out = Vec::new(alloc);
-    out.extend_from_slice(b"ending ")?;
-    push_ending(alloc, &mut out, class, ending)?;
-    let swaps = 0u64;
-    let counts = format!(in alloc; "\nsteps {steps}\nswaps {swaps}\ntree\n")?;
-    out.extend_from_slice(counts.as_bytes())?;
-    Ok(out)
+    match root {
+        Some(_) => 1,
+        None => 0,
+    }
+}
+
+/// The report of a machine and of the tree of its events.
+fn text_of(alloc: Global, vm: &Vm, tree: &mut Tree, root: Option<u32>) -> Result<Vec<u8>, NoMemory>
+    requires going { IsGoing vm.now }
+    requires told { IsTold tree.old vm.now }
+    requires selected { IsSelected root vm.now }
+    requires first { (m : ℕ) → m < vm.now.clock → is_ended_at vm.now m ≡ false }
+    ensures { IfOk result (λ text. text.items ≡ report_of root vm.now) }
+{
+    tree.credit(vm.clock());
+    let facts = Facts {
+        ending: vm.ending(),
+        steps: vm.clock(),
+        swaps: swaps_of(root),
+        summary: false,
+    };
+    report(alloc, &facts, tree, vm.class())
+}
+
+/// Puts the report of a machine, and answers the status of its run, or 8 where the put failed.
+pub fn give_report<P: Sink>(
+    alloc: Global,
+    vm: &Vm,
+    tree: &mut Tree,
+    root: Option<u32>,
+    out: &mut P,
+) -> Result<u8, Refusal>
+    requires going { IsGoing vm.now }
+    requires told { IsTold tree.old vm.now }
+    requires selected { IsSelected root vm.now }
+    requires first { (m : ℕ) → m < vm.now.clock → is_ended_at vm.now m ≡ false }
+    ensures status { IfOk result (λ s. is_run s ≡ true) }
+    ensures whole { IfOk result (λ s. s ≢ 8 → (s ≡ status_of_ending (ending_at vm.now vm.now.clock)) × (P.taken out.new ≡ append_known (P.taken out.old) (report_of root vm.now)) × (P.faults out.new ≡ P.faults out.old)) }
+    ensures failed { IfOk result (λ s. s ≡ 8 → Rose (P.faults out.old) (P.faults out.new) × PutsFront (P.taken out.old) (P.taken out.new) (report_of root vm.now)) }
+    ensures memory { IfErr result (λ e. (e ≡ Refusal.NoMemory) × (P.taken out.new ≡ P.taken out.old) × (P.faults out.new ≡ P.faults out.old)) }
+{
+    let ending = vm.ending();
+    let Ok(text) = text_of(alloc, vm, tree, root) else {
+        return Err(Refusal::NoMemory);
+    };
+    if !put_bytes(out, &text) {
+        return Ok(8);
+    }
+    Ok(status_of_run(ending))
 }

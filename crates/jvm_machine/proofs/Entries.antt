@@ -1,57 +1,26 @@
--- Tables that are made of an entry for each method give what the definitions look up in the class.
-use Rattle.std.proofs.Common.{◌≡◌, ℕ, ◌+◌, ◌<◌, ◌≤◌, List, [], ◌∷◌, ◌++◌, length, Option, Some, None, refl, sym, ap, ◌∙◌, ⊎_elim, zero-add}
+-- Tables that are made of an entry for each method, and for each version, give what the definitions look up there.
+use Rattle.std.proofs.Common.{drop-cons, ◌≡◌, ℕ, zero, suc, ◌+◌, ◌<◌, ◌≤◌, List, [], ◌∷◌, ◌++◌, length, drop, get_or, Option, Some, None, refl, sym, ap, ◌∙◌, ⊎_elim, append_assoc, add-one, arith}
 use Rattle.std.specs.Prelude.{map, slice_get}
-use Rattle.std.specs.Option.{option_map, option_map_or, option_and_then}
+use Rattle.std.specs.Option.{option_map, option_map_or, option_and_then, option_flatten}
 use Rattle.std.specs.List.{range_with_len}
 use Rattle.std.proofs.lemmas.Bool.{cases_lt}
-use Rattle.std.proofs.lemmas.Option.{slice_get-map, slice_get-get_or, slice_get_past}
-use Rattle.std.proofs.lemmas.List.FromFn.{length-range_with_len, get_or-range_with_len, map-range_with_len_more}
+use Rattle.std.proofs.lemmas.Option.{slice_get-map, slice_get_past}
 use Rattle.const_pool.specs.declared.class.ClassFile.{ClassFile}
 use Rattle.const_pool.specs.declared.class.Member.{Member}
 use Rattle.const_pool.specs.declared.class.CodeAttribute.{CodeAttribute}
+use Rattle.code_model.specs.declared.laying.Homes.{Homes}
 use Rattle.jvm_model.specs.declared.operation.Line.{Line}
-use Rattle.jvm_model.specs.Methods.{code_of, member_shape}
 use Rattle.jvm_model.specs.Lines.{code_line}
+use Rattle.jvm_model.specs.Methods.{code_of, member_shape}
+use Rattle.jvm_model.specs.StandsFor.{homes_at, origin_by, placed_line, probe_in}
 use Rattle.jvm_machine.specs.declared.tables.Method.{Method}
-use Rattle.jvm_machine.specs.Prepared.{ArePrepared, line_in, same_line}
-use Rattle.jvm_machine.specs.TableEntries.{lines_of, entry_of}
-
--- ---- the lines of one code
-
--- one more line
-pub lines_of-more : (c : ClassFile) (code : List ℕ) (lines : List (Option Line)) (line : Option Line) (at : ℕ) → lines ≡ map (code_line c code) (range_with_len 0 at) → line ≡ code_line c code at → lines ++ line ∷ [] ≡ map (code_line c code) (range_with_len 0 (at + 1))
-lines_of-more c code lines line at so_far is =
-    ap (λ ls. ls ++ line ∷ []) so_far
-    ∙ (ap (λ l. map (code_line c code) (range_with_len 0 at) ++ l ∷ []) is
-    ∙ sym (map-range_with_len_more (code_line c code) 0 at at (zero-add at)))
-
-slice_get-range : (n at : ℕ) → at < n → slice_get (range_with_len 0 n) at ≡ Some at
-slice_get-range n at lt =
-    slice_get-get_or (range_with_len 0 n) at 0 (rw length-range_with_len lt)
-    ∙ ap Some (get_or-range_with_len 0 n at 0 lt ∙ zero-add at)
-
--- no line stands past the end
-code_line-past : (c : ClassFile) (code : List ℕ) (at : ℕ) → length code ≤ at → code_line c code at ≡ None
-code_line-past c code at le = rw (slice_get_past code at le) refl
-
--- at each offset the lines of a code have the line that stands there
-line-lines_of : (c : ClassFile) (code : List ℕ) (at : ℕ) → option_and_then same_line (slice_get (lines_of c code) at) ≡ code_line c code at
-line-lines_of c code at =
-    ap (option_and_then same_line) (slice_get-map (code_line c code) (range_with_len 0 (length code)) at)
-    ∙ ⊎_elim
-    (λ (lt : at < length code). ap (λ o. option_and_then same_line (option_map (code_line c code) o)) (slice_get-range (length code) at lt))
-    (λ (le : length code ≤ at). ap (λ o. option_and_then same_line (option_map (code_line c code) o)) (slice_get_past (range_with_len 0 (length code)) at (rw length-range_with_len le)) ∙ sym (code_line-past c code at le))
-    (cases_lt at (length code))
+use Rattle.jvm_machine.specs.declared.tables.Version.{Version}
+use Rattle.jvm_machine.specs.Prepared.{ArePrepared, AreVersions, line_in, probe_in as version_probe}
+use Rattle.jvm_machine.specs.Probes.{placed_probe}
+use Rattle.jvm_machine.specs.TableEntries.{entry_of, lines_of, placed_probe_in, probes_of, version_of, versions_of}
+use Rattle.jvm_machine.proofs.Tabled.{tabled-at, tabled-past}
 
 -- ---- one method
-
-line-entry_of : (c : ClassFile) (code : Option CodeAttribute) (at : ℕ) → option_and_then same_line (slice_get (option_map_or (λ k. lines_of c k.code) code []) at) ≡ option_and_then (λ k. code_line c k.code at) code
-line-entry_of c None at = refl
-line-entry_of c (Some code) at = line-lines_of c code.code at
-
-line-member : (c : ClassFile) (m : Option Member) (at : ℕ) → option_and_then (line_in at) (option_map (entry_of c) m) ≡ option_and_then (λ k. code_line c k.code at) (option_and_then code_of m)
-line-member c None at = refl
-line-member c (Some m) at = line-entry_of c (code_of m) at
 
 params-member : (c : ClassFile) (m : Option Member) → option_and_then (λ entry. entry.params) (option_map (entry_of c) m) ≡ option_map (λ shape. shape.params) (option_and_then (member_shape c.pool) m)
 params-member c None = refl
@@ -65,14 +34,92 @@ max_locals-member : (c : ClassFile) (m : Option Member) → option_map_or (λ en
 max_locals-member c None = refl
 max_locals-member c (Some m) = refl
 
--- ---- the methods of a class
-
 pub ArePrepared-entries : (c : ClassFile) (methods : List Method) → methods ≡ map (entry_of c) c.methods → ArePrepared c methods
 ArePrepared-entries c methods is =
     let entry : (k : ℕ) → slice_get methods k ≡ option_map (entry_of c) (slice_get c.methods k) = λ k. ap (λ ms. slice_get ms k) is ∙ slice_get-map (entry_of c) c.methods k in
     record {
-      lines = λ k at. ap (option_and_then (line_in at)) (entry k) ∙ line-member c (slice_get c.methods k) at;
       params = λ k. ap (option_and_then (λ (m : Method). m.params)) (entry k) ∙ params-member c (slice_get c.methods k);
       max_stack = λ k. ap (λ (o : Option Method). option_map_or (λ m. m.max_stack) o 0) (entry k) ∙ max_stack-member c (slice_get c.methods k);
       max_locals = λ k. ap (λ (o : Option Method). option_map_or (λ m. m.max_locals) o 0) (entry k) ∙ max_locals-member c (slice_get c.methods k);
     }
+
+-- ---- one version
+
+-- no instruction stands past the end, so no line and no probe
+code_line-past : (image : ClassFile) (code : List ℕ) (at : ℕ) → length code ≤ at → code_line image code at ≡ None
+code_line-past image code at le = rw (slice_get_past code at le) refl
+
+no_line : (own : Option ℕ) → option_and_then (λ own. option_map (λ (line : Line). record line { own = own }) None) own ≡ None
+no_line None = refl
+no_line (Some own) = refl
+
+placed_line-past : (image : ClassFile) (homes : Option Homes) (code : List ℕ) (place : ℕ) → length code ≤ place → placed_line image homes code place ≡ None
+placed_line-past image homes code place le =
+    ap (λ line. option_and_then (λ own. option_map (λ (l : Line). record l { own = own }) line) (origin_by homes place)) (code_line-past image code place le) ∙ no_line (origin_by homes place)
+
+placed_probe-past : (image : ClassFile) (code : List ℕ) (place : ℕ) → length code ≤ place → placed_probe_in image code place ≡ None
+placed_probe-past image code place le = rw (slice_get_past code place le) refl
+
+-- at each place a table of the places of a code has what stands there, and past the code nothing does
+tabled-place : {X : Type 0} (f : ℕ → Option X) (n place : ℕ) → (n ≤ place → f place ≡ None) → option_flatten (slice_get (map f (range_with_len 0 n)) place) ≡ f place
+tabled-place f n place past =
+    ⊎_elim
+    (λ (lt : place < n). ap option_flatten (tabled-at f n place lt))
+    (λ (le : n ≤ place). ap option_flatten (tabled-past f n place le) ∙ sym (past le))
+    (cases_lt place n)
+
+line-code : (image : ClassFile) (homes : Option Homes) (code : Option CodeAttribute) (place : ℕ)
+    → option_flatten (slice_get (option_map_or (λ k. lines_of image homes k.code) code []) place) ≡ option_and_then (λ k. placed_line image homes k.code place) code
+line-code image homes None place = refl
+line-code image homes (Some code) place = tabled-place (placed_line image homes code.code) (length code.code) place (placed_line-past image homes code.code place)
+
+probe-code : (image : ClassFile) (code : Option CodeAttribute) (place : ℕ)
+    → option_flatten (slice_get (option_map_or (λ k. probes_of image k.code) code []) place) ≡ option_map (placed_probe place) (option_and_then (λ k. probe_in image k.code place) code)
+probe-code image None place = refl
+probe-code image (Some code) place = tabled-place (placed_probe_in image code.code) (length code.code) place (placed_probe-past image code.code place)
+
+line-version : (image : ClassFile) (homes : Option Homes) (m : Option Member) (place : ℕ)
+    → option_and_then (line_in place) (option_map (version_of image homes) m) ≡ option_and_then (λ k. placed_line image homes k.code place) (option_and_then code_of m)
+line-version image homes None place = refl
+line-version image homes (Some m) place = line-code image homes (code_of m) place
+
+probe-version : (image : ClassFile) (homes : Option Homes) (m : Option Member) (place : ℕ)
+    → option_and_then (version_probe place) (option_map (version_of image homes) m) ≡ option_map (placed_probe place) (option_and_then (λ k. probe_in image k.code place) (option_and_then code_of m))
+probe-version image homes None place = refl
+probe-version image homes (Some m) place = probe-code image (code_of m) place
+
+-- ---- the versions of an image
+
+version-at : (image : ClassFile) (homes : List (Option Homes)) (methods : List Member) (k : ℕ) → length homes ≡ length methods
+    → slice_get (versions_of image homes methods) k ≡ option_map (version_of image (homes_at homes k)) (slice_get methods k)
+version-at image [] [] k each = refl
+version-at image [] (m ∷ methods) k each = absurd (omega arith)
+version-at image (h ∷ homes) [] k each = refl
+version-at image (h ∷ homes) (m ∷ methods) zero each = refl
+version-at image (h ∷ homes) (m ∷ methods) (suc k) each = version-at image homes methods k (omega arith)
+
+pub AreVersions-entries : (image : ClassFile) (homes : List (Option Homes)) (versions : List Version) → length homes ≡ length image.methods → versions ≡ versions_of image homes image.methods
+    → AreVersions image homes versions
+AreVersions-entries image homes versions each is =
+    let entry : (k : ℕ) → slice_get versions k ≡ option_map (version_of image (homes_at homes k)) (slice_get image.methods k) =
+    λ k. ap (λ vs. slice_get vs k) is ∙ version-at image homes image.methods k each in
+    record {
+      lines = λ k place. ap (option_and_then (line_in place)) (entry k) ∙ line-version image (homes_at homes k) (slice_get image.methods k) place;
+      probes = λ k place. ap (option_and_then (version_probe place)) (entry k) ∙ probe-version image (homes_at homes k) (slice_get image.methods k) place;
+    }
+
+-- one more version
+pub versions_of-more : (image : ClassFile) (homes : List (Option Homes)) (methods : List Member) (i : ℕ) (h : Option Homes) (m : Member) (versions whole : List Version)
+    → i < length homes → i < length methods → h ≡ get_or homes i h → m ≡ get_or methods i m
+    → versions ++ versions_of image (drop i homes) (drop i methods) ≡ whole
+    → (versions ++ version_of image h m ∷ []) ++ versions_of image (drop (i + 1) homes) (drop (i + 1) methods) ≡ whole
+versions_of-more image homes methods i h m versions whole lth ltm ish ism so_far =
+    let rest : List Version = versions_of image (drop (i + 1) homes) (drop (i + 1) methods) in
+    let one : i + 1 ≡ suc i = add-one i in
+    let split : versions_of image (drop i homes) (drop i methods) ≡ version_of image h m ∷ rest =
+    ap (λ hs. versions_of image hs (drop i methods)) (drop-cons homes i h lth)
+    ∙ (ap (λ ms. versions_of image (get_or homes i h ∷ drop (suc i) homes) ms) (drop-cons methods i m ltm)
+    ∙ (ap (λ x. version_of image x (get_or methods i m) ∷ versions_of image (drop (suc i) homes) (drop (suc i) methods)) (sym ish)
+    ∙ (ap (λ x. version_of image h x ∷ versions_of image (drop (suc i) homes) (drop (suc i) methods)) (sym ism)
+    ∙ ap (λ n. version_of image h m ∷ versions_of image (drop n homes) (drop n methods)) (sym one)))) in
+    append_assoc versions (version_of image h m ∷ []) rest ∙ (ap (λ vs. versions ++ vs) (sym split) ∙ so_far)

@@ -42,7 +42,7 @@ arguments-few ks vs few =
     let test : have_kinds ks args ≡ false = have_kinds-unequal ks args (λ e. absurd (omega arith)) in
     ap (λ b. cond b (Some args) None) test
 
-pub calls-few : (c : ClassFile) (s : State) (f : Frame) (method : ℕ) (ks : List Kind) → Some ks ≡ method_params c method → length f.operands < length ks → calls c s f method ≡ unverifiable s f
-calls-few c s f method ks known few =
-    ap (λ o. option_map_or (λ params. begins c s f method params (arguments params f.operands)) o (unverifiable s f)) (sym known)
-    ∙ ap (begins c s f method ks) (arguments-few ks f.operands few)
+pub calls-few : (c : ClassFile) (s : State) (f : Frame) (method : ℕ) (own : ℕ) (ks : List Kind) → Some ks ≡ method_params c method → length f.operands < length ks → calls c s f method own ≡ unverifiable s f own
+calls-few c s f method own ks known few =
+    ap (λ o. option_map_or (λ params. begins c s f method params (arguments params f.operands) own) o (unverifiable s f own)) (sym known)
+    ∙ ap (λ args. begins c s f method ks args own) (arguments-few ks f.operands few)

@@ -1,4 +1,9 @@
 pub mod Filled
-pub mod Entries
 pub mod FitsLemmas
-pub mod Stepped
+pub mod Tabled
+pub mod Entries
+pub mod Outcomes
+pub mod Steps
+pub mod Stops
+pub mod Machines
+pub mod Images

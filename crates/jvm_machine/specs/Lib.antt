@@ -1,6 +1,12 @@
+pub mod Installed
 pub mod Prepared
 pub mod Operands
 pub mod Shapes
 pub mod TableEntries
+pub mod Probes
+pub mod Attempts
+pub mod Moves
 pub mod View
+pub mod Running
 pub mod Turns
+pub mod Advances

@@ -1,22 +1,41 @@
 -- What each turn of a machine says: whether it comes, and how the machine has moved.
-use Rattle.std.specs.Prelude.{◌≡◌, true, false, if◌then◌else◌}
+use Rattle.std.specs.Prelude.{◌≡◌, ◌+◌, false, true, Some, length, slice_get, ◌&&◌, if◌then◌else◌}
+use Rattle.jvm_model.specs.declared.event.Event.{Event}
+use Rattle.jvm_model.specs.StandsFor.{probe_at}
 use Rattle.jvm_machine.specs.declared.turn.Turn.{Turn}
-use Rattle.jvm_machine.specs.declared.turn.Turn.TheVariants.{Settled, Ended, Broken, NoMemory}
-use Rattle.jvm_machine.specs.View.{View, has_ended, advanced, broken_of}
+use Rattle.jvm_machine.specs.declared.turn.Turn.TheVariants.{Settled, Probe, Ended, Broken, NoMemory}
+use Rattle.jvm_machine.specs.View.{View, Place, has_ended, is_resting, begun, events_now}
 
--- the machine made one step, unless the run had ended before
-abbrev pub after_step : View → View
-after_step v = if has_ended v then v else advanced v
+-- There is a step to make, or one in hand.
+abbrev pub IsGoingOn : View → Type 0
+IsGoingOn v = (is_resting v && has_ended v) ≡ false
 
+-- The step is done: all its events were told, and the run goes on.
 pub record Settles (old new : View) : Type 0 where
   pub whole : old.broken ≡ false
-  pub went_on : has_ended old ≡ false
-  pub stepped : new ≡ advanced old
+  pub went_on : IsGoingOn old
+  pub all : (begun old).told ≡ length (events_now (begun old))
+  pub stepped : new ≡ record (begun old) { told = 0; top = new.top }
   pub goes_on : has_ended new ≡ false
+
+-- The next event of the step is told, by a probe that the current frame stands behind, in its version.
+pub record Tells (old : View) (event : Event) (new : View) : Type 0 where
+  pub whole : old.broken ≡ false
+  pub went_on : IsGoingOn old
+  pub next : slice_get (events_now (begun old)) (begun old).told ≡ Some event
+  pub stepped : new ≡ record (begun old) { told = (begun old).told + 1; top = new.top }
+  pub at : Place
+  pub stands : probe_at old.image at.method at.at ≡ Some (record { kind = event.kind; number = event.method })
+  pub behind : new.top ≡ Some (record at { at = at.at + 6 })
+
+-- the run had ended before, or it ended in this step, all of whose events were told
+abbrev pub after_last : View → View → View
+after_last old new = if is_resting old && has_ended old then old else record (begun old) { told = 0; top = new.top }
 
 pub record Ends (old new : View) : Type 0 where
   pub whole : old.broken ≡ false
-  pub stepped : new ≡ after_step old
+  pub all : IsGoingOn old → (begun old).told ≡ length (events_now (begun old))
+  pub stepped : new ≡ after_last old new
   pub ended : has_ended new ≡ true
 
 pub record Refuses (old new : View) : Type 0 where
@@ -25,12 +44,13 @@ pub record Refuses (old new : View) : Type 0 where
 
 pub record Breaks (old new : View) : Type 0 where
   pub whole : old.broken ≡ false
-  pub went_on : has_ended old ≡ false
-  pub stepped : new ≡ broken_of (advanced old)
+  pub went_on : IsGoingOn old
+  pub stepped : new ≡ record (begun old) { broken = true; told = new.told; top = new.top }
 
 -- a call of `step` came to this turn
 abbrev pub Turns : View → Turn → View → Type 0
 Turns old Settled new = Settles old new
+Turns old (Probe event) new = Tells old event new
 Turns old Ended new = Ends old new
 Turns old Broken new = Refuses old new
 Turns old NoMemory new = Breaks old new

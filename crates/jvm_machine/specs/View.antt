@@ -1,39 +1,72 @@
--- What a clause sees of a machine: what it runs, and how far it has come.
-use Rattle.std.specs.Prelude.{◌≡◌, ℕ, ◌+◌, Bool, true, false, List, is_some, if◌then◌else◌}
+-- What a clause sees of a machine: what it runs, in which versions, and how far it has come.
+use Rattle.std.specs.Prelude.{ℕ, ◌+◌, Bool, true, false, List, map, Option, None, is_some, ◌==◌, if◌then◌else◌}
 use Rattle.const_pool.specs.declared.class.ClassFile.{ClassFile}
+use Rattle.code_model.specs.declared.laying.Homes.{Homes}
+use Rattle.jvm_model.specs.declared.event.Event.{Event}
+use Rattle.jvm_model.specs.declared.event.Mark.{Mark}
+use Rattle.jvm_model.specs.declared.event.Mark.TheVariants.{Off}
 use Rattle.jvm_model.specs.declared.state.State.{State}
+use Rattle.jvm_model.specs.Activations.{trace}
+use Rattle.jvm_model.specs.EventLists.{step_events}
 use Rattle.jvm_model.specs.Run.{blank, run}
+use Rattle.jvm_model.specs.StandsFor.{marking_of}
 
--- A machine of a class, with the number of its main method and its input. It has made the start, or not; memory has run
--- out, or not; and the clock is the number of steps after the start.
+-- where a frame stands: in which method, and at which place of its version
+pub record Place : Type 0 where
+  pub method : ℕ
+  pub at : ℕ
+
+-- A machine of a class, with the number of its main method and its input; the marks of the versions that it runs, their
+-- image and homes. It has made the start, or not; memory has run out, or not; the clock is the number of steps begun
+-- after the start; so many events of the step in hand were told; and the current frame stands here.
 pub record View : Type 0 where
   pub class : ClassFile
   pub main : ℕ
   pub input : List ℕ
+  pub marks : List Mark
+  pub image : ClassFile
+  pub homes : List (Option Homes)
   pub started : Bool
   pub broken : Bool
   pub clock : ℕ
+  pub told : ℕ
+  pub top : Option Place
 
--- a machine that was just made
+-- a machine that was just made: every version is the original
 abbrev pub made : ClassFile → ℕ → List ℕ → View
-made class main input = record { class = class; main = main; input = input; started = false; broken = false; clock = 0 }
+made class main input = record {
+  class = class;
+  main = main;
+  input = input;
+  marks = map (λ m. Off) class.methods;
+  image = class;
+  homes = map (λ m. None) class.methods;
+  started = false;
+  broken = false;
+  clock = 0;
+  told = 0;
+  top = None;
+}
 
--- the state that it stands for: the run's after that many steps, and before the start nothing was done
+-- the state that it stands for between steps: the run's after that many steps, and before the start nothing was done
 abbrev pub state_of : View → State
 state_of v = if v.started then run v.class v.main v.input v.clock else blank
 
 abbrev pub has_ended : View → Bool
 has_ended v = is_some (state_of v).ending
 
+-- no step is in hand
+abbrev pub is_resting : View → Bool
+is_resting v = v.told == 0
+
 -- the start, or one step further
 abbrev pub advanced : View → View
 advanced v = record v { started = true; clock = if v.started then v.clock + 1 else 0 }
 
--- memory has run out
-abbrev pub broken_of : View → View
-broken_of v = record v { broken = true }
+-- the step in hand, or else the next one
+abbrev pub begun : View → View
+begun v = if is_resting v then advanced v else v
 
--- What holds of a machine's parts: the state is the one that it stands for, unless memory has run out.
-pub record IsRunning (v : View) (state : State) : Type 0 where
-  pub stands : v.broken ≡ false → state ≡ state_of v
-  pub early : v.started ≡ false → v.clock ≡ 0
+-- the events of the step in hand
+abbrev pub events_now : View → List Event
+events_now v = step_events (marking_of v.marks) (trace v.class v.main v.input v.clock).activations v.clock

@@ -2,7 +2,8 @@
 
 ghost use Rattle.std.specs.Prelude.{◌≡◌, ◌≤◌, ◌-◌, ◌++◌, length, replicate, None, OnOk, IfOk};
 ghost use Rattle.jvm_model.specs.Descriptors.{has_kind, have_kinds};
-ghost use Rattle.jvm_model.specs.Rules.{locals_with, max_locals_of, new_frame, calls, returns};
+ghost use Rattle.jvm_model.specs.Rules.{locals_with, max_locals_of, new_frame, calls, own_of, next_of, returns};
+ghost use Rattle.jvm_machine.specs.Installed.{installed_lines};
 
 use crate::rules::{end_unverifiable, go_on, put_frame};
 use crate::tables::Tables;
@@ -73,8 +74,8 @@ pub fn frame_of(
     method: u32,
     args: &[Value],
 ) -> Result<Frame, NoMemory>
-    requires { length args.now ≤ max_locals_of tables.now method }
-    ensures { IfOk result (λ f. f ≡ new_frame method args.now (max_locals_of tables.now method)) }
+    requires { length args.now ≤ max_locals_of tables.now.class method }
+    ensures { IfOk result (λ f. f ≡ new_frame method args.now (max_locals_of tables.now.class method)) }
 {
     let locals = locals_of(alloc, args, tables.max_locals(method))?;
     let operands = Stack::with_capacity(alloc, tables.max_stack(method) as usize)?;
@@ -93,24 +94,35 @@ pub fn call(
     state: &mut State,
     mut frame: Frame,
     method: u32,
+    own: u16,
 ) -> Result<(), NoMemory>
-    ensures { OnOk result (state.new ≡ calls tables.now state.old frame method) }
+    ensures { OnOk result (state.new ≡ calls tables.now.class state.old frame method own) }
 {
     let Some(params) = tables.params(method) else {
-        return end_unverifiable(state, frame);
+        return end_unverifiable(state, frame, own);
     };
     let count = params.len();
     if frame.operands.len() < count {
-        return end_unverifiable(state, frame);
+        return end_unverifiable(state, frame, own);
     }
     let args = frame.operands.topmost(count);
     if !are_of_kinds(params.as_slice(), args) || count > tables.max_locals(method) as usize {
-        return end_unverifiable(state, frame);
+        return end_unverifiable(state, frame, own);
     }
     let callee = frame_of(alloc, tables, method, args)?;
     frame.operands.discard(count);
     put_frame(state, frame)?;
     put_frame(state, callee)
+}
+
+/// The offset of a caller's invoke instruction, and where the caller goes on behind it.
+fn ends_of(tables: &Tables, caller: &Frame) -> (u16, u16)
+    ensures { result ≡ (own_of (installed_lines tables.now) caller.now, next_of (installed_lines tables.now) caller.now) }
+{
+    match tables.line(caller.method, caller.offset) {
+        Some(line) => (line.own, line.next),
+        None => (caller.offset, caller.offset),
+    }
 }
 
 /// Goes back to the caller, which is behind its invoke instruction then; without one the run has returned.
@@ -119,18 +131,15 @@ pub fn return_to_caller(
     state: &mut State,
     value: Option<Value>,
 ) -> Result<(), NoMemory>
-    ensures { OnOk result (state.new ≡ returns tables.now state.old value state.old.frames) }
+    ensures { OnOk result (state.new ≡ returns tables.now.class (installed_lines tables.now) state.old value state.old.frames) }
 {
     let Some(mut caller) = state.frames.pop() else {
         state.ending = Some(Ending::Returned);
         return Ok(());
     };
-    let next = match tables.line(caller.method, caller.offset) {
-        Some(line) => line.next,
-        None => caller.offset,
-    };
+    let (own, next) = ends_of(tables, &caller);
     if let Some(value) = value {
         caller.operands.push(value)?;
     }
-    go_on(tables, state, caller, next)
+    go_on(tables, state, caller, own, next)
 }

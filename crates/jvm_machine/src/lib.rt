@@ -2,15 +2,22 @@
 //! a call.
 #![tactic(auto)]
 
+mod copies;
 mod descriptor;
 mod frames;
 mod invoking;
 mod lookup;
 mod machine;
+mod origins;
+mod passing;
+mod phase;
 mod prepare;
+mod probes;
 mod rules;
+mod stepping;
 mod tables;
 mod turn;
+mod versions;
 
 pub use descriptor::shape_of;
 pub use lookup::{method_named, operation_of};

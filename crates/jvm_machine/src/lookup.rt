@@ -43,7 +43,7 @@ pub fn method_named(class: &ClassFile, name: &Text16, descriptor: &Text16) -> Op
 }
 
 /// Whether a member is the one with this class, this name and this descriptor.
-fn is_reference(reference: &MemberRef<'_>, class: &[u8], name: &[u8], descriptor: &[u8]) -> bool
+pub fn is_reference(reference: &MemberRef<'_>, class: &[u8], name: &[u8], descriptor: &[u8]) -> bool
     ensures { result ≡ is_reference class.now name.now descriptor.now (reference_view reference.now) }
 {
     reference.class.is_bytes(class)
@@ -98,7 +98,7 @@ fn field_at(pool: &Pool, index: u16) -> Option<MemberRef<'_>>
 }
 
 /// What a Methodref names.
-fn method_at(pool: &Pool, index: u16) -> Option<MemberRef<'_>>
+pub fn method_at(pool: &Pool, index: u16) -> Option<MemberRef<'_>>
     ensures { option_map reference_view result ≡ named_method pool.now index }
 {
     match pool.get(index)? {

@@ -1,27 +1,26 @@
-//! The machine: one step a call.
+//! The machine: it runs a class in the versions of its methods, and tells what their probes tell.
 
-ghost use Rattle.std.specs.Prelude.{◌≡◌, ◌^◌, ◌-◌, ◌<◌, min, true, false, length, OnOk, OnErr, IfOk};
-ghost use Rattle.jvm_model.specs.Run.{blank, start, attempt};
-ghost use Rattle.jvm_machine.specs.View.{made, state_of, has_ended, advanced, broken_of};
-ghost use Rattle.jvm_machine.specs.Turns.{Turns};
-ghost use Rattle.jvm_machine.specs.TableEntries.{FitsTables};
+ghost use Rattle.std.specs.Prelude.{◌≡◌, ◌^◌, ◌-◌, ◌<◌, ◌&&◌, min, true, false, length, OnOk, OnErr, IfOk};
+ghost use Rattle.jvm_model.specs.Images.{IsImage};
+ghost use Rattle.jvm_model.specs.StandsFor.{IsBuilt};
+ghost use Rattle.jvm_machine.specs.Advances.{Advances, broken_in};
+ghost use Rattle.jvm_machine.specs.Turns.{Turns, IsGoingOn};
+ghost use Rattle.jvm_machine.specs.View.{made, state_of, is_resting, has_ended};
 
-use crate::invoking::frame_of;
-use crate::rules::{end_unverifiable, execute};
+use crate::phase::Phase;
+use crate::probes::Probe;
+use crate::stepping::{clock_in, move_on};
 use crate::tables::Tables;
 use crate::turn::Turn;
+use code_model::Homes;
 use const_pool::ClassFile;
-use heap_objects::Value;
 use jf_bytes::{NoMemory, Seq, Stack};
-use jvm_model::{Ending, State};
+use jvm_model::{Ending, Event, Mark, State};
 use std::alloc::Global;
 use std::marker::Model;
 
-/// The argument array's object.
-const ARGUMENTS: u32 = 5;
-
-/// A machine that runs a class (JVM Specification 2.6, 2.11, 5.2, 6), one step a call of `step`. A clause sees what it
-/// runs and how far it has come; its output and ending are those of the run.
+/// A machine that runs a class (JVM Specification 2.6, 2.11, 5.2, 6). A clause sees what it runs and how far it has come;
+/// its output and ending are those of the run of the original class. Its frames stand at places of versions.
 #[derive(Drop)]
 pub struct Vm {
     alloc: Global,
@@ -29,52 +28,27 @@ pub struct Vm {
     main: u32,
     input: Seq<u8>,
     state: State,
+    phase: Phase,
     started: bool,
     broken: bool,
     clock: u64,
 }
 
 impl Model for Vm {
-    ghost use Rattle.jvm_machine.specs.View.{View, IsRunning};
+    ghost use Rattle.jvm_machine.specs.View.{View};
+    ghost use Rattle.jvm_machine.specs.Running.{IsRunning, seen};
 
     ghost Value = { View };
 
-    ghost view = { λ v. record { class = v.tables; main = v.main; input = v.input; started = v.started; broken = v.broken; clock = v.clock } };
+    ghost view = { λ v. seen v.tables v.main v.input v.state v.phase v.started v.broken v.clock };
 
-    ghost invariant = { λ v. IsRunning (record { class = v.tables; main = v.main; input = v.input; started = v.started; broken = v.broken; clock = v.clock }) v.state };
-}
-
-/// The start (5.2): `main` begins with its argument array, if it has a local for it.
-fn begin(alloc: Global, tables: &Tables, state: &mut State, main: u32) -> Result<(), NoMemory>
-    requires { state.old ≡ blank }
-    ensures { OnOk result (state.new ≡ start tables.now main) }
-{
-    if tables.max_locals(main) == 0 {
-        state.ending = Some(Ending::Unverifiable(main, 0));
-        return Ok(());
-    }
-    let frame = frame_of(alloc, tables, main, &[Value::Ref(ARGUMENTS)])?;
-    state.frames.push(frame)?;
-    Ok(())
-}
-
-/// One attempt of an instruction.
-fn attempt_one(alloc: Global, tables: &Tables, state: &mut State) -> Result<(), NoMemory>
-    ensures { OnOk result (state.new ≡ attempt tables.now state.old) }
-{
-    let Some(frame) = state.frames.pop() else {
-        return Ok(());
-    };
-    let Some(line) = tables.line(frame.method, frame.offset) else {
-        return end_unverifiable(state, frame);
-    };
-    execute(alloc, tables, state, frame, line)
+    ghost invariant = { λ v. IsRunning (seen v.tables v.main v.input v.state v.phase v.started v.broken v.clock) v.phase v.state };
 }
 
 impl Vm {
-    /// A machine that will run the class from the method with this number. It looks up every line of every code once.
+    /// A machine that will run the class from the method with this number. It looks up every place of every code once.
     pub fn new(alloc: Global, class: ClassFile, main: u16, input: Vec<u8>) -> Result<Vm, NoMemory>
-        requires { FitsTables class }
+        requires { IsBuilt class }
         ensures { IfOk result (λ vm. vm ≡ made class main input.items) }
     {
         let tables = Tables::new(alloc, class)?;
@@ -91,59 +65,71 @@ impl Vm {
             main: u32::from(main),
             input: Seq::from_vec(input),
             state,
+            phase: Phase::Resting,
             started: false,
             broken: false,
             clock: 0,
         })
     }
 
-    /// The start.
-    fn make_start(&mut self) -> Result<(), NoMemory>
-        requires whole { self.old.broken ≡ false }
+    /// Makes the versions of an image current, for all methods of the class with this position, before the start. There
+    /// is a mark for each method, and the homes are those of the image. It takes all memory first: after want of memory
+    /// nothing has changed.
+    pub fn install(
+        &mut self,
+        class: u32,
+        image: ClassFile,
+        marks: &[Mark],
+        homes: &[Option<Homes>],
+    ) -> Result<(), NoMemory>
+        requires class { class ≡ 0 }
         requires early { self.old.started ≡ false }
-        ensures ok { OnOk result (self.new ≡ advanced self.old) }
-        ensures err { OnErr result (self.new ≡ broken_of (advanced self.old)) }
+        requires whole { self.old.broken ≡ false }
+        requires marks { length marks.now ≡ length self.old.class.methods }
+        requires image { IsImage self.old.class 0 marks.now image homes.now }
+        ensures ok { OnOk result (self.new ≡ record self.old { marks = marks.now; image = image; homes = homes.now }) }
+        ensures err { OnErr result (self.new ≡ self.old) }
     {
+        self.tables.install(self.alloc, image, marks, homes)
+    }
+
+    /// Whether there is no step in hand, and the run has ended.
+    fn is_over(&self) -> bool
+        ensures { self.now.broken ≡ false → result ≡ (is_resting self.now && has_ended self.now) }
+    {
+        self.phase == Phase::Resting && self.state.ending.is_some()
+    }
+
+    /// Goes on to the next event of the step, or to its end; the answer is the probe that has told the event.
+    fn advance(&mut self) -> Result<Option<Probe>, NoMemory>
+        requires whole { self.old.broken ≡ false }
+        requires going { IsGoingOn self.old }
+        requires below { self.old.clock < 2 ^ 63 }
+        ensures ok { IfOk result (λ probe. Advances self.old probe self.new) }
+        ensures whole { OnOk result (self.new.broken ≡ false) }
+        ensures err { OnErr result (self.new ≡ broken_in self.old self.new) }
+    {
+        let started = self.started;
         self.broken = true;
+        self.clock = clock_in(self.phase, started, self.clock);
         self.started = true;
-        begin(self.alloc, &self.tables, &mut self.state, self.main)?;
+        let stop = move_on(
+            self.alloc,
+            &self.tables,
+            &mut self.state,
+            self.main,
+            started,
+            self.phase,
+        )?;
+        self.phase = stop.phase;
         self.broken = false;
-        Ok(())
+        Ok(stop.probe)
     }
 
-    /// One step after the start.
-    fn make_step(&mut self) -> Result<(), NoMemory>
-        requires whole { self.old.broken ≡ false }
-        requires started { self.old.started ≡ true }
-        requires below { self.old.clock < 2 ^ 63 }
-        requires goes_on { has_ended self.old ≡ false }
-        ensures ok { OnOk result (self.new ≡ advanced self.old) }
-        ensures err { OnErr result (self.new ≡ broken_of (advanced self.old)) }
-    {
-        self.broken = true;
-        self.clock += 1;
-        attempt_one(self.alloc, &self.tables, &mut self.state)?;
-        self.broken = false;
-        Ok(())
-    }
-
-    /// The start, or one step.
-    fn advance(&mut self) -> Result<(), NoMemory>
-        requires whole { self.old.broken ≡ false }
-        requires below { self.old.clock < 2 ^ 63 }
-        requires goes_on { has_ended self.old ≡ false }
-        ensures ok { OnOk result (self.new ≡ advanced self.old) }
-        ensures err { OnErr result (self.new ≡ broken_of (advanced self.old)) }
-    {
-        if self.started {
-            self.make_step()
-        } else {
-            self.make_start()
-        }
-    }
-
-    /// Makes the start, and then one step a call: the attempt of one instruction. Ended comes exactly where the run has
-    /// ended. After want of memory the machine is broken, and does no more.
+    /// Goes on with the step in hand, or begins the next one: the start, and then one instruction of the original class
+    /// a step. Each probe that a frame executes tells its event in a turn of its own, an entry probe after the
+    /// instruction and a leave probe before the return; then comes Settled, or Ended, exactly where the run has ended.
+    /// After want of memory the machine is broken, and does no more.
     pub fn step(&mut self) -> Turn
         requires { self.old.clock < 2 ^ 63 }
         ensures { Turns self.old result self.new }
@@ -151,26 +137,31 @@ impl Vm {
         if self.broken {
             return Turn::Broken;
         }
-        if self.state.ending.is_some() {
+        if self.is_over() {
             return Turn::Ended;
         }
-        if self.advance().is_err() {
+        let Ok(probe) = self.advance() else {
             return Turn::NoMemory;
+        };
+        match probe {
+            Some(probe) => Turn::Probe(Event {
+                kind: probe.kind,
+                method: probe.number,
+                clock: self.clock,
+            }),
+            None if self.state.ending.is_some() => Turn::Ended,
+            None => Turn::Settled,
         }
-        if self.state.ending.is_some() {
-            return Turn::Ended;
-        }
-        Turn::Settled
     }
 
-    /// The number of steps that were made after the start.
+    /// The number of steps that were begun after the start.
     pub fn clock(&self) -> u64
         ensures { result ≡ self.now.clock }
     {
         self.clock
     }
 
-    /// The class that it runs.
+    /// The class that it runs, as it was given.
     pub fn class(&self) -> &ClassFile
         ensures { result.now ≡ self.now.class }
     {
@@ -179,21 +170,21 @@ impl Vm {
 
     /// What the program has written.
     pub fn output(&self) -> &[u8]
-        ensures { self.now.broken ≡ false → result.now ≡ (state_of self.now).output }
+        ensures { self.now.broken ≡ false → is_resting self.now ≡ true → result.now ≡ (state_of self.now).output }
     {
         self.state.output.as_slice()
     }
 
     /// How the run has ended, if it has.
     pub fn ending(&self) -> Option<Ending>
-        ensures { self.now.broken ≡ false → result ≡ (state_of self.now).ending }
+        ensures { self.now.broken ≡ false → is_resting self.now ≡ true → result ≡ (state_of self.now).ending }
     {
         self.state.ending
     }
 
     /// The number of live activations, where it is below 2^32; a larger number is given as 2^32 - 1.
     pub fn live(&self) -> u32
-        ensures { self.now.broken ≡ false → result ≡ min (length (state_of self.now).frames) (2 ^ 32 - 1) }
+        ensures { self.now.broken ≡ false → is_resting self.now ≡ true → result ≡ min (length (state_of self.now).frames) (2 ^ 32 - 1) }
     {
         u32::try_from(self.state.frames.len()).unwrap_or(u32::MAX)
     }

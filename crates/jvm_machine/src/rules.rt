@@ -4,6 +4,7 @@
 ghost use Rattle.std.specs.Prelude.{◌≡◌, ◌++◌, OnOk};
 ghost use Rattle.std.specs.Int.{w32, int_wrapping_add, int_wrapping_sub, int_wrapping_mul};
 ghost use Rattle.jvm_model.specs.Rules.{with_frame, unverifiable, unverifiable_return, goes_on, constant, load, arithmetic, pushes_out, line_text, prints, returns_int, rule};
+ghost use Rattle.jvm_machine.specs.Installed.{installed_lines};
 
 use crate::frames::{take_int, take_ints, take_print};
 use crate::invoking::{call, return_to_caller};
@@ -28,18 +29,18 @@ pub fn put_frame(state: &mut State, frame: Frame) -> Result<(), NoMemory>
 }
 
 /// Ends the run at this frame's instruction; its activation stays live.
-pub fn end_unverifiable(state: &mut State, frame: Frame) -> Result<(), NoMemory>
-    ensures { OnOk result (state.new ≡ unverifiable state.old frame) }
+pub fn end_unverifiable(state: &mut State, frame: Frame, own: u16) -> Result<(), NoMemory>
+    ensures { OnOk result (state.new ≡ unverifiable state.old frame own) }
 {
-    state.ending = Some(Ending::Unverifiable(frame.method, frame.offset));
+    state.ending = Some(Ending::Unverifiable(frame.method, own));
     put_frame(state, frame)
 }
 
 /// Ends the run at this frame's return, which ends its activation.
-fn end_at_return(state: &mut State, frame: &Frame)
-    ensures { state.new ≡ unverifiable_return state.old frame.now }
+fn end_at_return(state: &mut State, frame: &Frame, own: u16)
+    ensures { state.new ≡ unverifiable_return state.old frame.now own }
 {
-    state.ending = Some(Ending::Unverifiable(frame.method, frame.offset));
+    state.ending = Some(Ending::Unverifiable(frame.method, own));
 }
 
 /// The frame goes on behind its instruction, unless its operands are too deep.
@@ -47,12 +48,13 @@ pub fn go_on(
     tables: &Tables,
     state: &mut State,
     mut frame: Frame,
+    own: u16,
     next: u16,
 ) -> Result<(), NoMemory>
-    ensures { OnOk result (state.new ≡ goes_on tables.now state.old frame frame.operands next) }
+    ensures { OnOk result (state.new ≡ goes_on tables.now.class state.old frame frame.operands own next) }
 {
     if frame.operands.len() > tables.max_stack(frame.method) as usize {
-        return end_unverifiable(state, frame);
+        return end_unverifiable(state, frame, own);
     }
     frame.offset = next;
     put_frame(state, frame)
@@ -63,12 +65,13 @@ fn push_constant(
     state: &mut State,
     mut frame: Frame,
     n: i32,
+    own: u16,
     next: u16,
 ) -> Result<(), NoMemory>
-    ensures { OnOk result (state.new ≡ constant tables.now state.old frame n next) }
+    ensures { OnOk result (state.new ≡ constant tables.now.class state.old frame n own next) }
 {
     frame.operands.push(Value::Int(n))?;
-    go_on(tables, state, frame, next)
+    go_on(tables, state, frame, own, next)
 }
 
 fn push_local(
@@ -76,54 +79,79 @@ fn push_local(
     state: &mut State,
     mut frame: Frame,
     slot: u16,
+    own: u16,
     next: u16,
 ) -> Result<(), NoMemory>
-    ensures { OnOk result (state.new ≡ load tables.now state.old frame slot next) }
+    ensures { OnOk result (state.new ≡ load tables.now.class state.old frame slot own next) }
 {
     match frame.locals.at(slot as usize) {
         Some(Some(Value::Int(n))) => {
             frame.operands.push(Value::Int(n))?;
-            go_on(tables, state, frame, next)
+            go_on(tables, state, frame, own, next)
         }
-        _ => end_unverifiable(state, frame),
+        _ => end_unverifiable(state, frame, own),
     }
 }
 
-fn add(tables: &Tables, state: &mut State, mut frame: Frame, next: u16) -> Result<(), NoMemory>
-    ensures { OnOk result (state.new ≡ arithmetic (int_wrapping_add w32) tables.now state.old frame frame.operands next) }
+fn add(
+    tables: &Tables,
+    state: &mut State,
+    mut frame: Frame,
+    own: u16,
+    next: u16,
+) -> Result<(), NoMemory>
+    ensures { OnOk result (state.new ≡ arithmetic (int_wrapping_add w32) tables.now.class state.old frame frame.operands own next) }
 {
     let Some((a, b)) = take_ints(&mut frame.operands) else {
-        return end_unverifiable(state, frame);
+        return end_unverifiable(state, frame, own);
     };
     frame.operands.push(Value::Int(a.wrapping_add(b)))?;
-    go_on(tables, state, frame, next)
+    go_on(tables, state, frame, own, next)
 }
 
-fn subtract(tables: &Tables, state: &mut State, mut frame: Frame, next: u16) -> Result<(), NoMemory>
-    ensures { OnOk result (state.new ≡ arithmetic (int_wrapping_sub w32) tables.now state.old frame frame.operands next) }
+fn subtract(
+    tables: &Tables,
+    state: &mut State,
+    mut frame: Frame,
+    own: u16,
+    next: u16,
+) -> Result<(), NoMemory>
+    ensures { OnOk result (state.new ≡ arithmetic (int_wrapping_sub w32) tables.now.class state.old frame frame.operands own next) }
 {
     let Some((a, b)) = take_ints(&mut frame.operands) else {
-        return end_unverifiable(state, frame);
+        return end_unverifiable(state, frame, own);
     };
     frame.operands.push(Value::Int(a.wrapping_sub(b)))?;
-    go_on(tables, state, frame, next)
+    go_on(tables, state, frame, own, next)
 }
 
-fn multiply(tables: &Tables, state: &mut State, mut frame: Frame, next: u16) -> Result<(), NoMemory>
-    ensures { OnOk result (state.new ≡ arithmetic (int_wrapping_mul w32) tables.now state.old frame frame.operands next) }
+fn multiply(
+    tables: &Tables,
+    state: &mut State,
+    mut frame: Frame,
+    own: u16,
+    next: u16,
+) -> Result<(), NoMemory>
+    ensures { OnOk result (state.new ≡ arithmetic (int_wrapping_mul w32) tables.now.class state.old frame frame.operands own next) }
 {
     let Some((a, b)) = take_ints(&mut frame.operands) else {
-        return end_unverifiable(state, frame);
+        return end_unverifiable(state, frame, own);
     };
     frame.operands.push(Value::Int(a.wrapping_mul(b)))?;
-    go_on(tables, state, frame, next)
+    go_on(tables, state, frame, own, next)
 }
 
-fn push_out(tables: &Tables, state: &mut State, mut frame: Frame, next: u16) -> Result<(), NoMemory>
-    ensures { OnOk result (state.new ≡ pushes_out tables.now state.old frame next) }
+fn push_out(
+    tables: &Tables,
+    state: &mut State,
+    mut frame: Frame,
+    own: u16,
+    next: u16,
+) -> Result<(), NoMemory>
+    ensures { OnOk result (state.new ≡ pushes_out tables.now.class state.old frame own next) }
 {
     frame.operands.push(Value::Ref(OUT))?;
-    go_on(tables, state, frame, next)
+    go_on(tables, state, frame, own, next)
 }
 
 /// The text of a number, and the end of the line.
@@ -140,26 +168,32 @@ fn println(
     tables: &Tables,
     state: &mut State,
     mut frame: Frame,
+    own: u16,
     next: u16,
 ) -> Result<(), NoMemory>
-    ensures { OnOk result (state.new ≡ prints tables.now state.old frame frame.operands next) }
+    ensures { OnOk result (state.new ≡ prints tables.now.class state.old frame frame.operands own next) }
 {
     match frame.operands.peek(1) {
         Some(Value::Ref(OUT | ERR)) => {}
-        _ => return end_unverifiable(state, frame),
+        _ => return end_unverifiable(state, frame, own),
     }
     let Some((_, n)) = take_print(&mut frame.operands) else {
-        return end_unverifiable(state, frame);
+        return end_unverifiable(state, frame, own);
     };
     write_line(alloc, &mut state.output, n)?;
-    go_on(tables, state, frame, next)
+    go_on(tables, state, frame, own, next)
 }
 
-fn return_int(tables: &Tables, state: &mut State, mut frame: Frame) -> Result<(), NoMemory>
-    ensures { OnOk result (state.new ≡ returns_int tables.now state.old frame frame.operands) }
+fn return_int(
+    tables: &Tables,
+    state: &mut State,
+    mut frame: Frame,
+    own: u16,
+) -> Result<(), NoMemory>
+    ensures { OnOk result (state.new ≡ returns_int tables.now.class (installed_lines tables.now) state.old frame frame.operands own) }
 {
     let Some(n) = take_int(&mut frame.operands) else {
-        end_at_return(state, &frame);
+        end_at_return(state, &frame, own);
         return Ok(());
     };
     return_to_caller(tables, state, Some(Value::Int(n)))
@@ -173,20 +207,21 @@ pub fn execute(
     frame: Frame,
     line: Line,
 ) -> Result<(), NoMemory>
-    ensures { OnOk result (state.new ≡ rule tables.now state.old frame line.operation line.next) }
+    ensures { OnOk result (state.new ≡ rule tables.now.class (installed_lines tables.now) state.old frame line.operation line.own line.next) }
 {
+    let own = line.own;
     let next = line.next;
     match line.operation {
-        Operation::Nothing => go_on(tables, state, frame, next),
-        Operation::Constant(n) => push_constant(tables, state, frame, n, next),
-        Operation::Load(slot) => push_local(tables, state, frame, slot, next),
-        Operation::Add => add(tables, state, frame, next),
-        Operation::Subtract => subtract(tables, state, frame, next),
-        Operation::Multiply => multiply(tables, state, frame, next),
-        Operation::ReturnInt => return_int(tables, state, frame),
+        Operation::Nothing => go_on(tables, state, frame, own, next),
+        Operation::Constant(n) => push_constant(tables, state, frame, n, own, next),
+        Operation::Load(slot) => push_local(tables, state, frame, slot, own, next),
+        Operation::Add => add(tables, state, frame, own, next),
+        Operation::Subtract => subtract(tables, state, frame, own, next),
+        Operation::Multiply => multiply(tables, state, frame, own, next),
+        Operation::ReturnInt => return_int(tables, state, frame, own),
         Operation::Return => return_to_caller(tables, state, None),
-        Operation::Out => push_out(tables, state, frame, next),
-        Operation::Println => println(alloc, tables, state, frame, next),
-        Operation::Call(method) => call(alloc, tables, state, frame, method),
+        Operation::Out => push_out(tables, state, frame, own, next),
+        Operation::Println => println(alloc, tables, state, frame, own, next),
+        Operation::Call(method) => call(alloc, tables, state, frame, method, own),
     }
 }

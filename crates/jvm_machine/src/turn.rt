@@ -1,10 +1,14 @@
 //! What one call of `step` came to.
 
+use jvm_model::Event;
+
 /// What one call of `step` came to.
 #[derive(Clone, Copy, Debug, PartialEq, Eq)]
 pub enum Turn {
-    /// The step is done, and the run goes on.
+    /// The step is done, all its events were told, and the run goes on.
     Settled,
+    /// A probe has told an event of the step, and the step goes on.
+    Probe(Event),
     /// The run has ended, in this step or before it.
     Ended,
     /// An earlier call ran out of memory: the machine does no more.

@@ -16,7 +16,7 @@ use Rattle.jvm_model.specs.declared.state.Frame.{Frame}
 use Rattle.jvm_model.specs.declared.state.State.{State}
 use Rattle.jvm_model.specs.Methods.{method_params}
 use Rattle.jvm_model.specs.Lines.{line_at}
-use Rattle.jvm_model.specs.Rules.{goes_on, max_stack_of, max_locals_of, depth, pushes_local, arithmetic, is_print_stream, line_text, written, prints, arguments, begins, next_of, with_result, returns, returns_int, rule, unverifiable}
+use Rattle.jvm_model.specs.Rules.{goes_on, max_stack_of, max_locals_of, depth, pushes_local, arithmetic, is_print_stream, line_text, written, prints, arguments, begins, own_of, next_of, Lines, with_result, returns, returns_int, rule, unverifiable}
 use Rattle.jvm_model.specs.Run.{does, attempts, attempt, step_of, run, run-suc, output_of, ending_of}
 use Rattle.jvm_model.specs.Growth.{Extends}
 
@@ -41,58 +41,58 @@ chosen-grows old false x y first second = second
 
 -- ---- each rule leaves the output, or appends to it
 
-pub goes_on-grows : (c : ClassFile) (s : State) (f : Frame) (operands : List Value) (next : ℕ) → Extends s.output (goes_on c s f operands next).output
-goes_on-grows c s f operands next = chosen-grows s.output (nat_le (depth operands) (max_stack_of c f.method)) _ _ (Extends-same s.output) (Extends-same s.output)
+pub goes_on-grows : (c : ClassFile) (s : State) (f : Frame) (operands : List Value) (own next : ℕ) → Extends s.output (goes_on c s f operands own next).output
+goes_on-grows c s f operands own next = chosen-grows s.output (nat_le (depth operands) (max_stack_of c f.method)) _ _ (Extends-same s.output) (Extends-same s.output)
 
-pub pushes_local-grows : (c : ClassFile) (s : State) (f : Frame) (found : Option (Option Value)) (next : ℕ) → Extends s.output (pushes_local c s f found next).output
-pushes_local-grows c s f (Some (Some (Int n))) next = goes_on-grows c s f (Int n ∷ f.operands) next
-pushes_local-grows c s f _ next = Extends-same s.output
+pub pushes_local-grows : (c : ClassFile) (s : State) (f : Frame) (found : Option (Option Value)) (own next : ℕ) → Extends s.output (pushes_local c s f found own next).output
+pushes_local-grows c s f (Some (Some (Int n))) own next = goes_on-grows c s f (Int n ∷ f.operands) own next
+pushes_local-grows c s f _ own next = Extends-same s.output
 
-pub arithmetic-grows : (op : ℤ → ℤ → ℤ) (c : ClassFile) (s : State) (f : Frame) (operands : List Value) (next : ℕ) → Extends s.output (arithmetic op c s f operands next).output
-arithmetic-grows op c s f (Int b ∷ Int a ∷ below) next = goes_on-grows c s f (Int (op a b) ∷ below) next
-arithmetic-grows op c s f _ next = Extends-same s.output
+pub arithmetic-grows : (op : ℤ → ℤ → ℤ) (c : ClassFile) (s : State) (f : Frame) (operands : List Value) (own next : ℕ) → Extends s.output (arithmetic op c s f operands own next).output
+arithmetic-grows op c s f (Int b ∷ Int a ∷ below) own next = goes_on-grows c s f (Int (op a b) ∷ below) own next
+arithmetic-grows op c s f _ own next = Extends-same s.output
 
-pub prints-grows : (c : ClassFile) (s : State) (f : Frame) (operands : List Value) (next : ℕ) → Extends s.output (prints c s f operands next).output
-prints-grows c s f (Int n ∷ Ref r ∷ below) next =
-    let printed = Extends-trans (Extends-appended s.output (line_text n)) (goes_on-grows c (written s (line_text n)) f below next) in
+pub prints-grows : (c : ClassFile) (s : State) (f : Frame) (operands : List Value) (own next : ℕ) → Extends s.output (prints c s f operands own next).output
+prints-grows c s f (Int n ∷ Ref r ∷ below) own next =
+    let printed = Extends-trans (Extends-appended s.output (line_text n)) (goes_on-grows c (written s (line_text n)) f below own next) in
     chosen-grows s.output (is_print_stream r) _ _ printed (Extends-same s.output)
-prints-grows c s f _ next = Extends-same s.output
+prints-grows c s f _ own next = Extends-same s.output
 
-pub begins-grows : (c : ClassFile) (s : State) (f : Frame) (method : ℕ) (params : List Kind) (args : Option (List Value)) → Extends s.output (begins c s f method params args).output
-begins-grows c s f method params None = Extends-same s.output
-begins-grows c s f method params (Some args) = chosen-grows s.output (nat_le (length args) (max_locals_of c method)) _ _ (Extends-same s.output) (Extends-same s.output)
+pub begins-grows : (c : ClassFile) (s : State) (f : Frame) (method : ℕ) (params : List Kind) (args : Option (List Value)) (own : ℕ) → Extends s.output (begins c s f method params args own).output
+begins-grows c s f method params None own = Extends-same s.output
+begins-grows c s f method params (Some args) own = chosen-grows s.output (nat_le (length args) (max_locals_of c method)) _ _ (Extends-same s.output) (Extends-same s.output)
 
 -- a call of the method with these parameters, if there is one
-calls_with-grows : (c : ClassFile) (s : State) (f : Frame) (method : ℕ) (found : Option (List Kind))
-    → Extends s.output (option_map_or (λ params. begins c s f method params (arguments params f.operands)) found (unverifiable s f)).output
-calls_with-grows c s f method None = Extends-same s.output
-calls_with-grows c s f method (Some params) = begins-grows c s f method params (arguments params f.operands)
+calls_with-grows : (c : ClassFile) (s : State) (f : Frame) (method : ℕ) (found : Option (List Kind)) (own : ℕ)
+    → Extends s.output (option_map_or (λ params. begins c s f method params (arguments params f.operands) own) found (unverifiable s f own)).output
+calls_with-grows c s f method None own = Extends-same s.output
+calls_with-grows c s f method (Some params) own = begins-grows c s f method params (arguments params f.operands) own
 
-pub returns-grows : (c : ClassFile) (s : State) (result : Option Value) (frames : List Frame) → Extends s.output (returns c s result frames).output
-returns-grows c s result [] = Extends-same s.output
-returns-grows c s result (caller ∷ below) = goes_on-grows c (record s { frames = below }) caller (with_result result caller.operands) (next_of c caller)
+pub returns-grows : (c : ClassFile) (lines : Lines) (s : State) (result : Option Value) (frames : List Frame) → Extends s.output (returns c lines s result frames).output
+returns-grows c lines s result [] = Extends-same s.output
+returns-grows c lines s result (caller ∷ below) = goes_on-grows c (record s { frames = below }) caller (with_result result caller.operands) (own_of lines caller) (next_of lines caller)
 
-pub returns_int-grows : (c : ClassFile) (s : State) (f : Frame) (operands : List Value) → Extends s.output (returns_int c s f operands).output
-returns_int-grows c s f (Int n ∷ below) = returns-grows c s (Some (Int n)) s.frames
-returns_int-grows c s f _ = Extends-same s.output
+pub returns_int-grows : (c : ClassFile) (lines : Lines) (s : State) (f : Frame) (operands : List Value) (own : ℕ) → Extends s.output (returns_int c lines s f operands own).output
+returns_int-grows c lines s f (Int n ∷ below) own = returns-grows c lines s (Some (Int n)) s.frames
+returns_int-grows c lines s f _ own = Extends-same s.output
 
-pub rule-grows : (c : ClassFile) (s : State) (f : Frame) (operation : Operation) (next : ℕ) → Extends s.output (rule c s f operation next).output
-rule-grows c s f Nothing next = goes_on-grows c s f f.operands next
-rule-grows c s f (Constant n) next = goes_on-grows c s f (Int n ∷ f.operands) next
-rule-grows c s f (Load slot) next = pushes_local-grows c s f (slice_get f.locals slot) next
-rule-grows c s f Add next = arithmetic-grows (int_wrapping_add w32) c s f f.operands next
-rule-grows c s f Subtract next = arithmetic-grows (int_wrapping_sub w32) c s f f.operands next
-rule-grows c s f Multiply next = arithmetic-grows (int_wrapping_mul w32) c s f f.operands next
-rule-grows c s f ReturnInt next = returns_int-grows c s f f.operands
-rule-grows c s f Return next = returns-grows c s None s.frames
-rule-grows c s f Out next = goes_on-grows c s f (Ref 3 ∷ f.operands) next
-rule-grows c s f Println next = prints-grows c s f f.operands next
-rule-grows c s f (Call method) next = calls_with-grows c s f method (method_params c method)
+pub rule-grows : (c : ClassFile) (lines : Lines) (s : State) (f : Frame) (operation : Operation) (own next : ℕ) → Extends s.output (rule c lines s f operation own next).output
+rule-grows c lines s f Nothing own next = goes_on-grows c s f f.operands own next
+rule-grows c lines s f (Constant n) own next = goes_on-grows c s f (Int n ∷ f.operands) own next
+rule-grows c lines s f (Load slot) own next = pushes_local-grows c s f (slice_get f.locals slot) own next
+rule-grows c lines s f Add own next = arithmetic-grows (int_wrapping_add w32) c s f f.operands own next
+rule-grows c lines s f Subtract own next = arithmetic-grows (int_wrapping_sub w32) c s f f.operands own next
+rule-grows c lines s f Multiply own next = arithmetic-grows (int_wrapping_mul w32) c s f f.operands own next
+rule-grows c lines s f ReturnInt own next = returns_int-grows c lines s f f.operands own
+rule-grows c lines s f Return own next = returns-grows c lines s None s.frames
+rule-grows c lines s f Out own next = goes_on-grows c s f (Ref 3 ∷ f.operands) own next
+rule-grows c lines s f Println own next = prints-grows c s f f.operands own next
+rule-grows c lines s f (Call method) own next = calls_with-grows c s f method (method_params c method) own
 
 -- ---- each step
 
 does-grows : (c : ClassFile) (s : State) (f : Frame) (found : Option Line) → Extends s.output (does c s f found).output
-does-grows c s f (Some line) = rule-grows c s f line.operation line.next
+does-grows c s f (Some line) = rule-grows c (line_at c) s f line.operation line.own line.next
 does-grows c s f None = Extends-same s.output
 
 attempts-grows : (c : ClassFile) (s : State) (frames : List Frame) → Extends s.output (attempts c s frames).output

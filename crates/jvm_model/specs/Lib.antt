@@ -5,3 +5,11 @@ pub mod Rules
 pub mod Run
 pub mod SmallClass
 pub mod Growth
+pub mod Versions
+pub mod Images
+pub mod Paths
+pub mod Activations
+pub mod Projection
+pub mod EventLists
+pub mod StandsFor
+pub mod Agreement

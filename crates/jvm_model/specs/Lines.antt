@@ -77,7 +77,7 @@ abbrev pub operation_of : ClassFile → Instr → Option Operation
 operation_of c i = operation_with c i.op i.arg
 
 abbrev pub line_of : ClassFile → Instr → Option Line
-line_of c i = option_map (λ operation. record { operation = operation; next = end_of i }) (operation_of c i)
+line_of c i = option_map (λ operation. record { operation = operation; own = i.at; next = end_of i }) (operation_of c i)
 
 -- the line at an offset of a code
 abbrev pub code_line : ClassFile → List ℕ → ℕ → Option Line

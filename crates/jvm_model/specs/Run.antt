@@ -24,8 +24,8 @@ start c main =
 
 -- the instruction at the frame's offset is done
 abbrev pub does : ClassFile → State → Frame → Option Line → State
-does c s f (Some line) = rule c s f line.operation line.next
-does c s f None = unverifiable s f
+does c s f (Some line) = rule c (line_at c) s f line.operation line.own line.next
+does c s f None = unverifiable s f f.offset
 
 -- one attempt, with the current frame apart; without a frame nothing is left to do
 abbrev pub attempts : ClassFile → State → List Frame → State

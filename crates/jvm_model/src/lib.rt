@@ -1,12 +1,15 @@
 //! The definitions of the machine that jfluid runs programs on (JVM Specification 2, 5 and 6): its state, what each
-//! instruction does, and the run of a program as a function of the number of steps. All of it stands in specs/; the
+//! instruction does, and the run of a program as a function of the number of steps; and of profiling: which activations
+//! there are, what is projected on the root activations, and what a rewritten class is. All of it stands in specs/; the
 //! types below are its data.
 #![tactic(auto)]
 
 mod ending;
+mod event;
 mod operation;
 mod state;
 
 pub use ending::Ending;
+pub use event::{Act, Event, EventKind, Mark};
 pub use operation::{Line, Operation};
 pub use state::{Frame, State};

@@ -27,9 +27,10 @@ pub enum Operation {
     Call(u32),
 }
 
-/// An instruction, and the offset of the one that follows it.
+/// An instruction: what it does, its offset in the original code, and where the frame goes on behind it.
 #[derive(Clone, Copy, Debug, PartialEq, Eq)]
 pub struct Line {
     pub operation: Operation,
+    pub own: u16,
     pub next: u16,
 }

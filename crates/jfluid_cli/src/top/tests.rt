@@ -1,13 +1,19 @@
 mod assembler;
+mod budgets;
 mod cases;
 mod numbers;
+mod roots;
 
 use super::*;
-use crate::loading::Program;
+use crate::admission::admit;
+use crate::loading::{Loaded, Program};
+use crate::making::make;
 use assembler::{PARTS, Parts, assembled};
 use class_reader::read_class;
-use jf_bytes::{MemFiles, MemSink, MemSource};
-use jvm_machine::Turn;
+use jf_bytes::{MemFiles, MemSink, MemSource, NoMemory, Text16};
+use jvm_machine::{Turn, Vm};
+use jvm_model::{Event, EventKind};
+use std::alloc::Global;
 use std::test::*;
 
 /// A class with the methods `f(I)I`, which adds one, and `main([Ljava/lang/String;)V`, which prints `f(41)`.
@@ -141,6 +147,13 @@ fn run(alloc: Global, words: &[&str], bytes: Vec<u8>, failed: Device) -> Result<
         out,
         report,
     })
+}
+
+/// The status, the output and the report, one behind the other.
+fn text_of(alloc: Global, seen: &Seen) -> Result<String, Fail> {
+    let output = String::from_utf8_lossy(alloc, seen.out.bytes())?;
+    let report = String::from_utf8_lossy(alloc, seen.report.bytes())?;
+    Ok(format!(in alloc; "{} {output}{report}", seen.status)?)
 }
 
 /// A call of the top, and what it is to give.
@@ -340,20 +353,90 @@ const TURNS: [(Turn, u64, &str, u32); 11] = [
     (Turn::Ended, 9, "42\n", 0),
 ];
 
+/// The machine of `P1` in the versions for a root.
+fn machine(alloc: Global, root: Option<u32>) -> Result<Vm, Fail> {
+    let class = read_class(alloc, p1())?;
+    let name = Text16::new(vec![in alloc; 80, 49]?);
+    let main = admit(alloc, &class, &name)?;
+    let known = match root {
+        Some(root) => (root as usize) < class.methods.len(),
+        None => true,
+    };
+    if !known {
+        return Err("no such root".into());
+    }
+    let program = Program { class, main };
+    let bytes = Vec::new(alloc);
+    let kept = make(alloc, Loaded { bytes, program }, root)?;
+    Ok(kept.vm)
+}
+
 #[test]
 fn turns(rt: HostRuntime) -> Result<(), Fail> {
-    let class = read_class(rt.alloc(), p1())?;
-    let loaded = Loaded {
-        bytes: Vec::new(rt.alloc()),
-        program: Program { class, main: 1 },
-    };
-    let mut kept = make(rt.alloc(), loaded)?;
+    let mut vm = machine(rt.alloc(), None)?;
     for (turn, clock, output, live) in TURNS {
-        assert!(rt; kept.vm.clock() < 10);
-        assert_eq!(rt; kept.vm.step(), turn, "to {clock}");
-        assert_eq!(rt; kept.vm.clock(), clock);
-        assert_eq!(rt; kept.vm.output(), output.as_bytes(), "at {clock}");
-        assert_eq!(rt; kept.vm.live(), live, "at {clock}");
+        assert!(rt; vm.clock() < 10);
+        assert_eq!(rt; vm.step(), turn, "to {clock}");
+        assert_eq!(rt; vm.clock(), clock);
+        assert_eq!(rt; vm.output(), output.as_bytes(), "at {clock}");
+        assert_eq!(rt; vm.live(), live, "at {clock}");
     }
+    Ok(())
+}
+
+/// The begin of `main`.
+const MAIN_BEGINS: Turn = Turn::Probe(Event {
+    kind: EventKind::Enter,
+    method: 1,
+    clock: 0,
+});
+
+/// The begin of `f`, the root.
+const ROOT_BEGINS: Turn = Turn::Probe(Event {
+    kind: EventKind::Root,
+    method: 0,
+    clock: 3,
+});
+
+const ROOT_ENDS: Turn = Turn::Probe(Event {
+    kind: EventKind::Leave,
+    method: 0,
+    clock: 7,
+});
+
+const MAIN_ENDS: Turn = Turn::Probe(Event {
+    kind: EventKind::Leave,
+    method: 1,
+    clock: 9,
+});
+
+/// The same with `f` as the root: each probe is a turn of its own, and no step.
+const ROOTED: [(Turn, u64); 15] = [
+    (MAIN_BEGINS, 0),
+    (Turn::Settled, 0),
+    (Turn::Settled, 1),
+    (Turn::Settled, 2),
+    (ROOT_BEGINS, 3),
+    (Turn::Settled, 3),
+    (Turn::Settled, 4),
+    (Turn::Settled, 5),
+    (Turn::Settled, 6),
+    (ROOT_ENDS, 7),
+    (Turn::Settled, 7),
+    (Turn::Settled, 8),
+    (MAIN_ENDS, 9),
+    (Turn::Ended, 9),
+    (Turn::Ended, 9),
+];
+
+#[test]
+fn turns_of_probes(rt: HostRuntime) -> Result<(), Fail> {
+    let mut vm = machine(rt.alloc(), Some(0))?;
+    for (turn, clock) in ROOTED {
+        assert!(rt; vm.clock() < 10);
+        assert_eq!(rt; vm.step(), turn, "to {clock}");
+        assert_eq!(rt; vm.clock(), clock);
+    }
+    assert_eq!(rt; vm.output(), b"42\n".as_slice());
     Ok(())
 }

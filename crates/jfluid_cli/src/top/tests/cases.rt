@@ -1,7 +1,7 @@
 //! Classes at a limit, classes that are refused, and runs that stop early.
 
 use super::assembler::{Body, FIRST, PARTS, PRINTS_FIRST, Parts, assembled};
-use super::{Device, RIGHT, run};
+use super::{Device, RIGHT, run, text_of};
 use std::alloc::Global;
 use std::test::*;
 
@@ -11,9 +11,7 @@ const REFUSED: &str = "3 jfluid: P1.class: NotBuilt\n";
 fn shown(alloc: Global, parts: Parts) -> Result<String, Fail> {
     let bytes = assembled(alloc, parts)?;
     let seen = run(alloc, RIGHT.words, bytes, Device::None)?;
-    let output = String::from_utf8_lossy(alloc, seen.out.bytes())?;
-    let report = String::from_utf8_lossy(alloc, seen.report.bytes())?;
-    Ok(format!(in alloc; "{} {output}{report}", seen.status)?)
+    text_of(alloc, &seen)
 }
 
 /// The same of a run that returned.

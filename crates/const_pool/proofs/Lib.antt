@@ -1,0 +1,6 @@
+mod TailIndices
+pub mod Gaps
+pub mod Halts
+pub mod FieldTexts
+pub mod ParamSlots
+pub mod MethodTexts

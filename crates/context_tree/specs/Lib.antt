@@ -1,0 +1,6 @@
+pub mod Profiles
+pub mod Counts
+pub mod Laws
+pub mod ChildLists
+pub mod NodeTables
+pub mod TreeViews

@@ -1,0 +1,18 @@
+//! The calling-context tree of a run, made from the events of probes.
+#![tactic(auto)]
+
+mod all_totals;
+mod children;
+mod laws;
+mod node;
+mod table;
+mod tree;
+
+pub use children::{ChildLists, Children};
+pub use laws::folds_to_counts;
+pub use node::Node;
+pub use table::NodeTable;
+pub use tree::Tree;
+
+#[cfg(test)]
+mod tests;

@@ -1,0 +1,40 @@
+-- Each method of a small class can be rewritten.
+use Rattle.std.proofs.Common.{◌≡◌, ℕ, zero, suc, ◌<◌, List, [], ◌∷◌, length, Some, subst}
+use Rattle.std.specs.Prelude.{slice_get}
+use Rattle.std.specs.List.{AllByRecursion}
+use Rattle.std.proofs.lemmas.Option.{same_Some, none-some}
+use Rattle.const_pool.specs.declared.pool.Const.{Const}
+use Rattle.const_pool.specs.declared.class.ClassFile.{ClassFile}
+use Rattle.const_pool.specs.declared.class.Member.{Member}
+use Rattle.const_pool.specs.declared.class.CodeAttribute.{CodeAttribute}
+use Rattle.const_pool.specs.declared.class.Attribute.{Attribute}
+use Rattle.const_pool.specs.declared.class.Attribute.TheVariants.{ConstantValue, Code, Other}
+use Rattle.const_pool.specs.ClassFile.{IsMember, IsMethodAttribute}
+use Rattle.const_pool.specs.Plain.{IsPlainCode, IsLoneCode}
+use Rattle.jvm_model.specs.Methods.{code_among}
+use Rattle.inject_events.specs.Instrumentable.{IsInstrumentable, AreRewritable}
+
+holds_at : {A : Type 0} (P : A → Type 0) (xs : List A) (k : ℕ) (x : A) → AllByRecursion P xs → slice_get xs k ≡ Some x → P x
+holds_at P [] k x all at = absurd (none-some x at)
+holds_at P (y ∷ ys) zero x all at = subst P (same_Some y x at) all.0
+holds_at P (y ∷ ys) (suc k) x all at = holds_at P ys k x all.1 at
+
+-- a code that stands alone is plain, and has a byte
+lone : (pool : List Const) (attributes : List Attribute) (code : CodeAttribute) → IsLoneCode attributes → AllByRecursion (IsMethodAttribute pool) attributes → code_among attributes ≡ Some code → IsPlainCode code × (0 < length code.code)
+lone pool (Code name old ∷ []) code plain formed coded = subst (λ (c : CodeAttribute). IsPlainCode c × (0 < length c.code)) (same_Some old code coded) (plain, formed.0.2.some)
+lone pool [] code plain formed coded = absurd plain
+lone pool (ConstantValue name index ∷ rest) code plain formed coded = absurd plain
+lone pool (Other raw ∷ rest) code plain formed coded = absurd plain
+lone pool (Code name old ∷ next ∷ rest) code plain formed coded = absurd plain
+
+pub AreRewritable-methods : (c : ClassFile) → IsInstrumentable c → AreRewritable c.methods
+AreRewritable-methods c is k m at =
+    let method = is.small.methods k m at in
+    let shape = holds_at (λ (m : Member). IsLoneCode m.attributes) c.methods k m is.plain.methods at in
+    let formed = holds_at (IsMember IsMethodAttribute c.pool) c.methods k m is.formed.methods at in
+    let code = lone c.pool m.attributes method.code shape formed.attributes method.coded in
+    record {
+      code = method.code;
+      coded = method.coded;
+      rewritable = record { some = code.1; plain = code.0; readable = record { reading = method.small.reading; reads = method.small.reads } };
+    }

@@ -1,0 +1,6 @@
+-- the copies so far
+use Rattle.std.proofs.Common.{◌≡◌, take}
+use Rattle.inject_events.proofs.copying.copy_members.Given as goal
+
+abbrev pub invariant-loop-member : goal.invariant-loop-member
+invariant-loop-member l = l.copies ≡ take l.member-index l.members

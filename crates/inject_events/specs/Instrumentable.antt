@@ -1,0 +1,35 @@
+-- What can be rewritten so far: a class file whose class is small, of the plain shape.
+use Rattle.std.specs.Prelude.{◌≡◌, ℕ, ◌<◌, List, length, Some, slice_get}
+use Rattle.const_pool.specs.declared.class.ClassFile.{ClassFile}
+use Rattle.const_pool.specs.declared.class.CodeAttribute.{CodeAttribute}
+use Rattle.const_pool.specs.declared.class.Member.{Member}
+use Rattle.const_pool.specs.ClassFile.{IsClassFile}
+use Rattle.const_pool.specs.Plain.{HasPlainShape, IsPlainCode}
+use Rattle.code_model.specs.declared.instr.Code.{Code}
+use Rattle.code_model.specs.Instructions.{IsReading}
+use Rattle.jvm_model.specs.Methods.{code_of}
+use Rattle.jvm_model.specs.SmallClass.{IsSmallClass}
+
+pub record IsInstrumentable (class : ClassFile) : Type 0 where
+  pub formed : IsClassFile class
+  pub plain : HasPlainShape class
+  pub small : IsSmallClass class
+
+-- the bytes are a code
+pub record IsReadable (bytes : List ℕ) : Type 0 where
+  pub reading : Code
+  pub reads : IsReading bytes reading
+
+-- a method whose code can be rewritten
+pub record IsRewritable (code : CodeAttribute) : Type 0 where
+  pub some : 0 < length code.code
+  pub plain : IsPlainCode code
+  pub readable : IsReadable code.code
+
+pub record HasRewritableCode (m : Member) : Type 0 where
+  pub code : CodeAttribute
+  pub coded : code_of m ≡ Some code
+  pub rewritable : IsRewritable code
+
+abbrev pub AreRewritable : List Member → Type 0
+AreRewritable methods = (k : ℕ) (m : Member) → slice_get methods k ≡ Some m → HasRewritableCode m

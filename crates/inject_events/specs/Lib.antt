@@ -1,0 +1,2 @@
+pub mod Instrumentable
+pub mod Probing

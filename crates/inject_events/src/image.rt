@@ -1,0 +1,121 @@
+//! The image of a class: its marked methods with their probes, and the pool tail that the probes name.
+
+ghost use Rattle.std.specs.Prelude.{◌≡◌, ◌≢◌, ◌≤◌, ℕ, List, length, map, None, Err, IfOk};
+ghost use Rattle.inject_events.specs.declared.error.Cause.{Cause as TheCause};
+ghost use Rattle.inject_events.specs.Instrumentable.{IsInstrumentable};
+ghost use Rattle.jvm_model.specs.Images.{IsImage, IsOriginal, IsRewritten};
+
+use crate::copying::{copy_attributes, copy_members};
+use crate::error::{Cause, InjectError};
+use crate::methods::{Methods, all_off, method_images};
+use code_model::Homes;
+use const_pool::{ClassFile, Member, Pool, TailError, append_tail, copy_pool};
+use jf_bytes::{NoMemory, Seq};
+use jvm_model::Mark;
+use std::alloc::Global;
+
+/// A rewritten class, and for each of its methods where the original offsets come to stand: none where the method is the
+/// original.
+#[derive(Debug, Drop)]
+pub struct Image {
+    pub class: ClassFile,
+    pub homes: Seq<Option<Homes>>,
+}
+
+/// The class with this pool and these methods.
+fn class_with(
+    alloc: Global,
+    class: &ClassFile,
+    pool: Pool,
+    methods: Seq<Member>,
+) -> Result<ClassFile, NoMemory>
+    ensures { IfOk result (λ new. new ≡ record class.now { pool = pool; methods = methods }) }
+{
+    Ok(ClassFile {
+        minor: class.minor,
+        major: class.major,
+        pool,
+        access: class.access,
+        this_class: class.this_class,
+        super_class: class.super_class,
+        interfaces: Seq::from_slice(alloc, class.interfaces.as_slice())?,
+        fields: copy_members(alloc, class.fields.as_slice())?,
+        methods,
+        attributes: copy_attributes(alloc, class.attributes.as_slice())?,
+    })
+}
+
+/// No homes, for so many methods.
+fn no_homes(alloc: Global, methods: &[Member]) -> Result<Seq<Option<Homes>>, NoMemory>
+    ensures { IfOk result (λ homes. homes ≡ map (λ m. None) methods.now) }
+{
+    let mut homes = Seq::with_capacity(alloc, methods.len())?;
+    for _method in methods {
+        homes.push(None)?;
+    }
+    Ok(homes)
+}
+
+/// The class itself.
+fn original(alloc: Global, class: &ClassFile) -> Result<Image, NoMemory>
+    ensures { IfOk result (λ image. IsOriginal class.now image.class image.homes) }
+{
+    let methods = class.methods.as_slice();
+    let pool = copy_pool(alloc, &class.pool)?;
+    let members = copy_members(alloc, methods)?;
+    Ok(Image {
+        class: class_with(alloc, class, pool, members)?,
+        homes: no_homes(alloc, methods)?,
+    })
+}
+
+/// The class with its marked methods rewritten. A small class's pool has room for the tail.
+fn rewritten(
+    alloc: Global,
+    class: &ClassFile,
+    first: u32,
+    marks: &[Mark],
+) -> Result<Image, NoMemory>
+    requires class { IsInstrumentable class.now }
+    requires first { first ≤ 2147418112 }
+    requires marks { length marks.now ≡ length class.now.methods }
+    ensures { IfOk result (λ image. IsRewritten class.now first marks.now image.class image.homes) }
+{
+    let tail = match append_tail(alloc, &class.pool) {
+        Ok(tail) => tail,
+        Err(TailError::NoMemory) => return Err(NoMemory),
+        Err(TailError::Full) => unreachable!(),
+    };
+    let Methods { members, homes } = method_images(
+        alloc,
+        &tail,
+        first,
+        marks,
+        class.methods.as_slice(),
+    )?;
+    Ok(Image {
+        class: class_with(alloc, class, tail.pool, members)?,
+        homes,
+    })
+}
+
+/// The image of a class for these marks, one for each method. `first` is the number of the class's first method that has
+/// Code. It is the class itself where no method is marked.
+pub fn instrument(
+    alloc: Global,
+    class: &ClassFile,
+    first: u32,
+    marks: &[Mark],
+) -> Result<Image, InjectError>
+    requires class { IsInstrumentable class.now }
+    requires first { first ≤ 2147418112 }
+    requires marks { length marks.now ≡ length class.now.methods }
+    ensures image { IfOk result (λ image. IsImage class.now first marks.now image.class image.homes) }
+    ensures profilable { (method : ℕ) (cause : TheCause) → result ≢ Err (InjectError.NotProfilable method cause) }
+{
+    if all_off(marks) {
+        Ok(original(alloc, class)?)
+    } else {
+        Ok(rewritten(alloc, class, first, marks)?)
+    }
+}

@@ -1,0 +1,167 @@
+//! The methods of a class in its image.
+
+ghost use Rattle.std.specs.Prelude.{◌≡◌, ◌<◌, ◌≤◌, ℕ, length, Some, IfOk};
+ghost use Rattle.std.specs.Option.{option_copied};
+ghost use Rattle.const_pool.specs.declared.class.CodeAttribute.{CodeAttribute as OldCode};
+ghost use Rattle.code_model.specs.declared.instr.Code.{Code as Reading};
+ghost use Rattle.code_model.specs.Instructions.{IsReading};
+ghost use Rattle.jvm_model.specs.Methods.{code_of};
+ghost use Rattle.jvm_model.specs.Images.{is_off, all_off, with_code_at, with_code, next_number, IsMemberImage, AreMemberImages};
+ghost use Rattle.inject_events.specs.Instrumentable.{HasRewritableCode, AreRewritable};
+ghost use Rattle.inject_events.specs.Probing.{IsTailBehind, version_with, image_with};
+
+use crate::copying::{copy_code, copy_member, copy_raw};
+use crate::probes::{Probes, probes_of};
+use crate::versions::{Version, make_version};
+use code_model::Homes;
+use const_pool::{Attribute, CodeAttribute, Member, Tail};
+use jf_bytes::{NoMemory, Seq};
+use jvm_model::Mark;
+use std::alloc::Global;
+
+/// Whether a method is the original.
+fn is_off(mark: Mark) -> bool
+    ensures { result ≡ is_off mark }
+{
+    match mark {
+        Mark::Off => true,
+        Mark::Plain | Mark::Root => false,
+    }
+}
+
+/// Whether each method is the original.
+pub fn all_off(marks: &[Mark]) -> bool
+    ensures { result ≡ all_off marks.now }
+{
+    marks.iter().all(|mark| is_off(*mark))
+}
+
+/// A method's code, where it has one.
+fn code_of(member: &Member) -> Option<&CodeAttribute>
+    ensures { option_copied result ≡ code_of member.now }
+{
+    for attribute in member.attributes.as_slice() {
+        if let Attribute::Code(_, code) = attribute {
+            return Some(code);
+        }
+    }
+    None
+}
+
+/// The number of the next method that has code, where this one would have this number.
+fn next_number(number: u32, member: &Member) -> u32
+    requires { number < 4294967295 }
+    ensures { result ≡ next_number number member.now }
+{
+    match code_of(member) {
+        Some(_code) => number + 1,
+        None => number,
+    }
+}
+
+/// An attribute of a method that gets this code.
+fn with_code_at(
+    alloc: Global,
+    code: &CodeAttribute,
+    attribute: &Attribute,
+) -> Result<Attribute, NoMemory>
+    ensures { IfOk result (λ new. new ≡ with_code_at code.now attribute.now) }
+{
+    match attribute {
+        Attribute::Code(name, _old) => Ok(Attribute::Code(*name, copy_code(alloc, code)?)),
+        Attribute::ConstantValue(name, index) => Ok(Attribute::ConstantValue(*name, *index)),
+        Attribute::Other(raw) => Ok(Attribute::Other(copy_raw(alloc, raw)?)),
+    }
+}
+
+/// A method with this code in place of its own.
+fn with_code(alloc: Global, code: &CodeAttribute, member: &Member) -> Result<Member, NoMemory>
+    ensures { IfOk result (λ new. new ≡ with_code code.now member.now) }
+{
+    let mut attributes = Seq::with_capacity(alloc, member.attributes.len())?;
+    for attribute in member.attributes.as_slice() {
+        attributes.push(with_code_at(alloc, code, attribute)?)?;
+    }
+    Ok(Member {
+        access: member.access,
+        name: member.name,
+        descriptor: member.descriptor,
+        attributes,
+    })
+}
+
+/// A method in the image, and where its original offsets come to stand, unless it is the original.
+#[derive(Debug, Drop)]
+pub struct MethodImage {
+    pub member: Member,
+    pub homes: Option<Homes>,
+}
+
+/// A method with these probes.
+fn marked_image(alloc: Global, probes: &Probes, member: &Member) -> Result<MethodImage, NoMemory>
+    requires { HasRewritableCode member.now }
+    ensures { IfOk result (λ image. (old : OldCode) (reading : Reading) → code_of member.now ≡ Some old → IsReading old.code reading → image ≡ image_with (version_with probes.now old reading.instrs) member.now) }
+{
+    let Some(old) = code_of(member) else {
+        unreachable!()
+    };
+    let Version { code, homes } = make_version(alloc, probes, old)?;
+    Ok(MethodImage {
+        member: with_code(alloc, &code, member)?,
+        homes: Some(homes),
+    })
+}
+
+/// The image of a method with this number and this mark.
+fn method_image(
+    alloc: Global,
+    tail: &Tail,
+    number: u32,
+    mark: Mark,
+    member: &Member,
+) -> Result<MethodImage, NoMemory>
+    requires { HasRewritableCode member.now }
+    ensures { IfOk result (λ image. (count : ℕ) → IsTailBehind count tail.now → IsMemberImage count number mark member.now image.member image.homes) }
+{
+    match mark {
+        Mark::Off => Ok(MethodImage {
+            member: copy_member(alloc, member)?,
+            homes: None,
+        }),
+        Mark::Plain | Mark::Root => marked_image(alloc, &probes_of(tail, number, mark), member),
+    }
+}
+
+/// The methods of an image, and the homes of each.
+#[derive(Debug, Drop)]
+pub struct Methods {
+    pub members: Seq<Member>,
+    pub homes: Seq<Option<Homes>>,
+}
+
+/// The images of methods, of which those that have code are numbered from `first` on.
+pub fn method_images(
+    alloc: Global,
+    tail: &Tail,
+    first: u32,
+    marks: &[Mark],
+    methods: &[Member],
+) -> Result<Methods, NoMemory>
+    requires rewritable { AreRewritable methods.now }
+    requires few { length methods.now ≤ 65535 }
+    requires first { first ≤ 2147418112 }
+    requires marks { length marks.now ≡ length methods.now }
+    ensures { IfOk result (λ images. (count : ℕ) → IsTailBehind count tail.now → AreMemberImages count first marks.now methods.now images.members images.homes) }
+{
+    let mut members = Seq::with_capacity(alloc, methods.len())?;
+    let mut homes = Seq::with_capacity(alloc, methods.len())?;
+    let mut number = first;
+    for (position, member) in methods.iter().enumerate() {
+        let mark = marks[position];
+        let image = method_image(alloc, tail, number, mark, member)?;
+        members.push(image.member)?;
+        homes.push(image.homes)?;
+        number = next_number(number, member);
+    }
+    Ok(Methods { members, homes })
+}

@@ -1,0 +1,78 @@
+//! The bytes of the probes (JVM Specification 6.5, athrow, invokestatic and sipush).
+
+ghost use Rattle.std.specs.Prelude.{◌≡◌, ℕ, [], ◌∷◌, ◌++◌};
+ghost use Rattle.jvm_model.specs.Versions.{probe_bytes, entry_index};
+ghost use Rattle.inject_events.specs.Probing.{IsTailBehind, probes_of};
+
+use const_pool::Tail;
+use jvm_model::Mark;
+
+const SIPUSH: u8 = 17;
+
+const INVOKESTATIC: u8 = 184;
+
+const ATHROW: u8 = 191;
+
+/// What a version has beside the original instructions.
+#[derive(Debug, Drop)]
+pub struct Probes {
+    /// At the entry.
+    pub entry: [u8; 6],
+    /// In front of each return.
+    pub leave: [u8; 6],
+    /// Behind the code: the unwind probe, and athrow.
+    pub unwind: [u8; 7],
+}
+
+/// A probe pushes the low sixteen bits of the method's number and invokes the method at this index.
+fn probe(number: u32, index: u16) -> [u8; 6]
+    ensures { result ≡ probe_bytes number index }
+{
+    let [_, _, number_high, number_low] = number.to_be_bytes();
+    let [index_high, index_low] = index.to_be_bytes();
+    [
+        SIPUSH,
+        number_high,
+        number_low,
+        INVOKESTATIC,
+        index_high,
+        index_low,
+    ]
+}
+
+/// The unwind probe at this index, and then the exception is thrown on.
+fn unwind(number: u32, index: u16) -> [u8; 7]
+    ensures { result ≡ probe_bytes number index ++ 191 ∷ [] }
+{
+    let [push, number_high, number_low, invoke, index_high, index_low] = probe(number, index);
+    [
+        push,
+        number_high,
+        number_low,
+        invoke,
+        index_high,
+        index_low,
+        ATHROW,
+    ]
+}
+
+/// Which method of the probe class is told at the entry.
+fn entry_index(tail: &Tail, mark: Mark) -> u16
+    ensures { (count : ℕ) → IsTailBehind count tail.now → result ≡ entry_index count mark }
+{
+    match mark {
+        Mark::Root => tail.root,
+        Mark::Plain | Mark::Off => tail.enter,
+    }
+}
+
+/// The probes of the method with this number.
+pub fn probes_of(tail: &Tail, number: u32, mark: Mark) -> Probes
+    ensures { (count : ℕ) → IsTailBehind count tail.now → result ≡ probes_of count number mark }
+{
+    Probes {
+        entry: probe(number, entry_index(tail, mark)),
+        leave: probe(number, tail.leave),
+        unwind: unwind(number, tail.unwind),
+    }
+}

@@ -1,0 +1,174 @@
+//! The probes of rewritten code.
+
+ghost use Rattle.std.specs.Prelude.{◌≡◌, ◌<◌, ◌^◌, length};
+ghost use Rattle.std.specs.Int.{w16, cast_unsigned};
+ghost use Rattle.const_pool.specs.Members.{reference_view};
+ghost use Rattle.jvm_model.specs.StandsFor.{probe_kind, invoked_kind, pushed_number};
+ghost use Rattle.jvm_machine.specs.TableEntries.{number_at, kind_at, placed_probe_in};
+
+use crate::lookup::{is_reference, method_at};
+use code_model::{Arg, instr_at};
+use const_pool::{ClassFile, MemberRef};
+use jvm_model::EventKind;
+
+/// The class whose methods the probes invoke.
+const PROBE_CLASS: &[u8] = b"jfluid/Probe";
+
+/// Their descriptor.
+const PROBE_DESCRIPTOR: &[u8] = b"(I)V";
+
+/// The opcode of sipush.
+const SIPUSH: u8 = 17;
+
+/// The opcode of invokestatic.
+const INVOKESTATIC: u8 = 184;
+
+/// A probe in a version: which one it is, the number that it pushes, and the place behind its six bytes.
+#[derive(Clone, Copy, Debug, PartialEq, Eq)]
+pub struct Probe {
+    pub kind: EventKind,
+    pub number: u32,
+    pub next: u16,
+}
+
+/// Which probe a method is.
+fn probe_kind(reference: &MemberRef<'_>) -> Option<EventKind>
+    ensures { result ≡ probe_kind (reference_view reference.now) }
+{
+    if is_reference(reference, PROBE_CLASS, b"root", PROBE_DESCRIPTOR) {
+        Some(EventKind::Root)
+    } else if is_reference(reference, PROBE_CLASS, b"enter", PROBE_DESCRIPTOR) {
+        Some(EventKind::Enter)
+    } else if is_reference(reference, PROBE_CLASS, b"leave", PROBE_DESCRIPTOR) {
+        Some(EventKind::Leave)
+    } else if is_reference(reference, PROBE_CLASS, b"unwind", PROBE_DESCRIPTOR) {
+        Some(EventKind::Unwind)
+    } else {
+        None
+    }
+}
+
+/// The kind of the probe that invokestatic of a pool entry invokes.
+fn invoked_kind(image: &ClassFile, op: u8, arg: &Arg) -> Option<EventKind>
+    ensures { result ≡ invoked_kind image.now op arg.now }
+{
+    let Arg::Pool(index) = arg else {
+        return None;
+    };
+    if op != INVOKESTATIC {
+        return None;
+    }
+    probe_kind(&method_at(&image.pool, *index)?)
+}
+
+/// The unsigned number of the same sixteen bits.
+fn unsigned_short(n: i32) -> u32
+    ensures { result ≡ cast_unsigned w16 n }
+{
+    if n < 0 {
+        65_536_u32.saturating_sub(n.unsigned_abs())
+    } else {
+        n.unsigned_abs()
+    }
+}
+
+/// The number that sipush pushes.
+fn pushed_number(op: u8, arg: &Arg) -> Option<u32>
+    ensures { result ≡ pushed_number op arg.now }
+{
+    let Arg::Value(n) = arg else {
+        return None;
+    };
+    if op != SIPUSH {
+        return None;
+    }
+    Some(unsigned_short(*n))
+}
+
+/// The number that is pushed at a place.
+fn number_at(code: &[u8], place: u16) -> Option<u32>
+    ensures { result ≡ number_at code.now place }
+{
+    let push = instr_at(code, place)?;
+    pushed_number(push.op, &push.arg)
+}
+
+/// The kind of the probe that is invoked at a place.
+fn kind_at(image: &ClassFile, code: &[u8], place: u16) -> Option<EventKind>
+    ensures { result ≡ kind_at image.now code.now place }
+{
+    let invoke = instr_at(code, place)?;
+    invoked_kind(image, invoke.op, &invoke.arg)
+}
+
+/// The probe at a place of a code.
+pub fn probe_in(image: &ClassFile, code: &[u8], place: u16) -> Option<Probe>
+    requires { length code.now < 2 ^ 16 }
+    ensures { result ≡ placed_probe_in image.now code.now place }
+{
+    let number = number_at(code, place)?;
+    let kind = kind_at(image, code, place + 3)?;
+    Some(Probe {
+        kind,
+        number,
+        next: place + 6,
+    })
+}
+
+#[cfg(test)]
+mod tests {
+    use super::{Probe, probe_in};
+    use const_pool::{ClassFile, Const, Pool};
+    use jf_bytes::{Seq, Text16};
+    use jvm_model::EventKind;
+    use std::alloc::Global;
+    use std::test::*;
+
+    /// sipush 258, invokestatic of entry 6, return.
+    const CODE: [u8; 7] = [17, 1, 2, 184, 0, 6, 177];
+
+    fn text(alloc: Global, text: &str) -> Result<Text16, Fail> {
+        Ok(Text16::new(text.bytes().map(u16::from).collect(alloc)?))
+    }
+
+    /// A class whose entry 6 is the method `leave(I)V` of this class.
+    fn image(alloc: Global, class: &str) -> Result<ClassFile, Fail> {
+        let entries = [
+            Const::Gap,
+            Const::Utf8(text(alloc, class)?),
+            Const::Class(1),
+            Const::Utf8(text(alloc, "leave")?),
+            Const::Utf8(text(alloc, "(I)V")?),
+            Const::NameType(3, 4),
+            Const::Method(2, 5),
+        ];
+        let pool = Pool::new(Vec::from_array(alloc, entries)?);
+        Ok(ClassFile {
+            minor: 0,
+            major: 50,
+            pool,
+            access: 0,
+            this_class: 2,
+            super_class: 2,
+            interfaces: Seq::new(alloc),
+            fields: Seq::new(alloc),
+            methods: Seq::new(alloc),
+            attributes: Seq::new(alloc),
+        })
+    }
+
+    #[test]
+    fn finds_a_probe(rt: HostRuntime) -> Result<(), Fail> {
+        let probe = Probe {
+            kind: EventKind::Leave,
+            number: 258,
+            next: 6,
+        };
+        let probes = image(rt.alloc(), "jfluid/Probe")?;
+        let others = image(rt.alloc(), "Probe")?;
+        assert_eq!(rt; probe_in(&probes, &CODE, 0), Some(probe));
+        assert_eq!(rt; probe_in(&probes, &CODE, 1), None);
+        assert_eq!(rt; probe_in(&others, &CODE, 0), None);
+        Ok(())
+    }
+}

@@ -1,0 +1,125 @@
+//! Looking up, once for each place of each version, what stands there.
+
+ghost use Rattle.std.specs.Prelude.{◌≡◌, ◌<◌, ◌^◌, length, IfOk};
+ghost use Rattle.code_model.specs.Instructions.{end_of};
+ghost use Rattle.jvm_model.specs.Lines.{line_of, code_line};
+ghost use Rattle.jvm_machine.specs.TableEntries.{origins_of, line_with, lines_of, probes_of, version_of, versions_of, HasShortCode, FitsVersions};
+
+use crate::lookup::operation_of;
+use crate::origins::origins_of;
+use crate::prepare::code_of;
+use crate::probes::{Probe, probe_in};
+use crate::tables::Version;
+use code_model::{Homes, Instr, instr_at};
+use const_pool::{ClassFile, Member};
+use jf_bytes::{NoMemory, Seq};
+use jvm_model::Line;
+use std::alloc::Global;
+
+/// What an instruction does, and where the next one begins.
+fn line_of(class: &ClassFile, instr: &Instr) -> Option<Line>
+    requires methods { length class.now.methods < 2 ^ 32 }
+    requires ends { end_of instr.now < 2 ^ 16 }
+    ensures { result ≡ line_of class.now instr.now }
+{
+    let operation = operation_of(class, instr)?;
+    Some(Line {
+        operation,
+        own: instr.at,
+        next: instr.next_offset(),
+    })
+}
+
+/// The line at an offset of a code.
+fn code_line(class: &ClassFile, code: &[u8], at: u16) -> Option<Line>
+    requires methods { length class.now.methods < 2 ^ 32 }
+    requires short { length code.now < 2 ^ 16 }
+    ensures { result ≡ code_line class.now code.now at }
+{
+    let instr = instr_at(code, at)?;
+    line_of(class, &instr)
+}
+
+/// The line at a place of a version, where an instruction of the original stands there.
+fn line_with(image: &ClassFile, code: &[u8], place: u16, origin: Option<u16>) -> Option<Line>
+    requires methods { length image.now.methods < 2 ^ 32 }
+    requires short { length code.now < 2 ^ 16 }
+    ensures { result ≡ line_with image.now code.now place origin }
+{
+    let own = origin?;
+    let mut line = code_line(image, code, place)?;
+    line.own = own;
+    Some(line)
+}
+
+/// The lines of a version, one for each place.
+fn lines_of(
+    alloc: Global,
+    image: &ClassFile,
+    homes: &Option<Homes>,
+    code: &[u8],
+) -> Result<Seq<Option<Line>>, NoMemory>
+    requires methods { length image.now.methods < 2 ^ 32 }
+    requires short { length code.now < 2 ^ 16 }
+    ensures { IfOk result (λ lines. lines ≡ lines_of image.now homes.now code.now) }
+{
+    let origins = origins_of(alloc, homes, code.len())?;
+    let mut lines = Seq::with_capacity(alloc, code.len())?;
+    for place in 0..code.len() as u16 {
+        let origin = origins.as_slice()[place as usize];
+        lines.push(line_with(image, code, place, origin))?;
+    }
+    Ok(lines)
+}
+
+/// The probes of a version, one for each place.
+fn probes_of(alloc: Global, image: &ClassFile, code: &[u8]) -> Result<Seq<Option<Probe>>, NoMemory>
+    requires { length code.now < 2 ^ 16 }
+    ensures { IfOk result (λ probes. probes ≡ probes_of image.now code.now) }
+{
+    let mut probes = Seq::with_capacity(alloc, code.len())?;
+    for place in 0..code.len() as u16 {
+        probes.push(probe_in(image, code, place))?;
+    }
+    Ok(probes)
+}
+
+/// Prepares a version.
+fn prepare_version(
+    alloc: Global,
+    image: &ClassFile,
+    homes: &Option<Homes>,
+    member: &Member,
+) -> Result<Version, NoMemory>
+    requires methods { length image.now.methods < 2 ^ 32 }
+    requires short { HasShortCode member.now }
+    ensures { IfOk result (λ version. version ≡ version_of image.now homes.now member.now) }
+{
+    let Some(code) = code_of(member) else {
+        return Ok(Version {
+            lines: Seq::new(alloc),
+            probes: Seq::new(alloc),
+        });
+    };
+    let code = code.code.as_slice();
+    Ok(Version {
+        lines: lines_of(alloc, image, homes, code)?,
+        probes: probes_of(alloc, image, code)?,
+    })
+}
+
+/// Prepares the version of each method of an image, in order.
+pub fn prepare_versions(
+    alloc: Global,
+    image: &ClassFile,
+    homes: &[Option<Homes>],
+) -> Result<Seq<Version>, NoMemory>
+    requires { FitsVersions image.now homes.now }
+    ensures { IfOk result (λ versions. versions ≡ versions_of image.now homes.now image.now.methods) }
+{
+    let mut versions = Seq::with_capacity(alloc, homes.len())?;
+    for (i, member) in image.methods.as_slice().iter().enumerate() {
+        versions.push(prepare_version(alloc, image, &homes[i], member)?)?;
+    }
+    Ok(versions)
+}

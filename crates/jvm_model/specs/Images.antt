@@ -1,0 +1,76 @@
+-- The image of a class: the class with the versions of its marked methods, and nothing else changed.
+use Rattle.std.specs.Prelude.{◌≡◌, ℕ, ◌+◌, Bool, true, false, List, [], ◌∷◌, length, map, Option, Some, None, is_some, MatchBool, if◌then◌else◌}
+use Rattle.std.specs.List.{list_all}
+use Rattle.const_pool.specs.declared.class.ClassFile.{ClassFile}
+use Rattle.const_pool.specs.declared.class.Member.{Member}
+use Rattle.const_pool.specs.declared.class.CodeAttribute.{CodeAttribute}
+use Rattle.const_pool.specs.declared.class.Attribute.{Attribute}
+use Rattle.const_pool.specs.declared.class.Attribute.TheVariants.{ConstantValue, Code, Other}
+use Rattle.const_pool.specs.Tail.{with_tail}
+use Rattle.code_model.specs.declared.laying.Homes.{Homes}
+use Rattle.jvm_model.specs.declared.event.Mark.{Mark}
+use Rattle.jvm_model.specs.declared.event.Mark.TheVariants.{Off, Plain, Root}
+use Rattle.jvm_model.specs.Methods.{code_of}
+use Rattle.jvm_model.specs.Versions.{IsVersion}
+
+-- ---- marks
+
+abbrev pub is_off : Mark → Bool
+is_off Off = true
+is_off Plain = false
+is_off Root = false
+
+abbrev pub all_off : List Mark → Bool
+all_off marks = list_all is_off marks
+
+-- ---- one method
+
+-- a method's attributes with this Code in place of its own
+abbrev pub with_code_at : CodeAttribute → Attribute → Attribute
+with_code_at code (Code name old) = Code name code
+with_code_at code (ConstantValue name index) = ConstantValue name index
+with_code_at code (Other raw) = Other raw
+
+abbrev pub with_code : CodeAttribute → Member → Member
+with_code code m = record m { attributes = map (with_code_at code) m.attributes }
+
+-- a marked method with its version
+pub record IsMarkedMember (count number : ℕ) (mark : Mark) (old new : Member) (homes : Homes) : Type 0 where
+  pub before : CodeAttribute
+  pub after : CodeAttribute
+  pub coded : code_of old ≡ Some before
+  pub version : IsVersion count number mark before after homes
+  pub replaced : new ≡ with_code after old
+
+-- a method in the image: the original where its mark is Off
+abbrev pub IsMemberImage : ℕ → ℕ → Mark → Member → Member → Option Homes → Type 0
+IsMemberImage count number Off old new homes = (new ≡ old) × (homes ≡ None)
+IsMemberImage count number Plain old new homes = (moved : Homes) × IsMarkedMember count number Plain old new moved × (homes ≡ Some moved)
+IsMemberImage count number Root old new homes = (moved : Homes) × IsMarkedMember count number Root old new moved × (homes ≡ Some moved)
+
+-- ---- all methods
+
+-- methods that have Code are numbered in class order
+abbrev pub next_number : ℕ → Member → ℕ
+next_number number m = if is_some (code_of m) then number + 1 else number
+
+-- each method with its mark, from this number on
+abbrev pub AreMemberImages : ℕ → ℕ → List Mark → List Member → List Member → List (Option Homes) → Type 0
+AreMemberImages count number [] [] [] [] = Unit {0}
+AreMemberImages count number (mark ∷ marks) (old ∷ olds) (new ∷ news) (h ∷ homes) =
+    IsMemberImage count number mark old new h × AreMemberImages count (next_number number old) marks olds news homes
+AreMemberImages count number _ _ _ _ = ⊥
+
+-- where at least one method is marked, the pool has its tail
+pub record IsRewritten (class : ClassFile) (first : ℕ) (marks : List Mark) (image : ClassFile) (homes : List (Option Homes)) : Type 0 where
+  pub methods : AreMemberImages (length class.pool) first marks class.methods image.methods homes
+  pub rest : image ≡ record class { pool = with_tail class.pool; methods = image.methods }
+
+-- where none is, it is the original class
+pub record IsOriginal (class : ClassFile) (image : ClassFile) (homes : List (Option Homes)) : Type 0 where
+  pub class_stays : image ≡ class
+  pub unmoved : homes ≡ map (λ m. None) class.methods
+
+-- the image of the class for these marks, whose first method with Code has this number
+abbrev pub IsImage : ClassFile → ℕ → List Mark → ClassFile → List (Option Homes) → Type 0
+IsImage class first marks image homes = MatchBool (all_off marks) (IsOriginal class image homes) (IsRewritten class first marks image homes)

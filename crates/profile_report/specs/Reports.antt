@@ -1,0 +1,74 @@
+-- The text of the report: the ending, the steps, the swaps and the tree.
+use Rattle.std.specs.Prelude.{ℕ, zero, suc, ◌+◌, ◌-◌, Bool, List, [], ◌∷◌, ◌++◌, length, replicate, filter, sum_by, Option, Some, None, codes, unwrap_or, slice_get, if◌then◌else◌}
+use Rattle.std.specs.Option.{option_map_or}
+use Rattle.std.specs.List.{flat_map}
+use Rattle.std.specs.Fmt.{decimal, signed_decimal}
+use Rattle.const_pool.specs.declared.class.ClassFile.{ClassFile}
+use Rattle.const_pool.specs.References.{named_text, named_class}
+use Rattle.const_pool.specs.BuiltIn.{built_in_names}
+use Rattle.context_tree.specs.Profiles.{is_child, last_method, total_of}
+use Rattle.jvm_model.specs.Paths.{Context}
+use Rattle.jvm_model.specs.declared.ending.Ending.{Ending}
+use Rattle.jvm_model.specs.declared.ending.Ending.TheVariants.{Returned, Exited, Uncaught, Unverifiable}
+use Rattle.profile_report.specs.Shown.{shown}
+
+-- ---- names
+
+-- the class with this number: the program's own class, then the built-in ones
+abbrev pub class_text : ClassFile → ℕ → List ℕ
+class_text c zero = shown (named_class c.pool c.this_class)
+class_text c (suc k) = unwrap_or (slice_get built_in_names k) []
+
+-- class, dot, name, descriptor
+abbrev pub method_text : ClassFile → ℕ → List ℕ
+method_text c method =
+    shown (named_class c.pool c.this_class) ++ (codes "." ++ (
+    option_map_or (λ m. shown (named_text c.pool m.name)) (slice_get c.methods method) []
+    ++ option_map_or (λ m. shown (named_text c.pool m.descriptor)) (slice_get c.methods method) []))
+
+-- ---- the ending
+
+-- how the run ended, or that the budget was spent
+abbrev pub ending_text : ClassFile → Option Ending → List ℕ
+ending_text c None = codes "budget"
+ending_text c (Some Returned) = codes "returned"
+ending_text c (Some (Exited code)) = codes "exit " ++ signed_decimal code
+ending_text c (Some (Uncaught class)) = codes "uncaught " ++ class_text c class
+ending_text c (Some (Unverifiable method offset)) = codes "unverifiable " ++ (method_text c method ++ (codes " " ++ decimal offset))
+
+-- ---- the tree, depth first
+
+-- the contexts one method below a path, in order of first begin
+abbrev pub below : List Context → List ℕ → List Context
+below contexts path = filter (is_child path) contexts
+
+-- Each context below a path with those below it, so many levels deep. No path is longer than there are contexts, since
+-- each of its fronts is the path of one.
+abbrev pub listed : ℕ → List Context → List ℕ → List Context
+listed zero contexts path = []
+listed (suc levels) contexts path = flat_map (λ (c : Context). c ∷ listed levels contexts c.path) (below contexts path)
+
+-- two spaces for each level below the outermost, then CALLS OWN TOTAL METHOD
+abbrev pub line_text : ClassFile → ℕ → ℕ → ℕ → ℕ → ℕ → List ℕ
+line_text class level calls own total method =
+    replicate (level + level) 32 ++ (decimal calls ++ (codes " " ++ (decimal own ++ (codes " " ++ (decimal total ++ (codes " " ++ (method_text class method ++ codes "\n")))))))
+
+-- the line of a context: an outermost path has one method, and so the level 0
+abbrev pub context_line : ClassFile → List Context → Context → List ℕ
+context_line class contexts c = line_text class (length c.path - 1) c.calls c.own (total_of c.path contexts) (last_method c.path)
+
+abbrev pub tree_text : ClassFile → List Context → List ℕ
+tree_text class contexts = codes "tree\n" ++ flat_map (context_line class contexts) (listed (length contexts) contexts [])
+
+-- in place of the tree: how many contexts it has, and the sums of calls and of own steps
+abbrev pub summary_text : List Context → List ℕ
+summary_text contexts =
+    codes "contexts " ++ (decimal (length contexts) ++ (codes "\ncalls " ++ (decimal (sum_by (λ (c : Context). c.calls) contexts)
+    ++ (codes "\nown " ++ (decimal (sum_by (λ (c : Context). c.own) contexts) ++ codes "\n")))))
+
+-- ---- the whole
+
+abbrev pub report_text : ClassFile → Option Ending → ℕ → ℕ → Bool → List Context → List ℕ
+report_text class ending steps swaps summary contexts =
+    codes "ending " ++ (ending_text class ending ++ (codes "\nsteps " ++ (decimal steps ++ (codes "\nswaps " ++ (decimal swaps ++ (codes "\n"
+    ++ (if summary then summary_text contexts else tree_text class contexts)))))))

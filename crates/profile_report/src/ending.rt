@@ -1,0 +1,84 @@
+//! How a run ended.
+
+ghost use Rattle.std.specs.Prelude.{◌≡◌, ◌++◌, codes, OnOk};
+ghost use Rattle.std.specs.Fmt.{decimal, signed_decimal};
+ghost use Rattle.profile_report.specs.Reports.{class_text, ending_text, method_text};
+
+use crate::names::{push_class, push_method};
+use crate::numbers::{push_int, push_number};
+use const_pool::ClassFile;
+use jf_bytes::NoMemory;
+use jvm_model::Ending;
+use std::alloc::Global;
+
+/// Adds the exit code of System.exit.
+fn push_exit(out: &mut Vec<u8>, code: i32) -> Result<(), NoMemory>
+    ensures { OnOk result (out.new.items ≡ out.old.items ++ (codes "exit " ++ signed_decimal code)) }
+{
+    out.extend_from_slice(b"exit ")?;
+    push_int(out, code)
+}
+
+/// Adds the class of a throwable that was caught by nothing.
+fn push_uncaught(
+    alloc: Global,
+    out: &mut Vec<u8>,
+    class: &ClassFile,
+    number: u32,
+) -> Result<(), NoMemory>
+    ensures { OnOk result (out.new.items ≡ out.old.items ++ (codes "uncaught " ++ class_text class.now number)) }
+{
+    out.extend_from_slice(b"uncaught ")?;
+    push_class(alloc, out, class, number)
+}
+
+/// Adds a place in the code: the method and the offset.
+fn push_place(
+    alloc: Global,
+    out: &mut Vec<u8>,
+    class: &ClassFile,
+    method: u32,
+    offset: u16,
+) -> Result<(), NoMemory>
+    ensures { OnOk result (out.new.items ≡ out.old.items ++ (method_text class.now method ++ (codes " " ++ decimal offset))) }
+{
+    push_method(alloc, out, class, method)?;
+    out.push(b' ')?;
+    push_number(out, u64::from(offset))?;
+    Ok(())
+}
+
+/// Adds the place of an unverifiable instruction.
+fn push_unverifiable(
+    alloc: Global,
+    out: &mut Vec<u8>,
+    class: &ClassFile,
+    method: u32,
+    offset: u16,
+) -> Result<(), NoMemory>
+    ensures { OnOk result (out.new.items ≡ out.old.items ++ (codes "unverifiable " ++ (method_text class.now method ++ (codes " " ++ decimal offset)))) }
+{
+    out.extend_from_slice(b"unverifiable ")?;
+    push_place(alloc, out, class, method, offset)
+}
+
+/// Adds how a run ended, or that its budget was spent.
+pub fn push_ending(
+    alloc: Global,
+    out: &mut Vec<u8>,
+    class: &ClassFile,
+    ending: Option<Ending>,
+) -> Result<(), NoMemory>
+    ensures { OnOk result (out.new.items ≡ out.old.items ++ ending_text class.now ending) }
+{
+    match ending {
+        None => out.extend_from_slice(b"budget")?,
+        Some(Ending::Returned) => out.extend_from_slice(b"returned")?,
+        Some(Ending::Exited(code)) => push_exit(out, code)?,
+        Some(Ending::Uncaught(number)) => push_uncaught(alloc, out, class, number)?,
+        Some(Ending::Unverifiable(method, offset)) => {
+            push_unverifiable(alloc, out, class, method, offset)?;
+        }
+    }
+    Ok(())
+}

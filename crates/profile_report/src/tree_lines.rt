@@ -1,0 +1,116 @@
+//! The tree's lines, depth first.
+
+ghost use Rattle.std.specs.Prelude.{◌≡◌, ◌<◌, ◌-◌, ◌+◌, ◌++◌, codes, length, replicate, OnOk, IfSome};
+ghost use Rattle.std.specs.Fmt.{decimal};
+ghost use Rattle.context_tree.specs.Profiles.{totals_of};
+ghost use Rattle.profile_report.specs.Nodes.{lines_below, node_line};
+ghost use Rattle.profile_report.specs.Reports.{line_text, tree_text};
+
+use crate::names::push_method;
+use crate::numbers::push_number;
+use const_pool::ClassFile;
+use context_tree::{Node, Tree};
+use jf_bytes::NoMemory;
+use std::alloc::Global;
+
+/// Adds two spaces for each level.
+fn push_indent(out: &mut Vec<u8>, level: usize) -> Result<(), NoMemory>
+    ensures { OnOk result (out.new.items ≡ out.old.items ++ replicate (level + level) 32) }
+{
+    for _ in 0..level {
+        out.extend_from_slice(b"  ")?;
+    }
+    Ok(())
+}
+
+/// Adds three counts, each with a space behind it.
+fn push_counts(out: &mut Vec<u8>, calls: u64, own: u64, total: u64) -> Result<(), NoMemory>
+    ensures { OnOk result (out.new.items ≡ out.old.items ++ (decimal calls ++ (codes " " ++ (decimal own ++ (codes " " ++ (decimal total ++ codes " ")))))) }
+{
+    push_number(out, calls)?;
+    out.push(b' ')?;
+    push_number(out, own)?;
+    out.push(b' ')?;
+    push_number(out, total)?;
+    out.push(b' ')?;
+    Ok(())
+}
+
+/// Adds a node's line.
+fn push_line(
+    alloc: Global,
+    out: &mut Vec<u8>,
+    class: &ClassFile,
+    level: usize,
+    node: Node,
+    total: u64,
+) -> Result<(), NoMemory>
+    ensures { OnOk result (out.new.items ≡ out.old.items ++ line_text class.now level node.calls node.own total node.method) }
+{
+    push_indent(out, level)?;
+    push_counts(out, node.calls, node.own, total)?;
+    push_method(alloc, out, class, node.method)?;
+    out.push(b'\n')?;
+    Ok(())
+}
+
+/// Adds the line of the node with this number.
+fn push_node(
+    alloc: Global,
+    out: &mut Vec<u8>,
+    class: &ClassFile,
+    tree: &Tree,
+    totals: &[u64],
+    level: usize,
+    number: usize,
+) -> Result<(), NoMemory>
+    requires within { number < length tree.now.contexts }
+    requires totals { totals.now ≡ totals_of tree.now }
+    ensures { OnOk result (out.new.items ≡ out.old.items ++ node_line class.now tree.now.contexts level number) }
+{
+    let node = tree.nodes()[number];
+    push_line(alloc, out, class, level, node, totals[number])
+}
+
+/// Adds the lines of all nodes below one, each before those below it. The first are at this level.
+fn push_below(
+    alloc: Global,
+    out: &mut Vec<u8>,
+    class: &ClassFile,
+    tree: &Tree,
+    totals: &[u64],
+    level: usize,
+    node: Option<usize>,
+) -> Result<(), NoMemory>
+    requires within { IfSome node (λ i. i < length tree.now.contexts) }
+    requires totals { totals.now ≡ totals_of tree.now }
+    ensures { OnOk result (out.new.items ≡ out.old.items ++ lines_below class.now tree.now.contexts (length tree.now.contexts - level) level node) }
+{
+    // No path is longer than there are nodes, and so no node is deeper.
+    let count = tree.nodes().len();
+    if level >= count {
+        return Ok(());
+    }
+    let mut place = 0;
+    while let Some(child) = tree.child(node, place) {
+        push_node(alloc, out, class, tree, totals, level, child)?;
+        push_below(alloc, out, class, tree, totals, level + 1, Some(child))?;
+        place += 1;
+    }
+    Ok(())
+}
+
+/// Adds the tree: a line for each node, depth first.
+pub fn push_tree(
+    alloc: Global,
+    out: &mut Vec<u8>,
+    class: &ClassFile,
+    tree: &Tree,
+) -> Result<(), NoMemory>
+    ensures { OnOk result (out.new.items ≡ out.old.items ++ tree_text class.now tree.now.contexts) }
+{
+    let totals = tree.totals(alloc)?;
+    out.extend_from_slice(b"tree\n")?;
+    push_below(alloc, out, class, tree, totals.as_slice(), 0, None)?;
+    Ok(())
+}

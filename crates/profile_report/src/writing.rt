@@ -1,0 +1,55 @@
+//! The whole report.
+
+ghost use Rattle.std.specs.Prelude.{◌≡◌, ◌++◌, codes, IfOk, OnOk};
+ghost use Rattle.std.specs.Fmt.{decimal};
+ghost use Rattle.profile_report.specs.Reports.{ending_text, report_text};
+
+use crate::ending::push_ending;
+use crate::facts::Facts;
+use crate::numbers::push_number;
+use crate::summary::push_summary;
+use crate::tree_lines::push_tree;
+use const_pool::ClassFile;
+use context_tree::Tree;
+use jf_bytes::NoMemory;
+use std::alloc::Global;
+
+/// Adds the lines of the ending, of the steps and of the swaps.
+fn push_facts(
+    alloc: Global,
+    out: &mut Vec<u8>,
+    facts: &Facts,
+    class: &ClassFile,
+) -> Result<(), NoMemory>
+    ensures { OnOk result (out.new.items ≡ out.old.items ++ (codes "ending " ++ (ending_text class.now facts.now.ending ++ (codes "\nsteps " ++ (decimal facts.now.steps ++ (codes "\nswaps " ++ (decimal facts.now.swaps ++ codes "\n"))))))) }
+{
+    out.extend_from_slice(b"ending ")?;
+    push_ending(alloc, out, class, facts.ending)?;
+    out.extend_from_slice(b"\nsteps ")?;
+    push_number(out, facts.steps)?;
+    out.extend_from_slice(b"\nswaps ")?;
+    push_number(out, facts.swaps)?;
+    out.push(b'\n')?;
+    Ok(())
+}
+
+/// The report's text: a line each for the ending, the steps and the swaps, and then the tree or, for a summary, its sums.
+/// The numbers in the ending and in the tree are those of the class; for a number that is none of its methods a line has the
+/// class and the dot alone.
+pub fn report(
+    alloc: Global,
+    facts: &Facts,
+    tree: &Tree,
+    class: &ClassFile,
+) -> Result<Vec<u8>, NoMemory>
+    ensures { IfOk result (λ text. text.items ≡ report_text class.now facts.now.ending facts.now.steps facts.now.swaps facts.now.summary tree.now.contexts) }
+{
+    let mut out = Vec::new(alloc);
+    push_facts(alloc, &mut out, facts, class)?;
+    if facts.summary {
+        push_summary(&mut out, tree)?;
+    } else {
+        push_tree(alloc, &mut out, class, tree)?;
+    }
+    Ok(out)
+}
