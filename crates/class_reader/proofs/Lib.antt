@@ -1,9 +1,0 @@
-pub mod Many
-pub mod Items
-pub mod Widths
-pub mod Texts
-pub mod Entries
-pub mod Pools
-pub mod Codes
-pub mod Members
-pub mod Files

@@ -1,2 +1,4 @@
-pub mod Plain
+pub mod Formats
+pub mod ClassFormat
+pub mod Files
 pub mod Reading

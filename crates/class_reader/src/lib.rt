@@ -1,15 +1,13 @@
 //! Reads a class file (JVM Specification 4).
 #![tactic(auto)]
 
-mod constants;
 mod error;
-mod heading;
-mod methods;
+mod handlers;
 mod numbers;
 mod reader;
+mod tags;
 
 pub use error::ReadError;
+pub use handlers::handler_of;
 pub use reader::read_class;
-
-#[cfg(test)]
-mod tests;
+pub use tags::find_tag;
