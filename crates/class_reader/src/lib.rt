@@ -2,12 +2,10 @@
 #![tactic(auto)]
 
 mod error;
-mod handlers;
 mod numbers;
 mod reader;
 mod tags;
 
 pub use error::ReadError;
-pub use handlers::handler_of;
 pub use reader::read_class;
 pub use tags::find_tag;

@@ -2,7 +2,8 @@
 
 ghost use Rattle.std.specs.Prelude.{◌≡◌, ◌-◌, length};
 ghost use Rattle.std.specs.Int.{w8, w16, w32};
-ghost use Rattle.class_reader.specs.Reading.{Gives, number_at, place};
+ghost use Rattle.class_reader.specs.Reading.{Gives, number_at};
+ghost use Rattle.class_reader.specs.Formats.{place};
 
 use crate::error::ReadError;
 use byteorder::{BigEndian, ByteOrder};
