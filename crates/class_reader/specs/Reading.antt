@@ -1,6 +1,6 @@
 -- Reading a class file from left to right: the item at the front of the bytes and the bytes after it, or the first fault.
 -- Only functions of this crate cite it; what the readers owe their callers is in Files.
-use Rattle.std.specs.Prelude.{◌≡◌, ◌≢◌, ℕ, zero, suc, ◌-◌, Bool, true, false, not, ◌&&◌, ◌||◌, List, [], ◌∷◌, length, take, drop, Option, Some, None, Result, Ok, Err, nat_lt, nat_le, is_none, unwrap_or, ◌==◌, if◌then◌else◌}
+use Rattle.std.specs.Prelude.{◌≡◌, ◌≢◌, ℕ, zero, suc, ◌-◌, Bool, true, false, not, ◌&&◌, ◌||◌, List, [], ◌∷◌, ◌++◌, length, take, drop, Option, Some, None, Result, Ok, Err, nat_lt, nat_le, is_none, unwrap_or, ◌==◌, if◌then◌else◌}
 use Rattle.std.specs.Int.{Width, w8, w16, w32, w64, byte_len, from_be_bytes, cast_signed}
 use Rattle.const_pool.specs.declared.pool.Const.{Const}
 use Rattle.const_pool.specs.declared.pool.Const.TheVariants.{Gap, Utf8, Integer, Float, Long, Double, Class, Text, Field, Method, InterfaceMethod, NameType}
@@ -78,10 +78,13 @@ sized_at limit bytes = do
   run_at len.0 limit len.1
 
 -- What was read of contents must be the whole of them. Where they end early or go on, their length is at fault.
+abbrev pub fault_within : ℕ → ReadError → ReadError
+fault_within at (Truncated short) = BadLength at
+fault_within at fault = fault
+
 abbrev pub whole_of : {A : Type 0} → ℕ → Read A → Result A ReadError
 whole_of at (Ok x) = if length x.1 == 0 then Ok x.0 else Err (BadLength at)
-whole_of at (Err (Truncated short)) = Err (BadLength at)
-whole_of at (Err e) = Err e
+whole_of at (Err fault) = Err (fault_within at fault)
 
 unfoldable pub enclosed_at : {A : Type 0} → (ℕ → List ℕ → Read A) → ℕ → List ℕ → Read A
 enclosed_at item limit bytes = do
@@ -136,6 +139,14 @@ unfoldable pub entry_at : ℕ → List ℕ → Read Const
 entry_at limit bytes = do
   t ← tag_at limit bytes
   contents_at t.0 limit t.1
+
+-- what was read before, and what is still read
+abbrev pub with_front : {A : Type 0} → List A → Read (List A) → Read (List A)
+with_front front read = read >>= λ x. Ok (front ++ x.0, x.1)
+
+-- an entry, with a gap behind it where it takes two indices and the second is there
+abbrev pub gapped : Const → Bool → List Const
+gapped c has_room = if is_wide c && has_room then c ∷ Gap ∷ [] else c ∷ []
 
 -- the entries of so many indices
 unfoldable pub entries_at : ℕ → ℕ → List ℕ → Read (List Const)

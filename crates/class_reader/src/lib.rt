@@ -1,11 +1,17 @@
 //! Reads a class file (JVM Specification 4).
 #![tactic(auto)]
 
+mod attributes;
+mod code;
+mod constants;
 mod error;
+mod lists;
+mod members;
 mod numbers;
+mod pool;
 mod reader;
+mod references;
 mod tags;
 
 pub use error::ReadError;
 pub use reader::read_class;
-pub use tags::find_tag;

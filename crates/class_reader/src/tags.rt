@@ -5,7 +5,7 @@ ghost use Rattle.class_reader.specs.ClassFormat.{tag_of};
 
 /// What an entry of the constant pool is.
 #[derive(Clone, Copy, Debug)]
-pub enum Tag {
+pub(crate) enum Tag {
     Utf8,
     Integer,
     Float,
@@ -20,7 +20,7 @@ pub enum Tag {
 }
 
 /// The tag with this number, where there is one in the versions that are read.
-pub fn find_tag(number: u8) -> Option<Tag>
+pub(crate) fn find_tag(number: u8) -> Option<Tag>
     ensures { result ≡ tag_of number }
 {
     match number {

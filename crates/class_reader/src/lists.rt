@@ -1,0 +1,59 @@
+//! Items one after the other, behind their count.
+
+ghost use Rattle.std.specs.Prelude.{◌≡◌};
+ghost use Rattle.class_reader.specs.Reading.{Gives, many_at, counted_at};
+
+use crate::error::ReadError;
+use crate::numbers::u16_of;
+use jf_bytes::Seq;
+use std::alloc::Global;
+
+/// Reads one item from the front of bytes, which end at the offset `limit`.
+pub(crate) trait ReadItem<T> {
+    ghost use Rattle.std.specs.Prelude.{ℕ, List};
+    ghost use Rattle.class_reader.specs.Reading.{Read};
+
+    ghost item: { Self → ℕ → List ℕ → Read T };
+
+    fn read<'a>(
+        &self,
+        alloc: Global,
+        limit: usize,
+        bytes: &'a [u8],
+    ) -> Result<(T, &'a [u8]), ReadError>
+        ensures { Gives (λ x. (x.0, x.1.now)) result (item self.now limit bytes.now) };
+}
+
+/// So many items.
+fn many_of<'a, T: Drop, R: ReadItem<T>>(
+    reader: &R,
+    alloc: Global,
+    count: u16,
+    limit: usize,
+    bytes: &'a [u8],
+) -> Result<(Seq<T>, &'a [u8]), ReadError>
+    ensures { Gives (λ x. (x.0, x.1.now)) result (many_at (R.item reader.now) count limit bytes.now) }
+{
+    let mut items = Seq::new(alloc);
+    let mut rest = bytes;
+    for _ in 0..count {
+        let (item, after) = reader.read(alloc, limit, rest)?;
+        items.push(item)?;
+        rest = after;
+    }
+    Ok((items, rest))
+}
+
+/// The items behind their count.
+#[tactic(auto, unfolding(crate::specs::Reading::counted_at))]
+pub(crate) fn counted_of<'a, T: Drop, R: ReadItem<T>>(
+    reader: &R,
+    alloc: Global,
+    limit: usize,
+    bytes: &'a [u8],
+) -> Result<(Seq<T>, &'a [u8]), ReadError>
+    ensures { Gives (λ x. (x.0, x.1.now)) result (counted_at (R.item reader.now) limit bytes.now) }
+{
+    let (count, rest) = u16_of(limit, bytes)?;
+    many_of(reader, alloc, count, limit, rest)
+}
