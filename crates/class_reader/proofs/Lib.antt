@@ -1,2 +1,4 @@
 pub mod Decoded
 pub mod Items
+pub mod Turns
+pub mod Widths
