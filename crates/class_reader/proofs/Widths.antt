@@ -1,4 +1,4 @@
--- Reading numbers of a width, runs of bytes, and texts.
+-- Reading numbers of a width, and runs of bytes.
 use Rattle.std.proofs.Common.{◌≡◌, ℕ, ◌*◌, ◌%◌, ◌^◌, ◌<◌, ◌≤◌, ◌⊎◌, inl, inr, Bool, true, false, cond, ltb, List, [], ◌∷◌, ◌++◌, length, take, drop, Result, Ok, Err, refl, sym, ap, subst, ◌∙◌, arith}
 use Rattle.std.specs.List.{AllByRecursion}
 use Rattle.std.specs.Int.{Width, w8, w16, w32, w64, byte_len, from_be_bytes, to_be_bytes}
@@ -176,19 +176,25 @@ module _ (len : ℕ) where
         rest_fits = subst IsBytes cut.2 (IsBytes-drop len bytes fits);
       }
 
-  run_again : (limit : ℕ) (front rest : List ℕ) → length front ≡ len → run_at len limit (front ++ rest) ≡ Ok (front, rest)
+  -- the parts of what was taken
+  pub run_takes_parts : (limit : ℕ) (bytes x rest : List ℕ) → run_at len limit bytes ≡ Ok (x, rest)
+      → (len ≤ length bytes) × (take len bytes ≡ x) × (drop len bytes ≡ rest)
+  unfolding run_at
+  run_takes_parts limit bytes x rest e = cut_takes len itself limit bytes x rest e
+
+  pub run_again : (limit : ℕ) (front rest : List ℕ) → length front ≡ len → run_at len limit (front ++ rest) ≡ Ok (front, rest)
   unfolding run_at
   run_again limit front rest e = cut_again len itself limit front rest e
 
-  run_whole : (limit : ℕ) (bytes : List ℕ) → len ≤ length bytes → run_at len limit bytes ≡ Ok (take len bytes, drop len bytes)
+  pub run_whole : (limit : ℕ) (bytes : List ℕ) → len ≤ length bytes → run_at len limit bytes ≡ Ok (take len bytes, drop len bytes)
   unfolding run_at
   run_whole limit bytes within = cut_whole len itself limit bytes within
 
-  run_faults : (limit : ℕ) (bytes : List ℕ) (fault : ReadError) → run_at len limit bytes ≡ Err fault → IsCut len limit bytes fault
+  pub run_faults : (limit : ℕ) (bytes : List ℕ) (fault : ReadError) → run_at len limit bytes ≡ Err fault → IsCut len limit bytes fault
   unfolding run_at
   run_faults limit bytes fault e = cut_faults len itself limit bytes fault e
 
-  run_stops : (limit : ℕ) (bytes : List ℕ) (fault : ReadError) → IsCut len limit bytes fault → run_at len limit bytes ≡ Err fault
+  pub run_stops : (limit : ℕ) (bytes : List ℕ) (fault : ReadError) → IsCut len limit bytes fault → run_at len limit bytes ≡ Err fault
   unfolding run_at
   run_stops limit bytes fault h = cut_stops len itself limit bytes fault h
 
