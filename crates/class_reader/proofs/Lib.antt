@@ -5,3 +5,6 @@ pub mod Widths
 pub mod Texts
 pub mod Conditions
 pub mod Enclosed
+pub mod Entries
+pub mod Attributes
+pub mod Classes
