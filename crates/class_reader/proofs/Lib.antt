@@ -8,3 +8,4 @@ pub mod Enclosed
 pub mod Entries
 pub mod Attributes
 pub mod Classes
+pub mod Files
