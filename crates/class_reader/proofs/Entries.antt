@@ -1,5 +1,5 @@
 -- Reading the constant pool.
-use Rattle.std.proofs.Common.{◌≡◌, ℕ, zero, suc, ◌-◌, Bool, true, false, cond, not, eqb, List, [], ◌∷◌, Option, Some, None, is_none, unwrap_or, Result, Ok, Err, refl}
+use Rattle.std.proofs.Common.{◌≡◌, ℕ, zero, suc, ◌-◌, Bool, cond, not, eqb, List, [], ◌∷◌, Option, Some, None, is_none, unwrap_or, Ok, Err, refl}
 use Rattle.std.specs.Int.{Width, w8, w16, w32, w64, cast_signed}
 use Rattle.const_pool.specs.declared.pool.Const.{Const}
 use Rattle.const_pool.specs.declared.pool.Const.TheVariants.{Gap, Utf8, Integer, Float, Long, Double, Class, Text, Field, Method, InterfaceMethod, NameType}
@@ -8,36 +8,40 @@ use Rattle.class_reader.specs.declared.tags.Tag.{Tag}
 use Rattle.class_reader.specs.declared.tags.Tag.TheVariants as tag
 use Rattle.class_reader.specs.declared.error.ReadError.{ReadError}
 use Rattle.class_reader.specs.declared.error.ReadError.TheVariants.{BadTag, BadIndex}
-use Rattle.class_reader.specs.Formats.{Format, place, number, made, in_turn, kept_where, converted, tested, either}
+use Rattle.class_reader.specs.Formats.{place, number, made, in_turn, kept_where, converted}
 use Rattle.class_reader.specs.ClassFormat.{tag_of, lowest_bad}
 use Rattle.class_reader.specs.ClassFormat as format
 use Rattle.class_reader.specs.Reading.{◌>>=◌, Read, number_at, known_tag, tag_at, pair_at, single_at, utf8_at, contents_at, entry_at, entries_at, all_entries_at, sound_pool, pool_at}
 use Rattle.class_reader.proofs.Items.{IsRead, same_read}
-use Rattle.class_reader.proofs.Turns.{made_at, next, made_is_read, in_turn_is_read}
+use Rattle.class_reader.proofs.Turns.{made_is_read, in_turn_is_read}
 use Rattle.class_reader.proofs.Widths.{u1_is_read, u2_is_read, u4_is_read, u8_is_read}
 use Rattle.class_reader.proofs.Texts.{text_is_read}
-use Rattle.class_reader.proofs.Conditions.{made_or, converted_at, converted_is_read, tested_is_read, either_is_read}
+use Rattle.class_reader.proofs.Conditions.{made_or, then_made, converted_at, converted_is_read, tested_is_read, either_is_read}
 
 -- ---- tags
 
 abbrev bad_tag : ℕ → ℕ → ReadError
 bad_tag at n = BadTag at
 
-as_known : (limit at : ℕ) (rest : List ℕ) (found : Option Tag) → known_tag limit at rest found ≡ made_or (BadTag at) rest found
+as_known : (limit at : ℕ) (rest : List ℕ) (found : Option Tag)
+    → known_tag limit at rest found ≡ made_or (BadTag at) rest found
 as_known limit at rest (Some t) = refl
 as_known limit at rest None = refl
 
 behind_tag : (limit at : ℕ) (read : Read ℕ)
-    → (read >>= λ n. known_tag limit at n.1 (tag_of n.0)) ≡ (read >>= λ n. made_or (BadTag at) n.1 (tag_of n.0))
+    → (read >>= λ n. known_tag limit at n.1 (tag_of n.0)) ≡ then_made tag_of bad_tag at read
 behind_tag limit at (Ok n) = as_known limit at n.1 (tag_of n.0)
 behind_tag limit at (Err fault) = refl
 
-tag_is_converted : (limit : ℕ) (bytes : List ℕ) → tag_at limit bytes ≡ converted_at (number_at w8) tag_of bad_tag limit bytes
+tag_is_converted : (limit : ℕ) (bytes : List ℕ)
+    → tag_at limit bytes ≡ converted_at (number_at w8) tag_of bad_tag limit bytes
 unfolding tag_at
 tag_is_converted limit bytes = behind_tag limit (place limit bytes) (number_at w8 limit bytes)
 
 tag_is_read : IsRead tag_at (converted (number w8) tag_of bad_tag)
-tag_is_read = same_read _ _ _ tag_is_converted (converted_is_read (number_at w8) (number w8) tag_of bad_tag u1_is_read)
+tag_is_read =
+    let read = converted_is_read (number_at w8) (number w8) tag_of bad_tag u1_is_read in
+    same_read _ _ _ tag_is_converted read
 
 -- ---- entries
 
@@ -48,11 +52,14 @@ single_is_read w make law = in_turn_is_read law (λ n. made_is_read (make n))
 
 pair_is_read : (make : ℕ → ℕ → Const) → IsRead (pair_at make) (format.pair make)
 unfolding pair_at
-pair_is_read make = in_turn_is_read u2_is_read (λ a. in_turn_is_read u2_is_read (λ b. made_is_read (make a b)))
+pair_is_read make =
+    in_turn_is_read u2_is_read (λ a. in_turn_is_read u2_is_read (λ b. made_is_read (make a b)))
 
 utf8_is_read : IsRead utf8_at (format.contents tag.Utf8)
 unfolding utf8_at
-utf8_is_read = in_turn_is_read u2_is_read (λ len. in_turn_is_read (text_is_read len) (λ units. made_is_read (Utf8 units)))
+utf8_is_read =
+    in_turn_is_read u2_is_read (λ len. in_turn_is_read (text_is_read len) (λ units.
+    made_is_read (Utf8 units)))
 
 contents_is_read : (t : Tag) → IsRead (contents_at t) (format.contents t)
 unfolding contents_at
@@ -95,18 +102,24 @@ abbrev bad_pool : ℕ → List Const → ReadError
 bad_pool at pool = BadIndex (unwrap_or (lowest_bad pool) 0)
 
 as_sound : (rest : List ℕ) (pool : List Const) (bad : Option ℕ)
-    → sound_pool rest pool bad ≡ made_or (BadIndex (unwrap_or bad 0)) rest (cond (is_none bad) (Some pool) None)
+    → sound_pool rest pool bad
+      ≡ made_or (BadIndex (unwrap_or bad 0)) rest (cond (is_none bad) (Some pool) None)
 as_sound rest pool None = refl
 as_sound rest pool (Some i) = refl
 
 behind_pool : (at : ℕ) (read : Read (List Const))
-    → (read >>= λ p. sound_pool p.1 p.0 (lowest_bad p.0)) ≡ (read >>= λ p. made_or (bad_pool at p.0) p.1 (kept_where is_sound p.0))
+    → (read >>= λ p. sound_pool p.1 p.0 (lowest_bad p.0))
+      ≡ then_made (kept_where is_sound) bad_pool at read
 behind_pool at (Ok p) = as_sound p.1 p.0 (lowest_bad p.0)
 behind_pool at (Err fault) = refl
 
-pool_is_tested : (limit : ℕ) (bytes : List ℕ) → pool_at limit bytes ≡ converted_at all_entries_at (kept_where is_sound) bad_pool limit bytes
+pool_is_tested : (limit : ℕ) (bytes : List ℕ)
+    → pool_at limit bytes ≡ converted_at all_entries_at (kept_where is_sound) bad_pool limit bytes
 unfolding pool_at
 pool_is_tested limit bytes = behind_pool (place limit bytes) (all_entries_at limit bytes)
 
 pub pool_is_read : IsRead pool_at format.constant_pool
-pool_is_read = same_read _ _ _ pool_is_tested (converted_is_read all_entries_at format.all_entries (kept_where is_sound) bad_pool all_entries_is_read)
+pool_is_read =
+    same_read _ _ _ pool_is_tested
+        (converted_is_read all_entries_at format.all_entries (kept_where is_sound) bad_pool
+            all_entries_is_read)
