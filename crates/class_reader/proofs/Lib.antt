@@ -3,3 +3,12 @@ pub mod Items
 pub mod TextAnswers
 pub mod Many
 pub mod EntryLists
+pub mod Turns
+pub mod Widths
+pub mod Texts
+pub mod Conditions
+pub mod Enclosed
+pub mod Entries
+pub mod Attributes
+pub mod Classes
+pub mod Files
