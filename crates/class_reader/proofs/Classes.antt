@@ -14,7 +14,7 @@ use Rattle.class_reader.proofs.Turns.{made_is_read, in_turn_is_read}
 use Rattle.class_reader.proofs.Widths.{u2_is_read, u4_is_read}
 use Rattle.class_reader.proofs.Conditions.{tested_is_read}
 use Rattle.class_reader.proofs.Entries.{pool_is_read}
-use Rattle.class_reader.proofs.Attributes.{counted_is_read, ref_is_read, optional_ref_is_read, field_attribute_is_read, method_attribute_is_read, class_attribute_is_read}
+use Rattle.class_reader.proofs.AttributeLaws.{counted_is_read, ref_is_read, optional_ref_is_read, field_attribute_is_read, method_attribute_is_read, class_attribute_is_read}
 
 member_is_read : {attribute : ℕ → List ℕ → Read Attribute} {P : Format Attribute}
     → IsRead attribute P → (pool : List Const)

@@ -9,6 +9,6 @@ pub mod Texts
 pub mod Conditions
 pub mod Enclosed
 pub mod Entries
-pub mod Attributes
+pub mod AttributeLaws
 pub mod Classes
 pub mod Files

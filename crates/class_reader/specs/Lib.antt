@@ -3,3 +3,4 @@ pub mod Formats
 pub mod ClassFormat
 pub mod Files
 pub mod Reading
+pub mod Views

@@ -5,6 +5,7 @@ mod attributes;
 mod code;
 mod constants;
 mod error;
+mod heading;
 mod lists;
 mod members;
 mod numbers;
@@ -14,4 +15,4 @@ mod references;
 mod tags;
 
 pub use error::ReadError;
-pub use reader::read_class;
+pub use reader::{read_class, read_image};

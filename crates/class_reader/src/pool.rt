@@ -1,6 +1,6 @@
 //! The constant pool (JVM Specification 4.4).
 
-ghost use Rattle.std.specs.Prelude.{◌≡◌, ◌+◌, ◌-◌, ◌<◌, ◌^◌, ◌++◌, ◌∷◌, [], length, nat_lt, not, ◌==◌, IfOk, IfErr, OnOk, IsTrue};
+ghost use Rattle.std.specs.Prelude.{◌≡◌, ◌+◌, ◌-◌, ◌<◌, ◌≤◌, ◌^◌, ◌++◌, ◌∷◌, [], length, nat_lt, not, ◌==◌, IfOk, IfErr, IfSome, OnOk, IsTrue};
 ghost use Rattle.std.specs.Int.{w16};
 ghost use Rattle.const_pool.specs.Pool.{is_wide as is_wide_of, has_gaps};
 ghost use Rattle.const_pool.specs.declared.pool.Const.TheVariants.{Gap};
@@ -25,7 +25,8 @@ fn is_wide(entry: &Const) -> bool
 /// The constant_pool_count, which is not 0.
 #[tactic(auto, unfolding(crate::specs::Reading::tested_at))]
 fn count_of(limit: usize, bytes: &[u8]) -> Result<(u16, &[u8]), ReadError>
-    ensures { Gives (λ x. (x.0, x.1.now)) result (tested_at w16 (λ n. not (n == 0)) (λ at n. BadIndex 0) limit bytes.now) }
+    ensures count { Gives (λ x. (x.0, x.1.now)) result (tested_at w16 (λ n. not (n == 0)) (λ at n. BadIndex 0) limit bytes.now) }
+    ensures some { IfOk result (λ x. 0 < x.0) }
 {
     let (count, rest) = u16_of(limit, bytes)?;
     if count == 0 {
@@ -38,6 +39,7 @@ fn count_of(limit: usize, bytes: &[u8]) -> Result<(u16, &[u8]), ReadError>
 fn push_entry(entries: &mut Vec<Const>, entry: Const, count: usize) -> Result<(), ReadError>
     requires { length entries.old.items < count }
     ensures pushed { OnOk result (entries.new.items ≡ entries.old.items ++ gapped entry (nat_lt (length entries.old.items + 1) count)) }
+    ensures within { OnOk result (length entries.new.items ≤ count) }
     ensures memory { IfErr result (λ e. e ≡ ReadError.NoMemory) }
 {
     let has_gap = is_wide(&entry) && entries.len() + 1 < count;
@@ -55,7 +57,9 @@ fn entries_of(
     limit: usize,
     bytes: &[u8],
 ) -> Result<(Vec<Const>, &[u8]), ReadError>
-    ensures { Gives (λ x. (x.0.items, x.1.now)) result (with_front (Gap ∷ []) (entries_at (count - 1) limit bytes.now)) }
+    requires some { 0 < count }
+    ensures entries { Gives (λ x. (x.0.items, x.1.now)) result (with_front (Gap ∷ []) (entries_at (count - 1) limit bytes.now)) }
+    ensures within { IfOk result (λ x. length x.0.items ≤ count) }
 {
     let mut entries = Vec::new(alloc);
     entries.push(Const::Gap)?;
@@ -75,7 +79,8 @@ fn all_entries_of(
     limit: usize,
     bytes: &[u8],
 ) -> Result<(Vec<Const>, &[u8]), ReadError>
-    ensures { Gives (λ x. (x.0.items, x.1.now)) result (all_entries_at limit bytes.now) }
+    ensures entries { Gives (λ x. (x.0.items, x.1.now)) result (all_entries_at limit bytes.now) }
+    ensures within { IfOk result (λ x. length x.0.items < 2 ^ 16) }
 {
     let (count, rest) = count_of(limit, bytes)?;
     entries_of(alloc, count, limit, rest)
@@ -101,7 +106,8 @@ fn fits(pool: &[Const], entry: &Const) -> bool
 
 /// The lowest entry with an index that is out of range or names another kind, or that takes two indices and stands last.
 fn lowest_bad_of(pool: &[Const]) -> Option<usize>
-    ensures { result ≡ lowest_bad pool.now }
+    ensures lowest { result ≡ lowest_bad pool.now }
+    ensures within { IfSome result (λ index. index < length pool.now) }
 {
     for (index, entry) in pool.iter().enumerate() {
         let is_last = index + 1 == pool.len();
