@@ -1,3 +1,4 @@
 pub mod Decoded
 pub mod Items
 pub mod BridgeParts
+pub mod BridgeEntries
