@@ -1,13 +1,13 @@
 -- What a format spells, said by a function: its texts are the bytes of the values that fit. Single items, items one after the
 -- other, and contents with their length.
-use Rattle.std.proofs.Common.{◌≡◌, ℕ, zero, suc, ◌*◌, ◌^◌, ◌<◌, ◌≤◌, Bool, true, false, cond, List, [], ◌∷◌, ◌++◌, length, Option, Some, None, flat_map, refl, sym, ap, subst, ◌∙◌, append-nil, append_assoc, arith}
+use Rattle.std.proofs.Common.{◌≡◌, ℕ, zero, suc, ◌*◌, ◌^◌, ◌<◌, ◌≤◌, Bool, true, false, cond, List, [], ◌∷◌, ◌++◌, length, Option, Some, None, flat_map, refl, sym, ap, subst, ◌∙◌, ◌⊎◌, inl, inr, append-nil, arith}
 use Rattle.std.specs.List.{AllByRecursion}
 use Rattle.std.specs.Int.{Width, w8, w16, w32, w64, byte_len, to_be_bytes}
 use Rattle.const_pool.specs.Pool.{u2, u4}
 use Rattle.const_pool.specs.ClassFile.{IsByte, IsU2, FitsCount}
 use Rattle.const_pool.specs.ClassFile as file
 use Rattle.class_reader.specs.declared.error.ReadError.{ReadError}
-use Rattle.class_reader.specs.Formats.{Format, number, run, made, in_turn, AreInTurn, many, converted, IsConverted, kept_where, tested, sized, enclosed}
+use Rattle.class_reader.specs.Formats.{Format, number, run, made, in_turn, AreInTurn, many, converted, IsConverted, kept_where, tested, either, sized, enclosed}
 use Rattle.class_reader.specs.ClassFormat.{counted}
 
 -- The texts of the format are the bytes of the values that fit.
@@ -54,6 +54,20 @@ opened {bytes = bytes} law s =
     record { x = s.x; fits = h.1; rest = s.rest; parts = s.parts ∙ ap (λ (t : List ℕ). t ++ s.rest) h.0; second = s.second }
 
 -- a text of one format, from whose value the whole is made
+pub record Ended {A B : Type 0} (P : Format A) (f : A → B) (text : List ℕ) (y : B) : Type 0 where
+  pub x : A
+  pub spelled : P.Spells text x
+  pub is : f x ≡ y
+
+pub ended : {A B : Type 0} {P : Format A} {f : A → B} {text : List ℕ} {y : B} → AreInTurn P (λ x. made (f x)) text y → Ended P f text y
+ended {P = P} {text = text} s =
+    let whole : text ≡ s.front = s.parts ∙ ap (λ (t : List ℕ). s.front ++ t) s.second.1 ∙ append-nil s.front in
+    record { x = s.x; spelled = subst (λ (t : List ℕ). P.Spells t s.x) (sym whole) s.first; is = sym s.second.0 }
+
+pub ends : {A B : Type 0} (P : Format A) (f : A → B) (text : List ℕ) (x : A) → P.Spells text x → AreInTurn P (λ x. made (f x)) text (f x)
+ends P f text x s = record { front = text; rest = []; parts = sym (append-nil text); x = x; first = s; second = (refl, refl) }
+
+-- the same, where the first format is said by a function
 pub record Closed {A B : Type 0} (bytes : A → List ℕ) (Fits : A → Type 0) (f : A → B) (text : List ℕ) (y : B) : Type 0 where
   pub x : A
   pub fits : Fits x
@@ -62,9 +76,10 @@ pub record Closed {A B : Type 0} (bytes : A → List ℕ) (Fits : A → Type 0) 
 
 pub closed : {A B : Type 0} {P : Format A} {f : A → B} {bytes : A → List ℕ} {Fits : A → Type 0} → IsSpelledBy P bytes Fits
     → {text : List ℕ} {y : B} → AreInTurn P (λ x. made (f x)) text y → Closed bytes Fits f text y
-closed law s =
-    let h = law.to s.front s.x s.first in
-    record { x = s.x; fits = h.1; spelled = s.parts ∙ ap (λ (t : List ℕ). s.front ++ t) s.second.1 ∙ append-nil s.front ∙ h.0; is = sym s.second.0 }
+closed law {text = text} s =
+    let e = ended s in
+    let h = law.to text e.x e.spelled in
+    record { x = e.x; fits = h.1; spelled = h.0; is = e.is }
 
 pub behind : (text front rest more : List ℕ) → text ≡ front ++ rest → rest ≡ more → text ≡ front ++ more
 behind text front rest more e h = e ∙ ap (λ (t : List ℕ). front ++ t) h
@@ -75,7 +90,7 @@ turn {bytes = bytes} law Q x fits {rest = rest} s = record { front = bytes x; re
 
 pub end_turn : {A B : Type 0} {P : Format A} {bytes : A → List ℕ} {Fits : A → Type 0} → IsSpelledBy P bytes Fits → (f : A → B)
     → (x : A) → Fits x → AreInTurn P (λ x. made (f x)) (bytes x) (f x)
-end_turn {bytes = bytes} law f x fits = record { front = bytes x; rest = []; parts = sym (append-nil (bytes x)); x = x; first = law.from x fits; second = (refl, refl) }
+end_turn {P = P} {bytes = bytes} law f x fits = ends P f (bytes x) x (law.from x fits)
 
 -- ---- so many
 
@@ -84,11 +99,10 @@ module _ {A : Type 0} {P : Format A} {bytes : A → List ℕ} {Fits : A → Type
   many_to zero text xs s = subst (λ (ys : List A). (text ≡ flat_map bytes ys) × (length ys ≡ zero) × AllByRecursion Fits ys) (sym s.0) (s.1, refl, tt)
   many_to (suc n) text xs s =
       let a = opened law s in
-      let b = a.second in
-      let h = many_to n b.front b.x b.first in
-      let others : a.rest ≡ flat_map bytes b.x = b.parts ∙ ap (λ (t : List ℕ). b.front ++ t) b.second.1 ∙ append-nil b.front ∙ h.0 in
-      subst (λ (ys : List A). (text ≡ flat_map bytes ys) × (length ys ≡ suc n) × AllByRecursion Fits ys) (sym b.second.0)
-      (behind text (bytes a.x) a.rest (flat_map bytes b.x) a.parts others, ap suc h.1, (a.fits, h.2))
+      let b = ended a.second in
+      let h = many_to n a.rest b.x b.spelled in
+      subst (λ (ys : List A). (text ≡ flat_map bytes ys) × (length ys ≡ suc n) × AllByRecursion Fits ys) b.is
+      (behind text (bytes a.x) a.rest (flat_map bytes b.x) a.parts h.0, ap suc h.1, (a.fits, h.2))
 
   many_from : (n : ℕ) (xs : List A) → length xs ≡ n → AllByRecursion Fits xs → (many P n).Spells (flat_map bytes xs) xs
   many_from zero [] len h = (refl, refl)
@@ -96,8 +110,7 @@ module _ {A : Type 0} {P : Format A} {bytes : A → List ℕ} {Fits : A → Type
   many_from (suc n) [] len h = absurd (omega (arith, len))
   many_from (suc n) (x ∷ xs) len h =
       let others = many_from n xs (omega (arith, len)) h.1 in
-      turn law (λ x. in_turn (many P n) (λ xs. made (x ∷ xs))) x h.0
-      (record { front = flat_map bytes xs; rest = []; parts = sym (append-nil (flat_map bytes xs)); x = xs; first = others; second = (refl, refl) })
+      turn law (λ x. in_turn (many P n) (λ xs. made (x ∷ xs))) x h.0 (ends (many P n) (λ xs. x ∷ xs) (flat_map bytes xs) xs others)
 
   pub many_law : (n : ℕ) → IsSpelledBy (many P n) (flat_map bytes) (λ xs. (length xs ≡ n) × AllByRecursion Fits xs)
   many_law n = record { «to» = λ text xs s. let h = many_to n text xs s in (h.0, (h.1, h.2)); «from» = λ xs h. many_from n xs h.0 h.1 }
@@ -122,20 +135,33 @@ kept_from true x e = refl
 kept_from false x e = absurd cc
 
 -- what is tested is spelled as before, and passes
-pub tested_to : {A : Type 0} (P : Format A) (test : A → Bool) (why : ℕ → A → ReadError) (text : List ℕ) (y : A) → (tested P test why).Spells text y → P.Spells text y × (test y ≡ true)
-tested_to P test why text y s =
+pub tested_to : {A : Type 0} (P : Format A) (test : A → Bool) (text : List ℕ) (y : A) → IsConverted P (kept_where test) text y → P.Spells text y × (test y ≡ true)
+tested_to P test text y s =
     let h = kept_is test (test s.x) s.x y refl s.made in
     subst (λ (z : _). P.Spells text z × (test z ≡ true)) h.0 (s.spelled, h.1)
 
-pub tested_from : {A : Type 0} (P : Format A) (test : A → Bool) (why : ℕ → A → ReadError) (text : List ℕ) (y : A) → P.Spells text y → test y ≡ true → (tested P test why).Spells text y
-tested_from P test why text y s e = record { x = y; spelled = s; made = kept_from (test y) y e }
+pub tested_from : {A : Type 0} (P : Format A) (test : A → Bool) (text : List ℕ) (y : A) → P.Spells text y → test y ≡ true → IsConverted P (kept_where test) text y
+tested_from P test text y s e = record { x = y; spelled = s; made = kept_from (test y) y e }
 
 pub tested_law : {A : Type 0} {P : Format A} {bytes : A → List ℕ} {Fits : A → Type 0} → IsSpelledBy P bytes Fits → (test : A → Bool) (why : ℕ → A → ReadError)
     → IsSpelledBy (tested P test why) bytes (λ x. Fits x × (test x ≡ true))
 tested_law {P = P} {bytes = bytes} law test why = record {
-  «to» = λ text x s. let t = tested_to P test why text x s in let h = law.to text x t.0 in (h.0, (h.1, t.1));
-  «from» = λ x h. tested_from P test why (bytes x) x (law.from x h.0) h.1;
+  «to» = λ text x s. let t = tested_to P test text x s in let h = law.to text x t.0 in (h.0, (h.1, t.1));
+  «from» = λ x h. tested_from P test (bytes x) x (law.from x h.0) h.1;
 }
+
+-- the one format or the other
+pub either_cases : {A : Type 0} (b : Bool) (P Q : Format A) (text : List ℕ) (y : A) → (either b P Q).Spells text y → ((b ≡ true) × P.Spells text y) ⊎ ((b ≡ false) × Q.Spells text y)
+either_cases true P Q text y s = inl (refl, s)
+either_cases false P Q text y s = inr (refl, s)
+
+pub either_true : {A : Type 0} (b : Bool) (P Q : Format A) (text : List ℕ) (y : A) → b ≡ true → P.Spells text y → (either b P Q).Spells text y
+either_true true P Q text y e s = s
+either_true false P Q text y e s = absurd cc
+
+pub either_false : {A : Type 0} (b : Bool) (P Q : Format A) (text : List ℕ) (y : A) → b ≡ false → Q.Spells text y → (either b P Q).Spells text y
+either_false true P Q text y e s = absurd cc
+either_false false P Q text y e s = s
 
 -- ---- contents with their length
 
