@@ -193,17 +193,28 @@ enclosed_law {bytes = bytes} law = record {
 
 -- ---- bytes
 
-pub all_append : {A : Type 0} (P : A → Type 0) (xs ys : List A) → AllByRecursion P xs → AllByRecursion P ys → AllByRecursion P (xs ++ ys)
-all_append P [] ys h k = k
-all_append P (x ∷ xs) ys h k = (h.0, all_append P xs ys h.1 k)
+pub record AreBytes (bytes : List ℕ) : Type 0 where
+  pub each : AllByRecursion IsByte bytes
 
-pub all_flat_map : {A : Type 0} (bytes : A → List ℕ) (Fits : A → Type 0) → ((x : A) → Fits x → AllByRecursion IsByte (bytes x)) → (xs : List A) → AllByRecursion Fits xs
-    → AllByRecursion IsByte (flat_map bytes xs)
-all_flat_map bytes Fits each [] h = tt
-all_flat_map bytes Fits each (x ∷ xs) h = all_append IsByte (bytes x) (flat_map bytes xs) (each x h.0) (all_flat_map bytes Fits each xs h.1)
+all_append : (xs ys : List ℕ) → AllByRecursion IsByte xs → AllByRecursion IsByte ys → AllByRecursion IsByte (xs ++ ys)
+all_append [] ys h k = k
+all_append (x ∷ xs) ys h k = (h.0, all_append xs ys h.1 k)
 
-pub u2_bytes : (n : ℕ) → AllByRecursion IsByte (u2 n)
-u2_bytes n = (omega arith, (omega arith, tt))
+pub bytes_then : (xs : List ℕ) {ys : List ℕ} → AllByRecursion IsByte xs → AreBytes ys → AreBytes (xs ++ ys)
+bytes_then xs {ys = ys} h k = record { each = all_append xs ys h k.each }
 
-pub u4_bytes : (n : ℕ) → AllByRecursion IsByte (u4 n)
-u4_bytes n = (omega arith, (omega arith, (omega arith, (omega arith, tt))))
+pub u2_bytes : (n : ℕ) → AreBytes (u2 n)
+u2_bytes n = record { each = (omega arith, (omega arith, tt)) }
+
+pub u2_then : (n : ℕ) {ys : List ℕ} → AreBytes ys → AreBytes (u2 n ++ ys)
+u2_then n k = bytes_then (u2 n) (u2_bytes n).each k
+
+pub u4_then : (n : ℕ) {ys : List ℕ} → AreBytes ys → AreBytes (u4 n ++ ys)
+u4_then n k = bytes_then (u4 n) (omega arith, (omega arith, (omega arith, (omega arith, tt)))) k
+
+all_flat_map : {A : Type 0} (bytes : A → List ℕ) (Fits : A → Type 0) → ((x : A) → Fits x → AreBytes (bytes x)) → (xs : List A) → AllByRecursion Fits xs → AllByRecursion IsByte (flat_map bytes xs)
+all_flat_map bytes Fits one [] h = tt
+all_flat_map bytes Fits one (x ∷ xs) h = all_append (bytes x) (flat_map bytes xs) (one x h.0).each (all_flat_map bytes Fits one xs h.1)
+
+pub counted_bytes : {A : Type 0} (bytes : A → List ℕ) (Fits : A → Type 0) → ((x : A) → Fits x → AreBytes (bytes x)) → (xs : List A) → AllByRecursion Fits xs → AreBytes (file.counted bytes xs)
+counted_bytes bytes Fits one xs h = u2_then (length xs) (record { each = all_flat_map bytes Fits one xs h })
