@@ -4,3 +4,4 @@ pub mod BridgeParts
 pub mod BridgeEntries
 pub mod BridgePool
 pub mod BridgeAttributes
+pub mod Bridge
