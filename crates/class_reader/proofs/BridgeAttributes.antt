@@ -1,5 +1,5 @@
 -- Attributes and their parts: both descriptions spell them with the same bytes, and ask the same of them.
-use Rattle.std.proofs.Common.{◌≡◌, ◌≢◌, ℕ, zero, suc, ◌^◌, ◌<◌, ◌≤◌, ◌⊎◌, inl, inr, Bool, true, false, ◌&&◌, ◌||◌, ◌==◌, nat_lt, List, [], ◌∷◌, ◌++◌, length, Option, Some, None, ok_or, option_and_then, flat_map, bytes_eq, slice_get, refl, sym, ap, subst, ◌∙◌, arith}
+use Rattle.std.proofs.Common.{◌≡◌, ◌≢◌, ℕ, ◌^◌, ◌<◌, ◌⊎◌, inl, inr, Bool, true, false, ◌&&◌, ◌||◌, ◌==◌, nat_lt, List, ◌++◌, length, Option, Some, None, ok_or, option_and_then, bytes_eq, slice_get, refl, sym, ap, subst, ◌∙◌, arith}
 use Rattle.std.specs.List.{AllByRecursion}
 use Rattle.std.specs.Option.{option_map_or}
 use Rattle.std.specs.Result.{result_ok}
@@ -18,8 +18,8 @@ use Rattle.const_pool.specs.References.{◌>>=◌, text_entry, named_text}
 use Rattle.const_pool.specs.ClassFile.{IsU2, IsByte, FitsCount, IsRaw, IsHandler, IsCode, IsFieldAttribute, IsMethodAttribute, IsClassAttribute, raw_bytes, handler_bytes, code_bytes, attribute_bytes, code_name, constant_value_name}
 use Rattle.const_pool.specs.ClassFile as file
 use Rattle.class_reader.specs.declared.error.ReadError.TheVariants.{BadRef, BadLength}
-use Rattle.class_reader.specs.Formats.{Format, number, run, made, in_turn, AreInTurn, either, enclosed}
-use Rattle.class_reader.specs.ClassFormat.{counted, names, names_text, ref, optional_ref, raw_contents, raw, other, handler, code_length, code, field_attribute, method_attribute, class_attribute}
+use Rattle.class_reader.specs.Formats.{Format, run, made, in_turn, enclosed}
+use Rattle.class_reader.specs.ClassFormat.{names, names_text, ref, optional_ref, raw_contents, raw, other, handler, code_length, code, field_attribute, method_attribute, class_attribute}
 use Rattle.class_reader.proofs.BridgeParts.{IsSpelledBy, said_as, u2_law, u4_law, opened, closed, behind, turn, end_turn, tested_law, counted_law, either_cases, either_true, either_false, sized_bytes, FitsSized, sized_law, enclosed_law, AreBytes, bytes_then, u2_bytes, u2_then, u4_then, counted_bytes}
 
 -- ---- indices

@@ -1,13 +1,13 @@
 -- What a format spells, said by a function: its texts are the bytes of the values that fit. Single items, items one after the
 -- other, and contents with their length.
-use Rattle.std.proofs.Common.{◌≡◌, ℕ, zero, suc, ◌*◌, ◌^◌, ◌<◌, ◌≤◌, Bool, true, false, cond, List, [], ◌∷◌, ◌++◌, length, Option, Some, None, flat_map, refl, sym, ap, subst, ◌∙◌, ◌⊎◌, inl, inr, append-nil, arith}
+use Rattle.std.proofs.Common.{◌≡◌, ℕ, zero, suc, ◌*◌, ◌^◌, ◌<◌, Bool, true, false, cond, List, [], ◌∷◌, ◌++◌, length, Some, None, flat_map, refl, sym, ap, subst, ◌∙◌, ◌⊎◌, inl, inr, append-nil, arith}
 use Rattle.std.specs.List.{AllByRecursion}
-use Rattle.std.specs.Int.{Width, w8, w16, w32, w64, byte_len, to_be_bytes}
+use Rattle.std.specs.Int.{Width, w16, w32, byte_len, to_be_bytes}
 use Rattle.const_pool.specs.Pool.{u2, u4}
 use Rattle.const_pool.specs.ClassFile.{IsByte, IsU2, FitsCount}
 use Rattle.const_pool.specs.ClassFile as file
 use Rattle.class_reader.specs.declared.error.ReadError.{ReadError}
-use Rattle.class_reader.specs.Formats.{Format, number, run, made, in_turn, AreInTurn, many, converted, IsConverted, kept_where, tested, either, sized, enclosed}
+use Rattle.class_reader.specs.Formats.{Format, number, run, made, in_turn, AreInTurn, many, IsConverted, kept_where, tested, either, sized, enclosed}
 use Rattle.class_reader.specs.ClassFormat.{counted}
 
 -- The texts of the format are the bytes of the values that fit.

@@ -1,14 +1,13 @@
 -- The constant pool: both descriptions spell it with the same bytes, and ask the same of its entries and gaps.
-use Rattle.std.proofs.Common.{◌≡◌, ℕ, zero, suc, ◌+◌, ◌-◌, ◌^◌, ◌<◌, ◌⊎◌, inl, inr, Bool, true, false, not, ◌&&◌, ◌||◌, ◌==◌, cond, eqb, is_none, List, [], ◌∷◌, ◌++◌, length, Option, Some, None, flat_map, refl, sym, ap, subst, ◌∙◌, append-nil, arith}
-use Rattle.std.specs.Int.{w16}
-use Rattle.std.proofs.lemmas.Bool.{or_parts, or_from, and_left, and_right, not-true, not-false, not_from_true, not_from_false, eqb-false, ne_eqb, true≢false}
+use Rattle.std.proofs.Common.{◌≡◌, ℕ, zero, suc, ◌+◌, ◌-◌, ◌⊎◌, inl, inr, Bool, true, false, not, ◌&&◌, ◌==◌, cond, is_none, List, [], ◌∷◌, ◌++◌, length, Option, Some, None, flat_map, refl, sym, ap, subst, ◌∙◌, append-nil, arith}
+use Rattle.std.proofs.lemmas.Bool.{or_parts, or_from, and_left, and_right, not-true, not-false, not_from_true, eqb-false, ne_eqb}
 use Rattle.const_pool.specs.declared.pool.Const.{Const}
-use Rattle.const_pool.specs.declared.pool.Const.TheVariants.{Gap, Utf8, Integer, Float, Long, Double, Class, Text, Field, Method, InterfaceMethod, NameType}
+use Rattle.const_pool.specs.declared.pool.Const.TheVariants.{Gap, Long, Double}
 use Rattle.const_pool.specs.Pool.{u2, is_wide, IsEntry, AreEntries, IsPool, entry_bytes, pool_bytes}
 use Rattle.const_pool.specs.ClassFile.{IsU2}
 use Rattle.class_reader.specs.declared.error.ReadError.TheVariants.{BadIndex}
 use Rattle.class_reader.specs.Formats.{Format, made, in_turn, either}
-use Rattle.class_reader.specs.ClassFormat.{entry, entries, fits_in, lowest_bad_from, lowest_bad, pool_count, all_entries, constant_pool}
+use Rattle.class_reader.specs.ClassFormat.{entries, fits_in, lowest_bad_from, lowest_bad, pool_count, all_entries, constant_pool}
 use Rattle.class_reader.proofs.BridgeParts.{IsSpelledBy, u2_law, opened, closed, ended, ends, behind, turn, tested_to, tested_from, tested_law, either_cases, either_true, either_false}
 use Rattle.class_reader.proofs.BridgeEntries.{FitsEntry, entry_law, is_entry, entry_parts}
 
