@@ -121,9 +121,10 @@ run_to text bytes s =
     let h = a.second in
     let tests = and_parts _ _ a.fits.1 in
     let some : 0 < a.x = ltb-true _ _ tests.0 in
-    let short : a.x < 2 ^ 16 = ltb-true _ _ tests.1 in
-    (behind text (u4 (length bytes)) a.rest bytes (a.parts ∙ ap (λ (n : ℕ). u4 n ++ a.rest) (sym h.1)) h.0,
-      (subst (λ (n : ℕ). 0 < n) (sym h.1) some, subst (λ (n : ℕ). n < 2 ^ 16) (sym h.1) short, h.2))
+    let short : a.x < 2 ^ 16 = ltb-true _ _ tests.1 in (
+      behind text (u4 (length bytes)) a.rest bytes (a.parts ∙ ap (λ (n : ℕ). u4 n ++ a.rest) (sym h.1)) h.0,
+      (subst (λ (n : ℕ). 0 < n) (sym h.1) some, subst (λ (n : ℕ). n < 2 ^ 16) (sym h.1) short, h.2),
+    )
 
 run_from : (bytes : List ℕ) → FitsRun bytes → (in_turn code_length run).Spells (sized_bytes bytes) bytes
 run_from bytes h =
@@ -255,8 +256,8 @@ module _ (pool : List Const) where
       elim (either_cases (names_text pool n.x constant_value_name) parsed (other n.x) n.rest a n.second) as (λ _. (text ≡ attribute_bytes a) × IsFieldAttribute pool a) [
         | inl h ↦ constant_to n.x text n.rest a n.parts n.fits.0 (names_text-true pool n.x constant_value_name h.0) h.1
         | inr h ↦ (let k = kept_to n.x text n.rest a n.parts n.fits.0 n.fits.1 h.1 in
-          let unnamed = subst (λ (i : ℕ). named_text pool i ≢ Some constant_value_name) (sym k.named) (names_text-false pool n.x constant_value_name h.0) in
-          subst (λ (a : Attribute). (text ≡ attribute_bytes a) × IsFieldAttribute pool a) k.is (k.spelled, (k.formed, unnamed)))
+            let unnamed = subst (λ (i : ℕ). named_text pool i ≢ Some constant_value_name) (sym k.named) (names_text-false pool n.x constant_value_name h.0) in
+            subst (λ (a : Attribute). (text ≡ attribute_bytes a) × IsFieldAttribute pool a) k.is (k.spelled, (k.formed, unnamed)))
       ]
 
   field_attribute_from : (a : Attribute) → IsFieldAttribute pool a → (field_attribute pool).Spells (attribute_bytes a) a
@@ -285,8 +286,8 @@ module _ (pool : List Const) where
       elim (either_cases (names_text pool n.x code_name) parsed (other n.x) n.rest a n.second) as (λ _. (text ≡ attribute_bytes a) × IsMethodAttribute pool a) [
         | inl h ↦ parsed_to n.x text n.rest a n.parts n.fits.0 (names_text-true pool n.x code_name h.0) h.1
         | inr h ↦ (let k = kept_to n.x text n.rest a n.parts n.fits.0 n.fits.1 h.1 in
-          let unnamed = subst (λ (i : ℕ). named_text pool i ≢ Some code_name) (sym k.named) (names_text-false pool n.x code_name h.0) in
-          subst (λ (a : Attribute). (text ≡ attribute_bytes a) × IsMethodAttribute pool a) k.is (k.spelled, (k.formed, unnamed)))
+            let unnamed = subst (λ (i : ℕ). named_text pool i ≢ Some code_name) (sym k.named) (names_text-false pool n.x code_name h.0) in
+            subst (λ (a : Attribute). (text ≡ attribute_bytes a) × IsMethodAttribute pool a) k.is (k.spelled, (k.formed, unnamed)))
       ]
 
   method_attribute_from : (a : Attribute) → IsMethodAttribute pool a → (method_attribute pool).Spells (attribute_bytes a) a

@@ -1,9 +1,8 @@
 -- Entries of the constant pool: both descriptions spell them with the same bytes, and ask the same of them.
-use Rattle.std.proofs.Common.{◌≡◌, ℕ, ◌^◌, ◌<◌, Bool, true, false, cond, eqb, ℤ, pos, negsuc, List, ◌++◌, length, Some, FitsSigned, refl, sym, ap, subst, ◌∙◌, arith}
+use Rattle.std.proofs.Common.{◌≡◌, ℕ, ◌^◌, ◌<◌, Bool, true, false, cond, eqb, ℤ, pos, negsuc, List, ◌++◌, length, Some, FitsSigned, refl, sym, ap, subst, ◌∙◌, arith, rules}
 use Rattle.std.specs.Int.{w8, w16, w32, w64, to_be_bytes, cast_signed, cast_unsigned}
 use Rattle.std.proofs.lemmas.Bool.{and_parts, and_from, eqb-true}
 use Rattle.std.proofs.lemmas.Int.{to_z-of_z, of_z-to_z}
-use borrow.Author.Gap.{read_sfits}
 use Rattle.jf_bytes.specs.ModifiedUtf8.{modified_utf8}
 use Rattle.jf_bytes.specs.Spelling.{IsUnits}
 use Rattle.const_pool.specs.declared.pool.Const.{Const}
@@ -120,10 +119,10 @@ utf8_to text c s =
     subst (IsTagged 1 text) b.is (ap (λ (t : List ℕ). u1 1 ++ t) spelled, (b.fits.0, subst IsU2 (sym b.fits.1) a.fits))
 
 integer_tagged : (n : ℕ) → n < 2 ^ 32 → IsTagged 3 (u4 n) (Integer (cast_signed w32 n))
-integer_tagged n h = (ap (λ (m : ℕ). u1 3 ++ u4 m) (sym (of_z-to_z w32 n h)), read_sfits w32 n)
+integer_tagged n h = (ap (λ (m : ℕ). u1 3 ++ u4 m) (sym (of_z-to_z w32 n h)), search rules)
 
 long_tagged : (n : ℕ) → n < 2 ^ 64 → IsTagged 5 (u8 n) (Long (cast_signed w64 n))
-long_tagged n h = (ap (λ (m : ℕ). u1 5 ++ u8 m) (sym (of_z-to_z w64 n h)), read_sfits w64 n)
+long_tagged n h = (ap (λ (m : ℕ). u1 5 ++ u8 m) (sym (of_z-to_z w64 n h)), search rules)
 
 contents_to : (t : Tag) (text : List ℕ) (c : Const) → (contents t).Spells text c → IsTagged (number_of t) text c
 contents_to tag.Utf8 text c s = utf8_to text c s
@@ -143,7 +142,6 @@ entry_to text c s =
     let a = opened tag_law s in
     let h = contents_to a.x a.rest c a.second in
     (a.parts ∙ h.0, h.1)
-
 
 pair_from : (make : ℕ → ℕ → Const) (a b : ℕ) → IsU2 a → IsU2 b → (pair make).Spells (u2 a ++ u2 b) (make a b)
 pair_from make a b h k = turn u2_law (λ a. in_turn (number w16) (λ b. made (make a b))) a h (end_turn u2_law (make a) b k)

@@ -185,9 +185,9 @@ pub enclosed_law : {A : Type 0} {P : Format A} {bytes : A → List ℕ} {Fits : 
     → IsSpelledBy (enclosed P) (λ x. sized_bytes (bytes x)) (λ x. Fits x × FitsSized (bytes x))
 enclosed_law {bytes = bytes} law = record {
   «to» = λ text x s.
-    let inner = law.to s.contents x s.inner in
-    let outer = sized_to text s.contents s.outer in
-    (outer.0 ∙ ap sized_bytes inner.0, (inner.1, subst FitsSized inner.0 outer.1));
+      let inner = law.to s.contents x s.inner in
+      let outer = sized_to text s.contents s.outer in
+      (outer.0 ∙ ap sized_bytes inner.0, (inner.1, subst FitsSized inner.0 outer.1));
   «from» = λ x h. record { contents = bytes x; outer = sized_law.from (bytes x) h.1; inner = law.from x h.0 };
 }
 

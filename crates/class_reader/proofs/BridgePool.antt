@@ -103,13 +103,13 @@ module _ (pool : List Const) where
       let narrow : Format (List Const) = in_turn (entries (suc n)) (λ cs. made (a.x ∷ cs)) in
       elim (either_cases (is_wide a.x) wide narrow a.rest cs a.second) as (λ _. Stand pool (suc (suc n)) text cs) [
         | inl h ↦ (let b = ended h.1 in
-          let low_is : lowest_bad_from pool i (a.x ∷ Gap ∷ b.x) ≡ None = subst (λ (ds : List Const). lowest_bad_from pool i ds ≡ None) (sym b.is) low in
-          let named = first_good pool i a.x (Gap ∷ b.x) low_is in
-          subst (Stand pool (suc (suc n)) text) b.is (wide_to n text a.rest a.x b.x a.parts a.fits h.0 named.0 (entries_to n (i + 1 + 1) a.rest b.x b.spelled named.1)))
+            let low_is : lowest_bad_from pool i (a.x ∷ Gap ∷ b.x) ≡ None = subst (λ (ds : List Const). lowest_bad_from pool i ds ≡ None) (sym b.is) low in
+            let named = first_good pool i a.x (Gap ∷ b.x) low_is in
+            subst (Stand pool (suc (suc n)) text) b.is (wide_to n text a.rest a.x b.x a.parts a.fits h.0 named.0 (entries_to n (i + 1 + 1) a.rest b.x b.spelled named.1)))
         | inr h ↦ (let b = ended h.1 in
-          let low_is : lowest_bad_from pool i (a.x ∷ b.x) ≡ None = subst (λ (ds : List Const). lowest_bad_from pool i ds ≡ None) (sym b.is) low in
-          let named = first_good pool i a.x b.x low_is in
-          subst (Stand pool (suc (suc n)) text) b.is (narrow_to (suc n) text a.rest a.x b.x a.parts a.fits h.0 named.0 (entries_to (suc n) (i + 1) a.rest b.x b.spelled named.1)))
+            let low_is : lowest_bad_from pool i (a.x ∷ b.x) ≡ None = subst (λ (ds : List Const). lowest_bad_from pool i ds ≡ None) (sym b.is) low in
+            let named = first_good pool i a.x b.x low_is in
+            subst (Stand pool (suc (suc n)) text) b.is (narrow_to (suc n) text a.rest a.x b.x a.parts a.fits h.0 named.0 (entries_to (suc n) (i + 1) a.rest b.x b.spelled named.1)))
       ]
 
 -- the text of so many indices, and no entry is bad
@@ -127,7 +127,7 @@ module _ (pool : List Const) where
   last_from : (c : Const) → AreEntries pool (c ∷ []) → Written pool 1 (c ∷ [])
   last_from c h = elim (first_entry pool c [] h) as (λ _. Written pool 1 (c ∷ [])) [
     | inl one ↦ (let parts = entry_parts pool c one.first in
-      (turn entry_law (λ c. made (c ∷ [])) c parts.0 (refl, refl), λ i. good_narrow pool i c [] parts.1 one.narrow refl))
+        (turn entry_law (λ c. made (c ∷ [])) c parts.0 (refl, refl), λ i. good_narrow pool i c [] parts.1 one.narrow refl))
     | inr two ↦ absurd (let gap = two.gap in cc)
   ]
 
@@ -154,7 +154,7 @@ module _ (pool : List Const) where
   entries_from (suc (suc n)) (c ∷ rest) len h = elim (first_entry pool c rest h) as (λ _. Written pool (suc (suc n)) (c ∷ rest)) [
     | inl one ↦ narrow_from n c rest one.narrow one.first (entries_from (suc n) rest (omega (arith, len)) one.others)
     | inr two ↦ (let same = ap length two.gap in
-      subst (λ (r : List Const). Written pool (suc (suc n)) (c ∷ r)) two.gap (wide_from n c two.more two.wide two.first (entries_from n two.more (omega (arith, len, same)) two.others)))
+        subst (λ (r : List Const). Written pool (suc (suc n)) (c ∷ r)) two.gap (wide_from n c two.more two.wide two.first (entries_from n two.more (omega (arith, len, same)) two.others)))
   ]
 
 -- ---- the pool
@@ -179,9 +179,10 @@ all_to count text rest cs fits some e s low =
     let h = entries_to (Gap ∷ cs) (count - 1) 1 rest cs s (none_is _ low) in
     let nonzero : count ≡ 0 → ⊥ = eqb-false count 0 (not-true _ some) in
     let all : count ≡ suc (length cs) = omega (arith, h.1) in
-    let len : text ≡ u2 (suc (length cs)) ++ rest = e ∙ ap (λ (n : ℕ). u2 n ++ rest) all in
-    (behind text (u2 (suc (length cs))) rest (flat_map entry_bytes cs) len h.0,
-      record { count = subst IsU2 all fits; first = refl; entries = λ more same. subst (AreEntries (Gap ∷ cs)) (gap_tail cs more same) h.2 })
+    let len : text ≡ u2 (suc (length cs)) ++ rest = e ∙ ap (λ (n : ℕ). u2 n ++ rest) all in (
+      behind text (u2 (suc (length cs))) rest (flat_map entry_bytes cs) len h.0,
+      record { count = subst IsU2 all fits; first = refl; entries = λ more same. subst (AreEntries (Gap ∷ cs)) (gap_tail cs more same) h.2 },
+    )
 
 pool_to : (text : List ℕ) (pool : List Const) → constant_pool.Spells text pool → (text ≡ pool_bytes pool) × IsPool pool
 pool_to text pool s =
