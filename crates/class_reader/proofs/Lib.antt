@@ -12,3 +12,8 @@ pub mod Entries
 pub mod AttributeLaws
 pub mod Classes
 pub mod Files
+pub mod BridgeParts
+pub mod BridgeEntries
+pub mod BridgePool
+pub mod BridgeAttributes
+pub mod Bridge
