@@ -17,3 +17,5 @@ pub mod BridgeEntries
 pub mod BridgePool
 pub mod BridgeAttributes
 pub mod Bridge
+pub mod PoolAnswers
+pub mod FileAnswers

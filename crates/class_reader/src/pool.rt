@@ -125,7 +125,8 @@ fn sound_entries_of(
     limit: usize,
     bytes: &[u8],
 ) -> Result<(Vec<Const>, &[u8]), ReadError>
-    ensures { Gives (λ x. (x.0.items, x.1.now)) result (pool_at limit bytes.now) }
+    ensures sound { Gives (λ x. (x.0.items, x.1.now)) result (pool_at limit bytes.now) }
+    ensures within { IfOk result (λ x. length x.0.items < 2 ^ 16) }
 {
     let (pool, rest) = all_entries_of(alloc, limit, bytes)?;
     match lowest_bad_of(&pool) {
