@@ -9,3 +9,6 @@ mod room;
 mod writer;
 
 pub use writer::write_class;
+
+#[cfg(test)]
+mod tests;
