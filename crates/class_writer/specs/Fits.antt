@@ -1,6 +1,6 @@
 -- What a count and a length ask of what stands behind them: that they fit the widths of their fields (JVM Specification
 -- 4.1, 4.4.7, 4.7, 4.7.3).
-use Rattle.std.specs.Prelude.{ℕ, ◌<◌, ◌^◌, length, All}
+use Rattle.std.specs.Prelude.{◌<◌, ◌^◌, length, All}
 use Rattle.jf_bytes.specs.ModifiedUtf8.{modified_utf8}
 use Rattle.const_pool.specs.declared.pool.Const.{Const}
 use Rattle.const_pool.specs.declared.pool.Const.TheVariants.{Utf8}

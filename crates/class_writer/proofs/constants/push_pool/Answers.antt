@@ -1,4 +1,4 @@
-use Rattle.std.proofs.Common.{◌≡◌, ◌<◌, ◌++◌, ◌∙◌, [], length, take, sym, ap, arith}
+use Rattle.std.proofs.Common.{◌<◌, ◌++◌, ◌∙◌, [], length, take, sym, ap, arith}
 use Rattle.std.specs.List.{flat_map}
 use Rattle.std.specs.Option.{option_map_or}
 use Rattle.const_pool.specs.Pool.{u2, entry_at, entry_bytes}
