@@ -1,0 +1,4 @@
+pub mod Pools
+pub mod Lengths
+pub mod Fitting
+pub mod WorkedClass

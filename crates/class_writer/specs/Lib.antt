@@ -1,0 +1,4 @@
+pub mod Fits
+pub mod Parts
+pub mod Room
+pub mod WorkedClass
