@@ -1,0 +1,17 @@
+-- What files tell of a class file, and what was fetched of it.
+use Rattle.std.specs.Prelude.{◌≡◌, ℕ, List, Option, Some, IfSome}
+use Rattle.jf_bytes.specs.Streams.{Told, contents_at, front_at}
+use Rattle.class_reader.specs.declared.error.ReadError.{ReadError}
+use Rattle.class_reader.specs.Files.{most_bytes, IsFirstFault}
+
+-- the contents of the file, where the files tell them, or of a longer one a front that is too long
+abbrev pub IsFetched : Option Told → List ℕ → List ℕ → Type 0
+IsFetched told name bytes = IfSome told (λ files. front_at files name most_bytes ≡ Some bytes)
+
+-- the contents of the file, where the files tell them, are these bytes
+abbrev pub IsTold : Option Told → List ℕ → List ℕ → Type 0
+IsTold told name bytes = IfSome told (λ files. IfSome (contents_at files name) (λ contents. contents ≡ bytes))
+
+-- the contents of the file, where the files tell them, have this first fault
+abbrev pub IsToldFault : Option Told → List ℕ → ReadError → Type 0
+IsToldFault told name fault = IfSome told (λ files. IfSome (contents_at files name) (λ contents. IsFirstFault contents fault))

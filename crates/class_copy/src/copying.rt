@@ -1,0 +1,99 @@
+//! One class file, from its bytes to its class and back.
+
+ghost use Rattle.std.specs.Prelude.{◌≡◌, ◌≢◌, ◌⊎◌, ◌≤◌, length, Err, IfOk, IfErr, IfSome, OnOk};
+ghost use Rattle.std.specs.Io.KnownBytes.{append_known};
+ghost use Rattle.jf_bytes.specs.Streams.{Rose, contents_at};
+ghost use Rattle.class_reader.specs.declared.error.ReadError.{ReadError as Fault};
+ghost use Rattle.class_reader.specs.Files.{IsFirstFault};
+ghost use Rattle.class_copy.specs.Copies.{IsFetched, IsTold, IsToldFault};
+
+use class_reader::{ReadError, read_class};
+use class_writer::write_class;
+use jf_bytes::{FetchError, Files, Sink};
+use std::alloc::Global;
+
+/// The greatest length of a class file.
+const MOST: usize = 4_194_304;
+
+/// Why a file is not copied.
+#[derive(Clone, Copy, Debug, PartialEq, Eq)]
+pub enum CopyError {
+    NotFetched,
+    /// The bytes are no class file, and this is their first fault.
+    NotRead(ReadError),
+    NotPut,
+    NoMemory,
+}
+
+/// The bytes of a class file as the writer makes them from what the reader made of them: the same bytes.
+fn copied(alloc: Global, bytes: &[u8]) -> Result<Vec<u8>, CopyError>
+    ensures same { IfOk result (λ copy. copy.items ≡ bytes.now) }
+    ensures short { IfOk result (λ copy. length bytes.now ≤ MOST) }
+    ensures not_read { (fault : Fault) → result ≡ Err (CopyError.NotRead fault) → IsFirstFault bytes.now fault }
+    ensures first_fault { (fault : Fault) → IsFirstFault bytes.now fault → (result ≡ Err (CopyError.NotRead fault)) ⊎ (result ≡ Err CopyError.NoMemory) }
+    ensures not_fetched { result ≢ Err CopyError.NotFetched }
+    ensures not_put { result ≢ Err CopyError.NotPut }
+{
+    let class = match read_class(alloc, bytes) {
+        Ok(class) => class,
+        Err(ReadError::NoMemory) => return Err(CopyError::NoMemory),
+        Err(fault) => return Err(CopyError::NotRead(fault)),
+    };
+    match write_class(alloc, &class) {
+        Ok(copy) => Ok(copy),
+        Err(_) => Err(CopyError::NoMemory),
+    }
+}
+
+/// Fetches a class file, or of a longer one enough to see that it is too long.
+fn fetch<F: Files>(alloc: Global, name: &str, files: &mut F) -> Result<Vec<u8>, CopyError>
+    ensures found { IfOk result (λ bytes. IsFetched (F.contents files.old) name.now bytes.items) }
+    ensures not_fetched { result ≡ Err CopyError.NotFetched → Rose (F.faults files.old) (F.faults files.new) }
+    ensures errors { IfErr result (λ e. (e ≡ CopyError.NotFetched) ⊎ (e ≡ CopyError.NoMemory)) }
+{
+    match files.fetch(alloc, name, MOST) {
+        Ok(bytes) => Ok(bytes),
+        Err(FetchError::Failed) => Err(CopyError::NotFetched),
+        Err(FetchError::NoMemory) => Err(CopyError::NoMemory),
+    }
+}
+
+/// A copy of the class file with this name.
+fn copy_of<F: Files>(alloc: Global, name: &str, files: &mut F) -> Result<Vec<u8>, CopyError>
+    ensures same { IfOk result (λ copy. IsTold (F.contents files.old) name.now copy.items) }
+    ensures not_fetched { result ≡ Err CopyError.NotFetched → Rose (F.faults files.old) (F.faults files.new) }
+    ensures not_read { (fault : Fault) → result ≡ Err (CopyError.NotRead fault) → IsToldFault (F.contents files.old) name.now fault }
+    ensures not_put { result ≢ Err CopyError.NotPut }
+{
+    let bytes = match fetch(alloc, name, files) {
+        Ok(bytes) => bytes,
+        Err(error) => return Err(error),
+    };
+    match copied(alloc, &bytes) {
+        Ok(copy) => Ok(copy),
+        Err(error) => Err(error),
+    }
+}
+
+/// Puts a copy of the class file with this name to `out`.
+pub fn copy_file<F: Files, O: Sink>(
+    alloc: Global,
+    name: &str,
+    files: &mut F,
+    out: &mut O,
+) -> Result<(), CopyError>
+    // Where the files tell what they hold, it is the contents of that file that were put.
+    ensures copied { OnOk result (IfSome (F.contents files.old) (λ told. IfSome (contents_at told name.now) (λ bytes. O.taken out.new ≡ append_known (O.taken out.old) bytes))) }
+    ensures not_fetched { result ≡ Err CopyError.NotFetched → Rose (F.faults files.old) (F.faults files.new) }
+    ensures not_read { (fault : Fault) → result ≡ Err (CopyError.NotRead fault) → IsToldFault (F.contents files.old) name.now fault }
+    ensures not_put { result ≡ Err CopyError.NotPut → Rose (O.faults out.old) (O.faults out.new) }
+{
+    let copy = match copy_of(alloc, name, files) {
+        Ok(copy) => copy,
+        Err(error) => return Err(error),
+    };
+    match out.put(&copy) {
+        Ok(()) => Ok(()),
+        Err(_) => Err(CopyError::NotPut),
+    }
+}
