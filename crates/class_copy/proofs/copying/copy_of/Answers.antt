@@ -1,4 +1,4 @@
-use Rattle.std.proofs.Common.{ap, sym, ◌∙◌, subst}
+use Rattle.std.proofs.Common.{sym, ◌∙◌, subst}
 use Rattle.class_copy.specs.Copies.{IsTold}
 use Rattle.class_copy.proofs.Fronts.{told_whole, told_fault}
 use Rattle.class_copy.proofs.copying.copy_of.Goals as goal
