@@ -42,8 +42,8 @@ code_bytes_is_read : IsRead code_bytes_at (in_turn format.code_length run)
 unfolding code_bytes_at
 code_bytes_is_read =
     in_turn_is_read
-        (tested_is_read w32 (λ n. ltb 0 n && ltb n 65536) (λ at n. BadLength at) u4_is_read)
-        run_is_read
+    (tested_is_read w32 (λ n. ltb 0 n && ltb n 65536) (λ at n. BadLength at) u4_is_read)
+    run_is_read
 
 module _ (pool : List Const) where
   pub raw_is_read : IsRead (raw_at pool) (format.raw pool)
@@ -83,17 +83,17 @@ module _ (pool : List Const) where
   field_attribute_is_read =
       in_turn_is_read (ref_is_read is_utf8 pool) (λ name.
       either_is_read (names_text pool name constant_value_name)
-          (in_turn_is_read (enclosed_is_read (ref_is_read is_constant pool)) (λ i.
-          made_is_read (ConstantValue name i)))
-          (other_is_read name))
+      (in_turn_is_read (enclosed_is_read (ref_is_read is_constant pool)) (λ i.
+      made_is_read (ConstantValue name i)))
+      (other_is_read name))
 
   pub method_attribute_is_read : IsRead (method_attribute_at pool) (format.method_attribute pool)
   unfolding method_attribute_at code_attribute_at
   method_attribute_is_read =
       in_turn_is_read (ref_is_read is_utf8 pool) (λ name.
       either_is_read (names_text pool name code_name)
-          (in_turn_is_read (enclosed_is_read code_is_read) (λ c. made_is_read (Code name c)))
-          (other_is_read name))
+      (in_turn_is_read (enclosed_is_read code_is_read) (λ c. made_is_read (Code name c)))
+      (other_is_read name))
 
   pub class_attribute_is_read : IsRead (class_attribute_at pool) (format.class_attribute pool)
   unfolding class_attribute_at

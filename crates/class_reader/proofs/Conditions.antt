@@ -41,9 +41,9 @@ module _ {A B : Type 0} (p : ℕ → List ℕ → Read A) (P : Format A) (conver
       let one = law.takes limit bytes a.0.0 a.0.1 fits a.1 in
       let same = was_made (why (place limit bytes) a.0.0) a.0.1 (convert a.0.0) y rest a.2 in
       let spelled : IsConverted P convert one.front y =
-          record { x = a.0.0; spelled = one.spelled; made = same.0 } in
+      record { x = a.0.0; spelled = one.spelled; made = same.0 } in
       let parts : bytes ≡ one.front ++ rest =
-          subst (λ r. bytes ≡ one.front ++ r) same.1 one.parts in
+      subst (λ r. bytes ≡ one.front ++ r) same.1 one.parts in
       record {
         front = one.front;
         parts = parts;
@@ -62,8 +62,8 @@ module _ {A B : Type 0} (p : ℕ → List ℕ → Read A) (P : Format A) (conver
       → converted_at p convert why limit bytes ≡ Err fault
       → P.Faults limit bytes fault ⊎ IsRefused P convert why limit bytes fault
   converted_faults limit bytes fault fits e = elim (err_parts _ _ _ e) [
-      | inl bad ↦ inl (law.faults limit bytes fault fits bad)
-      | inr a ↦
+    | inl bad ↦ inl (law.faults limit bytes fault fits bad)
+    | inr a ↦
         let one = law.takes limit bytes a.0.0 a.0.1 fits a.1 in
         let same = was_not_made (why (place limit bytes) a.0.0) a.0.1 (convert a.0.0) fault a.2 in
         inr (record {
@@ -75,7 +75,7 @@ module _ {A B : Type 0} (p : ℕ → List ℕ → Read A) (P : Format A) (conver
           refused = same.0;
           told = same.1;
         })
-    ]
+  ]
 
   converted_stops : (limit : ℕ) (bytes : List ℕ) (fault : ReadError)
       → P.Faults limit bytes fault ⊎ IsRefused P convert why limit bytes fault
@@ -84,7 +84,7 @@ module _ {A B : Type 0} (p : ℕ → List ℕ → Read A) (P : Format A) (conver
       ap (then_made convert why (place limit bytes)) (law.stops limit bytes fault h)
   converted_stops limit bytes fault (inr h) =
       let read : p limit bytes ≡ Ok (h.x, h.rest) =
-          ap (p limit) h.parts ∙ law.again limit h.front h.rest h.x h.spelled in
+      ap (p limit) h.parts ∙ law.again limit h.front h.rest h.x h.spelled in
       ap (then_made convert why (place limit bytes)) read
       ∙ ap (made_or (why (place limit bytes) h.x) h.rest) h.refused
       ∙ ap Err (sym h.told)
@@ -108,13 +108,13 @@ as_kept false x rest fault = refl
 module _ (w : Width) (test : ℕ → Bool) (why : ℕ → ℕ → ReadError) where
   behind_number : (limit : ℕ) (bytes : List ℕ) (read : Read ℕ)
       → (read >>= λ n. cond (test n.0) (Ok n) (Err (why (place limit bytes) n.0)))
-        ≡ (read >>= λ n. made_or (why (place limit bytes) n.0) n.1 (kept_where test n.0))
+      ≡ (read >>= λ n. made_or (why (place limit bytes) n.0) n.1 (kept_where test n.0))
   behind_number limit bytes (Ok n) = as_kept (test n.0) n.0 n.1 (why (place limit bytes) n.0)
   behind_number limit bytes (Err fault) = refl
 
   tested_is_converted : (limit : ℕ) (bytes : List ℕ)
       → tested_at w test why limit bytes
-        ≡ converted_at (number_at w) (kept_where test) why limit bytes
+      ≡ converted_at (number_at w) (kept_where test) why limit bytes
   unfolding tested_at
   tested_is_converted limit bytes = behind_number limit bytes (number_at w limit bytes)
 

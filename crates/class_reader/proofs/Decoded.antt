@@ -69,8 +69,8 @@ triple_front : (bytes : List ℕ) (least : ℕ) → 0 < length bytes → IsTripl
     → IsFront bytes (triple_unit (get_or bytes 0 0) (get_or bytes 1 0) (get_or bytes 2 0) least)
 triple_front bytes least some lead = cond_both (is_between least (get_or bytes 1 0) 191) _ _ (IsFront bytes)
     (λ e. cond_both (is_between 128 (get_or bytes 2 0) 191) _ _ (IsFront bytes)
-        (λ d. triple_begins bytes least lead (between-true _ _ _ e) (between-true _ _ _ d))
-        (λ d. tail_bad bytes least lead (between-true _ _ _ e) (between-false _ _ _ d)))
+    (λ d. triple_begins bytes least lead (between-true _ _ _ e) (between-true _ _ _ d))
+    (λ d. tail_bad bytes least lead (between-true _ _ _ e) (between-false _ _ _ d)))
     (λ e. triple_bad bytes least some lead (between-false _ _ _ e))
 
 double_lead : (a : ℕ) → (194 ≤ a) × (a ≤ 223) → IsDoubleLead a 191
@@ -89,17 +89,17 @@ fronts : (bytes : List ℕ) → 0 < length bytes → IsFront bytes (front_unit b
 fronts bytes some =
     let a = get_or bytes 0 0 in
     cond_both (is_between 1 a 127) _ _ (IsFront bytes)
-        (λ e. single_begins bytes (between-true _ _ _ e)) (λ no_single.
+    (λ e. single_begins bytes (between-true _ _ _ e)) (λ no_single.
     cond_both (eqb a 192) _ _ (IsFront bytes)
-        (λ e. double_front bytes 128 some (inl (eqb-true a 192 e, refl))) (λ no_zero.
+    (λ e. double_front bytes 128 some (inl (eqb-true a 192 e, refl))) (λ no_zero.
     cond_both (is_between 194 a 223) _ _ (IsFront bytes)
-        (λ e. double_front bytes 191 some (double_lead a (between-true _ _ _ e))) (λ no_double.
+    (λ e. double_front bytes 191 some (double_lead a (between-true _ _ _ e))) (λ no_double.
     cond_both (eqb a 224) _ _ (IsFront bytes)
-        (λ e. triple_front bytes 160 some (inl (eqb-true a 224 e, refl))) (λ no_least.
+    (λ e. triple_front bytes 160 some (inl (eqb-true a 224 e, refl))) (λ no_least.
     cond_both (is_between 225 a 239) _ _ (IsFront bytes)
-        (λ e. triple_front bytes 128 some (triple_lead a (between-true _ _ _ e))) (λ no_triple.
+    (λ e. triple_front bytes 128 some (triple_lead a (between-true _ _ _ e))) (λ no_triple.
     let none = apart a (between-false _ _ _ no_single) (eqb-false a 192 no_zero) (between-false _ _ _ no_double)
-        (eqb-false a 224 no_least) (between-false _ _ _ no_triple) in
+    (eqb-false a 224 no_least) (between-false _ _ _ no_triple) in
     bad_first bytes some (λ b c. no_begin a b c none))))))
 
 -- ---- the units one after the other

@@ -87,28 +87,28 @@ module _ {A : Type 0} (item : ℕ → List ℕ → Read A) (P : Format A) (law :
       let wrong = goes_wrong at x.0 x.1 fault e in
       let taken = law.takes limit contents x.0 x.1 fits is in
       let more : HasMore P contents =
-          record {
-            front = taken.front;
-            more = x.1;
-            parts = taken.parts;
-            some = wrong.0;
-            x = x.0;
-            spelled = taken.spelled;
-          } in
+      record {
+        front = taken.front;
+        more = x.1;
+        parts = taken.parts;
+        some = wrong.0;
+        x = x.0;
+        spelled = taken.spelled;
+      } in
       inl (inr more, wrong.1)
   fault_within limit contents (Err first) fault fits is e =
       let found : P.Faults limit contents first = law.faults limit contents first fits is in
       elim (short_or_not first) [
         | inl short ↦
-          let cut : P.Faults limit contents (Truncated short.0) =
-              subst (P.Faults limit contents) short.1 found in
-          let told = ap (λ f. whole_of {A = A} at (Err f)) (sym short.1) ∙ e in
-          inl (inl (short.0, cut), sym (same_fault {A = A} (BadLength at) fault told))
+            let cut : P.Faults limit contents (Truncated short.0) =
+            subst (P.Faults limit contents) short.1 found in
+            let told = ap (λ f. whole_of {A = A} at (Err f)) (sym short.1) ∙ e in
+            inl (inl (short.0, cut), sym (same_fault {A = A} (BadLength at) fault told))
         | inr other ↦
-          let same : first ≡ fault =
-              same_fault {A = A} first fault (sym (stays {A = A} at first other) ∙ e) in
-          let none : IsTruncated fault → ⊥ = subst (λ f. IsTruncated f → ⊥) same other in
-          inr (subst (P.Faults limit contents) same found, none)
+            let same : first ≡ fault =
+            same_fault {A = A} first fault (sym (stays {A = A} at first other) ∙ e) in
+            let none : IsTruncated fault → ⊥ = subst (λ f. IsTruncated f → ⊥) same other in
+            inr (subst (P.Faults limit contents) same found, none)
       ]
 
   within_stops : (limit : ℕ) (contents : List ℕ) (fault : ReadError)
@@ -149,9 +149,9 @@ module _ {A : Type 0} (item : ℕ → List ℕ → Read A) (P : Format A) (law :
       let inner = law.takes _ c.0.0 y.0 [] (contents_fit outer.front c.0.0 outer.spelled) read in
       let all : c.0.0 ≡ inner.front = inner.parts ∙ append-nil inner.front in
       let spelled : P.Spells c.0.0 x =
-          subst (P.Spells c.0.0) same.0 (subst (λ t. P.Spells t y.0) (sym all) inner.spelled) in
+      subst (P.Spells c.0.0) same.0 (subst (λ t. P.Spells t y.0) (sym all) inner.spelled) in
       let whole : IsEnclosed P outer.front x =
-          record { contents = c.0.0; outer = outer.spelled; inner = spelled } in
+      record { contents = c.0.0; outer = outer.spelled; inner = spelled } in
       record {
         front = outer.front;
         parts = subst (λ r. bytes ≡ outer.front ++ r) same.1 outer.parts;
@@ -165,8 +165,8 @@ module _ {A : Type 0} (item : ℕ → List ℕ → Read A) (P : Format A) (law :
   enclosed_again front rest x h =
       let at = place limit (front ++ rest) in
       let inner : item (place limit rest) h.contents ≡ Ok (x, []) =
-          ap (item (place limit rest)) (sym (append-nil h.contents))
-          ∙ law.again (place limit rest) h.contents [] x h.inner in
+      ap (item (place limit rest)) (sym (append-nil h.contents))
+      ∙ law.again (place limit rest) h.contents [] x h.inner in
       ap (λ r. r >>= inside at) (sized_is_read.again limit front rest h.contents h.outer)
       ∙ ap (λ r. with_rest rest (whole_of at r)) inner
 
@@ -175,26 +175,26 @@ module _ {A : Type 0} (item : ℕ → List ℕ → Read A) (P : Format A) (law :
       → sized.Faults limit bytes fault ⊎ FaultsInside P limit bytes fault
   unfolding enclosed_at
   enclosed_faults bytes fault fits e = elim (err_parts _ _ _ e) [
-      | inl bad ↦ inl (sized_is_read.faults limit bytes fault fits bad)
-      | inr c ↦
+    | inl bad ↦ inl (sized_is_read.faults limit bytes fault fits bad)
+    | inr c ↦
         let outer = sized_is_read.takes limit bytes c.0.0 c.0.1 fits c.1 in
         let are_bytes = contents_fit outer.front c.0.0 outer.spelled in
         elim (err_parts _ _ _ c.2) [
           | inl bad ↦
-            let at = place limit bytes in
-            let end = place limit c.0.1 in
-            let inner = fault_within item P law at end c.0.0 _ fault are_bytes refl bad in
-            inr (record {
-              front = outer.front;
-              rest = c.0.1;
-              parts = outer.parts;
-              contents = c.0.0;
-              outer = outer.spelled;
-              inner = inner;
-            })
+              let at = place limit bytes in
+              let end = place limit c.0.1 in
+              let inner = fault_within item P law at end c.0.0 _ fault are_bytes refl bad in
+              inr (record {
+                front = outer.front;
+                rest = c.0.1;
+                parts = outer.parts;
+                contents = c.0.0;
+                outer = outer.spelled;
+                inner = inner;
+              })
           | inr y ↦ absurd (no_fault y.0 c.0.1 fault y.2)
         ]
-    ]
+  ]
 
   enclosed_stops : (bytes : List ℕ) (fault : ReadError)
       → sized.Faults limit bytes fault ⊎ FaultsInside P limit bytes fault
@@ -204,12 +204,12 @@ module _ {A : Type 0} (item : ℕ → List ℕ → Read A) (P : Format A) (law :
       ap (λ r. r >>= inside (place limit bytes)) (sized_is_read.stops limit bytes fault h)
   enclosed_stops bytes fault (inr h) =
       let outer : sized_at limit bytes ≡ Ok (h.contents, h.rest) =
-          ap (sized_at limit) h.parts
-          ∙ sized_is_read.again limit h.front h.rest h.contents h.outer in
+      ap (sized_at limit) h.parts
+      ∙ sized_is_read.again limit h.front h.rest h.contents h.outer in
       ap (λ r. r >>= inside (place limit bytes)) outer
       ∙ ap (with_rest h.rest)
-          (within_stops item P law (place limit bytes) (place limit h.rest) h.contents fault
-              h.inner)
+      (within_stops item P law (place limit bytes) (place limit h.rest) h.contents fault
+      h.inner)
 
 pub enclosed_is_read : {A : Type 0} {item : ℕ → List ℕ → Read A} {P : Format A} → IsRead item P
     → IsRead (enclosed_at item) (enclosed P)

@@ -93,7 +93,7 @@ pub all_entries_is_read : IsRead all_entries_at format.all_entries
 unfolding all_entries_at
 all_entries_is_read =
     in_turn_is_read (tested_is_read w16 (λ n. not (eqb n 0)) (λ at n. BadIndex 0) u2_is_read)
-        (λ count. in_turn_is_read (entries_is_read (count - 1)) (λ cs. made_is_read (Gap ∷ cs)))
+    (λ count. in_turn_is_read (entries_is_read (count - 1)) (λ cs. made_is_read (Gap ∷ cs)))
 
 abbrev is_sound : List Const → Bool
 is_sound pool = is_none (lowest_bad pool)
@@ -103,13 +103,13 @@ bad_pool at pool = BadIndex (unwrap_or (lowest_bad pool) 0)
 
 as_sound : (rest : List ℕ) (pool : List Const) (bad : Option ℕ)
     → sound_pool rest pool bad
-      ≡ made_or (BadIndex (unwrap_or bad 0)) rest (cond (is_none bad) (Some pool) None)
+    ≡ made_or (BadIndex (unwrap_or bad 0)) rest (cond (is_none bad) (Some pool) None)
 as_sound rest pool None = refl
 as_sound rest pool (Some i) = refl
 
 behind_pool : (at : ℕ) (read : Read (List Const))
     → (read >>= λ p. sound_pool p.1 p.0 (lowest_bad p.0))
-      ≡ then_made (kept_where is_sound) bad_pool at read
+    ≡ then_made (kept_where is_sound) bad_pool at read
 behind_pool at (Ok p) = as_sound p.1 p.0 (lowest_bad p.0)
 behind_pool at (Err fault) = refl
 
@@ -121,5 +121,5 @@ pool_is_tested limit bytes = behind_pool (place limit bytes) (all_entries_at lim
 pub pool_is_read : IsRead pool_at format.constant_pool
 pool_is_read =
     same_read _ _ _ pool_is_tested
-        (converted_is_read all_entries_at format.all_entries (kept_where is_sound) bad_pool
-            all_entries_is_read)
+    (converted_is_read all_entries_at format.all_entries (kept_where is_sound) bad_pool
+    all_entries_is_read)

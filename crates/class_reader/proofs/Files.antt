@@ -85,8 +85,8 @@ pub spells_image : (bytes : List ℕ) (c : ClassFile) → Spells bytes c → ima
 unfolding image_of
 spells_image bytes c h =
     let read : class_at (length bytes) bytes ≡ Ok (c, []) =
-        ap (class_at (length bytes)) (sym (append-nil bytes))
-        ∙ class_is_read.again (length bytes) bytes [] c (spelled-class bytes c h) in
+    ap (class_at (length bytes)) (sym (append-nil bytes))
+    ∙ class_is_read.again (length bytes) bytes [] c (spelled-class bytes c h) in
     ap (all_of (length bytes)) read
 
 -- the fault of bytes that were read so
@@ -122,8 +122,8 @@ unfolding image_of
 trailing_image bytes fault h =
     let limit = length bytes in
     let read : class_at limit bytes ≡ Ok (h.class, h.more) =
-        ap (class_at limit) h.parts
-        ∙ class_is_read.again limit h.front h.more h.class (spelled-class h.front h.class h.spelled) in
+    ap (class_at limit) h.parts
+    ∙ class_is_read.again limit h.front h.more h.class (spelled-class h.front h.class h.spelled) in
     ap (all_of limit) read
     ∙ goes_on limit h.class h.more h.some
     ∙ ap (λ at. fault_of (Trailing at)) (behind bytes h.front h.more h.parts)

@@ -52,8 +52,8 @@ IsBytes-take n bytes h i =
     elim (cases_lt i n) [
       | inl lt ↦ rw (get_or-take n bytes i 0 lt) (h i)
       | inr le ↦
-        let past : length (take n bytes) ≤ i = omega (arith, length-take n bytes) in
-        rw (get_or_past (take n bytes) i 0 past) (omega arith)
+          let past : length (take n bytes) ≤ i = omega (arith, length-take n bytes) in
+          rw (get_or_past (take n bytes) i 0 past) (omega arith)
     ]
 
 -- the bytes, each for itself

@@ -35,7 +35,7 @@ module _ (len limit : ℕ) where
       let decoded_so = from_text bytes a.0.1 a.0.0 units rest _ refl a.2 in
       let behind : drop len bytes ≡ rest = run.2 ∙ decoded_so.1 in
       let long : length (take len bytes) ≡ len =
-          let within = run.0 in omega (arith, length-take len bytes) in
+      let within = run.0 in omega (arith, length-take len bytes) in
       record {
         front = take len bytes;
         parts = subst (λ r. bytes ≡ take len bytes ++ r) behind (sym (take-append-drop len bytes));
@@ -64,8 +64,8 @@ module _ (len limit : ℕ) where
       → IsCut len limit bytes fault ⊎ IsBadText len limit bytes fault
   unfolding text_at
   text_faults bytes fault e = elim (err_parts _ _ _ e) [
-      | inl short ↦ inl (run_faults len limit bytes fault short)
-      | inr a ↦
+    | inl short ↦ inl (run_faults len limit bytes fault short)
+    | inr a ↦
         let run = run_takes_parts len limit bytes a.0.0 a.0.1 a.1 in
         let bad = from_bad bytes a.0.1 a.0.0 _ fault refl a.2 in
         inr (record {
@@ -74,7 +74,7 @@ module _ (len limit : ℕ) where
           bad = subst (λ t. IsFirstBad t bad.0) (sym run.1) bad.1;
           told = bad.2;
         })
-    ]
+  ]
 
   text_stops : (bytes : List ℕ) (fault : ReadError)
       → IsCut len limit bytes fault ⊎ IsBadText len limit bytes fault

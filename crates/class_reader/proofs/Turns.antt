@@ -40,7 +40,6 @@ made_is_read value = record {
 module _ {A B : Type 0} (p : ℕ → List ℕ → Read A) (q : A → ℕ → List ℕ → Read B)
     (P : Format A) (Q : A → Format B)
     (first : IsRead p P) (second : (x : A) → IsRead (q x) (Q x)) where
-
   -- what follows an item that was read
   abbrev then_read : ℕ → Read A → Read B
   then_read limit read = read >>= λ a. q a.0 limit a.1
@@ -53,18 +52,18 @@ module _ {A B : Type 0} (p : ℕ → List ℕ → Read A) (q : A → ℕ → Lis
       let one = first.takes limit bytes a.0.0 a.0.1 fits a.1 in
       let two = (second a.0.0).takes limit a.0.1 y rest one.rest_fits a.2 in
       let whole : bytes ≡ (one.front ++ two.front) ++ rest =
-          one.parts
-          ∙ ap (λ t. one.front ++ t) two.parts
-          ∙ sym (append_assoc one.front two.front rest) in
+      one.parts
+      ∙ ap (λ t. one.front ++ t) two.parts
+      ∙ sym (append_assoc one.front two.front rest) in
       let spelled : AreInTurn P Q (one.front ++ two.front) y =
-          record {
-            front = one.front;
-            rest = two.front;
-            parts = refl;
-            x = a.0.0;
-            first = one.spelled;
-            second = two.spelled;
-          } in
+      record {
+        front = one.front;
+        rest = two.front;
+        parts = refl;
+        x = a.0.0;
+        first = one.spelled;
+        second = two.spelled;
+      } in
       record {
         front = one.front ++ two.front;
         parts = whole;
@@ -76,7 +75,7 @@ module _ {A B : Type 0} (p : ℕ → List ℕ → Read A) (q : A → ℕ → Lis
       → next p q limit (front ++ rest) ≡ Ok (y, rest)
   turn_again limit front rest y h =
       let regrouped : front ++ rest ≡ h.front ++ (h.rest ++ rest) =
-          ap (λ t. t ++ rest) h.parts ∙ append_assoc h.front h.rest rest in
+      ap (λ t. t ++ rest) h.parts ∙ append_assoc h.front h.rest rest in
       ap (next p q limit) regrouped
       ∙ ap (then_read limit) (first.again limit h.front (h.rest ++ rest) h.x h.first)
       ∙ (second h.x).again limit h.rest rest y h.second
@@ -85,14 +84,18 @@ module _ {A B : Type 0} (p : ℕ → List ℕ → Read A) (q : A → ℕ → Lis
       → next p q limit bytes ≡ Err fault
       → P.Faults limit bytes fault ⊎ FaultsBehind P Q limit bytes fault
   turn_faults limit bytes fault fits e = elim (err_parts _ _ _ e) [
-      | inl bad ↦ inl (first.faults limit bytes fault fits bad)
-      | inr a ↦
+    | inl bad ↦ inl (first.faults limit bytes fault fits bad)
+    | inr a ↦
         let one = first.takes limit bytes a.0.0 a.0.1 fits a.1 in
         inr (record {
-          front = one.front; rest = a.0.1; parts = one.parts; x = a.0.0; first = one.spelled;
+          front = one.front;
+          rest = a.0.1;
+          parts = one.parts;
+          x = a.0.0;
+          first = one.spelled;
           second = (second a.0.0).faults limit a.0.1 fault one.rest_fits a.2;
         })
-    ]
+  ]
 
   turn_stops : (limit : ℕ) (bytes : List ℕ) (fault : ReadError)
       → P.Faults limit bytes fault ⊎ FaultsBehind P Q limit bytes fault

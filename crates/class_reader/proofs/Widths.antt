@@ -22,8 +22,8 @@ ended limit bytes = Err (Truncated (place limit bytes))
 abbrev cut_at : {A : Type 0} → ℕ → (List ℕ → A) → ℕ → List ℕ → Read A
 cut_at len make limit bytes =
     cond (ltb (length bytes) len)
-        (ended limit bytes)
-        (one_read (make (take len bytes)) (drop len bytes))
+    (ended limit bytes)
+    (one_read (make (take len bytes)) (drop len bytes))
 
 module _ {A : Type 0} (len : ℕ) (make : List ℕ → A) where
   cut_takes : (limit : ℕ) (bytes : List ℕ) (x : A) (rest : List ℕ)
@@ -33,7 +33,7 @@ module _ {A : Type 0} (len : ℕ) (make : List ℕ → A) where
     where
       by_case : (b : Bool) → ltb (length bytes) len ≡ b
           → cond b (ended limit bytes) (one_read (make (take len bytes)) (drop len bytes))
-            ≡ one_read x rest
+          ≡ one_read x rest
           → (len ≤ length bytes) × (make (take len bytes) ≡ x) × (drop len bytes ≡ rest)
       by_case true is e = absurd (no_fault x rest _ (sym e))
       by_case false is e = let same = read_parts _ _ _ _ e in (ltb-false _ _ is, same.0, same.1)
@@ -42,7 +42,7 @@ module _ {A : Type 0} (len : ℕ) (make : List ℕ → A) where
       → cut_at len make limit (front ++ rest) ≡ Ok (make front, rest)
   cut_again limit front rest e =
       let long : ltb (length (front ++ rest)) len ≡ false =
-          le-ltb _ _ (omega (arith, length-append front rest)) in
+      le-ltb _ _ (omega (arith, length-append front rest)) in
       rw (long, take_at front rest len e, drop_at front rest len e) refl
 
   cut_whole : (limit : ℕ) (bytes : List ℕ) → len ≤ length bytes
@@ -55,7 +55,7 @@ module _ {A : Type 0} (len : ℕ) (make : List ℕ → A) where
     where
       by_case : (b : Bool) → ltb (length bytes) len ≡ b
           → cond b (ended limit bytes) (one_read (make (take len bytes)) (drop len bytes))
-            ≡ Err fault
+          ≡ Err fault
           → IsCut len limit bytes fault
       by_case true is e =
           let told : Truncated (place limit bytes) ≡ fault = cc in (ltb-true _ _ is, sym told)
@@ -128,7 +128,7 @@ module _ (w : Width) (wide : IsWide w) where
       let back : to_be_bytes w (from_be_bytes w front) ≡ front = wide.back front len front_fits in
       let n = from_be_bytes w front in
       let spelled : (n < 2 ^ (8 * byte_len w)) × (front ≡ to_be_bytes w n) =
-          (wide.below front front_fits, sym back) in
+      (wide.below front front_fits, sym back) in
       record {
         front = front;
         parts = subst (λ r. bytes ≡ front ++ r) cut.2 (sym (take-append-drop (byte_len w) bytes));
@@ -192,7 +192,7 @@ module _ (len : ℕ) where
       let front = take len bytes in
       let long : length front ≡ len = omega (arith, length-take len bytes) in
       let spelled : (front ≡ front) × (length front ≡ len) × AllByRecursion IsByte front =
-          (refl, long, IsBytes-each front (IsBytes-take len bytes fits)) in
+      (refl, long, IsBytes-each front (IsBytes-take len bytes fits)) in
       record {
         front = front;
         parts = subst (λ r. bytes ≡ front ++ r) cut.2 (sym (take-append-drop len bytes));

@@ -5,8 +5,8 @@ ghost use Rattle.std.specs.Int.{w32};
 ghost use Rattle.class_reader.specs.declared.error.ReadError.TheVariants.{BadLength};
 ghost use Rattle.class_reader.specs.Reading.{Gives, tested_at, handler_at, code_bytes_at, code_at};
 
-use crate::error::ReadError;
 use crate::attributes::Raws;
+use crate::error::ReadError;
 use crate::lists::{ReadItem, counted_of};
 use crate::numbers::{place_of, run_of, u16_of, u32_of};
 use crate::references::optional_class_of;

@@ -16,3 +16,6 @@ mod tags;
 
 pub use error::ReadError;
 pub use reader::{read_class, read_image};
+
+#[cfg(test)]
+mod tests;

@@ -63,11 +63,7 @@ pub(crate) fn u64_of(limit: usize, bytes: &[u8]) -> Result<(u64, &[u8]), ReadErr
 
 /// So many bytes.
 #[tactic(auto, unfolding(crate::specs::Reading::run_at))]
-pub(crate) fn run_of(
-    len: usize,
-    limit: usize,
-    bytes: &[u8],
-) -> Result<(&[u8], &[u8]), ReadError>
+pub(crate) fn run_of(len: usize, limit: usize, bytes: &[u8]) -> Result<(&[u8], &[u8]), ReadError>
     ensures run { Gives (λ x. (x.0.now, x.1.now)) result (run_at len limit bytes.now) }
     ensures within { IfOk result (λ x. length x.0.now ≤ length bytes.now) }
 {

@@ -41,11 +41,7 @@ pub(crate) fn names_constant(pool: &[Const], index: u16) -> bool
     matches!(
         pool.get(usize::from(index)),
         Some(
-            Const::Integer(_)
-                | Const::Float(_)
-                | Const::Long(_)
-                | Const::Double(_)
-                | Const::Text(_)
+            Const::Integer(_) | Const::Float(_) | Const::Long(_) | Const::Double(_) | Const::Text(_)
         )
     )
 }
