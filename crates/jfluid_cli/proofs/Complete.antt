@@ -3,13 +3,12 @@ use Rattle.std.proofs.Common.{◌≡◌, ◌≢◌, ℕ, ◌+◌, ◌<◌, ◌�
 use Rattle.std.specs.Prelude.{◌⊎◌, min, Result, Ok, Err, IfSome, IfOk, IfErr, IsSome, MatchResult}
 use Rattle.std.specs.Option.{option_and_then}
 use Rattle.std.proofs.lemmas.Option.{same_Some, none-some}
-use Rattle.class_reader.proofs.Files.{only_one}
 use Rattle.jfluid_cli.specs.declared.kept.Kept.{Kept}
 use Rattle.jfluid_cli.specs.declared.refusal.Refusal.{Refusal}
-use Rattle.jfluid_cli.specs.declared.refusal.Refusal.TheVariants.{Words, BadRoot, NotBuilt, NoMain, NoSuchRoot, NotFetched, OutFailed, NoMemory}
+use Rattle.jfluid_cli.specs.declared.refusal.Refusal.TheVariants.{Words, BadRoot, NotRead, NotBuilt, NoMain, NoSuchRoot, NotFetched, OutFailed, NoMemory}
 use Rattle.jf_bytes.specs.Streams.{Told, Rose, greatest}
 use Rattle.const_pool.specs.declared.class.ClassFile.{ClassFile}
-use Rattle.class_reader.specs.Plain.{IsPlainFile}
+use Rattle.class_reader.specs.Files.{IsFile}
 use Rattle.jvm_model.specs.declared.state.State.{State}
 use Rattle.jvm_model.specs.Run.{ending_of}
 use Rattle.jvm_model.specs.SmallClass.{main_of}
@@ -18,9 +17,11 @@ use Rattle.jvm_machine.specs.View.{View}
 use Rattle.jfluid_cli.specs.Roots.{IsRoot, IsChosen, IsBadRoot, LacksRoot, root_said, root_method}
 use Rattle.jfluid_cli.specs.Selections.{RunsProgram}
 use Rattle.const_pool.specs.References.{Reference}
+use Rattle.jfluid_cli.specs.PlainFiles.{IsPlainFile}
+use Rattle.jfluid_cli.specs.Refusals.{status_of}
 use Rattle.jfluid_cli.specs.Words.{Command, command_of}
 use Rattle.jfluid_cli.specs.Runs.{ending_at, SameProgram, IsCarriedOut}
-use Rattle.jfluid_cli.specs.Top.{status_of_ending, IsProgram, IsOutside, LacksMain, Has, IsToldAs, IsCalm, IsAccepted, LacksRootMethod}
+use Rattle.jfluid_cli.specs.Top.{status_of_ending, IsProgram, HasNoRooted, Has, IsToldAs, IsCalm, IsAccepted}
 
 -- a calm count did not rise
 pub calm_not_rose : (old new : ℕ) → IsCalm old new → Rose old new → ⊥
@@ -84,35 +85,29 @@ pub chosen-said : (word : Option (List ℕ)) (c : ClassFile) (root : Option ℕ)
 chosen-said None c root chosen = sym chosen
 chosen-said (Some word) c root chosen = ap (option_and_then (root_method c)) chosen.2.parts ∙ (chosen.3 ∙ sym chosen.4)
 
+-- what is accepted is a program with its root
+accepted_none : (told : Option Told) (words : List (List ℕ)) (c : ClassFile) (main : ℕ) (a : IsAccepted told words c main) (command : Command) → command_of words ≡ Some command
+    → Has told command.file (HasNoRooted command.options.root command.main) → ⊥
+accepted_none told words c main a command e none =
+    let same : command ≡ a.command = accepted_command told words c main a command e in
+    let has : Has told a.command.file (HasNoRooted a.command.options.root a.command.main) = subst (λ (k : Command). Has told k.file (HasNoRooted k.options.root k.main)) same none in
+    accepted_has told words c main a (HasNoRooted a.command.options.root a.command.main) has c main a.root a.program a.chosen
+
 -- What a load refused was not accepted, unless memory ran out.
 pub load_refused : (told : Option Told) (words : List (List ℕ)) (c : ClassFile) (main : ℕ) (command : Command) (refusal : Refusal) (before after : ℕ) → IsAccepted told words c main → command_of words ≡ Some command
-    → IsCalm before after → (refusal ≢ Words) → (refusal ≢ OutFailed) → (refusal ≡ NotFetched → Rose before after)
-    → (refusal ≡ NotBuilt → Has told command.file IsOutside) → (refusal ≡ NoMain → Has told command.file (λ bytes. LacksMain bytes command.main))
-    → (refusal ≡ BadRoot → IsBadRoot command.options.root) → (refusal ≡ NoSuchRoot → Has told command.file (λ bytes. LacksRootMethod command.options.root bytes command.main)) → refusal ≡ NoMemory
-load_refused told words c main command Words before after a e calm not_words not_out failed outside lacking bad rootless = absurd (not_words refl)
-load_refused told words c main command OutFailed before after a e calm not_words not_out failed outside lacking bad rootless = absurd (not_out refl)
-load_refused told words c main command NotFetched before after a e calm not_words not_out failed outside lacking bad rootless = absurd (calm_not_rose before after calm (failed refl))
-load_refused told words c main command NoMemory before after a e calm not_words not_out failed outside lacking bad rootless = refl
-load_refused told words c main command NotBuilt before after a e calm not_words not_out failed outside lacking bad rootless =
-    let same : command ≡ a.command = accepted_command told words c main a command e in
-    let has : Has told a.command.file IsOutside = subst (λ (k : Command). Has told k.file IsOutside) same (outside refl) in
-    absurd (accepted_has told words c main a IsOutside has c a.program.file a.program.small)
-load_refused told words c main command NoMain before after a e calm not_words not_out failed outside lacking bad rootless =
-    let same : command ≡ a.command = accepted_command told words c main a command e in
-    let has : Has told a.command.file (λ bytes. LacksMain bytes a.command.main) = subst (λ (k : Command). Has told k.file (λ bytes. LacksMain bytes k.main)) same (lacking refl) in
-    let lacks : LacksMain a.bytes a.command.main = accepted_has told words c main a (λ bytes. LacksMain bytes a.command.main) has in
-    let one : lacks.0 ≡ c = only_one a.bytes lacks.0 c lacks.1 a.program.file in
-    let none : main_of c a.command.main ≡ None = ap (λ (k : ClassFile). main_of k a.command.main) (sym one) ∙ lacks.3 in
-    absurd (let found : main_of c a.command.main ≡ Some main = a.program.main_is in cc)
-load_refused told words c main command BadRoot before after a e calm not_words not_out failed outside lacking bad rootless =
+    → IsCalm before after → (refusal ≢ Words) → (refusal ≢ OutFailed) → (refusal ≡ NotFetched → Rose before after) → (refusal ≡ BadRoot → IsBadRoot command.options.root)
+    → (status_of refusal ≡ 3 → Has told command.file (HasNoRooted command.options.root command.main)) → refusal ≡ NoMemory
+load_refused told words c main command Words before after a e calm not_words not_out failed bad none = absurd (not_words refl)
+load_refused told words c main command OutFailed before after a e calm not_words not_out failed bad none = absurd (not_out refl)
+load_refused told words c main command NotFetched before after a e calm not_words not_out failed bad none = absurd (calm_not_rose before after calm (failed refl))
+load_refused told words c main command NoMemory before after a e calm not_words not_out failed bad none = refl
+load_refused told words c main command BadRoot before after a e calm not_words not_out failed bad none =
     let same : command ≡ a.command = accepted_command told words c main a command e in
     absurd (chosen-fine a.command.options.root c a.root a.chosen (subst (λ (k : Command). IsBadRoot k.options.root) same (bad refl)))
-load_refused told words c main command NoSuchRoot before after a e calm not_words not_out failed outside lacking bad rootless =
-    let same : command ≡ a.command = accepted_command told words c main a command e in
-    let has : Has told a.command.file (λ bytes. LacksRootMethod a.command.options.root bytes a.command.main) = subst (λ (k : Command). Has told k.file (λ bytes. LacksRootMethod k.options.root bytes k.main)) same (rootless refl) in
-    let lacks : LacksRootMethod a.command.options.root a.bytes a.command.main = accepted_has told words c main a (λ bytes. LacksRootMethod a.command.options.root bytes a.command.main) has in
-    let one : lacks.0 ≡ c = only_one a.bytes lacks.0 c lacks.2.file a.program.file in
-    absurd (chosen-known a.command.options.root c a.root a.chosen (subst (LacksRoot a.command.options.root) one lacks.3))
+load_refused told words c main command (NotRead why) before after a e calm not_words not_out failed bad none = absurd (accepted_none told words c main a command e (none refl))
+load_refused told words c main command NotBuilt before after a e calm not_words not_out failed bad none = absurd (accepted_none told words c main a command e (none refl))
+load_refused told words c main command NoMain before after a e calm not_words not_out failed bad none = absurd (accepted_none told words c main a command e (none refl))
+load_refused told words c main command NoSuchRoot before after a e calm not_words not_out failed bad none = absurd (accepted_none told words c main a command e (none refl))
 
 abbrev some_number : ℕ → Option ℕ
 some_number n = Some n
@@ -120,16 +115,19 @@ some_number n = Some n
 number_is : (m n : ℕ) → some_number m ≡ some_number n → m ≡ n
 number_is m n e = cc
 
+-- a file of the built part is a file
+pub file_of : (bytes : List ℕ) (c : ClassFile) → IsPlainFile bytes c → IsFile bytes c
+file_of bytes c plain = record { short = plain.short; spells = plain.spells }
+
 -- What was loaded is the program that is accepted.
 pub accepted_is : (told : Option Told) (words : List (List ℕ)) (c : ClassFile) (main : ℕ) (a : IsAccepted told words c main) (command : Command) (bytes : List ℕ) (class : ClassFile) (number : ℕ) → command_of words ≡ Some command
-    → IsToldAs told command.file bytes → IsProgram bytes command.main class number → (c ≡ class) × (main ≡ number)
-accepted_is told words c main a command bytes class number e as_told program =
+    → IsToldAs told command.file bytes → IsProgram bytes command.main class number → ((d : ClassFile) → IsFile bytes d → d ≡ class) → (c ≡ class) × (main ≡ number)
+accepted_is told words c main a command bytes class number e as_told program only =
     let same : command ≡ a.command = accepted_command told words c main a command e in
     let files : IsToldAs (Some a.files) a.command.file bytes = subst (λ (t : Option Told). IsToldAs t a.command.file bytes) a.telling (subst (λ (k : Command). IsToldAs told k.file bytes) same as_told) in
     let contents : some_bytes a.bytes ≡ some_bytes bytes = sym a.told_as ∙ files in
     let bytes_are : a.bytes ≡ bytes = cc in
-    let file : IsPlainFile bytes c = subst (λ (bs : List ℕ). IsPlainFile bs c) bytes_are a.program.file in
-    let class_is : c ≡ class = only_one bytes c class file program.file in
+    let class_is : c ≡ class = only c (subst (λ (bs : List ℕ). IsFile bs c) bytes_are (file_of a.bytes c a.program.file)) in
     let found : main_of class command.main ≡ Some main = ap (λ (k : ClassFile). main_of k command.main) (sym class_is) ∙ (ap (λ (k : Command). main_of c k.main) same ∙ a.program.main_is) in
     (class_is, number_is main number (sym found ∙ program.main_is))
 

@@ -2,6 +2,7 @@ pub mod Codes
 pub mod Numbers
 pub mod Formed
 pub mod Methods
+pub mod Shapes
 pub mod Outputs
 pub mod Telling
 pub mod Selected
@@ -12,6 +13,7 @@ pub mod Underway
 pub mod ToldFiles
 pub mod Refused
 pub mod Complete
+pub mod Programs
 pub mod Answered
 pub mod Refusable
 pub mod Reported

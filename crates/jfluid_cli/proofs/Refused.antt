@@ -1,22 +1,24 @@
 -- What is told of each refusal.
-use Rattle.std.proofs.Common.{◌≡◌, ℕ, List, Option, refl, sym, ap, subst, ◌∙◌, inl, inr, None}
+use Rattle.std.proofs.Common.{◌≡◌, ℕ, true, List, Option, refl, sym, ap, subst, ◌∙◌, inl, inr, None}
 use Rattle.std.specs.Prelude.{◌⊎◌}
+use Rattle.class_reader.specs.declared.error.ReadError.{ReadError}
 use Rattle.jf_bytes.specs.Streams.{Told}
 use Rattle.jfluid_cli.specs.declared.refusal.Refusal.{Refusal}
-use Rattle.jfluid_cli.specs.declared.refusal.Refusal.TheVariants.{Words, BadRoot, NotBuilt, NoMain, NoSuchRoot, NotFetched, OutFailed, NoMemory}
+use Rattle.jfluid_cli.specs.declared.refusal.Refusal.TheVariants.{Words, BadRoot, NotRead, NotBuilt, NoMain, NoSuchRoot, NotFetched, OutFailed, NoMemory}
 use Rattle.jfluid_cli.specs.Refusals.{status_of, line_of, PutsOrRose, Tells}
-use Rattle.jfluid_cli.specs.Top.{IsOutside, LacksMain, RefusesFile, RefusesRoot, HasBadRoot, AreRefused, IsRefusedFile}
+use Rattle.jfluid_cli.specs.Top.{is_refused, IsOutside, LacksMain, RefusesFile, RefusesBytes, RefusesRoot, HasBadRoot, AreRefused, IsRefusedFile}
 use Rattle.jfluid_cli.specs.Words.{command_of}
 
--- one of three, each with what is told
+-- one of four, each with what is told
 abbrev ForFile : Refusal → Refusal → Type 0
-ForFile refusal told = (((refusal ≡ NotBuilt) × (told ≡ NotBuilt)) ⊎ ((refusal ≡ NoMain) × (told ≡ NoMain))) ⊎ ((refusal ≡ NoSuchRoot) × (told ≡ NoSuchRoot))
+ForFile refusal told = ((why : ReadError) × (refusal ≡ NotRead why) × (told ≡ NotRead why)) ⊎ ((((refusal ≡ NotBuilt) × (told ≡ NotBuilt)) ⊎ ((refusal ≡ NoMain) × (told ≡ NoMain))) ⊎ ((refusal ≡ NoSuchRoot) × (told ≡ NoSuchRoot)))
 
 -- status 3 is told for a file alone
 told_of_file : (refusal told : Refusal) → (told ≡ refusal) ⊎ (told ≡ NoMemory) → status_of told ≡ 3 → ForFile refusal told
-told_of_file refusal NotBuilt (inl same) status = inl (inl (sym same, refl))
-told_of_file refusal NoMain (inl same) status = inl (inr (sym same, refl))
-told_of_file refusal NoSuchRoot (inl same) status = inr (sym same, refl)
+told_of_file refusal (NotRead why) (inl same) status = inl (why, sym same, refl)
+told_of_file refusal NotBuilt (inl same) status = inr (inl (inl (sym same, refl)))
+told_of_file refusal NoMain (inl same) status = inr (inl (inr (sym same, refl)))
+told_of_file refusal NoSuchRoot (inl same) status = inr (inr (sym same, refl))
 told_of_file refusal told (inr memory) status = absurd (let e : status_of NoMemory ≡ 3 = ap status_of (sym memory) ∙ status in cc)
 told_of_file refusal Words (inl same) status = absurd cc
 told_of_file refusal BadRoot (inl same) status = absurd cc
@@ -29,6 +31,7 @@ told_of_words : (refusal told : Refusal) → (told ≡ refusal) ⊎ (told ≡ No
 told_of_words refusal Words (inl same) status = inl (sym same, refl)
 told_of_words refusal BadRoot (inl same) status = inr (sym same, refl)
 told_of_words refusal told (inr memory) status = absurd (let e : status_of NoMemory ≡ 2 = ap status_of (sym memory) ∙ status in cc)
+told_of_words refusal (NotRead why) (inl same) status = absurd cc
 told_of_words refusal NotBuilt (inl same) status = absurd cc
 told_of_words refusal NoMain (inl same) status = absurd cc
 told_of_words refusal NoSuchRoot (inl same) status = absurd cc
@@ -46,15 +49,18 @@ tells old mid new before between after file told refusal same calm is puts =
 
 -- A file was refused, and the line says why.
 pub file_refused : (told : Option Told) (words : List (List ℕ)) (Line : Refusal → Type 0) (refusal last : Refusal) → (last ≡ refusal) ⊎ (last ≡ NoMemory) → status_of last ≡ 3
-    → (refusal ≡ NotBuilt → RefusesFile told words (λ bytes main. IsOutside bytes)) → (refusal ≡ NoMain → RefusesFile told words LacksMain) → (refusal ≡ NoSuchRoot → RefusesRoot told words) → ((r : Refusal) → last ≡ r → Line r)
+    → ((why : ReadError) → refusal ≡ NotRead why → RefusesBytes told words why) → (refusal ≡ NotBuilt → RefusesFile told words (λ bytes main. IsOutside bytes)) → (refusal ≡ NoMain → RefusesFile told words LacksMain) → (refusal ≡ NoSuchRoot → RefusesRoot told words) → ((r : Refusal) → last ≡ r → Line r)
     → IsRefusedFile told words Line
-file_refused told words Line refusal last was status outside lacking rootless line =
+file_refused told words Line refusal last was status unread outside lacking rootless line =
     elim (told_of_file refusal last was status) [
-      | inl file ↦ elim file [
-        | inl (e, f) ↦ inl (inl (outside e, line NotBuilt f))
-        | inr (e, f) ↦ inl (inr (lacking e, line NoMain f))
+      | inl (why, e, f) ↦ inl (why, unread why e, line (NotRead why) f)
+      | inr class ↦ elim class [
+        | inl file ↦ elim file [
+          | inl (e, f) ↦ inr (inl (inl (outside e, line NotBuilt f)))
+          | inr (e, f) ↦ inr (inl (inr (lacking e, line NoMain f)))
+        ]
+        | inr (e, f) ↦ inr (inr (rootless e, line NoSuchRoot f))
       ]
-      | inr (e, f) ↦ inr (rootless e, line NoSuchRoot f)
     ]
 
 -- The words were refused, and the line says why.
@@ -75,3 +81,17 @@ bad_told refusal told (inl same) (inr memory) = inr (ap status_of (same ∙ memo
 -- where memory ran out, that is told
 pub memory_told : (refusal told : Refusal) → (told ≡ refusal) ⊎ (told ≡ NoMemory) → refusal ≡ NoMemory → status_of told ≡ 9
 memory_told refusal told was memory = elim was [ inl same ↦ ap status_of (same ∙ memory) | inr last ↦ ap status_of last ]
+
+-- With the status of a refusal before the start comes what holds of each of these.
+pub nothing_made : (refusal told : Refusal) (N : Type 0) → (told ≡ refusal) ⊎ (told ≡ NoMemory) → is_refused (status_of told) ≡ true
+    → (refusal ≡ Words → N) → (refusal ≡ BadRoot → N) → ((why : ReadError) → refusal ≡ NotRead why → N) → (refusal ≡ NotBuilt → N) → (refusal ≡ NoMain → N) → (refusal ≡ NoSuchRoot → N) → (refusal ≡ NotFetched → N) → N
+nothing_made refusal told N (inr memory) status words root read built main method fetched = absurd (let e : is_refused (status_of NoMemory) ≡ true = ap (λ r. is_refused (status_of r)) (sym memory) ∙ status in cc)
+nothing_made refusal Words N (inl same) status words root read built main method fetched = words (sym same)
+nothing_made refusal BadRoot N (inl same) status words root read built main method fetched = root (sym same)
+nothing_made refusal (NotRead why) N (inl same) status words root read built main method fetched = read why (sym same)
+nothing_made refusal NotBuilt N (inl same) status words root read built main method fetched = built (sym same)
+nothing_made refusal NoMain N (inl same) status words root read built main method fetched = main (sym same)
+nothing_made refusal NoSuchRoot N (inl same) status words root read built main method fetched = method (sym same)
+nothing_made refusal NotFetched N (inl same) status words root read built main method fetched = fetched (sym same)
+nothing_made refusal OutFailed N (inl same) status words root read built main method fetched = absurd cc
+nothing_made refusal NoMemory N (inl same) status words root read built main method fetched = absurd cc

@@ -1,4 +1,5 @@
 pub mod Admission
+pub mod PlainFiles
 pub mod Refusals
 pub mod Runs
 pub mod Words

@@ -2,7 +2,8 @@
 use Rattle.std.specs.Prelude.{◌≡◌, ℕ, List, [], ◌∷◌, Option, Some}
 use Rattle.jf_bytes.specs.Streams.{Told}
 use Rattle.const_pool.specs.declared.class.ClassFile.{ClassFile}
-use Rattle.class_reader.specs.Plain.{IsPlainFile}
+use Rattle.class_reader.specs.declared.error.ReadError.{ReadError}
+use Rattle.class_reader.specs.Files.{IsFile, IsFirstFault}
 use Rattle.jfluid_cli.specs.declared.kept.Kept.{Kept}
 use Rattle.jfluid_cli.specs.Roots.{IsChosen}
 use Rattle.jfluid_cli.specs.Selections.{IsSelected}
@@ -24,8 +25,9 @@ pub record HasOrigin (told : Option Told) (words : List (List ℕ)) (k : Kept) :
   pub input : k.input ≡ []
   pub no_input : k.vm.input ≡ []
 
--- No other class than the one that runs is spelled by the bytes that are kept.
+-- The bytes that are kept have no fault, and spell no other class than the one that runs.
 pub record IsOnlyProgram (k : Kept) : Type 0 where
   pub bytes : List ℕ
   pub classes : k.classes ≡ bytes ∷ []
-  pub only : (c : ClassFile) → IsPlainFile bytes c → c ≡ k.vm.class
+  pub only : (c : ClassFile) → IsFile bytes c → c ≡ k.vm.class
+  pub faultless : (fault : ReadError) → IsFirstFault bytes fault → ⊥

@@ -1,13 +1,17 @@
 -- The refusals of the program: their statuses, and the line that is put to the report.
 use Rattle.std.specs.Prelude.{◌≡◌, ℕ, ◌⊎◌, List, ◌++◌, Option, codes}
+use Rattle.std.specs.Fmt.{decimal}
 use Rattle.std.specs.Io.KnownBytes.{append_known}
 use Rattle.jf_bytes.specs.Streams.{PutsFront, Rose}
+use Rattle.class_reader.specs.declared.error.ReadError.{ReadError}
+use Rattle.class_reader.specs.declared.error.ReadError.TheVariants as fault
 use Rattle.jfluid_cli.specs.declared.refusal.Refusal.{Refusal}
-use Rattle.jfluid_cli.specs.declared.refusal.Refusal.TheVariants.{Words, BadRoot, NotBuilt, NoMain, NoSuchRoot, NotFetched, OutFailed, NoMemory}
+use Rattle.jfluid_cli.specs.declared.refusal.Refusal.TheVariants.{Words, BadRoot, NotRead, NotBuilt, NoMain, NoSuchRoot, NotFetched, OutFailed, NoMemory}
 
 abbrev pub status_of : Refusal → ℕ
 status_of Words = 2
 status_of BadRoot = 2
+status_of (NotRead why) = 3
 status_of NotBuilt = 3
 status_of NoMain = 3
 status_of NoSuchRoot = 3
@@ -15,10 +19,25 @@ status_of OutFailed = 6
 status_of NotFetched = 7
 status_of NoMemory = 9
 
+-- what is told of a fault: its name and its number
+abbrev pub cause_of : ReadError → List ℕ
+cause_of fault.TooLong = codes "TooLong"
+cause_of (fault.Truncated at) = codes "Truncated " ++ decimal at
+cause_of fault.BadMagic = codes "BadMagic"
+cause_of (fault.BadVersion major) = codes "BadVersion " ++ decimal major
+cause_of (fault.BadTag at) = codes "BadTag " ++ decimal at
+cause_of (fault.BadUtf8 at) = codes "BadUtf8 " ++ decimal at
+cause_of (fault.BadIndex entry) = codes "BadIndex " ++ decimal entry
+cause_of (fault.BadRef at) = codes "BadRef " ++ decimal at
+cause_of (fault.BadLength at) = codes "BadLength " ++ decimal at
+cause_of (fault.Trailing at) = codes "Trailing " ++ decimal at
+cause_of fault.NoMemory = codes "NoMemory"
+
 -- the line, with its end; a file is called by its word
 abbrev pub line_of : Refusal → List ℕ → List ℕ
 line_of Words file = codes "jfluid: words refused\n"
 line_of BadRoot file = codes "jfluid: plan: BadLine 0 Root\n"
+line_of (NotRead why) file = codes "jfluid: " ++ (file ++ (codes ": " ++ (cause_of why ++ codes "\n")))
 line_of NotBuilt file = codes "jfluid: " ++ (file ++ codes ": NotBuilt\n")
 line_of NoMain file = codes "jfluid: NoMain\n"
 line_of NoSuchRoot file = codes "jfluid: NoSuchRoot 1\n"

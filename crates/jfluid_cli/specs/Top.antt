@@ -4,13 +4,16 @@ use Rattle.std.specs.Option.{option_and_then}
 use Rattle.std.specs.List.{list_any}
 use Rattle.jf_bytes.specs.Streams.{Told, contents_at, front_at, greatest}
 use Rattle.const_pool.specs.declared.class.ClassFile.{ClassFile}
-use Rattle.class_reader.specs.Plain.{IsPlainFile}
+use Rattle.const_pool.specs.Plain.{HasPlainShape}
+use Rattle.class_reader.specs.declared.error.ReadError.{ReadError}
+use Rattle.class_reader.specs.Files.{IsFile, IsFirstFault}
 use Rattle.jvm_model.specs.declared.ending.Ending.{Ending}
 use Rattle.jvm_model.specs.declared.ending.Ending.TheVariants.{Returned, Exited, Uncaught, Unverifiable}
 use Rattle.jvm_model.specs.SmallClass.{IsSmallClass, main_of}
 use Rattle.jvm_machine.specs.View.{View}
 use Rattle.jfluid_cli.specs.declared.refusal.Refusal.{Refusal}
-use Rattle.jfluid_cli.specs.declared.refusal.Refusal.TheVariants.{Words, BadRoot, NotBuilt, NoMain, NoSuchRoot, NotFetched, NoMemory}
+use Rattle.jfluid_cli.specs.declared.refusal.Refusal.TheVariants.{Words, BadRoot, NotRead, NotBuilt, NoMain, NoSuchRoot, NotFetched, NoMemory}
+use Rattle.jfluid_cli.specs.PlainFiles.{IsPlainFile}
 use Rattle.jfluid_cli.specs.Words.{Command, command_of}
 use Rattle.jfluid_cli.specs.Roots.{IsChosen, IsBadRoot, LacksRoot, root_said}
 use Rattle.jfluid_cli.specs.Runs.{ending_at}
@@ -59,9 +62,13 @@ pub record IsProgram (bytes name : List ℕ) (class : ClassFile) (main : ℕ) : 
   pub small : IsSmallClass class
   pub main_is : main_of class name ≡ Some main
 
--- no small class is spelled
+-- no class is spelled: the bytes have a first fault
+abbrev pub IsUnread : List ℕ → Type 0
+IsUnread bytes = (fault : ReadError) × IsFirstFault bytes fault
+
+-- a class is spelled, but it is no small class
 abbrev pub IsOutside : List ℕ → Type 0
-IsOutside bytes = (c : ClassFile) → IsPlainFile bytes c → IsSmallClass c → ⊥
+IsOutside bytes = (c : ClassFile) × IsFile bytes c × (HasPlainShape c → IsSmallClass c → ⊥)
 
 -- a small class is spelled, but it has another name or no public static main
 abbrev pub LacksMain : List ℕ → List ℕ → Type 0
@@ -70,6 +77,14 @@ LacksMain bytes name = (c : ClassFile) × IsPlainFile bytes c × IsSmallClass c 
 -- a small class with its main method is spelled, but the root names no method of it
 abbrev pub LacksRootMethod : Option (List ℕ) → List ℕ → List ℕ → Type 0
 LacksRootMethod root bytes name = (c : ClassFile) × (main : ℕ) × IsProgram bytes name c main × LacksRoot root c
+
+-- no program is spelled for a main class of this name
+abbrev pub HasNoProgram : List ℕ → List ℕ → Type 0
+HasNoProgram name bytes = (c : ClassFile) (main : ℕ) → IsProgram bytes name c main → ⊥
+
+-- nor one that has the root's method
+abbrev pub HasNoRooted : Option (List ℕ) → List ℕ → List ℕ → Type 0
+HasNoRooted word name bytes = (c : ClassFile) (main : ℕ) (root : Option ℕ) → IsProgram bytes name c main → IsChosen word c root → ⊥
 
 -- the files, where they tell their contents, have this under the name
 abbrev pub Has : Option Told → List ℕ → (List ℕ → Type 0) → Type 0
@@ -134,10 +149,18 @@ pub record HasBadRoot (words : List (List ℕ)) : Type 0 where
 abbrev pub AreRefused : List (List ℕ) → (Refusal → Type 0) → Type 0
 AreRefused words Line = ((command_of words ≡ None) × Line Words) ⊎ (HasBadRoot words × Line BadRoot)
 
--- What the files tell is no small class, lacks its main method, or lacks the root, and the line says which.
+-- what the files tell has this first fault
+abbrev pub RefusesBytes : Option Told → List (List ℕ) → ReadError → Type 0
+RefusesBytes told words fault = RefusesFile told words (λ bytes main. IsFirstFault bytes fault)
+
+-- the fault is the first one of what the files tell, and the line says it
+abbrev pub IsUnreadFile : Option Told → List (List ℕ) → (Refusal → Type 0) → Type 0
+IsUnreadFile told words Line = (fault : ReadError) × RefusesBytes told words fault × Line (NotRead fault)
+
+-- What the files tell has a fault, is no small class, lacks its main method, or lacks the root, and the line says which.
 abbrev pub IsRefusedFile : Option Told → List (List ℕ) → (Refusal → Type 0) → Type 0
 IsRefusedFile told words Line =
-    ((RefusesFile told words (λ bytes main. IsOutside bytes) × Line NotBuilt) ⊎ (RefusesFile told words LacksMain × Line NoMain)) ⊎ (RefusesRoot told words × Line NoSuchRoot)
+    IsUnreadFile told words Line ⊎ (((RefusesFile told words (λ bytes main. IsOutside bytes) × Line NotBuilt) ⊎ (RefusesFile told words LacksMain × Line NoMain)) ⊎ (RefusesRoot told words × Line NoSuchRoot))
 
 -- the count is as before, and can still rise
 pub record IsCalm (old new : ℕ) : Type 0 where
@@ -156,8 +179,8 @@ pub record IsAccepted (told : Option Told) (words : List (List ℕ)) (class : Cl
   pub root : Option ℕ
   pub chosen : IsChosen command.options.root class root
 
--- The words are a command whose root is one, and what the files tell for it is no small class, or lacks its main method or
--- the root.
+-- The words are a command whose root is one, and what the files tell for it has a fault, is no small class, or lacks its main
+-- method or the root.
 pub record IsRefusable (told : Option Told) (words : List (List ℕ)) : Type 0 where
   pub command : Command
   pub commanded : command_of words ≡ Some command
@@ -166,4 +189,4 @@ pub record IsRefusable (told : Option Told) (words : List (List ℕ)) : Type 0 w
   pub bytes : List ℕ
   pub told_as : contents_at files command.file ≡ Some bytes
   pub rooted : IsBadRoot command.options.root → ⊥
-  pub reason : (IsOutside bytes ⊎ LacksMain bytes command.main) ⊎ LacksRootMethod command.options.root bytes command.main
+  pub reason : IsUnread bytes ⊎ ((IsOutside bytes ⊎ LacksMain bytes command.main) ⊎ LacksRootMethod command.options.root bytes command.main)

@@ -3,11 +3,13 @@
 ghost use Rattle.std.specs.Prelude.{◌≡◌, ◌≢◌, ◌<◌, ◌^◌, ◌⊎◌, length, Err, IfOk, IfErr, MatchResult};
 ghost use Rattle.std.specs.Option.{option_copied, option_map};
 ghost use Rattle.const_pool.specs.declared.class.ClassFile.{ClassFile as Class};
-ghost use Rattle.class_reader.specs.Plain.{IsPlainFile};
+ghost use Rattle.class_reader.specs.declared.error.ReadError.{ReadError as Fault};
+ghost use Rattle.class_reader.specs.Files.{IsFile, IsFirstFault};
+ghost use Rattle.jfluid_cli.specs.Refusals.{status_of};
 ghost use Rattle.jf_bytes.specs.Streams.{Rose};
 ghost use Rattle.jfluid_cli.specs.Roots.{IsSaid, IsChosen, IsBadRoot, HasChosen, LacksNamed};
 ghost use Rattle.jfluid_cli.specs.Views.{root_view};
-ghost use Rattle.jfluid_cli.specs.Top.{LacksRootMethod, IsProgram, IsOutside, LacksMain, Has, IsToldAs, IsFrontOf, IsFetchRefusal};
+ghost use Rattle.jfluid_cli.specs.Top.{LacksRootMethod, IsProgram, IsOutside, LacksMain, HasNoProgram, HasNoRooted, Has, IsToldAs, IsFrontOf, IsFetchRefusal};
 ghost use Rattle.jfluid_cli.specs.Words.{slashed};
 
 use crate::admission::{AdmitError, admit};
@@ -33,6 +35,7 @@ pub struct Program {
 /// Reads and admits a class file.
 fn read_program(alloc: Global, bytes: &[u8], name: &Text16) -> Result<Program, Refusal>
     ensures ok { IfOk result (λ p. IsProgram bytes.now name.now p.class p.main) }
+    ensures not_read { (fault : Fault) → result ≡ Err (Refusal.NotRead fault) → IsFirstFault bytes.now fault }
     ensures not_built { result ≡ Err Refusal.NotBuilt → IsOutside bytes.now }
     ensures no_main { result ≡ Err Refusal.NoMain → LacksMain bytes.now name.now }
     ensures not_words { result ≢ Err Refusal.Words }
@@ -40,12 +43,14 @@ fn read_program(alloc: Global, bytes: &[u8], name: &Text16) -> Result<Program, R
     ensures not_bad_root { result ≢ Err Refusal.BadRoot }
     ensures not_root { result ≢ Err Refusal.NoSuchRoot }
     ensures not_fetch { result ≢ Err Refusal.NotFetched }
-    ensures one { (c d : Class) → IsPlainFile bytes.now c → IsPlainFile bytes.now d → c ≡ d }
+    ensures one { IfOk result (λ p. (c : Class) → IsFile bytes.now c → c ≡ p.class) }
+    ensures faultless { IfOk result (λ _. (fault : Fault) → IsFirstFault bytes.now fault → ⊥) }
+    ensures refuses { IfErr result (λ e. status_of e ≡ 3 → HasNoProgram name.now bytes.now) }
 {
     let class = match read_class(alloc, bytes) {
         Ok(class) => class,
-        Err(ReadError::NotBuilt) => return Err(Refusal::NotBuilt),
         Err(ReadError::NoMemory) => return Err(Refusal::NoMemory),
+        Err(fault) => return Err(Refusal::NotRead(fault)),
     };
     match admit(alloc, &class, name) {
         Ok(main) => Ok(Program { class, main }),
@@ -81,7 +86,10 @@ fn fetch<F: Files>(alloc: Global, name: &str, files: &mut F) -> Result<Vec<u8>, 
 fn load<F: Files>(alloc: Global, command: Command<'_>, files: &mut F) -> Result<Loaded, Refusal>
     ensures told { IfOk result (λ l. IsToldAs (F.contents files.old) command.entry.file.now l.bytes.items) }
     ensures program { IfOk result (λ l. IsProgram l.bytes.items (slashed command.entry.main.now) l.program.class l.program.main) }
-    ensures one { IfOk result (λ l. (c : Class) → IsPlainFile l.bytes.items c → c ≡ l.program.class) }
+    ensures one { IfOk result (λ l. (c : Class) → IsFile l.bytes.items c → c ≡ l.program.class) }
+    ensures faultless { IfOk result (λ l. (fault : Fault) → IsFirstFault l.bytes.items fault → ⊥) }
+    ensures refuses { IfErr result (λ e. status_of e ≡ 3 → Has (F.contents files.old) command.entry.file.now (HasNoProgram (slashed command.entry.main.now))) }
+    ensures not_read { (fault : Fault) → result ≡ Err (Refusal.NotRead fault) → Has (F.contents files.old) command.entry.file.now (λ bytes. IsFirstFault bytes fault) }
     ensures not_built { result ≡ Err Refusal.NotBuilt → Has (F.contents files.old) command.entry.file.now IsOutside }
     ensures no_main { result ≡ Err Refusal.NoMain → Has (F.contents files.old) command.entry.file.now (λ bytes. LacksMain bytes (slashed command.entry.main.now)) }
     ensures failed { result ≡ Err Refusal.NotFetched → Rose (F.faults files.old) (F.faults files.new) }
@@ -149,8 +157,11 @@ pub fn prepare<F: Files>(
 ) -> Result<Prepared, Refusal>
     ensures told { IfOk result (λ p. IsToldAs (F.contents files.old) command.entry.file.now p.loaded.bytes.items) }
     ensures program { IfOk result (λ p. IsProgram p.loaded.bytes.items (slashed command.entry.main.now) p.loaded.program.class p.loaded.program.main) }
-    ensures one { IfOk result (λ p. (c : Class) → IsPlainFile p.loaded.bytes.items c → c ≡ p.loaded.program.class) }
+    ensures one { IfOk result (λ p. (c : Class) → IsFile p.loaded.bytes.items c → c ≡ p.loaded.program.class) }
+    ensures faultless { IfOk result (λ p. (fault : Fault) → IsFirstFault p.loaded.bytes.items fault → ⊥) }
+    ensures refuses { IfErr result (λ e. status_of e ≡ 3 → Has (F.contents files.old) command.entry.file.now (HasNoRooted (option_copied command.entry.options.root) (slashed command.entry.main.now))) }
     ensures root { IfOk result (λ p. IsChosen (option_copied command.entry.options.root) p.loaded.program.class p.root) }
+    ensures not_read { (fault : Fault) → result ≡ Err (Refusal.NotRead fault) → Has (F.contents files.old) command.entry.file.now (λ bytes. IsFirstFault bytes fault) }
     ensures not_built { result ≡ Err Refusal.NotBuilt → Has (F.contents files.old) command.entry.file.now IsOutside }
     ensures no_main { result ≡ Err Refusal.NoMain → Has (F.contents files.old) command.entry.file.now (λ bytes. LacksMain bytes (slashed command.entry.main.now)) }
     ensures no_root { result ≡ Err Refusal.NoSuchRoot → Has (F.contents files.old) command.entry.file.now (λ bytes. LacksRootMethod (option_copied command.entry.options.root) bytes (slashed command.entry.main.now)) }

@@ -4,8 +4,9 @@ ghost use Rattle.std.specs.Prelude.{◌≡◌, ◌⊎◌, true, false, IfOk};
 ghost use Rattle.std.specs.String.{string_bytes};
 ghost use Rattle.std.specs.Io.KnownBytes.{append_known};
 ghost use Rattle.jf_bytes.specs.Streams.{Rose};
-ghost use Rattle.jfluid_cli.specs.Refusals.{status_of, line_of, PutsOrRose};
+ghost use Rattle.jfluid_cli.specs.Refusals.{status_of, cause_of, line_of, PutsOrRose};
 
+use class_reader::ReadError;
 use jf_bytes::Sink;
 use std::alloc::{AllocError, Global};
 
@@ -16,7 +17,9 @@ pub enum Refusal {
     Words,
     /// The word for the root is outside its grammar: status 2.
     BadRoot,
-    /// The file is no class file of the part that is built so far: status 3.
+    /// The file is no class file, and this is its first fault: status 3.
+    NotRead(ReadError),
+    /// The class is not of the part of the language that is built so far: status 3.
     NotBuilt,
     /// The class has another name, or no public static main: status 3.
     NoMain,
@@ -41,12 +44,39 @@ impl Refusal {
     {
         match self {
             Refusal::Words | Refusal::BadRoot => 2,
-            Refusal::NotBuilt | Refusal::NoMain | Refusal::NoSuchRoot => 3,
+            Refusal::NotRead(_) | Refusal::NotBuilt | Refusal::NoMain | Refusal::NoSuchRoot => 3,
             Refusal::OutFailed => 6,
             Refusal::NotFetched => 7,
             Refusal::NoMemory => 9,
         }
     }
+}
+
+/// What is told of a fault: its name and its number.
+fn cause(alloc: Global, fault: ReadError) -> Result<String, AllocError>
+    ensures { IfOk result (λ cause. string_bytes cause ≡ cause_of fault) }
+{
+    match fault {
+        ReadError::TooLong => String::from_str(alloc, "TooLong"),
+        ReadError::Truncated(at) => format!(in alloc; "Truncated {at}"),
+        ReadError::BadMagic => String::from_str(alloc, "BadMagic"),
+        ReadError::BadVersion(major) => format!(in alloc; "BadVersion {major}"),
+        ReadError::BadTag(at) => format!(in alloc; "BadTag {at}"),
+        ReadError::BadUtf8(at) => format!(in alloc; "BadUtf8 {at}"),
+        ReadError::BadIndex(entry) => format!(in alloc; "BadIndex {entry}"),
+        ReadError::BadRef(at) => format!(in alloc; "BadRef {at}"),
+        ReadError::BadLength(at) => format!(in alloc; "BadLength {at}"),
+        ReadError::Trailing(at) => format!(in alloc; "Trailing {at}"),
+        ReadError::NoMemory => String::from_str(alloc, "NoMemory"),
+    }
+}
+
+/// The line of a file that is not read.
+fn fault_line(alloc: Global, fault: ReadError, file: &str) -> Result<String, AllocError>
+    ensures { IfOk result (λ line. string_bytes line ≡ line_of (Refusal.NotRead fault) file.now) }
+{
+    let cause = cause(alloc, fault)?;
+    format!(in alloc; "jfluid: {file}: {cause}\n")
 }
 
 /// The line of a refusal; a file is called by its word.
@@ -56,6 +86,7 @@ fn line(alloc: Global, refusal: Refusal, file: &str) -> Result<String, AllocErro
     match refusal {
         Refusal::Words => String::from_str(alloc, "jfluid: words refused\n"),
         Refusal::BadRoot => String::from_str(alloc, "jfluid: plan: BadLine 0 Root\n"),
+        Refusal::NotRead(fault) => fault_line(alloc, fault, file),
         Refusal::NotBuilt => format!(in alloc; "jfluid: {file}: NotBuilt\n"),
         Refusal::NoMain => String::from_str(alloc, "jfluid: NoMain\n"),
         Refusal::NoSuchRoot => String::from_str(alloc, "jfluid: NoSuchRoot 1\n"),

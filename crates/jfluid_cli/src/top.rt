@@ -2,12 +2,13 @@
 
 ghost use Rattle.std.specs.Prelude.{◌≡◌, ◌≢◌, ◌≤◌, ◌<◌, ◌⊎◌, ◌↔◌, ℕ, [], true, false, None, Err, map, MatchResult, IfOk, IfErr, IfSome, IsOk, IsSome, OnOk};
 ghost use Rattle.const_pool.specs.declared.class.ClassFile.{ClassFile as Class};
+ghost use Rattle.class_reader.specs.declared.error.ReadError.{ReadError as Fault};
 ghost use Rattle.jvm_model.specs.Run.{ending_of};
 ghost use Rattle.jfluid_cli.specs.Refusals.{Tells};
 ghost use Rattle.std.specs.Io.KnownBytes.{append_known};
 ghost use Rattle.jf_bytes.specs.Streams.{PutsFront, Rose};
 ghost use Rattle.jfluid_cli.specs.Runs.{IsFresh, IsTold, is_ended_at, IsGoing, SameProgram, IsCarriedOut, PutsAtMost, ending_at};
-ghost use Rattle.jfluid_cli.specs.Top.{reported_of, RefusesRoot, HasBadRoot, AreRefused, status_of_ending, is_status, is_reported, is_run, is_kept, is_refused, report_of, file_word, IsOutside, LacksMain, RefusesFile, IsRefusedFile, IsRefusable, IsAccepted, IsCalm};
+ghost use Rattle.jfluid_cli.specs.Top.{reported_of, RefusesRoot, HasBadRoot, AreRefused, status_of_ending, is_status, is_reported, is_run, is_kept, is_refused, report_of, file_word, IsOutside, LacksMain, RefusesFile, RefusesBytes, IsRefusedFile, IsRefusable, IsAccepted, IsCalm};
 ghost use Rattle.jfluid_cli.specs.Origins.{HasOrigin, IsOnlyProgram};
 ghost use Rattle.jfluid_cli.specs.Selections.{IsSelected};
 ghost use Rattle.jfluid_cli.specs.Words.{command_of, budget_of, greatest_budget};
@@ -108,6 +109,7 @@ fn carry_out<F: Files, O: Sink, P: Sink>(
     ensures front { IfSome kept.new (λ k. PutsAtMost k.vm (budget_of (map string_bytes words.now)) (O.taken out.old) (O.taken out.new)) }
     ensures nothing { kept.new ≡ None → O.taken out.new ≡ O.taken out.old }
     ensures words { (result ≡ Err Refusal.Words) ↔ (command_of (map string_bytes words.now) ≡ None) }
+    ensures not_read { (fault : Fault) → result ≡ Err (Refusal.NotRead fault) → (kept.new ≡ None) × RefusesBytes (F.contents files.old) (map string_bytes words.now) fault }
     ensures not_built { result ≡ Err Refusal.NotBuilt → (kept.new ≡ None) × RefusesFile (F.contents files.old) (map string_bytes words.now) (λ bytes main. IsOutside bytes) }
     ensures no_main { result ≡ Err Refusal.NoMain → (kept.new ≡ None) × RefusesFile (F.contents files.old) (map string_bytes words.now) LacksMain }
     ensures no_root { result ≡ Err Refusal.NoSuchRoot → (kept.new ≡ None) × RefusesRoot (F.contents files.old) (map string_bytes words.now) }

@@ -1,6 +1,7 @@
 mod assembler;
 mod budgets;
 mod cases;
+mod faults;
 mod numbers;
 mod roots;
 
@@ -190,7 +191,7 @@ const REFUSED: Row = Row {
     file: File::Major51,
     status: 3,
     output: "",
-    report: "jfluid: P1.class: NotBuilt\n",
+    report: "jfluid: P1.class: BadVersion 51\n",
     ..RIGHT
 };
 
@@ -223,10 +224,12 @@ const ROWS: [Row; 13] = [
     REFUSED,
     Row {
         file: File::Longer,
+        report: "jfluid: P1.class: Trailing 296\n",
         ..REFUSED
     },
     Row {
         file: File::Empty,
+        report: "jfluid: P1.class: Truncated 0\n",
         ..REFUSED
     },
     Row {

@@ -1,10 +1,10 @@
 use Rattle.std.proofs.Common.{ℕ, ◌≤◌, List, length, subst, sym}
 use Rattle.jfluid_cli.specs.declared.loading.Loaded.{Loaded}
 use Rattle.jfluid_cli.specs.declared.loading.Program.{Program}
-use Rattle.jfluid_cli.specs.declared.refusal.Refusal.TheVariants.{NotBuilt, NoMain}
-use Rattle.jfluid_cli.specs.Top.{most, IsOutside, LacksMain, Has}
-use Rattle.class_reader.specs.Plain.{IsPlainFile}
-use Rattle.jfluid_cli.proofs.ToldFiles.{told_whole, told_outside, told_lacking, same_refusal}
+use Rattle.jfluid_cli.specs.declared.refusal.Refusal.TheVariants.{NotRead, NotBuilt, NoMain}
+use Rattle.jfluid_cli.specs.Top.{most, IsOutside, LacksMain, HasNoProgram, Has}
+use Rattle.class_reader.specs.Files.{IsFirstFault}
+use Rattle.jfluid_cli.proofs.ToldFiles.{told_whole, told_fault, told_none, told_outside, told_lacking, same_refusal}
 use Rattle.jfluid_cli.proofs.loading.load.Goals as goal
 
 pub returns-in-Ok-read_program-clause-told : goal.returns-in-Ok-read_program-clause-told
@@ -12,9 +12,16 @@ returns-in-Ok-read_program-clause-told g c =
     told_whole (g.F.Files.contents c.args.files.now) c.args.command.file.now c.in_ok-bytes.bytes.items c.in_ok-bytes.ensures.found
     (subst (λ (bs : List ℕ). length bs ≤ most) c.deref.ensures.value c.in-Ok-read_program.ensures.ok.file.short)
 
-pub returns-in-Ok-read_program-clause-one : goal.returns-in-Ok-read_program-clause-one
-returns-in-Ok-read_program-clause-one g c d file =
-    c.in-Ok-read_program.ensures.one d c.in-Ok-read_program.program.class (subst (λ (bs : List ℕ). IsPlainFile bs d) (sym c.deref.ensures.value) file) c.in-Ok-read_program.ensures.ok.file
+pub returns-clause-not_read : goal.returns-clause-not_read
+returns-clause-not_read g c fault e =
+    told_fault (g.F.Files.contents c.args.files.now) c.args.command.file.now c.in_ok-bytes.bytes.items fault c.in_ok-bytes.ensures.found
+    (subst (λ (bs : List ℕ). IsFirstFault bs fault) c.deref.ensures.value (c.in-Err.ensures.not_read fault (same_refusal Loaded Program c.in-Err.refusal (NotRead fault) e)))
+
+pub returns-clause-refuses : goal.returns-clause-refuses
+returns-clause-refuses g c three =
+    subst (λ (main : List ℕ). Has (g.F.Files.contents c.args.files.now) c.args.command.file.now (HasNoProgram main)) c.in-Ok.ensures
+    (told_none (g.F.Files.contents c.args.files.now) c.args.command.file.now c.in_ok-bytes.bytes.items c.in-Ok.name c.in_ok-bytes.ensures.found
+    (subst (HasNoProgram c.in-Ok.name) c.deref.ensures.value (c.in-Err.ensures.refuses three)))
 
 pub returns-clause-not_built : goal.returns-clause-not_built
 returns-clause-not_built g c e =

@@ -19,8 +19,7 @@ pub returns-in-Err-clause-complete : goal.returns-in-Err-clause-complete
 returns-in-Err-clause-complete g c = λ class main accepted calm _.
     load_refused (g.F.Files.contents c.args.files.now) (map string_bytes c.args.words.now) class main (command_view c.in-Some.command) c.in-Err.refusal (g.F.Files.faults c.args.files.now) (g.F.Files.faults c.prepare.new.files) accepted (sym c.in-Some.ensures.command) calm
     (λ e. c.in-Err.ensures.not_words (ap (refused Prepared) e)) (λ e. c.in-Err.ensures.not_out (ap (refused Prepared) e)) (λ e. c.in-Err.ensures.failed (ap (refused Prepared) e))
-    (λ e. c.in-Err.ensures.not_built (ap (refused Prepared) e)) (λ e. c.in-Err.ensures.no_main (ap (refused Prepared) e))
-    (λ e. c.in-Err.ensures.bad_root (ap (refused Prepared) e)) (λ e. c.in-Err.ensures.no_root (ap (refused Prepared) e))
+    (λ e. c.in-Err.ensures.bad_root (ap (refused Prepared) e)) c.in-Err.ensures.refuses
 
 pub returns-clause-complete : goal.returns-clause-complete
 returns-clause-complete g c = λ class main accepted calm still.
@@ -29,7 +28,7 @@ returns-clause-complete g c = λ class main accepted calm still.
     (run_answers (λ k. k.classes ≡ c.in-Ok-make.made_of.classes) (λ k. k.input ≡ c.in-Ok-make.made_of.input)
     (λ k. g.P.Sink.taken c.run_made.new.report ≡ append_known (g.P.Sink.taken c.args.report.now) (report_of c.in-Ok.prepared.root k.vm)) (λ k. g.P.Sink.faults c.run_made.new.report ≡ g.P.Sink.faults c.args.report.now)
     c.run_made.result c.run_made.new.kept class loaded.program.class main loaded.program.main c.in-Some.command.options.budget c.in-Ok-make.made_of.vm (g.O.Sink.faults c.args.out.now) (g.O.Sink.faults c.run_made.new.out) (g.O.Sink.taken c.args.out.now) (g.O.Sink.taken c.run_made.new.out)
-    (accepted_is (g.F.Files.contents c.args.files.now) (map string_bytes c.args.words.now) class main accepted (command_view c.in-Some.command) loaded.bytes.items loaded.program.class loaded.program.main (sym c.in-Some.ensures.command) c.in-Ok.ensures.told c.in-Ok.ensures.program)
+    (accepted_is (g.F.Files.contents c.args.files.now) (map string_bytes c.args.words.now) class main accepted (command_view c.in-Some.command) loaded.bytes.items loaded.program.class loaded.program.main (sym c.in-Some.ensures.command) c.in-Ok.ensures.told c.in-Ok.ensures.program c.in-Ok.ensures.one)
     c.in-Ok-make.ensures.runs still c.run_made.ensures.kept c.run_made.ensures.same c.run_made.ensures.run c.run_made.ensures.whole c.run_made.ensures.stopped c.run_made.ensures.errors)
 
 pub make-requires-clause-known : goal.make-requires-clause-known

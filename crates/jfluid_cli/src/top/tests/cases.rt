@@ -58,21 +58,28 @@ fn limits(rt: HostRuntime) -> Result<(), Fail> {
     Ok(())
 }
 
-/// Names of the first method, how many methods come after `main`, and whether the class is taken.
-const NAMES: [(&[u8], u16, bool); 7] = [
-    (&[1], 0, true),
-    (&[127], 0, true),
-    (&[0], 0, false),
-    (&[128], 0, false),
-    (b"<f", 0, false),
+/// A name that is no modified UTF-8.
+const BAD_NAME: &str = "3 jfluid: P1.class: BadUtf8 105\n";
+
+const TAKEN: &str = "0 42\nending returned\nsteps 9\nswaps 0\ntree\n";
+
+/// Names of the first method, how many methods come after `main`, and what a run gives.
+const NAMES: [(&[u8], u16, &str); 8] = [
+    (&[1], 0, TAKEN),
+    (&[127], 0, TAKEN),
+    (&[0], 0, BAD_NAME),
+    (&[128], 0, BAD_NAME),
+    // U+0080
+    (&[0xc2, 0x80], 0, REFUSED),
+    (b"<f", 0, REFUSED),
     // the method after `main` is 24(I)I
-    (b"25", 1, true),
-    (b"24", 1, false),
+    (b"25", 1, TAKEN),
+    (b"24", 1, REFUSED),
 ];
 
 #[test]
 fn names(rt: HostRuntime) -> Result<(), Fail> {
-    for (name, copies, is_taken) in NAMES {
+    for (name, copies, wanted) in NAMES {
         let parts = Parts {
             name,
             constants: copies,
@@ -80,8 +87,6 @@ fn names(rt: HostRuntime) -> Result<(), Fail> {
             ..PARTS
         };
         let text = shown(rt.alloc(), parts)?;
-        let whole = returned(rt.alloc(), 9)?;
-        let wanted = if is_taken { whole.as_str() } else { REFUSED };
         assert_eq!(rt; text.as_str(), wanted, "{name:?}");
     }
     Ok(())
