@@ -1,5 +1,5 @@
 -- What a `Pool` asks of the entries that were read.
-use Rattle.std.proofs.Common.{◌≡◌, ℕ, List, Result, Ok, Err, IfOk, IsTrue}
+use Rattle.std.proofs.Common.{ℕ, List, Result, Ok, Err, IfOk, IsTrue}
 use Rattle.const_pool.specs.declared.pool.Const.{Const}
 use Rattle.const_pool.specs.Pool.{has_gaps}
 use Rattle.const_pool.proofs.Gaps.{has_gaps-from_pool}

@@ -4,7 +4,6 @@ use Rattle.const_pool.specs.declared.class.ClassFile.{ClassFile}
 use Rattle.const_pool.specs.ClassFile.{Spells}
 use Rattle.class_reader.specs.declared.error.ReadError.{ReadError}
 use Rattle.class_reader.specs.declared.error.ReadError.TheVariants.{TooLong, Trailing}
-use Rattle.class_reader.specs.Formats.{Format}
 use Rattle.class_reader.specs.ClassFormat as format
 
 -- the greatest length of a class file

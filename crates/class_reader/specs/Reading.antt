@@ -1,6 +1,6 @@
 -- Reading a class file from left to right: the item at the front of the bytes and the bytes after it, or the first fault.
 -- Only functions of this crate cite it; what the readers owe their callers is in Files.
-use Rattle.std.specs.Prelude.{◌≡◌, ◌≢◌, ℕ, zero, suc, ◌-◌, Bool, true, false, not, ◌&&◌, ◌||◌, List, [], ◌∷◌, ◌++◌, length, take, drop, Option, Some, None, Result, Ok, Err, nat_lt, nat_le, is_none, unwrap_or, ◌==◌, if◌then◌else◌}
+use Rattle.std.specs.Prelude.{◌≡◌, ◌≢◌, ℕ, zero, suc, ◌-◌, Bool, not, ◌&&◌, ◌||◌, List, [], ◌∷◌, ◌++◌, length, take, drop, Option, Some, None, Result, Ok, Err, nat_lt, nat_le, ◌==◌, if◌then◌else◌}
 use Rattle.std.specs.Int.{Width, w8, w16, w32, w64, byte_len, from_be_bytes, cast_signed}
 use Rattle.const_pool.specs.declared.pool.Const.{Const}
 use Rattle.const_pool.specs.declared.pool.Const.TheVariants.{Gap, Utf8, Integer, Float, Long, Double, Class, Text, Field, Method, InterfaceMethod, NameType}
@@ -11,14 +11,14 @@ use Rattle.const_pool.specs.declared.class.Handler.{Handler}
 use Rattle.const_pool.specs.declared.class.CodeAttribute.{CodeAttribute}
 use Rattle.const_pool.specs.declared.class.Attribute.{Attribute}
 use Rattle.const_pool.specs.declared.class.Attribute.TheVariants.{ConstantValue, Code, Other}
-use Rattle.const_pool.specs.Pool.{is_utf8, is_class, is_name_type, is_constant, is_wide}
+use Rattle.const_pool.specs.Pool.{is_utf8, is_class, is_constant, is_wide}
 use Rattle.const_pool.specs.ClassFile.{code_name, constant_value_name}
 use Rattle.class_reader.specs.declared.tags.Tag.{Tag}
 use Rattle.class_reader.specs.declared.tags.Tag.TheVariants as tag
 use Rattle.class_reader.specs.declared.error.ReadError.{ReadError}
 use Rattle.class_reader.specs.declared.error.ReadError.TheVariants.{TooLong, Truncated, BadMagic, BadVersion, BadTag, BadUtf8, BadIndex, BadRef, BadLength, Trailing, NoMemory}
 use Rattle.class_reader.specs.Decoding.{decoded}
-use Rattle.class_reader.specs.Formats.{place, kept_where}
+use Rattle.class_reader.specs.Formats.{place}
 use Rattle.class_reader.specs.ClassFormat.{tag_of, names, names_text, lowest_bad, Body, class_with}
 
 infixl 10 ◌>>=◌

@@ -1,5 +1,4 @@
-use Rattle.std.proofs.Common.{ap, sym}
-use Rattle.class_reader.proofs.Decoded.{spelling-decoded, first_bad-decoded}
+use Rattle.class_reader.proofs.Decoded.{first_bad-decoded}
 use Rattle.class_reader.proofs.TextAnswers.{text_found}
 use Rattle.class_reader.proofs.constants.decode.Goals as goal
 

@@ -1,4 +1,4 @@
-use Rattle.std.proofs.Common.{◌-◌, ◌+◌, ◌<◌, ◌≤◌, ◌++◌, ◌∷◌, [], arith, length, length-append, ltb}
+use Rattle.std.proofs.Common.{◌-◌, ◌+◌, ◌<◌, ◌≤◌, ◌∷◌, [], arith, length, length-append, ltb}
 use Rattle.std.proofs.lemmas.Result.{err_from_is_err_and}
 use Rattle.const_pool.specs.declared.pool.Const.TheVariants.{Gap}
 use Rattle.class_reader.specs.Reading.{with_front, entries_at, gapped}
