@@ -4,13 +4,18 @@
 
 mod copying;
 
+ghost use Rattle.std.specs.Prelude.{◌≡◌};
+ghost use Rattle.class_copy.specs.Copies.{reason_of};
+
 use copying::{CopyError, copy_file};
 use jf_bytes::{DiskFiles, StdSink};
 use std::process::ExitCode;
 use std::{env, io};
 
 /// What a refusal is on standard error.
-fn reason(error: CopyError) -> &'static str {
+fn reason(error: CopyError) -> &'static str
+    ensures { result.now ≡ reason_of error }
+{
     match error {
         CopyError::NotFetched => "it could not be fetched",
         CopyError::NotRead(_) => "it is no class file",

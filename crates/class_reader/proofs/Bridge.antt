@@ -8,7 +8,7 @@ use Rattle.const_pool.specs.declared.class.ClassFile.{ClassFile}
 use Rattle.const_pool.specs.declared.class.Member.{Member}
 use Rattle.const_pool.specs.declared.class.Attribute.{Attribute}
 use Rattle.const_pool.specs.Pool.{u2, u4, Names, is_utf8, is_class, IsPool, pool_bytes}
-use Rattle.const_pool.specs.ClassFile.{IsU2, FitsCount, IsMember, IsFieldAttribute, IsMethodAttribute, IsClassAttribute, IsVersion, IsClassFile, attribute_bytes, member_bytes, class_bytes, Spells}
+use Rattle.const_pool.specs.ClassFile.{IsU2, FitsCount, IsMember, IsFieldAttribute, IsMethodAttribute, IsClassAttribute, IsClassFile, attribute_bytes, member_bytes, class_bytes, Spells}
 use Rattle.const_pool.specs.ClassFile as file
 use Rattle.class_reader.specs.declared.error.ReadError.TheVariants.{BadMagic, BadVersion}
 use Rattle.class_reader.specs.Formats.{Format}

@@ -1,12 +1,12 @@
 //! Reads a class file from left to right (JVM Specification 4.1).
 
-ghost use Rattle.std.specs.Prelude.{◌≡◌, ◌≢◌, ◌<◌, ◌^◌, ◌⊎◌, Ok, Err, IfOk, IfErr, IsTrue, length};
+ghost use Rattle.std.specs.Prelude.{◌≡◌, ◌≢◌, ◌<◌, ◌^◌, ◌⊎◌, ◌↔◌, Ok, Err, IfOk, IfErr, IsTrue, length};
 ghost use Rattle.const_pool.specs.declared.class.ClassFile.{ClassFile as Class};
 ghost use Rattle.const_pool.specs.ClassFile.{Spells};
 ghost use Rattle.class_reader.specs.declared.error.ReadError.{ReadError as Fault};
 ghost use Rattle.class_reader.specs.Files.{IsFile, IsImageFault, IsFirstFault};
 ghost use Rattle.const_pool.specs.Pool.{has_gaps};
-ghost use Rattle.class_reader.specs.ClassFormat.{class_with};
+ghost use Rattle.class_reader.specs.ClassFormat.{class as class_format, class_with};
 ghost use Rattle.class_reader.specs.Views.{body_view};
 ghost use Rattle.class_reader.specs.Reading.{Gives, class_at, image_of, file_of};
 
@@ -97,6 +97,9 @@ pub fn read_class(alloc: Global, bytes: &[u8]) -> Result<ClassFile, ReadError>
     ensures first_fault { (fault : Fault) → IsFirstFault bytes.now fault → (result ≡ Err fault) ⊎ (result ≡ Err ReadError.NoMemory) }
     ensures one_class { (c d : Class) → Spells bytes.now c → Spells bytes.now d → c ≡ d }
     ensures one_fault { (e f : Fault) → IsFirstFault bytes.now e → IsFirstFault bytes.now f → e ≡ f }
+    ensures no_fault { (c : Class) (fault : Fault) → IsFile bytes.now c → IsFirstFault bytes.now fault → ⊥ }
+    // The format whose faults are told is that of the bytes that the writer gives.
+    ensures same_format { (c : Class) → class_format.Spells bytes.now c ↔ Spells bytes.now c }
 {
     file_in(alloc, bytes)
 }

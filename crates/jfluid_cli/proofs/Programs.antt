@@ -1,5 +1,5 @@
 -- What is no program, or none with the root's method.
-use Rattle.std.proofs.Common.{◌≡◌, List, ℕ, Option, Some, None, sym, ap, subst, ◌∙◌}
+use Rattle.std.proofs.Common.{◌≡◌, List, ℕ, Option, Some, None, sym, subst}
 use Rattle.std.specs.Prelude.{IfSome}
 use Rattle.jf_bytes.specs.Streams.{Told, contents_at}
 use Rattle.const_pool.specs.declared.class.ClassFile.{ClassFile}

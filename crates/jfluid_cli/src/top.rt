@@ -153,10 +153,10 @@ fn third_word(words: &[String]) -> &str
 /// class is rewritten before the start, and the report has the tree of calling contexts. Without it the tree is empty.
 /// Nothing is taken from `input` and nothing put to `images`. What was run is left in `kept`.
 ///
-/// The statuses are 0, the run returned, with the budget's last step at the latest; 2, the words are refused; 3, the
-/// class is refused, or the root names no method of it; 4, the budget was spent before the run ended; 6, a put of output
-/// failed; 7, the file could not be fetched; 8, a put of the report failed; 9, no memory was left; 10, the code is
-/// unverifiable. With 2, 3, 6, 7 and 9 a line on `report` says it.
+/// The statuses are 0, the run returned, with the budget's last step at the latest; 2, the words are refused; 3, the file
+/// is no class file, the class is refused, or the root names no method of it; 4, the budget was spent before the run ended;
+/// 6, a put of output failed; 7, the file could not be fetched; 8, a put of the report failed; 9, no memory was left; 10,
+/// the code is unverifiable. With 2, 3, 6, 7 and 9 a line on `report` says it.
 pub fn jfluid<F: Files, I: Source, O: Sink, P: Sink, G: Sink>(
     alloc: Global,
     words: &[String],

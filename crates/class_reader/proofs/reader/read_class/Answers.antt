@@ -1,7 +1,8 @@
 use Rattle.std.proofs.Common.{arith}
 use Rattle.class_reader.specs.Files.{IsFile, IsFirstFault}
 use Rattle.class_reader.specs.Reading.{file_of}
-use Rattle.class_reader.proofs.Files.{file_spells, spells_file, file_faults, faults_file, one_class, one_fault}
+use Rattle.class_reader.proofs.Files.{file_spells, spells_file, file_faults, faults_file, one_class, one_fault, no_first_fault}
+use Rattle.class_reader.proofs.Bridge.{class-spelled, spelled-class}
 use Rattle.class_reader.proofs.FileAnswers.{is_found, is_refused, gives_same}
 use Rattle.class_reader.proofs.reader.read_class.Goals as goal
 
@@ -26,3 +27,9 @@ returns-clause-one_class c = one_class c.args.bytes.now
 
 pub returns-clause-one_fault : goal.returns-clause-one_fault
 returns-clause-one_fault c = one_fault c.args.bytes.now
+
+pub returns-clause-no_fault : goal.returns-clause-no_fault
+returns-clause-no_fault c = no_first_fault c.args.bytes.now
+
+pub returns-clause-same_format : goal.returns-clause-same_format
+returns-clause-same_format c = λ k. (class-spelled c.args.bytes.now k, spelled-class c.args.bytes.now k)

@@ -1,4 +1,4 @@
-use Rattle.std.proofs.Common.{ℕ, ◌≤◌, List, length, subst, sym}
+use Rattle.std.proofs.Common.{ℕ, ◌≤◌, List, length, subst}
 use Rattle.jfluid_cli.specs.declared.loading.Loaded.{Loaded}
 use Rattle.jfluid_cli.specs.declared.loading.Program.{Program}
 use Rattle.jfluid_cli.specs.declared.refusal.Refusal.TheVariants.{NotRead, NotBuilt, NoMain}

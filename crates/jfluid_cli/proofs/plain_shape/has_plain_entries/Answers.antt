@@ -1,5 +1,5 @@
-use Rattle.std.proofs.Common.{◌<◌, length, sym, ◌∙◌, subst}
-use Rattle.std.specs.Prelude.{slice_get, false, ℕ}
+use Rattle.std.proofs.Common.{◌<◌, sym, ◌∙◌, subst}
+use Rattle.std.specs.Prelude.{false, ℕ}
 use Rattle.jfluid_cli.proofs.Shapes.{entries-stop, entries-go_on}
 use Rattle.jfluid_cli.proofs.plain_shape.has_plain_entries.Goals as goal
 
