@@ -1,1 +1,8 @@
-
+pub mod Opcodes
+pub mod Starts
+pub mod ImagePools
+pub mod ImageMethods
+pub mod ImageProbes
+pub mod ImageLines
+pub mod ImageAgrees
+pub mod LaidLengths

@@ -25,3 +25,5 @@ pub mod Paths
 pub mod Activations
 pub mod Projection
 pub mod EventLists
+pub mod StandsFor
+pub mod Agreement

@@ -1,0 +1,133 @@
+-- How long the code of a version is, and how many methods an image has.
+use Rattle.std.proofs.Common.{◌≡◌, ℕ, suc, ◌+◌, ◌*◌, ◌<◌, ◌≤◌, ◌^◌, Bool, true, false, cond, List, [], ◌∷◌, length, Option, Some, None, refl, sym, ap, subst, ◌∙◌, arith}
+use Rattle.std.specs.Prelude.{map, IfSome, MatchBool}
+use Rattle.std.specs.List.{AllByRecursion}
+use Rattle.std.proofs.lemmas.Option.{same_Some}
+use Rattle.const_pool.specs.declared.class.ClassFile.{ClassFile}
+use Rattle.const_pool.specs.declared.class.Member.{Member}
+use Rattle.const_pool.specs.declared.class.CodeAttribute.{CodeAttribute}
+use Rattle.const_pool.specs.declared.class.Attribute.{Attribute}
+use Rattle.const_pool.specs.declared.class.Attribute.TheVariants.{ConstantValue, Code, Other}
+use Rattle.const_pool.specs.Plain.{IsLoneCode}
+use Rattle.code_model.specs.declared.instr.Instr.{Instr}
+use Rattle.code_model.specs.declared.instr.Code.{Code as Reading}
+use Rattle.code_model.specs.declared.laying.Group.{Group}
+use Rattle.code_model.specs.declared.laying.Homes.{Homes}
+use Rattle.code_model.specs.Instructions.{end_of, Reads, IsReading}
+use Rattle.code_model.specs.Layout.{place_of, group_end, end_from, laid_of}
+use Rattle.code_model.proofs.Readings.{at-instruction_at}
+use Rattle.code_model.proofs.Decoded.{end_of-size_at, size_at-within}
+use Rattle.code_model.proofs.Walks.{length-laid_of}
+use Rattle.jvm_model.specs.declared.event.Mark.{Mark}
+use Rattle.jvm_model.specs.declared.event.Mark.TheVariants.{Off, Plain, Root}
+use Rattle.jvm_model.specs.Images.{all_off, IsMarkedMember, IsMemberImage, next_number, AreMemberImages, IsOriginal, IsRewritten, IsImage}
+use Rattle.jvm_model.specs.Methods.{code_among, code_of}
+use Rattle.jvm_model.specs.StandsFor.{IsBuilt}
+use Rattle.jvm_model.specs.Versions.{is_return_opcode, group_of, entry_probe, leave_probe, unwind_code}
+use Rattle.jvm_model.proofs.ImageMethods.{code_of-marked}
+
+-- ---- each instruction has a byte at least, and at most six in front of it
+
+pub length-before : (leave : List ℕ) (b : Bool) → length (cond b leave []) ≤ length leave
+length-before leave true = omega arith
+length-before leave false = omega arith
+
+end_from-le : (leave bytes : List ℕ) (at place : ℕ) (instrs : List Instr) → Reads bytes at instrs → length leave ≤ 6 → end_from place (map (group_of leave) instrs) + 7 * at ≤ place + 7 * length bytes
+end_from-le leave bytes at place [] reads six = omega arith
+end_from-le leave bytes at place (i ∷ rest) reads six =
+    let g : Group = group_of leave i in
+    let here = at-instruction_at bytes at i reads.0 in
+    let next = end_of-size_at bytes at i reads.0 (place_of place g) in
+    let some = size_at-within bytes at i reads.0 (place_of place g) in
+    let front = length-before leave (is_return_opcode i.op) in
+    let behind = end_from-le leave bytes (end_of i) (group_end place g) rest reads.1 six in
+    omega arith
+
+pub length-laid_of-le : (front leave back bytes : List ℕ) (code : Reading) → IsReading bytes code → length bytes ≤ 9000 → length front ≤ 6 → length leave ≤ 6 → length back ≤ 7 → length (laid_of front (map (group_of leave) code.instrs) back).code ≤ 65535
+length-laid_of-le front leave back bytes code reads short few six seven =
+    let bound = end_from-le leave bytes 0 (length front) code.instrs reads.instrs six in
+    let whole = length-laid_of front (map (group_of leave) code.instrs) back in
+    omega arith
+
+-- ---- the codes of an image
+
+-- a code that a u2 measures
+abbrev pub IsMeasured : Member → Type 0
+IsMeasured m = IfSome (code_of m) (λ code. length code.code < 2 ^ 16)
+
+-- a code of a plain class
+abbrev IsPlainMember : Member → Type 0
+IsPlainMember m = IsLoneCode m.attributes
+
+plain-short : (attributes : List Attribute) (m : Member) (code : CodeAttribute) → m.attributes ≡ attributes → IsLoneCode attributes → code_of m ≡ Some code → length code.code ≤ 9000
+plain-short (Code name here ∷ []) m code same lone e =
+    let is : here ≡ code = same_Some here code (sym (ap code_among same) ∙ e) in
+    subst (λ (k : CodeAttribute). length k.code ≤ 9000) is lone.short
+plain-short [] m code same lone e = absurd lone
+plain-short (ConstantValue name index ∷ rest) m code same lone e = absurd lone
+plain-short (Other raw ∷ rest) m code same lone e = absurd lone
+plain-short (Code name here ∷ next ∷ rest) m code same lone e = absurd lone
+
+some-measured : (m : Member) (code : CodeAttribute) → code_of m ≡ Some code → length code.code < 2 ^ 16 → IsMeasured m
+some-measured m code e short = subst (λ o. IfSome o (λ k. length k.code < 2 ^ 16)) (sym e) short
+
+original-measured : (m : Member) → IsPlainMember m → IsMeasured m
+original-measured m plain = by_code (code_of m) refl
+  where
+    by_code : (o : Option CodeAttribute) → code_of m ≡ o → IsMeasured m
+    by_code None e = subst (λ x. IfSome x (λ (k : CodeAttribute). length k.code < 2 ^ 16)) (sym e) tt
+    by_code (Some code) e = let short = plain-short m.attributes m code refl plain e in some-measured m code e (omega arith)
+
+marked-measured : (count number : ℕ) (mark : Mark) (old new : Member) (homes : Homes) → IsPlainMember old → IsMarkedMember count number mark old new homes → IsMeasured new
+marked-measured count number mark old new homes plain is =
+    let short = plain-short old.attributes old is.before refl plain is.coded in
+    let version = is.version in
+    let laid = length-laid_of-le (entry_probe count number mark) (leave_probe count number) (unwind_code count number) is.before.code version.reading version.reads short (omega arith) (omega arith) (omega arith) in
+    let same = ap (λ (k : CodeAttribute). length k.code) version.code in
+    some-measured new is.after (code_of-marked count number mark old new homes is) (omega arith)
+
+member-measured : (count number : ℕ) (mark : Mark) (old new : Member) (home : Option Homes) → IsPlainMember old → IsMemberImage count number mark old new home → IsMeasured new
+member-measured count number Off old new home plain is = subst IsMeasured (sym is.0) (original-measured old plain)
+member-measured count number Plain old new home plain is = marked-measured count number Plain old new is.0 plain is.1
+member-measured count number Root old new home plain is = marked-measured count number Root old new is.0 plain is.1
+
+-- each code is measured, and there are as many methods and as many homes
+pub record IsMeasuredImage (olds news : List Member) (homes : List (Option Homes)) : Type 0 where
+  pub codes : AllByRecursion IsMeasured news
+  pub methods : length news ≡ length olds
+  pub housed : length homes ≡ length olds
+
+members-measured : (count number : ℕ) (marks : List Mark) (olds news : List Member) (homes : List (Option Homes)) → AllByRecursion IsPlainMember olds → AreMemberImages count number marks olds news homes → IsMeasuredImage olds news homes
+members-measured count number [] [] [] [] plain are = record { codes = tt; methods = refl; housed = refl }
+members-measured count number (mark ∷ marks) (o ∷ olds) (n ∷ news) (h ∷ homes) plain are =
+    let rest = members-measured count (next_number number o) marks olds news homes plain.1 are.1 in
+    record { codes = (member-measured count number mark o n h plain.0 are.0, rest.codes); methods = ap suc rest.methods; housed = ap suc rest.housed }
+members-measured count number [] (o ∷ olds) news homes plain are = absurd are
+members-measured count number (mark ∷ marks) (o ∷ olds) [] homes plain are = absurd are
+members-measured count number (mark ∷ marks) (o ∷ olds) (n ∷ news) [] plain are = absurd are
+members-measured count number (mark ∷ marks) [] news homes plain are = absurd are
+members-measured count number [] [] (n ∷ news) homes plain are = absurd are
+members-measured count number [] [] [] (h ∷ homes) plain are = absurd are
+
+each-measured : (olds : List Member) → AllByRecursion IsPlainMember olds → AllByRecursion IsMeasured olds
+each-measured [] plain = tt
+each-measured (o ∷ olds) plain = (original-measured o plain.0, each-measured olds plain.1)
+
+length-none : (ms : List Member) → (let homes : List (Option Homes) = map (λ m. None) ms in length homes ≡ length ms)
+length-none [] = refl
+length-none (m ∷ ms) = ap suc (length-none ms)
+
+measured-original : (c image : ClassFile) (homes : List (Option Homes)) → IsBuilt c → IsOriginal c image homes → IsMeasuredImage c.methods image.methods homes
+measured-original c image homes built is = record {
+  codes = subst (λ (x : ClassFile). AllByRecursion IsMeasured x.methods) (sym is.class_stays) (each-measured c.methods built.plain.methods);
+  methods = ap (λ (x : ClassFile). length x.methods) is.class_stays;
+  housed = ap (λ (hs : List (Option Homes)). length hs) is.unmoved ∙ length-none c.methods;
+}
+
+by_test : (c : ClassFile) (marks : List Mark) (image : ClassFile) (homes : List (Option Homes)) (b : Bool) → IsBuilt c
+    → MatchBool b (IsOriginal c image homes) (IsRewritten c 0 marks image homes) → IsMeasuredImage c.methods image.methods homes
+by_test c marks image homes true built is = measured-original c image homes built is
+by_test c marks image homes false built is = members-measured (length c.pool) 0 marks c.methods image.methods homes built.plain.methods is.methods
+
+pub IsMeasuredImage-image : (c : ClassFile) (marks : List Mark) (image : ClassFile) (homes : List (Option Homes)) → IsBuilt c → IsImage c 0 marks image homes → IsMeasuredImage c.methods image.methods homes
+IsMeasuredImage-image c marks image homes built is = by_test c marks image homes (all_off marks) built is
