@@ -10,13 +10,12 @@ use Rattle.code_model.specs.declared.laying.Homes.{Homes}
 use Rattle.code_model.specs.Instructions.{instruction_at}
 use Rattle.jvm_machine.specs.declared.probes.Probe.{Probe}
 use Rattle.jvm_machine.specs.declared.tables.Method.{Method}
-use Rattle.jvm_machine.specs.declared.tables.Version.{Version}
+use Rattle.jvm_machine.specs.declared.tables.PreparedVersion.{PreparedVersion}
 use Rattle.jvm_machine.specs.Probes.{placed_probe}
 use Rattle.jvm_model.specs.declared.event.EventKind.{EventKind}
 use Rattle.jvm_model.specs.declared.operation.Line.{Line}
-use Rattle.jvm_model.specs.Lines.{code_line}
 use Rattle.jvm_model.specs.Methods.{code_of, member_shape}
-use Rattle.jvm_model.specs.StandsFor.{origin_by, placed_line, invoked_probe, pushed_number, probe_in}
+use Rattle.jvm_model.specs.StandsFor.{origin_by, code_line, placed_line, invoked_probe, pushed_number, probe_in}
 
 -- ---- of a method of the class
 
@@ -59,14 +58,14 @@ placed_probe_in image code place = option_map (placed_probe place) (probe_in ima
 abbrev pub probes_of : ClassFile → List ℕ → List (Option Probe)
 probes_of image code = map (placed_probe_in image code) (range_with_len 0 (length code))
 
-abbrev pub version_of : ClassFile → Option Homes → Member → Version
+abbrev pub version_of : ClassFile → Option Homes → Member → PreparedVersion
 version_of image homes m = record {
   lines = option_map_or (λ code. lines_of image homes code.code) (code_of m) [];
   probes = option_map_or (λ code. probes_of image code.code) (code_of m) [];
 }
 
 -- a version for each method, with its homes
-abbrev pub versions_of : ClassFile → List (Option Homes) → List Member → List Version
+abbrev pub versions_of : ClassFile → List (Option Homes) → List Member → List PreparedVersion
 versions_of image (h ∷ homes) (m ∷ methods) = version_of image h m ∷ versions_of image homes methods
 versions_of image [] methods = []
 versions_of image (h ∷ homes) [] = []
