@@ -1,2 +1,3 @@
 pub mod Settles
 pub mod NormalForms
+pub mod Growth
