@@ -1,3 +1,4 @@
 pub mod Settles
 pub mod NormalForms
 pub mod Growth
+pub mod Methods
