@@ -3,6 +3,7 @@
 use Rattle.std.proofs.Common.{◌≡◌, ℕ, zero, suc, ◌≤◌, ◌<◌, Bool, true, false, List, [], ◌∷◌, ◌++◌, length, take, Option, Some, None, is_some, nat_le, ◌&&◌, if◌then◌else◌, refl, sym, ap, subst, ◌∙◌, inl, inr, append_assoc, arith}
 use Rattle.std.specs.List.{slice_get}
 use Rattle.std.specs.Option.{IfSome, option_map}
+use Rattle.std.proofs.lemmas.Option.{IfSome_then}
 use Rattle.std.proofs.lemmas.Bool.{both_ways, cases_lt, false_from_ne_true}
 use Rattle.std.proofs.lemmas.List.{append-nil, take_at}
 use Rattle.heap_objects.specs.declared.Value.TheVariants.{Ref, Addr}
@@ -16,6 +17,7 @@ use Rattle.jvm_model.specs.Moves.{handler_for, own_at, caught, after_super, with
 use Rattle.jvm_model.specs.Run.{attempt, starts, is_ready, is_quiet, goes_on, goes_again, with_loaded, loaded_turn, steps_by, steps_at, steps_on, step, turn_in, turn_in-suc}
 use Rattle.jvm_model.specs.Growth.{Extends}
 use Rattle.jvm_model.proofs.Settles.{settled-keeps}
+use Rattle.jvm_model.proofs.Attempts.{again-by, with_loaded-shared, loaded-after}
 
 -- ---- growth
 
@@ -30,10 +32,6 @@ Extends-trans {old} {mid} {new} a b = record {
   more = a.more ++ b.more;
   longer = b.longer ∙ (ap (λ (l : List ℕ). l ++ b.more) a.longer ∙ append_assoc old a.more b.more);
 }
-
-pub IfSome-map : {A : Type 0} (o : Option A) (P Q : A → Type 0) → ((x : A) → P x → Q x) → IfSome o P → IfSome o Q
-IfSome-map None P Q f p = tt
-IfSome-map (Some x) P Q f p = f x p
 
 -- where a test decides, both ways leave the output
 chosen-keeps : (kept : List ℕ) (test : Bool) (x y : State) → x.output ≡ kept → y.output ≡ kept → (if test then x else y).output ≡ kept
@@ -112,7 +110,7 @@ moves-keep w t s None None (Initializing c Finish ∷ below) = refl
 
 pub settled-output : (w : World) (t : Text) (kept : List ℕ) (a : Turn) → a.after.output ≡ kept → (settled w t a).after.output ≡ kept
 settled-output w t kept a e = settled-keeps w t (λ b. b.after.output ≡ kept)
-    (λ b p. IfSome-map (move w t b.after) (λ next. next.after.output ≡ b.after.output) (λ next. next.after.output ≡ kept) (λ next q. q ∙ p) (moves-keep w t b.after b.after.ending b.after.thrown b.after.stack)) a e
+    (λ b p. IfSome_then (move w t b.after) {P = λ next. next.after.output ≡ b.after.output} {Q = λ next. next.after.output ≡ kept} (moves-keep w t b.after b.after.ending b.after.thrown b.after.stack) (λ next q. q ∙ p)) a e
 
 -- ---- a step
 
@@ -122,24 +120,12 @@ attempt-grows w t i s f =
     let after : State = record s { shared = d.shared; output = s.output ++ d.wrote } in
     record { more = d.wrote; longer = settled-output w t after.output (applies w t i d.outcome after f) (applies-keeps w t i d.outcome after f) }
 
-again-grows : (w : World) (t : Text) (i : Instruction) (s : State) (f : Frame) (c : Option ℕ) (a : Turn) → Extends s.output a.after.output → Extends s.output (goes_again w t i s f c a).after.output
-again-grows w t i s f None a g = g
-again-grows w t i s f (Some c) a g = by (is_quiet a.changes && is_ready (phase_of a.after.shared c) && goes_on a.after.ending a.after.thrown) where
-  by : (b : Bool) → Extends s.output (if b then then_turn a (attempt w t i (record a.after { stack = s.stack }) f) else a).after.output
-  by true = Extends-trans g (attempt-grows w t i (record a.after { stack = s.stack }) f)
-  by false = g
-
 by-grows : (w : World) (t : Text) (i : Instruction) (s : State) (f : Frame) → Extends s.output (steps_by w t i s f (does w i.operation s.shared f.locals f.operands)).after.output
-by-grows w t i s f = again-grows w t i s f (starts (does w i.operation s.shared f.locals f.operands).outcome) (attempt w t i s f) (attempt-grows w t i s f)
-
--- loading leaves the output
-loaded-grows : (classes old : List ℕ) (a : Turn) → Extends old a.after.output → Extends old (loaded_turn classes a).after.output
-loaded-grows [] old a g = g
-loaded-grows (c ∷ more) old a g = g
-
-with_loaded-output : (classes : List ℕ) (s : State) → (with_loaded classes s).output ≡ s.output
-with_loaded-output [] s = refl
-with_loaded-output (c ∷ more) s = refl
+by-grows w t i s f =
+    let a = attempt w t i s f in
+    let first = attempt-grows w t i s f in
+    again-by (λ b. Extends s.output b.after.output) w t i s f (starts (does w i.operation s.shared f.locals f.operands).outcome) a first
+    (λ quiet on. Extends-trans first (attempt-grows w t i (record a.after { stack = s.stack }) f))
 
 at-grows : (w : World) (t : Text) (s : State) (f : Frame) (found : Option Instruction) → Extends s.output (steps_at w t s f found).after.output
 at-grows w t s f None = Extends-same s.output
@@ -147,7 +133,8 @@ at-grows w t s f (Some i) =
     let classes = loads w i.operation s.shared f.operands in
     let ready = with_loaded classes s in
     let turn = steps_by w t i ready f (does w i.operation ready.shared f.locals f.operands) in
-    loaded-grows classes s.output turn (subst (λ old. Extends old turn.after.output) (with_loaded-output classes s) (by-grows w t i ready f))
+    let same : ready.output ≡ s.output = ap (λ (x : State). x.output) (with_loaded-shared classes s) in
+    subst (λ (x : State). Extends s.output x.output) (sym (loaded-after classes turn)) (subst (λ old. Extends old turn.after.output) same (by-grows w t i ready f))
 
 on-grows : (w : World) (t : Text) (s : State) (ending : Option Ending) (stack : List Entry) → Extends s.output (steps_on w t s ending stack).after.output
 on-grows w t s None (Active f ∷ below) = at-grows w t (record s { stack = below }) f (t.at f.version f.place)

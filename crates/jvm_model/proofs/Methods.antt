@@ -1,6 +1,7 @@
 -- The changes of a step tell exactly how the frames' methods changed.
 use Rattle.std.proofs.Common.{◌≡◌, ℕ, suc, slice_get, Bool, true, false, List, [], ◌∷◌, ◌++◌, Option, Some, None, nat_le, ◌&&◌, if◌then◌else◌, refl, sym, ap, subst, ◌∙◌}
 use Rattle.std.specs.Option.{IfSome, option_map}
+use Rattle.std.proofs.lemmas.Option.{IfSome_then}
 use Rattle.heap_objects.specs.declared.Value.TheVariants.{Ref, Addr}
 use Rattle.jvm_model.specs.Data.{Datum, Locals, Operands, Frame, Entry, Active, Initializing, Constants, Superclass, Initializer, Finish, Phase, Fresh, Erroneous, Ending, State, Change, Turn, Instruction, Text, Outcome, GoesOn, Subroutine, Invokes, Returns, Throws, Raises, Initializes, Exits, Breaks, Done, World}
 use Rattle.jvm_model.specs.Values.{as_value, depth, with_value}
@@ -12,7 +13,7 @@ use Rattle.jvm_model.specs.Moves.{handler_for, own_at, caught, after_super, with
 use Rattle.jvm_model.specs.Run.{attempt, starts, is_ready, is_quiet, goes_on, goes_again, with_loaded, loaded_turn, steps_by, steps_at, steps_on, step, main_class, starts_with, start, turn_in, turn_in-zero, turn_in-suc}
 use Rattle.jvm_model.specs.Changes.{methods, after_change, after_changes}
 use Rattle.jvm_model.proofs.Settles.{settled-keeps}
-use Rattle.jvm_model.proofs.Growth.{IfSome-map}
+use Rattle.jvm_model.proofs.Attempts.{again-by, with_loaded-shared}
 
 -- from these methods the changes lead to those of the state
 abbrev pub Tells : List ℕ → Turn → Type 0
@@ -100,7 +101,7 @@ moves-tell w t s None None (Initializing c Finish ∷ below) same = refl
 
 pub settled-tells : (w : World) (t : Text) (ms : List ℕ) (a : Turn) → Tells ms a → Tells ms (settled w t a)
 settled-tells w t ms a p = settled-keeps w t (Tells ms)
-    (λ b q. IfSome-map (move w t b.after) (Tells (methods b.after.stack)) (λ next. Tells ms (then_turn b next)) (λ next r. then-tells ms b next q r) (moves-tell w t b.after b.after.ending b.after.thrown b.after.stack refl)) a p
+    (λ b q. IfSome_then (move w t b.after) {P = Tells (methods b.after.stack)} {Q = λ next. Tells ms (then_turn b next)} (moves-tell w t b.after b.after.ending b.after.thrown b.after.stack refl) (λ next r. then-tells ms b next q r)) a p
 
 -- ---- a step
 
@@ -115,32 +116,19 @@ quiet-same : (ms : List ℕ) (changes : List Change) → is_quiet changes ≡ tr
 quiet-same ms [] e = refl
 quiet-same ms (c ∷ more) e = absurd (let f : false ≡ true = e in cc)
 
-first' : (a b : Bool) → (a && b) ≡ true → a ≡ true
-first' true b e = refl
-first' false b e = absurd (let f : false ≡ true = e in cc)
-
-again-tells : (w : World) (t : Text) (i : Instruction) (s : State) (f : Frame) (c : Option ℕ) (a : Turn) → Tells (f.method ∷ methods s.stack) a → Tells (f.method ∷ methods s.stack) (goes_again w t i s f c a)
-again-tells w t i s f None a p = p
-again-tells w t i s f (Some c) a p = by (is_quiet a.changes && is_ready (phase_of a.after.shared c) && goes_on a.after.ending a.after.thrown) refl where
-  by : (b : Bool) → (is_quiet a.changes && is_ready (phase_of a.after.shared c) && goes_on a.after.ending a.after.thrown) ≡ b → Tells (f.method ∷ methods s.stack) (if b then then_turn a (attempt w t i (record a.after { stack = s.stack }) f) else a)
-  by true e =
-      let quiet = first' (is_quiet a.changes) (is_ready (phase_of a.after.shared c)) (first' (is_quiet a.changes && is_ready (phase_of a.after.shared c)) (goes_on a.after.ending a.after.thrown) e) in
-      let same = p ∙ quiet-same (f.method ∷ methods s.stack) a.changes quiet in
-      let b : Turn = attempt w t i (record a.after { stack = s.stack }) f in
-      then-tells (f.method ∷ methods s.stack) a b p (subst (λ ms. Tells ms b) (sym same) (attempt-tells w t i (record a.after { stack = s.stack }) f))
-  by false e = p
-
 by-tells : (w : World) (t : Text) (i : Instruction) (s : State) (f : Frame) → Tells (f.method ∷ methods s.stack) (steps_by w t i s f (does w i.operation s.shared f.locals f.operands))
-by-tells w t i s f = again-tells w t i s f (starts (does w i.operation s.shared f.locals f.operands).outcome) (attempt w t i s f) (attempt-tells w t i s f)
+by-tells w t i s f =
+    let ms = f.method ∷ methods s.stack in
+    let a = attempt w t i s f in
+    let second = attempt w t i (record a.after { stack = s.stack }) f in
+    let first = attempt-tells w t i s f in
+    again-by (Tells ms) w t i s f (starts (does w i.operation s.shared f.locals f.operands).outcome) a first
+    (λ quiet on. then-tells ms a second first (subst (λ k. Tells k second) (sym (first ∙ quiet-same ms a.changes quiet)) (attempt-tells w t i (record a.after { stack = s.stack }) f)))
 
 -- loading changes no frame
 loaded-tells : (classes ms : List ℕ) (a : Turn) → Tells ms a → Tells ms (loaded_turn classes a)
 loaded-tells [] ms a p = p
 loaded-tells (c ∷ more) ms a p = p
-
-with_loaded-stack : (classes : List ℕ) (s : State) → (with_loaded classes s).stack ≡ s.stack
-with_loaded-stack [] s = refl
-with_loaded-stack (c ∷ more) s = refl
 
 at-tells : (w : World) (t : Text) (s : State) (f : Frame) (found : Option Instruction) → Tells (f.method ∷ methods s.stack) (steps_at w t s f found)
 at-tells w t s f None = refl
@@ -148,7 +136,8 @@ at-tells w t s f (Some i) =
     let classes = loads w i.operation s.shared f.operands in
     let ready = with_loaded classes s in
     let turn = steps_by w t i ready f (does w i.operation ready.shared f.locals f.operands) in
-    loaded-tells classes (f.method ∷ methods s.stack) turn (subst (λ stack. Tells (f.method ∷ methods stack) turn) (with_loaded-stack classes s) (by-tells w t i ready f))
+    let same : ready.stack ≡ s.stack = ap (λ (x : State). x.stack) (with_loaded-shared classes s) in
+    loaded-tells classes (f.method ∷ methods s.stack) turn (subst (λ stack. Tells (f.method ∷ methods stack) turn) same (by-tells w t i ready f))
 
 on-tells : (w : World) (t : Text) (s : State) (ending : Option Ending) (stack : List Entry) → s.stack ≡ stack → Tells (methods stack) (steps_on w t s ending stack)
 on-tells w t s None (Active f ∷ below) e = at-tells w t (record s { stack = below }) f (t.at f.version f.place)

@@ -28,9 +28,3 @@ only-one w t b c a bs cs (by_move a' next e more) (by_move a'' next' e' more') =
 
 pub one-normal-form : (w : World) (t : Text) (a b : Turn) → IsNormalForm w t a b → b ≡ settled w t a
 one-normal-form w t a b is = let mine = settled-normal w t a in only-one w t b (settled w t a) a is.stops mine.stops is.reached mine.reached
-
--- for a loop of moves: one move leaves the normal form
-pub settled-same : (w : World) (t : Text) (a next : Turn) → move w t a.after ≡ Some next → settled w t (then_turn a next) ≡ settled w t a
-settled-same w t a next e =
-    let rest = settled-normal w t (then_turn a next) in
-    one-normal-form w t a (settled w t (then_turn a next)) (record { reached = by_move a next e rest.reached; stops = rest.stops })

@@ -2,7 +2,7 @@
 -- normal.
 use Rattle.std.proofs.Common.{◌≡◌, ℕ, zero, suc, ◌≤◌, ◌⊎◌, inl, inr, Bool, true, false, List, [], ◌∷◌, ◌++◌, Option, Some, None, nat_le, ◌&&◌, if◌then◌else◌, refl, sym, ap, subst, ◌∙◌, arith}
 use Rattle.std.specs.Option.{IfSome}
-use Rattle.std.proofs.lemmas.Option.{none-some}
+use Rattle.std.proofs.lemmas.Option.{none-some, IfSome_then}
 use Rattle.jvm_model.specs.Data.{Frame, Entry, Active, Initializing, Part, Constants, Superclass, Initializer, Finish, Ending, State, Change, Loads, Began, Left, Unwound, Turn, Instruction, Text, Outcome, GoesOn, Subroutine, Invokes, Returns, Throws, Raises, Initializes, Exits, Breaks, Done, World}
 use Rattle.jvm_model.specs.Programs.{initializer_of}
 use Rattle.jvm_model.specs.SharedState.{phase_of, class_of}
@@ -12,7 +12,7 @@ use Rattle.jvm_model.specs.Moves.{handler_for, caught, at_part, runs_initializer
 use Rattle.jvm_model.specs.Run.{attempt, starts, is_ready, is_quiet, goes_on, goes_again, with_loaded, loaded_turn, steps_by, steps_at, steps_on, step, main_class, starts_with, start, turn_in, turn_in-zero, turn_in-suc}
 use Rattle.jvm_model.specs.Changes.{begun, EndThenBegin, OnlyEnd, AreOrdered}
 use Rattle.jvm_model.proofs.Settles.{settled-keeps, settled-stops}
-use Rattle.jvm_model.proofs.Growth.{IfSome-map}
+use Rattle.jvm_model.proofs.Attempts.{again-by, with_loaded-shared, loaded-after}
 
 -- ---- lists of changes
 
@@ -114,7 +114,7 @@ then-well w t a next p (inl q) = inl (end-append a.changes next.changes p q)
 then-well w t a next p (inr q) = inr (begin-append a.changes next.changes p q.0, q.1)
 
 goes-well : (w : World) (t : Text) (a : Turn) → GoesWell w t a → IfSome (move w t a.after) (λ next. GoesWell w t (then_turn a next))
-goes-well w t a (inl p) = IfSome-map (move w t a.after) (GoesWell w t) (λ next. GoesWell w t (then_turn a next)) (λ next q. then-well w t a next p q) (moves-well w t a.after a.after.ending a.after.thrown a.after.stack refl refl)
+goes-well w t a (inl p) = IfSome_then (move w t a.after) {P = GoesWell w t} {Q = λ next. GoesWell w t (then_turn a next)} (moves-well w t a.after a.after.ending a.after.thrown a.after.stack refl refl) (λ next q. then-well w t a next p q)
 goes-well w t a (inr p) = subst (λ found. IfSome found (λ next. GoesWell w t (then_turn a next))) (sym p.1) tt
 
 well-begins : (w : World) (t : Text) (a : Turn) → GoesWell w t a → EndThenBegin a.changes
@@ -157,41 +157,17 @@ open-thrown ending None e = refl
 open-thrown None (Some r) e = absurd (let f : false ≡ true = e in cc)
 open-thrown (Some x) (Some r) e = absurd (let f : false ≡ true = e in cc)
 
-second : (a b : Bool) → (a && b) ≡ true → b ≡ true
-second true b e = e
-second false b e = absurd (let f : false ≡ true = e in cc)
-
-first' : (a b : Bool) → (a && b) ≡ true → a ≡ true
-first' true b e = refl
-first' false b e = absurd (let f : false ≡ true = e in cc)
-
 quiet-end : (cs : List Change) → is_quiet cs ≡ true → OnlyEnd cs
 quiet-end [] e = tt
 quiet-end (c ∷ cs) e = absurd (let f : false ≡ true = e in cc)
 
-again-begins : (w : World) (t : Text) (i : Instruction) (s : State) (f : Frame) (c : Option ℕ) (a : Turn) → EndThenBegin a.changes → EndThenBegin (goes_again w t i s f c a).changes
-again-begins w t i s f None a p = p
-again-begins w t i s f (Some c) a p = by (is_quiet a.changes && is_ready (phase_of a.after.shared c) && goes_on a.after.ending a.after.thrown) refl where
-  by : (b : Bool) → (is_quiet a.changes && is_ready (phase_of a.after.shared c) && goes_on a.after.ending a.after.thrown) ≡ b
-      → EndThenBegin (if b then then_turn a (attempt w t i (record a.after { stack = s.stack }) f) else a).changes
-  by true e =
-      let q = quiet-end a.changes (first' (is_quiet a.changes) (is_ready (phase_of a.after.shared c)) (first' (is_quiet a.changes && is_ready (phase_of a.after.shared c)) (goes_on a.after.ending a.after.thrown) e)) in
-      let g = second (is_quiet a.changes && is_ready (phase_of a.after.shared c)) (goes_on a.after.ending a.after.thrown) e in
-      begin-append a.changes (attempt w t i (record a.after { stack = s.stack }) f).changes q
-      (attempt-begins w t i (record a.after { stack = s.stack }) f (open-ended a.after.ending a.after.thrown g) (open-thrown a.after.ending a.after.thrown g))
-  by false e = p
-
 by-begins : (w : World) (t : Text) (i : Instruction) (s : State) (f : Frame) → s.ending ≡ None → s.thrown ≡ None → EndThenBegin (steps_by w t i s f (does w i.operation s.shared f.locals f.operands)).changes
-by-begins w t i s f open' calm = again-begins w t i s f (starts (does w i.operation s.shared f.locals f.operands).outcome) (attempt w t i s f) (attempt-begins w t i s f open' calm)
-
--- loading leaves the rest
-with_loaded-ending : (classes : List ℕ) (s : State) → (with_loaded classes s).ending ≡ s.ending
-with_loaded-ending [] s = refl
-with_loaded-ending (c ∷ more) s = refl
-
-with_loaded-thrown : (classes : List ℕ) (s : State) → (with_loaded classes s).thrown ≡ s.thrown
-with_loaded-thrown [] s = refl
-with_loaded-thrown (c ∷ more) s = refl
+by-begins w t i s f open' calm =
+    let a = attempt w t i s f in
+    let again : State = record a.after { stack = s.stack } in
+    again-by (λ b. EndThenBegin b.changes) w t i s f (starts (does w i.operation s.shared f.locals f.operands).outcome) a (attempt-begins w t i s f open' calm)
+    (λ quiet on. begin-append a.changes (attempt w t i again f).changes (quiet-end a.changes quiet)
+    (attempt-begins w t i again f (open-ended a.after.ending a.after.thrown on) (open-thrown a.after.ending a.after.thrown on)))
 
 at-ordered : (w : World) (t : Text) (s : State) (f : Frame) (found : Option Instruction) → s.ending ≡ None → s.thrown ≡ None → AreOrdered (steps_at w t s f found).changes
 at-ordered w t s f None open' calm = tt
@@ -199,7 +175,10 @@ at-ordered w t s f (Some i) open' calm =
     let classes = loads w i.operation s.shared f.operands in
     let ready = with_loaded classes s in
     let turn = steps_by w t i ready f (does w i.operation ready.shared f.locals f.operands) in
-    loaded-ordered classes turn (by-begins w t i ready f (with_loaded-ending classes s ∙ open') (with_loaded-thrown classes s ∙ calm))
+    let same = with_loaded-shared classes s in
+    let ending : ready.ending ≡ s.ending = ap (λ (x : State). x.ending) same in
+    let thrown : ready.thrown ≡ s.thrown = ap (λ (x : State). x.thrown) same in
+    loaded-ordered classes turn (by-begins w t i ready f (ending ∙ open') (thrown ∙ calm))
 
 -- where no move applies and a frame is on top, nothing is thrown
 stopped-calm : (w : World) (t : Text) (s : State) (thrown : Option ℕ) (f : Frame) (below : List Entry) → moves w t s None thrown (Active f ∷ below) ≡ None → thrown ≡ None
@@ -235,24 +214,15 @@ attempt-stops w t i s f =
     let d : Done = does w i.operation s.shared f.locals f.operands in
     settled-stops w t (applies w t i d.outcome (record s { shared = d.shared; output = s.output ++ d.wrote }) f)
 
-again-stops : (w : World) (t : Text) (i : Instruction) (s : State) (f : Frame) (c : Option ℕ) (a : Turn) → move w t a.after ≡ None → move w t (goes_again w t i s f c a).after ≡ None
-again-stops w t i s f None a p = p
-again-stops w t i s f (Some c) a p = by (is_quiet a.changes && is_ready (phase_of a.after.shared c) && goes_on a.after.ending a.after.thrown) where
-  by : (b : Bool) → move w t (if b then then_turn a (attempt w t i (record a.after { stack = s.stack }) f) else a).after ≡ None
-  by true = attempt-stops w t i (record a.after { stack = s.stack }) f
-  by false = p
-
-loaded-stops : (w : World) (t : Text) (classes : List ℕ) (a : Turn) → move w t a.after ≡ None → move w t (loaded_turn classes a).after ≡ None
-loaded-stops w t [] a p = p
-loaded-stops w t (c ∷ more) a p = p
-
 at-stops : (w : World) (t : Text) (s : State) (f : Frame) (found : Option Instruction) → move w t (steps_at w t s f found).after ≡ None
 at-stops w t s f None = refl
 at-stops w t s f (Some i) =
     let classes = loads w i.operation s.shared f.operands in
     let ready = with_loaded classes s in
     let d = does w i.operation ready.shared f.locals f.operands in
-    loaded-stops w t classes (steps_by w t i ready f d) (again-stops w t i ready f (starts d.outcome) (attempt w t i ready f) (attempt-stops w t i ready f))
+    let a = attempt w t i ready f in
+    ap (move w t) (loaded-after classes (steps_by w t i ready f d))
+    ∙ again-by (λ b. move w t b.after ≡ None) w t i ready f (starts d.outcome) a (attempt-stops w t i ready f) (λ quiet on. attempt-stops w t i (record a.after { stack = ready.stack }) f)
 
 -- without a frame on top some move applies, or the run has ended
 moving : (w : World) (t : Text) (s : State) (thrown : Option ℕ) → moves w t s None thrown [] ≡ None → ⊥
