@@ -1,6 +1,6 @@
 -- A run's output only grows, and a run that has ended stays as it is. What an instruction writes is appended, and nothing else
 -- touches the output.
-use Rattle.std.proofs.Common.{◌≡◌, ℕ, zero, suc, ◌≤◌, ◌<◌, Bool, true, false, List, [], ◌∷◌, ◌++◌, length, take, Option, Some, None, is_some, nat_le, ◌&&◌, if◌then◌else◌, refl, sym, ap, subst, ◌∙◌, inl, inr, append_assoc, arith}
+use Rattle.std.proofs.Common.{◌≡◌, ℕ, zero, suc, ◌≤◌, Bool, true, false, List, [], ◌∷◌, ◌++◌, length, take, Option, Some, None, is_some, nat_le, if◌then◌else◌, refl, sym, ap, subst, ◌∙◌, inl, inr, append_assoc, arith}
 use Rattle.std.specs.List.{slice_get}
 use Rattle.std.specs.Option.{IfSome, option_map}
 use Rattle.std.proofs.lemmas.Option.{IfSome_then}
@@ -13,8 +13,8 @@ use Rattle.jvm_model.specs.Programs.{super_of, initializer_of, max_stack_of}
 use Rattle.jvm_model.specs.SharedState.{phase_of, class_of}
 use Rattle.jvm_model.specs.Rules.{does, loads}
 use Rattle.jvm_model.specs.Applies.{still, goes, place_of, enters_subroutine, has_room, resumes, gives_back, applies}
-use Rattle.jvm_model.specs.Moves.{handler_for, own_at, caught, after_super, with_super, runs_initializer, argument_array, main_or_end, moves, move, then_turn, settled}
-use Rattle.jvm_model.specs.Run.{attempt, starts, is_ready, is_quiet, goes_on, goes_again, with_loaded, loaded_turn, steps_by, steps_at, steps_on, step, turn_in, turn_in-suc}
+use Rattle.jvm_model.specs.Moves.{handler_for, own_at, caught, after_super, with_super, runs_initializer, argument_array, main_or_end, moves, move, settled}
+use Rattle.jvm_model.specs.Run.{attempt, starts, with_loaded, steps_by, steps_at, steps_on, step, turn_in, turn_in-suc}
 use Rattle.jvm_model.specs.Growth.{Extends}
 use Rattle.jvm_model.proofs.Settles.{settled-keeps}
 use Rattle.jvm_model.proofs.Attempts.{again-by, with_loaded-shared, loaded-after}

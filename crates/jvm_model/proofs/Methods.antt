@@ -1,5 +1,5 @@
 -- The changes of a step tell exactly how the frames' methods changed.
-use Rattle.std.proofs.Common.{◌≡◌, ℕ, suc, slice_get, Bool, true, false, List, [], ◌∷◌, ◌++◌, Option, Some, None, nat_le, ◌&&◌, if◌then◌else◌, refl, sym, ap, subst, ◌∙◌}
+use Rattle.std.proofs.Common.{◌≡◌, ℕ, suc, slice_get, Bool, true, false, List, [], ◌∷◌, ◌++◌, Option, Some, None, nat_le, if◌then◌else◌, refl, sym, ap, subst, ◌∙◌}
 use Rattle.std.specs.Option.{IfSome, option_map}
 use Rattle.std.proofs.lemmas.Option.{IfSome_then}
 use Rattle.heap_objects.specs.declared.Value.TheVariants.{Ref, Addr}
@@ -10,7 +10,7 @@ use Rattle.jvm_model.specs.SharedState.{phase_of, class_of}
 use Rattle.jvm_model.specs.Rules.{does, loads}
 use Rattle.jvm_model.specs.Applies.{still, with_frame, breaks, goes, place_of, enters_subroutine, has_room, resumes, gives_back, applies}
 use Rattle.jvm_model.specs.Moves.{handler_for, own_at, caught, after_super, with_super, runs_initializer, argument_array, main_or_end, moves, move, then_turn, settled}
-use Rattle.jvm_model.specs.Run.{attempt, starts, is_ready, is_quiet, goes_on, goes_again, with_loaded, loaded_turn, steps_by, steps_at, steps_on, step, main_class, starts_with, start, turn_in, turn_in-zero, turn_in-suc}
+use Rattle.jvm_model.specs.Run.{attempt, starts, is_quiet, with_loaded, loaded_turn, steps_by, steps_at, steps_on, step, main_class, starts_with, start, turn_in, turn_in-zero, turn_in-suc}
 use Rattle.jvm_model.specs.Changes.{methods, after_change, after_changes}
 use Rattle.jvm_model.proofs.Settles.{settled-keeps}
 use Rattle.jvm_model.proofs.Attempts.{again-by, with_loaded-shared}

@@ -1,15 +1,15 @@
 -- In a step classes are loaded first, then activations end, and one begins behind them at most; and each state of a run is
 -- normal.
-use Rattle.std.proofs.Common.{◌≡◌, ℕ, zero, suc, ◌≤◌, ◌⊎◌, inl, inr, Bool, true, false, List, [], ◌∷◌, ◌++◌, Option, Some, None, nat_le, ◌&&◌, if◌then◌else◌, refl, sym, ap, subst, ◌∙◌, arith}
+use Rattle.std.proofs.Common.{◌≡◌, ℕ, zero, suc, ◌≤◌, ◌⊎◌, inl, inr, Bool, true, false, List, [], ◌∷◌, ◌++◌, Option, Some, None, if◌then◌else◌, refl, sym, ap, subst, ◌∙◌, arith}
 use Rattle.std.specs.Option.{IfSome}
 use Rattle.std.proofs.lemmas.Option.{none-some, IfSome_then}
 use Rattle.jvm_model.specs.Data.{Frame, Entry, Active, Initializing, Part, Constants, Superclass, Initializer, Finish, Ending, State, Change, Loads, Began, Left, Unwound, Turn, Instruction, Text, Outcome, GoesOn, Subroutine, Invokes, Returns, Throws, Raises, Initializes, Exits, Breaks, Done, World}
 use Rattle.jvm_model.specs.Programs.{initializer_of}
-use Rattle.jvm_model.specs.SharedState.{phase_of, class_of}
+use Rattle.jvm_model.specs.SharedState.{class_of}
 use Rattle.jvm_model.specs.Rules.{does, loads}
 use Rattle.jvm_model.specs.Applies.{still, with_frame, new_frame, has_room, begins, applies}
 use Rattle.jvm_model.specs.Moves.{handler_for, caught, at_part, runs_initializer, argument_array, main_or_end, moves, move, then_turn, settled}
-use Rattle.jvm_model.specs.Run.{attempt, starts, is_ready, is_quiet, goes_on, goes_again, with_loaded, loaded_turn, steps_by, steps_at, steps_on, step, main_class, starts_with, start, turn_in, turn_in-zero, turn_in-suc}
+use Rattle.jvm_model.specs.Run.{attempt, starts, is_quiet, goes_on, with_loaded, loaded_turn, steps_by, steps_at, steps_on, step, main_class, starts_with, start, turn_in, turn_in-zero, turn_in-suc}
 use Rattle.jvm_model.specs.Changes.{begun, EndThenBegin, OnlyEnd, AreOrdered}
 use Rattle.jvm_model.proofs.Settles.{settled-keeps, settled-stops}
 use Rattle.jvm_model.proofs.Attempts.{again-by, with_loaded-shared, loaded-after}

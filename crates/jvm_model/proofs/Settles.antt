@@ -3,7 +3,7 @@ use Rattle.std.proofs.Common.{◌≡◌, ℕ, zero, suc, ◌+◌, ◌*◌, ◌<�
 use Rattle.std.specs.Option.{IfSome, option_map_or}
 use Rattle.heap_objects.specs.declared.datum.Datum.TheVariants as datum
 use Rattle.heap_objects.specs.declared.Value.TheVariants.{Ref}
-use Rattle.jvm_model.specs.Data.{Datum, Frame, Entry, Active, Initializing, Part, Constants, Superclass, Initializer, Finish, Phase, Fresh, Running, Ready, Erroneous, Instance, Shared, Ending, State, Turn, Text, World}
+use Rattle.jvm_model.specs.Data.{Frame, Entry, Active, Initializing, Part, Constants, Superclass, Initializer, Finish, Phase, Fresh, Running, Ready, Erroneous, Instance, Shared, Ending, State, Turn, Text, World}
 use Rattle.jvm_model.specs.Values.{depth}
 use Rattle.jvm_model.specs.Programs.{class_named, is_subclass, super_of, initializer_of, max_stack_of}
 use Rattle.jvm_model.specs.SharedState.{error, no_class_definition, in_initializer, phase_of, with_phase, class_of, allocated, raised}
