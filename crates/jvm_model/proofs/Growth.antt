@@ -110,7 +110,8 @@ moves-keep w t s None None (Initializing c Finish ∷ below) = refl
 
 pub settled-output : (w : World) (t : Text) (kept : List ℕ) (a : Turn) → a.after.output ≡ kept → (settled w t a).after.output ≡ kept
 settled-output w t kept a e = settled-keeps w t (λ b. b.after.output ≡ kept)
-    (λ b p. IfSome_then (move w t b.after) {P = λ next. next.after.output ≡ b.after.output} {Q = λ next. next.after.output ≡ kept} (moves-keep w t b.after b.after.ending b.after.thrown b.after.stack) (λ next q. q ∙ p)) a e
+    (λ b p. IfSome_then (move w t b.after) {P = λ next. next.after.output ≡ b.after.output} {Q = λ next. next.after.output ≡ kept}
+    (moves-keep w t b.after b.after.ending b.after.thrown b.after.stack) (λ next q. q ∙ p)) a e
 
 -- ---- a step
 

@@ -35,7 +35,10 @@ chosen-tells ms false x y p q = q
 goes-methods : (w : World) (s : State) (f : Frame) (own : ℕ) (l : Locals) (o : Operands) (place : Option ℕ) → methods (goes w s f own l o place).stack ≡ f.method ∷ methods s.stack
 goes-methods w s f own l o None = refl
 goes-methods w s f own l o (Some place) = by (nat_le (depth o) (max_stack_of w f.method)) where
-  by : (b : Bool) → methods (if b then with_frame s (record f { place = place; locals = l; operands = o }) else breaks s (record f { place = place; locals = l; operands = o }) own).stack ≡ f.method ∷ methods s.stack
+  moved : Frame
+  moved = record f { place = place; locals = l; operands = o }
+
+  by : (b : Bool) → methods (if b then with_frame s moved else breaks s moved own).stack ≡ f.method ∷ methods s.stack
   by true = refl
   by false = refl
 
@@ -101,7 +104,8 @@ moves-tell w t s None None (Initializing c Finish ∷ below) same = refl
 
 pub settled-tells : (w : World) (t : Text) (ms : List ℕ) (a : Turn) → Tells ms a → Tells ms (settled w t a)
 settled-tells w t ms a p = settled-keeps w t (Tells ms)
-    (λ b q. IfSome_then (move w t b.after) {P = Tells (methods b.after.stack)} {Q = λ next. Tells ms (then_turn b next)} (moves-tell w t b.after b.after.ending b.after.thrown b.after.stack refl) (λ next r. then-tells ms b next q r)) a p
+    (λ b q. IfSome_then (move w t b.after) {P = Tells (methods b.after.stack)} {Q = λ next. Tells ms (then_turn b next)}
+    (moves-tell w t b.after b.after.ending b.after.thrown b.after.stack refl) (λ next r. then-tells ms b next q r)) a p
 
 -- ---- a step
 

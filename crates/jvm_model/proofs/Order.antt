@@ -97,7 +97,8 @@ main-well w t s open' calm false =
     let after : State = record s { begun = true; stack = Active f ∷ [] } in
     chosen-well w t (has_room w w.program.main argument_array) _ _ (inr (tt, calm-stops w t after f [] open' calm refl)) (inl tt)
 
-moves-well : (w : World) (t : Text) (s : State) (ending : Option Ending) (thrown : Option ℕ) (stack : List Entry) → s.ending ≡ ending → s.thrown ≡ thrown → IfSome (moves w t s ending thrown stack) (GoesWell w t)
+moves-well : (w : World) (t : Text) (s : State) (ending : Option Ending) (thrown : Option ℕ) (stack : List Entry) → s.ending ≡ ending → s.thrown ≡ thrown
+    → IfSome (moves w t s ending thrown stack) (GoesWell w t)
 moves-well w t s (Some e) thrown stack open' calm = tt
 moves-well w t s None (Some r) [] open' calm = inl tt
 moves-well w t s None (Some r) (Active f ∷ below) open' calm = caught-well w t (record s { stack = below }) r f (handler_for w (class_of s.shared r) f.place (t.handlers f.version))
@@ -114,7 +115,9 @@ then-well w t a next p (inl q) = inl (end-append a.changes next.changes p q)
 then-well w t a next p (inr q) = inr (begin-append a.changes next.changes p q.0, q.1)
 
 goes-well : (w : World) (t : Text) (a : Turn) → GoesWell w t a → IfSome (move w t a.after) (λ next. GoesWell w t (then_turn a next))
-goes-well w t a (inl p) = IfSome_then (move w t a.after) {P = GoesWell w t} {Q = λ next. GoesWell w t (then_turn a next)} (moves-well w t a.after a.after.ending a.after.thrown a.after.stack refl refl) (λ next q. then-well w t a next p q)
+goes-well w t a (inl p) =
+    IfSome_then (move w t a.after) {P = GoesWell w t} {Q = λ next. GoesWell w t (then_turn a next)}
+    (moves-well w t a.after a.after.ending a.after.thrown a.after.stack refl refl) (λ next q. then-well w t a next p q)
 goes-well w t a (inr p) = subst (λ found. IfSome found (λ next. GoesWell w t (then_turn a next))) (sym p.1) tt
 
 well-begins : (w : World) (t : Text) (a : Turn) → GoesWell w t a → EndThenBegin a.changes
@@ -185,7 +188,8 @@ stopped-calm : (w : World) (t : Text) (s : State) (thrown : Option ℕ) (f : Fra
 stopped-calm w t s None f below e = refl
 stopped-calm w t s (Some r) f below e = absurd (none-some _ (sym e))
 
-on-ordered : (w : World) (t u : Text) (s : State) (ending : Option Ending) (stack : List Entry) → s.ending ≡ ending → moves w t s ending s.thrown stack ≡ None → AreOrdered (steps_on w u s ending stack).changes
+on-ordered : (w : World) (t u : Text) (s : State) (ending : Option Ending) (stack : List Entry) → s.ending ≡ ending → moves w t s ending s.thrown stack ≡ None
+    → AreOrdered (steps_on w u s ending stack).changes
 on-ordered w t u s None (Active f ∷ below) open' stop = at-ordered w u (record s { stack = below }) f (u.at f.version f.place) open' (stopped-calm w t s s.thrown f below stop)
 on-ordered w t u s None [] open' stop = tt
 on-ordered w t u s None (Initializing c part ∷ below) open' stop = tt
@@ -233,11 +237,22 @@ initializing : (w : World) (t : Text) (s : State) (thrown : Option ℕ) (c : ℕ
 initializing w t s None c part below e = none-some _ (sym e)
 initializing w t s (Some r) c part below e = none-some _ (sym e)
 
-on-stops : (w : World) (t u : Text) (s : State) (ending : Option Ending) (stack : List Entry) → s.ending ≡ ending → moves w t s ending s.thrown stack ≡ None → move w u (steps_on w u s ending stack).after ≡ None
+on-stops : (w : World) (t u : Text) (s : State) (ending : Option Ending) (stack : List Entry) → s.ending ≡ ending → moves w t s ending s.thrown stack ≡ None
+    → move w u (steps_on w u s ending stack).after ≡ None
 on-stops w t u s None (Active f ∷ below) same stop = at-stops w u (record s { stack = below }) f (u.at f.version f.place)
 on-stops w t u s None [] same stop = absurd (moving w t s s.thrown stop)
 on-stops w t u s None (Initializing c part ∷ below) same stop = absurd (initializing w t s s.thrown c part below stop)
 on-stops w t u s (Some e) stack same stop = ap (λ x. moves w u s x s.thrown s.stack) same
+
+-- whether a state is normal does not depend on the text
+pub normal-anywhere : (w : World) (t u : Text) (s : State) → move w t s ≡ None → move w u s ≡ None
+normal-anywhere w t u s = by s.ending s.thrown s.stack where
+  by : (ending : Option Ending) (thrown : Option ℕ) (stack : List Entry) → moves w t s ending thrown stack ≡ None → moves w u s ending thrown stack ≡ None
+  by (Some e) thrown stack stop = refl
+  by None None (Active f ∷ below) stop = refl
+  by None (Some r) (Active f ∷ below) stop = absurd (none-some _ (sym stop))
+  by None thrown [] stop = absurd (moving w t s thrown stop)
+  by None thrown (Initializing c part ∷ below) stop = absurd (initializing w t s thrown c part below stop)
 
 pub step-stops : (w : World) (t u : Text) (s : State) → move w t s ≡ None → move w u (step w u s).after ≡ None
 step-stops w t u s stop = on-stops w t u s s.ending s.stack refl stop
