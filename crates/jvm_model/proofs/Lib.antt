@@ -6,3 +6,10 @@ pub mod ImageProbes
 pub mod ImageLines
 pub mod ImageAgrees
 pub mod LaidLengths
+pub mod Settles
+pub mod NormalForms
+pub mod LoopOfMoves
+pub mod Attempts
+pub mod Growth
+pub mod Methods
+pub mod Order
