@@ -7,7 +7,15 @@ use Rattle.const_pool.specs.declared.descriptor.Kind.TheVariants as kind
 use Rattle.jvm_model.specs.declared.operation.Line.{Line}
 use Rattle.jvm_model.specs.declared.operation.Resolved.{Resolved}
 use Rattle.jvm_model.specs.declared.operation.Resolved.TheVariants as resolved
-use Rattle.jvm_model.specs.Data.{Locals, Operands, Frame, Entry, Active, Initializing, Part, Ready, Change, Loads, Began, Left, Unwound, Returned, Unverifiable, Shared, State, Turn, Next, Outcome, GoesOn, Returns, Breaks, World}
+use Rattle.jvm_model.specs.declared.state.Frame.{Frame}
+use Rattle.jvm_model.specs.declared.state.Entry.{Entry}
+use Rattle.jvm_model.specs.declared.state.Part.{Part}
+use Rattle.jvm_model.specs.declared.state.Shared.{Shared}
+use Rattle.jvm_model.specs.declared.state.State.{State}
+use Rattle.jvm_model.specs.declared.state.Entry.TheVariants.{Active, Initializing}
+use Rattle.jvm_model.specs.declared.state.Phase.TheVariants.{Ready}
+use Rattle.jvm_model.specs.declared.ending.Ending.TheVariants.{Returned, Unverifiable}
+use Rattle.jvm_model.specs.Data.{Locals, Operands, Change, Loads, Began, Left, Unwound, Turn, Next, Outcome, GoesOn, Returns, Breaks, World}
 use Rattle.jvm_model.specs.Methods.{method_params}
 use Rattle.jvm_model.specs.Values.{loaded}
 use Rattle.jvm_model.specs.LocalRules.{pushes, calculates, returns}
