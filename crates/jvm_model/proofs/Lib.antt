@@ -1,1 +1,2 @@
-
+pub mod WithinMoves
+pub mod Operations
