@@ -1,2 +1,3 @@
 pub mod WithinMoves
 pub mod Operations
+pub mod AppliesMoves

@@ -1,7 +1,7 @@
 -- The same of every operation.
 use Rattle.std.proofs.Common.{◌≡◌, ℕ, take, drop, length, Bool, true, false, List, [], ◌∷◌, ◌++◌, map, reverse, Option, Some, None, ◌==◌, if◌then◌else◌, refl, sym, ap, ◌∙◌}
 use Rattle.std.specs.Option.{option_map, option_and_then}
-use Rattle.std.proofs.lemmas.List.{take-map, drop-map, map-append}
+use Rattle.std.proofs.lemmas.List.{take-map, drop-map, map-append, reverse-append}
 use Rattle.heap_objects.specs.declared.Value.TheVariants.{Int, Long, Ref, Addr}
 use Rattle.const_pool.specs.declared.descriptor.Kind.{Kind}
 use Rattle.const_pool.specs.References.{Reference}
@@ -16,7 +16,10 @@ use Rattle.jvm_model.proofs.WithinMoves.{kind-moves, pushed-moves, within-moves}
 
 reverse-moves : {A B : Type 0} (f : A → B) (xs : List A) → reverse (map f xs) ≡ map f (reverse xs)
 reverse-moves f [] = refl
-reverse-moves f (x ∷ xs) = ap (λ ys. ys ++ f x ∷ []) (reverse-moves f xs) ∙ sym (map-append f (reverse xs) (x ∷ []))
+reverse-moves f (x ∷ xs) =
+    reverse-append (f x ∷ []) (map f xs)
+    ∙ (ap (λ ys. ys ++ f x ∷ []) (reverse-moves f xs)
+    ∙ (sym (map-append f (reverse xs) (x ∷ [])) ∙ ap (map f) (sym (reverse-append (x ∷ []) xs))))
 
 module _ (h : ℕ → ℕ) where
   chosen-moves : (b : Bool) (x x' y y' : Done) → x' ≡ moved_done h x → y' ≡ moved_done h y → (if b then x' else y') ≡ moved_done h (if b then x else y)
