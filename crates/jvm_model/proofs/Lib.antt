@@ -1,3 +1,4 @@
 pub mod WithinMoves
 pub mod Operations
 pub mod AppliesMoves
+pub mod MovesMove
