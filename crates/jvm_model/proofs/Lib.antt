@@ -2,3 +2,4 @@ pub mod WithinMoves
 pub mod Operations
 pub mod AppliesMoves
 pub mod MovesMove
+pub mod StepMoves

@@ -10,7 +10,7 @@ use Rattle.jvm_model.specs.Values.{as_value, datum_of, data_of, arguments}
 use Rattle.jvm_model.specs.SharedState.{phase_of, Field, field_of_reference, static_at, class_of, throwable, null_pointer}
 use Rattle.jvm_model.specs.Programs.{is_subclass, class_of_reference, method_of_reference, params_of_method}
 use Rattle.jvm_model.specs.LocalRules.{pushes}
-use Rattle.jvm_model.specs.Rules.{done, when_ready, is_out, is_println, is_print_stream, gets_field, gets, kind_of, puts_datum, puts, puts_field, invokes, invokes_with, invokes_method, invokes_static, line_text, prints, invokes_virtual, throws, does}
+use Rattle.jvm_model.specs.Rules.{done, when_ready, is_out, is_println, is_print_stream, gets_field, gets, kind_of, puts_datum, puts, puts_field, invokes, invokes_with, invokes_method, invokes_static, line_text, prints, invokes_virtual, throws, does, loads}
 use Rattle.jvm_model.specs.Moved.{moved_value, moved_locals, moved_operands, moved_outcome, moved_done}
 use Rattle.jvm_model.proofs.WithinMoves.{kind-moves, pushed-moves, within-moves}
 
@@ -122,3 +122,6 @@ module _ (h : ℕ → ℕ) where
   does-moves w (Invokestatic r) s l o = invokes_static-moves w (class_of_reference w.program r) (method_of_reference w.program r) s o
   does-moves w (Invokevirtual r) s l o = invokes_virtual-moves r s l o
   does-moves w Athrow s l o = ap (done s) (throws-moves w s o)
+
+  pub loads-moves : (w : World) (op : Operation) (s : Shared) (o : Operands) → loads w op s (moved_operands h o) ≡ loads w op s o
+  loads-moves w op s o = refl
