@@ -3,3 +3,4 @@ pub mod Operations
 pub mod AppliesMoves
 pub mod MovesMove
 pub mod StepMoves
+pub mod ClosedCode
