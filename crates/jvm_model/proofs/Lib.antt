@@ -4,3 +4,4 @@ pub mod AppliesMoves
 pub mod MovesMove
 pub mod StepMoves
 pub mod ClosedCode
+pub mod StandsForRun
