@@ -3,7 +3,7 @@ use Rattle.std.proofs.Common.{◌≡◌, ℕ, ◌+◌, ◌*◌, ◌≤◌, inl, 
 use Rattle.std.specs.Option.{option_map, option_map_or}
 use Rattle.std.proofs.lemmas.Bool.{cases_lt, lt-ltb, le-ltb, le-leb, lt-leb}
 use Rattle.heap_objects.specs.declared.Value.TheVariants.{Ref}
-use Rattle.jvm_model.specs.Data.{Frame, Entry, Active, Initializing, Part, Constants, Superclass, Initializer, Finish, Phase, Fresh, Running, Ready, Erroneous, Ending, Unverifiable, State, Began, Turn, Catcher, Instruction, Text, World}
+use Rattle.jvm_model.specs.Data.{Frame, Entry, Active, Initializing, Part, Constants, Superclass, Initializer, Finish, Phase, Fresh, Erroneous, Ending, Unverifiable, State, Began, Turn, Catcher, Instruction, Text, World}
 use Rattle.jvm_model.specs.Programs.{is_subclass, super_of, initializer_of}
 use Rattle.jvm_model.specs.SharedState.{phase_of, class_of}
 use Rattle.jvm_model.specs.Applies.{still, with_frame, goes, new_frame, has_room}

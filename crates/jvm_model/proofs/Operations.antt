@@ -1,8 +1,8 @@
 -- The same of every operation.
-use Rattle.std.proofs.Common.{◌≡◌, ℕ, take, drop, length, Bool, true, false, List, [], ◌∷◌, ◌++◌, map, reverse, Option, Some, None, ◌==◌, if◌then◌else◌, refl, sym, ap, ◌∙◌}
+use Rattle.std.proofs.Common.{◌≡◌, ℕ, take, length, Bool, true, false, List, [], ◌∷◌, ◌++◌, map, reverse, Option, Some, None, ◌==◌, if◌then◌else◌, refl, sym, ap, ◌∙◌}
 use Rattle.std.specs.Option.{option_map, option_and_then}
 use Rattle.std.proofs.lemmas.List.{take-map, drop-map, map-append, reverse-append}
-use Rattle.heap_objects.specs.declared.Value.TheVariants.{Int, Long, Ref, Addr}
+use Rattle.heap_objects.specs.declared.Value.TheVariants.{Int, Ref}
 use Rattle.const_pool.specs.declared.descriptor.Kind.{Kind}
 use Rattle.const_pool.specs.References.{Reference}
 use Rattle.jvm_model.specs.Data.{Datum, Value, Locals, Operands, Phase, Fresh, Running, Ready, Erroneous, Shared, World, Operation, Within, Getstatic, Putstatic, Invokestatic, Invokevirtual, Athrow, Next, Outcome, GoesOn, Invokes, Throws, Raises, Breaks, Done}

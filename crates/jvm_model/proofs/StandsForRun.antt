@@ -2,10 +2,10 @@
 use Rattle.std.proofs.Common.{◌≡◌, ℕ, map, List, [], ◌∷◌, Option, Some, None, refl, sym, ap, ◌∙◌}
 use Rattle.std.specs.Option.{option_map}
 use Rattle.std.proofs.lemmas.List.{map-id}
-use Rattle.jvm_model.specs.Data.{Frame, Entry, Active, Initializing, State, Change, Turn, Instruction, Catcher, Text, World}
+use Rattle.jvm_model.specs.Data.{Entry, Active, Initializing, State, Turn, Instruction, Catcher, Text, World}
 use Rattle.jvm_model.specs.Run.{step, start}
-use Rattle.jvm_model.specs.Moved.{Moving, moved_locals, moved_operands, moved_frame, moved_stack, moved, moved_turn, moved_instruction, moved_catcher, Agrees, self, IsPlaced}
-use Rattle.jvm_model.specs.StandsForRun.{named, forgotten, housed, norm_by, StandsFor, IsOfVersions, KeepVersions}
+use Rattle.jvm_model.specs.Moved.{moved_locals, moved_operands, moved_frame, moved_stack, moved_turn, moved_instruction, moved_catcher, Agrees, self}
+use Rattle.jvm_model.specs.StandsForRun.{named, forgotten, at_homes, norm_by, StandsFor, IsOfVersions, KeepVersions}
 use Rattle.jvm_model.proofs.StepMoves.{step-moves, step-placed, start-moves, start-placed}
 
 same-instruction : (i : Option Instruction) → i ≡ option_map (moved_instruction (λ place. place)) i
@@ -48,8 +48,8 @@ module _ (norm : ℕ → ℕ → ℕ) (w : World) (t : Text) (own : Agrees norm 
     -- ---- a step
 
     module _ (versioned original : State) (stands : StandsFor norm method_of homes versioned original) where
-      versioned-step : step w u versioned ≡ moved_turn (housed homes) (step w (named method_of current t) stands.between)
-      versioned-step = ap (step w u) stands.versioned_is ∙ step-moves (norm_by method_of norm) w (housed homes) (named method_of current t) u named-own is.agrees stands.between stands.at_places
+      versioned-step : step w u versioned ≡ moved_turn (at_homes homes) (step w (named method_of current t) stands.between)
+      versioned-step = ap (step w u) stands.versioned_is ∙ step-moves (norm_by method_of norm) w (at_homes homes) (named method_of current t) u named-own is.agrees stands.between stands.at_places
 
       original-step : step w t original ≡ moved_turn (forgotten method_of) (step w (named method_of current t) stands.between)
       original-step = ap (step w t) stands.original_is ∙ step-moves (norm_by method_of norm) w (forgotten method_of) (named method_of current t) t named-own (named-original is.begins) stands.between stands.at_places
@@ -67,8 +67,8 @@ module _ (norm : ℕ → ℕ → ℕ) (w : World) (t : Text) (own : Agrees norm 
 
     -- ---- the start
 
-    versioned-start : start w u ≡ moved_turn (housed homes) (start w (named method_of current t))
-    versioned-start = start-moves (norm_by method_of norm) w (housed homes) (named method_of current t) u named-own is.agrees
+    versioned-start : start w u ≡ moved_turn (at_homes homes) (start w (named method_of current t))
+    versioned-start = start-moves (norm_by method_of norm) w (at_homes homes) (named method_of current t) u named-own is.agrees
 
     original-start : start w t ≡ moved_turn (forgotten method_of) (start w (named method_of current t))
     original-start = start-moves (norm_by method_of norm) w (forgotten method_of) (named method_of current t) t named-own (named-original is.begins)
@@ -94,12 +94,12 @@ stands_for-same norm method_of homes versioned original stands =
 -- ---- versions come and go where no frame runs them
 
 module _ (old new : ℕ → ℕ) (olds news : ℕ → ℕ → ℕ) where
-  housed-kept : (stack : List Entry) → KeepVersions old new olds news stack → moved_stack (housed olds) stack ≡ moved_stack (housed news) stack
-  housed-kept [] keeps = refl
-  housed-kept (Active f ∷ below) keeps =
-      ap (λ (h : ℕ → ℕ). Active (record f { place = h f.place; locals = moved_locals h f.locals; operands = moved_operands h f.operands }) ∷ moved_stack (housed olds) below) (sym keeps.1)
-      ∙ ap (λ stack. Active (moved_frame (housed news) f) ∷ stack) (housed-kept below keeps.2)
-  housed-kept (Initializing c part ∷ below) keeps = ap (λ stack. Initializing c part ∷ stack) (housed-kept below keeps)
+  at_homes-kept : (stack : List Entry) → KeepVersions old new olds news stack → moved_stack (at_homes olds) stack ≡ moved_stack (at_homes news) stack
+  at_homes-kept [] keeps = refl
+  at_homes-kept (Active f ∷ below) keeps =
+      ap (λ (h : ℕ → ℕ). Active (record f { place = h f.place; locals = moved_locals h f.locals; operands = moved_operands h f.operands }) ∷ moved_stack (at_homes olds) below) (sym keeps.1)
+      ∙ ap (λ stack. Active (moved_frame (at_homes news) f) ∷ stack) (at_homes-kept below keeps.2)
+  at_homes-kept (Initializing c part ∷ below) keeps = ap (λ stack. Initializing c part ∷ stack) (at_homes-kept below keeps)
 
   forgotten-kept : (stack : List Entry) → KeepVersions old new olds news stack → moved_stack (forgotten old) stack ≡ moved_stack (forgotten new) stack
   forgotten-kept [] keeps = refl
@@ -122,7 +122,7 @@ module _ (old new : ℕ → ℕ) (olds news : ℕ → ℕ → ℕ) where
       let s : State = stands.between in
       record {
         between = s;
-        versioned_is = stands.versioned_is ∙ ap (λ stack. record s { stack = stack }) (housed-kept s.stack keeps);
+        versioned_is = stands.versioned_is ∙ ap (λ stack. record s { stack = stack }) (at_homes-kept s.stack keeps);
         original_is = stands.original_is ∙ ap (λ stack. record s { stack = stack }) (forgotten-kept s.stack keeps);
         at_places = sym (placed-kept norm s.stack keeps) ∙ stands.at_places;
       }

@@ -88,7 +88,7 @@ module _ (norm : ℕ → ℕ → ℕ) (w : World) (t : Text) (own : Agrees norm 
     settles-moves zero a placed = refl
     settles-moves (suc n) a placed =
         ap (λ found. option_map_or (λ next. settles w u n (then_turn (moved_turn m a) next)) found (moved_turn m a))
-          (move-moves w m norm t u agrees a.after (placed-places norm a.after.stack placed))
+        (move-moves w m norm t u agrees a.after (placed-places norm a.after.stack placed))
         ∙ settles_on-moves n (settles-moves n) a (move w t a.after) (λ next e. next-placed a.after next placed e)
 
     settled-moves : (a : Turn) → IsPlaced norm a.after → settled w u (moved_turn m a) ≡ moved_turn m (settled w t a)

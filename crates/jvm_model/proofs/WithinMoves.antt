@@ -8,7 +8,7 @@ use Rattle.heap_objects.specs.declared.datum.Datum.TheVariants as datum
 use Rattle.heap_objects.specs.declared.Value.TheVariants.{Int, Long, Ref, Addr}
 use Rattle.const_pool.specs.declared.descriptor.Kind.{Kind}
 use Rattle.const_pool.specs.declared.descriptor.Kind.TheVariants as kind
-use Rattle.jvm_model.specs.Data.{Datum, Value, Locals, Operands, IntOperator, Test, WithZero, OfInts, OfReferences, IsNull, StackForm, Local, Nop, Constant, Load, Store, Arrange, Binary, Iinc, Branch, Goto, Switch, Jsr, Ret, Return, Next, Outcome, GoesOn, Breaks}
+use Rattle.jvm_model.specs.Data.{Datum, Value, Locals, Operands, IntOperator, Test, WithZero, OfInts, OfReferences, IsNull, StackForm, Local, Nop, Constant, Load, Store, Arrange, Binary, Iinc, Branch, Goto, Switch, Jsr, Ret, Return, Next, Outcome, GoesOn}
 use Rattle.jvm_model.specs.Values.{as_value, datum_of, is_long, loaded, storable, holds_long, unpaired, with_half, stored, with_value, same_width, has_form, puts_on, arranged}
 use Rattle.jvm_model.specs.LocalRules.{pushes, leaves, stores_value, stores, calculates, increments, compares, where_if, is_same, branches, switches, goes_back, returns_datum, returns, within}
 use Rattle.jvm_model.specs.Moved.{moved_value, moved_slot, moved_locals, moved_operands, moved_where, moved_outcome}

@@ -19,8 +19,8 @@ abbrev pub forgotten : (ℕ → ℕ) → Moving
 forgotten method_of = record { version = method_of; home = λ v place. place }
 
 -- each frame at the home of its place in its version
-abbrev pub housed : (ℕ → ℕ → ℕ) → Moving
-housed homes = record { version = λ v. v; home = homes }
+abbrev pub at_homes : (ℕ → ℕ → ℕ) → Moving
+at_homes homes = record { version = λ v. v; home = homes }
 
 -- the places of a version, by the offsets of its method
 abbrev pub norm_by : (ℕ → ℕ) → (ℕ → ℕ → ℕ) → ℕ → ℕ → ℕ
@@ -29,14 +29,14 @@ norm_by method_of norm v = norm (method_of v)
 -- Both states are one state with versions: the first with each frame at its home, the second without versions.
 pub record StandsFor (norm : ℕ → ℕ → ℕ) (method_of : ℕ → ℕ) (homes : ℕ → ℕ → ℕ) (versioned original : State) : Type 0 where
   pub between : State
-  pub versioned_is : versioned ≡ moved (housed homes) between
+  pub versioned_is : versioned ≡ moved (at_homes homes) between
   pub original_is : original ≡ moved (forgotten method_of) between
   pub at_places : IsPlaced (norm_by method_of norm) between
 
 -- A text of versions, each laid out by homes from the code of its method.
 pub record IsOfVersions (norm : ℕ → ℕ → ℕ) (method_of current : ℕ → ℕ) (homes : ℕ → ℕ → ℕ) (t u : Text) : Type 0 where
   pub begins : (k : ℕ) → t.current k ≡ method_of (current k)
-  pub agrees : Agrees (norm_by method_of norm) (housed homes) (named method_of current t) u
+  pub agrees : Agrees (norm_by method_of norm) (at_homes homes) (named method_of current t) u
 
 -- the versions of the frames are of the same methods, with the same homes
 abbrev pub KeepVersions : (old new : ℕ → ℕ) → (olds news : ℕ → ℕ → ℕ) → List Entry → Type 0
