@@ -13,3 +13,10 @@ pub mod Attempts
 pub mod Growth
 pub mod Methods
 pub mod Order
+pub mod WithinMoves
+pub mod Operations
+pub mod AppliesMoves
+pub mod MovesMove
+pub mod StepMoves
+pub mod ClosedCode
+pub mod StandsForRun

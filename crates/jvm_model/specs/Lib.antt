@@ -19,6 +19,7 @@ pub mod Growth
 pub mod Changes
 pub mod Moved
 pub mod Closed
+pub mod StandsForRun
 pub mod Versions
 pub mod Images
 pub mod Paths

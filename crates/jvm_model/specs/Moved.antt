@@ -94,3 +94,13 @@ pub record Agrees (norm : ℕ → ℕ → ℕ) (m : Moving) (t u : Text) : Type 
   pub handlers : (v : ℕ) → u.handlers (m.version v) ≡ map (moved_catcher (m.home v)) (t.handlers v)
   pub bounds : (v : ℕ) → HaveBounds norm v (t.handlers v)
   pub rises : (v a b : ℕ) → IsPlace norm v a → IsPlace norm v b → a < b → m.home v a < m.home v b
+
+-- ---- placed states
+
+-- each place as `norm` has it
+abbrev pub self : (ℕ → ℕ → ℕ) → Moving
+self norm = record { version = λ v. v; home = norm }
+
+-- its frames stand at places, and all its return addresses are places
+abbrev pub IsPlaced : (ℕ → ℕ → ℕ) → State → Type 0
+IsPlaced norm s = moved_stack (self norm) s.stack ≡ s.stack
