@@ -70,7 +70,7 @@ module _ (is_place : ℕ → ℕ → Bool) where
         lines = λ v at is. ap (t.at v) is ∙ lines-fixed t closed v at (closed-place t closed v at is) (t.at v at) refl;
         handlers = λ v. handlers-fixed v (t.handlers v) (closed.handlers v);
         bounds = λ v. bounds-fixed v (t.handlers v) (closed.handlers v);
-        rises = λ v a b here there less. subst (λ x. x < n v b) (sym here) (subst (λ y. a < y) (sym there) less);
+        rises = λ v a b some here there less. subst (λ x. x < n v b) (sym here) (subst (λ y. a < y) (sym there) less);
       }
 
   -- frames stand at places, and return addresses are places, in every state of the run
@@ -90,5 +90,5 @@ module _ (is_place : ℕ → ℕ → Bool) where
         lines = λ v at is. ap (option_and_then (λ k. option_map (moved_instruction (home v)) (t.at v k))) (back v at (place v at is));
         handlers = λ v. refl;
         bounds = λ v. bounds-fixed v (t.handlers v) (closed.handlers v);
-        rises = λ v a b here there less. rises v a b (place v a here) (place v b there) less;
+        rises = λ v a b some here there less. rises v a b (place v a here) (place v b there) less;
       }

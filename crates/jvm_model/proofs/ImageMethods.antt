@@ -62,7 +62,7 @@ pub record NthImage (count number : ℕ) (marks : List Mark) (old : Member) (new
   pub housed : slice_get homes k ≡ Some home
   pub image : IsMemberImage count (number + k) mark old new home
 
-abbrev has_code : Member → Type 0
+abbrev pub has_code : Member → Type 0
 has_code m = is_some (code_of m) ≡ true
 
 pub nth-image : (count number : ℕ) (marks : List Mark) (olds news : List Member) (homes : List (Option Homes)) (k : ℕ) (old : Member)

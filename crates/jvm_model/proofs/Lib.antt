@@ -20,3 +20,5 @@ pub mod MovesMove
 pub mod StepMoves
 pub mod ClosedCode
 pub mod StandsForRun
+pub mod Numbers
+pub mod OriginalPlaces

@@ -19,35 +19,41 @@ module _ (w : World) (m : Moving) (norm : ℕ → ℕ → ℕ) (t u : Text) (agr
   -- ---- handlers
 
   -- homes stand in the order of their places
-  lt-same : (v a b : ℕ) → IsPlace norm v a → IsPlace norm v b → nat_lt (m.home v a) (m.home v b) ≡ nat_lt a b
-  lt-same v a b here there = elim (cases_lt a b) as (λ _. nat_lt (m.home v a) (m.home v b) ≡ nat_lt a b) [
-    | inl less ↦ lt-ltb _ _ (agrees.rises v a b here there less) ∙ sym (lt-ltb _ _ less)
+  lt-same : (v a b : ℕ) → (t.handlers v ≡ [] → ⊥) → IsPlace norm v a → IsPlace norm v b → nat_lt (m.home v a) (m.home v b) ≡ nat_lt a b
+  lt-same v a b some here there = elim (cases_lt a b) as (λ _. nat_lt (m.home v a) (m.home v b) ≡ nat_lt a b) [
+    | inl less ↦ lt-ltb _ _ (agrees.rises v a b some here there less) ∙ sym (lt-ltb _ _ less)
     | inr le ↦ le-ltb _ _ (elim (cases_lt b a) as (λ _. m.home v b ≤ m.home v a) [
-      | inl more ↦ let up = agrees.rises v b a there here more in omega arith
+      | inl more ↦ let up = agrees.rises v b a some there here more in omega arith
       | inr ge ↦ let same : a ≡ b = omega arith in subst (λ c. m.home v c ≤ m.home v a) same (omega arith)
     ]) ∙ sym (le-ltb _ _ le)
   ]
 
-  le-same : (v a b : ℕ) → IsPlace norm v a → IsPlace norm v b → nat_le (m.home v a) (m.home v b) ≡ nat_le a b
-  le-same v a b here there = elim (cases_lt b a) as (λ _. nat_le (m.home v a) (m.home v b) ≡ nat_le a b) [
-    | inl more ↦ lt-leb _ _ (agrees.rises v b a there here more) ∙ sym (lt-leb _ _ more)
+  le-same : (v a b : ℕ) → (t.handlers v ≡ [] → ⊥) → IsPlace norm v a → IsPlace norm v b → nat_le (m.home v a) (m.home v b) ≡ nat_le a b
+  le-same v a b some here there = elim (cases_lt b a) as (λ _. nat_le (m.home v a) (m.home v b) ≡ nat_le a b) [
+    | inl more ↦ lt-leb _ _ (agrees.rises v b a some there here more) ∙ sym (lt-leb _ _ more)
     | inr le ↦ le-leb _ _ (elim (cases_lt a b) as (λ _. m.home v a ≤ m.home v b) [
-      | inl less ↦ let up = agrees.rises v a b here there less in omega arith
+      | inl less ↦ let up = agrees.rises v a b some here there less in omega arith
       | inr ge ↦ let same : a ≡ b = omega arith in subst (λ c. m.home v a ≤ m.home v c) same (omega arith)
     ]) ∙ sym (le-leb _ _ le)
   ]
 
-  handler-moves : (v class place : ℕ) → IsPlace norm v place → (hs : List Catcher) → HaveBounds norm v hs
+  handler-moves : (v class place : ℕ) → (t.handlers v ≡ [] → ⊥) → IsPlace norm v place → (hs : List Catcher) → HaveBounds norm v hs
       → handler_for w class (m.home v place) (map (moved_catcher (m.home v)) hs) ≡ option_map (m.home v) (handler_for w class place hs)
-  handler-moves v class place here [] bounds = refl
-  handler-moves v class place here (hd ∷ more) bounds =
+  handler-moves v class place some here [] bounds = refl
+  handler-moves v class place some here (hd ∷ more) bounds =
       let h : ℕ → ℕ = m.home v in
       let catches : Bool = option_map_or (is_subclass w.program class) hd.catches true in
       let later : Option ℕ = handler_for w class (h place) (map (moved_catcher h) more) in
-      ap (λ b. if b && nat_lt (h place) (h hd.finish) && catches then Some (h hd.target) else later) (le-same v hd.start place bounds.0 here)
-      ∙ (ap (λ b. if nat_le hd.start place && b && catches then Some (h hd.target) else later) (lt-same v place hd.finish here bounds.1)
-      ∙ (ap (λ x. if covers w class place hd then Some (h hd.target) else x) (handler-moves v class place here more bounds.2)
+      ap (λ b. if b && nat_lt (h place) (h hd.finish) && catches then Some (h hd.target) else later) (le-same v hd.start place some bounds.0 here)
+      ∙ (ap (λ b. if nat_le hd.start place && b && catches then Some (h hd.target) else later) (lt-same v place hd.finish some here bounds.1)
+      ∙ (ap (λ x. if covers w class place hd then Some (h hd.target) else x) (handler-moves v class place some here more bounds.2)
       ∙ chosen_target-moves h (covers w class place hd) hd.target (handler_for w class place more)))
+
+  handlers-move : (v class place : ℕ) → IsPlace norm v place → (hs : List Catcher) → t.handlers v ≡ hs
+      → handler_for w class (m.home v place) (map (moved_catcher (m.home v)) hs) ≡ option_map (m.home v) (handler_for w class place hs)
+  handlers-move v class place here [] is = refl
+  handlers-move v class place here (hd ∷ more) is =
+      handler-moves v class place (λ none. (let e : hd ∷ more ≡ [] = sym is ∙ none in cc)) here (hd ∷ more) (subst (HaveBounds norm v) is (agrees.bounds v))
 
   -- ---- a throw meets a frame
 
@@ -76,7 +82,7 @@ module _ (w : World) (m : Moving) (norm : ℕ → ℕ → ℕ) (t u : Text) (agr
   unwound-moves s r f here =
       let class : ℕ = class_of s.shared r in
       ap (λ hs. caught w u (moved m s) r (moved_frame m f) (handler_for w class (m.home f.version f.place) hs)) (agrees.handlers f.version)
-      ∙ (ap (caught w u (moved m s) r (moved_frame m f)) (handler-moves f.version class f.place here (t.handlers f.version) (agrees.bounds f.version))
+      ∙ (ap (caught w u (moved m s) r (moved_frame m f)) (handlers-move f.version class f.place here (t.handlers f.version) refl)
       ∙ caught-moves s r f here (handler_for w class f.place (t.handlers f.version)))
 
   -- ---- initializations

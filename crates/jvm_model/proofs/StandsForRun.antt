@@ -41,7 +41,7 @@ module _ (norm : ℕ → ℕ → ℕ) (w : World) (t : Text) (own : Agrees norm 
     lines = λ v at is. same-instruction (t.at (method_of v) at);
     handlers = λ v. same-handlers (t.handlers (method_of v));
     bounds = λ v. own.bounds (method_of v);
-    rises = λ v a b here there less. less;
+    rises = λ v a b some here there less. less;
   }
 
   module _ (homes : ℕ → ℕ → ℕ) (u : Text) (is : IsOfVersions norm method_of current homes t u) where

@@ -26,5 +26,6 @@ pub mod Paths
 pub mod Activations
 pub mod Projection
 pub mod EventLists
+pub mod Places
 pub mod StandsFor
 pub mod Agreement
