@@ -22,3 +22,4 @@ pub mod ClosedCode
 pub mod StandsForRun
 pub mod Numbers
 pub mod OriginalPlaces
+pub mod RewrittenAgrees

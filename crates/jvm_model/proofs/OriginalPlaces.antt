@@ -74,14 +74,16 @@ record Nth (is : List Instr) (at : ℕ) : Type 0 where
   stands : slice_get is nth ≡ Some instr
   here : instr.at ≡ at
 
+nth-later : (j : Instr) (is : List Instr) (at : ℕ) → Nth is at → Nth (j ∷ is) at
+nth-later j is at rest = record { nth = suc rest.nth; instr = rest.instr; stands = rest.stands; here = rest.here }
+
+nth-by : (j : Instr) (is : List Instr) (at : ℕ) (b : Bool) → (j.at == at) ≡ b → (b || is_start_in is at) ≡ true → (is_start_in is at ≡ true → Nth is at) → Nth (j ∷ is) at
+nth-by j is at true t e rest = record { nth = 0; instr = j; stands = refl; here = eqb-true j.at at t }
+nth-by j is at false t e rest = nth-later j is at (rest e)
+
 nth-any : (is : List Instr) (at : ℕ) → is_start_in is at ≡ true → Nth is at
 nth-any [] at e = absurd cc
-nth-any (j ∷ is) at e = by_test (j.at == at) refl where
-  by_test : (b : Bool) → (j.at == at) ≡ b → Nth (j ∷ is) at
-  by_test true t = record { nth = 0; instr = j; stands = refl; here = eqb-true j.at at t }
-  by_test false t =
-      let rest = nth-any is at (ap (λ b. b || is_start_in is at) (sym t) ∙ e) in
-      record { nth = suc rest.nth; instr = rest.instr; stands = rest.stands; here = rest.here }
+nth-any (j ∷ is) at e = nth-by j is at (j.at == at) refl e (nth-any is at)
 
 pub place-start : (c : ClassFile) (m at : ℕ) (code : CodeAttribute) → IsBuilt c → method_code c m ≡ Some code → is_place c m at ≡ true → IsStart c m at
 place-start c m at code built coded e = by_test (at == 0) refl where
