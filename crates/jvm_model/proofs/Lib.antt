@@ -23,3 +23,8 @@ pub mod StandsForRun
 pub mod Numbers
 pub mod OriginalPlaces
 pub mod RewrittenAgrees
+pub mod Resolving
+pub mod QuietSettles
+pub mod QuietApplies
+pub mod QuietSteps
+pub mod PlacedSteps

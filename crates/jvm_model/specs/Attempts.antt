@@ -24,7 +24,7 @@ use Rattle.jvm_model.specs.Applies.{still, breaks, applies, new_frame, has_room}
 use Rattle.jvm_model.specs.Moves.{argument_array}
 use Rattle.jvm_model.specs.SharedState.{with_phase}
 use Rattle.jvm_model.specs.Run.{before, with_loaded}
-use Rattle.jvm_machine.specs.Installed.{Installed, world_in, line_in, placed, tabled}
+use Rattle.jvm_model.specs.Installed.{Installed, world_in, line_in, placed, tabled}
 
 -- ---- what an operation asks for, and what it writes
 
