@@ -28,3 +28,4 @@ pub mod QuietSettles
 pub mod QuietApplies
 pub mod QuietSteps
 pub mod PlacedSteps
+pub mod QuietStart

@@ -16,7 +16,7 @@ use Rattle.jvm_model.specs.Programs.{coded_from, numbered_from, number_from, num
 use Rattle.jvm_model.specs.SmallClass.{IsSmallClass}
 use Rattle.jvm_model.proofs.ImageMethods.{has_code, small-coded}
 
-abbrev at_position : ℕ → ℕ → Member → MethodPlace
+abbrev pub at_position : ℕ → ℕ → Member → MethodPlace
 at_position class at m = record { class = class; position = at }
 
 pub coded-nth : (class at : ℕ) (ms : List Member) (k : ℕ) → AllByRecursion has_code ms → slice_get (coded_from class at ms) k ≡ option_map (at_position class (at + k)) (slice_get ms k)

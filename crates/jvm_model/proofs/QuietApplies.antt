@@ -96,7 +96,7 @@ pub frame-quiet : (c : ClassFile) (s : State) (f : Frame) → IsQuiet c s → Is
 frame-quiet c s f quiet coded = record { thrown = quiet.thrown; begun = quiet.begun; ready = quiet.ready; coded = (coded, quiet.coded) }
 
 breaks-quiet : (c : ClassFile) (s : State) (f : Frame) (own : ℕ) → IsQuiet c s → IsCoded c f.method f.version → IsQuiet c (breaks s f own)
-breaks-quiet c s f own quiet coded = record { thrown = quiet.thrown; begun = quiet.begun; ready = quiet.ready; coded = (coded, quiet.coded) }
+breaks-quiet c s f own quiet coded = record { thrown = quiet.thrown; begun = λ e. absurd (none-some (Unverifiable f.method own) (sym e)); ready = quiet.ready; coded = (coded, quiet.coded) }
 
 lands-quiet : (c : ClassFile) (w : World) (s : State) (f : Frame) (own : ℕ) → IsQuiet c s → IsCoded c f.method f.version → IsQuiet c (lands w s f own)
 lands-quiet c w s f own quiet coded = chosen-quiet c (nat_le (depth f.operands) (max_stack_of w f.method)) _ _ (frame-quiet c s f quiet coded) (breaks-quiet c s f own quiet coded)
@@ -118,7 +118,7 @@ back-quiet c w t s d (Active caller ∷ below) quiet coded =
     (record { thrown = quiet.thrown; begun = quiet.begun; ready = quiet.ready; coded = coded.1 }) coded.0
 
 ends-quiet : (c : ClassFile) (ends : Bool) (s : State) (f : Frame) (own : ℕ) → IsQuiet c s → IsCoded c f.method f.version → IsQuiet c (breaks_or_ends ends s f own).after
-ends-quiet c true s f own quiet coded = record { thrown = quiet.thrown; begun = quiet.begun; ready = quiet.ready; coded = quiet.coded }
+ends-quiet c true s f own quiet coded = record { thrown = quiet.thrown; begun = λ e. absurd (none-some (Unverifiable f.method own) (sym e)); ready = quiet.ready; coded = quiet.coded }
 ends-quiet c false s f own quiet coded = breaks-quiet c s f own quiet coded
 
 -- where a method begins in its own version

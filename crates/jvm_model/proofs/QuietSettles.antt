@@ -10,11 +10,11 @@ use Rattle.jvm_model.specs.Moves.{main_or_end, moves, move, fresh, left, then_tu
 use Rattle.jvm_model.specs.Applies.{still}
 use Rattle.jvm_model.specs.Quiet.{AreCoded, IsQuiet}
 
-stops : (w : World) (t : Text) (n : ℕ) (a : Turn) → move w t a.after ≡ None → settles w t n a ≡ a
+pub stops : (w : World) (t : Text) (n : ℕ) (a : Turn) → move w t a.after ≡ None → settles w t n a ≡ a
 stops w t zero a none = refl
 stops w t (suc n) a none = ap (λ o. option_map_or (λ next. settles w t n (then_turn a next)) o a) none
 
-one-move : (w : World) (t : Text) (n : ℕ) (a next : Turn) → move w t a.after ≡ Some next → settles w t (suc n) a ≡ settles w t n (then_turn a next)
+pub one-move : (w : World) (t : Text) (n : ℕ) (a next : Turn) → move w t a.after ≡ Some next → settles w t (suc n) a ≡ settles w t n (then_turn a next)
 one-move w t n a next some = ap (λ o. option_map_or (λ x. settles w t n (then_turn a x)) o a) some
 
 -- with nothing thrown
@@ -40,8 +40,8 @@ by-parts c w t a None [] quiet ended is =
     let s : State = a.after in
     let over : State = record s { ending = Some Returned } in
     let first : move w t s ≡ Some (still over) =
-    unthrown w t s quiet.thrown ∙ (ap (λ x. moves w t s x None s.stack) ended ∙ (ap (λ x. moves w t s None None x) is ∙ begun-moves s quiet.begun)) in
-    let more : left s ≡ suc (8 * fresh s.shared.phases) = rw (is, ended, quiet.thrown, quiet.begun) (omega arith) in
+    unthrown w t s quiet.thrown ∙ (ap (λ x. moves w t s x None s.stack) ended ∙ (ap (λ x. moves w t s None None x) is ∙ begun-moves s (quiet.begun ended))) in
+    let more : left s ≡ suc (8 * fresh s.shared.phases) = rw (is, ended, quiet.thrown, quiet.begun ended) (omega arith) in
     ap (λ n. settles w t n a) more
     ∙ (one-move w t (8 * fresh s.shared.phases) a (still over) first
     ∙ (stops w t (8 * fresh s.shared.phases) (then_turn a (still over)) refl

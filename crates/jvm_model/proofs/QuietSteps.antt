@@ -84,7 +84,7 @@ starts-simple c _ simple = absurd simple
 pub closed-quiet : (c : ClassFile) (s : State) → IsQuiet c s → IsQuiet c (closed_state s)
 closed-quiet c s quiet = by_test (is_empty s.stack && is_none s.ending) where
   by_test : (b : Bool) → IsQuiet c (cond b (record s { ending = Some Returned }) s)
-  by_test true = record { thrown = quiet.thrown; begun = quiet.begun; ready = quiet.ready; coded = quiet.coded }
+  by_test true = record { thrown = quiet.thrown; begun = λ e. absurd (none-some Returned (sym e)); ready = quiet.ready; coded = quiet.coded }
   by_test false = quiet
 
 -- ---- a step over a text, by the resolved instruction at the frame's place

@@ -1,5 +1,5 @@
--- The states of a run of a small class: nothing is thrown, the class is ready, and all that stands on the stack are frames of
--- methods that have code.
+-- The states of a run of a small class: nothing is thrown, `main` has begun unless the run has ended, the class is ready, and
+-- all that stands on the stack are frames of methods that have code.
 use Rattle.std.specs.Prelude.{◌≡◌, ℕ, Bool, true, List, [], ◌∷◌, Option, Some, None, is_some}
 use Rattle.const_pool.specs.declared.class.ClassFile.{ClassFile}
 use Rattle.jvm_model.specs.Data.{Entry, Active, Initializing, Ready, State}
@@ -18,6 +18,6 @@ AreCoded c (Initializing class part ∷ below) = ⊥
 
 pub record IsQuiet (c : ClassFile) (s : State) : Type 0 where
   pub thrown : s.thrown ≡ None
-  pub begun : s.begun ≡ true
+  pub begun : s.ending ≡ None → s.begun ≡ true
   pub ready : phase_of s.shared 0 ≡ Some Ready
   pub coded : AreCoded c s.stack
