@@ -10,7 +10,7 @@ use Rattle.const_pool.specs.declared.class.Attribute.TheVariants.{Code}
 use Rattle.jvm_model.specs.declared.ending.Ending.TheVariants.{Returned}
 use Rattle.jvm_model.specs.Data.{World}
 use Rattle.jvm_model.specs.Programs.{world_of}
-use Rattle.jvm_model.specs.Run.{turn_in, run, output_of, ending_of}
+use Rattle.jvm_model.specs.Run.{turn_in, output_of, ending_of}
 
 abbrev pub p1_pool : List Const
 p1_pool = Gap ∷ Utf8 (codes "P1") ∷ Class 1 ∷ Utf8 (codes "java/lang/Object") ∷ Class 3 ∷ Utf8 (codes "java/lang/System") ∷ Class 5 ∷ Utf8 (codes "out") ∷ Utf8 (codes "Ljava/io/PrintStream;") ∷ NameType 7 8 ∷ Field 6 9 ∷ Utf8 (codes "f") ∷ Utf8 (codes "(I)I") ∷ NameType 11 12 ∷ Method 2 13 ∷ Utf8 (codes "java/io/PrintStream") ∷ Class 15 ∷ Utf8 (codes "println") ∷ Utf8 (codes "(I)V") ∷ NameType 17 18 ∷ Method 16 19 ∷ Utf8 (codes "main") ∷ Utf8 (codes "([Ljava/lang/String;)V") ∷ Utf8 (codes "Code") ∷ []
