@@ -1,7 +1,6 @@
 -- The tree of a run's events is the projection of its activations: what the events tell, one change after another, comes to
 -- the paths of the activations and to the path of each step. It holds for any changes of any step.
 use Rattle.std.proofs.Common.{◌≡◌, ℕ, zero, suc, ◌<◌, ◌≤◌, Bool, true, false, ◌||◌, List, [], ◌∷◌, ◌++◌, length, filter, Option, Some, None, option_and_then, is_some, slice_get, slice_set, if◌then◌else◌, refl, sym, ap, ap₂, subst, ◌∙◌, arith}
-use Rattle.std.specs.List.{AllByRecursion}
 use Rattle.std.specs.Option.{option_map_or}
 use Rattle.std.proofs.lemmas.Bool.{cond-true, cond-false, ne_eqb}
 use Rattle.std.proofs.lemmas.List.{append-nil, append_assoc, length_push, length-set}
@@ -15,7 +14,7 @@ use Rattle.jvm_model.specs.Paths.{is_outside, is_inside, contexts_of}
 use Rattle.jvm_model.specs.Data.{World, Change, Loads, Began, Left, Unwound}
 use Rattle.jvm_model.specs.Run.{turn, run}
 use Rattle.jvm_model.specs.Originals.{original}
-use Rattle.jvm_model.specs.Activations.{Activation, Trace, no_trace, current, with_begin, without_current, with_end, changed, all_changed, trace, trace_before, trace_in-zero, trace_in-suc}
+use Rattle.jvm_model.specs.Activations.{Activation, Trace, no_trace, current, with_begin, without_current, with_end, changed, all_changed, trace, trace_in-zero, trace_in-suc}
 use Rattle.jvm_model.specs.Projection.{is_selected, paths_of, path_at, who, paths_made, paths_made-zero, paths_made-suc, projection}
 use Rattle.jvm_model.specs.EventLists.{begin_events, end_events, end_of, told, all_told, step_events, events_of, events_of-zero, events_of-suc, full_marking}
 use Rattle.jvm_model.proofs.Chains.{IsBelow, is_inside-cons, path_in, paths_of-push, paths_of-ended, path_at-push, path_at-last, path_at-found}

@@ -193,15 +193,15 @@ pub record FramesFollow (w : World) (t : Text) : Type 0 where
   pub steps : (s : State) → methods (step w t s).after.stack ≡ after_changes (methods s.stack) (step w t s).changes
 
 -- Then the live activations are the frames, one for one, each of its frame's method.
-pub live-frames : (w : World) (t : Text) → FramesFollow w t → (n : ℕ) → live_methods (trace_in w t n) ≡ methods (turn_in w t n).after.stack
-live-frames w t follow zero =
+pub live-follow : (w : World) (t : Text) → FramesFollow w t → (n : ℕ) → live_methods (trace_in w t n) ≡ methods (turn_in w t n).after.stack
+live-follow w t follow zero =
     ap live_methods (trace_in-zero w t)
     ∙ (all_changed-methods 0 no_trace (turn_in w t 0).changes no_trace-is
     ∙ subst (λ first. after_changes [] first.changes ≡ methods first.after.stack) (sym (turn_in-zero w t)) (sym follow.starts))
-live-frames w t follow (suc n) =
+live-follow w t follow (suc n) =
     ap live_methods (trace_in-suc w t n)
     ∙ (all_changed-methods (suc n) (trace_in w t n) (turn_in w t (suc n)).changes (trace_in-is w t n)
-    ∙ (ap (λ ms. after_changes ms (turn_in w t (suc n)).changes) (live-frames w t follow n)
+    ∙ (ap (λ ms. after_changes ms (turn_in w t (suc n)).changes) (live-follow w t follow n)
     ∙ subst (λ next. after_changes (methods (turn_in w t n).after.stack) next.changes ≡ methods next.after.stack) (sym (turn_in-suc w t n)) (sym (follow.steps (turn_in w t n).after))))
 
 -- ---- what is told of an end

@@ -10,7 +10,7 @@ use Rattle.jvm_model.specs.Originals.{original}
 use Rattle.jvm_model.specs.Changes.{methods, after_change}
 use Rattle.jvm_model.specs.Activations.{Trace, no_trace, changed, trace}
 use Rattle.jvm_model.specs.EventLists.{Marking, begin_events, end_events, end_of, told, all_told, step_events}
-use Rattle.jvm_model.proofs.Traces.{IsTrace, no_trace-is, trace_in-is, changed-keeps, live_methods, changed-methods, FramesFollow, live-frames, end_of-always, end_of-none}
+use Rattle.jvm_model.proofs.Traces.{IsTrace, no_trace-is, trace_in-is, changed-keeps, live_methods, changed-methods, FramesFollow, live-follow, end_of-always, end_of-none}
 
 -- a marking by the method alone
 abbrev pub IsAlways : (ℕ → Mark) → Marking → Type 0
@@ -64,7 +64,7 @@ pub events-start : (marking : Marking) (mark : ℕ → Mark) → IsAlways mark m
 events-start marking mark always w = all_told-always marking mark always 0 no_trace (turn w 0).changes no_trace-is
 
 -- and then the methods of the frames are
-pub events-step : (marking : Marking) (mark : ℕ → Mark) → IsAlways mark marking → (w : World) → FramesFollow w (original w.program) → (n : ℕ)
+pub events-follow : (marking : Marking) (mark : ℕ → Mark) → IsAlways mark marking → (w : World) → FramesFollow w (original w.program) → (n : ℕ)
     → step_events marking w (suc n) ≡ all_told_of mark (suc n) (methods (run w n).stack) (turn w (suc n)).changes
-events-step marking mark always w follow n = all_told-always marking mark always (suc n) (trace w n) (turn w (suc n)).changes (trace_in-is w (original w.program) n)
-    ∙ ap (λ ms. all_told_of mark (suc n) ms (turn w (suc n)).changes) (live-frames w (original w.program) follow n)
+events-follow marking mark always w follow n = all_told-always marking mark always (suc n) (trace w n) (turn w (suc n)).changes (trace_in-is w (original w.program) n)
+    ∙ ap (λ ms. all_told_of mark (suc n) ms (turn w (suc n)).changes) (live-follow w (original w.program) follow n)
