@@ -1,3 +1,10 @@
+pub mod Settles
+pub mod NormalForms
+pub mod LoopOfMoves
+pub mod Attempts
+pub mod Growth
+pub mod Methods
+pub mod Order
 pub mod Chains
 pub mod Traces
 pub mod TracesEvents

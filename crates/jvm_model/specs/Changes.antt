@@ -1,5 +1,5 @@
 -- The words of the laws on changes: which methods the frames are of, and in which order a step changes them.
-use Rattle.std.specs.Prelude.{ℕ, List, [], ◌∷◌}
+use Rattle.std.specs.Prelude.{ℕ, suc, List, [], ◌∷◌}
 use Rattle.jvm_model.specs.Data.{Entry, Active, Initializing, Change, Loads, Began, Left, Unwound}
 
 -- the methods of the frames, the current one first
@@ -22,6 +22,14 @@ after_change ms Unwound = without_first ms
 abbrev pub after_changes : List ℕ → List Change → List ℕ
 after_changes ms [] = ms
 after_changes ms (c ∷ more) = after_changes (after_change ms c) more
+
+-- how many activations begin
+abbrev pub begun : List Change → ℕ
+begun [] = 0
+begun (Loads classes ∷ more) = begun more
+begun (Began m ∷ more) = suc (begun more)
+begun (Left ∷ more) = begun more
+begun (Unwound ∷ more) = begun more
 
 -- activations end first, and behind them one begins at most
 abbrev pub EndThenBegin : List Change → Type 0
