@@ -8,6 +8,8 @@ pub mod Order
 pub mod Chains
 pub mod Traces
 pub mod TracesEvents
+pub mod TracesFrames
+pub mod TracesEntries
 pub mod TracesMarks
 pub mod PlainRun
 pub mod TracesPlain

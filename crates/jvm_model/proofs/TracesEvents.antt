@@ -1,5 +1,5 @@
 -- The events of a step from the methods of the frames alone, where the mark of a method is the same in every step.
-use Rattle.std.proofs.Common.{◌≡◌, ℕ, suc, List, [], ◌∷◌, ◌++◌, refl, ap, ap₂, ◌∙◌}
+use Rattle.std.proofs.Common.{◌≡◌, ℕ, suc, ◌+◌, List, [], ◌∷◌, ◌++◌, refl, ap, ap₂, ◌∙◌, subst, sym, add-one}
 use Rattle.jvm_model.specs.declared.event.Event.{Event}
 use Rattle.jvm_model.specs.declared.event.EventKind.{EventKind}
 use Rattle.jvm_model.specs.declared.event.EventKind.TheVariants as kind
@@ -9,7 +9,7 @@ use Rattle.jvm_model.specs.Run.{turn, run}
 use Rattle.jvm_model.specs.Originals.{original}
 use Rattle.jvm_model.specs.Changes.{methods, after_change}
 use Rattle.jvm_model.specs.Activations.{Trace, no_trace, changed, trace}
-use Rattle.jvm_model.specs.EventLists.{Marking, begin_events, end_events, end_of, told, all_told, step_events}
+use Rattle.jvm_model.specs.EventLists.{Marking, begin_events, end_events, end_of, told, all_told, step_events, events_of, events_of-suc}
 use Rattle.jvm_model.proofs.Traces.{IsTrace, no_trace-is, trace_in-is, changed-keeps, live_methods, changed-methods, FramesFollow, live-follow, end_of-always, end_of-none}
 
 -- a marking by the method alone
@@ -68,3 +68,7 @@ pub events-follow : (marking : Marking) (mark : ℕ → Mark) → IsAlways mark 
     → step_events marking w (suc n) ≡ all_told_of mark (suc n) (methods (run w n).stack) (turn w (suc n)).changes
 events-follow marking mark always w follow n = all_told-always marking mark always (suc n) (trace w n) (turn w (suc n)).changes (trace_in-is w (original w.program) n)
     ∙ ap (λ ms. all_told_of mark (suc n) ms (turn w (suc n)).changes) (live-follow w (original w.program) follow n)
+
+-- the same list, one step further as programs count
+pub events_of-more : (marking : Marking) (w : World) (n : ℕ) → events_of marking w (n + 1) ≡ events_of marking w n ++ step_events marking w (n + 1)
+events_of-more marking w n = subst (λ next. events_of marking w next ≡ events_of marking w n ++ step_events marking w next) (sym (add-one n)) (events_of-suc marking w n)
