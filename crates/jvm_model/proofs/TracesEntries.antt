@@ -1,5 +1,5 @@
 -- How many entries are told: as many at most as activations begin, so one a step at most.
-use Rattle.std.proofs.Common.{◌≡◌, ℕ, zero, suc, ◌+◌, ◌≤◌, List, [], ◌∷◌, ◌++◌, Option, Some, None, ap, ◌∙◌, arith}
+use Rattle.std.proofs.Common.{◌≡◌, ℕ, zero, suc, ◌+◌, ◌≤◌, List, [], ◌∷◌, ◌++◌, Option, Some, None, ap, arith}
 use Rattle.std.specs.Option.{option_map_or}
 use Rattle.jvm_model.specs.declared.event.Event.{Event}
 use Rattle.jvm_model.specs.declared.event.EventKind.{EventKind}
@@ -54,5 +54,10 @@ step_events-entries marking w n = omega (arith, all_told-entries marking n (trac
 -- and so at most one more than steps
 pub events_of-entries : (marking : Marking) (w : World) (n : ℕ) → entries (events_of marking w n) ≤ suc n
 events_of-entries marking w zero = omega (arith, ap entries (events_of-zero marking w), step_events-entries marking w 0)
-events_of-entries marking w (suc n) = omega (arith, ap entries (events_of-suc marking w n), entries-append (events_of marking w n) (step_events marking w (suc n)),
-    events_of-entries marking w n, step_events-entries marking w (suc n))
+events_of-entries marking w (suc n) = omega (
+  arith,
+  ap entries (events_of-suc marking w n),
+  entries-append (events_of marking w n) (step_events marking w (suc n)),
+  events_of-entries marking w n,
+  step_events-entries marking w (suc n),
+)
