@@ -29,3 +29,11 @@ pub mod QuietApplies
 pub mod QuietSteps
 pub mod PlacedSteps
 pub mod QuietStart
+pub mod Chains
+pub mod Traces
+pub mod TracesEvents
+pub mod TracesFrames
+pub mod TracesEntries
+pub mod TracesMarks
+pub mod PlainRun
+pub mod TracesPlain
