@@ -37,3 +37,5 @@ pub mod TracesEntries
 pub mod TracesMarks
 pub mod PlainRun
 pub mod TracesPlain
+pub mod QuietChanges
+pub mod QuietRun

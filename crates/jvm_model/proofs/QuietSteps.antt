@@ -35,6 +35,7 @@ use Rattle.jvm_model.specs.SharedState.{phase_of}
 use Rattle.jvm_model.specs.StandsFor.{IsBuilt, ProbeCall, by_homes, home_at, line_at, mark_at, probe_at}
 use Rattle.jvm_model.proofs.OriginalPlaces.{place-start, at-original}
 use Rattle.jvm_model.proofs.QuietApplies.{IsSimple, CodedCallee, simple-asks, IsOneVersion, applies-quiet, places_of, SaysTheSame, applies-same}
+use Rattle.jvm_model.proofs.QuietChanges.{Went, attempt-went}
 use Rattle.jvm_model.proofs.QuietSettles.{settled-quiet}
 use Rattle.jvm_model.proofs.Resolving.{HasCallee, done_by, does-resolved}
 use Rattle.jvm_model.proofs.RewrittenAgrees.{norm_in, place-norm, original-agrees, line-home, rewritten-agrees}
@@ -155,3 +156,35 @@ module _ (c : ClassFile) (main : ℕ) (input : List ℕ) (built : IsBuilt c) whe
 
   pub step-quiet : (s : State) → IsQuiet c s → IsPlaced (norm_in c) s → IsQuiet c (step w (original (alone c main)) s).after
   step-quiet s quiet at = by-parts s s.ending s.stack quiet at
+
+  -- ---- what a step is of
+
+  -- the current frame's instruction, and what the step changes
+  pub record IsStepOf (s : State) (f : Frame) : Type 0 where
+    pub start : IsStart c f.version f.place
+    pub has : HasLine c f.version f.place start.instr
+    pub went : Went c has.resolved (step w (original (alone c main)) s)
+
+  explicit-step : (s : State) (f : Frame) (below : List Entry) → IsQuiet c (record s { stack = Active f ∷ below; ending = None }) → IsPlaced (norm_in c) (record s { stack = Active f ∷ below; ending = None })
+      → IsStepOf (record s { stack = Active f ∷ below; ending = None }) f
+  explicit-step s f below quiet at =
+      let going : State = record s { ending = None } in
+      let now = current-of going f below quiet at in
+      let t : Text = original (alone c main) in
+      let i : Instruction = record { operation = now.has.operation; own = now.start.instr.at; next = next_of now.has.operation (end_of now.start.instr); targets = targets_of now.start.instr.arg } in
+      let there : t.at f.version f.place ≡ Some i = at-original c main f.version f.place built ∙ now.has.instructed in
+      let s' : State = record going { stack = below } in
+      let coded = callee-coded c now.has.resolved now.has.callee in
+      let is : steps_at w t s' f (t.at f.version f.place) ≡ closed (applies w t i (asks c now.has.resolved f.locals f.operands) (wrote_by now.has.resolved s' f) f) =
+      ap (steps_at w t s' f) there ∙ steps_at-is t i now.has.resolved s' f original-one now.has.resolves (callee-at c now.has.resolved now.has.callee) coded (below-quiet going f below quiet) quiet.coded.0 in
+      record {
+        start = now.start;
+        has = now.has;
+        went = subst (Went c now.has.resolved) (sym is) (attempt-went c w t i now.has.resolved (wrote_by now.has.resolved s' f) f original-one coded);
+      }
+
+  pub step-of : (s : State) (f : Frame) (below : List Entry) → s.stack ≡ Active f ∷ below → s.ending ≡ None → IsQuiet c s → IsPlaced (norm_in c) s → IsStepOf s f
+  step-of s f below is going quiet at =
+      let x : State = record s { stack = Active f ∷ below; ending = None } in
+      let same : x ≡ s = ap (λ es. let y : State = record s { stack = es; ending = None } in y) (sym is) ∙ ap (λ e. record s { ending = e }) (sym going) in
+      subst (λ y. IsStepOf y f) same (explicit-step s f below (subst (IsQuiet c) (sym same) quiet) (subst (IsPlaced (norm_in c)) (sym same) at))
