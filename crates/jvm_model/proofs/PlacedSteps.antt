@@ -15,7 +15,7 @@ use Rattle.jvm_model.specs.declared.operation.Resolved.{Resolved}
 use Rattle.jvm_model.specs.declared.operation.Resolved.TheVariants as resolved
 use Rattle.jvm_model.specs.Data.{Frame, Entry, Active, Initializing, Ending, Returned, Ready, Shared, State, Turn, Instruction, Text, Next, Outcome, GoesOn, Invokes, Returns, Breaks, Initializes, Done, Operation, World}
 use Rattle.jvm_model.specs.Agreement as agreement
-use Rattle.jvm_model.specs.Agreement.{IsStart, entry_kind, first_place, is_entry, entry_probe_of, rewritten}
+use Rattle.jvm_model.specs.Agreement.{IsStart, is_return_operation, is_left_by, leave_probe_of, entry_kind, first_place, behind_leave, is_entry, is_leave, entry_probe_of, rewritten}
 use Rattle.jvm_model.specs.Images.{is_off}
 use Rattle.jvm_model.specs.Attempts.{asks, writes, does_line, attempts, is_empty, closed_state, closed, attempt_placed}
 use Rattle.jvm_model.specs.Installed.{Installed, world_in, line_in, placed, tabled}
@@ -31,10 +31,11 @@ use Rattle.jvm_model.specs.Run.{tries, starts, goes_again, steps_by, steps_at, s
 use Rattle.jvm_model.specs.Applies.{applies}
 use Rattle.jvm_model.specs.Moves.{settled}
 use Rattle.jvm_model.specs.SharedState.{phase_of}
-use Rattle.jvm_model.specs.StandsFor.{IsBuilt, ProbeCall, by_homes, home_at, line_at, mark_at, probe_at}
+use Rattle.jvm_model.specs.StandsFor.{IsBuilt, ProbeCall, by_homes, home_at, line_at, version_line, mark_at, probe_at}
 use Rattle.jvm_model.proofs.OriginalPlaces.{place-start, at-original}
 use Rattle.jvm_model.proofs.QuietApplies.{IsSimple, CodedCallee, simple-asks, IsOneVersion, applies-quiet, places_of, SaysTheSame, applies-same}
 use Rattle.jvm_model.proofs.QuietSteps.{start-of, callee-at, callee-coded, wrote_by, steps_at-is}
+use Rattle.jvm_model.proofs.QuietChanges.{return-anywhere}
 use Rattle.jvm_model.proofs.Resolving.{HasCallee, done_by, does-resolved}
 use Rattle.jvm_model.proofs.RewrittenAgrees.{norm_in, place-norm, original-agrees, line-home, rewritten-agrees}
 use Rattle.jvm_model.proofs.Starts.{HasLine, HasLine-start, HasCode-method_code}
@@ -83,7 +84,7 @@ module _ (t : Installed) (built : IsBuilt t.class) (agrees : agreement.Agrees t.
       }
 
   -- a method with code begins behind its entry probe
-  first-home : (v : ℕ) → is_some (method_code c v) ≡ true → first_place t.image v ≡ home_at t.homes v 0
+  pub first-home : (v : ℕ) → is_some (method_code c v) ≡ true → first_place t.image v ≡ home_at t.homes v 0
   first-home v code = by_code (method_code c v) refl where
     entry-is : (mark : Mark) → is_entry (option_map (λ k. let p : ProbeCall = record { kind = k; number = v } in p) (entry_kind mark)) ≡ not (is_off mark)
     entry-is Off = refl
@@ -168,3 +169,41 @@ module _ (t : Installed) (built : IsBuilt t.class) (agrees : agreement.Agrees t.
       ∙ (frame-attempt s f below (subst (IsQuiet c) (sym same) quiet) (subst (IsPlaced (norm_in c)) (sym same) at)
       ∙ (ap (λ y. step w u (moved m y)) same
       ∙ step-moves (norm_in c) w m o u (original-agrees c t.main built) (rewritten-agrees c t.main t.marks t.image t.homes built agrees) s at))
+
+  -- ---- behind a leave probe
+
+  -- the current frame stands at its return itself
+  abbrev pub at_return : State → Frame → List Entry → State
+  at_return s f below = record (moved m s) { stack = Active (record (moved_frame m f) { place = home_at t.homes f.version f.place + 6 }) ∷ moved_stack m below }
+
+  line-behind : (v at : ℕ) (line : Line) → IsStart c v at → line_at c v at ≡ Some line → is_left_by t.marks v line.operation ≡ true
+      → line_in t v (home_at t.homes v at + 6) ≡ line_in t v (home_at t.homes v at)
+  line-behind v at line start lined left =
+      let home : ℕ = home_at t.homes v at in
+      let none : behind_leave t.image v (home + 6) ≡ home + 6 = ap (λ p. cond (is_leave p) (home + 6 + 6) (home + 6)) (agrees.returns v at line start lined left) in
+      let some : behind_leave t.image v home ≡ home + 6 = ap (λ p. cond (is_leave p) (home + 6) home) (agrees.leaves v at line start lined ∙ ap (leave_probe_of v) left) in
+      ap (version_line t.image t.homes v) (none ∙ sym some)
+
+  attempt-explicit : (s : State) (f : Frame) (below : List Entry) (start : IsStart c f.version f.place) (has : HasLine c f.version f.place start.instr) → is_left_by t.marks f.version has.resolved ≡ true
+      → attempt_placed t (at_return s f below) ≡ attempt_placed t (record (moved m s) { stack = Active (moved_frame m f) ∷ moved_stack m below })
+  attempt-explicit s f below start has left =
+      let home : ℕ = home_at t.homes f.version f.place in
+      let g : Frame = moved_frame m f in
+      let s' : State = record (moved m s) { stack = moved_stack m below } in
+      let at : AtHome f.version f.place start has = at_home f.version f.place start has in
+      let behind : line_in t f.version (home + 6) ≡ line_in t f.version home = line-behind f.version f.place _ start has.lined left in
+      let returns : is_return_operation at.line.operation ≡ true = ap is_return_operation at.operates ∙ left-returns (is_return_operation has.resolved) (not (is_off (mark_at t.marks f.version))) left in
+      let q : Resolved = at.line.operation in
+      ap (λ l. closed (does_line t s' (record g { place = home + 6 }) l)) (behind ∙ at.lined)
+      ∙ (ap closed (return-anywhere c w (tabled t) (placed at.line) q (wrote_by q s' g) g (home + 6) returns)
+      ∙ sym (ap (λ l. closed (does_line t s' g l)) at.lined))
+    where
+      left-returns : (a b : Bool) → (a && b) ≡ true → a ≡ true
+      left-returns true b e = refl
+      left-returns false b e = e
+
+  -- a return is attempted where it stands as at its home
+  pub attempt-behind : (s : State) (f : Frame) (below : List Entry) (start : IsStart c f.version f.place) (has : HasLine c f.version f.place start.instr) → s.stack ≡ Active f ∷ below → is_left_by t.marks f.version has.resolved ≡ true
+      → attempt_placed t (at_return s f below) ≡ attempt_placed t (moved m s)
+  attempt-behind s f below start has is left =
+      attempt-explicit s f below start has left ∙ ap (λ es. attempt_placed t (record (moved m s) { stack = moved_stack m es })) (sym is)

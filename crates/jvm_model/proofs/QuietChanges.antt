@@ -86,25 +86,25 @@ return-anywhere c w t i q s f place e = leaving-anywhere w t i (asks c q f.local
 
 -- ---- what changes
 
-pub data Went (c : ClassFile) (q : Resolved) (a : Turn) : Type 0 where
-  stays : is_return_operation q ≡ false → a.changes ≡ [] → Went c q a
-  starts : is_return_operation q ≡ false → (m : ℕ) (f : Frame) (below : List Entry) → is_some (method_code c m) ≡ true → f.version ≡ m → a.after.stack ≡ Active f ∷ below → a.changes ≡ Began m ∷ [] → Went c q a
-  leaves : is_return_operation q ≡ true → a.changes ≡ Left ∷ [] → Went c q a
+pub data Went (c : ClassFile) (t : Text) (q : Resolved) (a : Turn) : Type 0 where
+  stays : is_return_operation q ≡ false → a.changes ≡ [] → Went c t q a
+  starts : is_return_operation q ≡ false → (m : ℕ) (f : Frame) (below : List Entry) → is_some (method_code c m) ≡ true → f.version ≡ m → f.place ≡ t.first (t.current m) → a.after.stack ≡ Active f ∷ below → a.changes ≡ Began m ∷ [] → Went c t q a
+  leaves : is_return_operation q ≡ true → a.changes ≡ Left ∷ [] → Went c t q a
 
 args-went : (c : ClassFile) (w : World) (t : Text) (i : Instruction) (k count : ℕ) (args : Option (List Datum)) (o : Operands) (s : State) (f : Frame) → IsOneVersion t → is_some (method_code c k) ≡ true
-    → Went c (resolved.Invokestatic k) (applies w t i (invokes k count args o) s f)
+    → Went c t (resolved.Invokestatic k) (applies w t i (invokes k count args o) s f)
 args-went c w t i k count None o s f one code = stays refl refl
 args-went c w t i k count (Some args) o s f one code = by_room (has_room w k args) where
-  by_room : (b : Bool) → Went c (resolved.Invokestatic k) (cond b (begins w t s f k args (drop count o)) (still (breaks s f i.own)))
-  by_room true = starts refl k (new_frame w t k args) (Active (record f { operands = drop count o }) ∷ s.stack) code (one k) refl refl
+  by_room : (b : Bool) → Went c t (resolved.Invokestatic k) (cond b (begins w t s f k args (drop count o)) (still (breaks s f i.own)))
+  by_room true = starts refl k (new_frame w t k args) (Active (record f { operands = drop count o }) ∷ s.stack) code (one k) refl refl refl
   by_room false = stays refl refl
 
 invokes-went : (c : ClassFile) (w : World) (t : Text) (i : Instruction) (k : ℕ) (params : Option (List Kind)) (o : Operands) (s : State) (f : Frame) → IsOneVersion t → is_some (method_code c k) ≡ true
-    → Went c (resolved.Invokestatic k) (applies w t i (invokes_with k params o) s f)
+    → Went c t (resolved.Invokestatic k) (applies w t i (invokes_with k params o) s f)
 invokes-went c w t i k None o s f one code = stays refl refl
 invokes-went c w t i k (Some params) o s f one code = args-went c w t i k (length params) (arguments params o) o s f one code
 
-applied-went : (c : ClassFile) (w : World) (t : Text) (i : Instruction) (q : Resolved) (l : Locals) (o : Operands) (s : State) (f : Frame) → IsOneVersion t → CodedCallee c q → Went c q (applies w t i (asks c q l o) s f)
+applied-went : (c : ClassFile) (w : World) (t : Text) (i : Instruction) (q : Resolved) (l : Locals) (o : Operands) (s : State) (f : Frame) → IsOneVersion t → CodedCallee c q → Went c t q (applies w t i (asks c q l o) s f)
 applied-went c w t i resolved.Nop l o s f one callee = stays refl refl
 applied-went c w t i (resolved.Constant n) l o s f one callee = stays refl refl
 applied-went c w t i (resolved.Iload slot) l o s f one callee = stays refl (still-changes w t i (pushes (loaded kind.Int (slice_get l slot)) l o) s f (still-pushes (loaded kind.Int (slice_get l slot)) l o))
@@ -121,10 +121,10 @@ closed-stack s = by_test (is_empty s.stack && is_none s.ending) where
   by_test true = refl
   by_test false = refl
 
-closed-went : (c : ClassFile) (q : Resolved) (a : Turn) → Went c q a → Went c q (closed a)
-closed-went c q a (stays e changes) = stays e changes
-closed-went c q a (starts e m f below code version stack changes) = starts e m f below code version (closed-stack a.after ∙ stack) changes
-closed-went c q a (leaves e changes) = leaves e changes
+closed-went : (c : ClassFile) (t : Text) (q : Resolved) (a : Turn) → Went c t q a → Went c t q (closed a)
+closed-went c t q a (stays e changes) = stays e changes
+closed-went c t q a (starts e m f below code version place stack changes) = starts e m f below code version place (closed-stack a.after ∙ stack) changes
+closed-went c t q a (leaves e changes) = leaves e changes
 
-pub attempt-went : (c : ClassFile) (w : World) (t : Text) (i : Instruction) (q : Resolved) (s : State) (f : Frame) → IsOneVersion t → CodedCallee c q → Went c q (closed (applies w t i (asks c q f.locals f.operands) s f))
-attempt-went c w t i q s f one callee = closed-went c q (applies w t i (asks c q f.locals f.operands) s f) (applied-went c w t i q f.locals f.operands s f one callee)
+pub attempt-went : (c : ClassFile) (w : World) (t : Text) (i : Instruction) (q : Resolved) (s : State) (f : Frame) → IsOneVersion t → CodedCallee c q → Went c t q (closed (applies w t i (asks c q f.locals f.operands) s f))
+attempt-went c w t i q s f one callee = closed-went c t q (applies w t i (asks c q f.locals f.operands) s f) (applied-went c w t i q f.locals f.operands s f one callee)

@@ -163,7 +163,7 @@ module _ (c : ClassFile) (main : ℕ) (input : List ℕ) (built : IsBuilt c) whe
   pub record IsStepOf (s : State) (f : Frame) : Type 0 where
     pub start : IsStart c f.version f.place
     pub has : HasLine c f.version f.place start.instr
-    pub went : Went c has.resolved (step w (original (alone c main)) s)
+    pub went : Went c (original (alone c main)) has.resolved (step w (original (alone c main)) s)
 
   explicit-step : (s : State) (f : Frame) (below : List Entry) → IsQuiet c (record s { stack = Active f ∷ below; ending = None }) → IsPlaced (norm_in c) (record s { stack = Active f ∷ below; ending = None })
       → IsStepOf (record s { stack = Active f ∷ below; ending = None }) f
@@ -180,7 +180,7 @@ module _ (c : ClassFile) (main : ℕ) (input : List ℕ) (built : IsBuilt c) whe
       record {
         start = now.start;
         has = now.has;
-        went = subst (Went c now.has.resolved) (sym is) (attempt-went c w t i now.has.resolved (wrote_by now.has.resolved s' f) f original-one coded);
+        went = subst (Went c t now.has.resolved) (sym is) (attempt-went c w t i now.has.resolved (wrote_by now.has.resolved s' f) f original-one coded);
       }
 
   pub step-of : (s : State) (f : Frame) (below : List Entry) → s.stack ≡ Active f ∷ below → s.ending ≡ None → IsQuiet c s → IsPlaced (norm_in c) s → IsStepOf s f
