@@ -1,6 +1,6 @@
 //! Sources, sinks and files in memory, which fail at the calls that they are told to fail at.
 
-ghost use Rattle.std.specs.Prelude.{◌≡◌, ◌+◌, ◌^◌, ◌≤◌, ◌<◌, ◌↔◌, [], Some, None, ◌++◌, length, take, drop, map, min, vec_items, vec_len, string_bytes, is_err, IfOk, IsErr, OnOk, IsErrOf, IsTrue, IsFalse};
+ghost use Rattle.std.specs.Prelude.{◌≡◌, ◌+◌, ◌^◌, ◌≤◌, ◌<◌, ◌↔◌, [], Some, None, ◌++◌, length, take, drop, map, min, vec_items, vec_len, string_bytes, is_err, IfOk, IsErr, OnOk, OnErr, IsErrOf, IsTrue, IsFalse};
 ghost use Rattle.std.specs.List.{zip};
 ghost use Rattle.std.specs.Option.{option_copied};
 ghost use Rattle.std.specs.Io.KnownBytes.{append_known, prepend_known};
@@ -113,6 +113,7 @@ impl Source for MemSource {
         ensures within { IfOk result (λ n. n ≤ length buf.new) }
         ensures front { IfOk result (λ n. Some self.old.left ≡ prepend_known (take n buf.new) (Some self.new.left)) }
         ensures end { IfOk result (λ n. (n ≡ 0) ↔ (self.old.left ≡ [])) }
+        ensures stays { OnErr result (Some self.new.left ≡ Some self.old.left) }
         ensures cause { HasCause self.old.calls.faults self.new.calls.faults result }
         ensures fails { is_err result ≡ is_failing self.old.calls }
         ensures count { IfOk result (λ n. n ≡ take_count self.old (length buf.old)) }
@@ -264,7 +265,6 @@ impl MemFiles {
 
     /// What the next fetch answers, but for the want of memory for the name.
     fn answer(&self, alloc: Global, name: &str, most: usize) -> Result<Vec<u8>, FetchError>
-        requires { most < 2 ^ 32 }
         ensures found { IfOk result (λ bytes. front_at self.now.contents name.now most ≡ Some bytes.items) }
         ensures given { OnOk result (IsFalse (fetch_fails self.now name.now)) }
         ensures failed { IsErrOf result FetchError.Failed → IsTrue (fetch_fails self.now name.now) }
@@ -274,7 +274,7 @@ impl MemFiles {
         }
         match self.find(name) {
             Some(bytes) => {
-                let count = bytes.len().min(most + 1);
+                let count = bytes.len().min(most.saturating_add(1));
                 Ok(Vec::from_slice(alloc, &bytes[..count])?)
             }
             None => Err(FetchError::Failed),
@@ -308,7 +308,6 @@ impl Files for MemFiles {
     ghost last_failed = { λ f. f.last_failed };
 
     fn fetch(&mut self, alloc: Global, name: &str, most: usize) -> Result<Vec<u8>, FetchError>
-        requires { most < 2 ^ 32 }
         ensures found { IfOk result (λ bytes. front_at self.old.contents name.now most ≡ Some bytes.items) }
         ensures absent { contents_at self.old.contents name.now ≡ None → IsErr result }
         ensures contents_stay { self.new.contents ≡ self.old.contents }

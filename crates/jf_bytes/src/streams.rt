@@ -5,7 +5,7 @@
 //! A call answers `Failed` only where the count rose in it, or where the count stands at the greatest u64, from which
 //! it can't rise. Want of memory is no fault.
 
-ghost use Rattle.std.specs.Prelude.{◌≡◌, ◌<◌, ◌≤◌, ◌^◌, ◌↔◌, ℕ, List, [], length, take, IfOk, IfSome, OnOk, IsErr};
+ghost use Rattle.std.specs.Prelude.{◌≡◌, ◌<◌, ◌≤◌, ◌^◌, ◌↔◌, ℕ, List, [], length, take, IfOk, IfSome, OnOk, OnErr, IsErr};
 ghost use Rattle.std.specs.declared.option.Option.{Option};
 ghost use Rattle.std.specs.Io.KnownBytes.{append_known, prepend_known};
 ghost use Rattle.jf_bytes.specs.Streams.{HasCause, PutsFront, FetchCause, Told, contents_at, front_at, failed_name};
@@ -22,12 +22,13 @@ pub trait Source {
     ghost faults: { Self → ℕ };
 
     /// Gives the next bytes at the front of the buffer, at least one, and answers how many. `Ok(0)` says that nothing
-    /// is left.
+    /// is left. A take that fails leaves what is left as it was.
     fn take(&mut self, buf: &mut [u8]) -> Result<usize, Failed>
         requires { 0 < length buf.old }
         ensures within { IfOk result (λ n. n ≤ length buf.new) }
         ensures front { IfOk result (λ n. left self.old ≡ prepend_known (take n buf.new) (left self.new)) }
         ensures end { IfOk result (λ n. IfSome (left self.old) (λ old. (n ≡ 0) ↔ (old ≡ []))) }
+        ensures stays { OnErr result (left self.new ≡ left self.old) }
         ensures cause { HasCause (faults self.old) (faults self.new) result };
 }
 
@@ -58,10 +59,8 @@ pub trait Files {
     ghost last_failed: { Self → List ℕ };
 
     /// The contents of a file, or the first `most` + 1 bytes of a longer one. An absent file is a fault. Memory for the
-    /// name, which is kept where the fetch fails, is taken before the fetch. Callers pass a constant as `most`, far below
-    /// its bound, which keeps `most` + 1 in range.
+    /// name, which is kept where the fetch fails, is taken before the fetch.
     fn fetch(&mut self, alloc: Global, name: &str, most: usize) -> Result<Vec<u8>, FetchError>
-        requires { most < 2 ^ 32 }
         ensures found { IfOk result (λ bytes. IfSome (contents self.old) (λ files. front_at files name.now most ≡ Some bytes.items)) }
         ensures absent { IfSome (contents self.old) (λ files. contents_at files name.now ≡ None → IsErr result) }
         ensures contents_stay { contents self.new ≡ contents self.old }
