@@ -4,16 +4,13 @@ ghost use Rattle.std.specs.Prelude.{◌≡◌, ◌≢◌, ◌⊎◌, ◌≤◌, 
 ghost use Rattle.std.specs.Io.KnownBytes.{append_known};
 ghost use Rattle.jf_bytes.specs.Streams.{Rose, contents_at};
 ghost use Rattle.class_reader.specs.declared.error.ReadError.{ReadError as Fault};
-ghost use Rattle.class_reader.specs.Files.{IsFirstFault};
+ghost use Rattle.class_reader.specs.Files.{IsFirstFault, most_bytes};
 ghost use Rattle.class_copy.specs.Copies.{IsFetched, IsTold, IsToldFault};
 
-use class_reader::{ReadError, read_class};
+use class_reader::{MOST_BYTES, ReadError, read_class};
 use class_writer::write_class;
 use jf_bytes::{FetchError, Files, Sink};
 use std::alloc::Global;
-
-/// The greatest length of a class file.
-const MOST: usize = 4_194_304;
 
 /// Why a file is not copied.
 #[derive(Clone, Copy, Debug, PartialEq, Eq)]
@@ -28,7 +25,7 @@ pub enum CopyError {
 /// The bytes of a class file as the writer makes them from what the reader made of them: the same bytes.
 fn copied(alloc: Global, bytes: &[u8]) -> Result<Vec<u8>, CopyError>
     ensures same { IfOk result (λ copy. copy.items ≡ bytes.now) }
-    ensures short { IfOk result (λ copy. length bytes.now ≤ MOST) }
+    ensures short { IfOk result (λ copy. length bytes.now ≤ most_bytes) }
     ensures not_read { (fault : Fault) → result ≡ Err (CopyError.NotRead fault) → IsFirstFault bytes.now fault }
     ensures first_fault { (fault : Fault) → IsFirstFault bytes.now fault → (result ≡ Err (CopyError.NotRead fault)) ⊎ (result ≡ Err CopyError.NoMemory) }
     ensures not_fetched { result ≢ Err CopyError.NotFetched }
@@ -51,7 +48,7 @@ fn fetch<F: Files>(alloc: Global, name: &str, files: &mut F) -> Result<Vec<u8>, 
     ensures not_fetched { result ≡ Err CopyError.NotFetched → Rose (F.faults files.old) (F.faults files.new) }
     ensures errors { IfErr result (λ e. (e ≡ CopyError.NotFetched) ⊎ (e ≡ CopyError.NoMemory)) }
 {
-    match files.fetch(alloc, name, MOST) {
+    match files.fetch(alloc, name, MOST_BYTES) {
         Ok(bytes) => Ok(bytes),
         Err(FetchError::Failed) => Err(CopyError::NotFetched),
         Err(FetchError::NoMemory) => Err(CopyError::NoMemory),

@@ -6,7 +6,7 @@ use Rattle.class_reader.specs.declared.error.ReadError.{ReadError}
 use Rattle.class_reader.specs.declared.error.ReadError.TheVariants.{TooLong, Trailing}
 use Rattle.class_reader.specs.ClassFormat as format
 
--- the greatest length of a class file
+-- the most bytes of a class file that is read
 abbrev pub most_bytes : ℕ
 most_bytes = 4194304
 

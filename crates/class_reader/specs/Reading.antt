@@ -19,6 +19,7 @@ use Rattle.class_reader.specs.declared.error.ReadError.{ReadError}
 use Rattle.class_reader.specs.declared.error.ReadError.TheVariants.{TooLong, Truncated, BadMagic, BadVersion, BadTag, BadUtf8, BadIndex, BadRef, BadLength, Trailing, NoMemory}
 use Rattle.class_reader.specs.Decoding.{decoded}
 use Rattle.class_reader.specs.Formats.{place}
+use Rattle.class_reader.specs.Files.{most_bytes}
 use Rattle.class_reader.specs.ClassFormat.{tag_of, names, names_text, lowest_bad, Body, class_with}
 
 infixl 10 ◌>>=◌
@@ -292,4 +293,4 @@ unfoldable pub image_of : List ℕ → Result ClassFile ReadError
 image_of bytes = all_of (length bytes) (class_at (length bytes) bytes)
 
 unfoldable pub file_of : List ℕ → Result ClassFile ReadError
-file_of bytes = if nat_lt 4194304 (length bytes) then Err TooLong else image_of bytes
+file_of bytes = if nat_lt most_bytes (length bytes) then Err TooLong else image_of bytes

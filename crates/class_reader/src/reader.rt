@@ -17,8 +17,9 @@ use crate::pool::pool_of;
 use const_pool::{ClassFile, Const, Pool};
 use std::alloc::Global;
 
-/// The greatest length of a class file.
-const MOST_BYTES: usize = 4_194_304;
+/// The most bytes of a class file that is read: 4 MiB, a limit of this product. A caller that fetches a file asks for so many,
+/// and sees by one byte more that it is too long.
+pub const MOST_BYTES: usize = 4_194_304;
 
 /// A class of its parts.
 fn assemble(minor: u16, major: u16, pool: Vec<Const>, body: Body) -> ClassFile
@@ -86,7 +87,7 @@ fn file_in(alloc: Global, bytes: &[u8]) -> Result<ClassFile, ReadError>
     image_in(alloc, bytes)
 }
 
-/// Reads a class file, of 4,194,304 bytes at most (JVM Specification 4). The bytes spell the class that is given and no other,
+/// Reads a class file, of `MOST_BYTES` at most (JVM Specification 4). The bytes spell the class that is given and no other,
 /// so `class_writer` gives them back from it. A refusal is the first fault from the left: what stands before its place is well
 /// formed. Code and ConstantValue are parsed where they stand, in methods and in fields; every other attribute is kept as bytes.
 /// Work and memory are in proportion to the bytes.
