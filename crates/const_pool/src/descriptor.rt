@@ -11,6 +11,7 @@ ghost use Rattle.const_pool.specs.Stages.{Tells, told, field_answer, method_answ
 use crate::stages::{FieldStage, Front, Stage, field_step, method_step};
 use jf_bytes::{Seq, Text16};
 use std::alloc::{AllocError, AllocFailed, Global};
+use thiserror::Error;
 
 /// What a field, a parameter or a result holds. An array and a class are both `Ref`.
 #[derive(Clone, Copy, Debug, PartialEq, Eq)]
@@ -34,10 +35,12 @@ pub struct Shape {
 }
 
 /// Why a text gives no kind or shape.
-#[derive(Clone, Copy, Debug, PartialEq, Eq)]
+#[derive(Clone, Copy, Debug, PartialEq, Eq, Error)]
 pub enum DescriptorError {
     /// The place of the first unit with which no descriptor goes on. Where the text ends early it is the text's length.
+    #[error("no descriptor at unit {0}")]
     BadDescriptor(usize),
+    #[error("no memory")]
     NoMemory,
 }
 

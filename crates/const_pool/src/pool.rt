@@ -8,6 +8,7 @@ ghost use Rattle.const_pool.specs.References.{Walks, entry_walk, text_walk, clas
 
 use jf_bytes::{Seq, Text16};
 use std::marker::Model;
+use thiserror::Error;
 
 /// An entry of the constant pool (JVM Specification 4.4). The numbers of `Class` to `NameType` are indices.
 #[derive(Debug, Drop)]
@@ -31,10 +32,12 @@ pub enum Const {
 }
 
 /// Why a look-up gives nothing: an index that names no entry, or an entry of another tag.
-#[derive(Clone, Copy, Debug, PartialEq, Eq)]
+#[derive(Clone, Copy, Debug, PartialEq, Eq, Error)]
 pub enum PoolError {
     /// 0, the second index of a `Long` or `Double`, or past the end.
+    #[error("no entry at this index")]
     BadIndex,
+    #[error("an entry of another tag")]
     WrongKind,
 }
 
