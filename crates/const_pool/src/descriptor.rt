@@ -6,7 +6,7 @@ ghost use Rattle.const_pool.specs.declared.descriptor.Shape.{Shape as TheShape};
 ghost use Rattle.const_pool.specs.declared.descriptor.DescriptorError.TheVariants.{BadDescriptor, NoMemory};
 ghost use Rattle.const_pool.specs.Descriptors.{IsField, IsMethod, IsFieldText, IsMethodText, IsReadAs};
 ghost use Rattle.const_pool.specs.Fronts.{IsStuckAt};
-ghost use Rattle.const_pool.specs.Stages.{Tells, told, field_answer, method_answer, field_from, reading_from};
+ghost use Rattle.const_pool.specs.Stages.{Answers, told, field_answer, method_answer, field_from, reading_from};
 
 use crate::stages::{FieldStage, Front, Stage, field_step, method_step};
 use jf_bytes::{Seq, Text16};
@@ -95,7 +95,7 @@ pub fn parse_field(text: &Text16) -> Result<Kind, DescriptorError>
 
 /// What a method descriptor stands for, unit by unit.
 fn read_method(alloc: Global, units: &[u16]) -> Result<Shape, DescriptorError>
-    ensures { Tells result (method_answer units.now) }
+    ensures { Answers result (method_answer units.now) }
 {
     let mut stage = Stage::Open;
     let mut params = Seq::new(alloc);

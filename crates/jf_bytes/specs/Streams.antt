@@ -76,5 +76,5 @@ failed_name old name (Err NoMemory) = old
 failed_name old name (Err Failed) = name
 
 -- a fetch that failed left its name, and another left the old one
-abbrev pub NamesFailed : {A : Type 0} → List ℕ → List ℕ → List ℕ → Result A FetchError → Type 0
-NamesFailed old new name result = new ≡ failed_name old name result
+abbrev pub NamesLast : {A : Type 0} → List ℕ → List ℕ → List ℕ → Result A FetchError → Type 0
+NamesLast old new name result = new ≡ failed_name old name result

@@ -1,7 +1,7 @@
 //! The files of a runtime: fetched whole by name, or made at the first put.
 
 ghost use Rattle.std.specs.Prelude.{◌≡◌, ◌+◌, ◌^◌, ◌≤◌, ◌<◌, [], None, take, false, vec_len, string_bytes, IfOk, IfSome, IsTrue, OnOk};
-ghost use Rattle.jf_bytes.specs.Streams.{HasCause, FetchCause, NamesFailed};
+ghost use Rattle.jf_bytes.specs.Streams.{HasCause, FetchCause, NamesLast};
 ghost use Rattle.jf_bytes.specs.Adapters.{ReadsUpTo};
 
 use crate::error::{Failed, FetchError};
@@ -85,7 +85,7 @@ impl<R: rt::Files> Files for DiskFiles<R> {
     fn fetch(&mut self, alloc: Global, name: &str, most: usize) -> Result<Vec<u8>, FetchError>
         ensures within { IfOk result (λ bytes. vec_len bytes ≤ most + 1) }
         ensures cause { FetchCause self.old.faults self.new.faults result }
-        ensures last_failed { NamesFailed self.old.last_failed self.new.last_failed name.now result }
+        ensures last_failed { NamesLast self.old.last_failed self.new.last_failed name.now result }
     {
         let kept = String::from_str(alloc, name)?;
         let answer = self.read(alloc, name, most);

@@ -3,7 +3,7 @@
 ghost use Rattle.std.specs.Prelude.{◌≡◌, ◌+◌, ◌^◌, ◌≤◌, ◌<◌, ◌↔◌, [], Some, None, ◌++◌, length, take, drop, map, min, vec_items, vec_len, string_bytes, is_err, IfOk, IsErr, OnOk, OnErr, IsErrOf, IsTrue, IsFalse};
 ghost use Rattle.std.specs.List.{zip};
 ghost use Rattle.std.specs.Option.{option_copied};
-ghost use Rattle.jf_bytes.specs.Streams.{HasCause, TakesFront, PutsAll, PutsFront, FetchCause, contents_at, IsFetched, IsAbsent, NamesFailed};
+ghost use Rattle.jf_bytes.specs.Streams.{HasCause, TakesFront, PutsAll, PutsFront, FetchCause, contents_at, IsFetched, IsAbsent, NamesLast};
 ghost use Rattle.jf_bytes.specs.Calls.{first_calls, is_failing, after_call};
 ghost use Rattle.jf_bytes.specs.Memory.{empty_sink, take_count, after_take, put_fails, after_put, fetch_fails, is_fault, after_fetch};
 
@@ -265,7 +265,8 @@ impl MemFiles {
 
     /// What the next fetch answers, but for the want of memory for the name.
     fn answer(&self, alloc: Global, name: &str, most: usize) -> Result<Vec<u8>, FetchError>
-        ensures found { IfOk result (λ bytes. IsFetched (Some self.now.contents) name.now most bytes.items) }
+        ensures found { IfOk result (λ bytes.
+            IsFetched (Some self.now.contents) name.now most bytes.items) }
         ensures given { OnOk result (IsFalse (fetch_fails self.now name.now)) }
         ensures failed { IsErrOf result FetchError.Failed → IsTrue (fetch_fails self.now name.now) }
     {
@@ -308,11 +309,12 @@ impl Files for MemFiles {
     ghost last_failed = { λ f. f.last_failed };
 
     fn fetch(&mut self, alloc: Global, name: &str, most: usize) -> Result<Vec<u8>, FetchError>
-        ensures found { IfOk result (λ bytes. IsFetched (Some self.old.contents) name.now most bytes.items) }
+        ensures found { IfOk result (λ bytes.
+            IsFetched (Some self.old.contents) name.now most bytes.items) }
         ensures absent { IsAbsent (Some self.old.contents) name.now → IsErr result }
         ensures contents_stay { self.new.contents ≡ self.old.contents }
         ensures cause { FetchCause self.old.calls.faults self.new.calls.faults result }
-        ensures last_failed { NamesFailed self.old.last_failed self.new.last_failed name.now result }
+        ensures last_failed { NamesLast self.old.last_failed self.new.last_failed name.now result }
         ensures given { OnOk result (IsFalse (fetch_fails self.old name.now)) }
         ensures failed { IsErrOf result FetchError.Failed → IsTrue (fetch_fails self.old name.now) }
         ensures after { self.new ≡ after_fetch self.old name.now (is_fault result) }

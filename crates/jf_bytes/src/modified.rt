@@ -126,7 +126,8 @@ fn front_unit(bytes: &[u8]) -> Result<u16, usize>
 /// The offset in `BadUtf8` counts from the first of these bytes. What is given here `to_modified` gives back.
 pub fn from_modified(alloc: Global, bytes: &[u8]) -> Result<Text16, TextError>
     ensures found { IfOk result (λ text. IsSpelling bytes.now text) }
-    ensures only { (units : List ℕ) → IsSpelling bytes.now units → IsUnless result (Ok units) TextError.NoMemory }
+    ensures only { (units : List ℕ) → IsSpelling bytes.now units
+        → IsUnless result (Ok units) TextError.NoMemory }
     ensures refused { (at : ℕ) → result ≡ Err (TextError.BadUtf8 at) → IsFirstBad bytes.now at }
     ensures first_bad { (at : ℕ) → IsFirstBad bytes.now at
         → IsUnless result (Err (TextError.BadUtf8 at)) TextError.NoMemory }

@@ -13,7 +13,8 @@ use std::marker::Model;
 /// One read, again where a signal cuts it short.
 pub(crate) fn read_some<R: Read>(reader: &mut R, buf: &mut [u8]) -> Result<usize, Failed>
     ensures within { IfOk result (λ n. n ≤ length buf.new) }
-    ensures front { IfOk result (ReadsFirst (R.remaining reader.old) (R.remaining reader.new) buf.new) }
+    ensures front { IfOk result
+        (ReadsFirst (R.remaining reader.old) (R.remaining reader.new) buf.new) }
     ensures end { IfOk result (λ n. n ≡ 0 → 0 < length buf.old → IsAtEnd (R.remaining reader.new)) }
     ensures err { OnErr result (Keeps (R.remaining reader.old) (R.remaining reader.new)) }
 {
@@ -33,7 +34,8 @@ pub(crate) fn read_some<R: Read>(reader: &mut R, buf: &mut [u8]) -> Result<usize
 /// One write, again where a signal cuts it short.
 fn write_some<W: Write>(writer: &mut W, bytes: &[u8]) -> Result<usize, Failed>
     ensures within { IfOk result (λ n. n ≤ length bytes.now) }
-    ensures front { IfOk result (WritesFirst (W.contents writer.old) (W.contents writer.new) bytes.now) }
+    ensures front { IfOk result
+        (WritesFirst (W.contents writer.old) (W.contents writer.new) bytes.now) }
     ensures err { OnErr result (Keeps (W.contents writer.old) (W.contents writer.new)) }
 {
     for _ in 0..u64::MAX {
@@ -105,7 +107,8 @@ impl<R: Read> Source for StdSource<R> {
         ensures read { let old = R.remaining self.old.inner in
             IfOk result (ReadsFirst old (R.remaining self.new.inner) buf.new) }
         ensures read_end { IfOk result (λ n. n ≡ 0 → IsAtEnd (R.remaining self.new.inner)) }
-        ensures read_nothing { OnErr result (Keeps (R.remaining self.old.inner) (R.remaining self.new.inner)) }
+        ensures read_nothing { OnErr result
+            (Keeps (R.remaining self.old.inner) (R.remaining self.new.inner)) }
     {
         let answer = read_some(&mut self.reader, buf);
         if answer.is_err() {
@@ -151,8 +154,10 @@ impl<W: Write> Sink for StdSink<W> {
         ensures nothing { bytes.now ≡ [] → IsOk result }
 
         // What the writer got, where it knows its bytes.
-        ensures written { OnOk result (Appends (W.contents self.old.inner) (W.contents self.new.inner) bytes.now) }
-        ensures written_front { WritesFront (W.contents self.old.inner) (W.contents self.new.inner) bytes.now }
+        ensures written { OnOk result
+            (Appends (W.contents self.old.inner) (W.contents self.new.inner) bytes.now) }
+        ensures written_front { WritesFront (W.contents self.old.inner)
+            (W.contents self.new.inner) bytes.now }
     {
         let answer = write_whole(&mut self.writer, bytes);
         if answer.is_err() {

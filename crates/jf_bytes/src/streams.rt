@@ -7,7 +7,7 @@
 
 ghost use Rattle.std.specs.Prelude.{◌≡◌, ◌<◌, ◌≤◌, ◌↔◌, ℕ, List, [], length, IfOk, IfSome, OnOk, OnErr, IsErr};
 ghost use Rattle.std.specs.declared.option.Option.{Option};
-ghost use Rattle.jf_bytes.specs.Streams.{HasCause, TakesFront, PutsAll, PutsFront, FetchCause, Told, IsFetched, IsAbsent, NamesFailed};
+ghost use Rattle.jf_bytes.specs.Streams.{HasCause, TakesFront, PutsAll, PutsFront, FetchCause, Told, IsFetched, IsAbsent, NamesLast};
 
 use crate::error::{Failed, FetchError};
 use std::alloc::Global;
@@ -60,9 +60,11 @@ pub trait Files {
     /// The contents of a file, or the first `most` + 1 bytes of a longer one. An absent file is a fault. Memory for the
     /// name, which is kept where the fetch fails, is taken before the fetch.
     fn fetch(&mut self, alloc: Global, name: &str, most: usize) -> Result<Vec<u8>, FetchError>
-        ensures found { IfOk result (λ bytes. IsFetched (contents self.old) name.now most bytes.items) }
+        ensures found { IfOk result (λ bytes.
+            IsFetched (contents self.old) name.now most bytes.items) }
         ensures absent { IsAbsent (contents self.old) name.now → IsErr result }
         ensures contents_stay { contents self.new ≡ contents self.old }
         ensures cause { FetchCause (faults self.old) (faults self.new) result }
-        ensures last_failed { NamesFailed (last_failed self.old) (last_failed self.new) name.now result };
+        ensures last_failed { NamesLast (last_failed self.old)
+            (last_failed self.new) name.now result };
 }

@@ -1,8 +1,11 @@
 //! The names of the built-in classes.
 
-ghost use Rattle.std.specs.Prelude.{◌≡◌, map, slice_get};
+ghost use Rattle.std.specs.Prelude.{◌≡◌, map, slice_get, bytes_eq};
+ghost use Rattle.std.specs.List.{list_any};
 ghost use Rattle.std.specs.Option.{option_copied};
 ghost use Rattle.const_pool.specs.BuiltIn.{built_in_names};
+
+use jf_bytes::Text16;
 
 /// The names of the built-in classes, in their order.
 const BUILT_IN_NAMES: [&[u8]; 53] = [
@@ -73,4 +76,18 @@ pub fn built_in_name(place: usize) -> Option<&'static [u8]>
     ensures { option_copied result ≡ slice_get built_in_names place }
 {
     name_at(&BUILT_IN_NAMES, place)
+}
+
+/// Whether the text is one of these names.
+fn is_among(text: &Text16, names: &[&[u8]]) -> bool
+    ensures { result ≡ list_any (λ name. bytes_eq text.now name.now) names.now }
+{
+    names.iter().any(|name| text.is_bytes(name))
+}
+
+/// Whether a built-in class has this name.
+pub fn is_built_in(name: &Text16) -> bool
+    ensures { result ≡ list_any (bytes_eq name.now) built_in_names }
+{
+    is_among(name, &BUILT_IN_NAMES)
 }

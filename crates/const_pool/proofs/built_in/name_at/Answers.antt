@@ -1,5 +1,5 @@
-use Rattle.profile_report.proofs.Texts.{named_at}
-use Rattle.profile_report.proofs.built_in.name_at.Goals as goal
+use Rattle.const_pool.proofs.Tables.{named_at}
+use Rattle.const_pool.proofs.built_in.name_at.Goals as goal
 
 -- the reference in the table, and then what it points to
 pub returns : goal.returns
