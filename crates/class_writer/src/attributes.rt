@@ -93,7 +93,8 @@ fn push_attribute(out: &mut Vec<u8>, attribute: &Attribute) -> Result<(), NoMemo
 pub(crate) fn push_attributes(out: &mut Vec<u8>, attributes: &[Attribute]) -> Result<(), NoMemory>
     requires count { FitsCount attributes.now }
     requires each { All FitsAttribute attributes.now }
-    ensures { OnOk result (out.new.items ≡ out.old.items ++ counted attribute_bytes attributes.now) }
+    ensures { OnOk result
+        (out.new.items ≡ out.old.items ++ counted attribute_bytes attributes.now) }
 {
     push_u16(out, attributes.len() as u16)?;
     for attribute in attributes {
