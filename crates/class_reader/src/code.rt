@@ -1,6 +1,5 @@
 //! The contents of a Code attribute (JVM Specification 4.7.3).
 
-ghost use Rattle.std.specs.Prelude.{◌≡◌};
 ghost use Rattle.class_reader.specs.Reading.{Gives, with_rest, handler_at, code_length_at, code_bytes_at, code_at};
 
 use crate::attributes::Raws;

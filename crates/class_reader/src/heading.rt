@@ -1,6 +1,5 @@
 //! What stands before and behind the constant pool (JVM Specification 4.1).
 
-ghost use Rattle.std.specs.Prelude.{◌≡◌};
 ghost use Rattle.class_reader.specs.Reading.{Gives, with_rest, magic_at, major_at, body_at};
 ghost use Rattle.class_reader.specs.Views.{body_view};
 

@@ -1,6 +1,5 @@
 //! Items one after the other, behind their count.
 
-ghost use Rattle.std.specs.Prelude.{◌≡◌};
 ghost use Rattle.class_reader.specs.Reading.{Gives, with_rest, many_at, counted_at};
 
 use crate::error::ReadError;

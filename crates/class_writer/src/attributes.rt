@@ -1,7 +1,6 @@
 //! Attributes (JVM Specification 4.7).
 
-ghost use Rattle.std.specs.Prelude.{◌≡◌, ◌<◌, ◌^◌, ◌++◌, length, All, OnOk};
-ghost use Rattle.std.specs.List.{flat_map};
+ghost use Rattle.std.specs.Prelude.{◌≡◌, ◌<◌, ◌++◌, All, OnOk};
 ghost use Rattle.const_pool.specs.ClassFile.{FitsCount, counted, raw_bytes, handler_bytes, code_bytes, attribute_bytes};
 ghost use Rattle.class_writer.specs.Fits.{FitsRaw, FitsCode, FitsAttribute};
 

@@ -6,7 +6,7 @@ ghost use Rattle.const_pool.specs.declared.descriptor.Shape.{Shape as TheShape};
 ghost use Rattle.const_pool.specs.declared.descriptor.DescriptorError.TheVariants.{BadDescriptor, NoMemory};
 ghost use Rattle.const_pool.specs.Descriptors.{IsField, IsMethod, IsFieldText, IsMethodText, IsReadAs};
 ghost use Rattle.const_pool.specs.Fronts.{IsStuckAt};
-ghost use Rattle.const_pool.specs.Stages.{Answers, told, field_answer, method_answer, field_from, reading_from};
+ghost use Rattle.const_pool.specs.Stages.{Answers, told, field_answer, method_answer};
 
 use crate::stages::{FieldStage, Front, Stage, field_step, method_step};
 use jf_bytes::{Seq, Text16};

@@ -1,6 +1,6 @@
 //! The files of a runtime: fetched whole by name, or made at the first put.
 
-ghost use Rattle.std.specs.Prelude.{◌≡◌, ◌+◌, ◌^◌, ◌≤◌, ◌<◌, [], None, take, false, vec_len, string_bytes, IfOk, IfSome, IsTrue, OnOk};
+ghost use Rattle.std.specs.Prelude.{◌≡◌, ◌+◌, ◌≤◌, ◌<◌, [], None, false, vec_len, string_bytes, IfOk, IsTrue, OnOk};
 ghost use Rattle.jf_bytes.specs.Streams.{HasCause, FetchCause, NamesLast};
 ghost use Rattle.jf_bytes.specs.Adapters.{ReadsUpTo};
 

@@ -1,8 +1,8 @@
 //! Texts as the bytes of a class file: modified UTF-8 (JVM Specification 4.4.7).
 
-ghost use Rattle.std.specs.Prelude.{◌≡◌, ◌+◌, ◌/◌, ◌%◌, ◌^◌, ◌<◌, ◌≤◌, ◌++◌, ◌⊎◌, ℕ, List, Ok, Err, [], ◌∷◌, length, slice_index, IsTrue, ◌↔◌, IfOk, IfErr, OnOk};
+ghost use Rattle.std.specs.Prelude.{◌≡◌, ◌+◌, ◌/◌, ◌%◌, ◌<◌, ◌≤◌, ◌++◌, ℕ, List, Ok, Err, length, slice_index, IsTrue, ◌↔◌, IfOk, IfErr, OnOk};
 ghost use Rattle.jf_bytes.specs.Results.{IsUnless};
-ghost use Rattle.jf_bytes.specs.ModifiedUtf8.{one_byte, two_bytes, three_bytes, unit_bytes, modified_utf8};
+ghost use Rattle.jf_bytes.specs.ModifiedUtf8.{two_bytes, three_bytes, unit_bytes, modified_utf8};
 ghost use Rattle.jf_bytes.specs.Spelling.{IsUnits, IsSpelling, IsFirstBad, BeginsWith, IsDoubleLead, IsTripleLead};
 
 use crate::error::{NoMemory, TextError};

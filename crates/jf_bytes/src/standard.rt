@@ -1,7 +1,7 @@
 //! The library's readers and writers as sources and sinks, which count their faults.
 
 ghost use Rattle.std.specs.Prelude.{◌≡◌, ◌≤◌, ◌<◌, [], None, length, take, IfOk, OnOk, OnErr, IsOk};
-ghost use Rattle.std.specs.Io.KnownBytes.{Appends, Consumes, IsAtEnd, Keeps};
+ghost use Rattle.std.specs.Io.KnownBytes.{Appends, IsAtEnd, Keeps};
 ghost use Rattle.jf_bytes.specs.Streams.{HasCause};
 ghost use Rattle.jf_bytes.specs.Adapters.{ReadsFirst, WritesFirst, WritesFront};
 

@@ -19,5 +19,5 @@ returns-in-Ok-copied-clause-answer g c =
 pub returns-clause-answer : goal.returns-clause-answer
 returns-clause-answer g c =
     refusal (g.F.Files.contents c.args.files.now) c.args.name.now c.in-Ok.bytes.items c.in-Err-copied.error c.in-Ok.ensures.found
-        (λ fault e. subst (λ bytes. IsFirstFault bytes fault) c.deref.ensures.value (c.in-Err-copied.ensures.not_read fault e))
-        c.in-Err-copied.ensures.not_put
+    (λ fault e. subst (λ bytes. IsFirstFault bytes fault) c.deref.ensures.value (c.in-Err-copied.ensures.not_read fault e))
+    c.in-Err-copied.ensures.not_put
