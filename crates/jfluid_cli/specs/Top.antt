@@ -13,7 +13,7 @@ use Rattle.jvm_model.specs.SmallClass.{IsSmallClass, main_of}
 use Rattle.jvm_machine.specs.View.{View}
 use Rattle.jfluid_cli.specs.declared.refusal.Refusal.{Refusal}
 use Rattle.jfluid_cli.specs.declared.refusal.Refusal.TheVariants.{Words, BadRoot, NotRead, NotBuilt, NoMain, NoSuchRoot, NotFetched, NoMemory}
-use Rattle.jfluid_cli.specs.PlainFiles.{IsPlainFile}
+use Rattle.small_program.specs.PlainFiles.{IsPlainFile}
 use Rattle.jfluid_cli.specs.Words.{Command, command_of}
 use Rattle.jfluid_cli.specs.Roots.{IsChosen, IsBadRoot, LacksRoot, root_said}
 use Rattle.jfluid_cli.specs.Runs.{ending_at}

@@ -12,13 +12,13 @@ ghost use Rattle.jfluid_cli.specs.Views.{root_view};
 ghost use Rattle.jfluid_cli.specs.Top.{LacksRootMethod, IsProgram, IsOutside, LacksMain, HasNoProgram, HasNoRooted, Has, IsToldAs, IsFrontOf, IsFetchRefusal};
 ghost use Rattle.jfluid_cli.specs.Words.{slashed};
 
-use crate::admission::{AdmitError, admit};
 use crate::refusal::Refusal;
 use crate::roots::{Root, read_root, root_number};
 use crate::words::{Command, class_name};
 use class_reader::{MOST_BYTES, ReadError, read_class};
 use const_pool::ClassFile;
 use jf_bytes::{FetchError, Files, NoMemory, Text16};
+use small_program::{AdmitError, admit};
 use std::alloc::Global;
 
 /// A class file that was read and admitted.

@@ -1,7 +1,7 @@
 use Rattle.std.proofs.Common.{◌<◌, sym, ◌∙◌, subst}
 use Rattle.std.specs.Prelude.{false, ℕ}
-use Rattle.jfluid_cli.proofs.Shapes.{entries-stop, entries-go_on}
-use Rattle.jfluid_cli.proofs.plain_shape.has_plain_entries.Goals as goal
+use Rattle.small_program.proofs.Shapes.{entries-stop, entries-go_on}
+use Rattle.small_program.proofs.plain_shape.has_plain_entries.Goals as goal
 
 pub returns-then-not-names_plain : goal.returns-then-not-names_plain
 returns-then-not-names_plain c =
