@@ -1,7 +1,8 @@
 //! Reading the method descriptors of the built part (JVM Specification 4.3.3).
 
-ghost use Rattle.std.specs.Prelude.{◌≡◌, [], IfOk};
+ghost use Rattle.std.specs.Prelude.{◌≡◌, [], IfOk, IfSome};
 ghost use Rattle.std.specs.Option.{option_map};
+ghost use Rattle.const_pool.specs.Descriptors.{IsMethod};
 ghost use Rattle.jvm_model.specs.Descriptors.{result_of, params_of, with_room as with_room_of, ints_shape, shape_of};
 ghost use Rattle.jvm_machine.specs.Shapes.{with_params};
 
@@ -84,8 +85,8 @@ fn ints_shape(alloc: Global, units: &[u16]) -> Result<Option<Shape>, NoMemory>
     }
 }
 
-/// The shape that a descriptor of the built part spells; none for another text.
-pub fn shape_of(alloc: Global, descriptor: &Text16) -> Result<Option<Shape>, NoMemory>
+/// The shape that `shape_of` gives.
+fn find_shape(alloc: Global, descriptor: &Text16) -> Result<Option<Shape>, NoMemory>
     ensures { IfOk result (λ shape. shape ≡ shape_of descriptor.now) }
 {
     if !descriptor.is_bytes(MAIN_DESCRIPTOR) {
@@ -97,6 +98,15 @@ pub fn shape_of(alloc: Global, descriptor: &Text16) -> Result<Option<Shape>, NoM
         params,
         result: None,
     }))
+}
+
+/// The shape that a descriptor of the built part spells; none for another text. It is the shape that the
+/// grammar of descriptors has for it.
+pub fn shape_of(alloc: Global, descriptor: &Text16) -> Result<Option<Shape>, NoMemory>
+    ensures shape { IfOk result (λ shape. shape ≡ shape_of descriptor.now) }
+    ensures method { IfOk result (λ shape. IfSome shape (IsMethod descriptor.now)) }
+{
+    find_shape(alloc, descriptor)
 }
 
 #[cfg(test)]
