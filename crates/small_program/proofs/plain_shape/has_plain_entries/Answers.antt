@@ -1,5 +1,5 @@
 use Rattle.std.proofs.Common.{◌<◌, sym, ◌∙◌, subst}
-use Rattle.std.specs.Prelude.{false, ℕ}
+use Rattle.std.specs.Prelude.{ℕ}
 use Rattle.small_program.proofs.Shapes.{entries-stop, entries-go_on}
 use Rattle.small_program.proofs.plain_shape.has_plain_entries.Goals as goal
 
