@@ -3,3 +3,4 @@ pub mod FitsLemmas
 pub mod Tabled
 pub mod Entries
 pub mod Images
+pub mod DescriptorTexts
