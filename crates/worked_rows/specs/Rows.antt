@@ -10,9 +10,13 @@ use Rattle.worked_rows.specs.declared.expected.ExpectedReport.TheVariants.{Whole
 abbrev pub path_of : List ℕ → List ℕ → List ℕ
 path_of row part = row ++ (codes "/" ++ part)
 
--- the contents of a file in the row's folder
+-- what is fetched of a file: its contents, or a front of a longer one
+unfoldable pub file_at : Told → List ℕ → Option (List ℕ)
+file_at told path = front_at told path 67108864
+
+-- the same of a file in the row's folder
 abbrev pub part_at : Told → List ℕ → List ℕ → Option (List ℕ)
-part_at told row part = front_at told (path_of row part) 67108864
+part_at told row part = file_at told (path_of row part)
 
 -- the file `report` is all of the report, or the file `report_has` has lines of it
 abbrev pub HasReport : Told → List ℕ → ExpectedReport → Type 0

@@ -2,8 +2,9 @@
 
 ghost use Rattle.std.specs.Prelude.{◌≡◌, ◌↔◌, Some, None, Ok, Err, map, IfOk, IfSome, IsTrue};
 ghost use Rattle.std.specs.String.{string_bytes};
-ghost use Rattle.jf_bytes.specs.Streams.{front_at, Rose};
+ghost use Rattle.jf_bytes.specs.Streams.{Rose};
 ghost use Rattle.worked_rows.specs.Lists.{row_names};
+ghost use Rattle.worked_rows.specs.Rows.{file_at};
 ghost use Rattle.worked_rows.specs.Verdicts.{HasPassed, AreTrueOf, name_of};
 
 use crate::calling::answer_to;
@@ -108,8 +109,9 @@ fn judge<F: Files>(alloc: Global, row: &str, files: &mut F) -> Result<Verdict, L
 }
 
 /// The text of a list.
+#[tactic(auto, unfolding(crate::specs::Rows::file_at))]
 fn fetch_list<F: Files>(alloc: Global, list: &str, files: &mut F) -> Result<String, ListError>
-    ensures found { IfOk result (λ text. IfSome (F.contents files.old) (λ told. front_at told list.now MOST ≡ Some (string_bytes text))) }
+    ensures found { IfOk result (λ text. IfSome (F.contents files.old) (λ told. file_at told list.now ≡ Some (string_bytes text))) }
     ensures stay { F.contents files.new ≡ F.contents files.old }
     ensures not_fetched { result ≡ Err ListError.NotFetched → Rose (F.faults files.old) (F.faults files.new) }
 {
@@ -130,7 +132,7 @@ pub fn judge_list<F: Files>(
     list: &str,
     files: &mut F,
 ) -> Result<Vec<Verdict>, ListError>
-    ensures all { IfOk result (λ verdicts. IfSome (F.contents files.old) (λ told. IfSome (front_at told list.now MOST) (λ text. map name_of verdicts.items ≡ row_names text))) }
+    ensures all { IfOk result (λ verdicts. IfSome (F.contents files.old) (λ told. IfSome (file_at told list.now) (λ text. map name_of verdicts.items ≡ row_names text))) }
     ensures passed { IfOk result (λ verdicts. IfSome (F.contents files.old) (λ told. AreTrueOf told verdicts.items)) }
 {
     let text = fetch_list(alloc, list, files)?;

@@ -1,8 +1,7 @@
 //! The files of a row.
 
-ghost use Rattle.std.specs.Prelude.{◌≡◌, Some, None, IfOk, IfSome, IsErr};
-ghost use Rattle.jf_bytes.specs.Streams.{contents_at, front_at};
-ghost use Rattle.worked_rows.specs.Rows.{path_of};
+ghost use Rattle.std.specs.Prelude.{◌≡◌, Some, IfOk, IfSome};
+ghost use Rattle.worked_rows.specs.Rows.{file_at, part_at};
 
 use jf_bytes::{FetchError, Files, NoMemory};
 use std::alloc::{AllocError, AllocFailed, Global};
@@ -46,9 +45,9 @@ impl From<NoMemory> for RowError {
 }
 
 /// The contents of a file by its path.
+#[tactic(auto, unfolding(crate::specs::Rows::file_at))]
 pub fn fetch_file<F: Files>(alloc: Global, path: &str, files: &mut F) -> Result<Vec<u8>, RowError>
-    ensures found { IfOk result (λ bytes. IfSome (F.contents files.old) (λ told. front_at told path.now MOST ≡ Some bytes.items)) }
-    ensures absent { IfSome (F.contents files.old) (λ told. contents_at told path.now ≡ None → IsErr result) }
+    ensures found { IfOk result (λ bytes. IfSome (F.contents files.old) (λ told. file_at told path.now ≡ Some bytes.items)) }
     ensures stay { F.contents files.new ≡ F.contents files.old }
 {
     match files.fetch(alloc, path, MOST) {
@@ -65,8 +64,7 @@ pub fn fetch_part<F: Files>(
     part: &str,
     files: &mut F,
 ) -> Result<Vec<u8>, RowError>
-    ensures found { IfOk result (λ bytes. IfSome (F.contents files.old) (λ told. front_at told (path_of row.now part.now) MOST ≡ Some bytes.items)) }
-    ensures absent { IfSome (F.contents files.old) (λ told. contents_at told (path_of row.now part.now) ≡ None → IsErr result) }
+    ensures found { IfOk result (λ bytes. IfSome (F.contents files.old) (λ told. part_at told row.now part.now ≡ Some bytes.items)) }
     ensures stay { F.contents files.new ≡ F.contents files.old }
 {
     let path = format!(in alloc; "{row}/{part}")?;
