@@ -10,10 +10,12 @@ use Rattle.jf_bytes.specs.Streams.{Told, Rose, greatest}
 use Rattle.const_pool.specs.declared.class.ClassFile.{ClassFile}
 use Rattle.class_reader.specs.Files.{IsFile}
 use Rattle.jvm_model.specs.declared.state.State.{State}
+use Rattle.jvm_model.specs.Originals.{original}
+use Rattle.jvm_model.specs.Programs.{world_of}
 use Rattle.jvm_model.specs.Run.{ending_of}
 use Rattle.jvm_model.specs.SmallClass.{main_of}
 use Rattle.jvm_model.proofs.Growth.{run-stays}
-use Rattle.jvm_machine.specs.View.{View}
+use Rattle.jvm_machine.specs.View.{View, world}
 use Rattle.jfluid_cli.specs.Roots.{IsRoot, IsChosen, IsBadRoot, LacksRoot, root_said, root_method}
 use Rattle.jfluid_cli.specs.Selections.{RunsProgram}
 use Rattle.const_pool.specs.References.{Reference}
@@ -36,7 +38,7 @@ pub ends_as : (v : View) (budget : ℕ) (old new : Option (List ℕ)) → IsCarr
 ends_as v budget old new carried =
     elim carried.stop [
       | inl (at, on) ↦ ap (ending_at v) at
-      | inr ended ↦ ap (λ (s : State). s.ending) (sym (run-stays v.class v.main v.input v.clock budget carried.within ended.ended))
+      | inr ended ↦ ap (λ (s : State). s.ending) (sym (run-stays (world v) (original (world v).program) v.clock budget carried.within ended.ended))
     ]
 
 -- ---- what is accepted is no other program
@@ -131,9 +133,9 @@ accepted_is told words c main a command bytes class number e as_told program onl
     let found : main_of class command.main ≡ Some main = ap (λ (k : ClassFile). main_of k command.main) (sym class_is) ∙ (ap (λ (k : Command). main_of c k.main) same ∙ a.program.main_is) in
     (class_is, number_is main number (sym found ∙ program.main_is))
 
-ending_of_same : (c d : ClassFile) (m n : ℕ) (x y : List ℕ) (budget : ℕ) → c ≡ d → m ≡ n → x ≡ y → ending_of c m x budget ≡ ending_of d n y budget
+ending_of_same : (c d : ClassFile) (m n : ℕ) (x y : List ℕ) (budget : ℕ) → c ≡ d → m ≡ n → x ≡ y → ending_of (world_of c m x) budget ≡ ending_of (world_of d n y) budget
 ending_of_same c d m n x y budget e f h =
-    ap (λ (k : ClassFile). ending_of k m x budget) e ∙ (ap (λ (k : ℕ). ending_of d k x budget) f ∙ ap (λ (i : List ℕ). ending_of d n i budget) h)
+    ap (λ (k : ClassFile). ending_of (world_of k m x) budget) e ∙ (ap (λ (k : ℕ). ending_of (world_of d k x) budget) f ∙ ap (λ (i : List ℕ). ending_of (world_of d n i) budget) h)
 
 abbrev failed_with : Refusal → Result ℕ Refusal
 failed_with e = Err e
@@ -147,10 +149,10 @@ pub run_answers : (A B : Kept → Type 0) (C D : Kept → Type 0) (r : Result �
     → IfSome kept (λ k. SameProgram from k.vm × A k × B k) → IfOk r (λ s. IfSome kept (λ k. IsCarriedOut k.vm budget old new))
     → IfOk r (λ s. s ≢ 8 → IfSome kept (λ k. (s ≡ status_of_ending (ending_at k.vm k.vm.clock)) × C k × D k))
     → (r ≡ Err OutFailed → Rose before after) → IfErr r (λ e. (e ≡ OutFailed) ⊎ (e ≡ NoMemory))
-    → MatchResult r (λ s. s ≢ 8 → s ≡ status_of_ending (ending_of c m [] budget)) (λ e. e ≡ NoMemory)
+    → MatchResult r (λ s. s ≢ 8 → s ≡ status_of_ending (ending_of (world_of c m []) budget)) (λ e. e ≡ NoMemory)
 run_answers A B C D (Ok s) None c d m n budget from before after old new accepted is calm some same carried whole stopped errors = absurd (not_both some)
 run_answers A B C D (Ok s) (Some k) c d m n budget from before after old new accepted is calm some same carried whole stopped errors = λ not_eight.
-    let seen : ending_at k.vm budget ≡ ending_of c m [] budget =
+    let seen : ending_at k.vm budget ≡ ending_of (world_of c m []) budget =
     ending_of_same k.vm.class c k.vm.main m k.vm.input [] budget (same.0.class ∙ (is.class_is ∙ sym accepted.0)) (same.0.main ∙ (is.main_is ∙ sym accepted.1)) (same.0.input ∙ is.input_is) in
     (whole not_eight).0 ∙ ap status_of_ending (ends_as k.vm budget old new carried ∙ seen)
 run_answers A B C D (Err e) kept c d m n budget from before after old new accepted is calm some same carried whole stopped errors =

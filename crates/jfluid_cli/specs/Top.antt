@@ -10,7 +10,7 @@ use Rattle.class_reader.specs.Files.{IsFile, IsFirstFault, most_bytes}
 use Rattle.jvm_model.specs.declared.ending.Ending.{Ending}
 use Rattle.jvm_model.specs.declared.ending.Ending.TheVariants.{Returned, Exited, Uncaught, Unverifiable}
 use Rattle.jvm_model.specs.SmallClass.{IsSmallClass, main_of}
-use Rattle.jvm_machine.specs.View.{View}
+use Rattle.jvm_machine.specs.View.{View, world}
 use Rattle.jfluid_cli.specs.declared.refusal.Refusal.{Refusal}
 use Rattle.jfluid_cli.specs.declared.refusal.Refusal.TheVariants.{Words, BadRoot, NotRead, NotBuilt, NoMain, NoSuchRoot, NotFetched, NoMemory}
 use Rattle.small_program.specs.PlainFiles.{IsPlainFile}
@@ -106,7 +106,7 @@ IsFetchRefusal refusal = (refusal ≡ NotFetched) ⊎ (refusal ≡ NoMemory)
 
 -- what is reported of a machine's run, with the tree that is projected on the activations of the root
 abbrev pub report_of : Option ℕ → View → List ℕ
-report_of root v = report_text v.class (ending_at v v.clock) v.clock (swaps_for root) false (projection (acts_for root) v.class v.main v.input v.clock)
+report_of root v = report_text v.class (ending_at v v.clock) v.clock (swaps_for root) false (projection (acts_for root) (world v) v.clock)
 
 -- the root that the words name in a class
 abbrev pub root_of : List (List ℕ) → ClassFile → Option ℕ

@@ -39,3 +39,5 @@ pub mod PlainRun
 pub mod TracesPlain
 pub mod QuietChanges
 pub mod QuietRun
+pub mod QuietEvents
+pub mod EventClocks
