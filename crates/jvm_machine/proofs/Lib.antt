@@ -3,3 +3,5 @@ pub mod FitsLemmas
 pub mod Tabled
 pub mod Entries
 pub mod Images
+pub mod Callees
+pub mod Depths

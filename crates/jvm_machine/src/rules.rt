@@ -1,6 +1,7 @@
 //! What each instruction asks for (JVM Specification 6.5), as the rules of jvm_model say it.
 
 ghost use Rattle.std.specs.Prelude.{◌≡◌, ◌++◌, Some, slice_get, OnOk, IfOk};
+ghost use Rattle.heap_objects.specs.declared.Value.TheVariants.{Int};
 ghost use Rattle.const_pool.specs.declared.class.ClassFile.{ClassFile};
 ghost use Rattle.const_pool.specs.declared.descriptor.Kind.TheVariants as kind;
 ghost use Rattle.jvm_model.specs.Rules.{line_text};
@@ -22,13 +23,21 @@ const OUT: u32 = 3;
 /// System.err's object, which is a PrintStream too.
 const ERR: u32 = 4;
 
-/// A constant, or System.out.
+/// Puts a value on top.
 fn push(frame: &mut Frame, value: Value) -> Result<Flow, NoMemory>
     ensures outcome { (c : ClassFile) → IfOk result (λ flow. outcome_of c flow frame.new ≡ pushes (Some value) frame.old.locals frame.old.operands) }
     ensures stays { stands frame.new ≡ stands frame.old }
 {
     frame.operands.push(value)?;
     Ok(Flow::GoesOn)
+}
+
+/// A constant.
+fn push_int(frame: &mut Frame, n: i32) -> Result<Flow, NoMemory>
+    ensures outcome { (c : ClassFile) → IfOk result (λ flow. outcome_of c flow frame.new ≡ pushes (Some (Int n)) frame.old.locals frame.old.operands) }
+    ensures stays { stands frame.new ≡ stands frame.old }
+{
+    push(frame, Value::Int(n))
 }
 
 /// iload: the local must hold an int.
@@ -114,7 +123,7 @@ pub fn execute(
 {
     match operation {
         Resolved::Nop => Ok(Flow::GoesOn),
-        Resolved::Constant(n) => push(frame, Value::Int(n)),
+        Resolved::Constant(n) => push_int(frame, n),
         Resolved::Iload(slot) => load_int(frame, slot),
         Resolved::Binary(op) => do_binary(frame, op),
         Resolved::Ireturn => Ok(return_int(frame)),
