@@ -1,8 +1,6 @@
 -- The depth of operands, counted down from the top; and locals, filled argument by argument.
-use Rattle.std.proofs.Common.{drop-cons, ◌≡◌, ℕ, zero, suc, ◌+◌, ◌-◌, ◌<◌, ◌≤◌, Bool, true, false, List, [], ◌∷◌, ◌++◌, length, drop, get_or, Option, Some, None, refl, sym, ap, ◌∙◌, ⊎_elim, append_assoc, add-one, arith}
+use Rattle.std.proofs.Common.{drop-cons, ◌≡◌, ℕ, zero, suc, ◌+◌, ◌-◌, ◌<◌, ◌≤◌, Bool, true, false, List, [], ◌∷◌, ◌++◌, length, drop, get_or, Option, Some, None, refl, sym, ap, ◌∙◌, append_assoc, add-one, arith}
 use Rattle.std.specs.Prelude.{nat_le, slice_get}
-use Rattle.std.proofs.lemmas.Bool.{cases_lt}
-use Rattle.std.proofs.lemmas.List.{drop_all}
 use Rattle.std.proofs.lemmas.Option.{same_Some, none-some}
 use Rattle.heap_objects.specs.declared.Value.{Value}
 use Rattle.heap_objects.specs.declared.Value.TheVariants.{Int, Long, Ref, Addr}
@@ -28,10 +26,6 @@ pub depth-over : (o : Operands) (i left : ℕ) (v : Value) → slice_get o i ≡
 depth-over o i left v e over = rw (drop-at o i v e) (no_room (depth (drop (i + 1) o)) (width v) left over) where
   no_room : (d w left : ℕ) → left < w → nat_le (w + d) left ≡ false
   no_room d w left over = grind arith
-
--- none is left
-pub depth-end : (o : Operands) (i left : ℕ) → length o ≤ i → nat_le (depth (drop i o)) left ≡ true
-depth-end o i left le = ap (λ xs. nat_le (depth xs) left) (drop_all i o le)
 
 -- ---- locals
 

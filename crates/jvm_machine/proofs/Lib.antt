@@ -5,3 +5,4 @@ pub mod Entries
 pub mod Images
 pub mod Callees
 pub mod Depths
+pub mod Ends
