@@ -8,7 +8,7 @@ use Rattle.std.proofs.lemmas.Option.{same_Some, none-some}
 use Rattle.heap_objects.specs.declared.datum.Datum.{Datum}
 use Rattle.heap_objects.specs.declared.datum.Datum.TheVariants as datum
 use Rattle.heap_objects.specs.declared.Value.{Value}
-use Rattle.heap_objects.specs.declared.Value.TheVariants.{Int, Long, Ref, Addr}
+use Rattle.heap_objects.specs.declared.Value.TheVariants.{Int, Long, Ref}
 use Rattle.const_pool.specs.declared.descriptor.Kind.{Kind}
 use Rattle.const_pool.specs.declared.descriptor.Kind.TheVariants as kind
 use Rattle.jvm_model.specs.declared.state.Frame.{Frame}
@@ -19,7 +19,7 @@ use Rattle.jvm_model.specs.Methods.{method_params}
 use Rattle.jvm_model.specs.Programs.{max_locals_of}
 use Rattle.jvm_model.specs.Values.{as_value, datum_of, data_of, spread}
 use Rattle.jvm_model.specs.Rules.{invokes_with, invokes as invokes_outcome}
-use Rattle.jvm_model.specs.Applies.{still, breaks, with_frame, new_frame, invokes, applies}
+use Rattle.jvm_model.specs.Applies.{still, breaks, with_frame, applies}
 use Rattle.jvm_machine.specs.Installed.{Installed, world_in, tabled}
 use Rattle.jvm_machine.specs.Arguments.{spread_values, frame_of_values, fitting_frame, topmost, callee_frame}
 

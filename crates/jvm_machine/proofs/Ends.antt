@@ -1,6 +1,6 @@
 -- Where control ends: a line of a version has no following place only at a return, and so an instruction that goes on has one.
 use Rattle.std.proofs.Common.{◌≡◌, ℕ, Bool, true, false, List, [], ◌∷◌, ◌++◌, cond, Option, Some, None, refl, sym, ap, subst, ◌∙◌}
-use Rattle.std.specs.Prelude.{is_some, IfSome, slice_get, ◌||◌, if◌then◌else◌}
+use Rattle.std.specs.Prelude.{is_some, IfSome, ◌||◌, if◌then◌else◌}
 use Rattle.std.specs.Option.{option_and_then, option_map}
 use Rattle.heap_objects.specs.declared.Value.TheVariants.{Int, Long, Ref, Addr}
 use Rattle.const_pool.specs.declared.class.ClassFile.{ClassFile}
@@ -13,13 +13,13 @@ use Rattle.jvm_model.specs.declared.operation.Resolved.{Resolved}
 use Rattle.jvm_model.specs.declared.operation.Resolved.TheVariants as resolved
 use Rattle.jvm_model.specs.declared.state.Frame.{Frame}
 use Rattle.jvm_model.specs.declared.state.State.{State}
-use Rattle.jvm_model.specs.Data.{Locals, Operands, Operation, Next, Outcome, GoesOn, Turn}
+use Rattle.jvm_model.specs.Data.{Locals, Operands, Operation, Outcome, GoesOn}
 use Rattle.jvm_model.specs.Agreement.{is_return_operation, behind_leave}
 use Rattle.jvm_model.specs.Methods.{method_code}
-use Rattle.jvm_model.specs.Lines.{operation_of, next_of, targets_of, instruction_of, code_instruction}
+use Rattle.jvm_model.specs.Lines.{operation_of, next_of, targets_of, instruction_of}
 use Rattle.jvm_model.specs.Resolved.{resolved_in, resolved_of, line_of}
 use Rattle.jvm_model.specs.StandsFor.{homes_at, origin_by, code_line, placed_line, version_line}
-use Rattle.jvm_model.specs.Applies.{still, breaks, lands, goes, applies}
+use Rattle.jvm_model.specs.Applies.{still, lands, goes, applies}
 use Rattle.jvm_model.proofs.Opcodes.{ends-resolved}
 use Rattle.jvm_machine.specs.declared.flow.Flow.{Flow}
 use Rattle.jvm_machine.specs.declared.flow.Flow.TheVariants as flow

@@ -11,7 +11,6 @@ use Rattle.const_pool.specs.declared.class.CodeAttribute.{CodeAttribute}
 use Rattle.code_model.specs.declared.laying.Homes.{Homes}
 use Rattle.jvm_model.specs.declared.operation.Line.{Line}
 use Rattle.jvm_model.specs.Methods.{code_of, member_shape}
-use Rattle.jvm_model.specs.Programs.{max_stack_of, max_locals_of, world_of}
 use Rattle.jvm_model.specs.SmallClass.{IsSmallClass}
 use Rattle.jvm_model.specs.StandsFor.{homes_at, origin_by, code_line, placed_line, probe_in}
 use Rattle.jvm_model.proofs.Numbers.{max_stack-alone, max_locals-alone}

@@ -1,14 +1,11 @@
 //! Invocation (JVM Specification 2.6, 2.6.1, 2.6.4).
 
-ghost use Rattle.std.specs.Prelude.{◌≡◌, ◌≤◌, ◌-◌, ◌++◌, [], ◌∷◌, length, replicate, None, Some, is_some, OnOk, IfOk, IfSome};
+ghost use Rattle.std.specs.Prelude.{◌≡◌, ◌≤◌, ◌-◌, ◌++◌, [], ◌∷◌, length, replicate, None, Some, is_some, OnOk, IfOk};
 ghost use Rattle.std.specs.Option.{option_map_or};
-ghost use Rattle.heap_objects.specs.declared.datum.Datum.{Datum};
-ghost use Rattle.jvm_model.specs.Data.{Began};
 ghost use Rattle.jvm_model.specs.Methods.{method_params};
-ghost use Rattle.jvm_model.specs.Values.{datum_of, data_of, spread, locals_with};
-ghost use Rattle.jvm_model.specs.Programs.{max_locals_of};
+ghost use Rattle.jvm_model.specs.Values.{datum_of, data_of, spread};
 ghost use Rattle.jvm_model.specs.Rules.{invokes_with};
-ghost use Rattle.jvm_model.specs.Applies.{new_frame, with_frame, applies};
+ghost use Rattle.jvm_model.specs.Applies.{with_frame, applies};
 ghost use Rattle.jvm_machine.specs.Attempts.{has_begun};
 ghost use Rattle.jvm_machine.specs.Installed.{world_in, placed, tabled};
 ghost use Rattle.jvm_machine.specs.Arguments.{spread_values, fitting_frame, callee_frame, without_arguments};

@@ -1,9 +1,8 @@
 //! A class with its methods and their versions prepared: what stands at each place is looked up once, and found by its
 //! place from then on.
 
-ghost use Rattle.std.specs.Prelude.{◌≡◌, length, map, None, IfOk, OnOk, OnErr};
+ghost use Rattle.std.specs.Prelude.{◌≡◌, None, IfOk, OnOk, OnErr};
 ghost use Rattle.std.specs.Option.{option_copied};
-ghost use Rattle.jvm_model.specs.declared.event.Mark.TheVariants.{Off};
 ghost use Rattle.jvm_model.specs.Agreement.{first_place, is_entry_kind, is_leave, is_leave_kind};
 ghost use Rattle.jvm_model.specs.Programs.{max_stack_of, max_locals_of};
 ghost use Rattle.jvm_model.specs.SmallClass.{IsSmallClass};

@@ -1,6 +1,4 @@
-use Rattle.std.proofs.Common.{◌≡◌, sym, ◌∙◌, ap, arith}
-use Rattle.std.specs.Prelude.{nat_le, slice_get, Some, ◌-◌, ◌+◌, drop}
-use Rattle.jvm_model.specs.Values.{width, depth}
+use Rattle.std.proofs.Common.{sym, ◌∙◌, arith}
 use Rattle.jvm_machine.proofs.Depths.{depth-below, depth-over}
 use Rattle.jvm_machine.proofs.applying.is_within.Goals as goal
 
