@@ -20,7 +20,7 @@ use Rattle.jvm_model.specs.Programs.{max_locals_of}
 use Rattle.jvm_model.specs.Values.{as_value, datum_of, data_of, spread}
 use Rattle.jvm_model.specs.Rules.{invokes_with, invokes as invokes_outcome}
 use Rattle.jvm_model.specs.Applies.{still, breaks, with_frame, applies}
-use Rattle.jvm_machine.specs.Installed.{Installed, world_in, tabled}
+use Rattle.jvm_model.specs.Installed.{Installed, world_in, tabled}
 use Rattle.jvm_machine.specs.Arguments.{spread_values, frame_of_values, fitting_frame, topmost, callee_frame}
 
 -- ---- values of their parameters' kinds

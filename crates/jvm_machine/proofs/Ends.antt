@@ -23,9 +23,9 @@ use Rattle.jvm_model.specs.Applies.{still, lands, goes, applies}
 use Rattle.jvm_model.proofs.Opcodes.{ends-resolved}
 use Rattle.jvm_machine.specs.declared.flow.Flow.{Flow}
 use Rattle.jvm_machine.specs.declared.flow.Flow.TheVariants as flow
-use Rattle.jvm_machine.specs.Attempts.{asks, writes, does_line}
+use Rattle.jvm_model.specs.Attempts.{asks, writes, does_line}
 use Rattle.jvm_machine.specs.Flows.{outcome_of, Standing, stands, IsKept}
-use Rattle.jvm_machine.specs.Installed.{Installed, world_in, line_in, placed, tabled}
+use Rattle.jvm_model.specs.Installed.{Installed, world_in, line_in, placed, tabled}
 use Rattle.jvm_machine.specs.TableEntries.{resolved_line}
 
 -- ---- lines

@@ -6,3 +6,6 @@ pub mod Images
 pub mod Callees
 pub mod Depths
 pub mod Ends
+pub mod DescriptorTexts
+pub mod Steps
+pub mod Machines

@@ -10,7 +10,7 @@ use Rattle.jvm_model.specs.Agreement.{first_place}
 use Rattle.jvm_model.specs.Methods.{method_params}
 use Rattle.jvm_model.specs.Programs.{max_locals_of}
 use Rattle.jvm_model.specs.Values.{data_of}
-use Rattle.jvm_machine.specs.Installed.{Installed, world_in}
+use Rattle.jvm_model.specs.Installed.{Installed, world_in}
 
 -- a long takes two locals
 abbrev pub spread_values : List Value → Locals

@@ -1,11 +1,9 @@
-pub mod Installed
 pub mod Prepared
 pub mod Operands
 pub mod Shapes
 pub mod TableEntries
 pub mod Probes
 pub mod Arguments
-pub mod Attempts
 pub mod Flows
 pub mod Moves
 pub mod View

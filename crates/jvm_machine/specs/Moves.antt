@@ -8,8 +8,8 @@ use Rattle.jvm_model.specs.declared.state.Entry.TheVariants.{Active, Initializin
 use Rattle.jvm_model.specs.Data.{Turn}
 use Rattle.jvm_model.specs.Agreement.{is_entry_kind, is_leave_kind}
 use Rattle.jvm_machine.specs.declared.probes.Probe.{Probe}
-use Rattle.jvm_machine.specs.Attempts.{attempt_placed, start_placed, has_begun}
-use Rattle.jvm_machine.specs.Installed.{Installed}
+use Rattle.jvm_model.specs.Attempts.{attempt_placed, start_placed, has_begun}
+use Rattle.jvm_model.specs.Installed.{Installed}
 use Rattle.jvm_machine.specs.Probes.{placed_probe_at, probe_of_kind}
 
 -- ---- the probes about the current frame

@@ -8,7 +8,7 @@ use Rattle.jvm_model.specs.Agreement.{Agrees}
 use Rattle.jvm_model.specs.Moved.{moved}
 use Rattle.jvm_model.specs.Run.{run}
 use Rattle.jvm_model.specs.StandsFor.{IsBuilt, by_homes}
-use Rattle.jvm_machine.specs.Installed.{Installed}
+use Rattle.jvm_model.specs.Installed.{Installed}
 use Rattle.jvm_machine.specs.Moves.{leave_passed, rest_of}
 use Rattle.jvm_machine.specs.View.{View, Place, world, state_of, is_resting, events_now}
 

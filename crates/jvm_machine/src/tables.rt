@@ -8,7 +8,7 @@ ghost use Rattle.jvm_model.specs.Programs.{max_stack_of, max_locals_of};
 ghost use Rattle.jvm_model.specs.SmallClass.{IsSmallClass};
 ghost use Rattle.jvm_model.specs.StandsFor.{probe_at, version_line};
 ghost use Rattle.jvm_model.specs.Methods.{method_params};
-ghost use Rattle.jvm_machine.specs.Installed.{all_originals, world_in, line_in};
+ghost use Rattle.jvm_model.specs.Installed.{all_originals, world_in, line_in};
 ghost use Rattle.jvm_machine.specs.Probes.{placed_probe_at};
 ghost use Rattle.jvm_machine.specs.TableEntries.{FitsTables, FitsVersions};
 
@@ -77,7 +77,7 @@ pub struct Tables {
 
 impl Model for Tables {
     ghost use Rattle.std.specs.Prelude.{unwrap_or};
-    ghost use Rattle.jvm_machine.specs.Installed.{Installed};
+    ghost use Rattle.jvm_model.specs.Installed.{Installed};
     ghost use Rattle.jvm_machine.specs.Prepared.{ArePrepared, AreVersions};
 
     ghost Value = { Installed };

@@ -147,7 +147,7 @@ method_from-kept pool more wanted n count number [] [] [] (h ∷ homes) has are 
 
 -- ---- a small class
 
-each-nth : {A : Type 0} (P : A → Type 0) (xs : List A) → ((k : ℕ) (x : A) → slice_get xs k ≡ Some x → P x) → AllByRecursion P xs
+pub each-nth : {A : Type 0} (P : A → Type 0) (xs : List A) → ((k : ℕ) (x : A) → slice_get xs k ≡ Some x → P x) → AllByRecursion P xs
 each-nth P [] all = tt
 each-nth P (x ∷ xs) all = (all 0 x refl, each-nth P xs (λ k y e. all (suc k) y e))
 

@@ -32,7 +32,7 @@ module _ (norm : ℕ → ℕ → ℕ) where
   placed-state : (s : State) → IsPlaced norm s → moved (self norm) s ≡ s
   placed-state s e = ap (λ stack. record s { stack = stack }) e
 
-  placed-places : (stack : List Entry) → moved_stack (self norm) stack ≡ stack → ArePlaces norm stack
+  pub placed-places : (stack : List Entry) → moved_stack (self norm) stack ≡ stack → ArePlaces norm stack
   placed-places [] e = tt
   placed-places (Active f ∷ below) e = (ap (top_place 0) e, placed-places below (ap tail_of e))
   placed-places (Initializing c part ∷ below) e = placed-places below (ap tail_of e)

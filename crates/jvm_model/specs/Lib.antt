@@ -29,3 +29,6 @@ pub mod EventLists
 pub mod Places
 pub mod StandsFor
 pub mod Agreement
+pub mod Installed
+pub mod Attempts
+pub mod Quiet

@@ -1,7 +1,7 @@
 use Rattle.std.proofs.Common.{sym, ap, ◌∙◌}
 use Rattle.jvm_model.specs.Data.{Turn}
-use Rattle.jvm_machine.specs.Attempts.{has_begun}
-use Rattle.jvm_machine.specs.Installed.{placed}
+use Rattle.jvm_model.specs.Attempts.{has_begun}
+use Rattle.jvm_model.specs.Installed.{placed}
 use Rattle.jvm_machine.proofs.Callees.{invokes-none, invokes-some, callee-enough}
 use Rattle.jvm_machine.proofs.invoking.invoke.Goals as goal
 
