@@ -10,11 +10,12 @@ use Rattle.const_pool.specs.declared.class.Member.{Member}
 use Rattle.const_pool.specs.declared.class.CodeAttribute.{CodeAttribute}
 use Rattle.code_model.specs.declared.laying.Homes.{Homes}
 use Rattle.jvm_model.specs.declared.operation.Line.{Line}
-use Rattle.jvm_model.specs.Lines.{code_line}
 use Rattle.jvm_model.specs.Methods.{code_of, member_shape}
-use Rattle.jvm_model.specs.StandsFor.{homes_at, origin_by, placed_line, probe_in}
+use Rattle.jvm_model.specs.SmallClass.{IsSmallClass}
+use Rattle.jvm_model.specs.StandsFor.{homes_at, origin_by, code_line, placed_line, probe_in}
+use Rattle.jvm_model.proofs.Numbers.{max_stack-alone, max_locals-alone}
 use Rattle.jvm_machine.specs.declared.tables.Method.{Method}
-use Rattle.jvm_machine.specs.declared.tables.Version.{Version}
+use Rattle.jvm_machine.specs.declared.tables.PreparedVersion.{PreparedVersion}
 use Rattle.jvm_machine.specs.Prepared.{ArePrepared, AreVersions, line_in, probe_in as version_probe}
 use Rattle.jvm_machine.specs.Probes.{placed_probe}
 use Rattle.jvm_machine.specs.TableEntries.{entry_of, lines_of, placed_probe_in, probes_of, version_of, versions_of}
@@ -34,13 +35,13 @@ max_locals-member : (c : ClassFile) (m : Option Member) → option_map_or (λ en
 max_locals-member c None = refl
 max_locals-member c (Some m) = refl
 
-pub ArePrepared-entries : (c : ClassFile) (methods : List Method) → methods ≡ map (entry_of c) c.methods → ArePrepared c methods
-ArePrepared-entries c methods is =
+pub ArePrepared-entries : (c : ClassFile) (methods : List Method) → IsSmallClass c → methods ≡ map (entry_of c) c.methods → ArePrepared c methods
+ArePrepared-entries c methods small is =
     let entry : (k : ℕ) → slice_get methods k ≡ option_map (entry_of c) (slice_get c.methods k) = λ k. ap (λ ms. slice_get ms k) is ∙ slice_get-map (entry_of c) c.methods k in
     record {
       params = λ k. ap (option_and_then (λ (m : Method). m.params)) (entry k) ∙ params-member c (slice_get c.methods k);
-      max_stack = λ k. ap (λ (o : Option Method). option_map_or (λ m. m.max_stack) o 0) (entry k) ∙ max_stack-member c (slice_get c.methods k);
-      max_locals = λ k. ap (λ (o : Option Method). option_map_or (λ m. m.max_locals) o 0) (entry k) ∙ max_locals-member c (slice_get c.methods k);
+      max_stack = λ k. ap (λ (o : Option Method). option_map_or (λ m. m.max_stack) o 0) (entry k) ∙ max_stack-member c (slice_get c.methods k) ∙ sym (max_stack-alone c 0 [] k small);
+      max_locals = λ k. ap (λ (o : Option Method). option_map_or (λ m. m.max_locals) o 0) (entry k) ∙ max_locals-member c (slice_get c.methods k) ∙ sym (max_locals-alone c 0 [] k small);
     }
 
 -- ---- one version
@@ -98,7 +99,7 @@ version-at image (h ∷ homes) [] k each = refl
 version-at image (h ∷ homes) (m ∷ methods) zero each = refl
 version-at image (h ∷ homes) (m ∷ methods) (suc k) each = version-at image homes methods k (omega arith)
 
-pub AreVersions-entries : (image : ClassFile) (homes : List (Option Homes)) (versions : List Version) → length homes ≡ length image.methods → versions ≡ versions_of image homes image.methods
+pub AreVersions-entries : (image : ClassFile) (homes : List (Option Homes)) (versions : List PreparedVersion) → length homes ≡ length image.methods → versions ≡ versions_of image homes image.methods
     → AreVersions image homes versions
 AreVersions-entries image homes versions each is =
     let entry : (k : ℕ) → slice_get versions k ≡ option_map (version_of image (homes_at homes k)) (slice_get image.methods k) =
@@ -109,12 +110,12 @@ AreVersions-entries image homes versions each is =
     }
 
 -- one more version
-pub versions_of-more : (image : ClassFile) (homes : List (Option Homes)) (methods : List Member) (i : ℕ) (h : Option Homes) (m : Member) (versions whole : List Version)
+pub versions_of-more : (image : ClassFile) (homes : List (Option Homes)) (methods : List Member) (i : ℕ) (h : Option Homes) (m : Member) (versions whole : List PreparedVersion)
     → i < length homes → i < length methods → h ≡ get_or homes i h → m ≡ get_or methods i m
     → versions ++ versions_of image (drop i homes) (drop i methods) ≡ whole
     → (versions ++ version_of image h m ∷ []) ++ versions_of image (drop (i + 1) homes) (drop (i + 1) methods) ≡ whole
 versions_of-more image homes methods i h m versions whole lth ltm ish ism so_far =
-    let rest : List Version = versions_of image (drop (i + 1) homes) (drop (i + 1) methods) in
+    let rest : List PreparedVersion = versions_of image (drop (i + 1) homes) (drop (i + 1) methods) in
     let one : i + 1 ≡ suc i = add-one i in
     let split : versions_of image (drop i homes) (drop i methods) ≡ version_of image h m ∷ rest =
     ap (λ hs. versions_of image hs (drop i methods)) (drop-cons homes i h lth)

@@ -1,6 +1,6 @@
 -- The frame that a method begins with, by the values on top of its caller.
-use Rattle.std.specs.Prelude.{ℕ, ◌-◌, List, [], ◌∷◌, ◌++◌, length, reverse, take, replicate, Option, Some, None, is_some, nat_le, if◌then◌else◌}
-use Rattle.std.specs.Option.{option_and_then}
+use Rattle.std.specs.Prelude.{ℕ, ◌-◌, List, [], ◌∷◌, ◌++◌, length, drop, reverse, take, replicate, Option, Some, None, is_some, nat_le, if◌then◌else◌}
+use Rattle.std.specs.Option.{option_and_then, option_map_or}
 use Rattle.heap_objects.specs.declared.Value.{Value}
 use Rattle.heap_objects.specs.declared.Value.TheVariants.{Int, Long, Ref, Addr}
 use Rattle.const_pool.specs.declared.descriptor.Kind.{Kind}
@@ -38,3 +38,7 @@ topmost params o = let values = reverse (take (length params) o) in if is_some (
 
 abbrev pub callee_frame : Installed → ℕ → Operands → Option Frame
 callee_frame t method o = option_and_then (λ params. option_and_then (fitting_frame t method) (topmost params o)) (method_params t.class method)
+
+-- the caller stays at its instruction without the arguments
+abbrev pub without_arguments : Installed → ℕ → Frame → Frame
+without_arguments t method f = record f { operands = drop (option_map_or length (method_params t.class method) 0) f.operands }

@@ -1,5 +1,5 @@
 -- What the machine's code answers for an outcome: the locals and operands are those that the frame has then.
-use Rattle.std.specs.Prelude.{ℕ}
+use Rattle.std.specs.Prelude.{◌≡◌, ℕ}
 use Rattle.const_pool.specs.declared.class.ClassFile.{ClassFile}
 use Rattle.jvm_model.specs.declared.state.Frame.{Frame}
 use Rattle.jvm_model.specs.Data.{Next, Outcome, GoesOn, Returns, Breaks}
@@ -22,3 +22,10 @@ pub record Standing : Type 0 where
 
 abbrev pub stands : Frame → Standing
 stands f = record { method = f.method; version = f.version; place = f.place }
+
+-- An instruction leaves its frame where it stands; and unless the frame goes on, it leaves it as it is.
+abbrev pub IsKept : Flow → Frame → Frame → Type 0
+IsKept flow.GoesOn old new = stands new ≡ stands old
+IsKept (flow.Invokes method) old new = new ≡ old
+IsKept (flow.Returns d) old new = new ≡ old
+IsKept (flow.Breaks ends) old new = new ≡ old

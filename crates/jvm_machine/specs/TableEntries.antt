@@ -1,5 +1,5 @@
 -- What the tables hold of a method and of a version, and of which classes they can be made.
-use Rattle.std.specs.Prelude.{◌≡◌, ℕ, ◌<◌, ◌^◌, List, [], ◌∷◌, length, map, Option, IfSome, All}
+use Rattle.std.specs.Prelude.{◌≡◌, ℕ, ◌<◌, ◌^◌, List, [], ◌∷◌, length, map, Option, Some, None, IfSome, All, if◌then◌else◌}
 use Rattle.std.specs.Option.{option_and_then, option_map, option_map_or}
 use Rattle.std.specs.List.{range_with_len}
 use Rattle.const_pool.specs.declared.class.ClassFile.{ClassFile}
@@ -7,13 +7,15 @@ use Rattle.const_pool.specs.declared.class.Member.{Member}
 use Rattle.const_pool.specs.declared.descriptor.Kind.{Kind}
 use Rattle.code_model.specs.declared.instr.Instr.{Instr}
 use Rattle.code_model.specs.declared.laying.Homes.{Homes}
-use Rattle.code_model.specs.Instructions.{instruction_at}
+use Rattle.code_model.specs.Instructions.{instruction_at, end_of}
 use Rattle.jvm_machine.specs.declared.probes.Probe.{Probe}
 use Rattle.jvm_machine.specs.declared.tables.Method.{Method}
 use Rattle.jvm_machine.specs.declared.tables.PreparedVersion.{PreparedVersion}
 use Rattle.jvm_machine.specs.Probes.{placed_probe}
 use Rattle.jvm_model.specs.declared.event.EventKind.{EventKind}
 use Rattle.jvm_model.specs.declared.operation.Line.{Line}
+use Rattle.jvm_model.specs.declared.operation.Resolved.{Resolved}
+use Rattle.jvm_model.specs.Agreement.{is_return_operation}
 use Rattle.jvm_model.specs.Methods.{code_of, member_shape}
 use Rattle.jvm_model.specs.StandsFor.{origin_by, code_line, placed_line, invoked_probe, pushed_number, probe_in}
 
@@ -35,6 +37,10 @@ entry_of c m = record {
 -- the original offset at each place of a code of this length
 abbrev pub origins_of : Option Homes → ℕ → List (Option ℕ)
 origins_of homes len = map (origin_by homes) (range_with_len 0 len)
+
+-- the line that an instruction is, by what it does: control ends behind a return alone
+abbrev pub resolved_line : Instr → Resolved → Line
+resolved_line i operation = record { operation = operation; own = i.at; next = if is_return_operation operation then None else Some (end_of i) }
 
 -- the line at a place, from its original offset
 abbrev pub line_with : ClassFile → List ℕ → ℕ → Option ℕ → Option Line

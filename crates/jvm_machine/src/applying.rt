@@ -1,7 +1,8 @@
 //! What becomes of a state by what an instruction asked for: the state is without the current frame, which is given.
 
 ghost use Rattle.std.specs.Prelude.{◌≡◌, nat_le, OnOk, IfOk};
-ghost use Rattle.jvm_model.specs.Values.{as_value, width, depth};
+ghost use Rattle.std.specs.Option.{option_map};
+ghost use Rattle.jvm_model.specs.Values.{as_value, width, depth, with_value};
 ghost use Rattle.jvm_model.specs.Applies.{with_frame, breaks, lands, goes, resumes, gives_back, breaks_or_ends, applies};
 ghost use Rattle.jvm_model.specs.Attempts.{has_begun};
 ghost use Rattle.jvm_machine.specs.Flows.{outcome_of};
@@ -98,6 +99,19 @@ fn value_of(datum: Datum) -> Value
     }
 }
 
+/// Puts the result of a method on top, where it has one.
+fn put_result(caller: &mut Frame, datum: Option<Datum>) -> Result<(), NoMemory>
+    ensures { OnOk result (caller.new ≡ record caller.old { operands = with_value (option_map as_value datum) caller.old.operands }) }
+{
+    match datum {
+        None => Ok(()),
+        Some(datum) => {
+            caller.operands.push(value_of(datum))?;
+            Ok(())
+        }
+    }
+}
+
 /// The caller goes on behind its instruction, with the result on top.
 fn resume(
     tables: &Tables,
@@ -110,10 +124,12 @@ fn resume(
     let Some(line) = tables.line(caller.version, caller.place) else {
         return break_off(state, caller, 0);
     };
-    if let Some(datum) = datum {
-        caller.operands.push(value_of(datum))?;
-    }
-    go(tables, state, caller, line.own, line.next)
+    let Some(next) = line.next else {
+        return break_off(state, caller, line.own);
+    };
+    put_result(&mut caller, datum)?;
+    caller.place = next;
+    land(tables, state, caller, line.own)
 }
 
 /// The current frame is off: what is below it goes on.

@@ -1,16 +1,14 @@
 //! Invocation (JVM Specification 2.6, 2.6.1, 2.6.4).
 
-ghost use Rattle.std.specs.Prelude.{◌≡◌, ◌≤◌, ◌-◌, ◌++◌, length, replicate, None, Some, is_some, OnOk, IfOk, IfSome};
-ghost use Rattle.heap_objects.specs.declared.datum.Datum.{Datum};
-ghost use Rattle.jvm_model.specs.Data.{Began};
+ghost use Rattle.std.specs.Prelude.{◌≡◌, ◌≤◌, ◌-◌, ◌++◌, [], ◌∷◌, length, replicate, None, Some, is_some, OnOk, IfOk};
+ghost use Rattle.std.specs.Option.{option_map_or};
 ghost use Rattle.jvm_model.specs.Methods.{method_params};
-ghost use Rattle.jvm_model.specs.Values.{datum_of, data_of, spread, locals_with};
-ghost use Rattle.jvm_model.specs.Programs.{max_locals_of};
+ghost use Rattle.jvm_model.specs.Values.{datum_of, data_of, spread};
 ghost use Rattle.jvm_model.specs.Rules.{invokes_with};
-ghost use Rattle.jvm_model.specs.Applies.{new_frame, applies};
+ghost use Rattle.jvm_model.specs.Applies.{with_frame, applies};
 ghost use Rattle.jvm_model.specs.Attempts.{has_begun};
 ghost use Rattle.jvm_model.specs.Installed.{world_in, placed, tabled};
-ghost use Rattle.jvm_machine.specs.Arguments.{spread_values, fitting_frame, callee_frame};
+ghost use Rattle.jvm_machine.specs.Arguments.{spread_values, fitting_frame, callee_frame, without_arguments};
 
 use crate::applying::{break_off, put_frame};
 use crate::tables::Tables;
@@ -47,16 +45,27 @@ fn are_of_kinds(params: &[Kind], values: &[Value]) -> bool
     true
 }
 
-/// The locals that arguments take, from slot 0 on: a long takes two.
+/// Adds the locals that an argument takes: a long takes two.
+fn add(locals: &mut Seq<Option<Value>>, arg: Value) -> Result<(), NoMemory>
+    ensures { OnOk result (locals.new ≡ locals.old ++ spread_values (arg ∷ [])) }
+{
+    locals.push(Some(arg))?;
+    match arg {
+        Value::Long(_) => {
+            locals.push(None)?;
+            Ok(())
+        }
+        _ => Ok(()),
+    }
+}
+
+/// The locals that arguments take, from slot 0 on.
 fn spread(alloc: Global, args: &[Value]) -> Result<Seq<Option<Value>>, NoMemory>
     ensures { IfOk result (λ locals. locals ≡ spread_values args.now) }
 {
     let mut locals = Seq::new(alloc);
     for arg in args {
-        locals.push(Some(*arg))?;
-        if let Value::Long(_) = arg {
-            locals.push(None)?;
-        }
+        add(&mut locals, *arg)?;
     }
     Ok(locals)
 }
@@ -120,25 +129,52 @@ fn callee_of(
     frame_with(alloc, tables, method, args)
 }
 
+/// How many arguments a method takes.
+fn count_of(tables: &Tables, method: u32) -> usize
+    ensures { result ≡ option_map_or length (method_params tables.now.class method) 0 }
+{
+    match tables.params(method) {
+        Some(params) => params.len(),
+        None => 0,
+    }
+}
+
+/// The callee goes on top of its caller, whose arguments are taken off.
+fn put_callee(
+    tables: &Tables,
+    state: &mut State,
+    mut caller: Frame,
+    callee: Frame,
+    method: u32,
+) -> Result<(), NoMemory>
+    requires { option_map_or length (method_params tables.now.class method) 0 ≤ length caller.operands }
+    ensures { OnOk result (state.new ≡ with_frame (with_frame state.old (without_arguments tables.now method caller)) callee) }
+{
+    caller.operands.discard(count_of(tables, method));
+    put_frame(state, caller)?;
+    put_frame(state, callee)
+}
+
 /// Begins a method: its caller stays at the instruction without the arguments. Answers whether it began.
 pub fn invoke(
     alloc: Global,
     tables: &Tables,
     state: &mut State,
-    mut frame: Frame,
+    frame: Frame,
     method: u32,
     line: Line,
 ) -> Result<bool, NoMemory>
     ensures state { OnOk result (state.new ≡ (applies (world_in tables.now) (tabled tables.now) (placed line) (invokes_with method (method_params tables.now.class method) frame.operands) state.old frame).after) }
     ensures begun { IfOk result (λ b. b ≡ has_begun (applies (world_in tables.now) (tabled tables.now) (placed line) (invokes_with method (method_params tables.now.class method) frame.operands) state.old frame).changes) }
 {
-    let Some(callee) = callee_of(alloc, tables, &frame, method)? else {
-        break_off(state, frame, line.own)?;
-        return Ok(false);
-    };
-    let count = tables.params(method).map_or(0, |params| params.len());
-    frame.operands.discard(count);
-    put_frame(state, frame)?;
-    put_frame(state, callee)?;
-    Ok(true)
+    match callee_of(alloc, tables, &frame, method)? {
+        None => {
+            break_off(state, frame, line.own)?;
+            Ok(false)
+        }
+        Some(callee) => {
+            put_callee(tables, state, frame, callee, method)?;
+            Ok(true)
+        }
+    }
 }

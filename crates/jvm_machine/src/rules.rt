@@ -1,13 +1,13 @@
 //! What each instruction asks for (JVM Specification 6.5), as the rules of jvm_model say it.
 
-ghost use Rattle.std.specs.Prelude.{◌≡◌, ◌++◌, Some, slice_get, OnOk, IfOk};
+ghost use Rattle.std.specs.Prelude.{◌≡◌, ◌∷◌, ◌++◌, slice_get, OnOk, IfOk};
 ghost use Rattle.const_pool.specs.declared.class.ClassFile.{ClassFile};
 ghost use Rattle.const_pool.specs.declared.descriptor.Kind.TheVariants as kind;
 ghost use Rattle.jvm_model.specs.Rules.{line_text};
 ghost use Rattle.jvm_model.specs.Values.{loaded};
 ghost use Rattle.jvm_model.specs.LocalRules.{calculated, calculates, pushes, returns};
 ghost use Rattle.jvm_model.specs.Attempts.{asks, asks_println, printed, writes};
-ghost use Rattle.jvm_machine.specs.Flows.{outcome_of, stands};
+ghost use Rattle.jvm_machine.specs.Flows.{outcome_of, IsKept};
 
 use crate::flow::Flow;
 use crate::frames::{take_ints, take_print};
@@ -22,19 +22,18 @@ const OUT: u32 = 3;
 /// System.err's object, which is a PrintStream too.
 const ERR: u32 = 4;
 
-/// A constant, or System.out.
-fn push(frame: &mut Frame, value: Value) -> Result<Flow, NoMemory>
-    ensures outcome { (c : ClassFile) → IfOk result (λ flow. outcome_of c flow frame.new ≡ pushes (Some value) frame.old.locals frame.old.operands) }
-    ensures stays { stands frame.new ≡ stands frame.old }
+/// Puts a value on top.
+fn push(frame: &mut Frame, value: Value) -> Result<(), NoMemory>
+    ensures { OnOk result (frame.new ≡ record frame.old { operands = value ∷ frame.old.operands }) }
 {
     frame.operands.push(value)?;
-    Ok(Flow::GoesOn)
+    Ok(())
 }
 
 /// iload: the local must hold an int.
 fn load_int(frame: &mut Frame, slot: u16) -> Result<Flow, NoMemory>
     ensures outcome { (c : ClassFile) → IfOk result (λ flow. outcome_of c flow frame.new ≡ pushes (loaded kind.Int (slice_get frame.old.locals slot)) frame.old.locals frame.old.operands) }
-    ensures stays { stands frame.new ≡ stands frame.old }
+    ensures kept { IfOk result (λ flow. IsKept flow frame.old frame.new) }
 {
     let Some(Some(Value::Int(n))) = frame.locals.at(slot as usize) else {
         return Ok(Flow::Breaks(false));
@@ -56,7 +55,7 @@ fn calculate(op: IntOperator, a: i32, b: i32) -> i32
 /// An arithmetic instruction over two ints; the topmost operand is the second one.
 fn do_binary(frame: &mut Frame, op: IntOperator) -> Result<Flow, NoMemory>
     ensures outcome { (c : ClassFile) → IfOk result (λ flow. outcome_of c flow frame.new ≡ calculates op frame.old.locals frame.old.operands) }
-    ensures stays { stands frame.new ≡ stands frame.old }
+    ensures kept { IfOk result (λ flow. IsKept flow frame.old frame.new) }
 {
     let Some((a, b)) = take_ints(&mut frame.operands) else {
         return Ok(Flow::Breaks(false));
@@ -88,7 +87,7 @@ fn write_line(alloc: Global, output: &mut Seq<u8>, n: i32) -> Result<(), NoMemor
 fn println(alloc: Global, output: &mut Seq<u8>, frame: &mut Frame) -> Result<Flow, NoMemory>
     ensures outcome { (c : ClassFile) → IfOk result (λ flow. outcome_of c flow frame.new ≡ asks_println frame.old.locals frame.old.operands) }
     ensures written { OnOk result (output.new ≡ output.old ++ printed frame.old.operands) }
-    ensures stays { stands frame.new ≡ stands frame.old }
+    ensures kept { IfOk result (λ flow. IsKept flow frame.old frame.new) }
 {
     match frame.operands.peek(1) {
         Some(Value::Ref(OUT | ERR)) => {}
@@ -110,16 +109,22 @@ pub fn execute(
 ) -> Result<Flow, NoMemory>
     ensures outcome { (c : ClassFile) → IfOk result (λ flow. outcome_of c flow frame.new ≡ asks c operation frame.old.locals frame.old.operands) }
     ensures written { OnOk result (output.new ≡ output.old ++ writes operation frame.old.operands) }
-    ensures stays { stands frame.new ≡ stands frame.old }
+    ensures kept { IfOk result (λ flow. IsKept flow frame.old frame.new) }
 {
     match operation {
         Resolved::Nop => Ok(Flow::GoesOn),
-        Resolved::Constant(n) => push(frame, Value::Int(n)),
+        Resolved::Constant(n) => {
+            push(frame, Value::Int(n))?;
+            Ok(Flow::GoesOn)
+        }
         Resolved::Iload(slot) => load_int(frame, slot),
         Resolved::Binary(op) => do_binary(frame, op),
         Resolved::Ireturn => Ok(return_int(frame)),
         Resolved::Return => Ok(Flow::Returns(None)),
-        Resolved::Out => push(frame, Value::Ref(OUT)),
+        Resolved::Out => {
+            push(frame, Value::Ref(OUT))?;
+            Ok(Flow::GoesOn)
+        }
         Resolved::Println => println(alloc, output, frame),
         Resolved::Invokestatic(method) => Ok(Flow::Invokes(method)),
     }

@@ -1,6 +1,6 @@
 //! The state before the start.
 
-ghost use Rattle.std.specs.Prelude.{◌≡◌, ℕ, List, ◌∷◌, [], IfOk};
+ghost use Rattle.std.specs.Prelude.{◌≡◌, ℕ, List, [], IfOk};
 ghost use Rattle.const_pool.specs.declared.class.ClassFile.{ClassFile};
 ghost use Rattle.jvm_model.specs.Programs.{world_of};
 ghost use Rattle.jvm_model.specs.Run.{before};

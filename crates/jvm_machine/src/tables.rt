@@ -1,13 +1,12 @@
 //! A class with its methods and their versions prepared: what stands at each place is looked up once, and found by its
 //! place from then on.
 
-ghost use Rattle.std.specs.Prelude.{◌≡◌, length, map, None, IfOk, OnOk, OnErr};
+ghost use Rattle.std.specs.Prelude.{◌≡◌, None, IfOk, OnOk, OnErr};
 ghost use Rattle.std.specs.Option.{option_copied};
-ghost use Rattle.jvm_model.specs.declared.event.Mark.TheVariants.{Off};
-ghost use Rattle.jvm_model.specs.Agreement.{first_place, is_entry_kind, is_leave_kind};
+ghost use Rattle.jvm_model.specs.Agreement.{first_place, is_entry_kind, is_leave, is_leave_kind};
 ghost use Rattle.jvm_model.specs.Programs.{max_stack_of, max_locals_of};
 ghost use Rattle.jvm_model.specs.SmallClass.{IsSmallClass};
-ghost use Rattle.jvm_model.specs.StandsFor.{version_line};
+ghost use Rattle.jvm_model.specs.StandsFor.{probe_at, version_line};
 ghost use Rattle.jvm_model.specs.Methods.{method_params};
 ghost use Rattle.jvm_model.specs.Installed.{all_originals, world_in, line_in};
 ghost use Rattle.jvm_machine.specs.Probes.{placed_probe_at};
@@ -159,15 +158,21 @@ impl Tables {
         version.lines.at(place)?
     }
 
+    /// Whether a leave probe stands at a place of a method's version.
+    fn leaves(&self, method: u32, place: u16) -> bool
+        ensures { result ≡ is_leave (probe_at self.now.image method place) }
+    {
+        match self.probe(method, place) {
+            Some(probe) => is_leave_kind(probe.kind),
+            None => false,
+        }
+    }
+
     /// The line that goes with a place of a method's version: behind the leave probe, if one stands there.
     pub fn line(&self, method: u32, place: u16) -> Option<Line>
         ensures { result ≡ line_in self.now method place }
     {
-        let leaves = match self.probe(method, place) {
-            Some(probe) => is_leave_kind(probe.kind),
-            None => false,
-        };
-        if leaves {
+        if self.leaves(method, place) {
             self.line_at(method, place as usize + PROBE)
         } else {
             self.line_at(method, place as usize)

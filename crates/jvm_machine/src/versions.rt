@@ -1,14 +1,12 @@
 //! Looking up, once for each place of each version, what stands there.
 
-ghost use Rattle.std.specs.Prelude.{◌≡◌, ◌<◌, ◌^◌, Some, length, IfOk};
-ghost use Rattle.const_pool.specs.declared.class.ClassFile.{ClassFile as Class};
-ghost use Rattle.jvm_model.specs.Data.{Operation};
+ghost use Rattle.std.specs.Prelude.{◌≡◌, ◌<◌, ◌^◌, length, IfOk};
 ghost use Rattle.code_model.specs.Instructions.{end_of};
-ghost use Rattle.std.specs.Option.{option_and_then};
-ghost use Rattle.jvm_model.specs.Lines.{ends, instruction_of};
-ghost use Rattle.jvm_model.specs.Resolved.{resolved_in, line_of};
+ghost use Rattle.std.specs.Option.{option_map};
+ghost use Rattle.jvm_model.specs.Agreement.{is_return_operation};
+ghost use Rattle.jvm_model.specs.Resolved.{resolved_of};
 ghost use Rattle.jvm_model.specs.StandsFor.{code_line};
-ghost use Rattle.jvm_machine.specs.TableEntries.{origins_of, line_with, lines_of, probes_of, version_of, versions_of, HasShortCode, FitsVersions};
+ghost use Rattle.jvm_machine.specs.TableEntries.{origins_of, resolved_line, line_with, lines_of, probes_of, version_of, versions_of, HasShortCode, FitsVersions};
 
 use crate::lookup::resolved_of;
 use crate::origins::origins_of;
@@ -21,9 +19,9 @@ use jf_bytes::{NoMemory, Seq};
 use jvm_model::{Line, Resolved};
 use std::alloc::Global;
 
-/// Whether control never goes on behind an operation.
-fn ends(operation: Resolved) -> bool
-    ensures { (c : Class) (o : Operation) → resolved_in c o ≡ Some operation → result ≡ ends o }
+/// Whether an operation returns: control goes on behind all others.
+fn is_return(operation: Resolved) -> bool
+    ensures { result ≡ is_return_operation operation }
 {
     match operation {
         Resolved::Ireturn | Resolved::Return => true,
@@ -35,18 +33,21 @@ fn ends(operation: Resolved) -> bool
 fn line_of(class: &ClassFile, instr: &Instr) -> Option<Line>
     requires methods { length class.now.methods < 2 ^ 32 }
     requires ends { end_of instr.now < 2 ^ 16 }
-    ensures { result ≡ option_and_then (line_of class.now) (instruction_of class.now instr.now) }
+    ensures { result ≡ option_map (resolved_line instr.now) (resolved_of class.now instr.now) }
 {
     let operation = resolved_of(class, instr)?;
-    let next = if ends(operation) {
-        None
-    } else {
-        Some(instr.next_offset())
-    };
+    let own = instr.at;
+    if is_return(operation) {
+        return Some(Line {
+            operation,
+            own,
+            next: None,
+        });
+    }
     Some(Line {
         operation,
-        own: instr.at,
-        next,
+        own,
+        next: Some(instr.next_offset()),
     })
 }
 
