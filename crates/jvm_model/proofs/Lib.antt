@@ -13,3 +13,4 @@ pub mod Attempts
 pub mod Growth
 pub mod Methods
 pub mod Order
+pub mod PlainRun
