@@ -14,3 +14,5 @@ pub mod Growth
 pub mod Methods
 pub mod Order
 pub mod PlainRun
+pub mod WorkedPrograms
+pub mod WorkedRuns
