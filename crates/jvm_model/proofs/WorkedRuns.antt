@@ -1,13 +1,16 @@
 -- Worked runs over lists of instructions: a loop, a subroutine, recursion.
-use Rattle.std.specs.Prelude.{◌≡◌, ℕ, List, [], ◌∷◌, Option, Some, None, pos, negsuc, refl, codes, ◌==◌, if◌then◌else◌}
+use Rattle.std.specs.Prelude.{◌≡◌, ℕ, zero, suc, Bool, true, false, List, [], ◌∷◌, ◌++◌, Option, Some, None, pos, negsuc, refl, codes, ◌==◌, if◌then◌else◌}
 use Rattle.std.specs.Fmt.{digits}
 use Rattle.const_pool.specs.declared.descriptor.Kind.TheVariants as kind
 use Rattle.heap_objects.specs.declared.Value.TheVariants.{Int, Ref, Addr}
 use Rattle.code_model.specs.declared.laying.Homes.{Homes}
 use Rattle.code_model.specs.Layout.{found_beside}
 use Rattle.jvm_model.specs.Data.{Entry, Active, Text, Isub, Store, Binary, Iinc, WithZero, Equal, Greater, Branch, Jsr, Ret, Within, Returned}
+use Rattle.jvm_model.specs.declared.event.Act.{Act}
 use Rattle.jvm_model.specs.Run.{turn_in}
-use Rattle.jvm_model.specs.Activations.{trace_in}
+use Rattle.jvm_model.specs.Activations.{current, trace_in}
+use Rattle.jvm_model.specs.Paths.{contexts_of}
+use Rattle.jvm_model.specs.Projection.{paths_of, path_at}
 use Rattle.jvm_model.specs.Moved.{moved}
 use Rattle.jvm_model.specs.Closed.{laid_out}
 use Rattle.jvm_model.specs.StandsFor.{home_at, by_homes}
@@ -121,3 +124,17 @@ pub recursive-trace : trace_by recursive 20 ≡ record {
 }
 unfolding trace_in turn_in
 recursive-trace = refl
+
+-- r is selected before the start, and deselected after the fourth step: its first activation is the root of the others
+abbrev pub selecting_r : List Act
+selecting_r = record { moment = 0; select = true; method = 0 } ∷ record { moment = 4; select = false; method = 0 } ∷ []
+
+-- the path in which each step was made: that of the current activation before it
+abbrev pub paths_by : Sketches → List Act → ℕ → List (List ℕ)
+paths_by s acts zero = []
+paths_by s acts (suc n) = paths_by s acts n ++ path_at acts (trace_by s (suc n)).activations (current (trace_by s n).live) ∷ []
+
+pub recursive-contexts : contexts_of (paths_of selecting_r (trace_by recursive 20).activations) (paths_by recursive selecting_r 20)
+    ≡ record { path = 0 ∷ []; calls = 1; own = 7 } ∷ record { path = 0 ∷ 0 ∷ []; calls = 1; own = 7 } ∷ record { path = 0 ∷ 0 ∷ 0 ∷ []; calls = 1; own = 3 } ∷ []
+unfolding trace_in turn_in
+recursive-contexts = refl
