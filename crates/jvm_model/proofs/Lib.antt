@@ -16,3 +16,4 @@ pub mod Order
 pub mod PlainRun
 pub mod WorkedPrograms
 pub mod WorkedRuns
+pub mod WorkedThrows

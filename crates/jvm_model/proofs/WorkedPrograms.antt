@@ -10,7 +10,8 @@ use Rattle.const_pool.specs.declared.class.ClassFile.{ClassFile}
 use Rattle.const_pool.specs.declared.class.Member.{Member}
 use Rattle.const_pool.specs.declared.class.Attribute.TheVariants.{Code}
 use Rattle.const_pool.specs.References.{NameAndType, Reference}
-use Rattle.jvm_model.specs.Data.{Local, Constant, Load, Return, Operation, Within, Getstatic, Putstatic, Invokestatic, Invokevirtual, Athrow, Instruction, Catcher, Text, Program, World, Change, State, Turn}
+use Rattle.jvm_model.specs.Data.{Local, Constant, Load, Arrange, Return, Operation, Within, Getstatic, Putstatic, Invokestatic, Invokevirtual, Athrow, Instruction, Catcher, Text, Program, World, Change, State, Turn}
+use Rattle.jvm_model.specs.StackForms
 use Rattle.jvm_model.specs.Lines.{next_of}
 use Rattle.jvm_model.specs.Programs.{numbered}
 use Rattle.jvm_model.specs.Run.{turn_in}
@@ -185,6 +186,9 @@ null = Within (Constant (datum.Ref 0))
 
 abbrev pub iload : ℕ → Operation
 iload slot = Within (Load kind.Int slot)
+
+abbrev pub pop : Operation
+pop = Within (Arrange StackForms.pop)
 
 abbrev pub ireturn : Operation
 ireturn = Within (Return (Some kind.Int))

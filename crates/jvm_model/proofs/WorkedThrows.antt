@@ -1,0 +1,99 @@
+-- Worked runs over lists of instructions: a throw through three frames, caught and not.
+use Rattle.std.specs.Prelude.{◌≡◌, ℕ, Bool, true, false, List, [], ◌∷◌, Option, Some, None, refl, codes}
+use Rattle.jvm_model.specs.declared.event.Act.{Act}
+use Rattle.jvm_model.specs.declared.event.Event.{Event}
+use Rattle.jvm_model.specs.declared.event.EventKind.TheVariants as kind
+use Rattle.jvm_model.specs.Data.{Instruction, Operation, Athrow, Returned, Uncaught, Unverifiable, Unwound, Catcher}
+use Rattle.jvm_model.specs.Run.{turn_in}
+use Rattle.jvm_model.specs.Activations.{Activation, trace_in}
+use Rattle.jvm_model.specs.EventLists.{full_marking, all_told}
+use Rattle.jvm_model.specs.SharedState.{null_pointer}
+use Rattle.jvm_model.proofs.WorkedPrograms.{Routine, Sketches, after, changes_of, trace_by, member, routine, main_routine, main_member, alone, at, null, pop, returns, call}
+
+-- ---- main calls a, a calls b, b calls c, and c throws a NullPointerException
+
+abbrev pub calls_of_t : List ℕ → Operation
+calls_of_t name = call (codes "T") name (codes "()V")
+
+abbrev pub no_argument : List ℕ → ℕ → List Instruction → Routine
+no_argument name max_stack code = routine (member name (codes "()V")) max_stack 0 code
+
+-- with these handlers in main
+abbrev pub throwing : List Catcher → Sketches
+throwing handlers = record {
+  classes = alone (codes "T") (
+      record (main_routine 1 (at 0 3 (calls_of_t (codes "a")) ∷ at 3 1 returns ∷ at 4 1 pop ∷ at 5 1 returns ∷ [])) { handlers = handlers }
+      ∷ no_argument (codes "a") 0 (at 0 3 (calls_of_t (codes "b")) ∷ at 3 1 returns ∷ [])
+      ∷ no_argument (codes "b") 0 (at 0 3 (calls_of_t (codes "c")) ∷ at 3 1 returns ∷ [])
+      ∷ no_argument (codes "c") 1 (at 0 1 null ∷ at 1 1 Athrow ∷ []) ∷ []) ∷ [];
+  main = 0;
+}
+
+-- over the invoke instruction alone
+abbrev pub caught : Sketches
+caught = throwing (record { start = 0; finish = 3; target = 4; catches = Some null_pointer } ∷ [])
+
+abbrev pub uncaught : Sketches
+uncaught = throwing []
+
+pub caught-goes_on : (after caught 6).ending ≡ None
+unfolding turn_in
+caught-goes_on = refl
+
+pub caught-returns : (after caught 7).ending ≡ Some Returned
+unfolding turn_in
+caught-returns = refl
+
+pub caught-changes : changes_of caught 5 ≡ Unwound ∷ Unwound ∷ Unwound ∷ []
+unfolding turn_in
+caught-changes = refl
+
+-- the activations, of which that of main ends in this step
+abbrev pub unwound_until : ℕ → List Activation
+unwound_until n = record { method = 0; parent = None; begin = 0; «end» = Some n }
+    ∷ record { method = 1; parent = Some 0; begin = 1; «end» = Some 5 }
+    ∷ record { method = 2; parent = Some 1; begin = 2; «end» = Some 5 }
+    ∷ record { method = 3; parent = Some 2; begin = 3; «end» = Some 5 } ∷ []
+
+pub caught-trace : trace_by caught 7 ≡ record { activations = unwound_until 7; live = [] }
+unfolding trace_in turn_in
+caught-trace = refl
+
+pub uncaught-goes_on : (after uncaught 4).ending ≡ None
+unfolding turn_in
+uncaught-goes_on = refl
+
+-- of the class at this position: the NullPointerException behind T and four others
+pub uncaught-ends : (after uncaught 5).ending ≡ Some (Uncaught 5)
+unfolding turn_in
+uncaught-ends = refl
+
+pub uncaught-trace : trace_by uncaught 5 ≡ record { activations = unwound_until 5; live = [] }
+unfolding trace_in turn_in
+uncaught-trace = refl
+
+-- ---- what is told where main is selected: three unwind events in one step, the innermost first
+
+abbrev pub selecting_main : List Act
+selecting_main = record { moment = 0; select = true; method = 0 } ∷ []
+
+abbrev pub unwind_of : ℕ → Event
+unwind_of method = record { kind = kind.Unwind; method = method; clock = 5 }
+
+pub caught-events : all_told (full_marking selecting_main) 5 (trace_by caught 4) (changes_of caught 5) ≡ unwind_of 3 ∷ unwind_of 2 ∷ unwind_of 1 ∷ []
+unfolding trace_in turn_in
+caught-events = refl
+
+pub uncaught-events : all_told (full_marking selecting_main) 5 (trace_by uncaught 4) (changes_of uncaught 5) ≡ unwind_of 3 ∷ unwind_of 2 ∷ unwind_of 1 ∷ unwind_of 0 ∷ []
+unfolding trace_in turn_in
+uncaught-events = refl
+
+-- ---- which handler: the first in table order whose range holds the offset and whose class the thrown one is or inherits from
+
+abbrev pub catching : ℕ → ℕ → Option (List ℕ) → Catcher
+catching start finish class = record { start = start; finish = finish; target = 4; catches = class }
+
+-- the range begins behind the invoke instruction
+pub behind-uncaught : (after (throwing (catching 3 9 None ∷ [])) 5).ending ≡ Some (Uncaught 5)
+unfolding turn_in
+behind-uncaught = refl
