@@ -17,3 +17,4 @@ pub mod PlainRun
 pub mod WorkedPrograms
 pub mod WorkedRuns
 pub mod WorkedThrows
+pub mod WorkedInitializers

@@ -10,7 +10,7 @@ use Rattle.const_pool.specs.declared.class.ClassFile.{ClassFile}
 use Rattle.const_pool.specs.declared.class.Member.{Member}
 use Rattle.const_pool.specs.declared.class.Attribute.TheVariants.{Code}
 use Rattle.const_pool.specs.References.{NameAndType, Reference}
-use Rattle.jvm_model.specs.Data.{Local, Constant, Load, Arrange, Return, Operation, Within, Getstatic, Putstatic, Invokestatic, Invokevirtual, Athrow, Instruction, Catcher, Text, Program, World, Change, State, Turn}
+use Rattle.jvm_model.specs.Data.{Entry, Active, Initializing, Local, Constant, Load, Arrange, Return, Operation, Within, Getstatic, Putstatic, Invokestatic, Invokevirtual, Athrow, Instruction, Catcher, Text, Program, World, Change, State, Turn}
 use Rattle.jvm_model.specs.StackForms
 use Rattle.jvm_model.specs.Lines.{next_of}
 use Rattle.jvm_model.specs.Programs.{numbered}
@@ -146,6 +146,12 @@ changes_of s n = (turn_by s n).changes
 abbrev pub trace_by : Sketches → ℕ → Trace
 trace_by s n = trace_in (world_by s) (text_by s) n
 
+-- where its frames stand, the current one first
+abbrev pub places_of : List Entry → List ℕ
+places_of [] = []
+places_of (Active f ∷ below) = f.place ∷ places_of below
+places_of (Initializing c part ∷ below) = places_of below
+
 -- ---- methods
 
 abbrev pub member : List ℕ → List ℕ → NameAndType
@@ -198,6 +204,12 @@ returns = Within (Return None)
 
 abbrev pub reference : List ℕ → List ℕ → List ℕ → Reference
 reference class name descriptor = record { class = class; member = member name descriptor }
+
+abbrev pub getstatic : List ℕ → List ℕ → Operation
+getstatic class name = Getstatic (reference class name (codes "I"))
+
+abbrev pub putstatic : List ℕ → List ℕ → Operation
+putstatic class name = Putstatic (reference class name (codes "I"))
 
 abbrev pub call : List ℕ → List ℕ → List ℕ → Operation
 call class name descriptor = Invokestatic (reference class name descriptor)

@@ -7,8 +7,8 @@ use Rattle.jvm_model.specs.Data.{Instruction, Operation, Athrow, Returned, Uncau
 use Rattle.jvm_model.specs.Run.{turn_in}
 use Rattle.jvm_model.specs.Activations.{Activation, trace_in}
 use Rattle.jvm_model.specs.EventLists.{full_marking, all_told}
-use Rattle.jvm_model.specs.SharedState.{null_pointer}
-use Rattle.jvm_model.proofs.WorkedPrograms.{Routine, Sketches, after, changes_of, trace_by, member, routine, main_routine, main_member, alone, at, null, pop, returns, call}
+use Rattle.jvm_model.specs.SharedState.{null_pointer, throwable, error}
+use Rattle.jvm_model.proofs.WorkedPrograms.{Routine, Sketches, places_of, after, changes_of, trace_by, member, routine, main_routine, main_member, alone, at, null, pop, returns, call}
 
 -- ---- main calls a, a calls b, b calls c, and c throws a NullPointerException
 
@@ -88,12 +88,24 @@ pub uncaught-events : all_told (full_marking selecting_main) 5 (trace_by uncaugh
 unfolding trace_in turn_in
 uncaught-events = refl
 
--- ---- which handler: the first in table order whose range holds the offset and whose class the thrown one is or inherits from
+-- ---- which handler: the first in table order whose range holds the offset, and whose class is the thrown one's or above it
 
-abbrev pub catching : ℕ → ℕ → Option (List ℕ) → Catcher
-catching start finish class = record { start = start; finish = finish; target = 4; catches = class }
+abbrev pub catching : ℕ → ℕ → ℕ → Option (List ℕ) → Catcher
+catching start finish target class = record { start = start; finish = finish; target = target; catches = class }
 
--- the range begins behind the invoke instruction
-pub behind-uncaught : (after (throwing (catching 3 9 None ∷ [])) 5).ending ≡ Some (Uncaught 5)
+-- where main stands after the throw
+abbrev pub stands_at : List Catcher → List ℕ
+stands_at handlers = places_of (after (throwing handlers) 5).stack
+
+pub superclass-catches : stands_at (catching 0 3 4 (Some throwable) ∷ catching 0 3 5 None ∷ []) ≡ 4 ∷ []
 unfolding turn_in
-behind-uncaught = refl
+superclass-catches = refl
+
+pub other_class-passes : stands_at (catching 0 3 4 (Some error) ∷ catching 0 3 5 None ∷ []) ≡ 5 ∷ []
+unfolding turn_in
+other_class-passes = refl
+
+-- the offset is that of the invoke instruction, and a range ends before its end
+pub other_range-passes : stands_at (catching 3 9 3 None ∷ catching 0 0 4 None ∷ catching 0 1 5 None ∷ []) ≡ 5 ∷ []
+unfolding turn_in
+other_range-passes = refl
