@@ -18,3 +18,4 @@ pub mod WorkedPrograms
 pub mod WorkedRuns
 pub mod WorkedThrows
 pub mod WorkedInitializers
+pub mod WorkedLimits

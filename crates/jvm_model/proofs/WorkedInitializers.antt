@@ -43,6 +43,10 @@ pub both_set-changes : changes_of both_set 4 ≡ Left ∷ Began 2 ∷ []
 unfolding turn_in
 both_set-changes = refl
 
+pub both_set-fields : take 2 (drop 1 (after both_set 10).shared.statics) ≡ (datum.Int (pos 1) ∷ []) ∷ (datum.Int (pos 2) ∷ []) ∷ []
+unfolding turn_in
+both_set-fields = refl
+
 -- main's activation is the parent of both
 pub both_set-trace : trace_by both_set 10 ≡ record {
   activations = record { method = 0; parent = None; begin = 0; «end» = Some 10 }
