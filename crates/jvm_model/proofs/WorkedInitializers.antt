@@ -1,8 +1,8 @@
 -- Worked runs over lists of instructions: classes that are initialized, with and without a static initializer, and initializers
 -- that throw (JVM Specification 5.5).
-use Rattle.std.specs.Prelude.{◌≡◌, ℕ, List, [], ◌∷◌, Option, Some, None, pos, refl, codes, take, drop, map}
+use Rattle.std.specs.Prelude.{◌≡◌, ℕ, List, [], ◌∷◌, Some, None, pos, refl, codes, take, drop, map}
 use Rattle.heap_objects.specs.declared.datum.Datum.TheVariants as datum
-use Rattle.jvm_model.specs.Data.{Instruction, Athrow, Ready, Erroneous, Returned, Uncaught, Catcher, Loads, Began, Left, Unwound}
+use Rattle.jvm_model.specs.Data.{Instruction, Athrow, Ready, Erroneous, Returned, Uncaught, Loads, Began, Left, Unwound}
 use Rattle.jvm_model.specs.Run.{turn_in}
 use Rattle.jvm_model.specs.Activations.{trace_in}
 use Rattle.jvm_model.specs.SharedState.{in_initializer, phase_of, class_of_object}

@@ -1,9 +1,8 @@
 -- Worked runs over lists of instructions: where code breaks what a verifier would have asked of it (JVM Specification 4.9, 4.10).
-use Rattle.std.specs.Prelude.{◌≡◌, ℕ, Bool, true, false, List, [], ◌∷◌, Option, Some, None, pos, refl, codes}
+use Rattle.std.specs.Prelude.{◌≡◌, List, [], ◌∷◌, Some, None, pos, refl, codes}
 use Rattle.heap_objects.specs.declared.datum.Datum.TheVariants as datum
 use Rattle.heap_objects.specs.declared.Value.TheVariants.{Int, Long, Ref, Addr}
-use Rattle.const_pool.specs.declared.descriptor.Kind.TheVariants as kind
-use Rattle.jvm_model.specs.Data.{Operation, Nop, Constant, Within, Athrow, Returned, Unverifiable, Loads, Left, Unwound}
+use Rattle.jvm_model.specs.Data.{Operation, Nop, Constant, Within, Athrow, Unverifiable, Loads, Left, Unwound}
 use Rattle.jvm_model.specs.Run.{turn_in}
 use Rattle.jvm_model.specs.Activations.{trace_in}
 use Rattle.jvm_model.specs.Values.{arranged}

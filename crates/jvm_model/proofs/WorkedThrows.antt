@@ -1,14 +1,14 @@
 -- Worked runs over lists of instructions: a throw through three frames, caught and not.
-use Rattle.std.specs.Prelude.{◌≡◌, ℕ, Bool, true, false, List, [], ◌∷◌, Option, Some, None, refl, codes}
+use Rattle.std.specs.Prelude.{◌≡◌, ℕ, true, List, [], ◌∷◌, Option, Some, None, refl, codes}
 use Rattle.jvm_model.specs.declared.event.Act.{Act}
 use Rattle.jvm_model.specs.declared.event.Event.{Event}
 use Rattle.jvm_model.specs.declared.event.EventKind.TheVariants as kind
-use Rattle.jvm_model.specs.Data.{Instruction, Operation, Athrow, Returned, Uncaught, Unverifiable, Unwound, Catcher}
+use Rattle.jvm_model.specs.Data.{Instruction, Operation, Athrow, Returned, Uncaught, Unwound, Catcher}
 use Rattle.jvm_model.specs.Run.{turn_in}
 use Rattle.jvm_model.specs.Activations.{Activation, trace_in}
 use Rattle.jvm_model.specs.EventLists.{full_marking, all_told}
 use Rattle.jvm_model.specs.SharedState.{null_pointer, throwable, error}
-use Rattle.jvm_model.proofs.WorkedPrograms.{Routine, Sketches, places_of, after, changes_of, trace_by, member, routine, main_routine, main_member, alone, at, null, pop, returns, call}
+use Rattle.jvm_model.proofs.WorkedPrograms.{Routine, Sketches, places_of, after, changes_of, trace_by, member, routine, main_routine, alone, at, null, pop, returns, call}
 
 -- ---- main calls a, a calls b, b calls c, and c throws a NullPointerException
 
