@@ -79,17 +79,26 @@ pub trace-f : trace p1_world 9 ≡ record {
 unfolding trace_in turn_in digits
 trace-f = refl
 
--- ---- with f selected before the start: the return is a step of f
+-- ---- the invocation is a step of the caller, and the return one of the callee
 
-abbrev pub selecting_f : List Act
-selecting_f = record { moment = 0; select = true; method = 0 } ∷ []
+abbrev pub selecting : ℕ → List Act
+selecting method = record { moment = 0; select = true; method = method } ∷ []
 
-pub projection-f : projection selecting_f p1_world 9 ≡ record { path = 0 ∷ []; calls = 1; own = 4 } ∷ []
+pub projection-f : projection (selecting 0) p1_world 9 ≡ record { path = 0 ∷ []; calls = 1; own = 4 } ∷ []
 unfolding paths_made trace_in turn_in digits
 projection-f = refl
 
+-- after the step that invokes f
+pub projection-begun : projection (selecting 0) p1_world 3 ≡ record { path = 0 ∷ []; calls = 1; own = 0 } ∷ []
+unfolding paths_made trace_in turn_in digits
+projection-begun = refl
+
+pub projection-main : projection (selecting 1) p1_world 9 ≡ record { path = 1 ∷ []; calls = 1; own = 5 } ∷ record { path = 1 ∷ 0 ∷ []; calls = 1; own = 4 } ∷ []
+unfolding paths_made trace_in turn_in digits
+projection-main = refl
+
 -- main is no root, and its version tells too
-pub events-f : events_of (full_marking selecting_f) p1_world 9 ≡ record { kind = kind.Enter; method = 1; clock = 0 }
+pub events-f : events_of (full_marking (selecting 0)) p1_world 9 ≡ record { kind = kind.Enter; method = 1; clock = 0 }
     ∷ record { kind = kind.Root; method = 0; clock = 3 }
     ∷ record { kind = kind.Leave; method = 0; clock = 7 }
     ∷ record { kind = kind.Leave; method = 1; clock = 9 } ∷ []
