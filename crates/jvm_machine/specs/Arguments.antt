@@ -4,12 +4,13 @@ use Rattle.std.specs.Option.{option_and_then}
 use Rattle.heap_objects.specs.declared.Value.{Value}
 use Rattle.heap_objects.specs.declared.Value.TheVariants.{Int, Long, Ref, Addr}
 use Rattle.const_pool.specs.declared.descriptor.Kind.{Kind}
-use Rattle.jvm_model.specs.Data.{Locals, Operands, Frame}
+use Rattle.jvm_model.specs.declared.state.Frame.{Frame}
+use Rattle.jvm_model.specs.Data.{Locals, Operands}
 use Rattle.jvm_model.specs.Agreement.{first_place}
 use Rattle.jvm_model.specs.Methods.{method_params}
 use Rattle.jvm_model.specs.Programs.{max_locals_of}
 use Rattle.jvm_model.specs.Values.{data_of}
-use Rattle.jvm_machine.specs.Installed.{Installed, world_in}
+use Rattle.jvm_model.specs.Installed.{Installed, world_in}
 
 -- a long takes two locals
 abbrev pub spread_values : List Value → Locals

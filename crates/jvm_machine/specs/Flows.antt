@@ -1,7 +1,8 @@
 -- What the machine's code answers for an outcome: the locals and operands are those that the frame has then.
 use Rattle.std.specs.Prelude.{ℕ}
 use Rattle.const_pool.specs.declared.class.ClassFile.{ClassFile}
-use Rattle.jvm_model.specs.Data.{Frame, Next, Outcome, GoesOn, Returns, Breaks}
+use Rattle.jvm_model.specs.declared.state.Frame.{Frame}
+use Rattle.jvm_model.specs.Data.{Next, Outcome, GoesOn, Returns, Breaks}
 use Rattle.jvm_model.specs.Methods.{method_params}
 use Rattle.jvm_model.specs.Rules.{invokes_with}
 use Rattle.jvm_machine.specs.declared.flow.Flow.{Flow}

@@ -1,11 +1,14 @@
 -- How the parts of a machine stand for what a clause sees of it.
 use Rattle.std.specs.Prelude.{◌≡◌, ℕ, ◌-◌, Bool, true, false, List, [], ◌∷◌, length, Option, Some, None, is_none, ◌==◌, ◌||◌, if◌then◌else◌}
-use Rattle.jvm_model.specs.Data.{Entry, Active, Ending, State}
+use Rattle.jvm_model.specs.declared.state.Entry.{Entry}
+use Rattle.jvm_model.specs.declared.ending.Ending.{Ending}
+use Rattle.jvm_model.specs.declared.state.State.{State}
+use Rattle.jvm_model.specs.declared.state.Entry.TheVariants.{Active}
 use Rattle.jvm_model.specs.Agreement.{Agrees}
 use Rattle.jvm_model.specs.Moved.{moved}
 use Rattle.jvm_model.specs.Run.{run}
 use Rattle.jvm_model.specs.StandsFor.{IsBuilt, by_homes}
-use Rattle.jvm_machine.specs.Installed.{Installed}
+use Rattle.jvm_model.specs.Installed.{Installed}
 use Rattle.jvm_machine.specs.Moves.{leave_passed, rest_of}
 use Rattle.jvm_machine.specs.View.{View, Place, world, state_of, is_resting, events_now}
 

@@ -5,7 +5,8 @@ use Rattle.code_model.specs.declared.laying.Homes.{Homes}
 use Rattle.jvm_model.specs.declared.event.Event.{Event}
 use Rattle.jvm_model.specs.declared.event.Mark.{Mark}
 use Rattle.jvm_model.specs.declared.event.Mark.TheVariants.{Off}
-use Rattle.jvm_model.specs.Data.{State, World}
+use Rattle.jvm_model.specs.declared.state.State.{State}
+use Rattle.jvm_model.specs.Data.{World}
 use Rattle.jvm_model.specs.Programs.{world_of}
 use Rattle.jvm_model.specs.EventLists.{step_events}
 use Rattle.jvm_model.specs.Run.{before, run}

@@ -3,9 +3,9 @@
 ghost use Rattle.std.specs.Prelude.{◌≡◌, nat_le, OnOk, IfOk};
 ghost use Rattle.jvm_model.specs.Values.{as_value, width, depth};
 ghost use Rattle.jvm_model.specs.Applies.{with_frame, breaks, lands, goes, resumes, gives_back, breaks_or_ends, applies};
-ghost use Rattle.jvm_machine.specs.Attempts.{has_begun};
+ghost use Rattle.jvm_model.specs.Attempts.{has_begun};
 ghost use Rattle.jvm_machine.specs.Flows.{outcome_of};
-ghost use Rattle.jvm_machine.specs.Installed.{world_in, placed, tabled};
+ghost use Rattle.jvm_model.specs.Installed.{world_in, placed, tabled};
 
 use crate::flow::Flow;
 use crate::invoking::invoke;

@@ -8,8 +8,8 @@ ghost use Rattle.jvm_model.specs.Values.{datum_of, data_of, spread, locals_with}
 ghost use Rattle.jvm_model.specs.Programs.{max_locals_of};
 ghost use Rattle.jvm_model.specs.Rules.{invokes_with};
 ghost use Rattle.jvm_model.specs.Applies.{new_frame, applies};
-ghost use Rattle.jvm_machine.specs.Attempts.{has_begun};
-ghost use Rattle.jvm_machine.specs.Installed.{world_in, placed, tabled};
+ghost use Rattle.jvm_model.specs.Attempts.{has_begun};
+ghost use Rattle.jvm_model.specs.Installed.{world_in, placed, tabled};
 ghost use Rattle.jvm_machine.specs.Arguments.{spread_values, fitting_frame, callee_frame};
 
 use crate::applying::{break_off, put_frame};

@@ -6,7 +6,7 @@ ghost use Rattle.const_pool.specs.declared.descriptor.Kind.TheVariants as kind;
 ghost use Rattle.jvm_model.specs.Rules.{line_text};
 ghost use Rattle.jvm_model.specs.Values.{loaded};
 ghost use Rattle.jvm_model.specs.LocalRules.{calculated, calculates, pushes, returns};
-ghost use Rattle.jvm_machine.specs.Attempts.{asks, asks_println, printed, writes};
+ghost use Rattle.jvm_model.specs.Attempts.{asks, asks_println, printed, writes};
 ghost use Rattle.jvm_machine.specs.Flows.{outcome_of, stands};
 
 use crate::flow::Flow;

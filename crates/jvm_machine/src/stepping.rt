@@ -3,8 +3,8 @@
 ghost use Rattle.std.specs.Prelude.{◌≡◌, ◌^◌, ◌<◌, false, List, OnOk, IfOk};
 ghost use Rattle.jvm_model.specs.Data.{Change};
 ghost use Rattle.jvm_model.specs.Run.{before};
-ghost use Rattle.jvm_machine.specs.Attempts.{does_line, attempts, closed_state, attempt_placed, start_placed, ready, has_begun};
-ghost use Rattle.jvm_machine.specs.Installed.{world_in, line_in};
+ghost use Rattle.jvm_model.specs.Attempts.{does_line, attempts, closed_state, attempt_placed, start_placed, ready, has_begun};
+ghost use Rattle.jvm_model.specs.Installed.{world_in, line_in};
 ghost use Rattle.jvm_machine.specs.Moves.{told_by, entered, stepped, begun_move, rest_of, moved_on, clock_in};
 
 use crate::applying::{apply, break_off};

@@ -1,32 +1,52 @@
 //! Looking up, once for each place of each version, what stands there.
 
-ghost use Rattle.std.specs.Prelude.{◌≡◌, ◌<◌, ◌^◌, length, IfOk};
+ghost use Rattle.std.specs.Prelude.{◌≡◌, ◌<◌, ◌^◌, Some, length, IfOk};
+ghost use Rattle.const_pool.specs.declared.class.ClassFile.{ClassFile as Class};
+ghost use Rattle.jvm_model.specs.Data.{Operation};
 ghost use Rattle.code_model.specs.Instructions.{end_of};
-ghost use Rattle.jvm_model.specs.Lines.{line_of, code_line};
+ghost use Rattle.std.specs.Option.{option_and_then};
+ghost use Rattle.jvm_model.specs.Lines.{ends, instruction_of};
+ghost use Rattle.jvm_model.specs.Resolved.{resolved_in, line_of};
+ghost use Rattle.jvm_model.specs.StandsFor.{code_line};
 ghost use Rattle.jvm_machine.specs.TableEntries.{origins_of, line_with, lines_of, probes_of, version_of, versions_of, HasShortCode, FitsVersions};
 
-use crate::lookup::operation_of;
+use crate::lookup::resolved_of;
 use crate::origins::origins_of;
 use crate::prepare::code_of;
 use crate::probes::{Probe, probe_in};
-use crate::tables::Version;
+use crate::tables::PreparedVersion;
 use code_model::{Homes, Instr, instr_at};
 use const_pool::{ClassFile, Member};
 use jf_bytes::{NoMemory, Seq};
-use jvm_model::Line;
+use jvm_model::{Line, Resolved};
 use std::alloc::Global;
 
-/// What an instruction does, and where the next one begins.
+/// Whether control never goes on behind an operation.
+fn ends(operation: Resolved) -> bool
+    ensures { (c : Class) (o : Operation) → resolved_in c o ≡ Some operation → result ≡ ends o }
+{
+    match operation {
+        Resolved::Ireturn | Resolved::Return => true,
+        _ => false,
+    }
+}
+
+/// What an instruction does, and where its frame goes on.
 fn line_of(class: &ClassFile, instr: &Instr) -> Option<Line>
     requires methods { length class.now.methods < 2 ^ 32 }
     requires ends { end_of instr.now < 2 ^ 16 }
-    ensures { result ≡ line_of class.now instr.now }
+    ensures { result ≡ option_and_then (line_of class.now) (instruction_of class.now instr.now) }
 {
-    let operation = operation_of(class, instr)?;
+    let operation = resolved_of(class, instr)?;
+    let next = if ends(operation) {
+        None
+    } else {
+        Some(instr.next_offset())
+    };
     Some(Line {
         operation,
         own: instr.at,
-        next: instr.next_offset(),
+        next,
     })
 }
 
@@ -90,19 +110,19 @@ fn prepare_version(
     image: &ClassFile,
     homes: &Option<Homes>,
     member: &Member,
-) -> Result<Version, NoMemory>
+) -> Result<PreparedVersion, NoMemory>
     requires methods { length image.now.methods < 2 ^ 32 }
     requires short { HasShortCode member.now }
     ensures { IfOk result (λ version. version ≡ version_of image.now homes.now member.now) }
 {
     let Some(code) = code_of(member) else {
-        return Ok(Version {
+        return Ok(PreparedVersion {
             lines: Seq::new(alloc),
             probes: Seq::new(alloc),
         });
     };
     let code = code.code.as_slice();
-    Ok(Version {
+    Ok(PreparedVersion {
         lines: lines_of(alloc, image, homes, code)?,
         probes: probes_of(alloc, image, code)?,
     })
@@ -113,7 +133,7 @@ pub fn prepare_versions(
     alloc: Global,
     image: &ClassFile,
     homes: &[Option<Homes>],
-) -> Result<Seq<Version>, NoMemory>
+) -> Result<Seq<PreparedVersion>, NoMemory>
     requires { FitsVersions image.now homes.now }
     ensures { IfOk result (λ versions. versions ≡ versions_of image.now homes.now image.now.methods) }
 {

@@ -62,7 +62,7 @@ pub record NthImage (count number : ℕ) (marks : List Mark) (old : Member) (new
   pub housed : slice_get homes k ≡ Some home
   pub image : IsMemberImage count (number + k) mark old new home
 
-abbrev has_code : Member → Type 0
+abbrev pub has_code : Member → Type 0
 has_code m = is_some (code_of m) ≡ true
 
 pub nth-image : (count number : ℕ) (marks : List Mark) (olds news : List Member) (homes : List (Option Homes)) (k : ℕ) (old : Member)
@@ -147,7 +147,7 @@ method_from-kept pool more wanted n count number [] [] [] (h ∷ homes) has are 
 
 -- ---- a small class
 
-each-nth : {A : Type 0} (P : A → Type 0) (xs : List A) → ((k : ℕ) (x : A) → slice_get xs k ≡ Some x → P x) → AllByRecursion P xs
+pub each-nth : {A : Type 0} (P : A → Type 0) (xs : List A) → ((k : ℕ) (x : A) → slice_get xs k ≡ Some x → P x) → AllByRecursion P xs
 each-nth P [] all = tt
 each-nth P (x ∷ xs) all = (all 0 x refl, each-nth P xs (λ k y e. all (suc k) y e))
 

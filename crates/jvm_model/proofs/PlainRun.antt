@@ -1,6 +1,6 @@
--- The worked run of class P1 from its bytes: main prints f(41), which is 42, and returns in the ninth step; its activations;
--- and what is projected and told of it where f is selected.
-use Rattle.std.specs.Prelude.{◌≡◌, ℕ, List, [], ◌∷◌, ◌++◌, Some, None, true, refl, codes}
+-- The worked run of class P1 from its bytes: main prints f(41), which is 42, and returns in the ninth step; and of mains that
+-- calculate something else.
+use Rattle.std.specs.Prelude.{◌≡◌, ℕ, List, [], ◌∷◌, ◌++◌, Some, None, refl, codes}
 use Rattle.std.specs.Fmt.{digits}
 use Rattle.const_pool.specs.declared.pool.Const.{Const}
 use Rattle.const_pool.specs.declared.pool.Const.TheVariants.{Gap, Utf8, Class, Field, Method, NameType}
@@ -8,14 +8,9 @@ use Rattle.const_pool.specs.declared.class.ClassFile.{ClassFile}
 use Rattle.const_pool.specs.declared.class.Member.{Member}
 use Rattle.const_pool.specs.declared.class.CodeAttribute.{CodeAttribute}
 use Rattle.const_pool.specs.declared.class.Attribute.TheVariants.{Code}
-use Rattle.jvm_model.specs.declared.event.Act.{Act}
-use Rattle.jvm_model.specs.declared.event.EventKind.TheVariants as kind
 use Rattle.jvm_model.specs.Data.{World, Returned, Unverifiable}
 use Rattle.jvm_model.specs.Programs.{world_of}
 use Rattle.jvm_model.specs.Run.{turn_in, output_of, ending_of}
-use Rattle.jvm_model.specs.Activations.{trace_in, trace}
-use Rattle.jvm_model.specs.EventLists.{events_of, full_marking}
-use Rattle.jvm_model.specs.Projection.{paths_made, projection}
 
 abbrev pub p1_pool : List Const
 p1_pool = Gap ∷ Utf8 (codes "P1") ∷ Class 1 ∷ Utf8 (codes "java/lang/Object") ∷ Class 3 ∷ Utf8 (codes "java/lang/System") ∷ Class 5 ∷ Utf8 (codes "out") ∷ Utf8 (codes "Ljava/io/PrintStream;") ∷ NameType 7 8 ∷ Field 6 9 ∷ Utf8 (codes "f") ∷ Utf8 (codes "(I)I") ∷ NameType 11 12 ∷ Method 2 13 ∷ Utf8 (codes "java/io/PrintStream") ∷ Class 15 ∷ Utf8 (codes "println") ∷ Utf8 (codes "(I)V") ∷ NameType 17 18 ∷ Method 16 19 ∷ Utf8 (codes "main") ∷ Utf8 (codes "([Ljava/lang/String;)V") ∷ Utf8 (codes "Code") ∷ []
@@ -51,59 +46,31 @@ printing_bytes bytes = (178 ∷ 0 ∷ 10 ∷ []) ++ bytes ++ 182 ∷ 0 ∷ 20 �
 abbrev pub p1 : ClassFile
 p1 = class_with (method_with 11 12 (26 ∷ 4 ∷ 96 ∷ 172 ∷ []) ∷ method_with 21 22 (printing_bytes (16 ∷ 41 ∷ 184 ∷ 0 ∷ 14 ∷ [])) ∷ [])
 
-abbrev pub p1_world : World
-p1_world = world_of p1 1 []
+-- it runs alone, and reads nothing
+abbrev pub plain : World
+plain = world_of p1 1 []
 
 -- nothing is written up to the seventh step, and then the line
-pub before_println : output_of p1_world 7 ≡ []
+pub before_println : output_of plain 7 ≡ []
 unfolding turn_in digits
 before_println = refl
 
-pub after_println : output_of p1_world 8 ≡ codes "42\n"
+pub after_println : output_of plain 8 ≡ codes "42\n"
 unfolding turn_in digits
 after_println = refl
 
 -- the run goes on up to the eighth step, and returns in the ninth
-pub goes_on : ending_of p1_world 8 ≡ None
+pub goes_on : ending_of plain 8 ≡ None
 unfolding turn_in digits
 goes_on = refl
 
-pub has_returned : ending_of p1_world 9 ≡ Some Returned
+pub has_returned : ending_of plain 9 ≡ Some Returned
 unfolding turn_in digits
 has_returned = refl
 
-pub trace-f : trace p1_world 9 ≡ record {
-  activations = record { method = 1; parent = None; begin = 0; «end» = Some 9 } ∷ record { method = 0; parent = Some 0; begin = 3; «end» = Some 7 } ∷ [];
-  live = [];
-}
-unfolding trace_in turn_in digits
-trace-f = refl
-
--- ---- the invocation is a step of the caller, and the return one of the callee
-
-abbrev pub selecting : ℕ → List Act
-selecting method = record { moment = 0; select = true; method = method } ∷ []
-
-pub projection-f : projection (selecting 0) p1_world 9 ≡ record { path = 0 ∷ []; calls = 1; own = 4 } ∷ []
-unfolding paths_made trace_in turn_in digits
-projection-f = refl
-
--- after the step that invokes f
-pub projection-begun : projection (selecting 0) p1_world 3 ≡ record { path = 0 ∷ []; calls = 1; own = 0 } ∷ []
-unfolding paths_made trace_in turn_in digits
-projection-begun = refl
-
-pub projection-main : projection (selecting 1) p1_world 9 ≡ record { path = 1 ∷ []; calls = 1; own = 5 } ∷ record { path = 1 ∷ 0 ∷ []; calls = 1; own = 4 } ∷ []
-unfolding paths_made trace_in turn_in digits
-projection-main = refl
-
--- main is no root, and its version tells too
-pub events-f : events_of (full_marking (selecting 0)) p1_world 9 ≡ record { kind = kind.Enter; method = 1; clock = 0 }
-    ∷ record { kind = kind.Root; method = 0; clock = 3 }
-    ∷ record { kind = kind.Leave; method = 0; clock = 7 }
-    ∷ record { kind = kind.Leave; method = 1; clock = 9 } ∷ []
-unfolding events_of trace_in turn_in digits
-events-f = refl
+pub stays_returned : ending_of plain 12 ≡ Some Returned
+unfolding turn_in digits
+stays_returned = refl
 
 -- ---- arithmetic, wrapped to 32 bits
 

@@ -114,7 +114,7 @@ line_behind image homes method place = version_line image homes method (behind_l
 abbrev pub rewritten : ClassFile → ℕ → ClassFile → List (Option Homes) → Text
 rewritten c main image homes = let t = original (alone c main) in record {
   current = λ method. method;
-  first = λ method. first_place image method;
+  first = λ method. home_at homes method (t.first method);
   at = λ method place. option_and_then (λ (line : Line). option_map (moved_instruction (home_at homes method)) (t.at method line.own)) (line_behind image homes method place);
   handlers = λ method. map (moved_catcher (home_at homes method)) (t.handlers method);
 }

@@ -1,5 +1,5 @@
 -- The event list of a run: what the probes of rewritten versions tell, said of the changes of each step.
-use Rattle.std.specs.Prelude.{◌≡◌, ℕ, zero, suc, List, [], ◌∷◌, ◌++◌, Option, Some, None, refl, slice_get, if◌then◌else◌}
+use Rattle.std.specs.Prelude.{◌≡◌, ℕ, zero, suc, ◌+◌, List, [], ◌∷◌, ◌++◌, Option, refl, slice_get, if◌then◌else◌}
 use Rattle.std.specs.Option.{option_and_then, option_map_or}
 use Rattle.jvm_model.specs.declared.event.Act.{Act}
 use Rattle.jvm_model.specs.declared.event.Event.{Event}
@@ -63,6 +63,17 @@ events_of-zero marking w = refl
 pub events_of-suc : (marking : Marking) (w : World) (n : ℕ) → events_of marking w (suc n) ≡ events_of marking w n ++ step_events marking w (suc n)
 unfolding events_of
 events_of-suc marking w n = refl
+
+-- how many entries there are among events
+abbrev pub entries_by : EventKind → ℕ
+entries_by kind.Root = 1
+entries_by kind.Enter = 1
+entries_by kind.Leave = 0
+entries_by kind.Unwind = 0
+
+abbrev pub entries : List Event → ℕ
+entries [] = 0
+entries (e ∷ more) = entries_by e.kind + entries more
 
 -- where every selected method is a root and every other method is marked too
 abbrev pub full_marking : List Act → Marking

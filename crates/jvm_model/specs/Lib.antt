@@ -19,11 +19,16 @@ pub mod Growth
 pub mod Changes
 pub mod Moved
 pub mod Closed
+pub mod StandsForRun
 pub mod Versions
 pub mod Images
 pub mod Paths
 pub mod Activations
 pub mod Projection
 pub mod EventLists
+pub mod Places
 pub mod StandsFor
 pub mod Agreement
+pub mod Installed
+pub mod Attempts
+pub mod Quiet

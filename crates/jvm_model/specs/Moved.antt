@@ -86,11 +86,22 @@ abbrev pub HaveBounds : (ℕ → ℕ → ℕ) → ℕ → List Catcher → Type 
 HaveBounds norm v [] = Unit {0}
 HaveBounds norm v (h ∷ more) = IsPlace norm v h.start × IsPlace norm v h.finish × HaveBounds norm v more
 
--- The second text has the lines and handlers of the first by homes, which rise strictly over the places.
+-- The second text has the lines and handlers of the first by homes, which rise strictly over the places where there are
+-- handlers.
 pub record Agrees (norm : ℕ → ℕ → ℕ) (m : Moving) (t u : Text) : Type 0 where
   pub current : (k : ℕ) → u.current k ≡ m.version (t.current k)
   pub first : (v : ℕ) → u.first (m.version v) ≡ m.home v (t.first v)
   pub lines : (v at : ℕ) → IsPlace norm v at → u.at (m.version v) (m.home v at) ≡ option_map (moved_instruction (m.home v)) (t.at v at)
   pub handlers : (v : ℕ) → u.handlers (m.version v) ≡ map (moved_catcher (m.home v)) (t.handlers v)
   pub bounds : (v : ℕ) → HaveBounds norm v (t.handlers v)
-  pub rises : (v a b : ℕ) → IsPlace norm v a → IsPlace norm v b → a < b → m.home v a < m.home v b
+  pub rises : (v a b : ℕ) → (t.handlers v ≡ [] → ⊥) → IsPlace norm v a → IsPlace norm v b → a < b → m.home v a < m.home v b
+
+-- ---- placed states
+
+-- each place as `norm` has it
+abbrev pub self : (ℕ → ℕ → ℕ) → Moving
+self norm = record { version = λ v. v; home = norm }
+
+-- its frames stand at places, and all its return addresses are places
+abbrev pub IsPlaced : (ℕ → ℕ → ℕ) → State → Type 0
+IsPlaced norm s = moved_stack (self norm) s.stack ≡ s.stack

@@ -68,9 +68,13 @@ place_of_method p method = slice_get p.methods method
 abbrev pub same_place : ℕ → ℕ → MethodPlace → Bool
 same_place class at place = place.class == class && place.position == at
 
--- the number of the method at this position of a class
+-- the number of the method at this position of a class, counted from this number
+abbrev pub number_from : ℕ → ℕ → ℕ → List MethodPlace → Option ℕ
+number_from n class at [] = None
+number_from n class at (place ∷ rest) = if same_place class at place then Some n else number_from (n + 1) class at rest
+
 abbrev pub number_of_method : Program → ℕ → ℕ → Option ℕ
-number_of_method p class at = position (same_place class at) p.methods
+number_of_method p class at = number_from 0 class at p.methods
 
 -- something that is looked up by a method's class and position, for the method with this number
 abbrev pub by_number : {A : Type 0} → Program → (ClassFile → ℕ → Option A) → ℕ → Option A

@@ -7,7 +7,15 @@ use Rattle.const_pool.specs.declared.descriptor.Kind.TheVariants as kind
 use Rattle.jvm_model.specs.declared.operation.Line.{Line}
 use Rattle.jvm_model.specs.declared.operation.Resolved.{Resolved}
 use Rattle.jvm_model.specs.declared.operation.Resolved.TheVariants as resolved
-use Rattle.jvm_model.specs.Data.{Locals, Operands, Frame, Entry, Active, Initializing, Part, Ready, Change, Loads, Began, Left, Unwound, Returned, Unverifiable, Shared, State, Turn, Next, Outcome, GoesOn, Returns, Breaks, World}
+use Rattle.jvm_model.specs.declared.state.Frame.{Frame}
+use Rattle.jvm_model.specs.declared.state.Entry.{Entry}
+use Rattle.jvm_model.specs.declared.state.Part.{Part}
+use Rattle.jvm_model.specs.declared.state.Shared.{Shared}
+use Rattle.jvm_model.specs.declared.state.State.{State}
+use Rattle.jvm_model.specs.declared.state.Entry.TheVariants.{Active, Initializing}
+use Rattle.jvm_model.specs.declared.state.Phase.TheVariants.{Ready}
+use Rattle.jvm_model.specs.declared.ending.Ending.TheVariants.{Returned, Unverifiable}
+use Rattle.jvm_model.specs.Data.{Locals, Operands, Change, Loads, Began, Left, Unwound, Turn, Next, Outcome, GoesOn, Returns, Breaks, World}
 use Rattle.jvm_model.specs.Methods.{method_params}
 use Rattle.jvm_model.specs.Values.{loaded}
 use Rattle.jvm_model.specs.LocalRules.{pushes, calculates, returns}
@@ -16,7 +24,7 @@ use Rattle.jvm_model.specs.Applies.{still, breaks, applies, new_frame, has_room}
 use Rattle.jvm_model.specs.Moves.{argument_array}
 use Rattle.jvm_model.specs.SharedState.{with_phase}
 use Rattle.jvm_model.specs.Run.{before, with_loaded}
-use Rattle.jvm_machine.specs.Installed.{Installed, world_in, line_in, placed, tabled}
+use Rattle.jvm_model.specs.Installed.{Installed, world_in, line_in, placed, tabled}
 
 -- ---- what an operation asks for, and what it writes
 
