@@ -99,7 +99,10 @@ library = record { name = object_name; above = None; fields = []; routines = [] 
     ∷ plain_class (codes "java/lang/Error") (codes "java/lang/Throwable")
     ∷ plain_class (codes "java/lang/LinkageError") (codes "java/lang/Error")
     ∷ plain_class (codes "java/lang/NoClassDefFoundError") (codes "java/lang/LinkageError")
-    ∷ plain_class (codes "java/lang/ExceptionInInitializerError") (codes "java/lang/LinkageError") ∷ []
+    ∷ plain_class (codes "java/lang/ExceptionInInitializerError") (codes "java/lang/LinkageError")
+    ∷ plain_class (codes "java/lang/IncompatibleClassChangeError") (codes "java/lang/LinkageError")
+    ∷ plain_class (codes "java/lang/NoSuchFieldError") (codes "java/lang/IncompatibleClassChangeError")
+    ∷ plain_class (codes "java/lang/NoSuchMethodError") (codes "java/lang/IncompatibleClassChangeError") ∷ []
 
 -- ---- the program, and its text
 

@@ -8,7 +8,7 @@ use Rattle.jvm_model.specs.Run.{turn_in}
 use Rattle.jvm_model.specs.Activations.{Activation, trace_in}
 use Rattle.jvm_model.specs.EventLists.{full_marking, all_told}
 use Rattle.jvm_model.specs.SharedState.{null_pointer, throwable, error}
-use Rattle.jvm_model.proofs.WorkedPrograms.{Routine, Sketches, places_of, after, changes_of, trace_by, member, routine, main_routine, alone, at, null, pop, returns, call}
+use Rattle.jvm_model.proofs.WorkedPrograms.{Routine, Sketches, places_of, after, changes_of, trace_by, member, routine, main_routine, alone, at, null, pop, returns, getstatic, putstatic, call}
 
 -- ---- main calls a, a calls b, b calls c, and c throws a NullPointerException
 
@@ -109,3 +109,33 @@ other_class-passes = refl
 pub other_range-passes : stands_at (catching 3 9 3 None ∷ catching 0 0 4 None ∷ catching 0 1 5 None ∷ []) ≡ 5 ∷ []
 unfolding turn_in
 other_range-passes = refl
+
+-- ---- names that are not there: the class is sought first, then its member; nothing of it is initialized
+
+-- main is this instruction, of three bytes
+abbrev pub lone : Operation → Sketches
+lone operation = record { classes = alone (codes "Q") (main_routine 1 (at 0 3 operation ∷ []) ∷ []) ∷ []; main = 0 }
+
+pub no_class-of_field : (after (lone (getstatic (codes "Absent") (codes "b"))) 1).ending ≡ Some (Uncaught 8)
+unfolding turn_in
+no_class-of_field = refl
+
+pub no_class-of_set_field : (after (lone (putstatic (codes "Absent") (codes "b"))) 1).ending ≡ Some (Uncaught 8)
+unfolding turn_in
+no_class-of_set_field = refl
+
+pub no_class-of_method : (after (lone (call (codes "Absent") (codes "f") (codes "()V"))) 1).ending ≡ Some (Uncaught 8)
+unfolding turn_in
+no_class-of_method = refl
+
+pub no_field : (after (lone (getstatic (codes "Q") (codes "b"))) 1).ending ≡ Some (Uncaught 11)
+unfolding turn_in
+no_field = refl
+
+pub no_set_field : (after (lone (putstatic (codes "Q") (codes "b"))) 1).ending ≡ Some (Uncaught 11)
+unfolding turn_in
+no_set_field = refl
+
+pub no_method : (after (lone (call (codes "Q") (codes "f") (codes "()V"))) 1).ending ≡ Some (Uncaught 12)
+unfolding turn_in
+no_method = refl
