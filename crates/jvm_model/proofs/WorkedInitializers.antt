@@ -2,11 +2,12 @@
 -- that throw (JVM Specification 5.5).
 use Rattle.std.specs.Prelude.{◌≡◌, ℕ, List, [], ◌∷◌, Some, None, pos, refl, codes, take, drop, map}
 use Rattle.heap_objects.specs.declared.datum.Datum.TheVariants as datum
-use Rattle.jvm_model.specs.Data.{Instruction, Athrow, Ready, Erroneous, Returned, Uncaught, Loads, Began, Left, Unwound}
+use Rattle.jvm_model.specs.Data.{Instruction, Athrow, Ready, Erroneous, Returned, Loads, Began, Left, Unwound}
+use Rattle.jvm_model.specs.Programs.{name_at}
 use Rattle.jvm_model.specs.Run.{turn_in}
 use Rattle.jvm_model.specs.Activations.{trace_in}
-use Rattle.jvm_model.specs.SharedState.{in_initializer, phase_of, class_of_object}
-use Rattle.jvm_model.proofs.WorkedPrograms.{Routine, Sketch, Sketches, object_name, places_of, after, changes_of, trace_by, main_routine, initializer, alone, at, int, null, pop, returns, getstatic, putstatic}
+use Rattle.jvm_model.specs.SharedState.{null_pointer, in_initializer, no_class_definition, phase_of, class_of_object}
+use Rattle.jvm_model.proofs.WorkedPrograms.{Routine, Sketch, Sketches, object_name, world_by, places_of, uncaught_of, after, changes_of, trace_by, main_routine, initializer, alone, at, int, null, pop, returns, getstatic, putstatic}
 
 -- a class with one static field
 abbrev pub with_field : List ℕ → List ℕ → List ℕ → List Routine → Sketch
@@ -108,11 +109,11 @@ first_returns-returns = refl
 abbrev pub throws : Routine
 throws = initializer (at 0 1 null ∷ at 1 1 Athrow ∷ [])
 
--- main never begins; behind M and eight others of the library stands ExceptionInInitializerError
+-- main never begins
 abbrev pub first_throws : Sketches
 first_throws = own_initializer (at 0 1 null ∷ at 1 1 Athrow ∷ [])
 
-pub first_throws-ends : (after first_throws 2).ending ≡ Some (Uncaught 9)
+pub first_throws-ends : (after first_throws 2).ending ≡ uncaught_of first_throws in_initializer
 unfolding turn_in
 first_throws-ends = refl
 
@@ -145,8 +146,7 @@ pub used_twice-goes_on : (after used_twice 4).ending ≡ None
 unfolding turn_in
 used_twice-goes_on = refl
 
--- the later use throws NoClassDefFoundError
-pub used_twice-ends : (after used_twice 5).ending ≡ Some (Uncaught 9)
+pub used_twice-ends : (after used_twice 5).ending ≡ uncaught_of used_twice no_class_definition
 unfolding turn_in
 used_twice-ends = refl
 
@@ -160,7 +160,7 @@ used_by_subclass = record {
   main = 0;
 }
 
-pub used_by_subclass-ends : (after used_by_subclass 3).ending ≡ Some (Uncaught 11)
+pub used_by_subclass-ends : (after used_by_subclass 3).ending ≡ uncaught_of used_by_subclass in_initializer
 unfolding turn_in
 used_by_subclass-ends = refl
 
@@ -173,6 +173,6 @@ unfolding turn_in
 used_by_subclass-classes = refl
 
 -- the NullPointerException and its one wrapper
-pub used_by_subclass-objects : map class_of_object (after used_by_subclass 3).shared.heap ≡ 7 ∷ 11 ∷ []
+pub used_by_subclass-objects : map (λ o. name_at (world_by used_by_subclass).program (class_of_object o)) (after used_by_subclass 3).shared.heap ≡ Some null_pointer ∷ Some in_initializer ∷ []
 unfolding turn_in
 used_by_subclass-objects = refl

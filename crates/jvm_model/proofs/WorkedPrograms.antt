@@ -1,7 +1,7 @@
 -- Programs by hand, for worked runs: instructions as lists, beside the class format. Of a class file there is what the rules look
 -- up in it: names, superclass, static fields, and what each method takes, gives and has room for. Its bytes are never read.
 use Rattle.std.specs.Prelude.{ℕ, ◌+◌, List, [], ◌∷◌, ◌++◌, map, Option, Some, None, codes, pos, slice_get, unwrap_or, ◌==◌, if◌then◌else◌}
-use Rattle.std.specs.Option.{option_map_or}
+use Rattle.std.specs.Option.{option_map, option_map_or}
 use Rattle.heap_objects.specs.declared.datum.Datum.TheVariants as datum
 use Rattle.const_pool.specs.declared.descriptor.Kind.TheVariants as kind
 use Rattle.const_pool.specs.declared.pool.Const.{Const}
@@ -10,10 +10,10 @@ use Rattle.const_pool.specs.declared.class.ClassFile.{ClassFile}
 use Rattle.const_pool.specs.declared.class.Member.{Member}
 use Rattle.const_pool.specs.declared.class.Attribute.TheVariants.{Code}
 use Rattle.const_pool.specs.References.{NameAndType, Reference}
-use Rattle.jvm_model.specs.Data.{Entry, Active, Initializing, Constant, Load, Arrange, Return, Operation, Within, Getstatic, Putstatic, Invokestatic, Invokevirtual, Instruction, Catcher, Text, World, Change, State, Turn}
+use Rattle.jvm_model.specs.Data.{Ending, Uncaught, Entry, Active, Initializing, Constant, Load, Arrange, Return, Operation, Within, Getstatic, Putstatic, Invokestatic, Invokevirtual, Instruction, Catcher, Text, World, Change, State, Turn}
 use Rattle.jvm_model.specs.StackForms
 use Rattle.jvm_model.specs.Lines.{next_of}
-use Rattle.jvm_model.specs.Programs.{numbered}
+use Rattle.jvm_model.specs.Programs.{numbered, class_named}
 use Rattle.jvm_model.specs.Run.{turn_in}
 use Rattle.jvm_model.specs.Activations.{Trace, trace_in}
 
@@ -148,6 +148,10 @@ changes_of s n = (turn_by s n).changes
 
 abbrev pub trace_by : Sketches → ℕ → Trace
 trace_by s n = trace_in (world_by s) (text_by s) n
+
+-- that the run ended, for what was thrown is of the class with this name
+abbrev pub uncaught_of : Sketches → List ℕ → Option Ending
+uncaught_of s name = option_map Uncaught (class_named (world_by s).program name)
 
 -- where its frames stand, the current one first
 abbrev pub places_of : List Entry → List ℕ

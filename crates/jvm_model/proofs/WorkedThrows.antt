@@ -1,14 +1,14 @@
--- Worked runs over lists of instructions: a throw through three frames, caught and not.
+-- Worked runs over lists of instructions: a throw through three frames, caught and not; and names that are not there.
 use Rattle.std.specs.Prelude.{◌≡◌, ℕ, true, List, [], ◌∷◌, Option, Some, None, refl, codes}
 use Rattle.jvm_model.specs.declared.event.Act.{Act}
 use Rattle.jvm_model.specs.declared.event.Event.{Event}
 use Rattle.jvm_model.specs.declared.event.EventKind.TheVariants as kind
-use Rattle.jvm_model.specs.Data.{Instruction, Operation, Athrow, Returned, Uncaught, Unwound, Catcher}
+use Rattle.jvm_model.specs.Data.{Instruction, Operation, Athrow, Returned, Unwound, Catcher}
 use Rattle.jvm_model.specs.Run.{turn_in}
 use Rattle.jvm_model.specs.Activations.{Activation, trace_in}
 use Rattle.jvm_model.specs.EventLists.{full_marking, all_told}
-use Rattle.jvm_model.specs.SharedState.{null_pointer, throwable, error}
-use Rattle.jvm_model.proofs.WorkedPrograms.{Routine, Sketches, places_of, after, changes_of, trace_by, member, routine, main_routine, alone, at, null, pop, returns, getstatic, putstatic, call}
+use Rattle.jvm_model.specs.SharedState.{null_pointer, throwable, error, no_class_definition, no_such_field, no_such_method}
+use Rattle.jvm_model.proofs.WorkedPrograms.{Routine, Sketches, places_of, uncaught_of, after, changes_of, trace_by, member, routine, main_routine, alone, at, null, pop, returns, getstatic, putstatic, call}
 
 -- ---- main calls a, a calls b, b calls c, and c throws a NullPointerException
 
@@ -63,8 +63,7 @@ pub uncaught-goes_on : (after uncaught 4).ending ≡ None
 unfolding turn_in
 uncaught-goes_on = refl
 
--- of the class at this position: the NullPointerException behind T and four others
-pub uncaught-ends : (after uncaught 5).ending ≡ Some (Uncaught 5)
+pub uncaught-ends : (after uncaught 5).ending ≡ uncaught_of uncaught null_pointer
 unfolding turn_in
 uncaught-ends = refl
 
@@ -116,26 +115,30 @@ other_range-passes = refl
 abbrev pub lone : Operation → Sketches
 lone operation = record { classes = alone (codes "Q") (main_routine 1 (at 0 3 operation ∷ []) ∷ []) ∷ []; main = 0 }
 
-pub no_class-of_field : (after (lone (getstatic (codes "Absent") (codes "b"))) 1).ending ≡ Some (Uncaught 8)
+-- it ends the run by this exception
+abbrev pub Raises : Operation → List ℕ → Type 0
+Raises operation name = (after (lone operation) 1).ending ≡ uncaught_of (lone operation) name
+
+pub no_class-of_field : Raises (getstatic (codes "Absent") (codes "b")) no_class_definition
 unfolding turn_in
 no_class-of_field = refl
 
-pub no_class-of_set_field : (after (lone (putstatic (codes "Absent") (codes "b"))) 1).ending ≡ Some (Uncaught 8)
+pub no_class-of_set_field : Raises (putstatic (codes "Absent") (codes "b")) no_class_definition
 unfolding turn_in
 no_class-of_set_field = refl
 
-pub no_class-of_method : (after (lone (call (codes "Absent") (codes "f") (codes "()V"))) 1).ending ≡ Some (Uncaught 8)
+pub no_class-of_method : Raises (call (codes "Absent") (codes "f") (codes "()V")) no_class_definition
 unfolding turn_in
 no_class-of_method = refl
 
-pub no_field : (after (lone (getstatic (codes "Q") (codes "b"))) 1).ending ≡ Some (Uncaught 11)
+pub no_field : Raises (getstatic (codes "Q") (codes "b")) no_such_field
 unfolding turn_in
 no_field = refl
 
-pub no_set_field : (after (lone (putstatic (codes "Q") (codes "b"))) 1).ending ≡ Some (Uncaught 11)
+pub no_set_field : Raises (putstatic (codes "Q") (codes "b")) no_such_field
 unfolding turn_in
 no_set_field = refl
 
-pub no_method : (after (lone (call (codes "Q") (codes "f") (codes "()V"))) 1).ending ≡ Some (Uncaught 12)
+pub no_method : Raises (call (codes "Q") (codes "f") (codes "()V")) no_such_method
 unfolding turn_in
 no_method = refl
