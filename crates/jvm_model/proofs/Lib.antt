@@ -41,3 +41,8 @@ pub mod QuietChanges
 pub mod QuietRun
 pub mod QuietEvents
 pub mod EventClocks
+pub mod WorkedPrograms
+pub mod WorkedRuns
+pub mod WorkedThrows
+pub mod WorkedInitializers
+pub mod WorkedLimits

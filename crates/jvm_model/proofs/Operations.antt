@@ -10,7 +10,7 @@ use Rattle.jvm_model.specs.Values.{as_value, datum_of, data_of, arguments}
 use Rattle.jvm_model.specs.SharedState.{phase_of, Field, field_of_reference, static_at, class_of, throwable, null_pointer}
 use Rattle.jvm_model.specs.Programs.{is_subclass, class_of_reference, method_of_reference, params_of_method}
 use Rattle.jvm_model.specs.LocalRules.{pushes}
-use Rattle.jvm_model.specs.Rules.{done, when_ready, is_out, is_println, is_print_stream, gets_field, gets, kind_of, puts_datum, puts, puts_field, invokes, invokes_with, invokes_method, invokes_static, line_text, prints, invokes_virtual, throws, does, loads}
+use Rattle.jvm_model.specs.Rules.{done, when_ready, is_out, is_println, is_print_stream, missing_field, gets_field, gets, kind_of, puts_datum, puts, puts_field, invokes, invokes_with, invokes_method, invokes_static, line_text, prints, invokes_virtual, throws, does, loads}
 use Rattle.jvm_model.specs.Moved.{moved_value, moved_locals, moved_operands, moved_outcome, moved_done}
 use Rattle.jvm_model.proofs.WithinMoves.{kind-moves, pushed-moves, within-moves}
 
@@ -40,15 +40,15 @@ module _ (h : ℕ → ℕ) where
 
   -- ---- static fields
 
-  gets_field-moves : (f : Option Field) (s : Shared) (l : Locals) (o : Operands) → gets_field f s (moved_locals h l) (moved_operands h o) ≡ moved_done h (gets_field f s l o)
-  gets_field-moves None s l o = refl
-  gets_field-moves (Some f) s l o =
+  gets_field-moves : (missing : List ℕ) (f : Option Field) (s : Shared) (l : Locals) (o : Operands) → gets_field missing f s (moved_locals h l) (moved_operands h o) ≡ moved_done h (gets_field missing f s l o)
+  gets_field-moves missing None s l o = refl
+  gets_field-moves missing (Some f) s l o =
       ready-moves (phase_of s f.class) f.class s (done s (pushes (option_map as_value (static_at s f)) l o)) _ (ap (done s) (pushed-moves h (static_at s f) l o))
 
   gets-moves : (w : World) (r : Reference) (s : Shared) (l : Locals) (o : Operands) → gets w r s (moved_locals h l) (moved_operands h o) ≡ moved_done h (gets w r s l o)
   gets-moves w r s l o =
-      chosen-moves (is_out r) (done s (GoesOn l (Ref 3 ∷ o) Next)) _ (gets_field (field_of_reference w.program r) s l o) _ refl
-      (gets_field-moves (field_of_reference w.program r) s l o)
+      chosen-moves (is_out r) (done s (GoesOn l (Ref 3 ∷ o) Next)) _ (gets_field (missing_field w.program r) (field_of_reference w.program r) s l o) _ refl
+      (gets_field-moves (missing_field w.program r) (field_of_reference w.program r) s l o)
 
   puts_datum-moves : (f : Field) (d : Option Datum) (s : Shared) (l : Locals) (o : Operands) → puts_datum f d s (moved_locals h l) (moved_operands h o) ≡ moved_done h (puts_datum f d s l o)
   puts_datum-moves f None s l o = refl
@@ -59,9 +59,9 @@ module _ (h : ℕ → ℕ) where
       ap (λ d. puts_datum f d s (moved_locals h l) (moved_operands h below)) (kind-moves h (kind_of old) v) ∙ puts_datum-moves f (datum_of (kind_of old) v) s l below
   puts-moves f _ s l _ = refl
 
-  puts_field-moves : (f : Option Field) (s : Shared) (l : Locals) (o : Operands) → puts_field f s (moved_locals h l) (moved_operands h o) ≡ moved_done h (puts_field f s l o)
-  puts_field-moves None s l o = refl
-  puts_field-moves (Some f) s l o = ready-moves (phase_of s f.class) f.class s (puts f (static_at s f) s l o) _ (puts-moves f (static_at s f) s l o)
+  puts_field-moves : (missing : List ℕ) (f : Option Field) (s : Shared) (l : Locals) (o : Operands) → puts_field missing f s (moved_locals h l) (moved_operands h o) ≡ moved_done h (puts_field missing f s l o)
+  puts_field-moves missing None s l o = refl
+  puts_field-moves missing (Some f) s l o = ready-moves (phase_of s f.class) f.class s (puts f (static_at s f) s l o) _ (puts-moves f (static_at s f) s l o)
 
   -- ---- invocation
 
@@ -118,7 +118,7 @@ module _ (h : ℕ → ℕ) where
   pub does-moves : (w : World) (op : Operation) (s : Shared) (l : Locals) (o : Operands) → does w op s (moved_locals h l) (moved_operands h o) ≡ moved_done h (does w op s l o)
   does-moves w (Within i) s l o = ap (done s) (within-moves h i l o)
   does-moves w (Getstatic r) s l o = gets-moves w r s l o
-  does-moves w (Putstatic r) s l o = puts_field-moves (field_of_reference w.program r) s l o
+  does-moves w (Putstatic r) s l o = puts_field-moves (missing_field w.program r) (field_of_reference w.program r) s l o
   does-moves w (Invokestatic r) s l o = invokes_static-moves w (class_of_reference w.program r) (method_of_reference w.program r) s o
   does-moves w (Invokevirtual r) s l o = invokes_virtual-moves r s l o
   does-moves w Athrow s l o = ap (done s) (throws-moves w s o)

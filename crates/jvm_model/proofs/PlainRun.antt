@@ -1,5 +1,6 @@
--- The worked run of class P1: main prints f(41), which is 42, and returns after nine steps.
-use Rattle.std.specs.Prelude.{◌≡◌, ℕ, List, [], ◌∷◌, Some, None, refl, codes}
+-- The worked run of class P1 from its bytes: main prints f(41), which is 42, and returns in the ninth step; and of mains that
+-- calculate something else.
+use Rattle.std.specs.Prelude.{◌≡◌, ℕ, List, [], ◌∷◌, ◌++◌, Some, None, refl, codes}
 use Rattle.std.specs.Fmt.{digits}
 use Rattle.const_pool.specs.declared.pool.Const.{Const}
 use Rattle.const_pool.specs.declared.pool.Const.TheVariants.{Gap, Utf8, Class, Field, Method, NameType}
@@ -7,8 +8,7 @@ use Rattle.const_pool.specs.declared.class.ClassFile.{ClassFile}
 use Rattle.const_pool.specs.declared.class.Member.{Member}
 use Rattle.const_pool.specs.declared.class.CodeAttribute.{CodeAttribute}
 use Rattle.const_pool.specs.declared.class.Attribute.TheVariants.{Code}
-use Rattle.jvm_model.specs.declared.ending.Ending.TheVariants.{Returned}
-use Rattle.jvm_model.specs.Data.{World}
+use Rattle.jvm_model.specs.Data.{World, Returned, Unverifiable}
 use Rattle.jvm_model.specs.Programs.{world_of}
 use Rattle.jvm_model.specs.Run.{turn_in, output_of, ending_of}
 
@@ -18,11 +18,14 @@ p1_pool = Gap ∷ Utf8 (codes "P1") ∷ Class 1 ∷ Utf8 (codes "java/lang/Objec
 abbrev pub code_with : List ℕ → CodeAttribute
 code_with bytes = record { max_stack = 2; max_locals = 1; code = bytes; handlers = []; attributes = [] }
 
-abbrev pub method_with : ℕ → ℕ → List ℕ → Member
-method_with name descriptor bytes = record { access = 9; name = name; descriptor = descriptor; attributes = Code 23 (code_with bytes) ∷ [] }
+abbrev pub member_with : ℕ → ℕ → CodeAttribute → Member
+member_with name descriptor code = record { access = 9; name = name; descriptor = descriptor; attributes = Code 23 code ∷ [] }
 
-abbrev pub p1 : ClassFile
-p1 = record {
+abbrev pub method_with : ℕ → ℕ → List ℕ → Member
+method_with name descriptor bytes = member_with name descriptor (code_with bytes)
+
+abbrev pub class_with : List Member → ClassFile
+class_with methods = record {
   minor = 0;
   major = 50;
   pool = p1_pool;
@@ -31,15 +34,23 @@ p1 = record {
   super_class = 4;
   interfaces = [];
   fields = [];
-  methods = method_with 11 12 (26 ∷ 4 ∷ 96 ∷ 172 ∷ []) ∷ method_with 21 22 (178 ∷ 0 ∷ 10 ∷ 16 ∷ 41 ∷ 184 ∷ 0 ∷ 14 ∷ 182 ∷ 0 ∷ 20 ∷ 177 ∷ []) ∷ [];
+  methods = methods;
   attributes = [];
 }
+
+-- getstatic of System.out, these bytes, invokevirtual of println, return
+abbrev pub printing_bytes : List ℕ → List ℕ
+printing_bytes bytes = (178 ∷ 0 ∷ 10 ∷ []) ++ bytes ++ 182 ∷ 0 ∷ 20 ∷ 177 ∷ []
+
+-- f is iload_0, iconst_1, iadd, ireturn; main prints bipush 41, invokestatic f
+abbrev pub p1 : ClassFile
+p1 = class_with (method_with 11 12 (26 ∷ 4 ∷ 96 ∷ 172 ∷ []) ∷ method_with 21 22 (printing_bytes (16 ∷ 41 ∷ 184 ∷ 0 ∷ 14 ∷ [])) ∷ [])
 
 -- it runs alone, and reads nothing
 abbrev pub plain : World
 plain = world_of p1 1 []
 
--- nothing is written before the seventh step, and then the line
+-- nothing is written up to the seventh step, and then the line
 pub before_println : output_of plain 7 ≡ []
 unfolding turn_in digits
 before_println = refl
@@ -60,3 +71,24 @@ has_returned = refl
 pub stays_returned : ending_of plain 12 ≡ Some Returned
 unfolding turn_in digits
 stays_returned = refl
+
+-- ---- arithmetic, wrapped to 32 bits
+
+-- main alone, with up to three operands
+abbrev pub printing : List ℕ → World
+printing bytes = world_of (class_with (member_with 21 22 (record (code_with (printing_bytes bytes)) { max_stack = 3 }) ∷ [])) 0 []
+
+-- sipush -32768, iconst_3, isub, nop, iconst_m1, imul: the second operand of isub is the topmost
+pub subtracts : output_of (printing (17 ∷ 128 ∷ 0 ∷ 6 ∷ 100 ∷ 0 ∷ 2 ∷ 104 ∷ [])) 8 ≡ codes "32771\n"
+unfolding turn_in digits
+subtracts = refl
+
+-- sipush 32767, sipush 32767, imul, iconst_3, imul: 3221028867, less 2 ^ 32
+pub wraps : output_of (printing (17 ∷ 127 ∷ 255 ∷ 17 ∷ 127 ∷ 255 ∷ 104 ∷ 6 ∷ 104 ∷ [])) 7 ≡ codes "-1073938429\n"
+unfolding turn_in digits
+wraps = refl
+
+-- iadd of an int and a reference: at its offset, in the second step
+pub breaks : ending_of (printing (96 ∷ 0 ∷ [])) 2 ≡ Some (Unverifiable 0 3)
+unfolding turn_in digits
+breaks = refl

@@ -77,9 +77,9 @@ no-super c main small =
     let name : object_name ≡ above.0 = same-is object_name above.0 above.2 in
     let other : has_name above.0 c ≡ false =
     ap (λ o. option_map_or (same_text above.0) o false) own.1 ∙ not-both (same_text above.0 own.0) (λ e. (
-        let is : own.0 ≡ object_name = sym (same-is above.0 own.0 e) ∙ sym name in
-        let yes : same_text own.0 object_name ≡ true = ap (λ t. same_text t object_name) is ∙ same-refl object_name in
-        let no : true ≡ false = sym yes ∙ free-other own.0 own.2 in cc)) in
+    let is : own.0 ≡ object_name = sym (same-is above.0 own.0 e) ∙ sym name in
+    let yes : same_text own.0 object_name ≡ true = ap (λ t. same_text t object_name) is ∙ same-refl object_name in
+    let no : true ≡ false = sym yes ∙ free-other own.0 own.2 in cc)) in
     let none : class_named (alone c main) above.0 ≡ None = rw (other) refl in
     ap (option_and_then (class_named (alone c main))) above.1 ∙ none
 

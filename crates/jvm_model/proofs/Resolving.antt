@@ -18,7 +18,7 @@ use Rattle.jvm_model.specs.Methods.{is_member, method_from, method_named, method
 use Rattle.jvm_model.specs.LocalRules.{within}
 use Rattle.jvm_model.specs.Programs.{has_name, class_named, class_of_reference, method_of_reference, declared_method, number_of_method, params_of_method, alone, world_of}
 use Rattle.jvm_model.specs.SharedState.{phase_of, field_of_reference}
-use Rattle.jvm_model.specs.Rules.{done, when_ready, initialized, is_out, is_println, is_print_stream, line_text, gets_field, invokes_with, invokes_static, prints, does}
+use Rattle.jvm_model.specs.Rules.{done, when_ready, initialized, is_out, is_println, is_print_stream, line_text, missing_field, gets_field, invokes_with, invokes_static, prints, does}
 use Rattle.jvm_model.specs.Resolved.{own_method, resolved_local, resolved_in}
 use Rattle.jvm_model.specs.SmallClass.{IsSmallClass}
 use Rattle.jvm_model.specs.Attempts.{asks_println, asks, printed, writes}
@@ -103,7 +103,7 @@ pub does-resolved : (c : ClassFile) (main : ℕ) (input : List ℕ) (op : Operat
 does-resolved c main input (Within i) q s l o small e callee ready = local-done c i q s l o e
 does-resolved c main input (Getstatic r) q s l o small e callee ready =
     let out = chosen-true (is_out r) resolved.Out q e in
-    ap (λ b. cond b (done s (GoesOn l (Ref 3 ∷ o) Next)) (gets_field (field_of_reference (alone c main) r) s l o)) out.0 ∙ same-done c resolved.Out q s l o (ap (λ x. let y : Option Resolved = Some x in y) out.1)
+    ap (λ b. cond b (done s (GoesOn l (Ref 3 ∷ o) Next)) (gets_field (missing_field (alone c main) r) (field_of_reference (alone c main) r) s l o)) out.0 ∙ same-done c resolved.Out q s l o (ap (λ x. let y : Option Resolved = Some x in y) out.1)
 does-resolved c main input (Putstatic r) q s l o small e callee ready = absurd (none-some q e)
 does-resolved c main input (Invokestatic r) q s l o small e callee ready =
     let found = map-found resolved.Invokestatic (own_method c r) q e in

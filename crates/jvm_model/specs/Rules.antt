@@ -1,7 +1,7 @@
 -- What each instruction asks for (JVM Specification 2.6, 2.11, 5.4.3, 5.5, 6.5). A rule sees what is shared and its frame's
 -- locals and operands, and no place: neither its own, nor the following one, nor a target. So it says the same of a frame
 -- that stands elsewhere, as in a rewritten code.
-use Rattle.std.specs.Prelude.{ℕ, Bool, true, false, List, [], ◌∷◌, ◌++◌, length, drop, Option, Some, None, ℤ, ◌==◌, ◌||◌, ◌&&◌, codes, if◌then◌else◌}
+use Rattle.std.specs.Prelude.{ℕ, Bool, true, false, List, [], ◌∷◌, ◌++◌, length, drop, Option, Some, None, is_some, ℤ, ◌==◌, ◌||◌, ◌&&◌, codes, if◌then◌else◌}
 use Rattle.std.specs.Option.{option_map, option_map_or, option_and_then}
 use Rattle.std.specs.Fmt.{signed_decimal}
 use Rattle.heap_objects.specs.declared.datum.Datum.TheVariants as datum
@@ -52,12 +52,16 @@ is_print_stream r = r == 3 || r == 4
 
 -- ---- static fields: getstatic, putstatic
 
-abbrev pub gets_field : Option Field → Shared → Locals → Operands → Done
-gets_field None s l o = done s (Raises no_such_field)
-gets_field (Some f) s l o = initialized f.class s (done s (pushes (option_map as_value (static_at s f)) l o))
+-- what a reference to a field raises that is not there: its class is sought first (5.4.3.2)
+abbrev pub missing_field : Program → Reference → List ℕ
+missing_field p r = if is_some (class_of_reference p r) then no_such_field else no_class_definition
+
+abbrev pub gets_field : List ℕ → Option Field → Shared → Locals → Operands → Done
+gets_field missing None s l o = done s (Raises missing)
+gets_field missing (Some f) s l o = initialized f.class s (done s (pushes (option_map as_value (static_at s f)) l o))
 
 abbrev pub gets : World → Reference → Shared → Locals → Operands → Done
-gets w r s l o = if is_out r then done s (GoesOn l (Ref 3 ∷ o) Next) else gets_field (field_of_reference w.program r) s l o
+gets w r s l o = if is_out r then done s (GoesOn l (Ref 3 ∷ o) Next) else gets_field (missing_field w.program r) (field_of_reference w.program r) s l o
 
 -- a field has the kind of the value that it has
 abbrev pub kind_of : Datum → Kind
@@ -73,9 +77,9 @@ abbrev pub puts : Field → Option Datum → Shared → Locals → Operands → 
 puts f (Some old) s l (v ∷ below) = puts_datum f (datum_of (kind_of old) v) s l below
 puts f _ s l _ = done s (Breaks false)
 
-abbrev pub puts_field : Option Field → Shared → Locals → Operands → Done
-puts_field None s l o = done s (Raises no_such_field)
-puts_field (Some f) s l o = initialized f.class s (puts f (static_at s f) s l o)
+abbrev pub puts_field : List ℕ → Option Field → Shared → Locals → Operands → Done
+puts_field missing None s l o = done s (Raises missing)
+puts_field missing (Some f) s l o = initialized f.class s (puts f (static_at s f) s l o)
 
 -- ---- invocation: invokestatic, invokevirtual
 
@@ -124,7 +128,7 @@ throws w s _ = Breaks false
 abbrev pub does : World → Operation → Shared → Locals → Operands → Done
 does w (Within i) s l o = done s (within i l o)
 does w (Getstatic r) s l o = gets w r s l o
-does w (Putstatic r) s l o = puts_field (field_of_reference w.program r) s l o
+does w (Putstatic r) s l o = puts_field (missing_field w.program r) (field_of_reference w.program r) s l o
 does w (Invokestatic r) s l o = invokes_static w (class_of_reference w.program r) (method_of_reference w.program r) s o
 does w (Invokevirtual r) s l o = invokes_virtual r s l o
 does w Athrow s l o = done s (throws w s o)
