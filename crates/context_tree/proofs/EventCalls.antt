@@ -8,7 +8,6 @@ use Rattle.jvm_model.specs.Paths.{Context}
 use Rattle.jvm_model.specs.EventLists.{entries_by}
 use Rattle.context_tree.specs.Profiles.{Profile, has_path, with_own, credited, told, taken, calls_of}
 
-
 with_own-calls : (path : List ℕ) (steps : ℕ) (c : Context) → (with_own path steps c).calls ≡ c.calls
 with_own-calls path steps c = by (has_path path c) where
   by : (b : Bool) → (if b then record c { own = c.own + steps } else c).calls ≡ c.calls
