@@ -1,0 +1,7 @@
+//! The built-in classes.
+#![tactic(auto)]
+
+mod access;
+mod opcode;
+mod rows;
+mod tables;
