@@ -6,3 +6,6 @@ pub mod StreamClasses
 pub mod ValueClasses
 pub mod ThrowableClasses
 pub mod RowViews
+pub mod Shown
+pub mod BuiltInClasses
+pub mod Making

@@ -2,6 +2,7 @@
 #![tactic(auto)]
 
 mod access;
+mod entries;
 mod opcode;
 mod rows;
 mod tables;
