@@ -1,6 +1,6 @@
 -- The class file that is made of a declaration. Its pool has an entry for each use, in the order of the class file: first
 -- the parts of an entry, then the entry.
-use Rattle.std.specs.Prelude.{◌≡◌, ℕ, ◌-◌, ◌%◌, List, [], ◌∷◌, ◌++◌, length, min, Option, Some, None, Result, IfOk, codes, Bool, nat_lt, ◌&&◌, ◌==◌, if◌then◌else◌}
+use Rattle.std.specs.Prelude.{◌≡◌, ℕ, ◌-◌, ◌%◌, List, [], ◌∷◌, ◌++◌, length, min, Option, Some, None, Result, IfOk, OnOk, codes, Bool, nat_lt, ◌&&◌, ◌==◌, if◌then◌else◌}
 use Rattle.std.specs.Int.{w16, to_be_bytes}
 use Rattle.jf_bytes.specs.Unicode.{utf16_of}
 use Rattle.jf_bytes.specs.declared.error.NoMemory.{NoMemory}
@@ -63,6 +63,10 @@ pub record CodeMade : Type 0 where
   pub pool : List Const
   pub bytes : List ℕ
 
+-- behind the call, this is the pool and these are the bytes; or memory ran out
+abbrev pub AddsCode : {A : Type 0} → Result A NoMemory → List Const → List ℕ → CodeMade → Type 0
+AddsCode result pool bytes made = OnOk result ((pool ≡ made.pool) × (bytes ≡ made.bytes))
+
 unfoldable pub instruction_added : List Const → List ℕ → NamedInstruction → CodeMade
 instruction_added pool bytes (plain op) = record { pool = pool; bytes = bytes ++ op ∷ [] }
 instruction_added pool bytes (jump op target) = record { pool = pool; bytes = bytes ++ op ∷ to_be_bytes w16 (target - short_of (length bytes)) }
@@ -80,6 +84,10 @@ code_from pool bytes (i ∷ rest) = let made = instruction_added pool bytes i in
 pub record AttributesMade : Type 0 where
   pub pool : List Const
   pub attributes : List Attribute
+
+-- the call gave these attributes, and this is the pool behind it; or memory ran out
+abbrev pub AddsAttributes : Result (List Attribute) NoMemory → List Const → AttributesMade → Type 0
+AddsAttributes result pool made = IfOk result (λ attributes. (attributes ≡ made.attributes) × (pool ≡ made.pool))
 
 unfoldable pub code_added : List Const → CodeDeclaration → AttributesMade
 code_added pool code =
@@ -100,6 +108,9 @@ pub record MemberMade : Type 0 where
   pub pool : List Const
   pub member : Member
 
+abbrev pub AddsMember : Result Member NoMemory → List Const → MemberMade → Type 0
+AddsMember result pool made = IfOk result (λ member. (member ≡ made.member) × (pool ≡ made.pool))
+
 unfoldable pub member_added : List Const → MemberDeclaration → MemberMade
 member_added pool d =
     let n = text_added pool d.name in
@@ -110,6 +121,9 @@ member_added pool d =
 pub record MembersMade : Type 0 where
   pub pool : List Const
   pub members : List Member
+
+abbrev pub AddsMembers : Result (List Member) NoMemory → List Const → MembersMade → Type 0
+AddsMembers result pool made = IfOk result (λ members. (members ≡ made.members) × (pool ≡ made.pool))
 
 unfoldable pub members_from : List Const → List Member → List MemberDeclaration → MembersMade
 members_from pool done [] = record { pool = pool; members = done }
@@ -124,6 +138,9 @@ superclass_added pool (Some name) = class_added pool name
 pub record InterfacesMade : Type 0 where
   pub pool : List Const
   pub indices : List ℕ
+
+abbrev pub AddsIndices : Result (List ℕ) NoMemory → List Const → InterfacesMade → Type 0
+AddsIndices result pool made = IfOk result (λ indices. (indices ≡ made.indices) × (pool ≡ made.pool))
 
 unfoldable pub interfaces_from : List Const → List ℕ → List (List ℕ) → InterfacesMade
 interfaces_from pool done [] = record { pool = pool; indices = done }

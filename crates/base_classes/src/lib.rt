@@ -2,7 +2,9 @@
 #![tactic(auto)]
 
 mod access;
+mod coding;
 mod entries;
+mod making;
 mod opcode;
 mod rows;
 mod tables;
