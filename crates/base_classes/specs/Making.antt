@@ -2,7 +2,6 @@
 -- the parts of an entry, then the entry.
 use Rattle.std.specs.Prelude.{◌≡◌, ℕ, ◌-◌, ◌%◌, List, [], ◌∷◌, ◌++◌, length, min, Option, Some, None, Result, IfOk, OnOk, codes, Bool, nat_lt, ◌&&◌, ◌==◌, if◌then◌else◌}
 use Rattle.std.specs.Int.{w16, to_be_bytes}
-use Rattle.jf_bytes.specs.Unicode.{utf16_of}
 use Rattle.jf_bytes.specs.declared.error.NoMemory.{NoMemory}
 use Rattle.const_pool.specs.declared.pool.Const.{Const}
 use Rattle.const_pool.specs.declared.pool.Const.TheVariants.{Gap, Utf8, Class, Text, Field, Method, NameType}
@@ -32,8 +31,9 @@ Adds result pool made = IfOk result (λ index. (index ≡ made.index) × (pool �
 unfoldable pub added : List Const → Const → Added
 added pool entry = record { pool = pool ++ entry ∷ []; index = short_of (length pool) }
 
+-- an ASCII text
 unfoldable pub text_added : List Const → List ℕ → Added
-text_added pool text = added pool (Utf8 (utf16_of text))
+text_added pool text = added pool (Utf8 text)
 
 unfoldable pub string_added : List Const → List ℕ → Added
 string_added pool text = let t = text_added pool text in added t.pool (Text t.index)

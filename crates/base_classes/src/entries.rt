@@ -1,14 +1,14 @@
 //! Making entries of a constant pool (JVM Specification 4.4): each text, class and member that is named gets entries of its
 //! own, at the pool's end.
 
-ghost use Rattle.std.specs.Prelude.{◌≡◌};
+ghost use Rattle.std.specs.Prelude.{◌≡◌, IfOk};
 ghost use Rattle.base_classes.specs.Making.{Adds, short_of, added, text_added, string_added, class_added, name_type_added, reference_added, member_entry};
 ghost use Rattle.base_classes.specs.RowViews.{reference_view};
 
 use crate::opcode::GETSTATIC;
 use crate::rows::MemberName;
 use const_pool::Const;
-use jf_bytes::{NoMemory, from_utf8};
+use jf_bytes::{NoMemory, Text16};
 use std::alloc::Global;
 
 /// A length as a number of two bytes. Nothing that is made here is longer.
@@ -28,11 +28,23 @@ fn add(pool: &mut Vec<Const>, entry: Const) -> Result<u16, NoMemory>
     Ok(index)
 }
 
+/// The text of an ASCII string, whose bytes are the units.
+fn text_of(alloc: Global, text: &str) -> Result<Text16, NoMemory>
+    ensures { IfOk result (λ units. units ≡ text.now) }
+{
+    let mut units = Vec::with_capacity(alloc, text.len())?;
+    for byte in text.as_bytes() {
+        units.push(u16::from(*byte))?;
+    }
+    Ok(Text16::new(units))
+}
+
+/// Adds an ASCII text (4.4.7).
 #[tactic(auto, unfolding(crate::specs::Making::text_added))]
 pub(crate) fn add_text(alloc: Global, pool: &mut Vec<Const>, text: &str) -> Result<u16, NoMemory>
     ensures { Adds result pool.new.items (text_added pool.old.items text.now) }
 {
-    add(pool, Const::Utf8(from_utf8(alloc, text)?))
+    add(pool, Const::Utf8(text_of(alloc, text)?))
 }
 
 /// Adds a string that code loads (4.4.3).
