@@ -1,1 +1,3 @@
 pub mod Computed
+mod Joined
+mod WellFormed
