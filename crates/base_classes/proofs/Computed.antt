@@ -19,25 +19,9 @@ shown_back : map declaration_of (map class_file_of built_in_classes) ≡ built_i
 unfolding built_in_classes object_classes text_classes stream_classes value_classes throwable_classes added text_added string_added class_added name_type_added reference_added instruction_added code_from code_added attributes_added member_added members_from superclass_added interfaces_from class_file_of
 shown_back = refl
 
-pub object_pools : (ds : List ClassDeclaration) → ds ≡ object_classes → IsTrue (list_all has_pool ds)
-unfolding object_classes added text_added string_added class_added name_type_added reference_added instruction_added code_from code_added attributes_added member_added members_from superclass_added interfaces_from class_file_of has_pool
-object_pools ds is = subst (λ ds. IsTrue (list_all has_pool ds)) (sym is) refl
-
-pub text_pools : (ds : List ClassDeclaration) → ds ≡ text_classes → IsTrue (list_all has_pool ds)
-unfolding text_classes added text_added string_added class_added name_type_added reference_added instruction_added code_from code_added attributes_added member_added members_from superclass_added interfaces_from class_file_of has_pool
-text_pools ds is = subst (λ ds. IsTrue (list_all has_pool ds)) (sym is) refl
-
-pub stream_pools : (ds : List ClassDeclaration) → ds ≡ stream_classes → IsTrue (list_all has_pool ds)
-unfolding stream_classes added text_added string_added class_added name_type_added reference_added instruction_added code_from code_added attributes_added member_added members_from superclass_added interfaces_from class_file_of has_pool
-stream_pools ds is = subst (λ ds. IsTrue (list_all has_pool ds)) (sym is) refl
-
-pub value_pools : (ds : List ClassDeclaration) → ds ≡ value_classes → IsTrue (list_all has_pool ds)
-unfolding value_classes added text_added string_added class_added name_type_added reference_added instruction_added code_from code_added attributes_added member_added members_from superclass_added interfaces_from class_file_of has_pool
-value_pools ds is = subst (λ ds. IsTrue (list_all has_pool ds)) (sym is) refl
-
-pub throwable_pools : (ds : List ClassDeclaration) → ds ≡ throwable_classes → IsTrue (list_all has_pool ds)
-unfolding throwable_classes added text_added string_added class_added name_type_added reference_added instruction_added code_from code_added attributes_added member_added members_from superclass_added interfaces_from class_file_of has_pool
-throwable_pools ds is = subst (λ ds. IsTrue (list_all has_pool ds)) (sym is) refl
+pub all_have_pools : (ds : List ClassDeclaration) → ds ≡ built_in_classes → IsTrue (list_all has_pool ds)
+unfolding built_in_classes object_classes text_classes stream_classes value_classes throwable_classes added text_added string_added class_added name_type_added reference_added instruction_added code_from code_added attributes_added member_added members_from superclass_added interfaces_from class_file_of has_pool
+all_have_pools ds is = subst (λ ds. IsTrue (list_all has_pool ds)) (sym is) refl
 
 are_made : list_all is_made (map class_file_of built_in_classes) ≡ true
 unfolding built_in_classes object_classes text_classes stream_classes value_classes throwable_classes added text_added string_added class_added name_type_added reference_added instruction_added code_from code_added attributes_added member_added members_from superclass_added interfaces_from class_file_of is_made

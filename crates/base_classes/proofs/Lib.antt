@@ -1,3 +1,4 @@
 pub mod Computed
-mod Joined
+mod Groups
 mod WellFormed
+mod NameLemmas

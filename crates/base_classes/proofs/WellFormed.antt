@@ -100,7 +100,8 @@ pool_holds : (pool : List Const) → is_pool_of pool pool ≡ true → is_u2 (le
 pool_holds (Gap ∷ entries) h count = record {
   count = u2_fits _ count;
   first = refl;
-  entries = λ rest e. subst (λ rest. AreEntries (Gap ∷ entries) rest) (tail_is entries rest e) (are_entries (Gap ∷ entries) entries h) }
+  entries = λ rest e. subst (λ rest. AreEntries (Gap ∷ entries) rest) (tail_is entries rest e) (are_entries (Gap ∷ entries) entries h);
+}
   where
     tail_is : (xs ys : List Const) → Gap ∷ xs ≡ Gap ∷ ys → xs ≡ ys
     tail_is xs ys e = cc
@@ -140,18 +141,21 @@ code_holds pool c h =
     let lengths = and_parts _ _ lower.0 in
     let rest = and_parts _ _ lower.1 in
     let last = and_parts _ _ rest.1 in
-    let bare = bare_code c last.0 in
-    (record {
-      max_stack = u2_fits _ sizes.0;
-      max_locals = u2_fits _ sizes.1;
-      some = ltb-true _ _ lengths.0;
-      short = u2_fits _ lengths.1;
-      code = each (λ byte. nat_lt byte 256) IsByte (λ byte h. ltb-true byte 256 h) c.code rest.0;
-      handler_count = rw bare.0 (lit< tt);
-      handlers = rw bare.0 tt;
-      attribute_count = rw bare.1 (lit< tt);
-      attributes = rw bare.1 tt;
-      whole = ltb-true _ _ last.1 }, bare)
+    let bare = bare_code c last.0 in (
+      record {
+        max_stack = u2_fits _ sizes.0;
+        max_locals = u2_fits _ sizes.1;
+        some = ltb-true _ _ lengths.0;
+        short = u2_fits _ lengths.1;
+        code = each (λ byte. nat_lt byte 256) IsByte (λ byte h. ltb-true byte 256 h) c.code rest.0;
+        handler_count = rw bare.0 (lit< tt);
+        handlers = rw bare.0 tt;
+        attribute_count = rw bare.1 (lit< tt);
+        attributes = rw bare.1 tt;
+        whole = ltb-true _ _ last.1;
+      },
+      bare,
+    )
 
 -- ---- members
 
@@ -207,7 +211,8 @@ field_holds pool m h =
       descriptor = descriptor.0;
       described = descriptor.1;
       count = rw none (lit< tt);
-      attributes = rw none tt }
+      attributes = rw none tt;
+    }
 
 method_holds : (pool : List Const) (m : Member) → is_method pool m ≡ true → IsMember IsMethodAttribute pool m
 method_holds pool m h =
@@ -224,7 +229,8 @@ method_holds pool m h =
       descriptor = descriptor.0;
       described = descriptor.1;
       count = held.0;
-      attributes = held.1 }
+      attributes = held.1;
+    }
 
 -- ---- the class
 
@@ -264,26 +270,29 @@ class_holds c h =
     let fields = and_parts _ _ f.0 in
     let g = and_parts _ _ f.1 in
     let methods = and_parts _ _ g.0 in
-    let none = nil c.attributes g.1 in
-    (record {
-      version = record { fits = rw minor (lit< tt); least = rw major (lit≤ tt); most = rw major (lit≤ tt) };
-      pool = pool_holds c.pool pool.0 pool.1;
-      access = u2_fits _ own.0;
-      this_index = this.0;
-      this_class = this.1;
-      super_index = super.0;
-      super_class = super.1;
-      interface_count = u2_fits _ interfaces.0;
-      interfaces = each (names is_class c.pool) (λ i. IsU2 i × Names is_class c.pool i) (named is_class c.pool) c.interfaces interfaces.1;
-      field_count = u2_fits _ fields.0;
-      fields = each (is_field c.pool) (IsMember IsFieldAttribute c.pool) (field_holds c.pool) c.fields fields.1;
-      method_count = u2_fits _ methods.0;
-      methods = each (is_method c.pool) (IsMember IsMethodAttribute c.pool) (method_holds c.pool) c.methods methods.1;
-      attribute_count = rw none (lit< tt);
-      attributes = rw none tt },
-    record {
-      minor = minor;
-      major = major;
-      fields = each (is_field c.pool) (λ m. m.attributes ≡ []) (λ m h. nil m.attributes (and_parts _ _ h).1) c.fields fields.1;
-      methods = each (is_method c.pool) (λ m. HasAtMostCode m.attributes) (λ m h. (attributes_hold c.pool m.attributes (and_parts _ _ h).1).2) c.methods methods.1;
-      attributes = none })
+    let none = nil c.attributes g.1 in (
+      record {
+        version = record { fits = rw minor (lit< tt); least = rw major (lit≤ tt); most = rw major (lit≤ tt) };
+        pool = pool_holds c.pool pool.0 pool.1;
+        access = u2_fits _ own.0;
+        this_index = this.0;
+        this_class = this.1;
+        super_index = super.0;
+        super_class = super.1;
+        interface_count = u2_fits _ interfaces.0;
+        interfaces = each (names is_class c.pool) (λ i. IsU2 i × Names is_class c.pool i) (named is_class c.pool) c.interfaces interfaces.1;
+        field_count = u2_fits _ fields.0;
+        fields = each (is_field c.pool) (IsMember IsFieldAttribute c.pool) (field_holds c.pool) c.fields fields.1;
+        method_count = u2_fits _ methods.0;
+        methods = each (is_method c.pool) (IsMember IsMethodAttribute c.pool) (method_holds c.pool) c.methods methods.1;
+        attribute_count = rw none (lit< tt);
+        attributes = rw none tt;
+      },
+      record {
+        minor = minor;
+        major = major;
+        fields = each (is_field c.pool) (λ m. m.attributes ≡ []) (λ m h. nil m.attributes (and_parts _ _ h).1) c.fields fields.1;
+        methods = each (is_method c.pool) (λ m. HasAtMostCode m.attributes) (λ m h. (attributes_hold c.pool m.attributes (and_parts _ _ h).1).2) c.methods methods.1;
+        attributes = none;
+      },
+    )

@@ -9,3 +9,4 @@ pub mod RowViews
 pub mod Shown
 pub mod BuiltInClasses
 pub mod Making
+pub mod Hashes

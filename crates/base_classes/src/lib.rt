@@ -14,6 +14,7 @@ mod access;
 mod coding;
 mod entries;
 mod making;
+mod names;
 mod opcode;
 mod rows;
 mod tables;
@@ -21,13 +22,10 @@ mod tables;
 use const_pool::ClassFile;
 use jf_bytes::NoMemory;
 use making::class_of;
+pub use names::{built_in_name, position_of};
 use rows::ClassRow;
 use std::alloc::Global;
-use tables::objects::objects;
-use tables::streams::streams;
-use tables::texts::texts;
-use tables::throwables::throwables;
-use tables::values::values;
+use tables::groups;
 
 /// Adds the class files of these rows.
 fn add_classes(
@@ -36,10 +34,8 @@ fn add_classes(
     rows: &[ClassRow],
 ) -> Result<(), NoMemory>
     requires { IsTrue (list_all has_pool (map class_view rows.now)) }
-    ensures {
-        OnOk result (classes.new.items
-            ≡ classes.old.items ++ map class_file_of (map class_view rows.now))
-    }
+    ensures { OnOk result (classes.new.items
+        ≡ classes.old.items ++ map class_file_of (map class_view rows.now)) }
 {
     for row in rows {
         classes.push(class_of(alloc, row)?)?;
@@ -48,16 +44,13 @@ fn add_classes(
 }
 
 /// The class files of the whole table.
-#[tactic(auto, using(crate::proofs::Computed::object_pools, crate::proofs::Computed::text_pools, crate::proofs::Computed::stream_pools, crate::proofs::Computed::value_pools, crate::proofs::Computed::throwable_pools))]
 fn make_all(alloc: Global) -> Result<Vec<ClassFile>, NoMemory>
     ensures { IfOk result (λ classes. classes.items ≡ map class_file_of built_in_classes) }
 {
     let mut classes = Vec::new(alloc);
-    add_classes(alloc, &mut classes, objects())?;
-    add_classes(alloc, &mut classes, texts())?;
-    add_classes(alloc, &mut classes, streams())?;
-    add_classes(alloc, &mut classes, values())?;
-    add_classes(alloc, &mut classes, throwables())?;
+    for group in groups() {
+        add_classes(alloc, &mut classes, group)?;
+    }
     Ok(classes)
 }
 

@@ -1,7 +1,14 @@
 //! The table of the built-in classes, in their order. A row of a member reads `[flags name descriptor]`, and one with code
 //! has that behind. A method has the flag native, the flag abstract or a code.
 
+ghost use Rattle.std.specs.Prelude.{◌≡◌, map, slice_get};
+ghost use Rattle.std.specs.Option.{option_map};
+ghost use Rattle.std.specs.List.{flat_map};
+ghost use Rattle.base_classes.specs.BuiltInClasses.{built_in_classes};
+ghost use Rattle.base_classes.specs.RowViews.{class_view};
+
 use crate::access::{ABSTRACT, FINAL, INTERFACE, PUBLIC, SUPER};
+use crate::rows::ClassRow;
 
 /// The flags of a class to which nothing special goes.
 const PLAIN_CLASS: u16 = PUBLIC | SUPER;
@@ -50,8 +57,50 @@ macro_rules! throwable_row {
     };
 }
 
-pub(crate) mod objects;
-pub(crate) mod streams;
-pub(crate) mod texts;
-pub(crate) mod throwables;
-pub(crate) mod values;
+mod objects;
+mod streams;
+mod texts;
+mod throwables;
+mod values;
+
+use objects::objects;
+use streams::streams;
+use texts::texts;
+use throwables::throwables;
+use values::values;
+
+/// The rows of all classes, in groups that follow one another.
+pub(crate) fn groups() -> [&'static [ClassRow]; 5]
+    ensures { flat_map (λ rows. map class_view rows.now) result ≡ built_in_classes }
+{
+    [objects(), texts(), streams(), values(), throwables()]
+}
+
+/// The row at a place of a group.
+fn row_in(group: &'static [ClassRow], place: usize) -> Option<&'static ClassRow>
+    ensures { option_map (λ row. class_view row.now) result ≡ slice_get (map class_view group.now) place }
+{
+    group.get(place)
+}
+
+/// The row at a place of these groups, counted through all of them.
+fn row_among(groups: &[&'static [ClassRow]], place: usize) -> Option<&'static ClassRow>
+    ensures { option_map (λ row. class_view row.now) result
+        ≡ slice_get (flat_map (λ rows. map class_view rows.now) groups.now) place }
+{
+    let mut place = place;
+    for group in groups {
+        if let Some(row) = row_in(group, place) {
+            return Some(row);
+        }
+        place -= group.len();
+    }
+    None
+}
+
+/// The row of the class at this place of the order.
+pub(crate) fn class_row(place: usize) -> Option<&'static ClassRow>
+    ensures { option_map (λ row. class_view row.now) result ≡ slice_get built_in_classes place }
+{
+    row_among(&groups(), place)
+}
