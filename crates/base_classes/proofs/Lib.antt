@@ -2,3 +2,4 @@ pub mod Computed
 mod Groups
 mod WellFormed
 mod NameLemmas
+mod NativeLemmas

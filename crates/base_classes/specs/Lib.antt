@@ -10,3 +10,4 @@ pub mod Shown
 pub mod BuiltInClasses
 pub mod Making
 pub mod Hashes
+pub mod Natives
