@@ -3,3 +3,4 @@ mod Groups
 mod WellFormed
 mod NameLemmas
 mod NativeLemmas
+mod NativeNumbers
