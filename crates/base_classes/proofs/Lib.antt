@@ -4,3 +4,4 @@ mod WellFormed
 mod NameLemmas
 mod NativeLemmas
 mod NativeNumbers
+mod Sound

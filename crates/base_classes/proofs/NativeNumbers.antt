@@ -61,7 +61,7 @@ native_found place first d class name descriptor n at start_is class_is h =
     let within : slice_get (natives_of d) found.place ≡ Some (named d.name m.name m.descriptor) = slice_get-map (λ m. named d.name m.name m.descriptor) (filter is_native d.methods) found.place ∙ rw found.at refl in
     let there = number_at built_in_classes place d found.place (named d.name m.name m.descriptor) (sym at) within in
     let number : n ≡ start built_in_classes place + found.place =
-        found.number ∙ ap (λ (k : ℕ). k + found.place) (its_start ∙ (let z : 0 + start built_in_classes place ≡ start built_in_classes place = omega arith in z)) in
+    found.number ∙ ap (λ (k : ℕ). k + found.place) (its_start ∙ (let z : 0 + start built_in_classes place ≡ start built_in_classes place = omega arith in z)) in
     let names : named d.name m.name m.descriptor ≡ named class name descriptor = cc in
     ap (slice_get (flat_map natives_of built_in_classes)) number ∙ there ∙ ap (λ (r : Reference). Some r) names
 

@@ -11,3 +11,4 @@ pub mod BuiltInClasses
 pub mod Making
 pub mod Hashes
 pub mod Natives
+pub mod Soundness

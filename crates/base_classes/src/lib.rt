@@ -2,13 +2,14 @@
 //! table has a row for each class and each member, in an order that the numbers of classes go by.
 #![tactic(auto)]
 
-ghost use Rattle.std.specs.Prelude.{◌≡◌, ◌++◌, IfOk, IsTrue, OnOk, map};
+ghost use Rattle.std.specs.Prelude.{◌≡◌, ◌++◌, [], IfOk, IsTrue, OnOk, map};
 ghost use Rattle.std.specs.List.{list_all, AllByRecursion};
 ghost use Rattle.const_pool.specs.ClassFile.{IsClassFile};
 ghost use Rattle.base_classes.specs.BuiltInClasses.{built_in_classes, IsBare};
 ghost use Rattle.base_classes.specs.Making.{class_file_of, has_pool};
 ghost use Rattle.base_classes.specs.RowViews.{class_view};
 ghost use Rattle.base_classes.specs.Shown.{declaration_of};
+ghost use Rattle.base_classes.specs.Soundness.{IsSound, in_order};
 
 mod access;
 mod coding;
@@ -62,6 +63,8 @@ pub fn built_in(alloc: Global) -> Result<Vec<ClassFile>, NoMemory>
     ensures declared { IfOk result (λ classes. map declaration_of classes.items ≡ built_in_classes) }
     ensures formed { IfOk result (λ classes. AllByRecursion IsClassFile classes.items) }
     ensures bare { IfOk result (λ classes. AllByRecursion IsBare classes.items) }
+    ensures sound { IfOk result (λ classes. AllByRecursion IsSound (map declaration_of classes.items)) }
+    ensures ordered { IfOk result (λ classes. IsTrue (in_order [] (map declaration_of classes.items))) }
 {
     make_all(alloc)
 }

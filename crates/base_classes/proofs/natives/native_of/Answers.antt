@@ -31,9 +31,9 @@ pub returns-clause-found : goal.returns-clause-found
 returns-clause-found c =
     let first_is = c.in_ok-first.ensures ∙ ap (λ s. slice_get s c.in_ok-place.place) c.starts.ensures in
     if_some _ _ (λ n is. native_found c.in_ok-place.place c.in_ok-first.first (class_view c.in_ok-row.row.now) c.args.class.now c.args.name.now c.args.descriptor.now n
-        c.in_ok-row.ensures first_is c.in_ok-place.ensures.found (sym c.number_among.ensures ∙ is))
+    c.in_ok-row.ensures first_is c.in_ok-place.ensures.found (sym c.number_among.ensures ∙ is))
 
 pub returns-clause-none : goal.returns-clause-none
 returns-clause-none c =
     if_none _ _ (λ is. native_missed c.in_ok-place.place c.in_ok-first.first (class_view c.in_ok-row.row.now) c.args.class.now c.args.name.now c.args.descriptor.now
-        c.in_ok-row.ensures c.in_ok-place.ensures.only (sym c.number_among.ensures ∙ is))
+    c.in_ok-row.ensures c.in_ok-place.ensures.only (sym c.number_among.ensures ∙ is))
