@@ -68,3 +68,6 @@ pub fn built_in(alloc: Global) -> Result<Vec<ClassFile>, NoMemory>
 {
     make_all(alloc)
 }
+
+#[cfg(test)]
+mod tests;
