@@ -2,6 +2,5 @@ use super::*;
 use jf_bytes::from_utf8;
 use std::test::Fail;
 
-mod codes;
 mod members;
 mod numbers;

@@ -1,11 +1,12 @@
 //! The declarations of all built-in classes, a line for each, against a list that was made apart from this crate.
 
 use super::*;
-use const_pool::{ClassFile, Member};
+use const_pool::{Attribute, ClassFile, CodeAttribute, Const, Member};
 use jf_bytes::{NoMemory, Text16, to_utf8};
 
 /// A class with its superclass and interfaces; then a line for each field and each method, with what it has for a body, the
-/// flags 1 public, 2 private, 4 protected and 8 static, the name and the descriptor.
+/// flags 1 public, 2 private, 4 protected and 8 static, the name and the descriptor. Behind a method with code come its
+/// max_stack and max_locals, and a line for each instruction: the opcode, and how far it jumps or what it names.
 static MEMBERS: &str = "\
 class java/lang/Object - 
   native 0001 <init> ()V
@@ -53,6 +54,14 @@ class java/lang/String java/lang/Object java/lang/Comparable java/lang/CharSeque
   native 0009 valueOf (Z)Ljava/lang/String;
   native 0009 valueOf ([C)Ljava/lang/String;
   code 0009 valueOf (Ljava/lang/Object;)Ljava/lang/String;
+    1 1
+    42
+    199 6
+    18 null
+    176
+    42
+    182 java/lang/Object.toString()Ljava/lang/String;
+    176
 class java/lang/StringBuilder java/lang/Object java/lang/CharSequence
   native 0001 <init> ()V
   native 0001 <init> (I)V
@@ -64,6 +73,12 @@ class java/lang/StringBuilder java/lang/Object java/lang/CharSequence
   native 0001 append (Z)Ljava/lang/StringBuilder;
   native 0001 append ([C)Ljava/lang/StringBuilder;
   code 0001 append (Ljava/lang/Object;)Ljava/lang/StringBuilder;
+    2 2
+    42
+    43
+    184 java/lang/String.valueOf(Ljava/lang/Object;)Ljava/lang/String;
+    182 java/lang/StringBuilder.append(Ljava/lang/String;)Ljava/lang/StringBuilder;
+    176
   native 0001 length ()I
   native 0001 charAt (I)C
   native 0001 setCharAt (IC)V
@@ -81,6 +96,12 @@ class java/lang/StringBuffer java/lang/Object java/lang/CharSequence
   native 0001 append (Z)Ljava/lang/StringBuffer;
   native 0001 append ([C)Ljava/lang/StringBuffer;
   code 0001 append (Ljava/lang/Object;)Ljava/lang/StringBuffer;
+    2 2
+    42
+    43
+    184 java/lang/String.valueOf(Ljava/lang/Object;)Ljava/lang/String;
+    182 java/lang/StringBuffer.append(Ljava/lang/String;)Ljava/lang/StringBuffer;
+    176
   native 0001 length ()I
   native 0001 charAt (I)C
   native 0001 setCharAt (IC)V
@@ -98,6 +119,12 @@ class java/io/PrintStream java/lang/Object
   native 0001 print (Ljava/lang/String;)V
   native 0001 print ([C)V
   code 0001 print (Ljava/lang/Object;)V
+    2 2
+    42
+    43
+    184 java/lang/String.valueOf(Ljava/lang/Object;)Ljava/lang/String;
+    182 java/io/PrintStream.print(Ljava/lang/String;)V
+    177
   native 0001 println (Z)V
   native 0001 println (C)V
   native 0001 println (I)V
@@ -105,6 +132,12 @@ class java/io/PrintStream java/lang/Object
   native 0001 println (Ljava/lang/String;)V
   native 0001 println ([C)V
   code 0001 println (Ljava/lang/Object;)V
+    2 2
+    42
+    43
+    184 java/lang/String.valueOf(Ljava/lang/Object;)Ljava/lang/String;
+    182 java/io/PrintStream.println(Ljava/lang/String;)V
+    177
   native 0001 println ()V
   native 0001 flush ()V
 class java/lang/System java/lang/Object 
@@ -188,7 +221,30 @@ class java/lang/Throwable java/lang/Object java/io/Serializable
   native 0001 getMessage ()Ljava/lang/String;
   native 0001 getCause ()Ljava/lang/Throwable;
   code 0001 toString ()Ljava/lang/String;
+    2 3
+    42
+    182 java/lang/Object.getClass()Ljava/lang/Class;
+    182 java/lang/Class.getName()Ljava/lang/String;
+    76
+    42
+    182 java/lang/Throwable.getMessage()Ljava/lang/String;
+    77
+    44
+    199 5
+    43
+    176
+    43
+    18 : 
+    182 java/lang/String.concat(Ljava/lang/String;)Ljava/lang/String;
+    44
+    182 java/lang/String.concat(Ljava/lang/String;)Ljava/lang/String;
+    176
   code 0001 printStackTrace ()V
+    2 1
+    178 java/lang/System.errLjava/io/PrintStream;
+    42
+    182 java/io/PrintStream.println(Ljava/lang/Object;)V
+    177
 class java/lang/Exception java/lang/Throwable 
   native 0001 <init> ()V
   native 0001 <init> (Ljava/lang/String;)V
@@ -352,6 +408,10 @@ class java/lang/StackOverflowError java/lang/VirtualMachineError
   native 0001 <init> (Ljava/lang/Throwable;)V
 ";
 
+fn members() -> &'static str {
+    MEMBERS
+}
+
 /// The text, or a hyphen where there is none.
 fn put_text(alloc: Global, out: &mut Vec<u8>, text: Option<&Text16>) -> Result<(), NoMemory> {
     match text {
@@ -415,6 +475,92 @@ fn put_member(
     Ok(())
 }
 
+/// The string or the member at the index.
+fn put_named(
+    alloc: Global,
+    out: &mut Vec<u8>,
+    class: &ClassFile,
+    index: u16,
+) -> Result<(), NoMemory> {
+    if let Some(Const::Text(text)) = class.pool.get(index) {
+        return put_text(alloc, out, class.pool.text(*text).ok());
+    }
+    if let Ok(member) = class.pool.member(index) {
+        put_text(alloc, out, Some(member.class))?;
+        out.push(b'.')?;
+        put_text(alloc, out, Some(member.name))?;
+        put_text(alloc, out, Some(member.descriptor))?;
+    }
+    Ok(())
+}
+
+/// A line with these numbers, and what stands at the index where one is given.
+fn put_numbers(
+    alloc: Global,
+    out: &mut Vec<u8>,
+    first: u16,
+    second: Option<u16>,
+) -> Result<(), NoMemory> {
+    out.extend_from_slice(b"    ")?;
+    out.extend_from_slice(first.to_string(alloc)?.as_bytes())?;
+    if let Some(second) = second {
+        out.push(b' ')?;
+        out.extend_from_slice(second.to_string(alloc)?.as_bytes())?;
+    }
+    Ok(())
+}
+
+/// The opcode at the offset with its operand, and how many bytes it has behind it.
+fn put_instruction(
+    alloc: Global,
+    out: &mut Vec<u8>,
+    class: &ClassFile,
+    code: &[u8],
+    at: usize,
+) -> Result<usize, NoMemory> {
+    let byte = |i: usize| code.get(at.saturating_add(i)).copied().unwrap_or(0);
+    let op = byte(0);
+    let short = u16::from_be_bytes([byte(1), byte(2)]);
+    let jump = if op == 199 { Some(short) } else { None };
+    put_numbers(alloc, out, u16::from(op), jump)?;
+    let operand = match op {
+        18 => 1,
+        178 | 182 | 184 | 199 => 2,
+        _ => 0,
+    };
+    if operand > 0 && op != 199 {
+        out.push(b' ')?;
+        put_named(
+            alloc,
+            out,
+            class,
+            if op == 18 { u16::from(byte(1)) } else { short },
+        )?;
+    }
+    out.push(b'\n')?;
+    Ok(operand)
+}
+
+fn put_code(
+    alloc: Global,
+    out: &mut Vec<u8>,
+    class: &ClassFile,
+    code: &CodeAttribute,
+) -> Result<(), NoMemory> {
+    put_numbers(alloc, out, code.max_stack, Some(code.max_locals))?;
+    out.push(b'\n')?;
+    let bytes = code.code.as_slice();
+    let mut skip = 0;
+    for at in 0..bytes.len() {
+        if skip > 0 {
+            skip -= 1;
+        } else {
+            skip = put_instruction(alloc, out, class, bytes, at)?;
+        }
+    }
+    Ok(())
+}
+
 fn put_declaration(alloc: Global, out: &mut Vec<u8>, class: &ClassFile) -> Result<(), NoMemory> {
     put_class(alloc, out, class)?;
     for field in class.fields.as_slice() {
@@ -422,6 +568,9 @@ fn put_declaration(alloc: Global, out: &mut Vec<u8>, class: &ClassFile) -> Resul
     }
     for method in class.methods.as_slice() {
         put_member(alloc, out, class, method, method_word(method))?;
+        if let Some(Attribute::Code(_, code)) = method.attributes.get(0) {
+            put_code(alloc, out, class, code)?;
+        }
     }
     Ok(())
 }
@@ -433,6 +582,6 @@ fn each_member_is_the_lists(rt: HostRuntime) -> Result<(), Fail> {
     for class in built_in(alloc)?.as_slice() {
         put_declaration(alloc, &mut out, class)?;
     }
-    assert!(rt; out.as_slice() == MEMBERS.as_bytes());
+    assert!(rt; out.as_slice() == members().as_bytes());
     Ok(())
 }

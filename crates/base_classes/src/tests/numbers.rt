@@ -83,10 +83,14 @@ static PLACES: [(&str, Option<usize>); 6] = [
     ("", None),
 ];
 
+fn natives() -> &'static [(&'static str, &'static str, &'static str, Option<u16>)] {
+    &NATIVES
+}
+
 #[test]
 fn numbers_of_native_methods(rt: HostRuntime) -> Result<(), Fail> {
     let alloc = rt.alloc();
-    for (class, name, descriptor, number) in &NATIVES {
+    for (class, name, descriptor, number) in natives() {
         let class = from_utf8(alloc, class)?;
         let name = from_utf8(alloc, name)?;
         let descriptor = from_utf8(alloc, descriptor)?;
