@@ -1,15 +1,12 @@
 -- Numbers of native methods.
-use Rattle.std.proofs.Common.{◌≡◌, ◌≢◌, ℕ, zero, suc, ◌+◌, ◌-◌, ◌<◌, ◌≤◌, ◌^◌, Bool, true, false, cond, List, [], ◌∷◌, ◌++◌, map, filter, length, Option, Some, None, slice_get, refl, sym, ap, subst, ◌∙◌, arith}
+use Rattle.std.proofs.Common.{◌≡◌, ℕ, zero, suc, ◌+◌, ◌-◌, ◌<◌, Bool, true, false, cond, List, [], ◌∷◌, ◌++◌, map, filter, length, Option, Some, None, slice_get, refl, sym, ap, subst, ◌∙◌, arith}
 use Rattle.std.specs.Prelude.{nat_lt, ◌&&◌}
-use Rattle.std.specs.Option.{option_map}
 use Rattle.std.specs.List.{flat_map, position_from}
-use Rattle.std.specs.Str.{bytes_eq}
-use Rattle.std.proofs.lemmas.Bool.{and_parts, and_from, ltb-true}
-use Rattle.std.proofs.lemmas.Slice.Eq.{bytes_eq-Decides}
+use Rattle.std.proofs.lemmas.Bool.{and_parts, ltb-true}
 use Rattle.const_pool.specs.References.{Reference}
 use Rattle.base_classes.specs.Declarations.{MemberDeclaration, ClassDeclaration}
-use Rattle.base_classes.specs.Natives.{is_native, named, natives_of, is_member, starts_from}
-use Rattle.base_classes.proofs.Groups.{slice_get-front, slice_get-behind, slice_get-past, slice_get-map}
+use Rattle.base_classes.specs.Natives.{is_native, named, natives_of, starts_from}
+use Rattle.base_classes.proofs.Groups.{slice_get-front, slice_get-behind}
 
 -- ---- the first place that passes
 

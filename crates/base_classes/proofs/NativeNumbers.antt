@@ -1,7 +1,6 @@
 -- The numbers of the native methods of the built-in classes.
-use Rattle.std.proofs.Common.{◌≡◌, ◌≢◌, ℕ, ◌+◌, ◌<◌, ◌^◌, true, false, List, map, filter, length, Option, Some, None, IfSome, IfNone, slice_get, refl, sym, ap, subst, ◌∙◌, arith}
+use Rattle.std.proofs.Common.{◌≡◌, ◌≢◌, ℕ, ◌+◌, ◌<◌, true, List, filter, length, Option, Some, None, IfSome, IfNone, slice_get, refl, sym, ap, subst, ◌∙◌, arith}
 use Rattle.std.specs.List.{flat_map, position_from}
-use Rattle.std.specs.Str.{bytes_eq}
 use Rattle.std.proofs.lemmas.Bool.{and_parts, and_from}
 use Rattle.std.proofs.lemmas.Slice.Eq.{bytes_eq-Decides}
 use Rattle.const_pool.specs.References.{Reference}
@@ -13,10 +12,10 @@ use Rattle.base_classes.specs.TextClasses.{text_classes}
 use Rattle.base_classes.specs.StreamClasses.{stream_classes}
 use Rattle.base_classes.specs.ValueClasses.{value_classes}
 use Rattle.base_classes.specs.ThrowableClasses.{throwable_classes}
-use Rattle.base_classes.specs.Natives.{is_native, named, natives_of, native_methods, is_member, starts_from, native_starts}
+use Rattle.base_classes.specs.Natives.{is_native, named, natives_of, native_methods, is_member, native_starts}
 use Rattle.base_classes.proofs.NameLemmas.{name_found}
 use Rattle.base_classes.proofs.Groups.{slice_get-map}
-use Rattle.base_classes.proofs.NativeLemmas.{Passes, position_found, position_missed, IsNamedBy, is_named_by, start, has_start, number_at, Stands, stands, fits_from, fit_at}
+use Rattle.base_classes.proofs.NativeLemmas.{position_found, position_missed, is_named_by, start, has_start, number_at, stands, fits_from, fit_at}
 
 -- what a find gave, by cases
 pub if_some : {A : Type 0} (o : Option A) (P : A → Type 0) → ((x : A) → o ≡ Some x → P x) → IfSome o P

@@ -1,5 +1,5 @@
 -- A test that finds the class files of this crate well formed, and bare of what is not declared.
-use Rattle.std.proofs.Common.{◌≡◌, ℕ, ◌<◌, ◌≤◌, ◌^◌, ◌⊎◌, inl, inr, Bool, true, false, List, [], ◌∷◌, length, Option, Some, None, IsTrue, refl, sym, subst, ap, ⊎_elim, lit<, lit≤, arith}
+use Rattle.std.proofs.Common.{◌≡◌, ℕ, ◌<◌, ◌^◌, ◌⊎◌, inl, inr, Bool, true, false, List, [], ◌∷◌, length, Option, Some, None, refl, subst, ap, ⊎_elim, lit<, lit≤}
 use Rattle.std.specs.Prelude.{nat_lt, ◌==◌, ◌&&◌, ◌||◌, slice_get}
 use Rattle.std.specs.Option.{option_map_or}
 use Rattle.std.specs.List.{list_all, AllByRecursion}
@@ -14,9 +14,9 @@ use Rattle.const_pool.specs.declared.class.Member.{Member}
 use Rattle.const_pool.specs.declared.class.CodeAttribute.{CodeAttribute}
 use Rattle.const_pool.specs.declared.class.Attribute.{Attribute}
 use Rattle.const_pool.specs.declared.class.Attribute.TheVariants.{ConstantValue, Code, Other}
-use Rattle.const_pool.specs.Pool.{IsPool, IsEntry, AreEntries, Names, is_utf8, is_class, is_name_type}
+use Rattle.const_pool.specs.Pool.{IsPool, AreEntries, Names, is_utf8, is_class, is_name_type}
 use Rattle.const_pool.specs.References.{named_text}
-use Rattle.const_pool.specs.ClassFile.{IsU2, IsByte, FitsCount, IsCode, IsMember, IsFieldAttribute, IsMethodAttribute, IsVersion, IsClassFile, code_bytes, code_name}
+use Rattle.const_pool.specs.ClassFile.{IsU2, IsByte, FitsCount, IsCode, IsMember, IsFieldAttribute, IsMethodAttribute, IsClassFile, code_bytes, code_name}
 use Rattle.base_classes.specs.BuiltInClasses.{HasAtMostCode, IsBare}
 
 -- ---- lists

@@ -1,18 +1,15 @@
 -- The built-in classes, in their order, and what a list of class files is that declares them.
-use Rattle.std.specs.Prelude.{◌≡◌, List, [], ◌∷◌, ◌++◌, map}
+use Rattle.std.specs.Prelude.{◌≡◌, List, [], ◌∷◌, ◌++◌}
 use Rattle.std.specs.List.{AllByRecursion}
 use Rattle.const_pool.specs.declared.class.ClassFile.{ClassFile}
-use Rattle.const_pool.specs.declared.class.Member.{Member}
 use Rattle.const_pool.specs.declared.class.Attribute.{Attribute}
 use Rattle.const_pool.specs.declared.class.Attribute.TheVariants.{Code}
-use Rattle.const_pool.specs.ClassFile.{IsClassFile}
 use Rattle.base_classes.specs.Declarations.{ClassDeclaration}
 use Rattle.base_classes.specs.ObjectClasses.{object_classes}
 use Rattle.base_classes.specs.TextClasses.{text_classes}
 use Rattle.base_classes.specs.StreamClasses.{stream_classes}
 use Rattle.base_classes.specs.ValueClasses.{value_classes}
 use Rattle.base_classes.specs.ThrowableClasses.{throwable_classes}
-use Rattle.base_classes.specs.Shown.{declaration_of}
 
 unfoldable pub built_in_classes : List ClassDeclaration
 built_in_classes = object_classes ++ (text_classes ++ (stream_classes ++ (value_classes ++ throwable_classes)))

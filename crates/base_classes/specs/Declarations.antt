@@ -1,7 +1,6 @@
 -- What a class file declares, with its indices followed to the texts that they name (JVM Specification 4.1, 4.5 to 4.7).
-use Rattle.std.specs.Prelude.{ℕ, List, [], Option, Some, None, codes}
+use Rattle.std.specs.Prelude.{ℕ, List, Option}
 use Rattle.const_pool.specs.References.{Reference}
-use Prim.Native.String.{String}
 
 -- an instruction of the twelve that the codes of the built-in classes have (6.5)
 pub data NamedInstruction : Type 0 where

@@ -1,4 +1,4 @@
-use Rattle.std.proofs.Common.{◌≡◌, ℕ, Some, slice_get, sym, subst, ◌∙◌}
+use Rattle.std.proofs.Common.{◌≡◌, ℕ, Some, slice_get, subst}
 use Rattle.const_pool.specs.BuiltIn.{built_in_names}
 use Rattle.base_classes.proofs.names.position_of.Goals as goal
 

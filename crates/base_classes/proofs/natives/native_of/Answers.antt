@@ -1,7 +1,7 @@
-use Rattle.std.proofs.Common.{◌≡◌, ◌≢◌, ℕ, Some, None, IfNone, slice_get, length, sym, ap, ◌∙◌}
+use Rattle.std.proofs.Common.{slice_get, sym, ap, ◌∙◌}
 use Rattle.std.proofs.lemmas.List.{length-map}
 use Rattle.base_classes.specs.RowViews.{class_view, member_view}
-use Rattle.base_classes.proofs.NameLemmas.{name_missed, name_found}
+use Rattle.base_classes.proofs.NameLemmas.{name_missed}
 use Rattle.base_classes.proofs.NativeNumbers.{if_some, if_none, numbers_fit, starts_there, native_found, none_without_class, native_missed}
 use Rattle.base_classes.proofs.natives.native_of.Goals as goal
 

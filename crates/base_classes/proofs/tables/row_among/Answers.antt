@@ -1,4 +1,4 @@
-use Rattle.std.proofs.Common.{◌≡◌, map, sym, ap, ◌∙◌}
+use Rattle.std.proofs.Common.{map, sym}
 use Rattle.std.proofs.lemmas.List.{length-map}
 use Rattle.base_classes.specs.RowViews.{class_view}
 use Rattle.base_classes.proofs.Groups.{found_among, passed_one}
