@@ -60,11 +60,14 @@ fn make_all(alloc: Global) -> Result<Vec<ClassFile>, NoMemory>
 /// The built-in classes in their order, as class files of version 49.0. The order of their pools' entries is this crate's
 /// own. What admits a program calls it, and puts them behind the program's classes.
 pub fn built_in(alloc: Global) -> Result<Vec<ClassFile>, NoMemory>
-    ensures declared { IfOk result (λ classes. map declaration_of classes.items ≡ built_in_classes) }
+    ensures declared { IfOk result (λ classes.
+        map declaration_of classes.items ≡ built_in_classes) }
     ensures formed { IfOk result (λ classes. AllByRecursion IsClassFile classes.items) }
     ensures bare { IfOk result (λ classes. AllByRecursion IsBare classes.items) }
-    ensures sound { IfOk result (λ classes. AllByRecursion IsSound (map declaration_of classes.items)) }
-    ensures ordered { IfOk result (λ classes. IsTrue (in_order [] (map declaration_of classes.items))) }
+    ensures sound { IfOk result (λ classes.
+        AllByRecursion IsSound (map declaration_of classes.items)) }
+    ensures ordered { IfOk result (λ classes.
+        IsTrue (in_order [] (map declaration_of classes.items))) }
 {
     make_all(alloc)
 }

@@ -95,7 +95,8 @@ fn candidate(name: &Text16) -> Option<usize>
 /// Where in their order the built-in class of this name stands. It is found by the name's hash, and takes no memory.
 pub fn position_of(name: &Text16) -> Option<usize>
     ensures found { IfSome result (λ place. slice_get built_in_names place ≡ Some name.now) }
-    ensures only { (place : ℕ) → slice_get built_in_names place ≡ Some name.now → result ≡ Some place }
+    ensures only { (place : ℕ) → slice_get built_in_names place ≡ Some name.now
+        → result ≡ Some place }
 {
     let place = candidate(name)?;
     if is_named(place, name) {

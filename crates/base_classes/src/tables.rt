@@ -33,7 +33,12 @@ macro_rules! member_row {
         MemberRow { access: 0 $(| flag!($flag))*, name: $name, descriptor: $descriptor, code: None }
     };
     ([$($flag:ident)* $name:literal $descriptor:literal $code:ident]) => {
-        MemberRow { access: 0 $(| flag!($flag))*, name: $name, descriptor: $descriptor, code: Some(&$code) }
+        MemberRow {
+            access: 0 $(| flag!($flag))*,
+            name: $name,
+            descriptor: $descriptor,
+            code: Some(&$code),
+        }
     };
 }
 
@@ -78,7 +83,8 @@ pub(crate) fn groups() -> [&'static [ClassRow]; 5]
 
 /// The row at a place of a group.
 fn row_in(group: &'static [ClassRow], place: usize) -> Option<&'static ClassRow>
-    ensures { option_map (λ row. class_view row.now) result ≡ slice_get (map class_view group.now) place }
+    ensures { option_map (λ row. class_view row.now) result
+        ≡ slice_get (map class_view group.now) place }
 {
     group.get(place)
 }
