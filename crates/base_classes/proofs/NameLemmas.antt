@@ -1,8 +1,12 @@
 -- The names of the built-in classes and their hashes.
-use Rattle.std.proofs.Common.{◌≡◌, ℕ, zero, suc, ◌+◌, true, false, List, [], ◌∷◌, map, Option, Some, None, slice_get, refl, sym, ap, subst, ◌∙◌, arith}
+use Rattle.std.proofs.Common.{◌≡◌, ℕ, zero, suc, ◌+◌, Bool, true, false, List, [], ◌∷◌, map, Option, Some, None, IfSome, is_some, slice_get, ⊎_elim, refl, sym, ap, subst, ◌∙◌, arith}
 use Rattle.std.specs.Prelude.{◌==◌}
+use Rattle.std.specs.List.{list_any}
+use Rattle.std.specs.Str.{bytes_eq}
 use Rattle.std.specs.Option.{option_map, option_map_or}
-use Rattle.std.proofs.lemmas.Bool.{and_parts, eqb-true}
+use Rattle.std.proofs.lemmas.Bool.{and_parts, or_cases, eqb-true}
+use Rattle.std.proofs.lemmas.Slice.Eq.{bytes_eq-Decides}
+use Rattle.std.proofs.Math.Bool.{or-true}
 use Rattle.const_pool.specs.BuiltIn.{built_in_names}
 use Rattle.base_classes.specs.Declarations.{ClassDeclaration}
 use Rattle.base_classes.specs.BuiltInClasses.{built_in_classes}
@@ -52,3 +56,27 @@ place_found slots slot place name h here at = here ∙ found_from slots 0 built_
 pub place_missed : (slots : List ℕ) (place : ℕ) (name : List ℕ) → finds_each slots ≡ true → None ≡ slice_get slots (hash_of name)
     → slice_get built_in_names place ≡ Some name → None ≡ Some place
 place_missed slots place name h here at = here ∙ found_from slots 0 built_in_names place name h at ∙ ap (λ (k : ℕ). Some k) (omega arith)
+
+-- ---- whether a name is one of them
+
+any_at : (name : List ℕ) (names : List (List ℕ)) (k : ℕ) → slice_get names k ≡ Some name → list_any (bytes_eq name) names ≡ true
+any_at name [] k at = absurd cc
+any_at name (first ∷ names) zero at = let same : name ≡ first = cc in rw ((bytes_eq-Decides name first).1 same) refl
+any_at name (first ∷ names) (suc k) at = rw (any_at name names k at) (or-true (bytes_eq name first))
+
+any_found : (name : List ℕ) (names : List (List ℕ)) → list_any (bytes_eq name) names ≡ true → (k : ℕ) × (slice_get names k ≡ Some name)
+any_found name [] h = absurd cc
+any_found name (first ∷ names) h =
+    ⊎_elim
+    (λ here. (zero, ap (λ (t : List ℕ). Some t) (sym ((bytes_eq-Decides name first).0 here))))
+    (λ there. let found = any_found name names there in (suc found.0, found.1))
+    (or_cases (bytes_eq name first) (list_any (bytes_eq name) names) h)
+
+pub is_among : (name : List ℕ) (place : Option ℕ) → IfSome place (λ k. slice_get built_in_names k ≡ Some name)
+    → ((k : ℕ) → slice_get built_in_names k ≡ Some name → place ≡ Some k) → is_some place ≡ list_any (bytes_eq name) built_in_names
+is_among name (Some k) found only = sym (any_at name built_in_names k found)
+is_among name None found only = by_test (list_any (bytes_eq name) built_in_names) refl
+  where
+    by_test : (b : Bool) → list_any (bytes_eq name) built_in_names ≡ b → false ≡ list_any (bytes_eq name) built_in_names
+    by_test false is = sym is
+    by_test true is = let found = any_found name built_in_names is in let at = only found.0 found.1 in absurd cc

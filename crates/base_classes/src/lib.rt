@@ -24,7 +24,7 @@ mod tables;
 use const_pool::ClassFile;
 use jf_bytes::NoMemory;
 use making::class_of;
-pub use names::{built_in_name, position_of};
+pub use names::{built_in_name, is_built_in, position_of};
 pub use natives::native_of;
 use rows::ClassRow;
 use std::alloc::Global;

@@ -1,7 +1,9 @@
 //! The names of the built-in classes, both ways between a name and its place in their order.
 
 ghost use Rattle.std.specs.Prelude.{◌≡◌, ◌↔◌, ℕ, Some, slice_get, IfSome, IsTrue};
+ghost use Rattle.std.specs.List.{list_any};
 ghost use Rattle.std.specs.Option.{option_copied};
+ghost use Rattle.std.specs.Str.{bytes_eq};
 ghost use Rattle.const_pool.specs.BuiltIn.{built_in_names};
 ghost use Rattle.base_classes.specs.Hashes.{hash_of, finds_each};
 
@@ -104,4 +106,11 @@ pub fn position_of(name: &Text16) -> Option<usize>
     } else {
         None
     }
+}
+
+/// Whether a built-in class has this name, so that no class of a program may.
+pub fn is_built_in(name: &Text16) -> bool
+    ensures { result ≡ list_any (bytes_eq name.now) built_in_names }
+{
+    position_of(name).is_some()
 }

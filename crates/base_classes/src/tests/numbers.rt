@@ -105,6 +105,7 @@ fn places_of_classes(rt: HostRuntime) -> Result<(), Fail> {
     for (name, place) in &PLACES {
         let name = from_utf8(alloc, name)?;
         assert!(rt; position_of(&name) == *place);
+        assert!(rt; is_built_in(&name) == place.is_some());
     }
     assert!(rt; built_in_name(11) == Some("java/io/PrintStream"));
     assert!(rt; built_in_name(53).is_none());
