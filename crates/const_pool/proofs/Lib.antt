@@ -1,3 +1,4 @@
+pub mod Tables
 mod TailIndices
 pub mod Gaps
 pub mod Halts

@@ -1,13 +1,15 @@
 //! The class file as a value (JVM Specification 4): its types, its constant pool with the tail of a rewritten class, its
-//! descriptors, and what bytes spell it.
+//! descriptors, the names of the built-in classes, and what bytes spell it.
 #![tactic(auto)]
 
+mod built_in;
 mod class;
 mod descriptor;
 mod pool;
 mod stages;
 mod tail;
 
+pub use built_in::{built_in_name, is_built_in};
 pub use class::{Attribute, ClassFile, CodeAttribute, Handler, Member, Raw};
 pub use descriptor::{DescriptorError, Kind, Shape, parse_field, parse_method};
 pub use pool::{Const, MemberRef, Pool, PoolError};

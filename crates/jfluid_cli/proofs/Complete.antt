@@ -17,7 +17,7 @@ use Rattle.jvm_machine.specs.View.{View}
 use Rattle.jfluid_cli.specs.Roots.{IsRoot, IsChosen, IsBadRoot, LacksRoot, root_said, root_method}
 use Rattle.jfluid_cli.specs.Selections.{RunsProgram}
 use Rattle.const_pool.specs.References.{Reference}
-use Rattle.jfluid_cli.specs.PlainFiles.{IsPlainFile}
+use Rattle.small_program.specs.PlainFiles.{IsPlainFile}
 use Rattle.jfluid_cli.specs.Refusals.{status_of}
 use Rattle.jfluid_cli.specs.Words.{Command, command_of}
 use Rattle.jfluid_cli.specs.Runs.{ending_at, SameProgram, IsCarriedOut}

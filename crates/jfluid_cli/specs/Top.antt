@@ -6,14 +6,14 @@ use Rattle.jf_bytes.specs.Streams.{Told, contents_at, front_at, greatest}
 use Rattle.const_pool.specs.declared.class.ClassFile.{ClassFile}
 use Rattle.const_pool.specs.Plain.{HasPlainShape}
 use Rattle.class_reader.specs.declared.error.ReadError.{ReadError}
-use Rattle.class_reader.specs.Files.{IsFile, IsFirstFault}
+use Rattle.class_reader.specs.Files.{IsFile, IsFirstFault, most_bytes}
 use Rattle.jvm_model.specs.declared.ending.Ending.{Ending}
 use Rattle.jvm_model.specs.declared.ending.Ending.TheVariants.{Returned, Exited, Uncaught, Unverifiable}
 use Rattle.jvm_model.specs.SmallClass.{IsSmallClass, main_of}
 use Rattle.jvm_machine.specs.View.{View}
 use Rattle.jfluid_cli.specs.declared.refusal.Refusal.{Refusal}
 use Rattle.jfluid_cli.specs.declared.refusal.Refusal.TheVariants.{Words, BadRoot, NotRead, NotBuilt, NoMain, NoSuchRoot, NotFetched, NoMemory}
-use Rattle.jfluid_cli.specs.PlainFiles.{IsPlainFile}
+use Rattle.small_program.specs.PlainFiles.{IsPlainFile}
 use Rattle.jfluid_cli.specs.Words.{Command, command_of}
 use Rattle.jfluid_cli.specs.Roots.{IsChosen, IsBadRoot, LacksRoot, root_said}
 use Rattle.jfluid_cli.specs.Runs.{ending_at}
@@ -94,13 +94,9 @@ Has told name P = IfSome told (λ files. IfSome (contents_at files name) P)
 abbrev pub IsToldAs : Option Told → List ℕ → List ℕ → Type 0
 IsToldAs told name bytes = IfSome told (λ files. contents_at files name ≡ Some bytes)
 
--- the greatest length of a class file
-abbrev pub most : ℕ
-most = 4194304
-
 -- the contents of the file are these bytes, or begin with them where they are too long
 abbrev pub IsFrontOf : Option Told → List ℕ → List ℕ → Type 0
-IsFrontOf told name bytes = IfSome told (λ files. front_at files name most ≡ Some bytes)
+IsFrontOf told name bytes = IfSome told (λ files. front_at files name most_bytes ≡ Some bytes)
 
 -- what a fetch refuses
 abbrev pub IsFetchRefusal : Refusal → Type 0

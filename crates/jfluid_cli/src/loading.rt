@@ -12,17 +12,14 @@ ghost use Rattle.jfluid_cli.specs.Views.{root_view};
 ghost use Rattle.jfluid_cli.specs.Top.{LacksRootMethod, IsProgram, IsOutside, LacksMain, HasNoProgram, HasNoRooted, Has, IsToldAs, IsFrontOf, IsFetchRefusal};
 ghost use Rattle.jfluid_cli.specs.Words.{slashed};
 
-use crate::admission::{AdmitError, admit};
 use crate::refusal::Refusal;
 use crate::roots::{Root, read_root, root_number};
 use crate::words::{Command, class_name};
-use class_reader::{ReadError, read_class};
+use class_reader::{MOST_BYTES, ReadError, read_class};
 use const_pool::ClassFile;
 use jf_bytes::{FetchError, Files, NoMemory, Text16};
+use small_program::{AdmitError, admit};
 use std::alloc::Global;
-
-/// The greatest length of a class file.
-const MOST: usize = 4_194_304;
 
 /// A class file that was read and admitted.
 #[derive(Drop)]
@@ -75,7 +72,7 @@ fn fetch<F: Files>(alloc: Global, name: &str, files: &mut F) -> Result<Vec<u8>, 
     ensures calm { result ≢ Err Refusal.NotFetched → F.faults files.new ≡ F.faults files.old }
     ensures errors { IfErr result IsFetchRefusal }
 {
-    match files.fetch(alloc, name, MOST) {
+    match files.fetch(alloc, name, MOST_BYTES) {
         Ok(bytes) => Ok(bytes),
         Err(FetchError::Failed) => Err(Refusal::NotFetched),
         Err(FetchError::NoMemory) => Err(Refusal::NoMemory),

@@ -6,8 +6,7 @@ ghost use Rattle.const_pool.specs.BuiltIn.{built_in_names};
 ghost use Rattle.profile_report.specs.Reports.{class_text, method_text};
 ghost use Rattle.profile_report.specs.Shown.{shown};
 
-use crate::built_in::built_in_name;
-use const_pool::ClassFile;
+use const_pool::{ClassFile, built_in_name};
 use jf_bytes::{NoMemory, Text16, to_utf8};
 use std::alloc::Global;
 

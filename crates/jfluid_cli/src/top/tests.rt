@@ -6,7 +6,6 @@ mod numbers;
 mod roots;
 
 use super::*;
-use crate::admission::admit;
 use crate::loading::{Loaded, Program};
 use crate::making::make;
 use assembler::{PARTS, Parts, assembled};
@@ -14,6 +13,7 @@ use class_reader::read_class;
 use jf_bytes::{MemFiles, MemSink, MemSource, NoMemory, Text16};
 use jvm_machine::{Turn, Vm};
 use jvm_model::{Event, EventKind};
+use small_program::admit;
 use std::alloc::Global;
 use std::test::*;
 

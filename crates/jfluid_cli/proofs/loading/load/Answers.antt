@@ -2,15 +2,15 @@ use Rattle.std.proofs.Common.{ℕ, ◌≤◌, List, length, subst}
 use Rattle.jfluid_cli.specs.declared.loading.Loaded.{Loaded}
 use Rattle.jfluid_cli.specs.declared.loading.Program.{Program}
 use Rattle.jfluid_cli.specs.declared.refusal.Refusal.TheVariants.{NotRead, NotBuilt, NoMain}
-use Rattle.jfluid_cli.specs.Top.{most, IsOutside, LacksMain, HasNoProgram, Has}
-use Rattle.class_reader.specs.Files.{IsFirstFault}
+use Rattle.jfluid_cli.specs.Top.{IsOutside, LacksMain, HasNoProgram, Has}
+use Rattle.class_reader.specs.Files.{most_bytes, IsFirstFault}
 use Rattle.jfluid_cli.proofs.ToldFiles.{told_whole, told_fault, told_none, told_outside, told_lacking, same_refusal}
 use Rattle.jfluid_cli.proofs.loading.load.Goals as goal
 
 pub returns-in-Ok-read_program-clause-told : goal.returns-in-Ok-read_program-clause-told
 returns-in-Ok-read_program-clause-told g c =
     told_whole (g.F.Files.contents c.args.files.now) c.args.command.file.now c.in_ok-bytes.bytes.items c.in_ok-bytes.ensures.found
-    (subst (λ (bs : List ℕ). length bs ≤ most) c.deref.ensures.value c.in-Ok-read_program.ensures.ok.file.short)
+    (subst (λ (bs : List ℕ). length bs ≤ most_bytes) c.deref.ensures.value c.in-Ok-read_program.ensures.ok.file.short)
 
 pub returns-clause-not_read : goal.returns-clause-not_read
 returns-clause-not_read g c fault e =
