@@ -1,12 +1,12 @@
 -- Where all is accepted and nothing fails, the status is that of the run at the budget.
 use Rattle.std.proofs.Common.{◌≡◌, ◌≢◌, ℕ, ◌+◌, ◌<◌, ◌≤◌, true, false, List, [], Option, Some, None, refl, sym, ap, subst, ◌∙◌, arith, inl, inr}
-use Rattle.std.specs.Prelude.{◌⊎◌, min, Result, Ok, Err, IfSome, IfOk, IfErr, IsSome, MatchResult}
+use Rattle.std.specs.Prelude.{◌⊎◌, min, IsSomeAnd, Result, Ok, Err, IfSome, IfOk, IfErr, IsSome, MatchResult}
 use Rattle.std.specs.Option.{option_and_then}
 use Rattle.std.proofs.lemmas.Option.{same_Some, none-some}
 use Rattle.jfluid_cli.specs.declared.kept.Kept.{Kept}
 use Rattle.jfluid_cli.specs.declared.refusal.Refusal.{Refusal}
 use Rattle.jfluid_cli.specs.declared.refusal.Refusal.TheVariants.{Words, BadRoot, NotRead, NotBuilt, NoMain, NoSuchRoot, NotFetched, OutFailed, NoMemory}
-use Rattle.jf_bytes.specs.Streams.{Told, Rose, greatest}
+use Rattle.jf_bytes.specs.Streams.{Told, Rose, HasTold, IsToldAs, greatest}
 use Rattle.const_pool.specs.declared.class.ClassFile.{ClassFile}
 use Rattle.class_reader.specs.Files.{IsFile}
 use Rattle.jvm_model.specs.declared.state.State.{State}
@@ -23,7 +23,7 @@ use Rattle.small_program.specs.PlainFiles.{IsPlainFile}
 use Rattle.jfluid_cli.specs.Refusals.{status_of}
 use Rattle.jfluid_cli.specs.Words.{Command, command_of}
 use Rattle.jfluid_cli.specs.Runs.{ending_at, SameProgram, IsCarriedOut}
-use Rattle.jfluid_cli.specs.Top.{status_of_ending, IsProgram, HasNoRooted, Has, IsToldAs, IsCalm, IsAccepted}
+use Rattle.jfluid_cli.specs.Top.{status_of_ending, IsProgram, HasNoRooted, IsCalm, IsAccepted}
 
 -- a calm count did not rise
 pub calm_not_rose : (old new : ℕ) → IsCalm old new → Rose old new → ⊥
@@ -50,10 +50,10 @@ abbrev pub some_bytes : List ℕ → Option (List ℕ)
 some_bytes bytes = Some bytes
 
 -- a file with this name has no other contents than those that are accepted
-accepted_has : (told : Option Told) (words : List (List ℕ)) (c : ClassFile) (main : ℕ) (a : IsAccepted told words c main) (P : List ℕ → Type 0) → Has told a.command.file P → P a.bytes
+accepted_has : (told : Option Told) (words : List (List ℕ)) (c : ClassFile) (main : ℕ) (a : IsAccepted told words c main) (P : List ℕ → Type 0) → HasTold told a.command.file P → P a.bytes
 accepted_has told words c main a P has =
-    let files : Has (Some a.files) a.command.file P = subst (λ (t : Option Told). Has t a.command.file P) a.telling has in
-    subst (λ (o : Option (List ℕ)). IfSome o P) a.told_as files
+    let files : HasTold (Some a.files) a.command.file P = subst (λ (t : Option Told). HasTold t a.command.file P) a.telling has in
+    subst (λ (o : Option (List ℕ)). IsSomeAnd o P) a.told_as files
 
 abbrev pub some_command : Command → Option Command
 some_command k = Some k
@@ -89,16 +89,16 @@ chosen-said (Some word) c root chosen = ap (option_and_then (root_method c)) cho
 
 -- what is accepted is a program with its root
 accepted_none : (told : Option Told) (words : List (List ℕ)) (c : ClassFile) (main : ℕ) (a : IsAccepted told words c main) (command : Command) → command_of words ≡ Some command
-    → Has told command.file (HasNoRooted command.options.root command.main) → ⊥
+    → HasTold told command.file (HasNoRooted command.options.root command.main) → ⊥
 accepted_none told words c main a command e none =
     let same : command ≡ a.command = accepted_command told words c main a command e in
-    let has : Has told a.command.file (HasNoRooted a.command.options.root a.command.main) = subst (λ (k : Command). Has told k.file (HasNoRooted k.options.root k.main)) same none in
+    let has : HasTold told a.command.file (HasNoRooted a.command.options.root a.command.main) = subst (λ (k : Command). HasTold told k.file (HasNoRooted k.options.root k.main)) same none in
     accepted_has told words c main a (HasNoRooted a.command.options.root a.command.main) has c main a.root a.program a.chosen
 
 -- What a load refused was not accepted, unless memory ran out.
 pub load_refused : (told : Option Told) (words : List (List ℕ)) (c : ClassFile) (main : ℕ) (command : Command) (refusal : Refusal) (before after : ℕ) → IsAccepted told words c main → command_of words ≡ Some command
     → IsCalm before after → (refusal ≢ Words) → (refusal ≢ OutFailed) → (refusal ≡ NotFetched → Rose before after) → (refusal ≡ BadRoot → IsBadRoot command.options.root)
-    → (status_of refusal ≡ 3 → Has told command.file (HasNoRooted command.options.root command.main)) → refusal ≡ NoMemory
+    → (status_of refusal ≡ 3 → HasTold told command.file (HasNoRooted command.options.root command.main)) → refusal ≡ NoMemory
 load_refused told words c main command Words before after a e calm not_words not_out failed bad none = absurd (not_words refl)
 load_refused told words c main command OutFailed before after a e calm not_words not_out failed bad none = absurd (not_out refl)
 load_refused told words c main command NotFetched before after a e calm not_words not_out failed bad none = absurd (calm_not_rose before after calm (failed refl))

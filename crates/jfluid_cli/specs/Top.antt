@@ -2,7 +2,7 @@
 use Rattle.std.specs.Prelude.{◌≡◌, ℕ, ◌<◌, ◌⊎◌, Bool, false, List, [], ◌∷◌, Option, Some, None, IfSome, slice_get, unwrap_or, ◌==◌}
 use Rattle.std.specs.Option.{option_and_then}
 use Rattle.std.specs.List.{list_any}
-use Rattle.jf_bytes.specs.Streams.{Told, contents_at, front_at, greatest}
+use Rattle.jf_bytes.specs.Streams.{Told, HasTold, contents_at, greatest}
 use Rattle.const_pool.specs.declared.class.ClassFile.{ClassFile}
 use Rattle.const_pool.specs.Plain.{HasPlainShape}
 use Rattle.class_reader.specs.declared.error.ReadError.{ReadError}
@@ -86,18 +86,6 @@ HasNoProgram name bytes = (c : ClassFile) (main : ℕ) → IsProgram bytes name 
 abbrev pub HasNoRooted : Option (List ℕ) → List ℕ → List ℕ → Type 0
 HasNoRooted word name bytes = (c : ClassFile) (main : ℕ) (root : Option ℕ) → IsProgram bytes name c main → IsChosen word c root → ⊥
 
--- the files, where they tell their contents, have this under the name
-abbrev pub Has : Option Told → List ℕ → (List ℕ → Type 0) → Type 0
-Has told name P = IfSome told (λ files. IfSome (contents_at files name) P)
-
--- the contents of the file, where the files tell them, are these bytes
-abbrev pub IsToldAs : Option Told → List ℕ → List ℕ → Type 0
-IsToldAs told name bytes = IfSome told (λ files. contents_at files name ≡ Some bytes)
-
--- the contents of the file are these bytes, or begin with them where they are too long
-abbrev pub IsFrontOf : Option Told → List ℕ → List ℕ → Type 0
-IsFrontOf told name bytes = IfSome told (λ files. front_at files name most_bytes ≡ Some bytes)
-
 -- what a fetch refuses
 abbrev pub IsFetchRefusal : Refusal → Type 0
 IsFetchRefusal refusal = (refusal ≡ NotFetched) ⊎ (refusal ≡ NoMemory)
@@ -127,13 +115,13 @@ file_word words = unwrap_or (slice_get words 2) []
 pub record RefusesFile (told : Option Told) (words : List (List ℕ)) (Reason : List ℕ → List ℕ → Type 0) : Type 0 where
   pub command : Command
   pub commanded : command_of words ≡ Some command
-  pub reason : Has told command.file (λ bytes. Reason bytes command.main)
+  pub reason : HasTold told command.file (λ bytes. Reason bytes command.main)
 
 -- The words are a command whose root names no method of the class that the files tell.
 pub record RefusesRoot (told : Option Told) (words : List (List ℕ)) : Type 0 where
   pub command : Command
   pub commanded : command_of words ≡ Some command
-  pub reason : Has told command.file (λ bytes. LacksRootMethod command.options.root bytes command.main)
+  pub reason : HasTold told command.file (λ bytes. LacksRootMethod command.options.root bytes command.main)
 
 -- The words are a command whose word for the root is outside the grammar.
 pub record HasBadRoot (words : List (List ℕ)) : Type 0 where
