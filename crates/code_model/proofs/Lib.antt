@@ -1,12 +1,7 @@
-pub mod Readings
-mod Fronts
-mod LaidRows
-pub mod Lengths
-pub mod Walks
-mod Growing
-pub mod Decoded
-pub mod Ready
+pub mod Items
+pub mod Turns
+pub mod Tests
+pub mod NumberLaws
+pub mod OperandLaws
+pub mod Many
 pub mod Lookups
-pub mod Again
-pub mod Among
-pub mod Layouts

@@ -1,6 +1,5 @@
 //! Instructions with their operands.
 
-use crate::opcodes::find_form;
 use jf_bytes::Seq;
 
 /// An instruction's operand, by its form. Targets are absolute offsets.
@@ -37,23 +36,6 @@ pub struct Instr {
     pub op: u8,
     pub wide: bool,
     pub arg: Arg,
-}
-
-impl Instr {
-    ghost use Rattle.std.specs.Prelude.{◌≡◌, ◌<◌, ◌^◌};
-    ghost use Rattle.code_model.specs.Instructions.{end_of};
-
-    /// The offset behind it, where the next instruction begins. An offset in a code is a u16 (JVM Specification 4.7.3).
-    pub fn next_offset(&self) -> u16
-        requires { end_of self.now < 2 ^ 16 }
-        ensures { result ≡ end_of self.now }
-    {
-        let size = match find_form(self.op) {
-            Some(form) => form.size(),
-            None => 0,
-        };
-        self.at + 1 + size
-    }
 }
 
 /// The instructions of a code, in order, and the code's length in bytes.

@@ -1,19 +1,13 @@
 //! The instructions of a method's code (JVM Specification 6).
 #![tactic(auto)]
 
-mod decoding;
 mod error;
 mod instr;
 mod laying;
-mod opcodes;
-mod sizes;
-mod spelling;
-mod spots;
+mod numbers;
+mod operands;
+mod switches;
 
-pub use decoding::{decode, instr_at};
 pub use error::CodeError;
 pub use instr::{Arg, Code, Instr};
-pub use laying::{Group, Homes, Laid, LayError, lay_out};
-
-#[cfg(test)]
-mod tests;
+pub use laying::{Group, Homes, Laid};
