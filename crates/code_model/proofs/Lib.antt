@@ -5,3 +5,8 @@ pub mod NumberLaws
 pub mod OperandLaws
 pub mod Many
 pub mod Lookups
+pub mod Lengths
+pub mod Spelled
+pub mod Readings
+mod Fronts
+pub mod Again

@@ -1,6 +1,7 @@
 //! The instructions of a method's code (JVM Specification 6).
 #![tactic(auto)]
 
+mod decoding;
 mod error;
 mod instr;
 mod laying;
@@ -8,6 +9,7 @@ mod numbers;
 mod operands;
 mod switches;
 
+pub use decoding::{decode, instr_at};
 pub use error::CodeError;
 pub use instr::{Arg, Code, Instr};
 pub use laying::{Group, Homes, Laid};
