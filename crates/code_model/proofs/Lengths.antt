@@ -9,7 +9,7 @@ use Rattle.code_model.specs.declared.instr.Arg.{Arg}
 use Rattle.code_model.specs.declared.instr.Arg.TheVariants.{Plain, Value, Pool, Local, Inc, Target, Table, Lookup, Interface, Multi, Array}
 use Rattle.code_model.specs.declared.instr.Instr.{Instr}
 use Rattle.code_model.specs.Operands.{padding_len}
-use Rattle.code_model.specs.Layout.{number_bytes, target_bytes, padding, pair_bytes, operand_bytes, opcode_bytes, width_of, instr_bytes, size_at}
+use Rattle.code_model.specs.Layout.{number_bytes, target_bytes, padding, pair_bytes, operand_bytes, operand_len, opcode_bytes, width_of, instr_bytes, size_at}
 
 length-bytes : (k n : ℕ) → length (bytes_high_first k n) ≡ k
 length-bytes zero n = refl
@@ -33,20 +33,6 @@ pub length-padding : (place : ℕ) → length (padding place) ≡ 3 - place % 4
 length-padding place = length-replicate (3 - place % 4) 0
 
 -- ---- operands
-
--- how many bytes stand behind the opcode of an instruction at this place
-abbrev pub operand_len : ℕ → Width → Arg → ℕ
-operand_len place w Plain = 0
-operand_len place w (Value n) = byte_len w
-operand_len place w (Pool index) = byte_len w
-operand_len place w (Local slot) = byte_len w
-operand_len place w (Inc slot n) = byte_len w + byte_len w
-operand_len place w (Target t) = byte_len w
-operand_len place w (Table default low targets) = padding_len place + 12 + 4 * length targets
-operand_len place w (Lookup default keys targets) = padding_len place + 8 + 8 * min (length keys) (length targets)
-operand_len place w (Interface index count last) = 4
-operand_len place w (Multi index dimensions) = 3
-operand_len place w (Array kind) = 1
 
 length-table : (home : ℕ → ℕ) (place : ℕ) (w : Width) (default : ℕ) (low : ℤ) (targets : List ℕ)
     → length (operand_bytes home place w (Table default low targets)) ≡ padding_len place + 12 + 4 * length targets
@@ -114,3 +100,5 @@ pub size_at-near : (p q : ℕ) (i : Instr) → size_at p i + 5 ≤ 6 * size_at q
 size_at-near p q i =
     let some = some_opcode i.wide i.op in
     omega (arith, size_at-is p i, size_at-is q i, operand_len-near p q (width_of i) i.arg)
+
+pub ruleset sizes = (size_at-is)

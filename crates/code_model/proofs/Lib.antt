@@ -10,3 +10,9 @@ pub mod Spelled
 pub mod Readings
 mod Fronts
 pub mod Again
+pub mod Growing
+pub mod Walks
+pub mod Among
+pub mod Layouts
+pub mod Searches
+pub mod Steps

@@ -18,9 +18,9 @@ use Rattle.code_model.specs.declared.instr.Arg.TheVariants.{Plain, Value, Pool, 
 use Rattle.code_model.specs.declared.instr.Instr.{Instr}
 use Rattle.code_model.specs.Formats.{Format, AreInTurn, number, run, made, in_turn, many, either}
 use Rattle.code_model.specs.Operands.{slot_width, padding_len, signed, target, reached, clamped, case_count, counted, keys_rise, key_of, target_of, pair, table, lookup, operand, form_of, instr_with, behind_opcode, behind_wide, is_wide, instruction}
-use Rattle.code_model.specs.Layout.{operand_width, opcode_bytes, width_of, size_at}
+use Rattle.code_model.specs.Layout.{distance, operand_width, operand_len, opcode_bytes, width_of, size_at}
 use Rattle.code_model.specs.Groups.{IsBytes, FitsNumber, FitsOperand, targets_of}
-use Rattle.code_model.proofs.Lengths.{operand_len, size_at-is}
+use Rattle.code_model.proofs.Lengths.{size_at-is}
 
 -- ---- widths
 
@@ -145,12 +145,18 @@ HasShape form.Unknown arg = ⊥
 abbrev pub EachTarget : Arg → Type 0
 EachTarget arg = AllByRecursion (λ t. t ≤ 65535) (targets_of arg)
 
+-- a branch offset that leads into a code was spelled there
+abbrev pub IsNearTo : ℕ → Width → Arg → Type 0
+IsNearTo at w (Target t) = t < 65535 → FitsSigned w (distance at t)
+IsNearTo at w _ = Unit {0}
+
 -- what is known of an operand that bytes spell
 pub record IsSpelled (f : Form) (wide : Bool) (at : ℕ) (text : List ℕ) (arg : Arg) : Type 0 where
   pub shape : HasShape f arg
   pub long : length text ≡ operand_len at (operand_width wide f) arg
   pub fits : IsBytes text → FitsOperand (operand_width wide f) arg
   pub targets : EachTarget arg
+  pub near : IsBytes text → IsNearTo at (operand_width wide f) arg
 
 -- one number
 module _ {A : Type 0} (P : Format A) (make : A → Arg) (len : ℕ) (each : (text : List ℕ) (x : A) → P.Spells text x → length text ≡ len) where
@@ -167,12 +173,13 @@ value_spelled f wide at w iswide is shaped text arg h =
       long = len ∙ ap byte_len is;
       fits = λ bytes. subst (λ v. FitsOperand v (Value h.x)) is (signed_number at w h.front h.x iswide h.first (front_fits h bytes));
       targets = tt;
+      near = λ bytes. tt;
     })
 
 number_spelled : (f : Form) (wide : Bool) (at : ℕ) (w : Width) (make : ℕ → Arg) → IsWide w → ((n : ℕ) → HasShape f (make n))
-    → ((n : ℕ) → byte_len w ≡ operand_len at (operand_width wide f) (make n)) → ((n : ℕ) → FitsNumber w n → FitsOperand (operand_width wide f) (make n)) → ((n : ℕ) → EachTarget (make n))
+    → ((n : ℕ) → byte_len w ≡ operand_len at (operand_width wide f) (make n)) → ((n : ℕ) → FitsNumber w n → FitsOperand (operand_width wide f) (make n)) → ((n : ℕ) → EachTarget (make n)) → ((n : ℕ) → IsNearTo at (operand_width wide f) (make n))
     → (text : List ℕ) (arg : Arg) → AreInTurn (number at w) (λ n. made (make n)) text arg → IsSpelled f wide at text arg
-number_spelled f wide at w make iswide shaped long fitting leading text arg h =
+number_spelled f wide at w make iswide shaped long fitting leading nearing text arg h =
     let same : arg ≡ make h.x = h.second.0 in
     let len = one_len (number at w) make (byte_len w) (λ t n e. e.0) text arg h in
     subst (IsSpelled f wide at text) (sym same) (record {
@@ -180,18 +187,37 @@ number_spelled f wide at w make iswide shaped long fitting leading text arg h =
       long = len ∙ long h.x;
       fits = λ bytes. fitting h.x (number_fits at w h.front h.x iswide h.first (front_fits h bytes));
       targets = leading h.x;
+      near = λ bytes. nearing h.x;
     })
 
-branch_spelled : (f : Form) (wide : Bool) (at : ℕ) (w : Width) → w ≡ operand_width wide f → ((t : ℕ) → HasShape f (Target t))
+-- a target that was not clamped is where its branch offset leads
+unclamped : (at : ℕ) (d : ℤ) → reached at d < 65535 → distance at (reached at d) ≡ d
+unclamped at d below = by_sum (pos at +ℤ d) refl below
+  where
+    by_kept : (n : ℕ) (b : Bool) → pos at +ℤ d ≡ pos n → cond b n 65535 < 65535 → pos (cond b n 65535) -ℤ pos at ≡ d
+    by_kept n true e lt = omega (arith, ints)
+    by_kept n false e lt = absurd (omega arith)
+    by_sum : (z : ℤ) → pos at +ℤ d ≡ z → clamped z < 65535 → pos (clamped z) -ℤ pos at ≡ d
+    by_sum (pos n) e lt = by_kept n (leb n 65535) e lt
+    by_sum (negsuc n) e lt = absurd (omega arith)
+
+target_near : (at : ℕ) (w : Width) (text : List ℕ) (t : ℕ) → IsWide w → (target at w).Spells text t → IsBytes text → t < 65535 → FitsSigned w (distance at t)
+target_near at w text t iswide h bytes below =
+    let same : t ≡ reached at h.x = h.second.0 in
+    let back : distance at t ≡ h.x = ap (distance at) same ∙ unclamped at h.x (subst (λ n. n < 65535) same below) in
+    subst (FitsSigned w) (sym back) (signed_number at w h.front h.x iswide h.first (front_fits h bytes))
+
+branch_spelled : (f : Form) (wide : Bool) (at : ℕ) (w : Width) → IsWide w → 2 ≤ byte_len w → w ≡ operand_width wide f → ((t : ℕ) → HasShape f (Target t))
     → (text : List ℕ) (arg : Arg) → AreInTurn (target at w) (λ t. made (Target t)) text arg → IsSpelled f wide at text arg
-branch_spelled f wide at w is shaped text arg h =
+branch_spelled f wide at w iswide two is shaped text arg h =
     let same : arg ≡ Target h.x = h.second.0 in
     let len = one_len (target at w) Target (byte_len w) (target_len at w) text arg h in
     subst (IsSpelled f wide at text) (sym same) (record {
       shape = shaped h.x;
       long = len ∙ ap byte_len is;
-      fits = λ bytes. tt;
+      fits = λ bytes. subst (λ v. 2 ≤ byte_len v) is two;
       targets = (target_le at w h.front h.x h.first, tt);
+      near = λ bytes. subst (λ v. IsNearTo at v (Target h.x)) is (target_near at w h.front h.x iswide h.first (front_fits h bytes));
     })
 
 inc_spelled : (wide : Bool) (at : ℕ) (text : List ℕ) (arg : Arg) → (operand form.Inc wide at).Spells text arg → IsSpelled form.Inc wide at text arg
@@ -210,6 +236,7 @@ inc_spelled wide at text arg h =
           number_fits at w h.front slot (slot_wide wide) h.first (front_fits h bytes),
           signed_number at w h.second.front n (slot_wide wide) h.second.first (front_fits h.second (rest_fits h bytes)));
       targets = tt;
+      near = λ bytes. tt;
     })
 
 interface_spelled : (wide : Bool) (at : ℕ) (text : List ℕ) (arg : Arg) → (operand form.Interface wide at).Spells text arg → IsSpelled form.Interface wide at text arg
@@ -229,6 +256,7 @@ interface_spelled wide at text arg h =
           number_fits at w8 inner.front inner.x wide8 inner.first (front_fits inner (rest_fits h bytes)),
           number_fits at w8 last.front last.x wide8 last.first (front_fits last (rest_fits inner (rest_fits h bytes))));
       targets = tt;
+      near = λ bytes. tt;
     })
 
 multi_spelled : (wide : Bool) (at : ℕ) (text : List ℕ) (arg : Arg) → (operand form.Multi wide at).Spells text arg → IsSpelled form.Multi wide at text arg
@@ -243,6 +271,7 @@ multi_spelled wide at text arg h =
       long = omega (arith, turn_len h, turn_len inner);
       fits = λ bytes. (number_fits at w16 h.front h.x wide16 h.first (front_fits h bytes), number_fits at w8 inner.front inner.x wide8 inner.first (front_fits inner (rest_fits h bytes)));
       targets = tt;
+      near = λ bytes. tt;
     })
 
 -- ---- switches
@@ -285,6 +314,7 @@ table_spelled wide at text arg h =
           let high = signed_number at w32 g.front g.x wide32 g.first.0 (front_fits g (rest_fits l at_low)) in
           (cases.0, low, subst (FitsSigned w32) (sym cases.1) high));
       targets = (target_le at w32 d.front d.x d.first, many_le at (case_count l.x g.x) ts.front ts.x ts.first);
+      near = λ bytes. tt;
     })
   where
     by_sum : {a b c e f p q r s u v k : ℕ} (n : ℕ) → a ≡ p + b → b ≡ q + c → c ≡ r + e → e ≡ s + f → f ≡ u + v → p ≡ k → q ≡ 4 → r ≡ 4 → s ≡ 4 → u ≡ 4 * n → v ≡ 0 → a ≡ k + 12 + 4 * n
@@ -353,6 +383,7 @@ lookup_spelled wide at text arg h =
           omega arith,
           keys_fit ps.x (many_each (pair at) (λ (x : ℤ × ℕ). FitsSigned w32 x.0) (pair_key at) n.x ps.front ps.x (front_fits ps (rest_fits n (rest_fits d (rest_fits h bytes)))) ps.first.0));
       targets = (target_le at w32 d.front d.x d.first, targets_le at n.x ps.front ps.x ps.first.0);
+      near = λ bytes. tt;
     })
   where
     by_sum : {a b c e p q r u v k m i j : ℕ} → a ≡ p + b → b ≡ q + c → c ≡ r + e → e ≡ u + v → p ≡ k → q ≡ 4 → r ≡ 4 → u ≡ 8 * m → v ≡ 0 → i ≡ m → j ≡ m → a ≡ k + 8 + 8 * min i j
@@ -360,23 +391,23 @@ lookup_spelled wide at text arg h =
 
 plain_spelled : (wide : Bool) (at : ℕ) (text : List ℕ) (arg : Arg) → (arg ≡ Plain) × (text ≡ []) → IsSpelled form.Plain wide at text arg
 plain_spelled wide at text arg h =
-    subst (IsSpelled form.Plain wide at text) (sym h.0) (record { shape = refl; long = ap length h.1; fits = λ bytes. tt; targets = tt })
+    subst (IsSpelled form.Plain wide at text) (sym h.0) (record { shape = refl; long = ap length h.1; fits = λ bytes. tt; targets = tt; near = λ bytes. tt })
 
 pub operand_spelled : (f : Form) (wide : Bool) (at : ℕ) (text : List ℕ) (arg : Arg) → (operand f wide at).Spells text arg → IsSpelled f wide at text arg
 operand_spelled form.Plain wide at text arg h = plain_spelled wide at text arg h
 operand_spelled form.Byte wide at text arg h = value_spelled form.Byte wide at w8 wide8 refl (λ n. (n, refl)) text arg h
 operand_spelled form.Short wide at text arg h = value_spelled form.Short wide at w16 wide16 refl (λ n. (n, refl)) text arg h
-operand_spelled form.PoolByte wide at text arg h = number_spelled form.PoolByte wide at w8 Pool wide8 (λ n. (n, refl)) (λ n. refl) (λ n fits. fits) (λ n. tt) text arg h
-operand_spelled form.Pool wide at text arg h = number_spelled form.Pool wide at w16 Pool wide16 (λ n. (n, refl)) (λ n. refl) (λ n fits. fits) (λ n. tt) text arg h
-operand_spelled form.Local wide at text arg h = number_spelled form.Local wide at (slot_width wide) Local (slot_wide wide) (λ n. (n, refl)) (λ n. refl) (λ n fits. fits) (λ n. tt) text arg h
+operand_spelled form.PoolByte wide at text arg h = number_spelled form.PoolByte wide at w8 Pool wide8 (λ n. (n, refl)) (λ n. refl) (λ n fits. fits) (λ n. tt) (λ n. tt) text arg h
+operand_spelled form.Pool wide at text arg h = number_spelled form.Pool wide at w16 Pool wide16 (λ n. (n, refl)) (λ n. refl) (λ n fits. fits) (λ n. tt) (λ n. tt) text arg h
+operand_spelled form.Local wide at text arg h = number_spelled form.Local wide at (slot_width wide) Local (slot_wide wide) (λ n. (n, refl)) (λ n. refl) (λ n fits. fits) (λ n. tt) (λ n. tt) text arg h
 operand_spelled form.Inc wide at text arg h = inc_spelled wide at text arg h
-operand_spelled form.Jump wide at text arg h = branch_spelled form.Jump wide at w16 refl (λ t. (t, refl)) text arg h
-operand_spelled form.JumpWide wide at text arg h = branch_spelled form.JumpWide wide at w32 refl (λ t. (t, refl)) text arg h
+operand_spelled form.Jump wide at text arg h = branch_spelled form.Jump wide at w16 wide16 (omega arith) refl (λ t. (t, refl)) text arg h
+operand_spelled form.JumpWide wide at text arg h = branch_spelled form.JumpWide wide at w32 wide32 (omega arith) refl (λ t. (t, refl)) text arg h
 operand_spelled form.Table wide at text arg h = table_spelled wide at text arg h
 operand_spelled form.Lookup wide at text arg h = lookup_spelled wide at text arg h
 operand_spelled form.Interface wide at text arg h = interface_spelled wide at text arg h
 operand_spelled form.Multi wide at text arg h = multi_spelled wide at text arg h
-operand_spelled form.Array wide at text arg h = number_spelled form.Array wide at w8 Array wide8 (λ n. (n, refl)) (λ n. refl) (λ n fits. fits) (λ n. tt) text arg h
+operand_spelled form.Array wide at text arg h = number_spelled form.Array wide at w8 Array wide8 (λ n. (n, refl)) (λ n. refl) (λ n fits. fits) (λ n. tt) (λ n. tt) text arg h
 operand_spelled form.Wide wide at text arg h = absurd h
 operand_spelled form.Unknown wide at text arg h = absurd h
 
@@ -390,6 +421,7 @@ pub record IsInstr (at : ℕ) (text : List ℕ) (i : Instr) : Type 0 where
   pub op : IsBytes text → i.op < 256
   pub fits : IsBytes text → FitsOperand (width_of i) i.arg
   pub targets : EachTarget i.arg
+  pub near : IsBytes text → IsNearTo at (width_of i) i.arg
 
 behind_spelled : (at : ℕ) (wide : Bool) (op : ℕ) (head text : List ℕ) (i : Instr) → length head ≡ length (opcode_bytes wide op) → (IsBytes (head ++ text) → op < 256)
     → (behind_opcode at wide op).Spells text i → IsInstr at (head ++ text) i
@@ -405,6 +437,7 @@ behind_spelled at wide op head text i heads byte h =
       op = byte;
       fits = λ bytes. o.fits (front_fits h (fits_rest head text (head ++ text) refl bytes));
       targets = o.targets;
+      near = λ bytes. o.near (front_fits h (fits_rest head text (head ++ text) refl bytes));
     })
 
 byte_of : (at : ℕ) (text : List ℕ) (n : ℕ) → (number at w8).Spells text n → IsBytes text → n < 256

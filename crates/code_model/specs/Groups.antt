@@ -1,5 +1,5 @@
 -- What can be laid out or encoded: the instructions of a decoded code.
-use Rattle.std.specs.Prelude.{◌≡◌, ℕ, ◌+◌, ◌*◌, ◌^◌, ◌<◌, ◌≤◌, List, [], ◌∷◌, length, map, ℤ, pos, ◌+ℤ◌, ◌-ℤ◌, Option, Some, get_or, FitsSigned}
+use Rattle.std.specs.Prelude.{◌≡◌, ℕ, ◌+◌, ◌*◌, ◌^◌, ◌<◌, ◌≤◌, true, List, [], ◌∷◌, length, map, ℤ, pos, ◌+ℤ◌, ◌-ℤ◌, Option, Some, get_or, FitsSigned}
 use Rattle.std.specs.Int.{Width, w8, w16, w32, byte_len}
 use Rattle.std.specs.List.{AllByRecursion}
 use Rattle.code_model.specs.declared.instr.Arg.{Arg}
@@ -8,8 +8,8 @@ use Rattle.code_model.specs.declared.instr.Instr.{Instr}
 use Rattle.code_model.specs.declared.instr.Code.{Code}
 use Rattle.code_model.specs.declared.laying.Group.{Group}
 use Rattle.code_model.specs.Operands.{keys_rise}
-use Rattle.code_model.specs.Layout.{distance}
-use Rattle.code_model.specs.Instructions.{instruction_at, IsReading}
+use Rattle.code_model.specs.Layout.{distance, width_of, fits_branch}
+use Rattle.code_model.specs.Instructions.{instruction_at, end_of, IsReading}
 
 -- each number is a byte
 abbrev pub IsBytes : List ℕ → Type 0
@@ -27,7 +27,7 @@ FitsOperand w (Value n) = FitsSigned w n
 FitsOperand w (Pool index) = FitsNumber w index
 FitsOperand w (Local slot) = FitsNumber w slot
 FitsOperand w (Inc slot n) = FitsNumber w slot × FitsSigned w n
-FitsOperand w (Target t) = Unit {0}
+FitsOperand w (Target t) = 2 ≤ byte_len w
 FitsOperand w (Table default low targets) = (1 ≤ length targets) × FitsSigned w32 low × FitsSigned w32 ((low +ℤ pos (length targets)) -ℤ pos 1)
 FitsOperand w (Lookup default keys targets) = (length keys ≡ length targets) × (length keys < 2147483648) × AllByRecursion (FitsSigned w32) keys
 FitsOperand w (Interface index count last) = FitsNumber w16 index × FitsNumber w8 count × FitsNumber w8 last
@@ -53,6 +53,21 @@ targets_of (Lookup default keys targets) = default ∷ targets
 targets_of _ = []
 
 -- ---- codes
+
+-- an instruction whose numbers fit
+abbrev pub FitsInstr : Instr → Type 0
+FitsInstr i = FitsOperand (width_of i) i.arg
+
+abbrev pub FitsGroup : Group → Type 0
+FitsGroup g = FitsInstr g.instr
+
+-- it goes on where it stands
+abbrev pub IsUnmovedAt : Instr → Type 0
+IsUnmovedAt i = fits_branch (λ t. t) i.at (width_of i) i.arg ≡ true
+
+-- the instruction of a group ends within a code
+abbrev pub EndsWithin : Group → Type 0
+EndsWithin g = end_of g.instr ≤ 65535
 
 abbrev pub instrs_of : List Group → List Instr
 instrs_of groups = map (λ (g : Group). g.instr) groups

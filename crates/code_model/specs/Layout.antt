@@ -1,6 +1,6 @@
 -- Code laid out anew: where each instruction comes to stand, and its bytes there (JVM Specification 4.7.3, 6.5). A
 -- group is an original instruction with the bytes that go in front of it.
-use Rattle.std.specs.Prelude.{ℕ, ◌+◌, Bool, true, List, [], ◌∷◌, ◌++◌, length, map, replicate, zip, Option, Some, None, ℤ, pos, ◌+ℤ◌, ◌-ℤ◌, int_le, unwrap_or, ◌==◌, ◌&&◌, ◌||◌, if◌then◌else◌}
+use Rattle.std.specs.Prelude.{ℕ, ◌+◌, ◌*◌, min, Bool, true, List, [], ◌∷◌, ◌++◌, length, map, replicate, zip, Option, Some, None, ℤ, pos, ◌+ℤ◌, ◌-ℤ◌, int_le, unwrap_or, ◌==◌, ◌&&◌, ◌||◌, if◌then◌else◌}
 use Rattle.std.specs.Int.{Width, w8, w16, w32, byte_len, cast_unsigned, to_be_bytes}
 use Rattle.std.specs.List.{flat_map}
 use Rattle.op_table.specs.declared.Form.{Form}
@@ -77,6 +77,20 @@ operand_bytes home place w (Interface index count zero) = u2 index ++ (u1 count 
 operand_bytes home place w (Multi index dimensions) = u2 index ++ u1 dimensions
 operand_bytes home place w (Array kind) = u1 kind
 
+-- how many bytes that is
+abbrev pub operand_len : ℕ → Width → Arg → ℕ
+operand_len place w Plain = 0
+operand_len place w (Value n) = byte_len w
+operand_len place w (Pool index) = byte_len w
+operand_len place w (Local slot) = byte_len w
+operand_len place w (Inc slot n) = byte_len w + byte_len w
+operand_len place w (Target t) = byte_len w
+operand_len place w (Table default low targets) = padding_len place + 12 + 4 * length targets
+operand_len place w (Lookup default keys targets) = padding_len place + 8 + 8 * min (length keys) (length targets)
+operand_len place w (Interface index count last) = 4
+operand_len place w (Multi index dimensions) = 3
+operand_len place w (Array kind) = 1
+
 abbrev pub opcode_bytes : Bool → ℕ → List ℕ
 opcode_bytes wide op = if wide then 196 ∷ op ∷ [] else op ∷ []
 
@@ -150,6 +164,14 @@ homes_of front groups =
     let spots = all_spots front groups in
     record { from = map (λ (s : Spot). s.from) spots; home = map (λ (s : Spot). s.home) spots; place = map (λ (s : Spot). s.place) spots }
 
+-- homes with these spots added
+abbrev pub with_spots : Homes → List Spot → Homes
+with_spots homes spots = record {
+  from = homes.from ++ map (λ (s : Spot). s.from) spots;
+  home = homes.home ++ map (λ (s : Spot). s.home) spots;
+  place = homes.place ++ map (λ (s : Spot). s.place) spots;
+}
+
 -- what stands in the second list where this number stands in the first
 abbrev pub found_beside : List ℕ → List ℕ → ℕ → Option ℕ
 found_beside (n ∷ numbers) (x ∷ others) wanted = if n == wanted then Some x else found_beside numbers others wanted
@@ -169,6 +191,11 @@ origin_in homes place = found_beside homes.place homes.from place
 -- where a target leads: each is the start of an instruction
 abbrev pub home_of : Homes → ℕ → ℕ
 home_of homes at = unwrap_or (home_in homes at) 0
+
+-- where a target leads in code that is laid out with homes, or that stays as it was
+abbrev pub home_by : Option Homes → ℕ → ℕ
+home_by (Some homes) at = home_of homes at
+home_by None at = at
 
 -- ---- the code
 

@@ -4,3 +4,4 @@ pub mod Reading
 pub mod Layout
 pub mod Instructions
 pub mod Groups
+pub mod Widths

@@ -1,5 +1,6 @@
 //! Instructions with their operands.
 
+use crate::sizes::instr_len;
 use jf_bytes::Seq;
 
 /// An instruction's operand, by its form. Targets are absolute offsets.
@@ -36,6 +37,20 @@ pub struct Instr {
     pub op: u8,
     pub wide: bool,
     pub arg: Arg,
+}
+
+impl Instr {
+    ghost use Rattle.std.specs.Prelude.{◌≡◌, ◌<◌, ◌^◌};
+    ghost use Rattle.code_model.specs.Instructions.{end_of};
+
+    /// The offset behind it, where the next instruction begins. An offset in a code is a u16 (JVM Specification 4.7.3).
+    pub fn next_offset(&self) -> u16
+        requires { end_of self.now < 2 ^ 16 }
+        ensures { result ≡ end_of self.now }
+    {
+        let at = u32::from(self.at);
+        (at + instr_len(self, at)) as u16
+    }
 }
 
 /// The instructions of a code, in order, and the code's length in bytes.

@@ -3,10 +3,13 @@
 
 mod decoding;
 mod error;
+mod homes;
 mod instr;
 mod laying;
 mod numbers;
 mod operands;
+mod sizes;
+mod spelling;
 mod switches;
 
 pub use decoding::{decode, instr_at};

@@ -9,4 +9,4 @@ pub returns-in-Ok : goal.returns-in-Ok
 returns-in-Ok c = sym (instruction_at-read c.args.bytes.now c.args.at c.in-Ok.read.0 c.in-Ok.read.1.now c.in-Ok.ensures)
 
 pub returns-in_ok-unless_no_memory-in-Err : goal.returns-in_ok-unless_no_memory-in-Err
-returns-in_ok-unless_no_memory-in-Err c = sym (instruction_at-fault c.args.bytes.now c.args.at c.in-Err.fault (c.in-Err.ensures c.in_ok-unless_no_memory.ensures))
+returns-in_ok-unless_no_memory-in-Err c = sym (instruction_at-fault c.args.bytes.now c.args.at c.in-Err.fault (c.in-Err.ensures c.in_ok-unless_no_memory-in-Err.ensures))
