@@ -85,7 +85,6 @@ fn put_branch(
 }
 
 /// Adds the zeros behind the opcode of a switch.
-#[tactic(auto, using(crate::proofs::Steps::zeros))]
 fn put_padding(out: &mut Seq<u8>, place: u16) -> Result<(), NoMemory>
     ensures { OnOk result (out.new ≡ out.old ++ padding place) }
 {
@@ -136,7 +135,8 @@ fn put_table(
     put_far_target(out, homes, place, default)?;
     put_signed(out, NumberSize::Four, low)?;
     put_signed(out, NumberSize::Four, high_of(low, targets.len()))?;
-    put_targets(out, homes, place, targets)
+    put_targets(out, homes, place, targets)?;
+    Ok(())
 }
 
 /// Adds a pair of a lookupswitch.
@@ -189,7 +189,8 @@ fn put_lookup(
     put_padding(out, place)?;
     put_far_target(out, homes, place, default)?;
     put_signed(out, NumberSize::Four, keys.len() as i32)?;
-    put_pairs(out, homes, place, keys, targets)
+    put_pairs(out, homes, place, keys, targets)?;
+    Ok(())
 }
 
 /// Adds what stands behind the opcode of an instruction at this place.
@@ -299,6 +300,7 @@ fn put_groups(
 }
 
 /// The front, the groups and the back, one behind the other, `len` bytes in all.
+#[tactic(auto, using(crate::proofs::Walks::walk_bounds))]
 pub(crate) fn code_of(
     alloc: Global,
     front: &[u8],
