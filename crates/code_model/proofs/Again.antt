@@ -271,7 +271,7 @@ instruction_moved home place at text i known fits leads =
     let operand = operand_again home place i.wide (form_of i.wide i.op) i.arg known.shape (known.fits fits) leads in
     instr_of_operand place i.wide i.op (operand_bytes home place (width_of i) i.arg) (moved_arg home i.arg) (not_wide (form_of i.wide i.op) i.arg known.shape) operand
 
-bytes_among : (front text rest bytes : List ℕ) → bytes ≡ front ++ (text ++ rest) → IsBytes bytes → IsBytes text
+pub bytes_among : (front text rest bytes : List ℕ) → bytes ≡ front ++ (text ++ rest) → IsBytes bytes → IsBytes text
 bytes_among front text rest bytes parts fits = in_front text rest (λ k. behind front (text ++ rest) bytes parts fits k)
   where
     behind : (front others bytes : List ℕ) → bytes ≡ front ++ others → IsBytes bytes → IsBytes others

@@ -16,3 +16,6 @@ pub mod Among
 pub mod Layouts
 pub mod Searches
 pub mod Steps
+pub mod Ready
+mod LaidRows
+mod ReadRows

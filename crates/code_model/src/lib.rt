@@ -2,6 +2,7 @@
 #![tactic(auto)]
 
 mod decoding;
+mod encoding;
 mod error;
 mod homes;
 mod instr;
@@ -13,6 +14,7 @@ mod spelling;
 mod switches;
 
 pub use decoding::{decode, instr_at};
+pub use encoding::encode;
 pub use error::CodeError;
 pub use instr::{Arg, Code, Instr};
-pub use laying::{Group, Homes, Laid};
+pub use laying::{Group, Homes, Laid, LayError, lay_out};
