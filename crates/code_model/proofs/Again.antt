@@ -30,9 +30,9 @@ use Rattle.code_model.proofs.Readings.{stands_from, stands_to}
 -- ---- numbers
 
 -- what is known of the widths that operands have
-record IsBack (w : Width) : Type 0 where
-  again : (n : ℕ) → n < 2 ^ (8 * byte_len w) → from_be_bytes w (to_be_bytes w n) ≡ n
-  bounded : (n : ℤ) → FitsSigned w n → cast_unsigned w n < 2 ^ (8 * byte_len w)
+pub record IsBack (w : Width) : Type 0 where
+  pub again : (n : ℕ) → n < 2 ^ (8 * byte_len w) → from_be_bytes w (to_be_bytes w n) ≡ n
+  pub bounded : (n : ℤ) → FitsSigned w n → cast_unsigned w n < 2 ^ (8 * byte_len w)
 
 unsigned_fits : (w : Width) (n : ℤ) → 2 ^ bits w ≡ 2 * 2 ^ hbits w → 0 < 2 ^ hbits w → FitsSigned w n → cast_unsigned w n < 2 ^ bits w
 unsigned_fits w (pos n) twice some fits = let f = fits.sfits in omega arith
@@ -41,7 +41,7 @@ unsigned_fits w (negsuc n) twice some fits = let f = fits.sfits in omega arith
 back8 : IsBack w8
 back8 = record { again = λ n lt. omega arith; bounded = λ n fits. unsigned_fits w8 n refl (omega arith) fits }
 
-back16 : IsBack w16
+pub back16 : IsBack w16
 back16 = record { again = λ n lt. from_be_bytes-to_be_bytes_2 n lt; bounded = λ n fits. unsigned_fits w16 n refl (omega arith) fits }
 
 back32 : IsBack w32
@@ -55,10 +55,10 @@ slot_back false = back8
 turn : {A B : Type 0} (P : Format A) (Q : A → Format B) (front rest : List ℕ) (x : A) (y : B) → P.Spells front x → (Q x).Spells rest y → AreInTurn P Q (front ++ rest) y
 turn P Q front rest x y first second = record { front = front; rest = rest; parts = refl; x = x; first = first; second = second }
 
-made_of : {A B : Type 0} (P : Format A) (f : A → B) (text : List ℕ) (x : A) → P.Spells text x → AreInTurn P (λ a. made (f a)) text (f x)
+pub made_of : {A B : Type 0} (P : Format A) (f : A → B) (text : List ℕ) (x : A) → P.Spells text x → AreInTurn P (λ a. made (f a)) text (f x)
 made_of P f text x h = record { front = text; rest = []; parts = sym (append-nil text); x = x; first = h; second = (refl, refl) }
 
-number_again : (at : ℕ) (w : Width) (n : ℕ) → IsBack w → FitsNumber w n → (number at w).Spells (number_bytes w n) n
+pub number_again : (at : ℕ) (w : Width) (n : ℕ) → IsBack w → FitsNumber w n → (number at w).Spells (number_bytes w n) n
 number_again at w n back fits = (length-number_bytes w n, back.again n fits)
 
 signed_again : (at : ℕ) (w : Width) (n : ℤ) → IsBack w → FitsSigned w n → (signed at w).Spells (signed_bytes w n) n
@@ -72,6 +72,10 @@ signed_again at w n back fits =
       first = number_again at w (cast_unsigned w n) back (back.bounded n fits);
       second = (sym (to_z-of_z w n fits), refl);
     }
+
+-- the two bytes of an unsigned number are those of a signed one
+pub short_again : (at n : ℕ) → FitsNumber w16 n → (signed at w16).Spells (number_bytes w16 n) (cast_signed w16 n)
+short_again at n fits = made_of (number at w16) (cast_signed w16) (number_bytes w16 n) n (number_again at w16 n back16 fits)
 
 reached_back : (place h : ℕ) → h ≤ 65535 → h ≡ reached place (distance place h)
 reached_back place h le =

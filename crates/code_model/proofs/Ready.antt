@@ -30,6 +30,7 @@ use Rattle.code_model.proofs.Again.{bytes_among, instruction_again}
 -- what is known of an instruction of bytes
 pub record IsKnown (at : ℕ) (i : Instr) : Type 0 where
   pub here : i.at ≡ at
+  pub op : i.op < 256
   pub shape : HasShape (form_of i.wide i.op) i.arg
   pub fits : FitsInstr i
   pub targets : EachTarget i.arg
@@ -40,7 +41,7 @@ known bytes at i e fits =
     let s = stands_from bytes at i e in
     let k = instruction_spelled at s.text i s.spelled in
     let text = bytes_among s.front s.text s.rest bytes s.parts fits in
-    record { here = k.here; shape = k.shape; fits = k.fits text; targets = k.targets; near = k.near text }
+    record { here = k.here; op = k.op text; shape = k.shape; fits = k.fits text; targets = k.targets; near = k.near text }
 
 -- ---- groups
 

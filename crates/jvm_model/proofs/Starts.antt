@@ -17,7 +17,9 @@ use Rattle.const_pool.specs.declared.descriptor.Shape.{Shape}
 use Rattle.code_model.specs.declared.instr.Instr.{Instr}
 use Rattle.code_model.specs.declared.instr.Code.{Code as Reading}
 use Rattle.code_model.specs.declared.instr.Arg.{Arg}
-use Rattle.code_model.specs.Instructions.{form_of, operand_at, with_operand, instruction_at, end_of, Reads, IsReading}
+use Rattle.code_model.specs.Instructions.{instruction_at, end_of, Reads, IsReading}
+use Rattle.code_model.specs.Groups.{IsBytes}
+use Rattle.code_model.proofs.Ready.{known}
 use Rattle.code_model.proofs.Readings.{at-instruction_at, IsReading-unique}
 use Rattle.jvm_model.specs.declared.operation.Line.{Line}
 use Rattle.jvm_model.specs.declared.operation.Operation.{Operation}
@@ -118,16 +120,10 @@ HasSmallCode-small c m code reading small e reads =
 
 -- ---- starts
 
--- an opcode of the code is a byte
-op-byte : (bytes : List ℕ) (at : ℕ) (i : Instr) → AllByRecursion IsByte bytes → instruction_at bytes at ≡ Some i → i.op < 256
-op-byte bytes at i each e =
-    option_and_then_some (λ op. option_and_then (λ form. option_map (with_operand at op) (operand_at form bytes (at + 1))) (form_of op)) (slice_get bytes at) i e
-    (λ op is rest. option_and_then_some (λ form. option_map (with_operand at op) (operand_at form bytes (at + 1))) (form_of op) i rest
-    (λ form formed last. (let byte : IsByte op = nth-each IsByte bytes at op each is in let kept : i.op ≡ op = op-kept at op (operand_at form bytes (at + 1)) i last in subst (λ (n : ℕ). n < 256) (sym kept) byte)))
-  where
-    op-kept : (at op : ℕ) (arg : Option Arg) (i : Instr) → option_map (with_operand at op) arg ≡ Some i → i.op ≡ op
-    op-kept at op None i e = absurd (none-some i e)
-    op-kept at op (Some arg) i e = ap (λ (j : Instr). j.op) (sym (same_Some (with_operand at op arg) i e))
+pub bytes-each : (bytes : List ℕ) → AllByRecursion IsByte bytes → IsBytes bytes
+bytes-each [] each k = omega arith
+bytes-each (b ∷ bytes) each zero = each.0
+bytes-each (b ∷ bytes) each (suc k) = bytes-each bytes each.1 k
 
 -- the line at a start, and where it leads
 pub record HasLine (c : ClassFile) (m at : ℕ) (i : Instr) : Type 0 where
@@ -180,7 +176,7 @@ HasLine-start c m at built start =
     let made : Operation → Line = λ o. record { operation = o; own = i.at; next = end_of i } in
     let lined : line_at c m at ≡ Some (made operation) =
     ap (option_and_then (λ (k : CodeAttribute). code_line c k.code at)) start.coded ∙ (ap (option_and_then (line_of c)) here ∙ ap (option_map made) fits.1) in
-    let byte = op-byte bytes at i (IsCode-method_code c m start.code built.formed start.coded).code here in
+    let byte = (known bytes at i here (bytes-each bytes (IsCode-method_code c m start.code built.formed start.coded).code)).op in
     let returns = returns-instr c bytes at i operation byte here fits.1 in
     record {
       line = made operation;
