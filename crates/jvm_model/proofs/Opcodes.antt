@@ -1,5 +1,5 @@
 -- Which opcodes and operations return: those that a leave probe goes before.
-use Rattle.std.proofs.Common.{◌≡◌, ℕ, zero, suc, ◌+◌, ◌<◌, ◌⊎◌, inl, inr, Bool, true, false, List, slice_get, cond, Option, Some, None, refl, sym, ap, subst, ◌∙◌, arith}
+use Rattle.std.proofs.Common.{◌≡◌, ℕ, zero, suc, ◌+◌, ◌<◌, ◌⊎◌, inl, inr, Bool, true, false, List, slice_get, [], cond, Option, Some, None, refl, sym, ap, subst, ◌∙◌, arith}
 use Rattle.std.specs.Prelude.{◌==◌, ◌||◌, ◌&&◌, not, is_none, length, if◌then◌else◌}
 use Rattle.std.specs.Option.{option_map, option_map_or, option_and_then}
 use Rattle.std.proofs.lemmas.Bool.{cases_lt}
@@ -14,7 +14,7 @@ use Rattle.std.specs.Int.{Width, w16}
 use Rattle.code_model.specs.Operands.{form_of}
 use Rattle.code_model.specs.Instructions.{instruction_at}
 use Rattle.code_model.specs.Layout.{operand_width, operand_len, opcode_bytes, size_at, moved_arg}
-use Rattle.code_model.specs.Groups.{CanBranch}
+use Rattle.code_model.specs.Groups.{CanBranch, targets_of}
 use Rattle.code_model.proofs.Spelled.{HasShape}
 use Rattle.code_model.proofs.Lengths.{size_at-is}
 use Rattle.code_model.proofs.Readings.{known_at}
@@ -188,11 +188,12 @@ returns-instr c bytes at i o lt stands e =
 pub record StaysAlike (a : Arg) : Type 0 where
   pub leads : (home : ℕ → ℕ) (place : ℕ) (w : Width) → CanBranch home place w a
   pub kept : (home : ℕ → ℕ) → moved_arg home a ≡ a
+  pub straight : targets_of a ≡ []
 
 stays-alike : (c : ClassFile) (op : ℕ) (a : Arg) (o : Operation) → operation_with c op a ≡ Some o → StaysAlike a
-stays-alike c op arg.Plain o e = record { leads = λ home place w. tt; kept = λ home. refl }
-stays-alike c op (arg.Value n) o e = record { leads = λ home place w. tt; kept = λ home. refl }
-stays-alike c op (arg.Pool index) o e = record { leads = λ home place w. tt; kept = λ home. refl }
+stays-alike c op arg.Plain o e = record { leads = λ home place w. tt; kept = λ home. refl; straight = refl }
+stays-alike c op (arg.Value n) o e = record { leads = λ home place w. tt; kept = λ home. refl; straight = refl }
+stays-alike c op (arg.Pool index) o e = record { leads = λ home place w. tt; kept = λ home. refl; straight = refl }
 stays-alike c op (arg.Local slot) o e = absurd (none-some o e)
 stays-alike c op (arg.Inc slot n) o e = absurd (none-some o e)
 stays-alike c op (arg.Target t) o e = absurd (none-some o e)
