@@ -10,6 +10,7 @@ use Rattle.const_pool.specs.declared.class.Member.{Member}
 use Rattle.const_pool.specs.declared.class.CodeAttribute.{CodeAttribute}
 use Rattle.code_model.specs.declared.laying.Homes.{Homes}
 use Rattle.jvm_model.specs.declared.operation.Line.{Line}
+use Rattle.code_model.proofs.Readings.{instruction_at-past}
 use Rattle.jvm_model.specs.Lines.{code_line}
 use Rattle.jvm_model.specs.Methods.{code_of, member_shape}
 use Rattle.jvm_model.specs.StandsFor.{homes_at, origin_by, placed_line, probe_in}
@@ -47,7 +48,7 @@ ArePrepared-entries c methods is =
 
 -- no instruction stands past the end, so no line and no probe
 code_line-past : (image : ClassFile) (code : List ℕ) (at : ℕ) → length code ≤ at → code_line image code at ≡ None
-code_line-past image code at le = rw (slice_get_past code at le) refl
+code_line-past image code at le = rw (instruction_at-past code at le) refl
 
 no_line : (own : Option ℕ) → option_and_then (λ own. option_map (λ (line : Line). record line { own = own }) None) own ≡ None
 no_line None = refl
@@ -58,7 +59,7 @@ placed_line-past image homes code place le =
     ap (λ line. option_and_then (λ own. option_map (λ (l : Line). record l { own = own }) line) (origin_by homes place)) (code_line-past image code place le) ∙ no_line (origin_by homes place)
 
 placed_probe-past : (image : ClassFile) (code : List ℕ) (place : ℕ) → length code ≤ place → placed_probe_in image code place ≡ None
-placed_probe-past image code place le = rw (slice_get_past code place le) refl
+placed_probe-past image code place le = rw (instruction_at-past code place le) refl
 
 -- at each place a table of the places of a code has what stands there, and past the code nothing does
 tabled-place : {X : Type 0} (f : ℕ → Option X) (n place : ℕ) → (n ≤ place → f place ≡ None) → option_flatten (slice_get (map f (range_with_len 0 n)) place) ≡ f place

@@ -7,3 +7,4 @@ pub mod Steps
 pub mod Stops
 pub mod Machines
 pub mod Images
+mod Within
