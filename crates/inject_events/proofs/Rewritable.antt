@@ -2,7 +2,7 @@
 use Rattle.std.proofs.Common.{◌≡◌, ℕ, zero, suc, ◌<◌, true, List, [], ◌∷◌, length, Some, subst}
 use Rattle.std.specs.Prelude.{slice_get}
 use Rattle.std.specs.List.{AllByRecursion}
-use Rattle.std.proofs.lemmas.Option.{same_Some, none-some}
+use Rattle.std.proofs.lemmas.Option.{same_Some, none-some, option_and_then_some}
 use Rattle.const_pool.specs.declared.pool.Const.{Const}
 use Rattle.const_pool.specs.declared.class.ClassFile.{ClassFile}
 use Rattle.const_pool.specs.declared.class.Member.{Member}
@@ -17,6 +17,7 @@ use Rattle.const_pool.specs.declared.descriptor.Shape.{Shape}
 use Rattle.code_model.specs.declared.instr.Instr.{Instr}
 use Rattle.code_model.specs.Groups.{targets_of}
 use Rattle.jvm_model.specs.Lines.{operation_of}
+use Rattle.jvm_model.specs.Resolved.{resolved_in, resolved_of}
 use Rattle.jvm_model.specs.SmallClass.{fits_method, is_small_instr}
 use Rattle.jvm_model.proofs.ImageLines.{some-passed}
 use Rattle.jvm_model.proofs.Opcodes.{StaysAlike-operation}
@@ -41,8 +42,11 @@ all_straight : (c : ClassFile) (k most : ℕ) (shape : Shape) (is : List Instr) 
 all_straight c k most shape [] small = tt
 all_straight c k most shape (i ∷ is) small =
     let both = and_parts (is_small_instr c k most shape i) (list_all (is_small_instr c k most shape) is) small in
-    let does = some-passed (fits_method k most shape) (operation_of c i) both.0 in
-    ((StaysAlike-operation c i does.0 does.1).straight, all_straight c k most shape is both.1)
+    let does = some-passed (fits_method k most shape) (resolved_of c i) both.0 in
+    (
+      option_and_then_some (resolved_in c) (operation_of c i) does.0 does.1 (λ o found resolved. (StaysAlike-operation c i o found).straight),
+      all_straight c k most shape is both.1,
+    )
 
 pub AreRewritable-methods : (c : ClassFile) → IsInstrumentable c → AreRewritable c.methods
 AreRewritable-methods c is k m at =
