@@ -4,12 +4,13 @@ use Rattle.std.specs.Prelude.{map, slice_get}
 use Rattle.std.specs.Option.{option_map, option_map_or, option_and_then, option_flatten}
 use Rattle.std.specs.List.{range_with_len}
 use Rattle.std.proofs.lemmas.Bool.{cases_lt}
-use Rattle.std.proofs.lemmas.Option.{slice_get-map, slice_get_past}
+use Rattle.std.proofs.lemmas.Option.{slice_get-map}
 use Rattle.const_pool.specs.declared.class.ClassFile.{ClassFile}
 use Rattle.const_pool.specs.declared.class.Member.{Member}
 use Rattle.const_pool.specs.declared.class.CodeAttribute.{CodeAttribute}
 use Rattle.code_model.specs.declared.laying.Homes.{Homes}
 use Rattle.jvm_model.specs.declared.operation.Line.{Line}
+use Rattle.code_model.proofs.Readings.{instruction_at-past}
 use Rattle.jvm_model.specs.Methods.{code_of, member_shape}
 use Rattle.jvm_model.specs.SmallClass.{IsSmallClass}
 use Rattle.jvm_model.specs.StandsFor.{homes_at, origin_by, code_line, placed_line, probe_in}
@@ -48,7 +49,7 @@ ArePrepared-entries c methods small is =
 
 -- no instruction stands past the end, so no line and no probe
 code_line-past : (image : ClassFile) (code : List ℕ) (at : ℕ) → length code ≤ at → code_line image code at ≡ None
-code_line-past image code at le = rw (slice_get_past code at le) refl
+code_line-past image code at le = rw (instruction_at-past code at le) refl
 
 no_line : (own : Option ℕ) → option_and_then (λ own. option_map (λ (line : Line). record line { own = own }) None) own ≡ None
 no_line None = refl
@@ -59,7 +60,7 @@ placed_line-past image homes code place le =
     ap (λ line. option_and_then (λ own. option_map (λ (l : Line). record l { own = own }) line) (origin_by homes place)) (code_line-past image code place le) ∙ no_line (origin_by homes place)
 
 placed_probe-past : (image : ClassFile) (code : List ℕ) (place : ℕ) → length code ≤ place → placed_probe_in image code place ≡ None
-placed_probe-past image code place le = rw (slice_get_past code place le) refl
+placed_probe-past image code place le = rw (instruction_at-past code place le) refl
 
 -- at each place a table of the places of a code has what stands there, and past the code nothing does
 tabled-place : {X : Type 0} (f : ℕ → Option X) (n place : ℕ) → (n ≤ place → f place ≡ None) → option_flatten (slice_get (map f (range_with_len 0 n)) place) ≡ f place

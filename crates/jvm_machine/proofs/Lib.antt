@@ -9,3 +9,4 @@ pub mod Ends
 pub mod DescriptorTexts
 pub mod Steps
 pub mod Machines
+mod Within

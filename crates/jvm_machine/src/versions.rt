@@ -52,25 +52,47 @@ fn line_of(class: &ClassFile, instr: &Instr) -> Option<Line>
 }
 
 /// The line at an offset of a code.
-fn code_line(class: &ClassFile, code: &[u8], at: u16) -> Option<Line>
+fn code_line(
+    alloc: Global,
+    class: &ClassFile,
+    code: &[u8],
+    at: u16,
+) -> Result<Option<Line>, NoMemory>
     requires methods { length class.now.methods < 2 ^ 32 }
     requires short { length code.now < 2 ^ 16 }
-    ensures { result ≡ code_line class.now code.now at }
+    ensures { IfOk result (λ line. line ≡ code_line class.now code.now at) }
 {
-    let instr = instr_at(code, at)?;
-    line_of(class, &instr)
+    let found = instr_at(alloc, code, at)?;
+    match found {
+        Some(instr) => Ok(line_of(class, &instr)),
+        None => Ok(None),
+    }
 }
 
 /// The line at a place of a version, where an instruction of the original stands there.
-fn line_with(image: &ClassFile, code: &[u8], place: u16, origin: Option<u16>) -> Option<Line>
+fn line_with(
+    alloc: Global,
+    image: &ClassFile,
+    code: &[u8],
+    place: u16,
+    origin: Option<u16>,
+) -> Result<Option<Line>, NoMemory>
     requires methods { length image.now.methods < 2 ^ 32 }
     requires short { length code.now < 2 ^ 16 }
-    ensures { result ≡ line_with image.now code.now place origin }
+    ensures { IfOk result (λ line. line ≡ line_with image.now code.now place origin) }
 {
-    let own = origin?;
-    let mut line = code_line(image, code, place)?;
-    line.own = own;
-    Some(line)
+    let Some(own) = origin else {
+        return Ok(None);
+    };
+    let found = code_line(alloc, image, code, place)?;
+    match found {
+        Some(line) => Ok(Some(Line {
+            operation: line.operation,
+            own,
+            next: line.next,
+        })),
+        None => Ok(None),
+    }
 }
 
 /// The lines of a version, one for each place.
@@ -88,7 +110,8 @@ fn lines_of(
     let mut lines = Seq::with_capacity(alloc, code.len())?;
     for place in 0..code.len() as u16 {
         let origin = origins.as_slice()[place as usize];
-        lines.push(line_with(image, code, place, origin))?;
+        let line = line_with(alloc, image, code, place, origin)?;
+        lines.push(line)?;
     }
     Ok(lines)
 }
@@ -100,7 +123,8 @@ fn probes_of(alloc: Global, image: &ClassFile, code: &[u8]) -> Result<Seq<Option
 {
     let mut probes = Seq::with_capacity(alloc, code.len())?;
     for place in 0..code.len() as u16 {
-        probes.push(probe_in(image, code, place))?;
+        let probe = probe_in(alloc, image, code, place)?;
+        probes.push(probe)?;
     }
     Ok(probes)
 }

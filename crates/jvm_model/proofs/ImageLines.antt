@@ -1,25 +1,23 @@
 -- What stands at the places of an image's methods.
-use Rattle.std.proofs.Common.{◌≡◌, ℕ, zero, suc, ◌+◌, ◌<◌, ◌≤◌, ◌^◌, ◌⊎◌, inl, inr, Bool, true, false, List, [], ◌∷◌, ◌++◌, length, take, drop, slice_get, cond, Option, Some, None, refl, sym, ap, subst, ◌∙◌, eqb-true, arith}
+use Rattle.std.proofs.Common.{◌≡◌, ℕ, ◌+◌, ◌<◌, ◌≤◌, ◌^◌, ◌⊎◌, inl, inr, Bool, true, false, List, [], ◌∷◌, ◌++◌, length, take, drop, slice_get, cond, Option, Some, None, refl, sym, ap, subst, ◌∙◌, eqb-true, arith}
 use Rattle.std.specs.Prelude.{map, unwrap_or, ◌==◌, ◌&&◌, not}
 use Rattle.std.specs.Option.{option_map, option_map_or, option_and_then}
-use Rattle.std.specs.List.{AllByRecursion}
 use Rattle.std.proofs.Math.Nat.{add-zero}
 use Rattle.std.proofs.Math.Bool.{and-false, and-true}
 use Rattle.std.proofs.lemmas.List.{take-append-drop, length-take-le, length-take, length-drop}
 use Rattle.std.proofs.lemmas.Option.{same_Some, slice_get-map}
 use Rattle.const_pool.specs.declared.class.ClassFile.{ClassFile}
 use Rattle.const_pool.specs.declared.class.CodeAttribute.{CodeAttribute}
-use Rattle.const_pool.specs.ClassFile.{IsByte}
 use Rattle.const_pool.specs.References.{named_class, named_method}
 use Rattle.const_pool.specs.Tail.{with_tail, root_index, enter_index, leave_index}
+use Rattle.code_model.specs.declared.instr.Arg.{Arg}
 use Rattle.code_model.specs.declared.instr.Instr.{Instr}
 use Rattle.code_model.specs.declared.instr.Code.{Code as Reading}
 use Rattle.code_model.specs.declared.laying.Group.{Group}
 use Rattle.code_model.specs.declared.laying.Homes.{Homes}
 use Rattle.code_model.specs.Groups.{instrs_of}
-use Rattle.code_model.specs.Instructions.{form_of, operand_size, instruction_at, end_of, Reads, IsReading}
-use Rattle.code_model.specs.Layout.{u2, place_of, home_in, home_of, homes_of, groups_bytes, end_from}
-use Rattle.code_model.proofs.Again.{IsBytes}
+use Rattle.code_model.specs.Instructions.{instruction_at, end_of, Reads, IsReading}
+use Rattle.code_model.specs.Layout.{u2, width_of, place_of, home_in, home_of, homes_of, groups_bytes, end_from}
 use Rattle.code_model.proofs.Layouts.{Stands, groups_stand}
 use Rattle.code_model.proofs.Readings.{IsReading-unique}
 use Rattle.jvm_model.specs.declared.event.EventKind.TheVariants as kind
@@ -30,7 +28,7 @@ use Rattle.jvm_model.specs.declared.operation.Resolved.{Resolved}
 use Rattle.jvm_model.specs.Data.{Operation, Instruction}
 use Rattle.jvm_model.specs.Agreement.{IsStart, Agrees, is_return_operation, is_left_by, place_at, leave_probe_of, entry_kind, entry_probe_of}
 use Rattle.jvm_model.specs.Images.{is_off}
-use Rattle.jvm_model.specs.Lines.{operation_of, ends, next_of, targets_of, instruction_of, code_instruction}
+use Rattle.jvm_model.specs.Lines.{operation_of, ends, next_of, targets_of, instruction_of}
 use Rattle.jvm_model.specs.Resolved.{resolved_in, line_of}
 use Rattle.jvm_model.specs.Methods.{method_code}
 use Rattle.jvm_model.specs.SmallClass.{is_free_name}
@@ -39,14 +37,11 @@ use Rattle.jvm_model.specs.Versions.{is_return_opcode, group_of, groups_of, prob
 use Rattle.jvm_model.proofs.ImageMethods.{LooksAlike, operation_of-kept, resolved_in-kept}
 use Rattle.jvm_model.proofs.ImagePools.{named_class-more, root-named, enter-named, leave-named}
 use Rattle.jvm_model.proofs.ImageProbes.{sipush_at, probe_stands, no_probe-op, no_probe-invoked, invoked-none}
+pub use Rattle.jvm_model.proofs.Starts.{bytes-each}
+use Rattle.jvm_model.proofs.Opcodes.{StaysAlike, StaysAlike-operation, sipush-size}
 use Rattle.jvm_model.proofs.Starts.{HasLine, HasLine-start, IsStart-first, Reads-first, Reads-nth, first-instr, HasCode-method_code, HasSmallCode-small, IsCode-method_code}
 
 -- ---- codes and groups
-
-pub bytes-each : (bytes : List ℕ) → AllByRecursion IsByte bytes → IsBytes bytes
-bytes-each [] each k = omega arith
-bytes-each (b ∷ bytes) each zero = each.0
-bytes-each (b ∷ bytes) each (suc k) = bytes-each bytes each.1 k
 
 pub instrs-groups : (leave : List ℕ) (is : List Instr) → instrs_of (map (group_of leave) is) ≡ is
 instrs-groups leave [] = refl
@@ -195,8 +190,9 @@ module _ (c image : ClassFile) (marks : List Mark) (homes : List (Option Homes))
       let opcode : is_return_opcode start.instr.op ≡ false = ap is_return_opcode (eqb-true start.instr.op 17 is) in
       with.has.next (with.has.returns ∙ opcode)
 
-  sipush-end : (i : Instr) → (i.op == 17) ≡ true → end_of i ≡ i.at + 3
-  sipush-end i is = let op = eqb-true i.op 17 is in ap (λ n. i.at + 1 + option_map_or operand_size (form_of n) 0) op ∙ omega arith
+  sipush-end : (m at : ℕ) (start : IsStart c m at) → (start.instr.op == 17) ≡ true → end_of start.instr ≡ start.instr.at + 3
+  sipush-end m at start is =
+      ap (λ n. start.instr.at + n) (sipush-size start.code.code at start.instr (starts_with c image m at built alike start).here (eqb-true start.instr.op 17 is))
 
   plain-quiet : (m at : ℕ) (start : IsStart c m at) → IsPlainMethod c image homes marks m start.code → probe_at image m at ≡ None
   plain-quiet m at start plain = ap (option_and_then (λ (k : CodeAttribute). probe_in image k.code at)) plain.coded ∙ by_opcode (start.instr.op == 17) refl
@@ -214,7 +210,7 @@ module _ (c image : ClassFile) (marks : List Mark) (homes : List (Option Homes))
           let after = starts_with c image m (end_of start.instr) built alike next in
           let same : next.code ≡ start.code = same_Some next.code start.code (sym next.coded ∙ start.coded) in
           let here : instruction_at start.code.code (end_of start.instr) ≡ Some next.instr = subst (λ (k : CodeAttribute). instruction_at k.code (end_of start.instr) ≡ Some next.instr) same after.here in
-          let three : end_of start.instr ≡ at + 3 = sipush-end start.instr is ∙ ap (λ n. n + 3) start.here in
+          let three : end_of start.instr ≡ at + 3 = sipush-end m at start is ∙ ap (λ n. n + 3) start.here in
           no_probe-invoked image start.code.code at
           (ap (λ n. option_and_then (invoked_probe image) (instruction_at start.code.code n)) (sym three)
           ∙ (ap (option_and_then (invoked_probe image)) here ∙ invoked-none image own.own next.instr after.has.operation after.has.resolved own.named own.free after.operated after.resolves))
@@ -237,6 +233,20 @@ module _ (c image : ClassFile) (marks : List Mark) (homes : List (Option Homes))
         end_from (length (entry_probe count m laid.mark)) (take start.nth groups),
         groups_stand laid.code.code (entry_probe count m laid.mark) (unwind_code count m) groups reads bytes start.nth (group_of leave start.instr) (group-nth leave laid.reading.instrs start.nth start.instr nth),
       )
+
+  -- it stays as it is
+  laid-instr : (m at : ℕ) (start : IsStart c m at) (laid : IsLaidMethod c image homes marks m)
+      → (let place : ℕ = place_of (laid-stands m at start laid).0 (group_of (leave_probe (length c.pool) m) start.instr) in
+      instruction_at (laid_version (length c.pool) m laid.mark laid.reading.instrs).code place ≡ Some (record start.instr { at = place }))
+  laid-instr m at start laid =
+      let with = starts_with c image m at built alike start in
+      let i : Instr = start.instr in
+      let stands = (laid-stands m at start laid).1 in
+      let moved = home_of (laid_version (length c.pool) m laid.mark laid.reading.instrs).homes in
+      let place : ℕ = place_of (laid-stands m at start laid).0 (group_of (leave_probe (length c.pool) m) i) in
+      let alike : StaysAlike i.arg = StaysAlike-operation image i with.has.operation with.operated in
+      let made : Arg → Option Instr = λ a. Some (record i { at = place; arg = a }) in
+      stands.instr_is (alike.leads moved place (width_of i)) ∙ ap made (alike.kept moved)
 
   some-home : (homes' : Homes) (at home : ℕ) → home_in homes' at ≡ Some home → home_of homes' at ≡ home
   some-home homes' at home e = ap (λ o. unwrap_or o 0) e
@@ -286,7 +296,7 @@ module _ (c image : ClassFile) (marks : List Mark) (homes : List (Option Homes))
       let place : ℕ = place_of home g in
       let there : Instr = record i { at = place } in
       let o : Operation = with.has.operation in
-      let decoded : code_line image version.code place ≡ Some (made there o with.has.resolved) = decoded-line image version.code place there o with.has.resolved stands.instr_is with.operated with.resolves in
+      let decoded : code_line image version.code place ≡ Some (made there o with.has.resolved) = decoded-line image version.code place there o with.has.resolved (laid-instr m at start laid) with.operated with.resolves in
       let placed : placed_line image (Some version.homes) version.code place ≡ Some (record (made there o with.has.resolved) { own = at }) =
       ap (option_and_then (λ own. option_map (λ (l : Line). record l { own = own }) (code_line image version.code place))) (stands.origin_is ∙ ap (λ n. let o : Option ℕ = Some n in o) start.here)
       ∙ ap (option_map (λ (l : Line). record l { own = at })) decoded in
@@ -336,7 +346,7 @@ module _ (c image : ClassFile) (marks : List Mark) (homes : List (Option Homes))
       → instruction_at (laid_version (length c.pool) m laid.mark laid.reading.instrs).code (laid-stands m at start laid).0 ≡ Some (record start.instr { at = (laid-stands m at start laid).0 })
   at-home m at start laid stays =
       let version = laid_version (length c.pool) m laid.mark laid.reading.instrs in
-      subst (λ (n : ℕ). instruction_at version.code n ≡ Some (record start.instr { at = n })) (none-before m at start laid stays) (laid-stands m at start laid).1.instr_is
+      subst (λ (n : ℕ). instruction_at version.code n ≡ Some (record start.instr { at = n })) (none-before m at start laid stays) (laid-instr m at start laid)
 
   -- what stands at a home invokes no probe: a sipush, or an instruction of the class
   home-invokes : (m at : ℕ) (start : IsStart c m at) (laid : IsLaidMethod c image homes marks m)
@@ -381,7 +391,7 @@ module _ (c image : ClassFile) (marks : List Mark) (homes : List (Option Homes))
           let after : ℕ = (laid-stands m (end_of start.instr) next laid).0 in
           let found : home_in version.homes (end_of start.instr) ≡ Some after = ap (home_in version.homes) (sym next.here) ∙ (laid-stands m (end_of start.instr) next laid).1.home_is in
           let same : after ≡ end_of there = same_Some after (end_of there) (sym found ∙ (laid-stands m at start laid).1.next_is) in
-          let three : home + 3 ≡ after = ap (λ n. n + 3) (sym (none-before m at start laid stays)) ∙ (sym (sipush-end there is) ∙ sym same) in
+          let three : home + 3 ≡ after = ap (λ n. n + 3) (sym (none-before m at start laid stays)) ∙ (sym (ap (λ n. place_of home g + n) (sipush-size version.code (place_of home g) there (laid-instr m at start laid) (eqb-true start.instr.op 17 is))) ∙ sym same) in
           no_probe-invoked image version.code home
           (ap (λ n. option_and_then (invoked_probe image) (instruction_at version.code n)) three ∙ home-invokes m (end_of start.instr) next laid)
 
@@ -419,7 +429,7 @@ module _ (c image : ClassFile) (marks : List Mark) (homes : List (Option Homes))
       let returns : is_return_opcode i.op ≡ true =
       sym (laid-left m laid line.operation ∙ (ap (λ (l : Line). is_return_operation l.operation) (sym (same-line c m at i with.has line lined)) ∙ with.has.returns)) ∙ left in
       let isnt : (i.op == 17) ≡ false = not-sipush i.op returns in
-      ap (probe_at image m) behind ∙ (laid-probe m place laid ∙ no_probe-op image version.code place there stands.instr_is isnt)
+      ap (probe_at image m) behind ∙ (laid-probe m place laid ∙ no_probe-op image version.code place there (laid-instr m at start laid) isnt)
     where
       not-sipush : (op : ℕ) → is_return_opcode op ≡ true → (op == 17) ≡ false
       not-sipush op returns = by_opcode (op == 17) refl where

@@ -13,9 +13,13 @@ use Rattle.const_pool.specs.References.{Reference, named_class, named_method}
 use Rattle.code_model.specs.declared.instr.Arg.{Arg}
 use Rattle.code_model.specs.declared.instr.Arg.TheVariants as arg
 use Rattle.code_model.specs.declared.instr.Instr.{Instr}
-use Rattle.code_model.specs.Instructions.{instruction_at, short_at, with_operand}
+use Rattle.op_table.specs.Opcodes.{row_of, groups}
+use Rattle.code_model.specs.Formats.{number}
+use Rattle.code_model.specs.Operands.{signed, instr_with}
+use Rattle.code_model.specs.Instructions.{instruction_at}
 use Rattle.code_model.specs.Layout.{u2}
-use Rattle.code_model.proofs.Again.{slice_get-behind, u2_again}
+use Rattle.code_model.proofs.Again.{made_of, number_again, back16, short_again, instr_of_operand}
+use Rattle.code_model.proofs.Readings.{stands_to}
 use Rattle.jvm_model.specs.declared.event.EventKind.{EventKind}
 use Rattle.jvm_model.specs.StandsFor.{ProbeCall, probe_kind, invoked_kind, invoked_probe, pushed_number, probe_in}
 use Rattle.jvm_model.specs.Versions.{probe_bytes}
@@ -33,24 +37,20 @@ use Rattle.jvm_model.specs.declared.operation.Resolved.TheVariants as resolved
 
 -- sipush, with its operand behind it
 pub sipush_at : (p ys : List ℕ) (number n : ℕ) → number < 2 ^ 16 → length p ≡ n
-    → instruction_at (p ++ (17 ∷ (u2 number ++ ys))) n ≡ Some (with_operand n 17 (arg.Value (cast_signed w16 number)))
+    → instruction_at (p ++ (17 ∷ (u2 number ++ ys))) n ≡ Some (instr_with n false 17 (arg.Value (cast_signed w16 number)))
+unfolding row_of groups
 sipush_at p ys number n lt len =
-    let code : List ℕ = p ++ (17 ∷ (u2 number ++ ys)) in
-    let op : slice_get code n ≡ Some 17 = slice_get-behind p 17 (u2 number ++ ys) n len in
-    let regrouped : (p ++ 17 ∷ []) ++ (u2 number ++ ys) ≡ code = append_assoc p (17 ∷ []) (u2 number ++ ys) in
-    let short : short_at code (n + 1) ≡ Some number =
-    ap (λ (t : List ℕ). short_at t (n + 1)) (sym regrouped) ∙ u2_again number (p ++ 17 ∷ []) ys (n + 1) lt (omega (arith, length-append p (17 ∷ []))) in
-    rw (op, short) refl
+    let operand = made_of (signed n w16) arg.Value (u2 number) (cast_signed w16 number) (short_again n number lt) in
+    stands_to (p ++ (17 ∷ (u2 number ++ ys))) n (instr_with n false 17 (arg.Value (cast_signed w16 number)))
+    (record { front = p; text = 17 ∷ u2 number; rest = ys; parts = refl; place = len; spelled = instr_of_operand n false 17 (u2 number) (arg.Value (cast_signed w16 number)) refl operand })
 
 invokestatic_at : (p ys : List ℕ) (index n : ℕ) → index < 2 ^ 16 → length p ≡ n
-    → instruction_at (p ++ (184 ∷ (u2 index ++ ys))) n ≡ Some (with_operand n 184 (arg.Pool index))
+    → instruction_at (p ++ (184 ∷ (u2 index ++ ys))) n ≡ Some (instr_with n false 184 (arg.Pool index))
+unfolding row_of groups
 invokestatic_at p ys index n lt len =
-    let code : List ℕ = p ++ (184 ∷ (u2 index ++ ys)) in
-    let op : slice_get code n ≡ Some 184 = slice_get-behind p 184 (u2 index ++ ys) n len in
-    let regrouped : (p ++ 184 ∷ []) ++ (u2 index ++ ys) ≡ code = append_assoc p (184 ∷ []) (u2 index ++ ys) in
-    let short : short_at code (n + 1) ≡ Some index =
-    ap (λ (t : List ℕ). short_at t (n + 1)) (sym regrouped) ∙ u2_again index (p ++ 184 ∷ []) ys (n + 1) lt (omega (arith, length-append p (184 ∷ []))) in
-    rw (op, short) refl
+    let operand = made_of (number n w16) arg.Pool (u2 index) index (number_again n w16 index back16 lt) in
+    stands_to (p ++ (184 ∷ (u2 index ++ ys))) n (instr_with n false 184 (arg.Pool index))
+    (record { front = p; text = 184 ∷ u2 index; rest = ys; parts = refl; place = len; spelled = instr_of_operand n false 184 (u2 index) (arg.Pool index) refl operand })
 
 -- where the bytes of a probe stand, and its index names a method of the probe class, there is that probe
 pub probe_stands : (image : ClassFile) (p ys : List ℕ) (number index n : ℕ) (r : Reference) (kind : EventKind) → number < 2 ^ 16 → index < 2 ^ 16 → length p ≡ n
@@ -59,10 +59,10 @@ pub probe_stands : (image : ClassFile) (p ys : List ℕ) (number index n : ℕ) 
 probe_stands image p ys number index n r kind small few len named is =
     let code : List ℕ = p ++ (probe_bytes number index ++ ys) in
     let rest : List ℕ = 184 ∷ (u2 index ++ ys) in
-    let push : instruction_at code n ≡ Some (with_operand n 17 (arg.Value (cast_signed w16 number))) = sipush_at p rest number n small len in
+    let push : instruction_at code n ≡ Some (instr_with n false 17 (arg.Value (cast_signed w16 number))) = sipush_at p rest number n small len in
     let regrouped : (p ++ (17 ∷ u2 number)) ++ rest ≡ code = append_assoc p (17 ∷ u2 number) rest in
     let longer : length (p ++ (17 ∷ u2 number)) ≡ n + 3 = omega (arith, length-append p (17 ∷ u2 number)) in
-    let invoke : instruction_at code (n + 3) ≡ Some (with_operand (n + 3) 184 (arg.Pool index)) =
+    let invoke : instruction_at code (n + 3) ≡ Some (instr_with (n + 3) false 184 (arg.Pool index)) =
     ap (λ (t : List ℕ). instruction_at t (n + 3)) (sym regrouped) ∙ invokestatic_at (p ++ (17 ∷ u2 number)) ys index (n + 3) few longer in
     let probe : ℕ → Option EventKind → Option ProbeCall = λ number kind. option_map (λ k. record { kind = k; number = number }) kind in
     let pushed : option_and_then (λ (i : Instr). pushed_number i.op i.arg) (instruction_at code n) ≡ Some number =

@@ -5,7 +5,7 @@ use Rattle.std.specs.Prelude.{map, unwrap_or, ◌==◌, ◌||◌}
 use Rattle.std.specs.Option.{IfSome, option_map, option_map_or, option_and_then}
 use Rattle.std.specs.List.{list_any, AllByRecursion}
 use Rattle.std.proofs.lemmas.Bool.{eq-eqb}
-use Rattle.std.proofs.lemmas.Option.{same_Some, none-some, slice_get_past}
+use Rattle.std.proofs.lemmas.Option.{same_Some, none-some}
 use Rattle.const_pool.specs.declared.class.ClassFile.{ClassFile}
 use Rattle.const_pool.specs.declared.class.Member.{Member}
 use Rattle.const_pool.specs.declared.class.CodeAttribute.{CodeAttribute}
@@ -16,7 +16,9 @@ use Rattle.code_model.specs.declared.instr.Arg.{Arg}
 use Rattle.code_model.specs.declared.instr.Arg.TheVariants as arg
 use Rattle.code_model.specs.declared.instr.Instr.{Instr}
 use Rattle.code_model.specs.Instructions.{instruction_at, end_of, Reads}
-use Rattle.code_model.proofs.Readings.{at-instruction_at}
+use Rattle.code_model.specs.Layout.{size_at}
+use Rattle.code_model.proofs.Lengths.{size_at-some}
+use Rattle.code_model.proofs.Readings.{at-instruction_at, instruction_at-past}
 use Rattle.jvm_model.specs.Data.{Operation, Instruction, Catcher, Text}
 use Rattle.jvm_model.specs.Methods.{code_among, code_of, method_code}
 use Rattle.jvm_model.specs.Lines.{operation_with, next_of, targets_of, ends, code_instruction, method_instruction}
@@ -36,12 +38,13 @@ Reads-length bytes at [] e = omega (arith, e)
 Reads-length bytes at (i ∷ is) e =
     let rest : end_of i + length is ≤ length bytes = Reads-length bytes (end_of i) is e.1 in
     let here : i.at ≡ at = at-instruction_at bytes at i e.0 in
+    let some : 1 ≤ size_at i.at i = size_at-some i.at i in
     omega arith
 
 read-is : (n : ℕ) (bytes : List ℕ) (at : ℕ) (is : List Instr) → Reads bytes at is → length is ≤ n → read_from n bytes at ≡ is
 read-is zero bytes at [] e most = refl
 read-is zero bytes at (i ∷ is) e most = absurd (omega arith)
-read-is (suc n) bytes at [] e most = rw (slice_get_past bytes at (omega (arith, e))) refl
+read-is (suc n) bytes at [] e most = rw (instruction_at-past bytes at (omega (arith, e))) refl
 read-is (suc n) bytes at (i ∷ is) e most =
     ap (λ o. option_map_or (λ (j : Instr). j ∷ read_from n bytes (end_of j)) o []) e.0
     ∙ ap (λ (js : List Instr). i ∷ js) (read-is n bytes (end_of i) is e.1 (omega arith))

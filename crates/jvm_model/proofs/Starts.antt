@@ -1,6 +1,6 @@
 -- What stands at the start of an instruction of a small class: a line, behind which the next instruction starts unless it
 -- returns, and which calls a method that can begin.
-use Rattle.std.proofs.Common.{◌≡◌, ℕ, zero, suc, ◌+◌, ◌<◌, Bool, true, false, List, [], ◌∷◌, length, slice_get, Option, Some, None, refl, sym, ap, subst, ◌∙◌, arith}
+use Rattle.std.proofs.Common.{◌≡◌, ℕ, zero, suc, ◌<◌, Bool, true, false, List, [], ◌∷◌, length, slice_get, Option, Some, None, refl, sym, ap, subst, ◌∙◌, arith}
 use Rattle.std.specs.Prelude.{nat_lt}
 use Rattle.std.specs.Option.{option_map, option_map_or, option_and_then}
 use Rattle.std.specs.List.{list_all, AllByRecursion}
@@ -16,8 +16,9 @@ use Rattle.const_pool.specs.declared.class.CodeAttribute.{CodeAttribute}
 use Rattle.const_pool.specs.declared.descriptor.Shape.{Shape}
 use Rattle.code_model.specs.declared.instr.Instr.{Instr}
 use Rattle.code_model.specs.declared.instr.Code.{Code as Reading}
-use Rattle.code_model.specs.declared.instr.Arg.{Arg}
-use Rattle.code_model.specs.Instructions.{form_of, operand_at, with_operand, instruction_at, end_of, Reads, IsReading}
+use Rattle.code_model.specs.Instructions.{instruction_at, end_of, Reads, IsReading}
+use Rattle.code_model.specs.Groups.{IsBytes}
+use Rattle.code_model.proofs.Ready.{known}
 use Rattle.code_model.proofs.Readings.{at-instruction_at, IsReading-unique}
 use Rattle.jvm_model.specs.declared.operation.Line.{Line}
 use Rattle.jvm_model.specs.declared.operation.Resolved.{Resolved}
@@ -120,16 +121,10 @@ HasSmallCode-small c m code reading small e reads =
 
 -- ---- starts
 
--- an opcode of the code is a byte
-op-byte : (bytes : List ℕ) (at : ℕ) (i : Instr) → AllByRecursion IsByte bytes → instruction_at bytes at ≡ Some i → i.op < 256
-op-byte bytes at i each e =
-    option_and_then_some (λ op. option_and_then (λ form. option_map (with_operand at op) (operand_at form bytes (at + 1))) (form_of op)) (slice_get bytes at) i e
-    (λ op is rest. option_and_then_some (λ form. option_map (with_operand at op) (operand_at form bytes (at + 1))) (form_of op) i rest
-    (λ form formed last. (let byte : IsByte op = nth-each IsByte bytes at op each is in let kept : i.op ≡ op = op-kept at op (operand_at form bytes (at + 1)) i last in subst (λ (n : ℕ). n < 256) (sym kept) byte)))
-  where
-    op-kept : (at op : ℕ) (arg : Option Arg) (i : Instr) → option_map (with_operand at op) arg ≡ Some i → i.op ≡ op
-    op-kept at op None i e = absurd (none-some i e)
-    op-kept at op (Some arg) i e = ap (λ (j : Instr). j.op) (sym (same_Some (with_operand at op arg) i e))
+pub bytes-each : (bytes : List ℕ) → AllByRecursion IsByte bytes → IsBytes bytes
+bytes-each [] each k = omega arith
+bytes-each (b ∷ bytes) each zero = each.0
+bytes-each (b ∷ bytes) each (suc k) = bytes-each bytes each.1 k
 
 -- the instruction at a start, and where it leads
 pub record HasLine (c : ClassFile) (m at : ℕ) (i : Instr) : Type 0 where
@@ -182,7 +177,7 @@ HasLine-start c m at built start =
     let here : instruction_at bytes at ≡ Some i = subst (λ (n : ℕ). instruction_at bytes n ≡ Some i) start.here stands in
     let fits = some-of (fits_method m start.code.max_locals code.shape) (resolved_of c i) (nth-passes (is_small_instr c m start.code.max_locals code.shape) start.reading.instrs start.nth i code.small start.stands) in
     let q = fits.0 in
-    let byte = op-byte bytes at i (IsCode-method_code c m start.code built.formed start.coded).code here in
+    let byte = (known bytes at i here (bytes-each bytes (IsCode-method_code c m start.code built.formed start.coded).code)).op in
     let returns = returns-instr c bytes at i q byte here fits.1 in
     option_and_then_some (resolved_in c) (operation_of c i) q fits.1
     (λ o is rest. (

@@ -8,10 +8,10 @@ use Rattle.jvm_machine.proofs.Ends.{line-resolved}
 use Rattle.jvm_machine.proofs.versions.code_line.Goals as goal
 
 pub line_of-requires-clause-ends : goal.line_of-requires-clause-ends
-line_of-requires-clause-ends c = omega (arith, end_of-within c.args.code.now c.args.at c.in_ok-instr.instr (sym c.in_ok-instr.ensures))
+line_of-requires-clause-ends c = omega (arith, end_of-within c.args.code.now c.args.at c.in-Some.instr (sym c.in_ok-found.ensures ∙ c.in-Some.is))
 
-pub returns : goal.returns
-returns c =
+pub returns-in-Some : goal.returns-in-Some
+returns-in-Some c =
     c.line_of.ensures
-    ∙ (sym (line-resolved c.args.class.now c.in_ok-instr.instr)
-    ∙ ap (λ i. option_and_then (line_of c.args.class.now) (option_and_then (instruction_of c.args.class.now) i)) c.in_ok-instr.ensures)
+    ∙ (sym (line-resolved c.args.class.now c.in-Some.instr)
+    ∙ ap (λ i. option_and_then (line_of c.args.class.now) (option_and_then (instruction_of c.args.class.now) i)) (sym c.in-Some.is ∙ c.in_ok-found.ensures))
