@@ -22,7 +22,8 @@ use Rattle.jvm_model.specs.SmallClass.{fits_method, is_small_instr}
 use Rattle.jvm_model.proofs.ImageLines.{some-passed}
 use Rattle.jvm_model.proofs.Opcodes.{StaysAlike-operation}
 use Rattle.jvm_model.specs.Methods.{code_among}
-use Rattle.inject_events.specs.Instrumentable.{IsInstrumentable, AreRewritable}
+use Rattle.jvm_model.specs.StandsFor.{IsBuilt}
+use Rattle.inject_events.specs.Instrumentable.{AreRewritable}
 
 holds_at : {A : Type 0} (P : A → Type 0) (xs : List A) (k : ℕ) (x : A) → AllByRecursion P xs → slice_get xs k ≡ Some x → P x
 holds_at P [] k x all at = absurd (none-some x at)
@@ -48,7 +49,7 @@ all_straight c k most shape (i ∷ is) small =
       all_straight c k most shape is both.1,
     )
 
-pub AreRewritable-methods : (c : ClassFile) → IsInstrumentable c → AreRewritable c.methods
+pub AreRewritable-methods : (c : ClassFile) → IsBuilt c → AreRewritable c.methods
 AreRewritable-methods c is k m at =
     let method = is.small.methods k m at in
     let shape = holds_at (λ (m : Member). IsLoneCode m.attributes) c.methods k m is.plain.methods at in

@@ -21,7 +21,7 @@ use Rattle.code_model.specs.Reading.{read_instruction, behind_opcode_at, operand
 use Rattle.code_model.specs.Instructions.{instruction_at, IsReading}
 use Rattle.jvm_model.specs.SmallClass.{IsSmallMethod}
 use Rattle.jvm_model.proofs.PlainRun.{p1, p1_pool, code_with, method_with}
-use Rattle.inject_events.specs.Instrumentable.{IsInstrumentable}
+use Rattle.jvm_model.specs.StandsFor.{IsBuilt}
 
 abbrev pub f_bytes : List ℕ
 f_bytes = 26 ∷ 4 ∷ 96 ∷ 172 ∷ []
@@ -245,8 +245,8 @@ p1_methods zero m at = subst (IsSmallMethod p1 0) (same_Some f_member m at) f_sm
 p1_methods (suc zero) m at = subst (IsSmallMethod p1 1) (same_Some main_member m at) main_small
 p1_methods (suc (suc k)) m at = absurd (none-some m at)
 
-pub p1_instrumentable : IsInstrumentable p1
-p1_instrumentable = record {
+pub p1_built : IsBuilt p1
+p1_built = record {
   formed = p1_formed;
   plain = p1_plain;
   small = record { name = refl; super = refl; methods = p1_methods };

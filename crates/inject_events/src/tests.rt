@@ -1,7 +1,7 @@
 //! The worked class P1: its method `f(I)I` adds one, and its method `main` prints what f gives for 41.
 
 ghost use Rattle.std.specs.Prelude.{◌≡◌, take, drop, length, IfOk};
-ghost use Rattle.inject_events.specs.Instrumentable.{IsInstrumentable};
+ghost use Rattle.jvm_model.specs.StandsFor.{IsBuilt};
 ghost use Rattle.const_pool.specs.declared.pool.Const.TheVariants.{Utf8};
 ghost use Rattle.jvm_model.proofs.PlainRun.{p1, p1_pool, method_with};
 
@@ -121,7 +121,7 @@ fn make_p1(alloc: Global) -> Result<ClassFile, NoMemory>
 
 /// P1, of which the tests need no more than that it can be rewritten.
 fn p1(alloc: Global) -> Result<ClassFile, NoMemory>
-    ensures rewritable { IfOk result (λ class. IsInstrumentable class) }
+    ensures rewritable { IfOk result (λ class. IsBuilt class) }
     ensures methods { IfOk result (λ class. length class.methods ≡ 2) }
 {
     make_p1(alloc)
