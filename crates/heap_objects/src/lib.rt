@@ -1,6 +1,10 @@
 //! Values and the objects that references name (JVM Specification 2.3, 2.4).
 #![tactic(auto)]
 
+mod datum;
+
+pub use datum::Datum;
+
 /// A value on the operand stack or in a local (JVM Specification 2.6.1, 2.6.2).
 #[derive(Clone, Copy, Debug, PartialEq, Eq)]
 pub enum Value {
