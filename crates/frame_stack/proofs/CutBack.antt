@@ -4,7 +4,7 @@ use Rattle.std.specs.Prelude.{reverse, Option, Some}
 use Rattle.std.proofs.lemmas.List.{length-drop, length-reverse, length-take-le, take-take, drop-drop, drop-take}
 use Rattle.heap_objects.specs.declared.Value.{Value}
 use Rattle.frame_stack.specs.declared.entry.Entry.{Entry}
-use Rattle.frame_stack.specs.FrameLists.{Frame}
+use Rattle.frame_stack.specs.FrameLists.{PlacedFrame}
 use Rattle.frame_stack.specs.Cuts.{operands_of, AreOperands, operand_slots, floor, frame_of, frames_of, AreFrames, IsFlat}
 use Rattle.frame_stack.proofs.OperandSlots.{reverse-drop-take}
 
@@ -19,7 +19,7 @@ length-operand-slots capacity e es slots h =
     omega (arith, length-reverse (drop e.max_locals (drop e.base slots)), length-drop e.max_locals (drop e.base slots), length-drop e.base slots, h.0, h.1.has_locals)
 
 -- the top frame with these operands' slots
-abbrev pub with_operands : Frame → List (Option Value) → Frame
+abbrev pub with_operands : PlacedFrame → List (Option Value) → PlacedFrame
 with_operands f slots = record f { operands = operands_of slots }
 
 -- The top frame without the k topmost slots of its operands.
@@ -64,7 +64,7 @@ is-cut-back capacity k e es slots h le are =
     }
   where
     seen-by : (e : Entry) (own before : List (Option Value)) (without_frame : List (Option Value)) → take e.max_locals own ≡ take e.max_locals before → operand_slots e own ≡ without_frame
-        → (fs gs : List Frame) → fs ≡ gs → frame_of e own ∷ fs ≡ with_operands (frame_of e before) without_frame ∷ gs
+        → (fs gs : List PlacedFrame) → fs ≡ gs → frame_of e own ∷ fs ≡ with_operands (frame_of e before) without_frame ∷ gs
     seen-by e own before without_frame locals operands fs gs same =
         rw (locals, operands, same) refl
 

@@ -3,7 +3,7 @@ use Rattle.std.specs.Prelude.{◌≡◌, ℕ, ◌+◌, ◌-◌, ◌≤◌, ◌<�
 use Rattle.heap_objects.specs.declared.Value.{Value}
 use Rattle.frame_stack.specs.declared.entry.Entry.{Entry}
 use Rattle.frame_stack.specs.Widths.{is_long}
-use Rattle.frame_stack.specs.FrameLists.{Frame, FramesView}
+use Rattle.frame_stack.specs.FrameLists.{PlacedFrame, FramesView}
 
 -- the operands that slots hold, the top first: nothing stands above a long
 abbrev pub operands_of : List (Option Value) → List Value
@@ -31,7 +31,7 @@ limit e = e.base + e.max_locals + e.max_stack
 abbrev pub operand_slots : Entry → List (Option Value) → List (Option Value)
 operand_slots e own = reverse (drop e.max_locals own)
 
-abbrev pub frame_of : Entry → List (Option Value) → Frame
+abbrev pub frame_of : Entry → List (Option Value) → PlacedFrame
 frame_of e own = record {
   version = e.version;
   method = e.method;
@@ -42,8 +42,8 @@ frame_of e own = record {
   max_stack = e.max_stack;
 }
 
--- the slots cut at the bases, the top frame first
-abbrev pub frames_of : List Entry → List (Option Value) → List Frame
+-- The frames of slots that are cut at the bases, the top frame first.
+abbrev pub frames_of : List Entry → List (Option Value) → List PlacedFrame
 frames_of [] slots = []
 frames_of (e ∷ es) slots = frame_of e (drop e.base slots) ∷ frames_of es (take e.base slots)
 
@@ -56,7 +56,8 @@ pub record IsFrame (capacity : ℕ) (e : Entry) (own : List (Option Value)) : Ty
 
 abbrev pub AreFrames : ℕ → List Entry → List (Option Value) → Type 0
 AreFrames capacity [] slots = slots ≡ []
-AreFrames capacity (e ∷ es) slots = (e.base ≤ length slots) × IsFrame capacity e (drop e.base slots) × AreFrames capacity es (take e.base slots)
+AreFrames capacity (e ∷ es) slots =
+    (e.base ≤ length slots) × IsFrame capacity e (drop e.base slots) × AreFrames capacity es (take e.base slots)
 
 -- ---- the fields
 

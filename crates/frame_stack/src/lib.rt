@@ -7,3 +7,6 @@ mod slots;
 mod width;
 
 pub use frames::Frames;
+
+#[cfg(test)]
+mod tests;

@@ -1,4 +1,4 @@
-//! Slots of all frames, the lowest first.
+//! The slots of all frames, the lowest first. A long stands in its first slot, with nothing in its second.
 
 ghost use Rattle.std.specs.Prelude.{◌≡◌, ◌≤◌, ◌+◌, ◌-◌, ◌++◌, length, take, drop, reverse, replicate, Some, None, nat_le, slice_get, if◌then◌else◌};
 ghost use Rattle.std.specs.Vec.{vec_len, vec_capacity};
@@ -41,7 +41,9 @@ pub fn top_value(slots: &[Option<Value>], low: usize) -> Option<Value>
 pub fn end_below(slots: &[Option<Value>], low: usize, count: u16) -> Option<usize>
     requires within { low ≤ length slots.now }
     requires operands { AreOperands (reverse (drop low slots.now)) }
-    ensures { let operands = operands_of (reverse (drop low slots.now)) in result ≡ (if nat_le count (length operands) then Some (length slots.now - height_of (take count operands)) else None) }
+    ensures { let operands = operands_of (reverse (drop low slots.now)) in
+        result ≡ (if nat_le count (length operands)
+        then Some (length slots.now - height_of (take count operands)) else None) }
 {
     let mut end = slots.len();
     for _i in 0..count {

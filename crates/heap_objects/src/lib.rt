@@ -1,9 +1,18 @@
-//! Values and the objects that references name (JVM Specification 2.3, 2.4).
+//! Values and the objects that references name (JVM Specification 2.3, 2.4, 2.7).
 #![tactic(auto)]
 
+mod array;
+mod cells;
 mod datum;
+mod element;
+mod kept;
+mod object;
 
+pub use array::ArrayObject;
+pub use cells::Cells;
 pub use datum::Datum;
+pub use element::{Element, element_of};
+pub use object::Object;
 
 /// A value on the operand stack or in a local (JVM Specification 2.6.1, 2.6.2).
 #[derive(Clone, Copy, Debug, PartialEq, Eq)]

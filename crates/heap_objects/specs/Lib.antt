@@ -1,0 +1,5 @@
+pub mod Kinds
+pub mod Kept
+pub mod Cells
+pub mod ArrayView
+pub mod Objects
