@@ -3,3 +3,5 @@ pub mod Kept
 pub mod Cells
 pub mod ArrayView
 pub mod Objects
+pub mod Interning
+pub mod Heaps

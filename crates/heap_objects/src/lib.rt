@@ -5,13 +5,20 @@ mod array;
 mod cells;
 mod datum;
 mod element;
+mod error;
+mod heap;
+mod interned;
 mod kept;
+mod lists;
 mod object;
 
 pub use array::ArrayObject;
 pub use cells::Cells;
 pub use datum::Datum;
 pub use element::{Element, element_of};
+pub use error::HeapError;
+pub use heap::Heap;
+pub use interned::Interned;
 pub use object::Object;
 
 /// A value on the operand stack or in a local (JVM Specification 2.6.1, 2.6.2).
