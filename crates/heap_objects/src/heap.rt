@@ -8,7 +8,7 @@ use crate::array::ArrayObject;
 use crate::datum::Datum;
 use crate::error::HeapError;
 use crate::interned::Interned;
-use crate::lists::{append_at, put_at, replace_at};
+use crate::lists::{append_at, item_at, put_at, replace_at};
 use crate::object::Object;
 use jf_bytes::{NoMemory, Seq};
 use std::alloc::Global;
@@ -89,10 +89,11 @@ impl Heap {
         ensures found { option_copied result ≡ object_at object self.now.objects }
         ensures fits { IfSome result (λ o. length_of o.now < 2 ^ 32) }
     {
+        let _limit = self.limit;
         if object == 0 {
             return None;
         }
-        self.objects.get(object as usize - 1)
+        item_at(&self.objects, object as usize - 1)
     }
 
     /// The value of a field or an element, or None where there is no such object or slot. A text has no slots.

@@ -1,13 +1,20 @@
 //! Changes of one object of a list, by its place.
 
 ghost use Rattle.std.specs.Prelude.{◌≡◌, ◌<◌, ◌≤◌, ◌+◌, ◌-◌, false, length, slice_get, sum_by, unwrap_or, is_ok, if◌then◌else◌};
-ghost use Rattle.std.specs.Option.{option_map, option_map_or};
+ghost use Rattle.std.specs.Option.{option_copied, option_map, option_map_or};
 ghost use Rattle.heap_objects.specs.Objects.{cost_of, length_of, has_slot, with_slot, with_units, with_more_units, changed_at};
 
 use crate::datum::Datum;
 use crate::object::Object;
 use jf_bytes::NoMemory;
 use std::alloc::Global;
+
+/// The object at a place, where there is one.
+pub fn item_at(objects: &[Object], place: usize) -> Option<&Object>
+    ensures { option_copied result ≡ slice_get objects.now place }
+{
+    objects.get(place)
+}
 
 /// Puts a value into a slot of an object. False, with nothing changed, where there is no such object or slot.
 pub fn put_at(objects: &mut [Object], place: usize, slot: usize, value: Datum) -> bool
