@@ -3,6 +3,8 @@ use Rattle.std.specs.Prelude.{ℕ, zero, suc, ◌+◌, ◌-◌, ◌==◌, ◌++�
 use Rattle.heap_objects.specs.declared.datum.Datum.{Datum}
 use Rattle.heap_objects.specs.declared.object.Object.{Object}
 use Rattle.heap_objects.specs.declared.object.Object.TheVariants.{Instance, Array, Text}
+use Rattle.heap_objects.specs.Kinds.{element_of}
+use Rattle.heap_objects.specs.Kept.{kept}
 use Rattle.heap_objects.specs.ArrayView.{ArrayView, with_element}
 
 abbrev pub kind_of : Object → ℕ
@@ -33,6 +35,12 @@ units_of (Text kind units) = Some units
 
 abbrev pub has_slot : ℕ → Object → Bool
 has_slot slot o = nat_lt slot (length (slots_of o))
+
+-- what a slot keeps of a value that is put into it: a field all, an element what elements of the array's kind keep
+abbrev pub kept_by : Object → Datum → Datum
+kept_by (Instance kind fields) v = v
+kept_by (Array a) v = kept (element_of a.kind) v
+kept_by (Text kind units) v = v
 
 -- a value was put into a slot
 abbrev pub with_slot : ℕ → Datum → Object → Object

@@ -1,6 +1,6 @@
 //! Arrays.
 
-ghost use Rattle.std.specs.Prelude.{◌≡◌, ◌<◌, ◌==◌, IfOk, length, replicate, slice_get};
+ghost use Rattle.std.specs.Prelude.{◌≡◌, ◌<◌, ◌==◌, IfOk, IfSome, length, replicate, slice_get};
 ghost use Rattle.heap_objects.specs.Kinds.{element_of};
 ghost use Rattle.heap_objects.specs.Kept.{kept};
 ghost use Rattle.heap_objects.specs.ArrayView.{with_element};
@@ -64,9 +64,10 @@ impl ArrayObject {
         self.cells.len() == 0
     }
 
-    /// The value of an element, where there is one.
+    /// The value of an element, where there is one. It is one that elements of the array's kind keep whole.
     pub fn get(&self, slot: usize) -> Option<Datum>
-        ensures { result ≡ slice_get self.now.items slot }
+        ensures found { result ≡ slice_get self.now.items slot }
+        ensures whole { IfSome result (λ v. kept (element_of self.now.kind) v ≡ v) }
     {
         self.cells.get(slot)
     }

@@ -1,8 +1,8 @@
 //! The values of an array, each as narrow as its elements.
 
-ghost use Rattle.std.specs.Prelude.{◌≡◌, ◌<◌, IfOk, length, slice_get, slice_set, replicate};
+ghost use Rattle.std.specs.Prelude.{◌≡◌, ◌<◌, IfOk, IfSome, length, slice_get, slice_set, replicate};
 ghost use Rattle.heap_objects.specs.Kept.{kept};
-ghost use Rattle.heap_objects.specs.Cells.{data_in, element_in};
+ghost use Rattle.heap_objects.specs.Cells.{bit_datum, data_in, element_in};
 
 use crate::datum::Datum;
 use crate::element::Element;
@@ -30,6 +30,21 @@ fn filled<T: Copy>(alloc: Global, value: T, len: usize) -> Result<Vec<T>, AllocE
     let mut items = Vec::with_capacity(alloc, len)?;
     items.resize(len, value)?;
     Ok(items)
+}
+
+/// The item at a place, where there is one.
+fn item<T: Copy>(items: &[T], place: usize) -> Option<T>
+    ensures { result ≡ slice_get items.now place }
+{
+    items.get(place).copied()
+}
+
+/// A boolean as the int that stands for it: 1 for true, 0 for false (JVM Specification 2.3.4).
+fn bit_datum(bit: bool) -> Datum
+    ensures value { result ≡ bit_datum bit }
+    ensures whole { kept Element.Boolean result ≡ result }
+{
+    Datum::Int(if bit { 1 } else { 0 })
 }
 
 impl Cells {
@@ -71,19 +86,41 @@ impl Cells {
         }
     }
 
-    /// The value of an element, where there is one.
+    /// The value of an element, where there is one. It is one that the elements keep whole.
     pub fn get(&self, slot: usize) -> Option<Datum>
-        ensures { result ≡ slice_get (data_in self.now) slot }
+        ensures found { result ≡ slice_get (data_in self.now) slot }
+        ensures whole { IfSome result (λ v. kept (element_in self.now) v ≡ v) }
     {
         match self {
-            Cells::Booleans(v) => v.get(slot).map(|b| Datum::Int(if *b { 1 } else { 0 })),
-            Cells::Chars(v) => v.get(slot).map(|n| Datum::Int(i32::from(*n))),
-            Cells::Bytes(v) => v.get(slot).map(|n| Datum::Int(i32::from(*n))),
-            Cells::Shorts(v) => v.get(slot).map(|n| Datum::Int(i32::from(*n))),
-            Cells::Ints(v) => v.get(slot).map(|n| Datum::Int(*n)),
-            Cells::Longs(v) => v.get(slot).map(|n| Datum::Long(*n)),
-            Cells::References(v) => v.get(slot).map(|object| Datum::Ref(*object)),
-            Cells::Data(v) => v.get(slot).copied(),
+            Cells::Booleans(v) => {
+                let b = item(v, slot)?;
+                Some(bit_datum(b))
+            }
+            Cells::Chars(v) => {
+                let n = item(v, slot)?;
+                Some(Datum::Int(i32::from(n)))
+            }
+            Cells::Bytes(v) => {
+                let n = item(v, slot)?;
+                Some(Datum::Int(i32::from(n)))
+            }
+            Cells::Shorts(v) => {
+                let n = item(v, slot)?;
+                Some(Datum::Int(i32::from(n)))
+            }
+            Cells::Ints(v) => {
+                let n = item(v, slot)?;
+                Some(Datum::Int(n))
+            }
+            Cells::Longs(v) => {
+                let n = item(v, slot)?;
+                Some(Datum::Long(n))
+            }
+            Cells::References(v) => {
+                let object = item(v, slot)?;
+                Some(Datum::Ref(object))
+            }
+            Cells::Data(v) => item(v, slot),
         }
     }
 

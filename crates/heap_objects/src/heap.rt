@@ -60,7 +60,7 @@ impl Heap {
     ghost use Rattle.heap_objects.specs.declared.object.Object.{Object};
     ghost use Rattle.heap_objects.specs.Kinds.{element_of};
     ghost use Rattle.heap_objects.specs.Kept.{kept};
-    ghost use Rattle.heap_objects.specs.Objects.{cost_of, length_of, object_at};
+    ghost use Rattle.heap_objects.specs.Objects.{cost_of, length_of, kept_by, object_at};
     ghost use Rattle.heap_objects.specs.Interning.{number_of};
     ghost use Rattle.heap_objects.specs.Heaps.{empty_heap, ExceedsLimit, slot_at, has_slot_at, kind_at, length_at, units_at, IsText, with_object, next_number, interned_number, with_interned, with_slot_at, growth_of, new_array, with_units_added, with_units_replaced, IsSound};
 
@@ -96,9 +96,11 @@ impl Heap {
         item_at(&self.objects, object as usize - 1)
     }
 
-    /// The value of a field or an element, or None where there is no such object or slot. A text has no slots.
+    /// The value of a field or an element, or None where there is no such object or slot. A text has no slots. The value is
+    /// one that the slot keeps whole: that of an array is of its elements' sort and within their range.
     pub fn get(&self, object: u32, slot: u32) -> Option<Datum>
-        ensures { result ≡ slot_at object slot self.now }
+        ensures found { result ≡ slot_at object slot self.now }
+        ensures whole { IfSome result (λ v. IfSome (object_at object self.now.objects) (λ o. kept_by o v ≡ v)) }
     {
         self.find(object)?.get(slot as usize)
     }

@@ -31,3 +31,6 @@ pub enum Value {
     /// The return address of a subroutine: an offset in the code.
     Addr(u16),
 }
+
+#[cfg(test)]
+mod tests;

@@ -1,6 +1,6 @@
 //! Objects.
 
-ghost use Rattle.std.specs.Prelude.{◌≡◌, ◌<◌, ◌+◌, OnOk, OnErr, length, slice_get, is_ok, nat_lt, if◌then◌else◌};
+ghost use Rattle.std.specs.Prelude.{◌≡◌, ◌<◌, ◌+◌, IfSome, length, slice_get, is_ok, nat_lt, if◌then◌else◌};
 ghost use Rattle.std.specs.Option.{option_map};
 
 use crate::array::ArrayObject;
@@ -18,7 +18,7 @@ pub enum Object {
 }
 
 impl Object {
-    ghost use Rattle.heap_objects.specs.Objects.{kind_of, length_of, slots_of, units_of, has_slot, with_slot, with_units, with_more_units};
+    ghost use Rattle.heap_objects.specs.Objects.{kind_of, length_of, slots_of, units_of, kept_by, has_slot, with_slot, with_units, with_more_units};
 
     /// The kind of its class, or of the array.
     pub fn kind(&self) -> u32
@@ -42,9 +42,10 @@ impl Object {
         }
     }
 
-    /// The value of a field or an element, where there is one.
+    /// The value of a field or an element, where there is one. It is one that the slot keeps whole.
     pub fn get(&self, slot: usize) -> Option<Datum>
-        ensures { result ≡ slice_get (slots_of self.now) slot }
+        ensures found { result ≡ slice_get (slots_of self.now) slot }
+        ensures whole { IfSome result (λ v. kept_by self.now v ≡ v) }
     {
         match self {
             Object::Instance(_, fields) => fields.at(slot),
