@@ -1,6 +1,6 @@
 -- Lists of objects, and what they take.
 use Rattle.std.proofs.Common.{◌≡◌, ℕ, zero, suc, ◌+◌, ◌≤◌, ◌<◌, List, [], ◌∷◌, ◌++◌, length, refl, sym, ap, subst, ◌∙◌, arith, get_or, slice_get, slice_set, Some, None, sum_by}
-use Rattle.std.proofs.Common.{Bool, true, false, ◌-◌, ◌^◌, if◌then◌else◌, length-append}
+use Rattle.std.proofs.Common.{Bool, true, false, ◌-◌, if◌then◌else◌, length-append}
 use Rattle.std.specs.Prelude.{Option, IfSome, unwrap_or}
 use Rattle.std.specs.Option.{option_map, option_copied}
 use Rattle.std.specs.Borrow.{Bor}

@@ -1,5 +1,5 @@
 -- The interned texts: the units of each, with the number of the object that was made for them, in order.
-use Rattle.std.specs.Prelude.{ℕ, ◌++◌, List, [], ◌∷◌, Option}
+use Rattle.std.specs.Prelude.{ℕ, List, Option}
 use Rattle.std.specs.Str.{bytes_eq}
 use Rattle.std.specs.Map.{lookup}
 

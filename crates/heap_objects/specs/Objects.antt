@@ -5,7 +5,7 @@ use Rattle.heap_objects.specs.declared.object.Object.{Object}
 use Rattle.heap_objects.specs.declared.object.Object.TheVariants.{Instance, Array, Text}
 use Rattle.heap_objects.specs.Kinds.{element_of}
 use Rattle.heap_objects.specs.Kept.{kept}
-use Rattle.heap_objects.specs.ArrayView.{ArrayView, with_element}
+use Rattle.heap_objects.specs.ArrayView.{with_element}
 
 abbrev pub kind_of : Object → ℕ
 kind_of (Instance kind fields) = kind

@@ -1,6 +1,6 @@
 //! Arrays.
 
-ghost use Rattle.std.specs.Prelude.{◌≡◌, ◌<◌, ◌==◌, IfOk, IfSome, length, replicate, slice_get};
+ghost use Rattle.std.specs.Prelude.{◌≡◌, ◌<◌, IfOk, IfSome, length, replicate, slice_get};
 ghost use Rattle.heap_objects.specs.Kinds.{element_of};
 ghost use Rattle.heap_objects.specs.Kept.{kept};
 ghost use Rattle.heap_objects.specs.ArrayView.{with_element};
@@ -46,22 +46,18 @@ impl ArrayObject {
         Ok(ArrayObject { kind, cells })
     }
 
+    /// Its kind.
     pub fn kind(&self) -> u32
         ensures { result ≡ self.now.kind }
     {
         self.kind
     }
 
+    /// How many elements it has.
     pub fn len(&self) -> usize
         ensures { result ≡ length self.now.items }
     {
         self.cells.len()
-    }
-
-    pub fn is_empty(&self) -> bool
-        ensures { result ≡ (length self.now.items == 0) }
-    {
-        self.cells.len() == 0
     }
 
     /// The value of an element, where there is one. It is one that elements of the array's kind keep whole.

@@ -32,9 +32,19 @@ impl Model for Heap {
 
     ghost Value = { HeapView };
 
-    ghost view = { λ h. record { limit = h.limit; used = h.used; objects = h.objects.items; interned = h.interned } };
+    ghost view = { λ h. record {
+      limit = h.limit;
+      used = h.used;
+      objects = h.objects.items;
+      interned = h.interned;
+    } };
 
-    ghost invariant = { λ h. IsSound (record { limit = h.limit; used = h.used; objects = h.objects.items; interned = h.interned }) };
+    ghost invariant = { λ h. IsSound (record {
+      limit = h.limit;
+      used = h.used;
+      objects = h.objects.items;
+      interned = h.interned;
+    }) };
 }
 
 /// How many slots are used with so many more, where the limit allows.
@@ -257,9 +267,8 @@ impl Heap {
         ensures heap { self.new ≡ (if is_ok result then with_units_replaced object units.now self.old
             else self.old) }
     {
-        let grown = units
-            .len()
-            .saturating_sub(self.len(object).unwrap_or(0) as usize);
+        let before = self.len(object).unwrap_or(0) as usize;
+        let grown = units.len().saturating_sub(before);
         let Some(used) = charged(self.limit, self.used, grown) else {
             return Err(HeapError::HeapFull);
         };

@@ -12,14 +12,9 @@ mod kept;
 mod lists;
 mod object;
 
-pub use array::ArrayObject;
-pub use cells::Cells;
 pub use datum::Datum;
-pub use element::{Element, element_of};
 pub use error::HeapError;
 pub use heap::Heap;
-pub use interned::Interned;
-pub use object::Object;
 
 /// A value on the operand stack or in a local (JVM Specification 2.6.1, 2.6.2).
 #[derive(Clone, Copy, Debug, PartialEq, Eq)]
