@@ -1,6 +1,5 @@
 -- Looking through lists that follow one another.
-use Rattle.std.proofs.Common.{◌≡◌, ℕ, zero, suc, ◌+◌, ◌-◌, ◌<◌, ◌≤◌, List, [], ◌∷◌, ◌++◌, map, length, Some, None, slice_get, get_or, drop, add-one, refl, sym, ap, ◌∙◌, arith}
-use Rattle.std.specs.Option.{option_map}
+use Rattle.std.proofs.Common.{◌≡◌, ℕ, zero, suc, ◌+◌, ◌-◌, ◌<◌, List, [], ◌∷◌, ◌++◌, length, Some, None, slice_get, get_or, drop, add-one, sym, ap, ◌∙◌, arith}
 use Rattle.std.specs.List.{flat_map}
 use Rattle.std.proofs.Math.Seq.{drop-cons}
 
@@ -15,16 +14,6 @@ slice_get-behind (y ∷ xs) ys zero h = absurd cc
 slice_get-behind (y ∷ xs) ys (suc i) h =
     let less : i - length xs ≡ suc i - length (y ∷ xs) = omega arith in
     slice_get-behind xs ys i h ∙ ap (slice_get ys) less
-
-pub slice_get-past : {A : Type 0} (xs : List A) (i : ℕ) → slice_get xs i ≡ None → length xs ≤ i
-slice_get-past [] i h = omega arith
-slice_get-past (y ∷ xs) zero h = absurd cc
-slice_get-past (y ∷ xs) (suc i) h = let rest = slice_get-past xs i h in omega arith
-
-pub slice_get-map : {A B : Type 0} (f : A → B) (xs : List A) (i : ℕ) → slice_get (map f xs) i ≡ option_map f (slice_get xs i)
-slice_get-map f [] i = refl
-slice_get-map f (x ∷ xs) zero = refl
-slice_get-map f (x ∷ xs) (suc i) = slice_get-map f xs i
 
 -- ---- lists that a function gives
 

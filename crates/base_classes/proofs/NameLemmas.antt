@@ -16,7 +16,7 @@ use Rattle.base_classes.specs.StreamClasses.{stream_classes}
 use Rattle.base_classes.specs.ValueClasses.{value_classes}
 use Rattle.base_classes.specs.ThrowableClasses.{throwable_classes}
 use Rattle.base_classes.specs.Hashes.{hash_of, finds_from, finds_each}
-use Rattle.base_classes.proofs.Groups.{slice_get-map}
+use Rattle.std.proofs.lemmas.Option.{slice_get-map}
 
 pub names_are : map (λ d. d.name) built_in_classes ≡ built_in_names
 unfolding built_in_classes object_classes text_classes stream_classes value_classes throwable_classes

@@ -14,7 +14,7 @@ use Rattle.base_classes.specs.ValueClasses.{value_classes}
 use Rattle.base_classes.specs.ThrowableClasses.{throwable_classes}
 use Rattle.base_classes.specs.Natives.{is_native, named, natives_of, native_methods, is_member, native_starts}
 use Rattle.base_classes.proofs.NameLemmas.{name_found}
-use Rattle.base_classes.proofs.Groups.{slice_get-map}
+use Rattle.std.proofs.lemmas.Option.{slice_get-map}
 use Rattle.base_classes.proofs.NativeLemmas.{position_found, position_missed, is_named_by, start, has_start, number_at, stands, fits_from, fit_at}
 
 -- what a find gave, by cases
