@@ -1,4 +1,3 @@
-pub mod Tables
 mod TailIndices
 pub mod Gaps
 pub mod Halts

@@ -2,14 +2,12 @@
 //! descriptors, the names of the built-in classes, and what bytes spell it.
 #![tactic(auto)]
 
-mod built_in;
 mod class;
 mod descriptor;
 mod pool;
 mod stages;
 mod tail;
 
-pub use built_in::{built_in_name, is_built_in};
 pub use class::{Attribute, ClassFile, CodeAttribute, Handler, Member, Raw};
 pub use descriptor::{DescriptorError, Kind, Shape, parse_field, parse_method};
 pub use pool::{Const, MemberRef, Pool, PoolError};
