@@ -27,7 +27,7 @@ use Rattle.jvm_machine.specs.Moves.{leave_passed, rest_by, Move, told_by, entere
 use Rattle.jvm_machine.specs.Probes.{event_of, events_by}
 use Rattle.jvm_machine.specs.Running.{IsRunning, finished, is_done, seen, shown_of, top_of}
 use Rattle.jvm_machine.specs.Turns.{IsGoingOn}
-use Rattle.jvm_machine.specs.View.{View, Place, state_of, shown, advanced, begun, events_now}
+use Rattle.jvm_machine.specs.View.{View, Place, made, state_of, shown, advanced, begun, events_now}
 use Rattle.jvm_machine.proofs.Steps.{IsStep, StandsBehind, start-step, step-is}
 
 -- ---- before the start
@@ -67,6 +67,14 @@ is_made t c main input s built originals empty =
     subst (λ (x : Installed). IsRunning (seen x s 0 false false 0) s) (sym originals)
     (subst (λ (x : State). IsRunning (seen (all_originals c main input) x 0 false false 0) x) (sym empty)
     (early-running (all_originals c main input) built (originals-agree c built)))
+
+-- and what is seen of it
+pub seen-made : (t : Installed) (c : ClassFile) (main number : ℕ) (input bytes : List ℕ) (s : State) → number ≡ main → bytes ≡ input
+    → t ≡ all_originals c number bytes → s ≡ before (world_in (all_originals c number bytes)) → seen t s 0 false false 0 ≡ made c main input
+seen-made t c main number input bytes s numbered given originals empty =
+    ap (λ (x : Installed). seen x s 0 false false 0) originals
+    ∙ (ap (λ (x : State). seen (all_originals c number bytes) x 0 false false 0) empty
+    ∙ (ap (λ n. made c n bytes) numbered ∙ ap (made c main) given))
 
 -- ---- installing versions
 
