@@ -281,6 +281,7 @@ bytes_among front text rest bytes parts fits = in_front text rest (λ k. behind 
     behind : (front others bytes : List ℕ) → bytes ≡ front ++ others → IsBytes bytes → IsBytes others
     behind [] others bytes parts fits k = subst (λ t. get_or t k 0 < 256) parts (fits k)
     behind (b ∷ front) others bytes parts fits k = behind front others (front ++ others) refl (λ j. subst (λ t. get_or t (suc j) 0 < 256) parts (fits (suc j))) k
+
     in_front : (text rest : List ℕ) → IsBytes (text ++ rest) → IsBytes text
     in_front [] rest fits k = omega arith
     in_front (b ∷ text) rest fits zero = fits 0

@@ -84,6 +84,7 @@ one_fault bytes e f p q =
   where
     err : CodeError → Read Instr
     err x = Err x
+
     same_err : err e ≡ err f → e ≡ f
     same_err h = cc
 

@@ -15,7 +15,7 @@ use Rattle.code_model.specs.Operands as format
 use Rattle.code_model.specs.Reading.{◌>>=◌, Read, number_at, signed_at, target_at, many_at, pair_at, high_at, table_at, count_at, columns_at, lookup_at, value_at, index_at, local_at, increment_at, branch_at, interface_at, multi_at, array_at, operand_at, behind_opcode_at, behind_wide_at, read_instruction}
 use Rattle.code_model.proofs.Items.{IsRead, same_read}
 use Rattle.code_model.proofs.Turns.{next, made_at, made_is_read, fails_is_read, in_turn_is_read, many_is_read}
-use Rattle.code_model.proofs.Tests.{kept, tested_at, tested_is_read, either_is_read}
+use Rattle.code_model.proofs.Conditions.{kept, tested_at, tested_is_read, either_is_read}
 use Rattle.code_model.proofs.NumberLaws.{number_is_read, run_is_read, signed_is_read, target_is_read}
 
 -- ---- switches
