@@ -62,7 +62,7 @@ fn encoded(alloc: Global, bytes: &[u8]) -> Result<Vec<u8>, Fail>
 
 /// main of a class that prints; the version of a method that adds one; iinc 0 by -1, iload_0, ifgt 0, iload_0, ireturn;
 /// iload_0, ifeq 8, iconst_1, goto 9, iconst_2, ireturn; iload_0, tableswitch 0 to 0 (20, else 22), iconst_1, ireturn,
-/// iconst_2, ireturn; wide iinc 256 by -2, lookupswitch (-1: 0, 5: 36, else 0), goto_w 0.
+/// iconst_2, ireturn; wide iinc 256 by -2, lookupswitch (-1: 0, 5: 32, else 0), goto_w 0, goto_w 37.
 const MAIN: [u8; 12] = [0xB2, 0, 10, 0x10, 41, 0xB8, 0, 14, 0xB6, 0, 20, 0xB1];
 
 const VERSION: [u8; 23] = [
@@ -78,10 +78,10 @@ const SWITCH: [u8; 24] = [
     0x1A, 0xAA, 0, 0, 0, 0, 0, 21, 0, 0, 0, 0, 0, 0, 0, 0, 0, 0, 0, 19, 0x04, 0xAC, 0x05, 0xAC,
 ];
 
-const WIDE_FORMS: [u8; 41] = [
+const WIDE_FORMS: [u8; 42] = [
     0xC4, 0x84, 1, 0, 0xFF, 0xFE, 0xAB, 0, 0xFF, 0xFF, 0xFF, 0xFA, 0, 0, 0, 2, 0xFF, 0xFF, 0xFF,
     0xFF, 0xFF, 0xFF, 0xFF, 0xFA, 0, 0, 0, 5, 0, 0, 0, 26, 0xC8, 0xFF, 0xFF, 0xFF, 0xE0, 0xC8, 0,
-    0, 0,
+    0, 0, 0,
 ];
 
 #[test]
@@ -92,6 +92,7 @@ fn gives_the_bytes_back(rt: HostRuntime) -> Result<(), Fail> {
         BACKWARD.as_slice(),
         TO_RETURN.as_slice(),
         SWITCH.as_slice(),
+        WIDE_FORMS.as_slice(),
     ];
     for bytes in codes {
         let again = encoded(rt.alloc(), bytes)?;
