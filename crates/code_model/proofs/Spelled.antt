@@ -8,16 +8,15 @@ use mir.Val.{bits, hbits}
 use Rattle.std.specs.Int.Signed.{◌≤ℤ◌, le_z_yes}
 use Rattle.std.proofs.lemmas.Int.{ints}
 use Rattle.std.proofs.lemmas.Bool.{ltb-true, ltb-false, leb-true}
-use Rattle.std.proofs.lemmas.List.{length-append, get_or_append_left, get_or-append-add}
+use Rattle.std.proofs.lemmas.List.{length-append}
 use Rattle.op_table.specs.declared.Form.{Form}
 use Rattle.op_table.specs.declared.Form.TheVariants as form
-use Rattle.op_table.specs.declared.OpRow.{OpRow}
-use Rattle.op_table.specs.Opcodes.{row_of, groups}
+use Rattle.op_table.specs.Opcodes.{row_of}
 use Rattle.code_model.specs.declared.instr.Arg.{Arg}
 use Rattle.code_model.specs.declared.instr.Arg.TheVariants.{Plain, Value, Pool, Local, Inc, Target, Table, Lookup, Interface, Multi, Array}
 use Rattle.code_model.specs.declared.instr.Instr.{Instr}
-use Rattle.code_model.specs.Formats.{Format, AreInTurn, number, run, made, in_turn, many, either}
-use Rattle.code_model.specs.Operands.{slot_width, padding_len, signed, target, reached, clamped, case_count, counted, keys_rise, key_of, target_of, pair, table, lookup, operand, form_of, instr_with, behind_opcode, behind_wide, is_wide, instruction}
+use Rattle.code_model.specs.Formats.{Format, AreInTurn, number, made, many, either}
+use Rattle.code_model.specs.Operands.{slot_width, signed, target, reached, clamped, case_count, counted, keys_rise, key_of, target_of, pair, table, lookup, operand, form_of, instr_with, behind_opcode, behind_wide, is_wide, instruction}
 use Rattle.code_model.specs.Layout.{distance, operand_width, operand_len, opcode_bytes, width_of, size_at}
 use Rattle.code_model.specs.Groups.{IsBytes, FitsNumber, FitsOperand, targets_of}
 use Rattle.code_model.proofs.Lengths.{size_at-is}
