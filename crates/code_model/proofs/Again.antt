@@ -1,26 +1,24 @@
 -- An instruction that was read is read again from its bytes, wherever they stand.
-use Rattle.std.proofs.Common.{◌≡◌, ℕ, zero, suc, ◌+◌, ◌-◌, ◌*◌, ◌^◌, ◌<◌, ◌≤◌, leb, cond, Bool, true, false, List, [], ◌∷◌, ◌++◌, length, map, get_or, take, drop, Option, Some, None, refl, sym, ap, subst, ◌∙◌, append_assoc, arith}
+use Rattle.std.proofs.Common.{◌≡◌, ℕ, zero, suc, ◌+◌, ◌*◌, ◌^◌, ◌<◌, ◌≤◌, leb, cond, Bool, true, false, List, [], ◌∷◌, ◌++◌, length, map, get_or, Option, Some, refl, sym, ap, subst, ◌∙◌, append_assoc, arith}
 use Rattle.std.specs.Prelude.{slice_get, ℤ, pos, negsuc, ◌+ℤ◌, ◌-ℤ◌, int_le, zip, FitsSigned}
 use Rattle.std.specs.Int.{Width, w8, w16, w32, byte_len, from_be_bytes, to_be_bytes, cast_signed, cast_unsigned}
 use Rattle.std.specs.List.{AllByRecursion, flat_map}
-use Rattle.std.specs.Int.Signed.{◌≤ℤ◌}
 use mir.Val.{bits, hbits}
 use Rattle.std.proofs.lemmas.Int.{ints, to_z-of_z}
 use Rattle.std.proofs.lemmas.Bool.{le-leb, lt-ltb}
 use Rattle.std.proofs.lemmas.List.{length-append, length-replicate, append-nil, get_or_at}
 use Rattle.std.proofs.lemmas.Nat.{from_be_bytes-to_be_bytes_2, from_be_bytes-to_be_bytes_4}
-use Rattle.std.proofs.lemmas.Option.{slice_get-get_or, none-some}
+use Rattle.std.proofs.lemmas.Option.{slice_get-get_or}
 use Rattle.op_table.specs.declared.Form.{Form}
 use Rattle.op_table.specs.declared.Form.TheVariants as form
-use Rattle.op_table.specs.declared.OpRow.{OpRow}
 use Rattle.op_table.specs.Opcodes.{row_of, groups}
 use Rattle.code_model.specs.declared.instr.Arg.{Arg}
 use Rattle.code_model.specs.declared.instr.Arg.TheVariants.{Plain, Value, Pool, Local, Inc, Target, Table, Lookup, Interface, Multi, Array}
 use Rattle.code_model.specs.declared.instr.Instr.{Instr}
-use Rattle.code_model.specs.Formats.{Format, AreInTurn, number, run, made, in_turn, many, tested, either}
+use Rattle.code_model.specs.Formats.{Format, AreInTurn, number, run, made, many, tested, either}
 use Rattle.code_model.specs.Operands.{slot_width, padding_len, signed, target, reached, clamped, case_count, counted, is_count, keys_rise, key_of, target_of, pair, table, lookup, operand, form_of, instr_with, behind_opcode, behind_wide, is_wide, instruction}
 use Rattle.code_model.specs.Layout.{number_bytes, signed_bytes, u4, s4, distance, padding, target_bytes, pair_bytes, operand_width, operand_bytes, opcode_bytes, width_of, instr_bytes, moved_arg, moved}
-use Rattle.code_model.specs.Instructions.{instruction_at, StandsAt}
+use Rattle.code_model.specs.Instructions.{instruction_at}
 use Rattle.code_model.specs.Groups.{FitsNumber, FitsOperand, CanBranch, EachReached}
 pub use Rattle.code_model.specs.Groups.{IsBytes}
 use Rattle.code_model.proofs.Lengths.{length-number_bytes, length-zip}
@@ -281,6 +279,7 @@ bytes_among front text rest bytes parts fits = in_front text rest (λ k. behind 
     behind : (front others bytes : List ℕ) → bytes ≡ front ++ others → IsBytes bytes → IsBytes others
     behind [] others bytes parts fits k = subst (λ t. get_or t k 0 < 256) parts (fits k)
     behind (b ∷ front) others bytes parts fits k = behind front others (front ++ others) refl (λ j. subst (λ t. get_or t (suc j) 0 < 256) parts (fits (suc j))) k
+
     in_front : (text rest : List ℕ) → IsBytes (text ++ rest) → IsBytes text
     in_front [] rest fits k = omega arith
     in_front (b ∷ text) rest fits zero = fits 0

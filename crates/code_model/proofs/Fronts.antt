@@ -1,12 +1,10 @@
 -- The instructions that a decoder has read so far.
-use Rattle.std.proofs.Common.{◌≡◌, ◌≢◌, ℕ, ◌+◌, ◌<◌, ◌≤◌, List, [], ◌∷◌, ◌++◌, length, drop, Some, None, Ok, Err, Result, refl, sym, subst, ap, ◌∙◌, append_assoc, arith}
-use Rattle.std.proofs.lemmas.List.{append-nil}
+use Rattle.std.proofs.Common.{◌≡◌, ◌≢◌, ℕ, ◌+◌, ◌<◌, ◌≤◌, List, [], ◌∷◌, ◌++◌, length, drop, Some, None, Ok, Err, Result, refl, sym, subst, ap, ◌∙◌, arith}
 use Rattle.std.proofs.lemmas.Option.{same_Some, none-some}
 use Rattle.code_model.specs.declared.error.CodeError.{CodeError}
 use Rattle.code_model.specs.declared.error.CodeError.TheVariants.{BadOpcode, Cut, BadSwitch, NoMemory}
 use Rattle.code_model.specs.declared.instr.Instr.{Instr}
 use Rattle.code_model.specs.declared.instr.Code.{Code}
-use Rattle.code_model.specs.Operands.{instruction}
 use Rattle.code_model.specs.Reading.{Read, read_instruction}
 use Rattle.code_model.specs.Instructions.{instruction_at, end_of, Reads, IsReading, ReadsTo, IsFirstFault, IsDecodedAs, IsRefusedAs}
 use Rattle.code_model.proofs.Readings.{instruction_at_within, instruction_at-read, instruction_at-fault, rest-instruction_at}
@@ -84,6 +82,7 @@ one_fault bytes e f p q =
   where
     err : CodeError → Read Instr
     err x = Err x
+
     same_err : err e ≡ err f → e ≡ f
     same_err h = cc
 

@@ -1,6 +1,6 @@
 pub mod Items
 pub mod Turns
-pub mod Tests
+pub mod Conditions
 pub mod NumberLaws
 pub mod OperandLaws
 pub mod Many
@@ -19,3 +19,4 @@ pub mod Steps
 pub mod Ready
 mod LaidRows
 mod ReadRows
+pub mod Starting

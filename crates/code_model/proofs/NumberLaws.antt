@@ -1,11 +1,11 @@
 -- Reading numbers of a width, and runs of bytes.
-use Rattle.std.proofs.Common.{◌≡◌, ℕ, ◌<◌, ◌≤◌, Bool, true, false, cond, ltb, List, ◌++◌, length, take, drop, Ok, Err, refl, sym, ap, subst, ◌∙◌, arith}
+use Rattle.std.proofs.Common.{◌≡◌, ℕ, ◌≤◌, Bool, true, false, cond, ltb, List, ◌++◌, length, take, drop, Ok, Err, refl, sym, ap, subst, ◌∙◌, arith}
 use Rattle.std.specs.Int.{Width, byte_len, from_be_bytes, cast_signed}
 use Rattle.std.proofs.lemmas.Bool.{ltb-true, ltb-false, lt-ltb, le-ltb}
 use Rattle.std.proofs.lemmas.List.{take_at, drop_at, take-append-drop, length-append, length-take}
 use Rattle.code_model.specs.declared.error.CodeError.{CodeError}
 use Rattle.code_model.specs.declared.error.CodeError.TheVariants.{Cut}
-use Rattle.code_model.specs.Formats.{Format, IsCut, number, run, in_turn, made}
+use Rattle.code_model.specs.Formats.{Format, IsCut, number, run}
 use Rattle.code_model.specs.Operands.{signed, target, reached}
 use Rattle.code_model.specs.Reading.{Read, number_at, run_at, signed_at, target_at}
 use Rattle.code_model.proofs.Items.{Takes, IsRead, one_read, read_parts, no_fault}

@@ -1,21 +1,20 @@
 -- Reading operands and instructions reads their formats.
-use Rattle.std.proofs.Common.{◌≡◌, ℕ, ◌||◌, ltb, Bool, true, false, cond, List, [], ◌++◌, map, Ok, Err, refl}
+use Rattle.std.proofs.Common.{◌≡◌, ℕ, Bool, true, false, cond, List, map, Ok, Err, refl}
 use Rattle.std.specs.Prelude.{ℤ, int_le}
 use Rattle.std.specs.Int.{w8, w16, w32}
 use Rattle.op_table.specs.declared.Form.{Form}
 use Rattle.op_table.specs.declared.Form.TheVariants as form
-use Rattle.op_table.specs.declared.OpRow.{OpRow}
 use Rattle.op_table.specs.Opcodes.{row_of}
 use Rattle.code_model.specs.declared.instr.Arg.{Arg}
 use Rattle.code_model.specs.declared.instr.Arg.TheVariants.{Plain, Value, Pool, Local, Inc, Target, Table, Lookup, Interface, Multi, Array}
 use Rattle.code_model.specs.declared.error.CodeError.TheVariants.{BadOpcode, BadSwitch}
-use Rattle.code_model.specs.Formats.{Format, number, in_turn, made, tested, many}
+use Rattle.code_model.specs.Formats.{number, in_turn, made, tested, many}
 use Rattle.code_model.specs.Operands.{slot_width, padding_len, case_count, is_count, keys_rise, key_of, target_of, pair, signed, operand, form_of, instr_with, behind_opcode, behind_wide, is_wide, instruction}
 use Rattle.code_model.specs.Operands as format
-use Rattle.code_model.specs.Reading.{◌>>=◌, Read, number_at, signed_at, target_at, many_at, pair_at, high_at, table_at, count_at, columns_at, lookup_at, value_at, index_at, local_at, increment_at, branch_at, interface_at, multi_at, array_at, operand_at, behind_opcode_at, behind_wide_at, read_instruction}
+use Rattle.code_model.specs.Reading.{◌>>=◌, Read, number_at, signed_at, many_at, pair_at, high_at, table_at, count_at, columns_at, lookup_at, value_at, index_at, local_at, increment_at, branch_at, interface_at, multi_at, array_at, operand_at, behind_opcode_at, behind_wide_at, read_instruction}
 use Rattle.code_model.proofs.Items.{IsRead, same_read}
 use Rattle.code_model.proofs.Turns.{next, made_at, made_is_read, fails_is_read, in_turn_is_read, many_is_read}
-use Rattle.code_model.proofs.Tests.{kept, tested_at, tested_is_read, either_is_read}
+use Rattle.code_model.proofs.Conditions.{kept, tested_at, tested_is_read, either_is_read}
 use Rattle.code_model.proofs.NumberLaws.{number_is_read, run_is_read, signed_is_read, target_is_read}
 
 -- ---- switches

@@ -1,10 +1,10 @@
 -- Reading, computed on worked instructions.
-use Rattle.std.specs.Prelude.{◌≡◌, ℕ, true, false, List, [], ◌∷◌, Some, None, Err, pos, negsuc, refl}
+use Rattle.std.specs.Prelude.{◌≡◌, ℕ, true, false, List, [], ◌∷◌, Some, Err, pos, negsuc, refl}
 use Rattle.op_table.specs.Opcodes.{row_of, groups, wide_row_of, wide_groups}
 use Rattle.code_model.specs.declared.error.CodeError.TheVariants.{BadOpcode, Cut, BadSwitch}
-use Rattle.code_model.specs.declared.instr.Arg.TheVariants.{Local, Inc, Target, Table, Lookup}
+use Rattle.code_model.specs.declared.instr.Arg.TheVariants.{Inc, Target, Table}
 use Rattle.code_model.specs.Instructions.{instruction_at}
-use Rattle.code_model.specs.Reading.{number_at, run_at, signed_at, target_at, many_at, pair_at, high_at, table_at, count_at, columns_at, lookup_at, local_at, increment_at, branch_at, operand_at, behind_opcode_at, behind_wide_at, read_instruction}
+use Rattle.code_model.specs.Reading.{number_at, run_at, signed_at, target_at, many_at, pair_at, high_at, table_at, count_at, columns_at, lookup_at, increment_at, branch_at, operand_at, behind_opcode_at, behind_wide_at, read_instruction}
 
 -- iload_0, and a tableswitch from 0 to 0: its padding has two bytes, which are ignored
 abbrev switch : List ℕ

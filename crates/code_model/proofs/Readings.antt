@@ -7,10 +7,9 @@ use Rattle.std.proofs.lemmas.Option.{same_Some, none-some}
 use Rattle.code_model.specs.declared.error.CodeError.{CodeError}
 use Rattle.code_model.specs.declared.instr.Instr.{Instr}
 use Rattle.code_model.specs.declared.instr.Code.{Code}
-use Rattle.code_model.specs.Operands.{instruction}
 use Rattle.code_model.specs.Reading.{Read, read_instruction}
 use Rattle.code_model.specs.Instructions.{found_in, instruction_at, StandsAt, end_of, Reads, IsReading}
-use Rattle.code_model.proofs.Items.{one_read, no_fault}
+use Rattle.code_model.proofs.Items.{one_read}
 use Rattle.code_model.proofs.OperandLaws.{instruction_is_read}
 use Rattle.code_model.proofs.Spelled.{IsInstr, instruction_spelled}
 use Rattle.code_model.specs.Layout.{size_at}

@@ -1,16 +1,13 @@
 -- What is known of the groups that can be laid out, and of the code that can be encoded.
-use Rattle.std.proofs.Common.{◌≡◌, ℕ, zero, suc, ◌+◌, ◌*◌, ◌<◌, ◌≤◌, Bool, true, false, List, [], ◌∷◌, ◌++◌, length, map, Option, Some, None, refl, sym, ap, subst, ◌∙◌, append_assoc, arith}
-use Rattle.std.specs.Prelude.{All, ℤ, pos, negsuc, ◌+ℤ◌, ◌-ℤ◌, FitsSigned}
-use Rattle.std.specs.Int.{Width, w16, w32, byte_len}
-use Rattle.std.specs.Int.Signed.{◌≤ℤ◌}
-use Rattle.std.specs.List.{AllByRecursion, flat_map}
+use Rattle.std.proofs.Common.{◌≡◌, ℕ, ◌+◌, ◌*◌, ◌<◌, ◌≤◌, Bool, true, List, [], ◌∷◌, ◌++◌, length, map, Option, Some, refl, sym, ap, subst, ◌∙◌, append_assoc, arith}
+use Rattle.std.specs.Prelude.{All, ℤ, pos, negsuc, ◌-ℤ◌, FitsSigned}
+use Rattle.std.specs.Int.{Width, w16, w32}
+use Rattle.std.specs.List.{AllByRecursion}
 use Rattle.std.proofs.lemmas.Int.{ints}
 use Rattle.std.proofs.lemmas.List.{length-append, append-nil}
-use Rattle.std.proofs.lemmas.List.Concat.{flat_map-cons}
 use Rattle.std.proofs.lemmas.List.Elements.{All-from_recursion}
 use Rattle.op_table.specs.declared.Form.{Form}
 use Rattle.op_table.specs.declared.Form.TheVariants as form
-use Rattle.op_table.specs.declared.OpRow.{OpRow}
 use Rattle.code_model.specs.declared.instr.Arg.{Arg}
 use Rattle.code_model.specs.declared.instr.Arg.TheVariants.{Plain, Value, Pool, Local, Inc, Target, Table, Lookup, Interface, Multi, Array}
 use Rattle.code_model.specs.declared.instr.Instr.{Instr}
@@ -19,9 +16,9 @@ use Rattle.code_model.specs.declared.laying.Group.{Group}
 use Rattle.code_model.specs.Operands.{form_of}
 use Rattle.code_model.specs.Instructions.{instruction_at, end_of, Reads, IsReading}
 use Rattle.code_model.specs.Layout.{distance, operand_width, width_of, instr_bytes, code_bytes, moved_arg, moved, place_of, group_end, end_from, is_near, fits_branch}
-use Rattle.code_model.specs.Groups.{IsBytes, FitsOperand, FitsInstr, FitsGroup, IsUnmovedAt, EndsWithin, CanBranch, EachReached, targets_of, instrs_of, IsShort, AreGroups, IsStartIn, IsEncodable}
-use Rattle.code_model.proofs.Lengths.{length-instr_bytes, size_at-some, size_at-near}
-use Rattle.code_model.proofs.Spelled.{HasShape, IsNearTo, EachTarget, IsInstr, instruction_spelled}
+use Rattle.code_model.specs.Groups.{IsBytes, FitsInstr, FitsGroup, IsUnmovedAt, EndsWithin, CanBranch, EachReached, targets_of, instrs_of, IsShort, AreGroups, IsStartIn, IsEncodable}
+use Rattle.code_model.proofs.Lengths.{size_at-some, size_at-near}
+use Rattle.code_model.proofs.Spelled.{HasShape, IsNearTo, EachTarget, instruction_spelled}
 use Rattle.code_model.proofs.Readings.{at-instruction_at, instruction_at_within, end_of-within, stands_from}
 use Rattle.code_model.proofs.Again.{bytes_among, instruction_again}
 

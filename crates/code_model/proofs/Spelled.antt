@@ -8,16 +8,15 @@ use mir.Val.{bits, hbits}
 use Rattle.std.specs.Int.Signed.{◌≤ℤ◌, le_z_yes}
 use Rattle.std.proofs.lemmas.Int.{ints}
 use Rattle.std.proofs.lemmas.Bool.{ltb-true, ltb-false, leb-true}
-use Rattle.std.proofs.lemmas.List.{length-append, get_or_append_left, get_or-append-add}
+use Rattle.std.proofs.lemmas.List.{length-append}
 use Rattle.op_table.specs.declared.Form.{Form}
 use Rattle.op_table.specs.declared.Form.TheVariants as form
-use Rattle.op_table.specs.declared.OpRow.{OpRow}
-use Rattle.op_table.specs.Opcodes.{row_of, groups}
+use Rattle.op_table.specs.Opcodes.{row_of}
 use Rattle.code_model.specs.declared.instr.Arg.{Arg}
 use Rattle.code_model.specs.declared.instr.Arg.TheVariants.{Plain, Value, Pool, Local, Inc, Target, Table, Lookup, Interface, Multi, Array}
 use Rattle.code_model.specs.declared.instr.Instr.{Instr}
-use Rattle.code_model.specs.Formats.{Format, AreInTurn, number, run, made, in_turn, many, either}
-use Rattle.code_model.specs.Operands.{slot_width, padding_len, signed, target, reached, clamped, case_count, counted, keys_rise, key_of, target_of, pair, table, lookup, operand, form_of, instr_with, behind_opcode, behind_wide, is_wide, instruction}
+use Rattle.code_model.specs.Formats.{Format, AreInTurn, number, made, many, either}
+use Rattle.code_model.specs.Operands.{slot_width, signed, target, reached, clamped, case_count, counted, keys_rise, key_of, target_of, pair, table, lookup, operand, form_of, instr_with, behind_opcode, behind_wide, is_wide, instruction}
 use Rattle.code_model.specs.Layout.{distance, operand_width, operand_len, opcode_bytes, width_of, size_at}
 use Rattle.code_model.specs.Groups.{IsBytes, FitsNumber, FitsOperand, targets_of}
 use Rattle.code_model.proofs.Lengths.{size_at-is}
@@ -197,6 +196,7 @@ unclamped at d below = by_sum (pos at +ℤ d) refl below
     by_kept : (n : ℕ) (b : Bool) → pos at +ℤ d ≡ pos n → cond b n 65535 < 65535 → pos (cond b n 65535) -ℤ pos at ≡ d
     by_kept n true e lt = omega (arith, ints)
     by_kept n false e lt = absurd (omega arith)
+
     by_sum : (z : ℤ) → pos at +ℤ d ≡ z → clamped z < 65535 → pos (clamped z) -ℤ pos at ≡ d
     by_sum (pos n) e lt = by_kept n (leb n 65535) e lt
     by_sum (negsuc n) e lt = absurd (omega arith)
@@ -233,8 +233,9 @@ inc_spelled wide at text arg h =
       shape = (slot, n, refl);
       long = omega (arith, turn_len h, turn_len h.second);
       fits = λ bytes. (
-          number_fits at w h.front slot (slot_wide wide) h.first (front_fits h bytes),
-          signed_number at w h.second.front n (slot_wide wide) h.second.first (front_fits h.second (rest_fits h bytes)));
+        number_fits at w h.front slot (slot_wide wide) h.first (front_fits h bytes),
+        signed_number at w h.second.front n (slot_wide wide) h.second.first (front_fits h.second (rest_fits h bytes)),
+      );
       targets = tt;
       near = λ bytes. tt;
     })
@@ -252,9 +253,10 @@ interface_spelled wide at text arg h =
       shape = (h.x, inner.x, last.x, refl);
       long = omega (arith, turn_len h, turn_len inner, turn_len last);
       fits = λ bytes. (
-          number_fits at w16 h.front h.x wide16 h.first (front_fits h bytes),
-          number_fits at w8 inner.front inner.x wide8 inner.first (front_fits inner (rest_fits h bytes)),
-          number_fits at w8 last.front last.x wide8 last.first (front_fits last (rest_fits inner (rest_fits h bytes))));
+        number_fits at w16 h.front h.x wide16 h.first (front_fits h bytes),
+        number_fits at w8 inner.front inner.x wide8 inner.first (front_fits inner (rest_fits h bytes)),
+        number_fits at w8 last.front last.x wide8 last.first (front_fits last (rest_fits inner (rest_fits h bytes))),
+      );
       targets = tt;
       near = λ bytes. tt;
     })
@@ -319,6 +321,7 @@ table_spelled wide at text arg h =
   where
     by_sum : {a b c e f p q r s u v k : ℕ} (n : ℕ) → a ≡ p + b → b ≡ q + c → c ≡ r + e → e ≡ s + f → f ≡ u + v → p ≡ k → q ≡ 4 → r ≡ 4 → s ≡ 4 → u ≡ 4 * n → v ≡ 0 → a ≡ k + 12 + 4 * n
     by_sum n e1 e2 e3 e4 e5 e6 e7 e8 e9 e10 e11 = omega arith
+
     many_le : (at n : ℕ) (u ts : List ℕ) → (many (target at w32) n).Spells u ts → EachLe ts
     many_le at zero u ts e = subst EachLe (sym e.0) tt
     many_le at (suc n) u ts e = subst EachLe (sym e.second.second.0) (target_le at w32 e.front e.x e.first, many_le at n e.second.front e.second.x e.second.first)
@@ -379,9 +382,10 @@ lookup_spelled wide at text arg h =
       shape = (d.x, keys, targets, refl, ps.first.1);
       long = by_sum (turn_len h) (turn_len d) (turn_len n) (turn_len ps) pad one two long none (ks ∙ count) (us ∙ count);
       fits = λ bytes. (
-          ks ∙ sym us,
-          omega arith,
-          keys_fit ps.x (many_each (pair at) (λ (x : ℤ × ℕ). FitsSigned w32 x.0) (pair_key at) n.x ps.front ps.x (front_fits ps (rest_fits n (rest_fits d (rest_fits h bytes)))) ps.first.0));
+        ks ∙ sym us,
+        omega arith,
+        keys_fit ps.x (many_each (pair at) (λ (x : ℤ × ℕ). FitsSigned w32 x.0) (pair_key at) n.x ps.front ps.x (front_fits ps (rest_fits n (rest_fits d (rest_fits h bytes)))) ps.first.0),
+      );
       targets = (target_le at w32 d.front d.x d.first, targets_le at n.x ps.front ps.x ps.first.0);
       near = λ bytes. tt;
     })
@@ -447,8 +451,8 @@ instruction_by : (at : ℕ) (b : Bool) (op : ℕ) (head text : List ℕ) (i : In
     → (either b (behind_wide at) (behind_opcode at false op)).Spells text i → IsInstr at (head ++ text) i
 instruction_by at true op head text i first h =
     let second = behind_spelled at true h.x (head ++ h.front) h.rest i
-      (length-append head h.front ∙ ap (λ n. n + length h.front) first.0 ∙ ap (λ n. 1 + n) h.first.0)
-      (λ bytes. byte_of at h.front h.x h.first (fits_rest head h.front (head ++ h.front) refl (fits_front (head ++ h.front) h.rest _ refl bytes))) h.second in
+    (length-append head h.front ∙ ap (λ n. n + length h.front) first.0 ∙ ap (λ n. 1 + n) h.first.0)
+    (λ bytes. byte_of at h.front h.x h.first (fits_rest head h.front (head ++ h.front) refl (fits_front (head ++ h.front) h.rest _ refl bytes))) h.second in
     let whole : (head ++ h.front) ++ h.rest ≡ head ++ text = append_assoc head h.front h.rest ∙ ap (λ t. head ++ t) (sym h.parts) in
     subst (λ t. IsInstr at t i) whole second
 instruction_by at false op head text i first h =

@@ -1,5 +1,5 @@
 -- What can be laid out or encoded: the instructions of a decoded code.
-use Rattle.std.specs.Prelude.{◌≡◌, ℕ, ◌+◌, ◌*◌, ◌^◌, ◌<◌, ◌≤◌, true, List, [], ◌∷◌, length, map, ℤ, pos, ◌+ℤ◌, ◌-ℤ◌, Option, Some, get_or, FitsSigned}
+use Rattle.std.specs.Prelude.{◌≡◌, ℕ, ◌*◌, ◌^◌, ◌<◌, ◌≤◌, true, List, [], ◌∷◌, length, map, pos, ◌+ℤ◌, ◌-ℤ◌, Some, get_or, FitsSigned}
 use Rattle.std.specs.Int.{Width, w8, w16, w32, byte_len}
 use Rattle.std.specs.List.{AllByRecursion}
 use Rattle.code_model.specs.declared.instr.Arg.{Arg}
@@ -7,7 +7,6 @@ use Rattle.code_model.specs.declared.instr.Arg.TheVariants.{Plain, Value, Pool, 
 use Rattle.code_model.specs.declared.instr.Instr.{Instr}
 use Rattle.code_model.specs.declared.instr.Code.{Code}
 use Rattle.code_model.specs.declared.laying.Group.{Group}
-use Rattle.code_model.specs.Operands.{keys_rise}
 use Rattle.code_model.specs.Layout.{distance, width_of, fits_branch}
 use Rattle.code_model.specs.Instructions.{instruction_at, end_of, IsReading}
 

@@ -124,3 +124,6 @@ pub fn lay_out(alloc: Global, front: &[u8], groups: &[Group], back: &[u8]) -> Re
     let code = code_of(alloc, front, groups, back, &homes, len as usize)?;
     Ok(Laid { code, homes })
 }
+
+#[cfg(test)]
+mod tests;

@@ -7,7 +7,9 @@ ghost use Rattle.code_model.specs.Reading.{Gives, value_at, index_at, local_at, 
 
 use crate::error::CodeError;
 use crate::instr::{Arg, Instr};
-use crate::numbers::{far_target_of, i8_of, i16_of, near_target_of, slot_of, step_of, u8_of, u16_of};
+use crate::numbers::{
+    far_target_of, i8_of, i16_of, near_target_of, slot_of, step_of, u8_of, u16_of,
+};
 use crate::switches::{lookup_of, table_of};
 use op_table::{Form, row, wide_row};
 use std::alloc::Global;
@@ -16,7 +18,11 @@ use std::alloc::Global;
 pub(crate) fn form_of(wide: bool, op: u8) -> Form
     ensures { result ≡ form_of wide op }
 {
-    if wide { wide_row(op).form } else { row(op).form }
+    if wide {
+        wide_row(op).form
+    } else {
+        row(op).form
+    }
 }
 
 /// A constant in one byte.
@@ -186,11 +192,7 @@ fn is_wide(form: Form) -> bool
 
 /// The instruction at the front of bytes that begin at this offset.
 #[tactic(auto, unfolding(crate::specs::Reading::read_instruction))]
-pub(crate) fn instr_of(
-    alloc: Global,
-    at: u16,
-    bytes: &[u8],
-) -> Result<(Instr, &[u8]), CodeError>
+pub(crate) fn instr_of(alloc: Global, at: u16, bytes: &[u8]) -> Result<(Instr, &[u8]), CodeError>
     ensures { Gives (λ x. (x.0, x.1.now)) result (read_instruction at bytes.now) }
 {
     let (op, rest) = u8_of(at, bytes)?;

@@ -36,7 +36,11 @@ impl NumberSize {
 fn slot_size(wide: bool) -> NumberSize
     ensures { width result ≡ slot_width wide }
 {
-    if wide { NumberSize::Two } else { NumberSize::One }
+    if wide {
+        NumberSize::Two
+    } else {
+        NumberSize::One
+    }
 }
 
 /// How many bytes the number of an operand has, by its form.

@@ -1,5 +1,5 @@
 use Rattle.std.proofs.Common.{◌++◌, ap, subst, sym, ◌∙◌, ◌≡◌, ◌≤◌, ◌+◌, drop, None}
-use Rattle.code_model.specs.Layout.{home_of, place_of, group_end, instr_bytes, groups_bytes, first_far_from, end_from}
+use Rattle.code_model.specs.Layout.{home_of, instr_bytes, groups_bytes, first_far_from, end_from}
 use Rattle.code_model.proofs.Steps.{put_group, near-next, short-next}
 use Rattle.code_model.proofs.spelling.put_groups.Goals as goal
 
@@ -13,8 +13,8 @@ loop-group-preserved c =
     let lt = c.loop-group-test.true in
     let total = c.args.out.now ++ groups_bytes home c.args.start gs in
     let whole = put_group home total c.loop-group.out c.extend_from_slice.new.self c.put_instr.new.out at i gs g lt c.group-item.is c.loop-group.invariant.whole
-      (c.in_ok-extend_from_slice.ensures ∙ ap (λ bytes. c.loop-group.out ++ bytes) c.as_slice.ensures)
-      (c.in_ok-put_instr.ensures ∙ ap (λ place. c.extend_from_slice.new.self ++ instr_bytes home place g.instr) c.place_of.ensures) in
+    (c.in_ok-extend_from_slice.ensures ∙ ap (λ bytes. c.loop-group.out ++ bytes) c.as_slice.ensures)
+    (c.in_ok-put_instr.ensures ∙ ap (λ place. c.extend_from_slice.new.self ++ instr_bytes home place g.instr) c.place_of.ensures) in
     let next = sym c.group_end-at.ensures in
     record {
       whole = subst (λ n. c.put_instr.new.out ++ groups_bytes home n (drop (i + 1) gs) ≡ total) next whole;
