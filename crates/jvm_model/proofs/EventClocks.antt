@@ -1,5 +1,5 @@
 -- Each event of a step has the step's number.
-use Rattle.std.proofs.Common.{◌≡◌, ℕ, zero, suc, List, [], ◌∷◌, ◌++◌, slice_get, Option, Some, None, refl, sym, ap, subst, ◌∙◌}
+use Rattle.std.proofs.Common.{◌≡◌, ℕ, zero, suc, List, [], ◌∷◌, ◌++◌, slice_get, Option, Some, None, refl, subst}
 use Rattle.std.specs.Option.{option_map_or}
 use Rattle.std.proofs.lemmas.Option.{same_Some, none-some}
 use Rattle.jvm_model.specs.declared.event.Event.{Event}
@@ -9,7 +9,7 @@ use Rattle.jvm_model.specs.declared.event.Mark.{Mark}
 use Rattle.jvm_model.specs.declared.event.Mark.TheVariants.{Off, Plain, Root}
 use Rattle.jvm_model.specs.Data.{Change, Loads, Began, Left, Unwound, World}
 use Rattle.jvm_model.specs.Activations.{Activation, Trace, changed, trace_before}
-use Rattle.jvm_model.specs.EventLists.{Marking, begin_events, end_events, current_activation, end_of, told, all_told, step_events}
+use Rattle.jvm_model.specs.EventLists.{Marking, begin_events, end_events, current_activation, told, all_told, step_events}
 use Rattle.jvm_model.specs.Run.{turn}
 
 abbrev HaveClock : ℕ → List Event → Type 0

@@ -25,7 +25,7 @@ use Rattle.jvm_model.specs.Data.{Operation, Within, Getstatic, Putstatic, Invoke
 use Rattle.jvm_model.specs.Descriptors.{same_text}
 use Rattle.jvm_model.specs.Images.{with_code_at, IsMarkedMember, IsMemberImage, next_number, AreMemberImages, IsRewritten}
 use Rattle.jvm_model.specs.Lines.{getstatic_of, invokevirtual_of, pool_operation, operation_with, operation_of}
-use Rattle.jvm_model.specs.Resolved.{own_method, resolved_in, resolved_of}
+use Rattle.jvm_model.specs.Resolved.{own_method, resolved_in}
 use Rattle.jvm_model.specs.Methods.{code_among, code_of, same_text_at, is_member, method_from, method_named}
 use Rattle.jvm_model.specs.SmallClass.{IsSmallMethod, IsSmallClass, is_plain_member, is_free_name, member_of}
 use Rattle.jvm_model.proofs.ImagePools.{named_text-more, named_class-more, named_field-more, named_method-more}

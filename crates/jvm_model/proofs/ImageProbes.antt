@@ -1,11 +1,11 @@
 -- Probes in the code of an image: where their bytes stand there is a probe, and where an original instruction stands there
 -- is none.
-use Rattle.std.proofs.Common.{◌≡◌, ℕ, ◌+◌, ◌<◌, ◌^◌, Bool, true, false, List, [], ◌∷◌, ◌++◌, length, slice_get, cond, Option, Some, None, refl, sym, ap, ◌∙◌, append_assoc, length-append, eqb-true, arith}
+use Rattle.std.proofs.Common.{◌≡◌, ℕ, ◌+◌, ◌<◌, ◌^◌, Bool, true, false, List, ◌∷◌, ◌++◌, length, cond, Option, Some, None, refl, sym, ap, ◌∙◌, append_assoc, length-append, eqb-true, arith}
 use Rattle.std.specs.Prelude.{codes, ◌==◌, ◌&&◌, not}
 use Rattle.std.specs.Option.{option_map, option_and_then}
 use Rattle.std.specs.Int.{w16, cast_signed, cast_unsigned}
 use Rattle.std.proofs.lemmas.Int.{of_z-to_z}
-use Rattle.std.proofs.lemmas.Option.{none-some, same_Some, option_and_then_some}
+use Rattle.std.proofs.lemmas.Option.{none-some, same_Some}
 use Rattle.const_pool.specs.declared.class.ClassFile.{ClassFile}
 use Rattle.std.proofs.lemmas.Slice.Eq.{bytes_eq-Decides}
 use Rattle.const_pool.specs.BuiltIn.{probe_class}
@@ -26,7 +26,7 @@ use Rattle.jvm_model.specs.Versions.{probe_bytes}
 use Rattle.jvm_model.specs.Descriptors.{same_text}
 use Rattle.jvm_model.specs.Data.{Operation, Invokestatic}
 use Rattle.jvm_model.specs.Lines.{pool_operation, operation_with, operation_of}
-use Rattle.jvm_model.specs.Resolved.{own_method, resolved_in, resolved_of}
+use Rattle.jvm_model.specs.Resolved.{own_method, resolved_in}
 use Rattle.jvm_model.specs.Rules.{is_reference}
 use Rattle.jvm_model.specs.Methods.{method_named}
 use Rattle.jvm_model.specs.SmallClass.{begins_with, is_free_name}

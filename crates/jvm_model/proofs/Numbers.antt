@@ -1,6 +1,5 @@
 -- In the program of one small class a method's number is its position.
-use Rattle.std.proofs.Common.{◌≡◌, ℕ, zero, suc, ◌+◌, Bool, true, false, List, [], ◌∷◌, ◌++◌, slice_get, cond, Option, Some, None, refl, sym, ap, ◌∙◌, zero-add, arith}
-use Rattle.std.specs.Prelude.{is_some}
+use Rattle.std.proofs.Common.{◌≡◌, ℕ, zero, suc, ◌+◌, List, [], ◌∷◌, ◌++◌, slice_get, cond, Option, Some, None, refl, sym, ap, ◌∙◌, zero-add, arith}
 use Rattle.std.specs.Option.{option_map, option_map_or, option_and_then}
 use Rattle.std.specs.List.{AllByRecursion}
 use Rattle.std.proofs.Math.Nat.{add-zero}
@@ -10,7 +9,7 @@ use Rattle.std.proofs.lemmas.Option.{none-some}
 use Rattle.const_pool.specs.declared.class.ClassFile.{ClassFile}
 use Rattle.const_pool.specs.declared.class.Member.{Member}
 use Rattle.const_pool.specs.declared.class.CodeAttribute.{CodeAttribute}
-use Rattle.jvm_model.specs.Data.{MethodPlace, World}
+use Rattle.jvm_model.specs.Data.{MethodPlace}
 use Rattle.jvm_model.specs.Methods.{code_of, method_code, method_params}
 use Rattle.jvm_model.specs.Programs.{coded_from, numbered_from, number_from, number_of_method, class_at, by_number, code_of_method, params_of_method, max_stack_of, max_locals_of, alone, world_of}
 use Rattle.jvm_model.specs.SmallClass.{IsSmallClass}

@@ -1,9 +1,9 @@
 -- The original code of a small class stays within itself: where a frame stands at the start of an instruction, it goes on
 -- at such starts alone.
-use Rattle.std.proofs.Common.{◌≡◌, ℕ, zero, suc, ◌+◌, ◌≤◌, ◌<◌, Bool, true, false, List, [], ◌∷◌, length, slice_get, cond, Option, Some, None, refl, sym, ap, subst, ◌∙◌, eqb-true, arith}
+use Rattle.std.proofs.Common.{◌≡◌, ℕ, zero, suc, ◌+◌, ◌≤◌, Bool, true, false, List, [], ◌∷◌, length, slice_get, cond, Option, Some, None, refl, sym, ap, subst, ◌∙◌, eqb-true, arith}
 use Rattle.std.specs.Prelude.{map, unwrap_or, ◌==◌, ◌||◌}
 use Rattle.std.specs.Option.{IfSome, option_map, option_map_or, option_and_then}
-use Rattle.std.specs.List.{list_any, AllByRecursion}
+use Rattle.std.specs.List.{AllByRecursion}
 use Rattle.std.proofs.lemmas.Bool.{eq-eqb}
 use Rattle.std.proofs.lemmas.Option.{same_Some, none-some}
 use Rattle.const_pool.specs.declared.class.ClassFile.{ClassFile}
@@ -11,22 +11,22 @@ use Rattle.const_pool.specs.declared.class.Member.{Member}
 use Rattle.const_pool.specs.declared.class.CodeAttribute.{CodeAttribute}
 use Rattle.const_pool.specs.declared.class.Attribute.{Attribute}
 use Rattle.const_pool.specs.declared.class.Attribute.TheVariants.{ConstantValue, Code, Other}
-use Rattle.const_pool.specs.Plain.{IsLoneCode, IsPlainCode}
+use Rattle.const_pool.specs.Plain.{IsLoneCode}
 use Rattle.code_model.specs.declared.instr.Arg.{Arg}
 use Rattle.code_model.specs.declared.instr.Arg.TheVariants as arg
 use Rattle.code_model.specs.declared.instr.Instr.{Instr}
-use Rattle.code_model.specs.Instructions.{instruction_at, end_of, Reads}
+use Rattle.code_model.specs.Instructions.{end_of, Reads}
 use Rattle.code_model.specs.Layout.{size_at}
 use Rattle.code_model.proofs.Lengths.{size_at-some}
 use Rattle.code_model.proofs.Readings.{at-instruction_at, instruction_at-past}
-use Rattle.jvm_model.specs.Data.{Operation, Instruction, Catcher, Text}
+use Rattle.jvm_model.specs.Data.{Operation, Instruction}
 use Rattle.jvm_model.specs.Methods.{code_among, code_of, method_code}
 use Rattle.jvm_model.specs.Lines.{operation_with, next_of, targets_of, ends, code_instruction, method_instruction}
 use Rattle.jvm_model.specs.Originals.{catcher_of, method_handlers, original}
-use Rattle.jvm_model.specs.Programs.{by_number, alone}
+use Rattle.jvm_model.specs.Programs.{alone}
 use Rattle.jvm_model.specs.Closed.{IsWithin, IsClosed}
 use Rattle.jvm_model.specs.Places.{read_from, method_reading, is_start_in, is_place}
-use Rattle.jvm_model.specs.Agreement.{IsStart, is_return_operation}
+use Rattle.jvm_model.specs.Agreement.{IsStart}
 use Rattle.jvm_model.specs.StandsFor.{IsBuilt}
 use Rattle.jvm_model.proofs.Numbers.{by_number-alone}
 use Rattle.jvm_model.proofs.Starts.{HasLine, HasLine-start, IsStart-first, HasCode-method_code, nth-each}

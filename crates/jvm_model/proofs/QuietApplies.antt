@@ -1,26 +1,22 @@
 -- What a small class's instructions ask for leaves a quiet state; and the tables of versions give the same as the rewritten
 -- text, where frames stand at homes of starts.
-use Rattle.std.proofs.Common.{◌≡◌, ℕ, zero, suc, ◌+◌, Bool, true, false, List, [], ◌∷◌, ◌++◌, map, slice_get, cond, Option, Some, None, refl, sym, ap, subst, ◌∙◌}
-use Rattle.std.specs.Prelude.{is_some, nat_le, drop, length}
-use Rattle.std.specs.Option.{option_map, option_map_or, option_and_then}
+use Rattle.std.proofs.Common.{◌≡◌, ℕ, Bool, true, false, List, [], ◌∷◌, slice_get, cond, Option, Some, None, refl, sym, ap, ◌∙◌}
+use Rattle.std.specs.Prelude.{is_some, nat_le, length}
+use Rattle.std.specs.Option.{option_map}
 use Rattle.std.proofs.lemmas.Option.{same_Some, none-some}
 use Rattle.heap_objects.specs.declared.Value.TheVariants.{Int, Ref}
 use Rattle.const_pool.specs.declared.class.ClassFile.{ClassFile}
-use Rattle.const_pool.specs.declared.class.CodeAttribute.{CodeAttribute}
 use Rattle.const_pool.specs.declared.descriptor.Kind.{Kind}
 use Rattle.const_pool.specs.declared.descriptor.Kind.TheVariants as kind
-use Rattle.code_model.specs.declared.laying.Homes.{Homes}
-use Rattle.jvm_model.specs.declared.event.Mark.{Mark}
-use Rattle.jvm_model.specs.declared.operation.Line.{Line}
 use Rattle.jvm_model.specs.declared.operation.Resolved.{Resolved}
 use Rattle.jvm_model.specs.declared.operation.Resolved.TheVariants as resolved
-use Rattle.jvm_model.specs.Data.{Datum, Value, IntOperator, Locals, Operands, Frame, Entry, Active, Initializing, Unverifiable, State, Change, Began, Left, Turn, Instruction, Text, Where, Next, Outcome, GoesOn, Invokes, Returns, Breaks, World}
-use Rattle.jvm_model.specs.Values.{as_value, datum_of, data_of, arguments, depth, with_value, loaded}
+use Rattle.jvm_model.specs.Data.{Datum, Value, IntOperator, Locals, Operands, Frame, Entry, Active, Initializing, Unverifiable, State, Began, Left, Turn, Instruction, Text, Next, Outcome, GoesOn, Invokes, Returns, Breaks, World}
+use Rattle.jvm_model.specs.Values.{as_value, datum_of, arguments, depth, with_value, loaded}
 use Rattle.jvm_model.specs.LocalRules.{pushes, calculates, returns_datum, returns}
 use Rattle.jvm_model.specs.Methods.{method_code, method_params}
 use Rattle.jvm_model.specs.Programs.{max_stack_of}
 use Rattle.jvm_model.specs.Rules.{is_print_stream, invokes, invokes_with}
-use Rattle.jvm_model.specs.Applies.{still, with_frame, breaks, lands, goes, new_frame, has_room, begins, invokes as invoked, resumes, gives_back, breaks_or_ends, applies}
+use Rattle.jvm_model.specs.Applies.{still, with_frame, breaks, lands, goes, new_frame, has_room, begins, resumes, gives_back, breaks_or_ends, applies}
 use Rattle.jvm_model.specs.Quiet.{IsCoded, AreCoded, IsQuiet}
 use Rattle.jvm_model.specs.Attempts.{asks_println, asks}
 

@@ -1,5 +1,5 @@
 -- What a small class's instruction changes: nothing, an activation begins, or the current one is left.
-use Rattle.std.proofs.Common.{◌≡◌, ℕ, zero, suc, ◌+◌, Bool, true, false, List, [], ◌∷◌, ◌++◌, slice_get, cond, Option, Some, None, refl, sym, ap, subst, ◌∙◌}
+use Rattle.std.proofs.Common.{◌≡◌, ℕ, Bool, true, false, List, [], ◌∷◌, slice_get, cond, Option, Some, None, refl, ◌∙◌}
 use Rattle.std.specs.Prelude.{is_some, is_none, length, drop, ◌&&◌}
 use Rattle.heap_objects.specs.declared.Value.TheVariants.{Int, Ref}
 use Rattle.const_pool.specs.declared.class.ClassFile.{ClassFile}
@@ -7,9 +7,9 @@ use Rattle.const_pool.specs.declared.descriptor.Kind.{Kind}
 use Rattle.const_pool.specs.declared.descriptor.Kind.TheVariants as kind
 use Rattle.jvm_model.specs.declared.operation.Resolved.{Resolved}
 use Rattle.jvm_model.specs.declared.operation.Resolved.TheVariants as resolved
-use Rattle.jvm_model.specs.Data.{Datum, Value, IntOperator, Locals, Operands, Frame, Entry, Active, Returned, State, Began, Left, Turn, Instruction, Text, Where, Next, Outcome, GoesOn, Invokes, Returns, Breaks, World}
+use Rattle.jvm_model.specs.Data.{Datum, Value, IntOperator, Locals, Operands, Frame, Entry, Active, Returned, State, Began, Left, Turn, Instruction, Text, Next, Outcome, GoesOn, Returns, Breaks, World}
 use Rattle.jvm_model.specs.Agreement.{is_return_operation}
-use Rattle.jvm_model.specs.Applies.{still, breaks, with_frame, new_frame, has_room, begins, gives_back, breaks_or_ends, applies}
+use Rattle.jvm_model.specs.Applies.{still, breaks, new_frame, has_room, begins, applies}
 use Rattle.jvm_model.specs.Attempts.{asks_println, asks, is_empty, closed_state, closed}
 use Rattle.jvm_model.specs.LocalRules.{pushes, calculates, returns_datum, returns}
 use Rattle.jvm_model.specs.Methods.{method_code, method_params}

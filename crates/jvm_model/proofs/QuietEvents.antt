@@ -1,16 +1,15 @@
 -- The events of a run of a small class depend on the marks of its own methods alone, where these are the same in every step.
-use Rattle.std.proofs.Common.{◌≡◌, ℕ, zero, suc, Bool, true, false, List, [], ◌∷◌, ◌++◌, cond, Option, Some, None, refl, sym, ap, ap₂, subst, ◌∙◌}
+use Rattle.std.proofs.Common.{◌≡◌, ℕ, zero, suc, Bool, true, false, List, [], ◌∷◌, ◌++◌, cond, refl, sym, ap, ap₂, subst, ◌∙◌}
 use Rattle.std.specs.Prelude.{is_some}
 use Rattle.const_pool.specs.declared.class.ClassFile.{ClassFile}
-use Rattle.jvm_model.specs.declared.event.Event.{Event}
 use Rattle.jvm_model.specs.declared.event.EventKind.{EventKind}
 use Rattle.jvm_model.specs.declared.event.EventKind.TheVariants as kind
 use Rattle.jvm_model.specs.declared.event.Mark.{Mark}
 use Rattle.jvm_model.specs.declared.event.Mark.TheVariants.{Off}
 use Rattle.jvm_model.specs.declared.operation.Resolved.{Resolved}
-use Rattle.jvm_model.specs.Data.{Entry, Active, Initializing, Change, Loads, Began, Left, Unwound, State, Turn, World}
-use Rattle.jvm_model.specs.Applies.{still, has_room}
-use Rattle.jvm_model.specs.Changes.{methods, without_first, after_change}
+use Rattle.jvm_model.specs.Data.{Entry, Active, Initializing, Change, Loads, Began, Left, Unwound, Turn, World}
+use Rattle.jvm_model.specs.Applies.{has_room}
+use Rattle.jvm_model.specs.Changes.{methods, without_first}
 use Rattle.jvm_model.specs.EventLists.{Marking, begin_events, end_events, step_events, events_of, events_of-zero, events_of-suc}
 use Rattle.jvm_model.specs.Methods.{method_code}
 use Rattle.jvm_model.specs.Moves.{argument_array}
@@ -24,7 +23,7 @@ use Rattle.jvm_model.proofs.QuietChanges.{Went, stays, starts, leaves}
 use Rattle.jvm_model.proofs.QuietRun.{run-quiet, run-placed, run-frame}
 use Rattle.jvm_model.proofs.QuietStart.{begun_in, unbegun_in, start-is, main-coded}
 use Rattle.jvm_model.proofs.QuietSteps.{step-of}
-use Rattle.jvm_model.proofs.TracesEvents.{IsAlways, ended_of, told_of, all_told_of, events-start}
+use Rattle.jvm_model.proofs.TracesEvents.{IsAlways, ended_of, all_told_of, events-start}
 use Rattle.jvm_model.proofs.TracesFrames.{events-step}
 
 -- the same marks in every step

@@ -1,15 +1,15 @@
 -- Every state of a run of a small class is quiet and placed, and has a frame unless the run has ended.
-use Rattle.std.proofs.Common.{◌≡◌, ℕ, zero, suc, Bool, true, false, List, [], ◌∷◌, Option, Some, None, refl, sym, ap, subst, ◌∙◌}
+use Rattle.std.proofs.Common.{◌≡◌, ℕ, zero, suc, false, List, [], ◌∷◌, Option, Some, None, refl, sym, ap, subst, ◌∙◌}
 use Rattle.std.specs.Prelude.{is_some}
 use Rattle.std.proofs.lemmas.Option.{none-some}
 use Rattle.const_pool.specs.declared.class.ClassFile.{ClassFile}
-use Rattle.jvm_model.specs.Data.{Frame, Entry, Active, Initializing, Ending, State, Turn, Text, World}
+use Rattle.jvm_model.specs.Data.{Frame, Entry, Active, Initializing, Ending, State, Turn, World}
 use Rattle.jvm_model.specs.Moved.{IsPlaced}
 use Rattle.jvm_model.specs.Moves.{main_or_end, moves, move}
 use Rattle.jvm_model.specs.Originals.{original}
 use Rattle.jvm_model.specs.Programs.{alone, world_of}
 use Rattle.jvm_model.specs.Quiet.{AreCoded, IsQuiet}
-use Rattle.jvm_model.specs.Run.{run, turn_in, turn_in-zero, turn_in-suc}
+use Rattle.jvm_model.specs.Run.{run, turn_in-zero, turn_in-suc}
 use Rattle.jvm_model.specs.StandsFor.{IsBuilt}
 use Rattle.jvm_model.proofs.Order.{run-stops}
 use Rattle.jvm_model.proofs.QuietStart.{start-quiet}

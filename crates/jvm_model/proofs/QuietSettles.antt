@@ -1,11 +1,11 @@
 -- The moves behind an instruction of a small class: there are none, but that the run returns where nothing is left.
-use Rattle.std.proofs.Common.{◌≡◌, ℕ, zero, suc, ◌+◌, ◌*◌, Bool, true, false, List, [], ◌∷◌, ◌++◌, cond, Option, Some, None, refl, sym, ap, subst, ◌∙◌, arith}
+use Rattle.std.proofs.Common.{◌≡◌, ℕ, zero, suc, ◌*◌, Bool, true, false, List, [], ◌∷◌, cond, Option, Some, None, refl, sym, ap, subst, ◌∙◌, arith}
 use Rattle.std.specs.Prelude.{is_none, ◌&&◌}
 use Rattle.std.specs.Option.{option_map_or}
 use Rattle.std.proofs.lemmas.List.{append-nil}
 use Rattle.const_pool.specs.declared.class.ClassFile.{ClassFile}
 use Rattle.jvm_model.specs.Data.{Entry, Active, Initializing, Ending, Returned, State, Change, Turn, Text, World}
-use Rattle.jvm_model.specs.Attempts.{is_empty, closed_state, closed}
+use Rattle.jvm_model.specs.Attempts.{is_empty, closed}
 use Rattle.jvm_model.specs.Moves.{main_or_end, moves, move, fresh, left, then_turn, settles, settled}
 use Rattle.jvm_model.specs.Applies.{still}
 use Rattle.jvm_model.specs.Quiet.{AreCoded, IsQuiet}

@@ -1,5 +1,5 @@
 -- The start of a small class: the class is loaded and made ready, and `main` begins, where its argument fits.
-use Rattle.std.proofs.Common.{◌≡◌, ℕ, zero, suc, ◌+◌, Bool, true, false, List, [], ◌∷◌, ◌++◌, slice_get, cond, Option, Some, None, refl, sym, ap, subst, ◌∙◌, arith}
+use Rattle.std.proofs.Common.{◌≡◌, ℕ, ◌+◌, Bool, true, false, List, [], ◌∷◌, slice_get, cond, Option, Some, None, refl, sym, ap, subst, ◌∙◌}
 use Rattle.std.specs.Prelude.{codes, not, is_some, nat_le, length, ◌&&◌, ◌||◌, ◌==◌}
 use Rattle.std.specs.Option.{option_map, option_map_or, option_and_then}
 use Rattle.std.specs.List.{list_any, AllByRecursion}
@@ -9,16 +9,15 @@ use Rattle.std.proofs.lemmas.Slice.Eq.{bytes_eq-Decides}
 use Rattle.const_pool.specs.declared.class.ClassFile.{ClassFile}
 use Rattle.const_pool.specs.declared.class.Member.{Member}
 use Rattle.const_pool.specs.declared.class.CodeAttribute.{CodeAttribute}
-use Rattle.const_pool.specs.declared.pool.Const.{Const}
 use Rattle.const_pool.specs.BuiltIn.{probe_class, built_in_names}
 use Rattle.const_pool.specs.References.{NameAndType, named_text, named_class}
-use Rattle.jvm_model.specs.Data.{Active, Initializing, Constants, Superclass, Initializer, Finish, Running, Ready, Unverifiable, MethodPlace, State, Change, Loads, Began, Turn, Text, World}
+use Rattle.jvm_model.specs.Data.{Active, Superclass, Initializer, Finish, Ready, Unverifiable, MethodPlace, State, Loads, Began, Turn, Text, World}
 use Rattle.jvm_model.specs.Applies.{still, new_frame, has_room}
 use Rattle.jvm_model.specs.Descriptors.{same_text}
-use Rattle.jvm_model.specs.Methods.{code_of, method_code, is_member, method_from, method_named, same_text_at}
-use Rattle.jvm_model.specs.Moves.{at_part, with_super, runs_initializer, argument_array, main_or_end, move, then_turn, settles, settled}
-use Rattle.jvm_model.specs.Programs.{name_of, has_name, class_named, super_name, super_of, numbered, place_of_method, number_of_method, initializer_name, initializer_of, max_locals_of, alone, world_of}
-use Rattle.jvm_model.specs.Quiet.{IsCoded, AreCoded, IsQuiet}
+use Rattle.jvm_model.specs.Methods.{method_code, is_member, method_from, same_text_at}
+use Rattle.jvm_model.specs.Moves.{at_part, with_super, runs_initializer, argument_array, move, settles, settled}
+use Rattle.jvm_model.specs.Programs.{has_name, class_named, super_of, number_of_method, initializer_name, initializer_of, max_locals_of, alone, world_of}
+use Rattle.jvm_model.specs.Quiet.{IsQuiet}
 use Rattle.jvm_model.specs.Run.{before, with_loaded, loaded_turn, main_class, starts_with, start}
 use Rattle.jvm_model.specs.SharedState.{with_phase}
 use Rattle.jvm_model.specs.SmallClass.{begins_with, is_free_name, is_plain_name, is_plain_member, member_of, IsSmallClass}

@@ -1,46 +1,35 @@
 -- A step of a small class: one attempt of its current instruction, resolved; and an attempt over the tables of versions is that
 -- step, with frames at their homes.
-use Rattle.std.proofs.Common.{◌≡◌, ℕ, zero, suc, ◌+◌, Bool, true, false, List, [], ◌∷◌, ◌++◌, map, slice_get, cond, Option, Some, None, refl, sym, ap, subst, ◌∙◌}
-use Rattle.std.specs.Prelude.{is_some, is_none, ◌&&◌, not}
-use Rattle.std.specs.Option.{option_map, option_map_or, option_and_then}
-use Rattle.std.proofs.lemmas.Option.{same_Some, none-some, option_and_then_some}
+use Rattle.std.proofs.Common.{◌≡◌, ℕ, Bool, true, false, List, [], ◌∷◌, ◌++◌, cond, Option, Some, None, refl, sym, ap, subst, ◌∙◌}
+use Rattle.std.specs.Prelude.{is_some, is_none, ◌&&◌}
+use Rattle.std.proofs.lemmas.Option.{none-some}
 use Rattle.const_pool.specs.declared.class.ClassFile.{ClassFile}
 use Rattle.const_pool.specs.declared.class.CodeAttribute.{CodeAttribute}
-use Rattle.const_pool.specs.declared.class.Member.{Member}
-use Rattle.code_model.specs.declared.laying.Homes.{Homes}
 use Rattle.code_model.specs.Instructions.{end_of}
-use Rattle.jvm_model.specs.declared.event.Mark.{Mark}
-use Rattle.jvm_model.specs.declared.event.Mark.TheVariants.{Off, Plain, Root}
-use Rattle.jvm_model.specs.declared.operation.Line.{Line}
 use Rattle.jvm_model.specs.declared.operation.Resolved.{Resolved}
 use Rattle.jvm_model.specs.declared.operation.Resolved.TheVariants as resolved
-use Rattle.jvm_model.specs.Data.{Frame, Entry, Active, Initializing, Ending, Returned, Ready, Shared, State, Turn, Instruction, Text, Next, Outcome, GoesOn, Invokes, Returns, Breaks, Initializes, Done, Operation, World}
-use Rattle.jvm_model.specs.Agreement as agreement
-use Rattle.jvm_model.specs.Agreement.{IsStart, entry_kind, first_place, is_entry, entry_probe_of, rewritten}
-use Rattle.jvm_model.specs.Images.{is_off}
-use Rattle.jvm_model.specs.Attempts.{asks, writes, does_line, attempts, is_empty, closed_state, closed, attempt_placed}
-use Rattle.jvm_model.specs.Installed.{Installed, world_in, line_in, placed, tabled}
+use Rattle.jvm_model.specs.Data.{Frame, Entry, Active, Initializing, Ending, Returned, State, Turn, Instruction, Text, Next, Outcome, GoesOn, Invokes, Returns, Breaks, World}
+use Rattle.jvm_model.specs.Agreement.{IsStart}
+use Rattle.jvm_model.specs.Attempts.{asks, writes, is_empty, closed_state, closed}
 use Rattle.jvm_model.specs.Lines.{next_of, targets_of}
-use Rattle.jvm_model.specs.Methods.{code_of, method_code}
-use Rattle.jvm_model.specs.Moved.{Moving, moved_instruction, moved_frame, moved_stack, moved, moved_turn, IsPlace, ArePlaces, IsPlaced}
+use Rattle.jvm_model.specs.Methods.{method_code}
+use Rattle.jvm_model.specs.Moved.{IsPlace, IsPlaced}
 use Rattle.jvm_model.specs.Originals.{original}
 use Rattle.jvm_model.specs.Programs.{alone, world_of}
-use Rattle.jvm_model.specs.Quiet.{IsCoded, AreCoded, IsQuiet}
+use Rattle.jvm_model.specs.Quiet.{IsCoded, IsQuiet}
 use Rattle.jvm_model.specs.Resolved.{resolved_in}
 use Rattle.jvm_model.specs.Rules.{does}
 use Rattle.jvm_model.specs.Run.{tries, starts, goes_again, steps_by, steps_at, step}
 use Rattle.jvm_model.specs.Applies.{applies}
-use Rattle.jvm_model.specs.Moves.{settled}
-use Rattle.jvm_model.specs.SharedState.{phase_of}
-use Rattle.jvm_model.specs.StandsFor.{IsBuilt, ProbeCall, by_homes, home_at, line_at, mark_at, probe_at}
+use Rattle.jvm_model.specs.StandsFor.{IsBuilt}
 use Rattle.jvm_model.proofs.OriginalPlaces.{place-start, at-original}
-use Rattle.jvm_model.proofs.QuietApplies.{IsSimple, CodedCallee, simple-asks, IsOneVersion, applies-quiet, places_of, SaysTheSame, applies-same}
+use Rattle.jvm_model.proofs.QuietApplies.{IsSimple, CodedCallee, simple-asks, IsOneVersion, applies-quiet}
 use Rattle.jvm_model.proofs.QuietChanges.{Went, attempt-went}
 use Rattle.jvm_model.proofs.QuietSettles.{settled-quiet}
 use Rattle.jvm_model.proofs.Resolving.{HasCallee, done_by, does-resolved}
-use Rattle.jvm_model.proofs.RewrittenAgrees.{norm_in, place-norm, original-agrees, line-home, rewritten-agrees}
+use Rattle.jvm_model.proofs.RewrittenAgrees.{norm_in, place-norm}
 use Rattle.jvm_model.proofs.Starts.{HasLine, HasLine-start, HasCode-method_code}
-use Rattle.jvm_model.proofs.StepMoves.{placed-places, step-moves}
+use Rattle.jvm_model.proofs.StepMoves.{placed-places}
 
 -- ---- what stands at a frame's place
 

@@ -1,27 +1,25 @@
 -- What an operation asks for and writes is what its resolved form does, where the class is ready.
-use Rattle.std.proofs.Common.{◌≡◌, ℕ, zero, suc, Bool, true, false, List, [], ◌∷◌, slice_get, cond, Option, Some, None, refl, sym, ap, ap₂, subst, ◌∙◌}
+use Rattle.std.proofs.Common.{◌≡◌, ℕ, Bool, true, false, List, [], ◌∷◌, slice_get, cond, Option, Some, None, refl, sym, ap, subst, ◌∙◌}
 use Rattle.std.specs.Option.{option_map, option_map_or, option_and_then}
 use Rattle.std.proofs.lemmas.Option.{same_Some, none-some, option_and_then_some}
 use Rattle.heap_objects.specs.declared.datum.Datum.TheVariants as datum
-use Rattle.heap_objects.specs.declared.Value.TheVariants.{Int, Long, Ref, Addr}
+use Rattle.heap_objects.specs.declared.Value.TheVariants.{Int, Ref}
 use Rattle.const_pool.specs.declared.class.ClassFile.{ClassFile}
 use Rattle.const_pool.specs.declared.class.Member.{Member}
-use Rattle.const_pool.specs.declared.pool.Const.{Const}
-use Rattle.const_pool.specs.declared.descriptor.Kind.{Kind}
 use Rattle.const_pool.specs.declared.descriptor.Kind.TheVariants as kind
-use Rattle.const_pool.specs.References.{NameAndType, Reference, named_class}
+use Rattle.const_pool.specs.References.{Reference, named_class}
 use Rattle.jvm_model.specs.declared.operation.Resolved.{Resolved}
 use Rattle.jvm_model.specs.declared.operation.Resolved.TheVariants as resolved
-use Rattle.jvm_model.specs.Data.{Locals, Operands, Nop, Constant, Load, Binary, Return, Operation, Within, Getstatic, Putstatic, Invokestatic, Invokevirtual, Athrow, Local, Phase, Ready, Shared, Next, Outcome, GoesOn, Breaks, Done, World}
+use Rattle.jvm_model.specs.Data.{Locals, Operands, Nop, Constant, Load, Binary, Return, Operation, Within, Getstatic, Putstatic, Invokestatic, Invokevirtual, Athrow, Local, Ready, Shared, Next, GoesOn, Breaks, Done, World}
 use Rattle.jvm_model.specs.Descriptors.{same_text}
-use Rattle.jvm_model.specs.Methods.{is_member, method_from, method_named, method_params}
+use Rattle.jvm_model.specs.Methods.{method_named}
 use Rattle.jvm_model.specs.LocalRules.{within}
 use Rattle.jvm_model.specs.Programs.{has_name, class_named, class_of_reference, method_of_reference, declared_method, number_of_method, params_of_method, alone, world_of}
 use Rattle.jvm_model.specs.SharedState.{phase_of, field_of_reference}
-use Rattle.jvm_model.specs.Rules.{done, when_ready, initialized, is_out, is_println, is_print_stream, line_text, missing_field, gets_field, invokes_with, invokes_static, prints, does}
+use Rattle.jvm_model.specs.Rules.{done, when_ready, is_out, is_println, is_print_stream, line_text, missing_field, gets_field, invokes_with, invokes_static, prints, does}
 use Rattle.jvm_model.specs.Resolved.{own_method, resolved_local, resolved_in}
 use Rattle.jvm_model.specs.SmallClass.{IsSmallClass}
-use Rattle.jvm_model.specs.Attempts.{asks_println, asks, printed, writes}
+use Rattle.jvm_model.specs.Attempts.{asks, writes}
 use Rattle.jvm_model.proofs.Numbers.{params-alone, number-alone}
 
 abbrev pub done_by : ClassFile → Resolved → Shared → Locals → Operands → Done

@@ -1,17 +1,15 @@
 -- The rewritten class, as a text, is the original code by homes.
-use Rattle.std.proofs.Common.{◌≡◌, ℕ, zero, suc, ◌+◌, Bool, true, false, List, [], ◌∷◌, cond, Option, Some, None, refl, sym, ap, subst, ◌∙◌}
-use Rattle.std.specs.Prelude.{map, ◌&&◌}
+use Rattle.std.proofs.Common.{◌≡◌, ℕ, ◌+◌, Bool, true, false, List, cond, Option, Some, None, refl, sym, ap, subst, ◌∙◌}
 use Rattle.std.specs.Option.{option_map, option_and_then}
-use Rattle.std.proofs.lemmas.Option.{same_Some}
 use Rattle.const_pool.specs.declared.class.ClassFile.{ClassFile}
 use Rattle.const_pool.specs.declared.class.CodeAttribute.{CodeAttribute}
 use Rattle.code_model.specs.declared.laying.Homes.{Homes}
 use Rattle.jvm_model.specs.declared.event.Mark.{Mark}
 use Rattle.jvm_model.specs.declared.operation.Line.{Line}
-use Rattle.jvm_model.specs.Data.{Instruction, Text}
+use Rattle.jvm_model.specs.Data.{Text}
 use Rattle.jvm_model.specs.Agreement as agreement
 use Rattle.jvm_model.specs.Agreement.{IsStart, is_left_by, place_at, leave_probe_of, is_leave, behind_leave, line_behind, rewritten}
-use Rattle.jvm_model.specs.Lines.{code_instruction, next_of, method_instruction}
+use Rattle.jvm_model.specs.Lines.{code_instruction, next_of}
 use Rattle.code_model.specs.Instructions.{end_of}
 use Rattle.jvm_model.specs.Methods.{method_code}
 use Rattle.jvm_model.specs.Originals.{original}
@@ -22,7 +20,7 @@ use Rattle.jvm_model.specs.Moved.{moved_instruction, IsPlace, HaveBounds, Agrees
 use Rattle.jvm_model.specs.StandsFor.{IsBuilt, by_homes, home_at, line_at, probe_at, version_line}
 use Rattle.jvm_model.proofs.ClosedCode.{closed-agrees}
 use Rattle.jvm_model.proofs.OriginalPlaces.{place-start, at-original, handlers-original, original-closed}
-use Rattle.jvm_model.proofs.Starts.{HasLine, HasLine-start}
+use Rattle.jvm_model.proofs.Starts.{HasLine-start}
 
 -- the places of the class, and any other number as 0
 abbrev pub norm_in : ClassFile → ℕ → ℕ → ℕ

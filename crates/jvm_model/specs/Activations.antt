@@ -1,6 +1,6 @@
 -- The activations of a run (JVM Specification 2.6): which method was invoked by which activation, in which step it began,
 -- and in which it ended. The changes of each step are folded, one after another.
-use Rattle.std.specs.Prelude.{◌≡◌, ℕ, zero, suc, ◌+◌, List, [], ◌∷◌, ◌++◌, length, fold, Option, Some, None, refl, slice_get, slice_set}
+use Rattle.std.specs.Prelude.{◌≡◌, ℕ, zero, suc, List, [], ◌∷◌, ◌++◌, length, Option, Some, None, refl, slice_get, slice_set}
 use Rattle.std.specs.Option.{option_map_or}
 use Rattle.jvm_model.specs.Data.{Change, Loads, Began, Left, Unwound, Text, World}
 use Rattle.jvm_model.specs.Run.{turn_in}

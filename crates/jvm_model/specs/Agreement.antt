@@ -1,5 +1,5 @@
 -- What ties a rewritten class to the original, place by place; and the rewritten class as a text.
-use Rattle.std.specs.Prelude.{◌≡◌, ℕ, ◌+◌, Bool, true, false, not, List, [], ◌∷◌, map, Option, Some, None, slice_get, unwrap_or, ◌&&◌, if◌then◌else◌}
+use Rattle.std.specs.Prelude.{◌≡◌, ℕ, ◌+◌, Bool, true, false, not, List, map, Option, Some, None, slice_get, ◌&&◌, if◌then◌else◌}
 use Rattle.std.specs.Option.{option_and_then, option_map, option_map_or}
 use Rattle.const_pool.specs.declared.class.ClassFile.{ClassFile}
 use Rattle.const_pool.specs.declared.class.CodeAttribute.{CodeAttribute}
@@ -20,7 +20,7 @@ use Rattle.jvm_model.specs.Methods.{method_code}
 use Rattle.jvm_model.specs.Moved.{moved_instruction, moved_catcher}
 use Rattle.jvm_model.specs.Originals.{original}
 use Rattle.jvm_model.specs.Programs.{alone}
-use Rattle.jvm_model.specs.StandsFor.{ProbeCall, homes_at, home_at, line_at, probe_at, version_line, mark_at}
+use Rattle.jvm_model.specs.StandsFor.{ProbeCall, home_at, line_at, probe_at, version_line, mark_at}
 
 -- ---- where frames stand
 

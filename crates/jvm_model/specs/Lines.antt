@@ -10,7 +10,7 @@ use Rattle.code_model.specs.declared.instr.Instr.{Instr}
 use Rattle.code_model.specs.declared.instr.Arg.{Arg}
 use Rattle.code_model.specs.declared.instr.Arg.TheVariants as arg
 use Rattle.code_model.specs.Instructions.{instruction_at, end_of}
-use Rattle.jvm_model.specs.Data.{Iadd, Isub, Imul, Local, Nop, Constant, Load, Binary, Goto, Switch, Ret, Return, Operation, Within, Getstatic, Putstatic, Invokestatic, Invokevirtual, Athrow, Instruction}
+use Rattle.jvm_model.specs.Data.{Iadd, Isub, Imul, Local, Nop, Constant, Load, Binary, Goto, Switch, Ret, Return, Operation, Within, Getstatic, Invokestatic, Invokevirtual, Athrow, Instruction}
 use Rattle.jvm_model.specs.Methods.{method_code}
 use Rattle.jvm_model.specs.Rules.{is_out, is_println}
 

@@ -1,6 +1,5 @@
 -- What an instruction asks for that sees nothing but the locals and operands of its frame (JVM Specification 2.11, 6.5).
 use Rattle.std.specs.Prelude.{ℕ, suc, Bool, true, false, not, List, [], ◌∷◌, Option, Some, None, slice_get, slice_set, ◌==◌, if◌then◌else◌, ℤ, pos, int_lt}
-use Rattle.std.specs.Option.{option_map_or}
 use Rattle.std.specs.Ordering.{int_eq}
 use Rattle.std.specs.Int.{w32, int_wrapping_add, int_wrapping_sub, int_wrapping_mul}
 use Rattle.heap_objects.specs.declared.Value.TheVariants.{Int, Ref, Addr}

@@ -1,5 +1,5 @@
 -- Original code as a text: places are offsets, and the version of a method is the method (JVM Specification 4.7.3).
-use Rattle.std.specs.Prelude.{ℕ, List, [], map, Option, Some, None, unwrap_or, ◌==◌, if◌then◌else◌}
+use Rattle.std.specs.Prelude.{ℕ, List, [], map, Option, None, unwrap_or, ◌==◌, if◌then◌else◌}
 use Rattle.std.specs.Option.{option_map}
 use Rattle.const_pool.specs.declared.class.ClassFile.{ClassFile}
 use Rattle.const_pool.specs.declared.class.Handler.{Handler}

@@ -1,5 +1,5 @@
 -- The places of a class's original code: the offsets at which instructions start (JVM Specification 4.7.3).
-use Rattle.std.specs.Prelude.{ℕ, zero, suc, Bool, List, [], ◌∷◌, length, Option, Some, None, ◌==◌, ◌||◌}
+use Rattle.std.specs.Prelude.{ℕ, zero, suc, Bool, List, [], ◌∷◌, length, ◌==◌, ◌||◌}
 use Rattle.std.specs.Option.{option_map_or}
 use Rattle.std.specs.List.{list_any}
 use Rattle.const_pool.specs.declared.class.ClassFile.{ClassFile}

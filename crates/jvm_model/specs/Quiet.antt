@@ -1,6 +1,6 @@
 -- The states of a run of a small class: nothing is thrown, `main` has begun unless the run has ended, the class is ready, and
 -- all that stands on the stack are frames of methods that have code.
-use Rattle.std.specs.Prelude.{◌≡◌, ℕ, Bool, true, List, [], ◌∷◌, Option, Some, None, is_some}
+use Rattle.std.specs.Prelude.{◌≡◌, ℕ, true, List, [], ◌∷◌, Some, None, is_some}
 use Rattle.const_pool.specs.declared.class.ClassFile.{ClassFile}
 use Rattle.jvm_model.specs.Data.{Entry, Active, Initializing, Ready, State}
 use Rattle.jvm_model.specs.Methods.{method_code}

@@ -1,8 +1,8 @@
 -- What each instruction asks for (JVM Specification 2.6, 2.11, 5.4.3, 5.5, 6.5). A rule sees what is shared and its frame's
 -- locals and operands, and no place: neither its own, nor the following one, nor a target. So it says the same of a frame
 -- that stands elsewhere, as in a rewritten code.
-use Rattle.std.specs.Prelude.{ℕ, Bool, true, false, List, [], ◌∷◌, ◌++◌, length, drop, Option, Some, None, is_some, ℤ, ◌==◌, ◌||◌, ◌&&◌, codes, if◌then◌else◌}
-use Rattle.std.specs.Option.{option_map, option_map_or, option_and_then}
+use Rattle.std.specs.Prelude.{ℕ, Bool, false, List, [], ◌∷◌, ◌++◌, length, drop, Option, Some, None, is_some, ℤ, ◌==◌, ◌||◌, ◌&&◌, codes, if◌then◌else◌}
+use Rattle.std.specs.Option.{option_map}
 use Rattle.std.specs.Fmt.{signed_decimal}
 use Rattle.heap_objects.specs.declared.datum.Datum.TheVariants as datum
 use Rattle.heap_objects.specs.declared.Value.TheVariants.{Int, Ref}

@@ -1,8 +1,8 @@
 -- The run of a program as a function of the number of steps: a step is one attempt of an instruction, and all moves behind it.
-use Rattle.std.specs.Prelude.{◌≡◌, ℕ, zero, suc, ◌+◌, Bool, true, false, List, [], ◌∷◌, ◌++◌, Option, Some, None, refl, unwrap_or, slice_get, ◌&&◌, if◌then◌else◌}
-use Rattle.std.specs.Option.{option_map, option_map_or}
+use Rattle.std.specs.Prelude.{◌≡◌, ℕ, zero, suc, ◌+◌, Bool, true, false, List, [], ◌∷◌, ◌++◌, Option, Some, None, refl, ◌&&◌, if◌then◌else◌}
+use Rattle.std.specs.Option.{option_map_or}
 use Rattle.std.proofs.Common.{ap, ◌∙◌, add-one}
-use Rattle.jvm_model.specs.Data.{Frame, Entry, Active, Initializing, Constants, MethodPlace, Phase, Running, Ready, Shared, Ending, State, Change, Loads, Turn, Outcome, Initializes, Done, Instruction, Program, Text, World}
+use Rattle.jvm_model.specs.Data.{Frame, Entry, Active, Initializing, Constants, MethodPlace, Phase, Running, Ready, Ending, State, Change, Loads, Turn, Outcome, Initializes, Done, Instruction, Program, Text, World}
 use Rattle.jvm_model.specs.Programs.{place_of_method}
 use Rattle.jvm_model.specs.SharedState.{phase_of, with_phase, shared_before}
 use Rattle.jvm_model.specs.Rules.{does, loads}

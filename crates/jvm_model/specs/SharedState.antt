@@ -1,13 +1,12 @@
 -- What all activations share: phases and static fields of classes, objects (JVM Specification 2.5.3, 5.5), and the exceptions
 -- that the machine makes (2.10).
-use Rattle.std.specs.Prelude.{ℕ, zero, suc, ◌+◌, ◌-◌, List, [], ◌∷◌, ◌++◌, length, map, Option, Some, None, unwrap_or, position, pos, slice_get, slice_set, nat_le, codes, ◌==◌, ◌||◌, if◌then◌else◌}
+use Rattle.std.specs.Prelude.{ℕ, ◌+◌, ◌-◌, List, [], ◌∷◌, ◌++◌, length, map, Option, unwrap_or, position, pos, slice_get, slice_set, nat_le, codes, ◌==◌, ◌||◌, if◌then◌else◌}
 use Rattle.std.specs.Option.{option_and_then, option_map, option_map_or}
 use Rattle.heap_objects.specs.declared.datum.Datum.TheVariants as datum
 use Rattle.const_pool.specs.declared.class.ClassFile.{ClassFile}
 use Rattle.const_pool.specs.declared.class.Member.{Member}
-use Rattle.const_pool.specs.declared.pool.Const.{Const}
 use Rattle.const_pool.specs.References.{NameAndType, Reference, named_text}
-use Rattle.jvm_model.specs.Data.{Datum, Entry, Active, Initializing, Phase, Fresh, Object, Instance, Array, Chars, Program, Shared, World}
+use Rattle.jvm_model.specs.Data.{Datum, Phase, Fresh, Object, Instance, Array, Chars, Program, Shared, World}
 use Rattle.jvm_model.specs.Methods.{is_member}
 use Rattle.jvm_model.specs.Programs.{class_at, class_named, class_of_reference}
 
