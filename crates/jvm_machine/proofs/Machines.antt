@@ -1,6 +1,6 @@
 -- The machine stands for the run: when it is made, when versions are installed, and when it goes on.
-use Rattle.std.proofs.Common.{◌≡◌, ℕ, zero, suc, ◌+◌, ◌-◌, Bool, true, false, cond, List, [], ◌∷◌, length, Option, Some, None, refl, sym, ap, subst, ◌∙◌, eqb-true}
-use Rattle.std.specs.Prelude.{map, slice_get, is_none, ◌==◌, ◌||◌, ◌&&◌}
+use Rattle.std.proofs.Common.{◌≡◌, ℕ, ◌+◌, ◌-◌, Bool, true, false, cond, List, [], ◌∷◌, length, Option, Some, None, refl, sym, ap, subst, ◌∙◌, eqb-true}
+use Rattle.std.specs.Prelude.{map, slice_get, is_none, ◌==◌, ◌||◌}
 use Rattle.std.proofs.lemmas.List.{length-map}
 use Rattle.std.specs.Result.{OnOk, OnErr}
 use Rattle.std.specs.declared.result.Result.{Result}
@@ -23,12 +23,12 @@ use Rattle.jvm_model.specs.StandsFor.{IsBuilt, by_homes}
 use Rattle.jvm_model.proofs.ImageAgrees.{Agrees-image}
 use Rattle.jvm_machine.specs.declared.probes.Probe.{Probe}
 use Rattle.jvm_machine.specs.Advances.{Advances}
-use Rattle.jvm_machine.specs.Moves.{leave_passed, rest_by, Move, told_by, entered, stepped, begun_move, rest_of, moved_on, clock_in}
-use Rattle.jvm_machine.specs.Probes.{event_of, events_by}
+use Rattle.jvm_machine.specs.Moves.{leave_passed, rest_by, Move, entered, stepped, begun_move, rest_of, moved_on, clock_in}
+use Rattle.jvm_machine.specs.Probes.{event_of}
 use Rattle.jvm_machine.specs.Running.{IsRunning, finished, is_done, seen, shown_of, top_of}
 use Rattle.jvm_machine.specs.Turns.{IsGoingOn}
-use Rattle.jvm_machine.specs.View.{View, Place, made, state_of, shown, advanced, begun, events_now}
-use Rattle.jvm_machine.proofs.Steps.{IsStep, StandsBehind, start-step, step-is}
+use Rattle.jvm_machine.specs.View.{View, made, state_of, shown, advanced, begun, events_now}
+use Rattle.jvm_machine.proofs.Steps.{IsStep, start-step, step-is}
 
 -- ---- before the start
 

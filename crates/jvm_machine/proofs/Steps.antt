@@ -1,21 +1,17 @@
 -- One step over places, from a state of the run with its frames at their homes: it leads to the next state of the run, and
 -- the probe that it passes tells the events of the step.
-use Rattle.std.proofs.Common.{◌≡◌, ℕ, zero, suc, ◌+◌, ◌-◌, Bool, true, false, cond, List, [], ◌∷◌, ◌++◌, length, Option, Some, None, refl, sym, ap, subst, ◌∙◌, arith}
-use Rattle.std.specs.Prelude.{map, is_some, is_none, not, ◌&&◌, ◌||◌, ◌==◌, nat_le}
+use Rattle.std.proofs.Common.{◌≡◌, ℕ, suc, ◌+◌, ◌-◌, Bool, true, false, cond, List, [], ◌∷◌, length, Option, Some, None, refl, sym, ap, subst, ◌∙◌, arith}
+use Rattle.std.specs.Prelude.{is_some, is_none, not, ◌&&◌, nat_le}
 use Rattle.std.specs.Option.{option_map}
 use Rattle.std.proofs.lemmas.Bool.{le-leb}
 use Rattle.std.proofs.lemmas.List.{append-nil, length-map}
-use Rattle.std.proofs.lemmas.Option.{none-some}
 use Rattle.const_pool.specs.declared.class.ClassFile.{ClassFile}
 use Rattle.const_pool.specs.declared.class.CodeAttribute.{CodeAttribute}
-use Rattle.jvm_model.specs.declared.event.Event.{Event}
 use Rattle.jvm_model.specs.declared.event.EventKind.TheVariants as kind
 use Rattle.jvm_model.specs.declared.event.Mark.{Mark}
 use Rattle.jvm_model.specs.declared.event.Mark.TheVariants.{Off, Plain, Root}
-use Rattle.jvm_model.specs.declared.operation.Line.{Line}
-use Rattle.jvm_model.specs.declared.operation.Resolved.{Resolved}
 use Rattle.jvm_model.specs.declared.state.Entry.{Entry}
-use Rattle.jvm_model.specs.declared.state.Entry.TheVariants.{Active, Initializing}
+use Rattle.jvm_model.specs.declared.state.Entry.TheVariants.{Active}
 use Rattle.jvm_model.specs.declared.state.Frame.{Frame}
 use Rattle.jvm_model.specs.declared.state.State.{State}
 use Rattle.jvm_model.specs.Data.{Change, Loads, Began, Left, Turn, World}
@@ -44,7 +40,7 @@ use Rattle.jvm_model.proofs.QuietSteps.{IsStepOf, step-of}
 use Rattle.jvm_model.proofs.TracesEvents.{IsAlways, all_told_of, events-start}
 use Rattle.jvm_model.proofs.TracesFrames.{events-step_more}
 use Rattle.jvm_machine.specs.declared.probes.Probe.{Probe}
-use Rattle.jvm_machine.specs.Moves.{entry_here, leave_here, leave_behind, leave_passed, Move, told_by, entered_by, entered, stack_at, state_at, stepped_by, stepped, rest_by, rest_of}
+use Rattle.jvm_machine.specs.Moves.{entry_here, leave_here, leave_behind, leave_passed, Move, told_by, entered_by, entered, stack_at, state_at, stepped_by, stepped, rest_by}
 use Rattle.jvm_machine.specs.Probes.{placed_probe, placed_probe_at, probe_of_kind, events_by}
 use Rattle.jvm_machine.specs.Running.{top_of, is_done, finished, shown_of}
 use Rattle.jvm_machine.specs.View.{Place}

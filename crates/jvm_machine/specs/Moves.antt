@@ -1,10 +1,9 @@
 -- How the parts of a machine move in one call of `step`.
-use Rattle.std.specs.Prelude.{ℕ, ◌+◌, ◌-◌, Bool, true, false, List, [], ◌∷◌, Option, Some, None, nat_le, ◌==◌, if◌then◌else◌}
+use Rattle.std.specs.Prelude.{ℕ, ◌+◌, ◌-◌, Bool, true, false, List, ◌∷◌, Option, Some, None, nat_le, ◌==◌, if◌then◌else◌}
 use Rattle.const_pool.specs.declared.class.ClassFile.{ClassFile}
-use Rattle.jvm_model.specs.declared.state.Frame.{Frame}
 use Rattle.jvm_model.specs.declared.state.Entry.{Entry}
 use Rattle.jvm_model.specs.declared.state.State.{State}
-use Rattle.jvm_model.specs.declared.state.Entry.TheVariants.{Active, Initializing}
+use Rattle.jvm_model.specs.declared.state.Entry.TheVariants.{Active}
 use Rattle.jvm_model.specs.Data.{Turn}
 use Rattle.jvm_model.specs.Agreement.{is_entry_kind, is_leave_kind}
 use Rattle.jvm_machine.specs.declared.probes.Probe.{Probe}

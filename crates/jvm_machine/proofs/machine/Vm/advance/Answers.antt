@@ -1,6 +1,4 @@
-use Rattle.std.proofs.Common.{◌≡◌, false, ap, ◌∙◌}
-use Rattle.jvm_machine.specs.View.{View}
-use Rattle.jvm_machine.proofs.Machines.{is_advanced, early-state}
+use Rattle.jvm_machine.proofs.Machines.{is_advanced}
 use Rattle.jvm_machine.proofs.machine.Vm.advance.Goals as goal
 
 pub invariant_of-self-2 : goal.invariant_of-self-2
