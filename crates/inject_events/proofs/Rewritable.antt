@@ -43,8 +43,7 @@ all_straight : (c : ClassFile) (k most : ℕ) (shape : Shape) (is : List Instr) 
 all_straight c k most shape [] small = tt
 all_straight c k most shape (i ∷ is) small =
     let both = and_parts (is_small_instr c k most shape i) (list_all (is_small_instr c k most shape) is) small in
-    let does = some-passed (fits_method k most shape) (resolved_of c i) both.0 in
-    (
+    let does = some-passed (fits_method k most shape) (resolved_of c i) both.0 in (
       option_and_then_some (resolved_in c) (operation_of c i) does.0 does.1 (λ o found resolved. (StaysAlike-operation c i o found).straight),
       all_straight c k most shape is both.1,
     )
