@@ -1,19 +1,15 @@
 //! One class file, from its bytes to its class and back.
 
-ghost use Rattle.std.specs.Prelude.{◌≡◌, ◌≢◌, ◌⊎◌, ◌≤◌, length, Err, IfOk, IfErr, IfSome, OnOk};
-ghost use Rattle.std.specs.Io.KnownBytes.{append_known};
-ghost use Rattle.jf_bytes.specs.Streams.{Rose, contents_at};
+ghost use Rattle.std.specs.Prelude.{◌≡◌, ◌≢◌, ◌⊎◌, Err, IfOk, IfErr, OnOk};
+ghost use Rattle.jf_bytes.specs.Streams.{Rose, PutsAll, PutsFront, IsFetched};
 ghost use Rattle.class_reader.specs.declared.error.ReadError.{ReadError as Fault};
-ghost use Rattle.class_reader.specs.Files.{IsFirstFault};
-ghost use Rattle.class_copy.specs.Copies.{IsFetched, IsTold, IsToldFault};
+ghost use Rattle.class_reader.specs.Files.{IsFirstFault, most_bytes};
+ghost use Rattle.class_copy.specs.Copies.{IsSomeFile, IsFileTold, PutsFile, IsAnswer};
 
-use class_reader::{ReadError, read_class};
+use class_reader::{MOST_BYTES, ReadError, read_class};
 use class_writer::write_class;
 use jf_bytes::{FetchError, Files, Sink};
 use std::alloc::Global;
-
-/// The greatest length of a class file.
-const MOST: usize = 4_194_304;
 
 /// Why a file is not copied.
 #[derive(Clone, Copy, Debug, PartialEq, Eq)]
@@ -28,9 +24,9 @@ pub enum CopyError {
 /// The bytes of a class file as the writer makes them from what the reader made of them: the same bytes.
 fn copied(alloc: Global, bytes: &[u8]) -> Result<Vec<u8>, CopyError>
     ensures same { IfOk result (λ copy. copy.items ≡ bytes.now) }
-    ensures short { IfOk result (λ copy. length bytes.now ≤ MOST) }
-    ensures not_read { (fault : Fault) → result ≡ Err (CopyError.NotRead fault) → IsFirstFault bytes.now fault }
-    ensures first_fault { (fault : Fault) → IsFirstFault bytes.now fault → (result ≡ Err (CopyError.NotRead fault)) ⊎ (result ≡ Err CopyError.NoMemory) }
+    ensures file { IfOk result (λ _. IsSomeFile bytes.now) }
+    ensures not_read { (fault : Fault) → result ≡ Err (CopyError.NotRead fault)
+        → IsFirstFault bytes.now fault }
     ensures not_fetched { result ≢ Err CopyError.NotFetched }
     ensures not_put { result ≢ Err CopyError.NotPut }
 {
@@ -47,11 +43,15 @@ fn copied(alloc: Global, bytes: &[u8]) -> Result<Vec<u8>, CopyError>
 
 /// Fetches a class file, or of a longer one enough to see that it is too long.
 fn fetch<F: Files>(alloc: Global, name: &str, files: &mut F) -> Result<Vec<u8>, CopyError>
-    ensures found { IfOk result (λ bytes. IsFetched (F.contents files.old) name.now bytes.items) }
-    ensures not_fetched { result ≡ Err CopyError.NotFetched → Rose (F.faults files.old) (F.faults files.new) }
+    ensures found { IfOk result (λ bytes.
+        IsFetched (F.contents files.old) name.now most_bytes bytes.items) }
+    ensures not_fetched { result ≡ Err CopyError.NotFetched
+        → Rose (F.faults files.old) (F.faults files.new) }
+    ensures fetched { result ≢ Err CopyError.NotFetched
+        → F.faults files.new ≡ F.faults files.old }
     ensures errors { IfErr result (λ e. (e ≡ CopyError.NotFetched) ⊎ (e ≡ CopyError.NoMemory)) }
 {
-    match files.fetch(alloc, name, MOST) {
+    match files.fetch(alloc, name, MOST_BYTES) {
         Ok(bytes) => Ok(bytes),
         Err(FetchError::Failed) => Err(CopyError::NotFetched),
         Err(FetchError::NoMemory) => Err(CopyError::NoMemory),
@@ -60,9 +60,13 @@ fn fetch<F: Files>(alloc: Global, name: &str, files: &mut F) -> Result<Vec<u8>, 
 
 /// A copy of the class file with this name.
 fn copy_of<F: Files>(alloc: Global, name: &str, files: &mut F) -> Result<Vec<u8>, CopyError>
-    ensures same { IfOk result (λ copy. IsTold (F.contents files.old) name.now copy.items) }
-    ensures not_fetched { result ≡ Err CopyError.NotFetched → Rose (F.faults files.old) (F.faults files.new) }
-    ensures not_read { (fault : Fault) → result ≡ Err (CopyError.NotRead fault) → IsToldFault (F.contents files.old) name.now fault }
+    ensures copied { IfOk result (λ copy.
+        IsFileTold (F.contents files.old) name.now copy.items) }
+    ensures answer { IsAnswer (F.contents files.old) name.now result }
+    ensures not_fetched { result ≡ Err CopyError.NotFetched
+        → Rose (F.faults files.old) (F.faults files.new) }
+    ensures fetched { result ≢ Err CopyError.NotFetched
+        → F.faults files.new ≡ F.faults files.old }
     ensures not_put { result ≢ Err CopyError.NotPut }
 {
     let bytes = match fetch(alloc, name, files) {
@@ -75,18 +79,29 @@ fn copy_of<F: Files>(alloc: Global, name: &str, files: &mut F) -> Result<Vec<u8>
     }
 }
 
-/// Puts a copy of the class file with this name to `out`.
+/// Puts a copy of the class file with this name to `out`. Nothing is put of any other file, nor where a call before the put fails.
 pub fn copy_file<F: Files, O: Sink>(
     alloc: Global,
     name: &str,
     files: &mut F,
     out: &mut O,
 ) -> Result<(), CopyError>
-    // Where the files tell what they hold, it is the contents of that file that were put.
-    ensures copied { OnOk result (IfSome (F.contents files.old) (λ told. IfSome (contents_at told name.now) (λ bytes. O.taken out.new ≡ append_known (O.taken out.old) bytes))) }
-    ensures not_fetched { result ≡ Err CopyError.NotFetched → Rose (F.faults files.old) (F.faults files.new) }
-    ensures not_read { (fault : Fault) → result ≡ Err (CopyError.NotRead fault) → IsToldFault (F.contents files.old) name.now fault }
-    ensures not_put { result ≡ Err CopyError.NotPut → Rose (O.faults out.old) (O.faults out.new) }
+    ensures answer { IsAnswer (F.contents files.old) name.now result }
+    ensures not_fetched { result ≡ Err CopyError.NotFetched
+        → Rose (F.faults files.old) (F.faults files.new) }
+    ensures fetched { result ≢ Err CopyError.NotFetched
+        → F.faults files.new ≡ F.faults files.old }
+    ensures not_put { result ≡ Err CopyError.NotPut
+        → Rose (O.faults out.old) (O.faults out.new) }
+    ensures put { result ≢ Err CopyError.NotPut → O.faults out.new ≡ O.faults out.old }
+
+    // What was put: all of the class file, a front of it, or nothing.
+    ensures copied { OnOk result
+        (PutsFile PutsAll (F.contents files.old) name.now (O.taken out.old) (O.taken out.new)) }
+    ensures in_part { result ≡ Err CopyError.NotPut
+        → PutsFile PutsFront (F.contents files.old) name.now (O.taken out.old) (O.taken out.new) }
+    ensures nothing { IfErr result (λ e.
+        e ≢ CopyError.NotPut → O.taken out.new ≡ O.taken out.old) }
 {
     let copy = match copy_of(alloc, name, files) {
         Ok(copy) => copy,

@@ -1,6 +1,7 @@
 -- Reading a class file from left to right: the item at the front of the bytes and the bytes after it, or the first fault.
 -- Only functions of this crate cite it; what the readers owe their callers is in Files.
-use Rattle.std.specs.Prelude.{◌≡◌, ◌≢◌, ℕ, zero, suc, ◌-◌, Bool, not, ◌&&◌, ◌||◌, List, [], ◌∷◌, ◌++◌, length, take, drop, Option, Some, None, Result, Ok, Err, nat_lt, nat_le, ◌==◌, if◌then◌else◌}
+use Rattle.std.specs.Prelude.{◌≡◌, ◌≢◌, ℕ, zero, suc, ◌+◌, ◌-◌, Bool, not, ◌&&◌, ◌||◌, List, [], ◌∷◌, ◌++◌, length, take, drop, Option, Some, None, Result, Ok, Err, nat_lt, nat_le, ◌==◌, if◌then◌else◌}
+use Rattle.std.specs.Borrow.{Bor}
 use Rattle.std.specs.Int.{Width, w8, w16, w32, w64, byte_len, from_be_bytes, cast_signed}
 use Rattle.const_pool.specs.declared.pool.Const.{Const}
 use Rattle.const_pool.specs.declared.pool.Const.TheVariants.{Gap, Utf8, Integer, Float, Long, Double, Class, Text, Field, Method, InterfaceMethod, NameType}
@@ -19,6 +20,7 @@ use Rattle.class_reader.specs.declared.error.ReadError.{ReadError}
 use Rattle.class_reader.specs.declared.error.ReadError.TheVariants.{TooLong, Truncated, BadMagic, BadVersion, BadTag, BadUtf8, BadIndex, BadRef, BadLength, Trailing, NoMemory}
 use Rattle.class_reader.specs.Decoding.{decoded}
 use Rattle.class_reader.specs.Formats.{place}
+use Rattle.class_reader.specs.Files.{most_bytes}
 use Rattle.class_reader.specs.ClassFormat.{tag_of, names, names_text, lowest_bad, Body, class_with}
 
 infixl 10 ◌>>=◌
@@ -34,6 +36,10 @@ Read A = Result (A × List ℕ) ReadError
 abbrev pub Gives : {X Y : Type 0} → (X → Y) → Result X ReadError → Result Y ReadError → Type 0
 Gives view (Ok x) read = read ≡ Ok (view x)
 Gives view (Err e) read = e ≢ NoMemory → read ≡ Err e
+
+-- an item with the bytes after it, which the code holds by a reference
+abbrev pub with_rest : {A : Type 0} → A × Bor (List ℕ) → A × List ℕ
+with_rest x = (x.0, x.1.now)
 
 -- ---- numbers, runs of bytes, and items one after the other
 
@@ -148,6 +154,10 @@ with_front front read = read >>= λ x. Ok (front ++ x.0, x.1)
 abbrev pub gapped : Const → Bool → List Const
 gapped c has_room = if is_wide c && has_room then c ∷ Gap ∷ [] else c ∷ []
 
+-- the entries with one more, where the pool has so many indices
+abbrev pub with_entry : List Const → Const → ℕ → List Const
+with_entry entries c count = entries ++ gapped c (nat_lt (length entries + 1) count)
+
 -- the entries of so many indices
 unfoldable pub entries_at : ℕ → ℕ → List ℕ → Read (List Const)
 entries_at zero limit bytes = Ok ([], bytes)
@@ -158,10 +168,18 @@ entries_at (suc (suc n)) limit bytes = do
   c ← entry_at limit bytes
   if is_wide c.0 then (entries_at n limit c.1 >>= λ cs. Ok (c.0 ∷ Gap ∷ cs.0, cs.1)) else (entries_at (suc n) limit c.1 >>= λ cs. Ok (c.0 ∷ cs.0, cs.1))
 
+-- a gap, and the entries from index 1 to the count, exclusive
+abbrev pub entries_below : ℕ → ℕ → List ℕ → Read (List Const)
+entries_below count limit bytes = with_front (Gap ∷ []) (entries_at (count - 1) limit bytes)
+
+-- a constant_pool_count, which is not 0
+abbrev pub pool_count_at : ℕ → List ℕ → Read ℕ
+pool_count_at = tested_at w16 (λ n. not (n == 0)) (λ at n. BadIndex 0)
+
 -- the count, a gap and the entries
 unfoldable pub all_entries_at : ℕ → List ℕ → Read (List Const)
 all_entries_at limit bytes = do
-  count ← tested_at w16 (λ n. not (n == 0)) (λ at n. BadIndex 0) limit bytes
+  count ← pool_count_at limit bytes
   cs ← entries_at (count.0 - 1) limit count.1
   Ok (Gap ∷ cs.0, cs.1)
 
@@ -205,10 +223,14 @@ handler_at pool limit bytes = do
   catch ← optional_ref_at is_class pool limit target.1
   Ok (record { start = start.0; «end» = stop.0; handler = target.0; catch_class = catch.0 }, catch.1)
 
+-- a code_length, which is 1 to 65535
+abbrev pub code_length_at : ℕ → List ℕ → Read ℕ
+code_length_at = tested_at w32 (λ n. nat_lt 0 n && nat_lt n 65536) (λ at n. BadLength at)
+
 -- a code_length and so many bytes
 unfoldable pub code_bytes_at : ℕ → List ℕ → Read (List ℕ)
 code_bytes_at limit bytes = do
-  len ← tested_at w32 (λ n. nat_lt 0 n && nat_lt n 65536) (λ at n. BadLength at) limit bytes
+  len ← code_length_at limit bytes
   run_at len.0 limit len.1
 
 unfoldable pub code_at : List Const → ℕ → List ℕ → Read CodeAttribute
@@ -220,9 +242,13 @@ code_at pool limit bytes = do
   raws ← counted_at (raw_at pool) limit handlers.1
   Ok (record { max_stack = stack.0; max_locals = locals.0; code = code.0; handlers = handlers.0; attributes = raws.0 }, raws.1)
 
+-- the index in a ConstantValue, which is all of its contents
+abbrev pub constant_index_at : List Const → ℕ → List ℕ → Read ℕ
+constant_index_at pool = enclosed_at (ref_at is_constant pool)
+
 unfoldable pub constant_value_at : List Const → ℕ → ℕ → List ℕ → Read Attribute
 constant_value_at pool name limit bytes = do
-  index ← enclosed_at (ref_at is_constant pool) limit bytes
+  index ← constant_index_at pool limit bytes
   Ok (ConstantValue name index.0, index.1)
 
 unfoldable pub code_attribute_at : List Const → ℕ → ℕ → List ℕ → Read Attribute
@@ -292,4 +318,4 @@ unfoldable pub image_of : List ℕ → Result ClassFile ReadError
 image_of bytes = all_of (length bytes) (class_at (length bytes) bytes)
 
 unfoldable pub file_of : List ℕ → Result ClassFile ReadError
-file_of bytes = if nat_lt 4194304 (length bytes) then Err TooLong else image_of bytes
+file_of bytes = if nat_lt most_bytes (length bytes) then Err TooLong else image_of bytes

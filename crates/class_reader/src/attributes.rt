@@ -1,8 +1,7 @@
 //! Attributes (JVM Specification 4.7).
 
 ghost use Rattle.std.specs.Prelude.{◌≡◌};
-ghost use Rattle.const_pool.specs.Pool.{is_constant};
-ghost use Rattle.class_reader.specs.Reading.{Gives, fault_within as within, enclosed_at, ref_at, raw_contents_at, raw_at, other_at, constant_value_at, code_at, code_attribute_at};
+ghost use Rattle.class_reader.specs.Reading.{Gives, with_rest, fault_within as within, enclosed_at, constant_index_at, raw_contents_at, raw_at, other_at, constant_value_at, code_at, code_attribute_at};
 
 use crate::code::code_of;
 use crate::error::ReadError;
@@ -21,7 +20,7 @@ fn raw_contents_of(
     limit: usize,
     bytes: &[u8],
 ) -> Result<(Raw, &[u8]), ReadError>
-    ensures { Gives (λ x. (x.0, x.1.now)) result (raw_contents_at name limit bytes.now) }
+    ensures { Gives with_rest result (raw_contents_at name limit bytes.now) }
 {
     let (contents, rest) = sized_of(limit, bytes)?;
     let raw = Raw {
@@ -62,7 +61,7 @@ fn other_of(
     limit: usize,
     bytes: &[u8],
 ) -> Result<(Attribute, &[u8]), ReadError>
-    ensures { Gives (λ x. (x.0, x.1.now)) result (other_at name limit bytes.now) }
+    ensures { Gives with_rest result (other_at name limit bytes.now) }
 {
     let (raw, rest) = raw_contents_of(alloc, name, limit, bytes)?;
     Ok((Attribute::Other(raw), rest))
@@ -85,7 +84,7 @@ fn whole_index_of<'a>(
     limit: usize,
     bytes: &'a [u8],
 ) -> Result<(u16, &'a [u8]), ReadError>
-    ensures { Gives (λ x. (x.0, x.1.now)) result (enclosed_at (ref_at is_constant pool.now) limit bytes.now) }
+    ensures { Gives with_rest result (constant_index_at pool.now limit bytes.now) }
 {
     let at = place_of(limit, bytes);
     let (contents, rest) = sized_of(limit, bytes)?;
@@ -104,7 +103,7 @@ fn whole_code_of<'a>(
     limit: usize,
     bytes: &'a [u8],
 ) -> Result<(CodeAttribute, &'a [u8]), ReadError>
-    ensures { Gives (λ x. (x.0, x.1.now)) result (enclosed_at (code_at pool.now) limit bytes.now) }
+    ensures { Gives with_rest result (enclosed_at (code_at pool.now) limit bytes.now) }
 {
     let at = place_of(limit, bytes);
     let (contents, rest) = sized_of(limit, bytes)?;
@@ -124,7 +123,7 @@ fn constant_value_of<'a>(
     limit: usize,
     bytes: &'a [u8],
 ) -> Result<(Attribute, &'a [u8]), ReadError>
-    ensures { Gives (λ x. (x.0, x.1.now)) result (constant_value_at pool.now name limit bytes.now) }
+    ensures { Gives with_rest result (constant_value_at pool.now name limit bytes.now) }
 {
     let (index, rest) = whole_index_of(pool, limit, bytes)?;
     Ok((Attribute::ConstantValue(name, index), rest))
@@ -139,7 +138,7 @@ fn code_attribute_of<'a>(
     limit: usize,
     bytes: &'a [u8],
 ) -> Result<(Attribute, &'a [u8]), ReadError>
-    ensures { Gives (λ x. (x.0, x.1.now)) result (code_attribute_at pool.now name limit bytes.now) }
+    ensures { Gives with_rest result (code_attribute_at pool.now name limit bytes.now) }
 {
     let (code, rest) = whole_code_of(alloc, pool, limit, bytes)?;
     Ok((Attribute::Code(name, code), rest))

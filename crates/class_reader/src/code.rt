@@ -1,9 +1,6 @@
 //! The contents of a Code attribute (JVM Specification 4.7.3).
 
-ghost use Rattle.std.specs.Prelude.{◌≡◌, nat_lt, ◌&&◌};
-ghost use Rattle.std.specs.Int.{w32};
-ghost use Rattle.class_reader.specs.declared.error.ReadError.TheVariants.{BadLength};
-ghost use Rattle.class_reader.specs.Reading.{Gives, tested_at, handler_at, code_bytes_at, code_at};
+ghost use Rattle.class_reader.specs.Reading.{Gives, with_rest, handler_at, code_length_at, code_bytes_at, code_at};
 
 use crate::attributes::Raws;
 use crate::error::ReadError;
@@ -50,7 +47,7 @@ impl ReadItem<Handler> for Handlers<'_> {
 /// A code_length, which is 1 to 65535.
 #[tactic(auto, unfolding(crate::specs::Reading::tested_at))]
 fn code_length_of(limit: usize, bytes: &[u8]) -> Result<(u32, &[u8]), ReadError>
-    ensures { Gives (λ x. (x.0, x.1.now)) result (tested_at w32 (λ n. nat_lt 0 n && nat_lt n 65536) (λ at n. BadLength at) limit bytes.now) }
+    ensures { Gives with_rest result (code_length_at limit bytes.now) }
 {
     let (len, rest) = u32_of(limit, bytes)?;
     if len == 0 || len >= 65_536 {
@@ -76,7 +73,7 @@ pub(crate) fn code_of<'a>(
     limit: usize,
     bytes: &'a [u8],
 ) -> Result<(CodeAttribute, &'a [u8]), ReadError>
-    ensures { Gives (λ x. (x.0, x.1.now)) result (code_at pool.now limit bytes.now) }
+    ensures { Gives with_rest result (code_at pool.now limit bytes.now) }
 {
     let (max_stack, rest) = u16_of(limit, bytes)?;
     let (max_locals, rest) = u16_of(limit, rest)?;

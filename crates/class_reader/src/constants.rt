@@ -2,7 +2,7 @@
 
 ghost use Rattle.std.specs.Prelude.{◌≡◌, ◌≤◌, ℕ, Ok, Err, length, IfOk};
 ghost use Rattle.class_reader.specs.Decoding.{decoded};
-ghost use Rattle.class_reader.specs.Reading.{Gives, tag_at, text_at, utf8_at, contents_at, entry_at};
+ghost use Rattle.class_reader.specs.Reading.{Gives, with_rest, tag_at, text_at, utf8_at, contents_at, entry_at};
 
 use crate::error::ReadError;
 use crate::numbers::{place_of, run_of, u8_of, u16_of, u32_of, u64_of};
@@ -14,7 +14,7 @@ use std::alloc::Global;
 /// A tag.
 #[tactic(auto, unfolding(crate::specs::Reading::tag_at))]
 fn tag_of(limit: usize, bytes: &[u8]) -> Result<(Tag, &[u8]), ReadError>
-    ensures { Gives (λ x. (x.0, x.1.now)) result (tag_at limit bytes.now) }
+    ensures { Gives with_rest result (tag_at limit bytes.now) }
 {
     let (number, rest) = u8_of(limit, bytes)?;
     match find_tag(number) {
@@ -40,7 +40,7 @@ fn text_of(
     limit: usize,
     bytes: &[u8],
 ) -> Result<(Text16, &[u8]), ReadError>
-    ensures { Gives (λ x. (x.0, x.1.now)) result (text_at len limit bytes.now) }
+    ensures { Gives with_rest result (text_at len limit bytes.now) }
 {
     let (text, rest) = run_of(len, limit, bytes)?;
     match decode(alloc, text) {
@@ -53,7 +53,7 @@ fn text_of(
 /// A text behind its length.
 #[tactic(auto, unfolding(crate::specs::Reading::utf8_at))]
 fn utf8_of(alloc: Global, limit: usize, bytes: &[u8]) -> Result<(Const, &[u8]), ReadError>
-    ensures { Gives (λ x. (x.0, x.1.now)) result (utf8_at limit bytes.now) }
+    ensures { Gives with_rest result (utf8_at limit bytes.now) }
 {
     let (len, rest) = u16_of(limit, bytes)?;
     let (text, rest) = text_of(alloc, usize::from(len), limit, rest)?;
@@ -85,7 +85,7 @@ fn contents_of(
     limit: usize,
     bytes: &[u8],
 ) -> Result<(Const, &[u8]), ReadError>
-    ensures { Gives (λ x. (x.0, x.1.now)) result (contents_at tag limit bytes.now) }
+    ensures { Gives with_rest result (contents_at tag limit bytes.now) }
 {
     match tag {
         Tag::Utf8 => utf8_of(alloc, limit, bytes),
@@ -115,7 +115,7 @@ pub(crate) fn entry_of(
     limit: usize,
     bytes: &[u8],
 ) -> Result<(Const, &[u8]), ReadError>
-    ensures { Gives (λ x. (x.0, x.1.now)) result (entry_at limit bytes.now) }
+    ensures { Gives with_rest result (entry_at limit bytes.now) }
 {
     let (tag, rest) = tag_of(limit, bytes)?;
     contents_of(alloc, tag, limit, rest)

@@ -11,7 +11,7 @@ use thiserror::Error;
 /// an index into the constant pool.
 #[derive(Clone, Copy, Debug, PartialEq, Eq, Error)]
 pub enum ReadError {
-    /// There are more than 4,194,304 bytes.
+    /// There are more than `MOST_BYTES` bytes.
     #[error("too long")]
     TooLong,
     /// A number, a text or the contents of an attribute do not fit into the bytes that are left.

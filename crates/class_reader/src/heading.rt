@@ -1,7 +1,6 @@
 //! What stands before and behind the constant pool (JVM Specification 4.1).
 
-ghost use Rattle.std.specs.Prelude.{◌≡◌};
-ghost use Rattle.class_reader.specs.Reading.{Gives, magic_at, major_at, body_at};
+ghost use Rattle.class_reader.specs.Reading.{Gives, with_rest, magic_at, major_at, body_at};
 ghost use Rattle.class_reader.specs.Views.{body_view};
 
 use crate::attributes::{ClassAttributes, FieldAttributes, MethodAttributes};
@@ -25,7 +24,7 @@ const MOST_MAJOR: u16 = 50;
 /// The magic number.
 #[tactic(auto, unfolding(crate::specs::Reading::magic_at, crate::specs::Reading::tested_at))]
 pub(crate) fn magic_of(limit: usize, bytes: &[u8]) -> Result<(u32, &[u8]), ReadError>
-    ensures { Gives (λ x. (x.0, x.1.now)) result (magic_at limit bytes.now) }
+    ensures { Gives with_rest result (magic_at limit bytes.now) }
 {
     let (magic, rest) = u32_of(limit, bytes)?;
     if magic != MAGIC {
@@ -37,7 +36,7 @@ pub(crate) fn magic_of(limit: usize, bytes: &[u8]) -> Result<(u32, &[u8]), ReadE
 /// The major version.
 #[tactic(auto, unfolding(crate::specs::Reading::major_at, crate::specs::Reading::tested_at))]
 pub(crate) fn major_of(limit: usize, bytes: &[u8]) -> Result<(u16, &[u8]), ReadError>
-    ensures { Gives (λ x. (x.0, x.1.now)) result (major_at limit bytes.now) }
+    ensures { Gives with_rest result (major_at limit bytes.now) }
 {
     let (major, rest) = u16_of(limit, bytes)?;
     if major < LEAST_MAJOR || major > MOST_MAJOR {

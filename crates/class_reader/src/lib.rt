@@ -15,7 +15,7 @@ mod references;
 mod tags;
 
 pub use error::ReadError;
-pub use reader::{read_class, read_image};
+pub use reader::{MOST_BYTES, read_class, read_image};
 
 #[cfg(test)]
 mod tests;

@@ -1,7 +1,6 @@
 //! Items one after the other, behind their count.
 
-ghost use Rattle.std.specs.Prelude.{◌≡◌};
-ghost use Rattle.class_reader.specs.Reading.{Gives, many_at, counted_at};
+ghost use Rattle.class_reader.specs.Reading.{Gives, with_rest, many_at, counted_at};
 
 use crate::error::ReadError;
 use crate::numbers::u16_of;
@@ -21,7 +20,7 @@ pub(crate) trait ReadItem<T> {
         limit: usize,
         bytes: &'a [u8],
     ) -> Result<(T, &'a [u8]), ReadError>
-        ensures { Gives (λ x. (x.0, x.1.now)) result (item self.now limit bytes.now) };
+        ensures { Gives with_rest result (item self.now limit bytes.now) };
 }
 
 /// So many items.
@@ -32,7 +31,7 @@ fn many_of<'a, T: Drop, R: ReadItem<T>>(
     limit: usize,
     bytes: &'a [u8],
 ) -> Result<(Seq<T>, &'a [u8]), ReadError>
-    ensures { Gives (λ x. (x.0, x.1.now)) result (many_at (R.item reader.now) count limit bytes.now) }
+    ensures { Gives with_rest result (many_at (R.item reader.now) count limit bytes.now) }
 {
     let mut items = Seq::new(alloc);
     let mut rest = bytes;
@@ -52,7 +51,7 @@ pub(crate) fn counted_of<'a, T: Drop, R: ReadItem<T>>(
     limit: usize,
     bytes: &'a [u8],
 ) -> Result<(Seq<T>, &'a [u8]), ReadError>
-    ensures { Gives (λ x. (x.0, x.1.now)) result (counted_at (R.item reader.now) limit bytes.now) }
+    ensures { Gives with_rest result (counted_at (R.item reader.now) limit bytes.now) }
 {
     let (count, rest) = u16_of(limit, bytes)?;
     many_of(reader, alloc, count, limit, rest)

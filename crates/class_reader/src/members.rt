@@ -1,7 +1,5 @@
 //! Interfaces, fields and methods (JVM Specification 4.1, 4.5, 4.6).
 
-ghost use Rattle.std.specs.Prelude.{◌≡◌};
-
 use crate::error::ReadError;
 use crate::lists::{ReadItem, counted_of};
 use crate::numbers::u16_of;

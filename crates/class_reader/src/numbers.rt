@@ -5,7 +5,7 @@
 ghost use Rattle.std.specs.Prelude.{◌≡◌, ◌≤◌, length, IfOk};
 ghost use Rattle.std.specs.Int.{w8, w16, w32, w64};
 ghost use Rattle.class_reader.specs.Formats.{place};
-ghost use Rattle.class_reader.specs.Reading.{Gives, number_at, run_at, sized_at};
+ghost use Rattle.class_reader.specs.Reading.{Gives, with_rest, number_at, run_at, sized_at};
 
 use crate::error::ReadError;
 use byteorder::{BigEndian, ByteOrder};
@@ -20,7 +20,7 @@ pub(crate) fn place_of(limit: usize, bytes: &[u8]) -> usize
 /// A u1.
 #[tactic(auto, unfolding(crate::specs::Reading::number_at))]
 pub(crate) fn u8_of(limit: usize, bytes: &[u8]) -> Result<(u8, &[u8]), ReadError>
-    ensures { Gives (λ x. (x.0, x.1.now)) result (number_at w8 limit bytes.now) }
+    ensures { Gives with_rest result (number_at w8 limit bytes.now) }
 {
     match bytes {
         [number, rest @ ..] => Ok((*number, rest)),
@@ -31,7 +31,7 @@ pub(crate) fn u8_of(limit: usize, bytes: &[u8]) -> Result<(u8, &[u8]), ReadError
 /// A u2.
 #[tactic(auto, unfolding(crate::specs::Reading::number_at))]
 pub(crate) fn u16_of(limit: usize, bytes: &[u8]) -> Result<(u16, &[u8]), ReadError>
-    ensures { Gives (λ x. (x.0, x.1.now)) result (number_at w16 limit bytes.now) }
+    ensures { Gives with_rest result (number_at w16 limit bytes.now) }
 {
     if bytes.len() < 2 {
         return Err(ReadError::Truncated(place_of(limit, bytes)));
@@ -42,7 +42,7 @@ pub(crate) fn u16_of(limit: usize, bytes: &[u8]) -> Result<(u16, &[u8]), ReadErr
 /// A u4.
 #[tactic(auto, unfolding(crate::specs::Reading::number_at))]
 pub(crate) fn u32_of(limit: usize, bytes: &[u8]) -> Result<(u32, &[u8]), ReadError>
-    ensures { Gives (λ x. (x.0, x.1.now)) result (number_at w32 limit bytes.now) }
+    ensures { Gives with_rest result (number_at w32 limit bytes.now) }
 {
     if bytes.len() < 4 {
         return Err(ReadError::Truncated(place_of(limit, bytes)));
@@ -53,7 +53,7 @@ pub(crate) fn u32_of(limit: usize, bytes: &[u8]) -> Result<(u32, &[u8]), ReadErr
 /// Eight bytes as a number.
 #[tactic(auto, unfolding(crate::specs::Reading::number_at))]
 pub(crate) fn u64_of(limit: usize, bytes: &[u8]) -> Result<(u64, &[u8]), ReadError>
-    ensures { Gives (λ x. (x.0, x.1.now)) result (number_at w64 limit bytes.now) }
+    ensures { Gives with_rest result (number_at w64 limit bytes.now) }
 {
     if bytes.len() < 8 {
         return Err(ReadError::Truncated(place_of(limit, bytes)));

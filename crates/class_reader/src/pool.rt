@@ -1,12 +1,9 @@
 //! The constant pool (JVM Specification 4.4).
 
-ghost use Rattle.std.specs.Prelude.{◌≡◌, ◌+◌, ◌-◌, ◌<◌, ◌≤◌, ◌^◌, ◌++◌, ◌∷◌, [], length, nat_lt, not, ◌==◌, IfOk, IfErr, IfSome, OnOk, IsTrue};
-ghost use Rattle.std.specs.Int.{w16};
+ghost use Rattle.std.specs.Prelude.{◌≡◌, ◌<◌, ◌≤◌, ◌^◌, length, IfOk, IfErr, IfSome, OnOk, IsTrue};
 ghost use Rattle.const_pool.specs.Pool.{is_wide as is_wide_of, has_gaps};
-ghost use Rattle.const_pool.specs.declared.pool.Const.TheVariants.{Gap};
-ghost use Rattle.class_reader.specs.declared.error.ReadError.TheVariants.{BadIndex};
 ghost use Rattle.class_reader.specs.ClassFormat.{fits_in, lowest_bad};
-ghost use Rattle.class_reader.specs.Reading.{Gives, tested_at, with_front, gapped, entries_at, all_entries_at, pool_at};
+ghost use Rattle.class_reader.specs.Reading.{Gives, with_rest, with_entry, pool_count_at, entries_below, all_entries_at, pool_at};
 
 use crate::constants::entry_of;
 use crate::error::ReadError;
@@ -25,7 +22,7 @@ fn is_wide(entry: &Const) -> bool
 /// The constant_pool_count, which is not 0.
 #[tactic(auto, unfolding(crate::specs::Reading::tested_at))]
 fn count_of(limit: usize, bytes: &[u8]) -> Result<(u16, &[u8]), ReadError>
-    ensures count { Gives (λ x. (x.0, x.1.now)) result (tested_at w16 (λ n. not (n == 0)) (λ at n. BadIndex 0) limit bytes.now) }
+    ensures count { Gives with_rest result (pool_count_at limit bytes.now) }
     ensures some { IfOk result (λ x. 0 < x.0) }
 {
     let (count, rest) = u16_of(limit, bytes)?;
@@ -38,7 +35,7 @@ fn count_of(limit: usize, bytes: &[u8]) -> Result<(u16, &[u8]), ReadError>
 /// Adds an entry, and a gap behind it where it takes two indices of `count`.
 fn push_entry(entries: &mut Vec<Const>, entry: Const, count: usize) -> Result<(), ReadError>
     requires { length entries.old.items < count }
-    ensures pushed { OnOk result (entries.new.items ≡ entries.old.items ++ gapped entry (nat_lt (length entries.old.items + 1) count)) }
+    ensures pushed { OnOk result (entries.new.items ≡ with_entry entries.old.items entry count) }
     ensures within { OnOk result (length entries.new.items ≤ count) }
     ensures memory { IfErr result (λ e. e ≡ ReadError.NoMemory) }
 {
@@ -58,7 +55,8 @@ fn entries_of(
     bytes: &[u8],
 ) -> Result<(Vec<Const>, &[u8]), ReadError>
     requires some { 0 < count }
-    ensures entries { Gives (λ x. (x.0.items, x.1.now)) result (with_front (Gap ∷ []) (entries_at (count - 1) limit bytes.now)) }
+    ensures entries { Gives (λ x. (x.0.items, x.1.now)) result
+        (entries_below count limit bytes.now) }
     ensures within { IfOk result (λ x. length x.0.items ≤ count) }
 {
     let mut entries = Vec::new(alloc);

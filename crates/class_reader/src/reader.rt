@@ -1,14 +1,15 @@
 //! Reads a class file from left to right (JVM Specification 4.1).
 
-ghost use Rattle.std.specs.Prelude.{◌≡◌, ◌≢◌, ◌<◌, ◌^◌, ◌⊎◌, ◌↔◌, Ok, Err, IfOk, IfErr, IsTrue, length};
+ghost use Rattle.std.specs.Prelude.{◌≡◌, ◌<◌, ◌^◌, ◌↔◌, Ok, Err, IfOk, IsTrue, length};
 ghost use Rattle.const_pool.specs.declared.class.ClassFile.{ClassFile as Class};
 ghost use Rattle.const_pool.specs.ClassFile.{Spells};
 ghost use Rattle.class_reader.specs.declared.error.ReadError.{ReadError as Fault};
-ghost use Rattle.class_reader.specs.Files.{IsFile, IsImageFault, IsFirstFault};
+ghost use Rattle.class_reader.specs.Files.{IsFile, IsImageFault, IsFirstFault, TellsFault, HasOneAtMost, AreApart};
+ghost use Rattle.jf_bytes.specs.Results.{IsUnless};
 ghost use Rattle.const_pool.specs.Pool.{has_gaps};
 ghost use Rattle.class_reader.specs.ClassFormat.{class as class_format, class_with};
 ghost use Rattle.class_reader.specs.Views.{body_view};
-ghost use Rattle.class_reader.specs.Reading.{Gives, class_at, image_of, file_of};
+ghost use Rattle.class_reader.specs.Reading.{Gives, with_rest, class_at, image_of, file_of};
 
 use crate::error::ReadError;
 use crate::heading::{Body, body_of, magic_of, major_of};
@@ -17,8 +18,9 @@ use crate::pool::pool_of;
 use const_pool::{ClassFile, Const, Pool};
 use std::alloc::Global;
 
-/// The greatest length of a class file.
-const MOST_BYTES: usize = 4_194_304;
+/// The most bytes of a class file that is read: 4 MiB, a limit of this product. A caller that fetches a file asks for so many,
+/// and sees by one byte more that it is too long.
+pub const MOST_BYTES: usize = 4_194_304;
 
 /// A class of its parts.
 fn assemble(minor: u16, major: u16, pool: Vec<Const>, body: Body) -> ClassFile
@@ -52,7 +54,7 @@ fn assemble(minor: u16, major: u16, pool: Vec<Const>, body: Body) -> ClassFile
 /// The class at the front of the bytes.
 #[tactic(auto, unfolding(crate::specs::Reading::class_at))]
 fn class_of(alloc: Global, limit: usize, bytes: &[u8]) -> Result<(ClassFile, &[u8]), ReadError>
-    ensures { Gives (λ x. (x.0, x.1.now)) result (class_at limit bytes.now) }
+    ensures { Gives with_rest result (class_at limit bytes.now) }
 {
     let (_, rest) = magic_of(limit, bytes)?;
     let (minor, rest) = u16_of(limit, rest)?;
@@ -86,18 +88,19 @@ fn file_in(alloc: Global, bytes: &[u8]) -> Result<ClassFile, ReadError>
     image_in(alloc, bytes)
 }
 
-/// Reads a class file, of 4,194,304 bytes at most (JVM Specification 4). The bytes spell the class that is given and no other,
+/// Reads a class file, of `MOST_BYTES` at most (JVM Specification 4). The bytes spell the class that is given and no other,
 /// so `class_writer` gives them back from it. A refusal is the first fault from the left: what stands before its place is well
 /// formed. Code and ConstantValue are parsed where they stand, in methods and in fields; every other attribute is kept as bytes.
 /// Work and memory are in proportion to the bytes.
 pub fn read_class(alloc: Global, bytes: &[u8]) -> Result<ClassFile, ReadError>
     ensures found { IfOk result (λ c. IsFile bytes.now c) }
-    ensures only { (c : Class) → IsFile bytes.now c → (result ≡ Ok c) ⊎ (result ≡ Err ReadError.NoMemory) }
-    ensures refused { IfErr result (λ fault. fault ≢ ReadError.NoMemory → IsFirstFault bytes.now fault) }
-    ensures first_fault { (fault : Fault) → IsFirstFault bytes.now fault → (result ≡ Err fault) ⊎ (result ≡ Err ReadError.NoMemory) }
-    ensures one_class { (c d : Class) → Spells bytes.now c → Spells bytes.now d → c ≡ d }
-    ensures one_fault { (e f : Fault) → IsFirstFault bytes.now e → IsFirstFault bytes.now f → e ≡ f }
-    ensures no_fault { (c : Class) (fault : Fault) → IsFile bytes.now c → IsFirstFault bytes.now fault → ⊥ }
+    ensures only { (c : Class) → IsFile bytes.now c → IsUnless result (Ok c) ReadError.NoMemory }
+    ensures refused { TellsFault result (IsFirstFault bytes.now) }
+    ensures first_fault { (fault : Fault) → IsFirstFault bytes.now fault
+        → IsUnless result (Err fault) ReadError.NoMemory }
+    ensures one_class { HasOneAtMost (Spells bytes.now) }
+    ensures one_fault { HasOneAtMost (IsFirstFault bytes.now) }
+    ensures no_fault { AreApart (IsFile bytes.now) (IsFirstFault bytes.now) }
     // The format whose faults are told is that of the bytes that the writer gives.
     ensures same_format { (c : Class) → class_format.Spells bytes.now c ↔ Spells bytes.now c }
 {
@@ -107,9 +110,10 @@ pub fn read_class(alloc: Global, bytes: &[u8]) -> Result<ClassFile, ReadError>
 /// Reads a class as `read_class` does, however many its bytes are: a rewritten class may be longer than a file.
 pub fn read_image(alloc: Global, bytes: &[u8]) -> Result<ClassFile, ReadError>
     ensures found { IfOk result (λ c. Spells bytes.now c) }
-    ensures only { (c : Class) → Spells bytes.now c → (result ≡ Ok c) ⊎ (result ≡ Err ReadError.NoMemory) }
-    ensures refused { IfErr result (λ fault. fault ≢ ReadError.NoMemory → IsImageFault bytes.now fault) }
-    ensures first_fault { (fault : Fault) → IsImageFault bytes.now fault → (result ≡ Err fault) ⊎ (result ≡ Err ReadError.NoMemory) }
+    ensures only { (c : Class) → Spells bytes.now c → IsUnless result (Ok c) ReadError.NoMemory }
+    ensures refused { TellsFault result (IsImageFault bytes.now) }
+    ensures first_fault { (fault : Fault) → IsImageFault bytes.now fault
+        → IsUnless result (Err fault) ReadError.NoMemory }
 {
     image_in(alloc, bytes)
 }

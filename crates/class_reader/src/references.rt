@@ -6,7 +6,7 @@ ghost use Rattle.const_pool.specs.Pool.{is_utf8, is_class, is_name_type, is_cons
 ghost use Rattle.const_pool.specs.References.{named_text};
 ghost use Rattle.const_pool.specs.ClassFile.{code_name, constant_value_name};
 ghost use Rattle.class_reader.specs.ClassFormat.{names, names_text};
-ghost use Rattle.class_reader.specs.Reading.{Gives, ref_at, optional_ref_at};
+ghost use Rattle.class_reader.specs.Reading.{Gives, with_rest, ref_at, optional_ref_at};
 
 use crate::error::ReadError;
 use crate::numbers::{place_of, u16_of};
@@ -53,7 +53,7 @@ pub(crate) fn utf8_ref_of<'a>(
     limit: usize,
     bytes: &'a [u8],
 ) -> Result<(u16, &'a [u8]), ReadError>
-    ensures { Gives (λ x. (x.0, x.1.now)) result (ref_at is_utf8 pool.now limit bytes.now) }
+    ensures { Gives with_rest result (ref_at is_utf8 pool.now limit bytes.now) }
 {
     let (index, rest) = u16_of(limit, bytes)?;
     if !names_utf8(pool, index) {
@@ -69,7 +69,7 @@ pub(crate) fn class_ref_of<'a>(
     limit: usize,
     bytes: &'a [u8],
 ) -> Result<(u16, &'a [u8]), ReadError>
-    ensures { Gives (λ x. (x.0, x.1.now)) result (ref_at is_class pool.now limit bytes.now) }
+    ensures { Gives with_rest result (ref_at is_class pool.now limit bytes.now) }
 {
     let (index, rest) = u16_of(limit, bytes)?;
     if !names_class(pool, index) {
@@ -85,7 +85,7 @@ pub(crate) fn optional_class_of<'a>(
     limit: usize,
     bytes: &'a [u8],
 ) -> Result<(u16, &'a [u8]), ReadError>
-    ensures { Gives (λ x. (x.0, x.1.now)) result (optional_ref_at is_class pool.now limit bytes.now) }
+    ensures { Gives with_rest result (optional_ref_at is_class pool.now limit bytes.now) }
 {
     let (index, rest) = u16_of(limit, bytes)?;
     if index != 0 && !names_class(pool, index) {
@@ -101,7 +101,7 @@ pub(crate) fn constant_ref_of<'a>(
     limit: usize,
     bytes: &'a [u8],
 ) -> Result<(u16, &'a [u8]), ReadError>
-    ensures { Gives (λ x. (x.0, x.1.now)) result (ref_at is_constant pool.now limit bytes.now) }
+    ensures { Gives with_rest result (ref_at is_constant pool.now limit bytes.now) }
 {
     let (index, rest) = u16_of(limit, bytes)?;
     if !names_constant(pool, index) {

@@ -1,8 +1,6 @@
-//! Class files that were spelled by hand after the JVM Specification, and the faults of changed ones.
+//! Class files that were spelled by hand after the JVM Specification. Files with a fault are rows of worked_rows.
 
 mod faults;
 mod files;
 mod large;
-mod lengths;
-mod pools;
 mod whole;

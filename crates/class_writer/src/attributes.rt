@@ -1,7 +1,6 @@
 //! Attributes (JVM Specification 4.7).
 
-ghost use Rattle.std.specs.Prelude.{◌≡◌, ◌<◌, ◌^◌, ◌++◌, length, All, OnOk};
-ghost use Rattle.std.specs.List.{flat_map};
+ghost use Rattle.std.specs.Prelude.{◌≡◌, ◌<◌, ◌++◌, All, OnOk};
 ghost use Rattle.const_pool.specs.ClassFile.{FitsCount, counted, raw_bytes, handler_bytes, code_bytes, attribute_bytes};
 ghost use Rattle.class_writer.specs.Fits.{FitsRaw, FitsCode, FitsAttribute};
 
@@ -93,7 +92,8 @@ fn push_attribute(out: &mut Vec<u8>, attribute: &Attribute) -> Result<(), NoMemo
 pub(crate) fn push_attributes(out: &mut Vec<u8>, attributes: &[Attribute]) -> Result<(), NoMemory>
     requires count { FitsCount attributes.now }
     requires each { All FitsAttribute attributes.now }
-    ensures { OnOk result (out.new.items ≡ out.old.items ++ counted attribute_bytes attributes.now) }
+    ensures { OnOk result
+        (out.new.items ≡ out.old.items ++ counted attribute_bytes attributes.now) }
 {
     push_u16(out, attributes.len() as u16)?;
     for attribute in attributes {

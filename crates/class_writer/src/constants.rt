@@ -1,10 +1,11 @@
 //! The constant pool (JVM Specification 4.4).
 
-ghost use Rattle.std.specs.Prelude.{◌≡◌, ◌<◌, ◌^◌, ◌++◌, [], length, All, OnOk};
-ghost use Rattle.std.specs.Option.{ForSome, option_map_or};
+ghost use Rattle.std.specs.Prelude.{◌≡◌, ◌<◌, ◌^◌, ◌++◌, length, All, OnOk};
+ghost use Rattle.std.specs.Option.{ForSome};
 ghost use Rattle.jf_bytes.specs.ModifiedUtf8.{modified_utf8};
 ghost use Rattle.const_pool.specs.Pool.{u1, u2, u4, u8 as u8_bytes, entry_at, entry_bytes, pool_bytes};
 ghost use Rattle.class_writer.specs.Fits.{FitsEntry};
+ghost use Rattle.class_writer.specs.Parts.{bytes_at, text_bytes};
 
 use crate::numbers::{push_u8, push_u16, push_u32, push_u64};
 use const_pool::{Const, Pool};
@@ -37,7 +38,7 @@ const NAME_TYPE: u8 = 12;
 /// Appends a text behind its length.
 fn push_text(alloc: Global, out: &mut Vec<u8>, text: &Text16) -> Result<(), NoMemory>
     requires { length (modified_utf8 text.now) < 2 ^ 16 }
-    ensures { OnOk result (out.new.items ≡ out.old.items ++ (u2 (length (modified_utf8 text.now)) ++ modified_utf8 text.now)) }
+    ensures { OnOk result (out.new.items ≡ out.old.items ++ text_bytes text.now) }
 {
     let bytes = to_modified(alloc, text)?;
     push_u16(out, bytes.len() as u16)?;
@@ -107,7 +108,7 @@ fn push_entry(alloc: Global, out: &mut Vec<u8>, entry: &Const) -> Result<(), NoM
 /// Appends the entry at an index, where it names one.
 fn push_entry_at(alloc: Global, out: &mut Vec<u8>, pool: &Pool, index: u16) -> Result<(), NoMemory>
     requires { ForSome (entry_at pool.now index) FitsEntry }
-    ensures { OnOk result (out.new.items ≡ out.old.items ++ option_map_or entry_bytes (entry_at pool.now index) []) }
+    ensures { OnOk result (out.new.items ≡ out.old.items ++ bytes_at pool.now index) }
 {
     match pool.get(index) {
         Some(entry) => push_entry(alloc, out, entry),

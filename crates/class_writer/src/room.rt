@@ -1,12 +1,13 @@
 //! How long a class file is, so that its memory is taken in one piece.
 
-ghost use Rattle.std.specs.Prelude.{◌≡◌, ◌<◌, ◌^◌, [], length, All};
+ghost use Rattle.std.specs.Prelude.{◌≡◌, ◌<◌, ◌^◌, length, All};
 ghost use Rattle.std.specs.List.{flat_map};
-ghost use Rattle.std.specs.Option.{ForSome, option_map_or};
+ghost use Rattle.std.specs.Option.{ForSome};
 ghost use Rattle.jf_bytes.specs.ModifiedUtf8.{unit_bytes, modified_utf8};
 ghost use Rattle.const_pool.specs.Pool.{entry_at, entry_bytes, pool_bytes};
 ghost use Rattle.const_pool.specs.ClassFile.{counted, raw_bytes, code_bytes, attribute_bytes, member_bytes, class_bytes};
 ghost use Rattle.class_writer.specs.Fits.{FitsAttribute, FitsMember, FitsEntry, FitsClass};
+ghost use Rattle.class_writer.specs.Parts.{bytes_at};
 ghost use Rattle.class_writer.specs.Room.{room};
 
 use const_pool::{Attribute, ClassFile, CodeAttribute, Const, Member, Pool, Raw};
@@ -112,7 +113,7 @@ fn entry_len(entry: &Const) -> usize
 /// How many bytes the entry at an index has, where it names one.
 fn entry_len_at(pool: &Pool, index: u16) -> usize
     requires { ForSome (entry_at pool.now index) FitsEntry }
-    ensures { result ≡ length (option_map_or entry_bytes (entry_at pool.now index) []) }
+    ensures { result ≡ length (bytes_at pool.now index) }
 {
     match pool.get(index) {
         Some(entry) => entry_len(entry),

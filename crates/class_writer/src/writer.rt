@@ -1,7 +1,7 @@
 //! Writes a class file from left to right (JVM Specification 4.1).
 
 ghost use Rattle.std.specs.Prelude.{◌≡◌, ◌++◌, ℕ, List, All, IfOk, OnOk};
-ghost use Rattle.const_pool.specs.Pool.{u2, u4};
+ghost use Rattle.const_pool.specs.Pool.{u2};
 ghost use Rattle.const_pool.specs.ClassFile.{FitsCount, IsClassFile, Spells, counted, class_bytes};
 ghost use Rattle.class_writer.specs.Fits.{FitsEntry, FitsClass};
 ghost use Rattle.class_writer.specs.Parts.{head_bytes, itself_bytes, body_bytes};

@@ -1,27 +1,16 @@
 -- The spots of a layout: their numbers rise, and each is a group's or that of the end.
-use Rattle.std.proofs.Common.{◌≡◌, ℕ, ◌+◌, ◌≤◌, Bool, true, false, List, [], ◌∷◌, ◌++◌, length, map, Some, refl, sym, ap, subst, ◌∙◌, arith, inl, inr}
+use Rattle.std.proofs.Common.{◌≡◌, ℕ, ◌+◌, List, [], ◌∷◌, ◌++◌, length, map, Some, refl, ap, ◌∙◌, arith, inl, inr}
 use Rattle.std.specs.Prelude.{◌⊎◌}
 use Rattle.std.proofs.lemmas.List.{length-append}
-use Rattle.code_model.specs.declared.instr.Instr.{Instr}
 use Rattle.code_model.specs.declared.laying.Group.{Group}
 use Rattle.code_model.specs.Instructions.{instruction_at, end_of, Reads}
-use Rattle.code_model.specs.Layout.{Spot, opcode_bytes, operand_bytes, size_at, place_of, group_end, spots_from, end_from, source_end}
+use Rattle.code_model.specs.Layout.{Spot, size_at, place_of, group_end, spots_from, end_from, source_end}
 use Rattle.code_model.specs.Groups.{instrs_of}
 use Rattle.code_model.proofs.Readings.{at-instruction_at}
-use Rattle.code_model.proofs.Decoded.{end_of-size_at}
+use Rattle.code_model.proofs.Lengths.{size_at-some}
 use Rattle.code_model.proofs.Lookups.{Rises, Rises-from_below}
 
 -- ---- the numbers of the spots rise
-
-some_opcode : (wide : Bool) (op : ℕ) → 1 ≤ length (opcode_bytes wide op)
-some_opcode true op = omega arith
-some_opcode false op = omega arith
-
--- an instruction has at least one byte
-pub size_at-some : (place : ℕ) (i : Instr) → 1 ≤ size_at place i
-size_at-some place i =
-    let some = some_opcode i.wide i.op in
-    omega (arith, length-append (opcode_bytes i.wide i.op) (operand_bytes (λ t. t) place i.wide i.op i.arg))
 
 -- the spots of groups, and that of the end
 abbrev pub spots_and_end : ℕ → ℕ → List Group → List Spot
@@ -47,12 +36,9 @@ pub starts_rise : (bytes : List ℕ) (at start : ℕ) (gs : List Group) → Read
 starts_rise bytes at start [] reads = (omega arith, tt)
 starts_rise bytes at start (g ∷ gs) reads =
     let is_start = at-instruction_at bytes start g.instr reads.0 in
-    let end = end_of-size_at bytes start g.instr reads.0 g.instr.at in
     let some = size_at-some g.instr.at g.instr in
     let rest = starts_rise bytes (group_end at g) (end_of g.instr) gs reads.1 in
-    let same : Rises (end_of g.instr) (map (λ (s : Spot). s.from) (spots_and_end (group_end at g) (g.instr.at + size_at g.instr.at g.instr) gs)) =
-    subst (λ e. Rises (end_of g.instr) (map (λ (s : Spot). s.from) (spots_and_end (group_end at g) e gs))) end rest in
-    (omega arith, Rises-from_below (g.instr.at + 1) (end_of g.instr) _ (omega arith) same)
+    (omega arith, Rises-from_below (g.instr.at + 1) (end_of g.instr) _ (omega arith) rest)
 
 -- ---- a group among others
 
@@ -118,4 +104,4 @@ which_spot at end (g ∷ gs) (f ∷ front) spot rest e =
 pub source_end-reads : (bytes : List ℕ) (start end : ℕ) (gs : List Group) → Reads bytes start (instrs_of gs) → end ≡ start → source_end end gs ≡ length bytes
 source_end-reads bytes start end [] reads is = is ∙ reads
 source_end-reads bytes start end (g ∷ gs) reads is =
-    source_end-reads bytes (end_of g.instr) (g.instr.at + size_at g.instr.at g.instr) gs reads.1 (sym (end_of-size_at bytes start g.instr reads.0 g.instr.at))
+    source_end-reads bytes (end_of g.instr) (end_of g.instr) gs reads.1 refl

@@ -2,8 +2,7 @@
 use Rattle.std.proofs.Common.{◌≡◌, List, [], ◌++◌, append_assoc}
 use Rattle.std.proofs.lemmas.List.{append-nil, map-append}
 use Rattle.code_model.specs.declared.laying.Homes.{Homes}
-use Rattle.code_model.specs.Layout.{Spot}
-use Rattle.code_model.specs.Built.{with_spots}
+use Rattle.code_model.specs.Layout.{Spot, with_spots}
 
 pub with_spots-nil : (homes : Homes) → with_spots homes [] ≡ homes
 with_spots-nil homes = simp append-nil

@@ -1,5 +1,6 @@
--- The definitions of a layout, computed on worked codes: the built part, and forms that are still to be built.
+-- The definitions of a layout, computed on worked codes.
 use Rattle.std.specs.Prelude.{◌≡◌, ℕ, ◌++◌, length, replicate, Bool, true, false, List, [], ◌∷◌, Some, None, pos, negsuc, refl}
+use Rattle.op_table.specs.Opcodes.{row_of, groups, wide_row_of, wide_groups}
 use Rattle.code_model.specs.declared.instr.Arg.{Arg}
 use Rattle.code_model.specs.declared.instr.Arg.TheVariants.{Plain, Value, Pool, Local, Inc, Target, Table, Lookup, Interface, Multi, Array}
 use Rattle.code_model.specs.declared.instr.Instr.{Instr}
@@ -37,23 +38,29 @@ straight_laid : laid_of (probe 29) straight unwinding ≡ record {
     place = 6 ∷ 7 ∷ 8 ∷ 15 ∷ 16 ∷ [];
   };
 }
+unfolding row_of groups wide_row_of wide_groups
 straight_laid = refl
 
 straight_home : home_in (laid_of (probe 29) straight unwinding).homes 3 ≡ Some 9
+unfolding row_of groups wide_row_of wide_groups
 straight_home = refl
 
 straight_place : place_in (laid_of (probe 29) straight unwinding).homes 3 ≡ Some 15
+unfolding row_of groups wide_row_of wide_groups
 straight_place = refl
 
 straight_origin : origin_in (laid_of (probe 29) straight unwinding).homes 15 ≡ Some 3
+unfolding row_of groups wide_row_of wide_groups
 straight_origin = refl
 
 -- within a probe nothing of the original stands
 no_origin : origin_in (laid_of (probe 29) straight unwinding).homes 9 ≡ None
+unfolding row_of groups wide_row_of wide_groups
 no_origin = refl
 
 -- nor has an offset behind the code a home
 no_home : home_in (laid_of (probe 29) straight unwinding).homes 5 ≡ None
+unfolding row_of groups wide_row_of wide_groups
 no_home = refl
 
 -- ---- a jump back to the start: iinc 0 −1, iload_0, ifgt 0, iload_0, ireturn. It goes behind the front
@@ -69,9 +76,11 @@ back_jump_laid : laid_of (probe 29) back_jump unwinding ≡ record {
     place = 6 ∷ 9 ∷ 10 ∷ 13 ∷ 20 ∷ 21 ∷ [];
   };
 }
+unfolding row_of groups wide_row_of wide_groups
 back_jump_laid = refl
 
 back_jump_length : length (laid_of (probe 29) back_jump unwinding).code ≡ 28
+unfolding row_of groups wide_row_of wide_groups
 back_jump_length = refl
 
 -- ---- a jump to a return: iload_0, ifeq 8, iconst_1, goto 9, iconst_2, ireturn. It goes to the probe in front of it
@@ -87,9 +96,11 @@ to_return_laid : laid_of (probe 29) to_return unwinding ≡ record {
     place = 6 ∷ 7 ∷ 10 ∷ 11 ∷ 14 ∷ 21 ∷ 22 ∷ [];
   };
 }
+unfolding row_of groups wide_row_of wide_groups
 to_return_laid = refl
 
 to_return_length : length (laid_of (probe 29) to_return unwinding).code ≡ 29
+unfolding row_of groups wide_row_of wide_groups
 to_return_length = refl
 
 -- ---- a switch whose padding changes: iload_0, tableswitch (0: 20, default: 22), iconst_1, ireturn, iconst_2, ireturn
@@ -107,52 +118,67 @@ switching_laid : laid_of (probe 29) switching unwinding ≡ record {
     place = 6 ∷ 7 ∷ 24 ∷ 31 ∷ 32 ∷ 39 ∷ 40 ∷ [];
   };
 }
+unfolding row_of groups wide_row_of wide_groups
 switching_laid = refl
 
 switching_length : length (laid_of (probe 29) switching unwinding).code ≡ 47
+unfolding row_of groups wide_row_of wide_groups
 switching_length = refl
 
 -- at its original offset the switch has two zeros behind its opcode
 switch_padding : instr_bytes (λ t. t) 1 (instr_with false 1 170 (Table 22 (pos 0) (20 ∷ []))) ≡ 170 ∷ 0 ∷ 0 ∷ 0 ∷ 0 ∷ 0 ∷ 21 ∷ 0 ∷ 0 ∷ 0 ∷ 0 ∷ 0 ∷ 0 ∷ 0 ∷ 0 ∷ 0 ∷ 0 ∷ 0 ∷ 19 ∷ []
+unfolding row_of groups wide_row_of wide_groups
 switch_padding = refl
 
 -- ---- the bytes of each other form, at offset 0
 
 lookup_bytes : instr_bytes (λ t. t) 0 (instr_with false 0 171 (Lookup 28 (negsuc 0 ∷ pos 258 ∷ []) (29 ∷ 30 ∷ [])))
     ≡ 171 ∷ 0 ∷ 0 ∷ 0 ∷ 0 ∷ 0 ∷ 0 ∷ 28 ∷ 0 ∷ 0 ∷ 0 ∷ 2 ∷ 255 ∷ 255 ∷ 255 ∷ 255 ∷ 0 ∷ 0 ∷ 0 ∷ 29 ∷ 0 ∷ 0 ∷ 1 ∷ 2 ∷ 0 ∷ 0 ∷ 0 ∷ 30 ∷ []
+unfolding row_of groups wide_row_of wide_groups
 lookup_bytes = refl
 
 bipush_bytes : instr_bytes (λ t. t) 0 (instr_with false 0 16 (Value (negsuc 127))) ≡ 16 ∷ 128 ∷ []
+unfolding row_of groups wide_row_of wide_groups
 bipush_bytes = refl
 
 sipush_bytes : instr_bytes (λ t. t) 0 (instr_with false 0 17 (Value (negsuc 32767))) ≡ 17 ∷ 128 ∷ 0 ∷ []
+unfolding row_of groups wide_row_of wide_groups
 sipush_bytes = refl
 
 ldc_bytes : instr_bytes (λ t. t) 0 (instr_with false 0 18 (Pool 7)) ≡ 18 ∷ 7 ∷ []
+unfolding row_of groups wide_row_of wide_groups
 ldc_bytes = refl
 
 getstatic_bytes : instr_bytes (λ t. t) 0 (instr_with false 0 178 (Pool 258)) ≡ 178 ∷ 1 ∷ 2 ∷ []
+unfolding row_of groups wide_row_of wide_groups
 getstatic_bytes = refl
 
 iload_bytes : instr_bytes (λ t. t) 0 (instr_with false 0 21 (Local 4)) ≡ 21 ∷ 4 ∷ []
+unfolding row_of groups wide_row_of wide_groups
 iload_bytes = refl
 
 wide_iload_bytes : instr_bytes (λ t. t) 0 (instr_with true 0 21 (Local 258)) ≡ 196 ∷ 21 ∷ 1 ∷ 2 ∷ []
+unfolding row_of groups wide_row_of wide_groups
 wide_iload_bytes = refl
 
 wide_iinc_bytes : instr_bytes (λ t. t) 0 (instr_with true 0 132 (Inc 258 (negsuc 1))) ≡ 196 ∷ 132 ∷ 1 ∷ 2 ∷ 255 ∷ 254 ∷ []
+unfolding row_of groups wide_row_of wide_groups
 wide_iinc_bytes = refl
 
 goto_w_bytes : instr_bytes (λ t. t) 4 (instr_with false 4 200 (Target 0)) ≡ 200 ∷ 255 ∷ 255 ∷ 255 ∷ 252 ∷ []
+unfolding row_of groups wide_row_of wide_groups
 goto_w_bytes = refl
 
 invokeinterface_bytes : instr_bytes (λ t. t) 0 (instr_with false 0 185 (Interface 258 1 0)) ≡ 185 ∷ 1 ∷ 2 ∷ 1 ∷ 0 ∷ []
+unfolding row_of groups wide_row_of wide_groups
 invokeinterface_bytes = refl
 
 multianewarray_bytes : instr_bytes (λ t. t) 0 (instr_with false 0 197 (Multi 258 3)) ≡ 197 ∷ 1 ∷ 2 ∷ 3 ∷ []
+unfolding row_of groups wide_row_of wide_groups
 multianewarray_bytes = refl
 
 newarray_bytes : instr_bytes (λ t. t) 0 (instr_with false 0 188 (Array 10)) ≡ 188 ∷ 10 ∷ []
+unfolding row_of groups wide_row_of wide_groups
 newarray_bytes = refl
 
 -- ---- branches of two bytes go from −32768 to 32767
@@ -162,9 +188,11 @@ abbrev over : ℕ → List Group
 over n = group_with 0 167 (Target 4) ∷ record { before = replicate n 0; instr = instr_with false 3 0 Plain } ∷ group_with 4 177 Plain ∷ []
 
 farthest_on : first_far [] (over 32763) ≡ None
+unfolding row_of groups wide_row_of wide_groups
 farthest_on = refl
 
 too_far_on : first_far [] (over 32764) ≡ Some 0
+unfolding row_of groups wide_row_of wide_groups
 too_far_on = refl
 
 -- a nop, a nop with so many bytes in front of it, and goto 0
@@ -172,7 +200,9 @@ abbrev under : ℕ → List Group
 under n = group_with 0 0 Plain ∷ record { before = replicate n 0; instr = instr_with false 1 0 Plain } ∷ group_with 2 167 (Target 0) ∷ []
 
 farthest_back : first_far [] (under 32766) ≡ None
+unfolding row_of groups wide_row_of wide_groups
 farthest_back = refl
 
 too_far_back : first_far [] (under 32767) ≡ Some 2
+unfolding row_of groups wide_row_of wide_groups
 too_far_back = refl

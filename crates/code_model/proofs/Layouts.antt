@@ -9,14 +9,13 @@ use Rattle.code_model.specs.declared.instr.Instr.{Instr}
 use Rattle.code_model.specs.declared.laying.Group.{Group}
 use Rattle.code_model.specs.declared.laying.Homes.{Homes}
 use Rattle.code_model.specs.Instructions.{instruction_at, end_of, Reads}
-use Rattle.code_model.specs.Layout.{Spot, instr_bytes, size_at, place_of, group_end, spots_from, end_from, source_end, all_spots, homes_of, home_in, place_in, origin_in, home_of, found_beside, groups_bytes, laid_of}
-use Rattle.code_model.specs.Groups.{instrs_of}
+use Rattle.code_model.specs.Layout.{Spot, width_of, instr_bytes, size_at, moved, place_of, group_end, spots_from, end_from, source_end, all_spots, homes_of, home_in, place_in, origin_in, home_of, found_beside, groups_bytes, laid_of}
 use Rattle.code_model.proofs.Readings.{instruction_at_within}
-use Rattle.code_model.proofs.Decoded.{end_of-size_at}
 use Rattle.code_model.proofs.Walks.{groups_bytes-append, length-groups_bytes}
 use Rattle.code_model.proofs.Lookups.{Rises, Rises-increasing, found, found_beside-at, found_beside-back, spot-found_beside}
 use Rattle.code_model.proofs.Among.{homes_rise, places_rise, starts_rise, reads_middle, spot_of, spots_and_end, spots_split, first_spot, IsGroupSpot, end_spot, which_spot, source_end-reads}
-use Rattle.code_model.proofs.Again.{IsBytes, instruction_again, instruction_at-among}
+use Rattle.code_model.specs.Groups.{IsBytes, CanBranch, instrs_of}
+use Rattle.code_model.proofs.Again.{IsUnmoved, instruction_again, instruction_at-among}
 
 -- ---- what stands where
 
@@ -26,8 +25,9 @@ pub record Stands (homes : Homes) (code : List ℕ) (g : Group) (home : ℕ) : T
   pub place_is : place_in homes g.instr.at ≡ Some (place_of home g)
   pub origin_is : origin_in homes (place_of home g) ≡ Some g.instr.at
   pub before_is : take (length g.before) (drop home code) ≡ g.before
-  pub before_reads : (n place : ℕ) (i : Instr) → place ≡ home + n → instruction_at g.before n ≡ Some i → instruction_at code place ≡ Some (record i { at = place })
-  pub instr_is : instruction_at code (place_of home g) ≡ Some (record g.instr { at = place_of home g })
+  pub before_reads : (n place : ℕ) (i : Instr) → place ≡ home + n → IsUnmoved i.arg → instruction_at g.before n ≡ Some i → instruction_at code place ≡ Some (record i { at = place })
+  pub instr_is : CanBranch (home_of homes) (place_of home g) (width_of g.instr) g.instr.arg
+      → instruction_at code (place_of home g) ≡ Some (moved (home_of homes) (place_of home g) g.instr)
   pub next_is : home_in homes (end_of g.instr) ≡ Some (end_of (record g.instr { at = place_of home g }))
 
 -- a number of a group's spot is found beside another that rises
@@ -42,8 +42,7 @@ next_home bytes front pre g post reads =
     let at = end_from (length front) pre in
     let groups = pre ++ g ∷ post in
     let middle = reads_middle bytes 0 pre g post reads in
-    let end = end_of-size_at bytes g.instr.at g.instr middle.0 g.instr.at in
-    let begins = first_spot bytes (group_end at g) (end_of g.instr) (g.instr.at + size_at g.instr.at g.instr) post middle.1 (sym end) in
+    let begins = first_spot bytes (group_end at g) (end_of g.instr) (end_of g.instr) post middle.1 refl in
     let before = spots_from (length front) pre in
     let split : all_spots front groups ≡ (before ++ spot_of at g ∷ []) ++ begins.spot ∷ begins.rest =
     spots_split (length front) 0 pre g post ∙ ap (λ (t : List Spot). before ++ spot_of at g ∷ t) begins.parts ∙ sym (append_assoc before (spot_of at g ∷ []) (begins.spot ∷ begins.rest)) in
@@ -62,15 +61,16 @@ front_length : (front : List ℕ) (home : ℕ → ℕ) (pre : List Group) → le
 front_length front home pre = length-append front (groups_bytes home (length front) pre) ∙ length-groups_bytes home (length front) pre
 
 middle_stands : (bytes front back : List ℕ) (home : ℕ → ℕ) (pre : List Group) (g : Group) (post : List Group) → instruction_at bytes g.instr.at ≡ Some g.instr → IsBytes bytes
+    → CanBranch home (place_of (end_from (length front) pre) g) (width_of g.instr) g.instr.arg
     → instruction_at (front ++ (groups_bytes home (length front) (pre ++ g ∷ post) ++ back)) (place_of (end_from (length front) pre) g)
-    ≡ Some (record g.instr { at = place_of (end_from (length front) pre) g })
-middle_stands bytes front back home pre g post here fits =
+    ≡ Some (moved home (place_of (end_from (length front) pre) g) g.instr)
+middle_stands bytes front back home pre g post here fits leads =
     let at = end_from (length front) pre in
     let place = place_of at g in
     let start = front ++ groups_bytes home (length front) pre in
     let behind = groups_bytes home (group_end at g) post ++ back in
     let len : length (start ++ g.before) ≡ place = length-append start g.before ∙ ap (λ n. n + length g.before) (front_length front home pre) in
-    let again = instruction_again bytes g.instr.at g.instr here fits home (start ++ g.before) behind place len in
+    let again = instruction_again bytes g.instr.at g.instr here fits home (start ++ g.before) behind place len leads in
     let split = code_split front back home pre g post ∙ sym (append_assoc start g.before (instr_bytes home place g.instr ++ behind)) in
     ap (λ (t : List ℕ). instruction_at t place) split ∙ again
 
@@ -84,15 +84,15 @@ middle_before front back home pre g post =
     ∙ ap (take (length g.before)) (drop_at start (g.before ++ behind) at (front_length front home pre)) ∙ take_at g.before behind (length g.before) refl
 
 -- an instruction of the bytes in front of a group's stands behind its home
-instruction_at-before : (front back : List ℕ) (pre : List Group) (g : Group) (post : List Group) (n place : ℕ) (i : Instr) → place ≡ end_from (length front) pre + n
+instruction_at-before : (front back : List ℕ) (pre : List Group) (g : Group) (post : List Group) (n place : ℕ) (i : Instr) → place ≡ end_from (length front) pre + n → IsUnmoved i.arg
     → instruction_at g.before n ≡ Some i → instruction_at (laid_of front (pre ++ g ∷ post) back).code place ≡ Some (record i { at = place })
-instruction_at-before front back pre g post n place i is e =
+instruction_at-before front back pre g post n place i is unmoved e =
     let home = home_of (homes_of front (pre ++ g ∷ post)) in
     let at = end_from (length front) pre in
     let start = front ++ groups_bytes home (length front) pre in
     let behind = instr_bytes home (place_of at g) g.instr ++ (groups_bytes home (group_end at g) post ++ back) in
     let len = front_length front home pre in
-    ap (λ (t : List ℕ). instruction_at t place) (code_split front back home pre g post) ∙ instruction_at-among start g.before behind n place i (omega arith) e
+    ap (λ (t : List ℕ). instruction_at t place) (code_split front back home pre g post) ∙ instruction_at-among start g.before behind n place i (omega arith) unmoved e
 
 -- So it is of each group of a layout.
 pub group_stands : (bytes front back : List ℕ) (pre : List Group) (g : Group) (post : List Group) → Reads bytes 0 (instrs_of (pre ++ g ∷ post)) → IsBytes bytes
@@ -102,18 +102,15 @@ group_stands bytes front back pre g post reads fits =
     let at = end_from (length front) pre in
     let middle = reads_middle bytes 0 pre g post reads in
     let home = home_of (homes_of front groups) in
-    let instr = middle_stands bytes front back home pre g post middle.0 fits in
-    let code = front ++ (groups_bytes home (length front) groups ++ back) in
     let starts = starts_rise bytes (length front) 0 groups reads in
-    let end : end_of (record g.instr { at = place_of at g }) ≡ group_end at g = end_of-size_at code (place_of at g) (record g.instr { at = place_of at g }) instr (place_of at g) in
     record {
       home_is = beside_spot (λ (s : Spot). s.from) (λ (s : Spot). s.home) 0 front pre g post starts;
       place_is = beside_spot (λ (s : Spot). s.from) (λ (s : Spot). s.place) 0 front pre g post starts;
       origin_is = beside_spot (λ (s : Spot). s.place) (λ (s : Spot). s.from) (length front) front pre g post (places_rise (length front) 0 groups);
       before_is = middle_before front back home pre g post;
       before_reads = instruction_at-before front back pre g post;
-      instr_is = instr;
-      next_is = next_home bytes front pre g post reads ∙ ap found (sym end);
+      instr_is = middle_stands bytes front back home pre g post middle.0 fits;
+      next_is = next_home bytes front pre g post reads;
     }
 
 -- ---- by look-ups
@@ -173,12 +170,15 @@ group_at_place bytes front back gs reads fits i place here e = group_of bytes fr
 
 -- an instruction stands at its place
 pub instruction_at-place : (bytes front back : List ℕ) (gs : List Group) → Reads bytes 0 (instrs_of gs) → IsBytes bytes
-    → (i : Instr) (place : ℕ) → instruction_at bytes i.at ≡ Some i → place_in (homes_of front gs) i.at ≡ Some place
-    → instruction_at (laid_of front gs back).code place ≡ Some (record i { at = place })
-instruction_at-place bytes front back gs reads fits i place here e =
+    → (i : Instr) (place : ℕ) → instruction_at bytes i.at ≡ Some i → place_in (homes_of front gs) i.at ≡ Some place → CanBranch (home_of (homes_of front gs)) place (width_of i) i.arg
+    → instruction_at (laid_of front gs back).code place ≡ Some (moved (home_of (homes_of front gs)) place i)
+instruction_at-place bytes front back gs reads fits i place here e leads =
     let o = group_at_place bytes front back gs reads fits i place here e in
-    let moved : ℕ → Instr → Option Instr = λ at j. Some (record j { at = at }) in
-    ap (instruction_at (laid_of front gs back).code) (sym o.number_is) ∙ o.stands.instr_is ∙ ap (λ at. moved at o.group.instr) o.number_is ∙ ap (moved place) o.instr
+    let home = home_of (homes_of front gs) in
+    let there : ℕ → Instr → Option Instr = λ at j. Some (moved home at j) in
+    let branches : CanBranch home (place_of o.home o.group) (width_of o.group.instr) o.group.instr.arg =
+    subst (λ (j : Instr). CanBranch home (place_of o.home o.group) (width_of j) j.arg) (sym o.instr) (subst (λ at. CanBranch home at (width_of i) i.arg) (sym o.number_is) leads) in
+    ap (instruction_at (laid_of front gs back).code) (sym o.number_is) ∙ o.stands.instr_is branches ∙ ap (λ at. there at o.group.instr) o.number_is ∙ ap (there place) o.instr
 
 -- and ends there where the offset behind it has its home
 pub home_in-end_of : (bytes front back : List ℕ) (gs : List Group) → Reads bytes 0 (instrs_of gs) → IsBytes bytes
@@ -203,16 +203,16 @@ back_stands front gs back =
     ap (drop (end_from (length front) gs)) (sym split) ∙ drop_at (front ++ groups_bytes home (length front) gs) back (end_from (length front) gs) (front_length front home gs)
 
 -- so their instructions stand there
-pub instruction_at-front : (front : List ℕ) (gs : List Group) (back : List ℕ) (n : ℕ) (i : Instr) → instruction_at front n ≡ Some i → instruction_at (laid_of front gs back).code n ≡ Some (record i { at = n })
-instruction_at-front front gs back n i e = instruction_at-among [] front (groups_bytes (home_of (homes_of front gs)) (length front) gs ++ back) n n i (omega arith) e
+pub instruction_at-front : (front : List ℕ) (gs : List Group) (back : List ℕ) (n : ℕ) (i : Instr) → IsUnmoved i.arg → instruction_at front n ≡ Some i → instruction_at (laid_of front gs back).code n ≡ Some (record i { at = n })
+instruction_at-front front gs back n i unmoved e = instruction_at-among [] front (groups_bytes (home_of (homes_of front gs)) (length front) gs ++ back) n n i (omega arith) unmoved e
 
-pub instruction_at-back : (front : List ℕ) (gs : List Group) (back : List ℕ) (n place : ℕ) (i : Instr) → place ≡ end_from (length front) gs + n
+pub instruction_at-back : (front : List ℕ) (gs : List Group) (back : List ℕ) (n place : ℕ) (i : Instr) → place ≡ end_from (length front) gs + n → IsUnmoved i.arg
     → instruction_at back n ≡ Some i → instruction_at (laid_of front gs back).code place ≡ Some (record i { at = place })
-instruction_at-back front gs back n place i is e =
+instruction_at-back front gs back n place i is unmoved e =
     let bytes = groups_bytes (home_of (homes_of front gs)) (length front) gs in
     let len = front_length front (home_of (homes_of front gs)) gs in
     let split : front ++ (bytes ++ back) ≡ (front ++ bytes) ++ (back ++ []) = sym (append_assoc front bytes back) ∙ ap (λ (t : List ℕ). (front ++ bytes) ++ t) (sym (append-nil back)) in
-    ap (λ (t : List ℕ). instruction_at t place) split ∙ instruction_at-among (front ++ bytes) back [] n place i (omega arith) e
+    ap (λ (t : List ℕ). instruction_at t place) split ∙ instruction_at-among (front ++ bytes) back [] n place i (omega arith) unmoved e
 
 -- offset 0 has its home behind the front
 pub home_in-start : (bytes front : List ℕ) (gs : List Group) → Reads bytes 0 (instrs_of gs) → home_in (homes_of front gs) 0 ≡ Some (length front)

@@ -1,12 +1,22 @@
+pub mod Items
+pub mod Turns
+pub mod Conditions
+pub mod NumberLaws
+pub mod OperandLaws
+pub mod Many
+pub mod Lookups
+pub mod Lengths
+pub mod Spelled
 pub mod Readings
 mod Fronts
-mod LaidRows
-pub mod Lengths
-pub mod Walks
-mod Growing
-pub mod Decoded
-pub mod Ready
-pub mod Lookups
 pub mod Again
+pub mod Growing
+pub mod Walks
 pub mod Among
 pub mod Layouts
+pub mod Searches
+pub mod Steps
+pub mod Ready
+mod LaidRows
+mod ReadRows
+pub mod Starting

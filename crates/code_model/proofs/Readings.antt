@@ -1,78 +1,108 @@
 -- What a reading says of its instructions, and that bytes have no other one.
-use Rattle.std.proofs.Common.{◌≡◌, ℕ, ◌+◌, ◌<◌, ◌≤◌, List, [], ◌∷◌, length, Option, Some, None, refl, sym, ap, subst, ◌∙◌, arith}
+use Rattle.std.proofs.Common.{◌≡◌, ℕ, ◌+◌, ◌-◌, ◌<◌, ◌≤◌, List, [], ◌∷◌, ◌++◌, length, take, drop, Option, Some, None, Ok, Err, refl, sym, ap, subst, ◌∙◌, inl, inr, arith}
 use Rattle.std.specs.List.{AllByRecursion}
-use Rattle.std.specs.Option.{option_map, option_map_or, option_and_then}
-use Rattle.std.specs.Int.{w8, w16, cast_signed, from_be_bytes}
-use Rattle.std.specs.Prelude.{slice_get}
-use Rattle.std.proofs.lemmas.Option.{same_Some, none-some, slice_get_within, option_and_then_some}
-use Rattle.code_model.specs.declared.instr.Arg.{Arg}
-use Rattle.code_model.specs.declared.instr.Arg.TheVariants.{Value, Pool}
+use Rattle.std.proofs.lemmas.Bool.{cases_lt}
+use Rattle.std.proofs.lemmas.List.{length-append, length-take, take-append-drop, drop_at, drop_all}
+use Rattle.std.proofs.lemmas.Option.{same_Some, none-some}
+use Rattle.code_model.specs.declared.error.CodeError.{CodeError}
 use Rattle.code_model.specs.declared.instr.Instr.{Instr}
 use Rattle.code_model.specs.declared.instr.Code.{Code}
-use Rattle.code_model.specs.declared.opcodes.Form.{Form}
-use Rattle.code_model.specs.declared.opcodes.Form.TheVariants.{NoOperand, SignedByte, SignedShort, PoolIndex}
-use Rattle.code_model.specs.Instructions.{form_of, short_at, operand_at, operand_size, with_operand, instruction_at, end_of, Reads, IsReading}
+use Rattle.code_model.specs.Reading.{Read, read_instruction}
+use Rattle.code_model.specs.Instructions.{found_in, instruction_at, StandsAt, end_of, Reads, IsReading}
+use Rattle.code_model.proofs.Items.{one_read}
+use Rattle.code_model.proofs.OperandLaws.{instruction_is_read}
+use Rattle.code_model.proofs.Spelled.{IsInstr, instruction_spelled}
+use Rattle.code_model.specs.Layout.{size_at}
+use Rattle.code_model.proofs.Lengths.{size_at-some}
 
-at_kept : (at op : ℕ) (arg : Option Arg) (i : Instr) → option_map (with_operand at op) arg ≡ Some i → i.at ≡ at
-at_kept at op None i e = absurd cc
-at_kept at op (Some arg) i e = ap (λ (j : Instr). j.at) (sym (same_Some (with_operand at op arg) i e))
+-- ---- what stands at an offset
 
--- an instruction carries the offset at which it stands
-pub at-instruction_at : (bytes : List ℕ) (at : ℕ) (i : Instr) → instruction_at bytes at ≡ Some i → i.at ≡ at
-at-instruction_at bytes at i e =
-    option_and_then_some (λ op. option_and_then (λ form. option_map (with_operand at op) (operand_at form bytes (at + 1))) (form_of op)) (slice_get bytes at) i e
-    (λ op is_op after_op. option_and_then_some (λ form. option_map (with_operand at op) (operand_at form bytes (at + 1))) (form_of op) i after_op
-    (λ form is_form after_form. at_kept at op (operand_at form bytes (at + 1)) i after_form))
+found_read : {A : Type 0} (read : Read A) (x : A) → found_in read ≡ Some x → (rest : List ℕ) × (read ≡ Ok (x, rest))
+found_read (Ok read) x e = let same = same_Some read.0 x e in (read.1, ap (λ y. one_read y read.1) same)
+found_read (Err fault) x e = absurd (none-some x e)
+
+-- what was read at an offset
+pub read-instruction_at : (bytes : List ℕ) (at : ℕ) (i : Instr) → instruction_at bytes at ≡ Some i → (rest : List ℕ) × (read_instruction at (drop at bytes) ≡ Ok (i, rest))
+unfolding instruction_at
+read-instruction_at bytes at i e = found_read (read_instruction at (drop at bytes)) i e
+
+pub instruction_at-read : (bytes : List ℕ) (at : ℕ) (i : Instr) (rest : List ℕ) → read_instruction at (drop at bytes) ≡ Ok (i, rest) → instruction_at bytes at ≡ Some i
+unfolding instruction_at
+instruction_at-read bytes at i rest e = ap found_in e
+
+pub instruction_at-fault : (bytes : List ℕ) (at : ℕ) (fault : CodeError) → read_instruction at (drop at bytes) ≡ Err fault → instruction_at bytes at ≡ None
+unfolding instruction_at
+instruction_at-fault bytes at fault e = ap found_in e
+
+-- no instruction begins at the end
+read_nothing : (at : ℕ) (i : Instr) (rest : List ℕ) → read_instruction at [] ≡ Ok (i, rest) → ⊥
+read_nothing at i rest e =
+    let t = (instruction_is_read at).takes [] i rest e in
+    let known = instruction_spelled at t.front i t.spelled in
+    let long = known.long in
+    let some = size_at-some at i in
+    let parts = ap length t.parts in
+    omega (arith, length-append t.front rest)
 
 -- no instruction stands past the end
 pub instruction_at_within : (bytes : List ℕ) (at : ℕ) (i : Instr) → instruction_at bytes at ≡ Some i → at < length bytes
 instruction_at_within bytes at i e =
-    option_and_then_some (λ op. option_and_then (λ form. option_map (with_operand at op) (operand_at form bytes (at + 1))) (form_of op)) (slice_get bytes at) i e
-    (λ op is_op after_op. slice_get_within bytes at op is_op)
+    let r = read-instruction_at bytes at i e in
+    elim (cases_lt at (length bytes)) [
+      | inl within ↦ within
+      | inr past ↦ absurd (read_nothing at i r.0 (subst (λ (t : List ℕ). read_instruction at t ≡ Ok (i, r.0)) (drop_all at bytes past) r.1))
+    ]
 
-in_map : {A B : Type 0} (f : A → B) (o : Option A) (y : B) → option_map f o ≡ Some y → (x : A) × (o ≡ Some x)
-in_map f None y e = absurd (none-some y e)
-in_map f (Some x) y e = (x, refl)
+pub stands_from : (bytes : List ℕ) (at : ℕ) (i : Instr) → instruction_at bytes at ≡ Some i → StandsAt bytes at i
+stands_from bytes at i e =
+    let r = read-instruction_at bytes at i e in
+    let t = (instruction_is_read at).takes (drop at bytes) i r.0 r.1 in
+    let within = instruction_at_within bytes at i e in
+    record {
+      front = take at bytes;
+      text = t.front;
+      rest = r.0;
+      parts = sym (take-append-drop at bytes) ∙ ap (λ (u : List ℕ). take at bytes ++ u) t.parts;
+      place = omega (arith, length-take at bytes);
+      spelled = t.spelled;
+    }
 
-short_at_within : (bytes : List ℕ) (at n : ℕ) → short_at bytes at ≡ Some n → at + 2 ≤ length bytes
-short_at_within bytes at n e =
-    option_and_then_some (λ high. option_map (λ low. from_be_bytes w16 (high ∷ low ∷ [])) (slice_get bytes (at + 1))) (slice_get bytes at) n e
-    (λ high is_high after.
-    let low = in_map (λ low. from_be_bytes w16 (high ∷ low ∷ [])) (slice_get bytes (at + 1)) n after in
-    let within = slice_get_within bytes (at + 1) low.0 low.1 in
-    omega arith)
+pub stands_to : (bytes : List ℕ) (at : ℕ) (i : Instr) → StandsAt bytes at i → instruction_at bytes at ≡ Some i
+stands_to bytes at i s =
+    let behind : drop at bytes ≡ s.text ++ s.rest = ap (drop at) s.parts ∙ drop_at s.front (s.text ++ s.rest) at s.place in
+    instruction_at-read bytes at i s.rest (ap (read_instruction at) behind ∙ (instruction_is_read at).again s.text s.rest i s.spelled)
 
--- an operand ends before the bytes do
-operand_at_within : (form : Form) (bytes : List ℕ) (at : ℕ) (arg : Arg) → at ≤ length bytes → operand_at form bytes at ≡ Some arg → at + operand_size form ≤ length bytes
-operand_at_within NoOperand bytes at arg le e = omega arith
-operand_at_within SignedByte bytes at arg le e =
-    let byte = in_map (λ byte. Value (cast_signed w8 byte)) (slice_get bytes at) arg e in
-    let within = slice_get_within bytes at byte.0 byte.1 in
-    omega arith
-operand_at_within SignedShort bytes at arg le e =
-    let short = in_map (λ short. Value (cast_signed w16 short)) (short_at bytes at) arg e in
-    short_at_within bytes at short.0 short.1
-operand_at_within PoolIndex bytes at arg le e =
-    let short = in_map Pool (short_at bytes at) arg e in
-    short_at_within bytes at short.0 short.1
+-- an instruction carries the offset at which it stands
+pub at-instruction_at : (bytes : List ℕ) (at : ℕ) (i : Instr) → instruction_at bytes at ≡ Some i → i.at ≡ at
+at-instruction_at bytes at i e = let s = stands_from bytes at i e in (instruction_spelled at s.text i s.spelled).here
 
-end_of_kept : (at op : ℕ) (form : Form) (arg : Option Arg) (i : Instr) → form_of op ≡ Some form → option_map (with_operand at op) arg ≡ Some i → end_of i ≡ at + 1 + operand_size form
-end_of_kept at op form None i is_form e = absurd (none-some i e)
-end_of_kept at op form (Some arg) i is_form e =
-    ap end_of (sym (same_Some (with_operand at op arg) i e)) ∙ ap (λ f. at + 1 + option_map_or operand_size f 0) is_form
+-- what is left behind it
+pub rest-instruction_at : (bytes : List ℕ) (at : ℕ) (i : Instr) (rest : List ℕ) → read_instruction at (drop at bytes) ≡ Ok (i, rest) → end_of i + length rest ≡ length bytes
+rest-instruction_at bytes at i rest e =
+    let t = (instruction_is_read at).takes (drop at bytes) i rest e in
+    let known = instruction_spelled at t.front i t.spelled in
+    let here = known.here in
+    let long : length t.front ≡ end_of i - at = subst (λ n. length t.front ≡ end_of i - n) here (known.long ∙ by_size i.at at here) in
+    let within = instruction_at_within bytes at i (instruction_at-read bytes at i rest e) in
+    let parts = ap length t.parts in
+    let start = ap length (take-append-drop at bytes) in
+    omega (arith, length-append t.front rest, length-append (take at bytes) (drop at bytes), length-take at bytes)
+  where
+    by_size : (a b : ℕ) → a ≡ b → size_at b i ≡ a + size_at a i - a
+    by_size a b same = subst (λ n. size_at n i ≡ a + size_at a i - a) same (omega arith)
 
 -- an instruction ends before the bytes do
 pub end_of-within : (bytes : List ℕ) (at : ℕ) (i : Instr) → instruction_at bytes at ≡ Some i → end_of i ≤ length bytes
 end_of-within bytes at i e =
-    let after_op_of : ℕ → Form → Option Instr = λ op form. option_map (with_operand at op) (operand_at form bytes (at + 1)) in
-    option_and_then_some (λ op. option_and_then (after_op_of op) (form_of op)) (slice_get bytes at) i e
-    (λ op is_op after_op. option_and_then_some (after_op_of op) (form_of op) i after_op
-    (λ form is_form after_form.
-    let start = slice_get_within bytes at op is_op in
-    let arg = in_map (with_operand at op) (operand_at form bytes (at + 1)) i after_form in
-    let within = operand_at_within form bytes (at + 1) arg.0 (omega arith) arg.1 in
-    let ends = end_of_kept at op form (operand_at form bytes (at + 1)) i is_form after_form in
-    omega arith))
+    let r = read-instruction_at bytes at i e in
+    let ends = rest-instruction_at bytes at i r.0 r.1 in
+    omega arith
+
+-- what is known of it
+pub known_at : (bytes : List ℕ) (at : ℕ) (i : Instr) → instruction_at bytes at ≡ Some i → (text : List ℕ) × IsInstr at text i
+known_at bytes at i e = let s = stands_from bytes at i e in (s.text, instruction_spelled at s.text i s.spelled)
+
+-- ---- readings
 
 -- two readings of the same bytes from the same offset are the same
 pub Reads-unique : (bytes : List ℕ) (at : ℕ) (is js : List Instr) → Reads bytes at is → Reads bytes at js → is ≡ js
@@ -82,7 +112,7 @@ Reads-unique bytes at (i ∷ is) [] p q = let within = instruction_at_within byt
 Reads-unique bytes at (i ∷ is) (j ∷ js) p q =
     let same : j ≡ i = same_Some j i (sym q.0 ∙ p.0) in
     let rest : is ≡ js = Reads-unique bytes (end_of i) is js p.1 (subst (λ (k : Instr). Reads bytes (end_of k) js) same q.1) in
-    cc
+    ap (λ (k : Instr). k ∷ is) (sym same) ∙ ap (λ (ks : List Instr). j ∷ ks) rest
 
 -- so there is one code at most
 pub IsReading-unique : (bytes : List ℕ) (a b : Code) → IsReading bytes a → IsReading bytes b → a ≡ b
@@ -101,3 +131,19 @@ Reads-each bytes at (i ∷ is) p = (ap (instruction_at bytes) (at-instruction_at
 pub Reads-some : (bytes : List ℕ) (is : List Instr) → 0 < length bytes → Reads bytes 0 is → 0 < length is
 Reads-some bytes [] some p = absurd (omega arith)
 Reads-some bytes (i ∷ is) some p = omega arith
+
+-- less is left behind it
+pub less-instruction_at : (bytes : List ℕ) (at : ℕ) (i : Instr) (rest : List ℕ) → read_instruction at (drop at bytes) ≡ Ok (i, rest) → at + length rest < length bytes
+less-instruction_at bytes at i rest e =
+    let ends = rest-instruction_at bytes at i rest e in
+    let here = at-instruction_at bytes at i (instruction_at-read bytes at i rest e) in
+    let some = size_at-some i.at i in
+    omega arith
+
+-- nothing stands at the end
+pub instruction_at-past : (bytes : List ℕ) (at : ℕ) → length bytes ≤ at → instruction_at bytes at ≡ None
+instruction_at-past bytes at past = by_case (instruction_at bytes at) refl
+  where
+    by_case : (found : Option Instr) → instruction_at bytes at ≡ found → instruction_at bytes at ≡ None
+    by_case None e = e
+    by_case (Some i) e = let within = instruction_at_within bytes at i e in absurd (omega arith)

@@ -1,54 +1,34 @@
--- The instructions of a code: which one stands at an offset, and which offsets have one (JVM Specification 4.9.1, 6.5).
-use Rattle.std.specs.Prelude.{◌≡◌, ℕ, ◌+◌, false, List, [], ◌∷◌, length, Option, Some, None, Result, Ok, Err, slice_get, ◌==◌, if◌then◌else◌}
-use Rattle.std.specs.Option.{option_and_then, option_map, option_map_or}
-use Rattle.std.specs.Int.{w8, w16, cast_signed, from_be_bytes}
-use Rattle.std.specs.List.{list_any}
-use Rattle.code_model.specs.declared.instr.Arg.{Arg}
-use Rattle.code_model.specs.declared.instr.Arg.TheVariants.{Plain, Value, Pool}
+-- The instructions of a code: which one stands at an offset, which offsets have one, and the first fault of bytes that are no
+-- code (JVM Specification 4.9.1, 6.5).
+use Rattle.std.specs.Prelude.{◌≡◌, ℕ, ◌+◌, ◌<◌, List, [], ◌∷◌, ◌++◌, length, drop, Option, Some, None, Result, Ok, Err}
 use Rattle.code_model.specs.declared.instr.Instr.{Instr}
 use Rattle.code_model.specs.declared.instr.Code.{Code}
-use Rattle.code_model.specs.declared.opcodes.Form.{Form}
-use Rattle.code_model.specs.declared.opcodes.Form.TheVariants.{NoOperand, SignedByte, SignedShort, PoolIndex}
 use Rattle.code_model.specs.declared.error.CodeError.{CodeError}
-use Rattle.code_model.specs.declared.error.CodeError.TheVariants.{NotBuilt, NoMemory}
+use Rattle.code_model.specs.declared.error.CodeError.TheVariants.{BadOpcode, Cut, BadSwitch, NoMemory}
+use Rattle.code_model.specs.Operands.{instruction}
+use Rattle.code_model.specs.Reading.{Read, read_instruction}
+use Rattle.code_model.specs.Layout.{size_at}
 
--- The opcodes of the built part, by their form (6.5): nop, iconst_m1 to iconst_5, iload_0 to iload_3, iadd, isub, imul, ireturn and return;
--- bipush; sipush; getstatic, invokevirtual and invokestatic.
-abbrev pub form_of : ℕ → Option Form
-form_of op =
-    if list_any (λ n. n == op) (0 ∷ 2 ∷ 3 ∷ 4 ∷ 5 ∷ 6 ∷ 7 ∷ 8 ∷ 26 ∷ 27 ∷ 28 ∷ 29 ∷ 96 ∷ 100 ∷ 104 ∷ 172 ∷ 177 ∷ []) then Some NoOperand
-    else if op == 16 then Some SignedByte
-    else if op == 17 then Some SignedShort
-    else if list_any (λ n. n == op) (178 ∷ 182 ∷ 184 ∷ []) then Some PoolIndex
-    else None
-
--- the two bytes at an offset, as an unsigned number
-abbrev pub short_at : List ℕ → ℕ → Option ℕ
-short_at bytes at = option_and_then (λ high. option_map (λ low. from_be_bytes w16 (high ∷ low ∷ [])) (slice_get bytes (at + 1))) (slice_get bytes at)
-
--- the operand of this form at an offset
-abbrev pub operand_at : Form → List ℕ → ℕ → Option Arg
-operand_at NoOperand bytes at = Some Plain
-operand_at SignedByte bytes at = option_map (λ byte. Value (cast_signed w8 byte)) (slice_get bytes at)
-operand_at SignedShort bytes at = option_map (λ short. Value (cast_signed w16 short)) (short_at bytes at)
-operand_at PoolIndex bytes at = option_map Pool (short_at bytes at)
-
-abbrev pub operand_size : Form → ℕ
-operand_size NoOperand = 0
-operand_size SignedByte = 1
-operand_size SignedShort = 2
-operand_size PoolIndex = 2
-
-abbrev pub with_operand : ℕ → ℕ → Arg → Instr
-with_operand at op arg = record { at = at; op = op; wide = false; arg = arg }
+abbrev pub found_in : {A : Type 0} → Read A → Option A
+found_in (Ok read) = Some read.0
+found_in (Err fault) = None
 
 -- the instruction that stands at an offset
-abbrev pub instruction_at : List ℕ → ℕ → Option Instr
-instruction_at bytes at = option_and_then (λ op. option_and_then (λ form. option_map (with_operand at op) (operand_at form bytes (at + 1))) (form_of op)) (slice_get bytes at)
+unfoldable pub instruction_at : List ℕ → ℕ → Option Instr
+instruction_at bytes at = found_in (read_instruction at (drop at bytes))
+
+-- The bytes behind this offset begin with those of the instruction.
+pub record StandsAt (bytes : List ℕ) (at : ℕ) (i : Instr) : Type 0 where
+  pub front : List ℕ
+  pub text : List ℕ
+  pub rest : List ℕ
+  pub parts : bytes ≡ front ++ (text ++ rest)
+  pub place : length front ≡ at
+  pub spelled : (instruction at).Spells text i
 
 -- where the next instruction begins
 abbrev pub end_of : Instr → ℕ
-end_of i = i.at + 1 + option_map_or operand_size (form_of i.op) 0
+end_of i = i.at + size_at i.at i
 
 -- From this offset on the bytes are these instructions: each begins where the one before ends, and the last ends where the bytes do.
 abbrev pub Reads : List ℕ → ℕ → List Instr → Type 0
@@ -60,8 +40,35 @@ pub record IsReading (bytes : List ℕ) (code : Code) : Type 0 where
   pub instrs : Reads bytes 0 code.instrs
   pub len : code.len ≡ length bytes
 
+-- ---- bytes that are no code
+
+-- from this offset on the bytes are these instructions, the last of which ends at `stop`
+abbrev pub ReadsTo : List ℕ → ℕ → List Instr → ℕ → Type 0
+ReadsTo bytes at [] stop = at ≡ stop
+ReadsTo bytes at (i ∷ rest) stop = (instruction_at bytes at ≡ Some i) × ReadsTo bytes (end_of i) rest stop
+
+-- The bytes are instructions up to an offset, and those behind it begin with none: this is their fault.
+pub record IsFirstFault (bytes : List ℕ) (fault : CodeError) : Type 0 where
+  pub before : List Instr
+  pub at : ℕ
+  pub reads : ReadsTo bytes 0 before at
+  pub more : at < length bytes
+  pub faults : (instruction at).Faults (drop at bytes) fault
+
+-- ---- answers
+
 -- the answer is this code, or memory ran out
 abbrev pub IsDecodedAs : Result Code CodeError → Code → Type 0
 IsDecodedAs (Ok decoded) code = decoded ≡ code
-IsDecodedAs (Err NotBuilt) code = ⊥
 IsDecodedAs (Err NoMemory) code = Unit {0}
+IsDecodedAs (Err (BadOpcode at)) code = ⊥
+IsDecodedAs (Err (Cut at)) code = ⊥
+IsDecodedAs (Err (BadSwitch at)) code = ⊥
+
+-- the answer is this fault, or memory ran out
+abbrev pub IsRefusedAs : Result Code CodeError → CodeError → Type 0
+IsRefusedAs (Ok decoded) fault = ⊥
+IsRefusedAs (Err NoMemory) fault = Unit {0}
+IsRefusedAs (Err (BadOpcode at)) fault = BadOpcode at ≡ fault
+IsRefusedAs (Err (Cut at)) fault = Cut at ≡ fault
+IsRefusedAs (Err (BadSwitch at)) fault = BadSwitch at ≡ fault

@@ -1,4 +1,7 @@
-pub mod Instructions
+pub mod Formats
+pub mod Operands
+pub mod Reading
 pub mod Layout
+pub mod Instructions
 pub mod Groups
-pub mod Built
+pub mod Widths

@@ -1,6 +1,6 @@
 //! Instructions with their operands.
 
-use crate::opcodes::find_form;
+use crate::sizes::instr_len;
 use jf_bytes::Seq;
 
 /// An instruction's operand, by its form. Targets are absolute offsets.
@@ -48,11 +48,8 @@ impl Instr {
         requires { end_of self.now < 2 ^ 16 }
         ensures { result ≡ end_of self.now }
     {
-        let size = match find_form(self.op) {
-            Some(form) => form.size(),
-            None => 0,
-        };
-        self.at + 1 + size
+        let at = u32::from(self.at);
+        (at + instr_len(self, at)) as u16
     }
 }
 

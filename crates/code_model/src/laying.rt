@@ -1,14 +1,15 @@
 //! Laying instructions out anew, with bytes in front of some of them (JVM Specification 4.7.3).
 
 ghost use Rattle.std.specs.Prelude.{◌≡◌, ◌<◌, ◌≤◌, ℕ, length, Err, Some, None, IfOk};
+ghost use Rattle.std.specs.List.Sorted.{IsStrictlyIncreasing};
 ghost use Rattle.code_model.specs.Groups.{AreGroups, IsShort};
-ghost use Rattle.code_model.specs.Layout.{laid_of, first_far};
+ghost use Rattle.code_model.specs.Layout.{width_of, home_of, end_from, laid_of, is_near, fits_branch, first_far_from, first_far};
 ghost use Rattle.code_model.specs.declared.laying.LayError.TheVariants.{NoMemory as out_of_memory};
 
-use crate::instr::Instr;
-use crate::sizes::end_of_groups;
+use crate::homes::homes_of;
+use crate::instr::{Arg, Instr};
+use crate::sizes::{end_of_groups, group_end, place_of, size_of_number};
 use crate::spelling::code_of;
-use crate::spots::homes_of;
 use jf_bytes::{NoMemory, Seq};
 use std::alloc::Global;
 use thiserror::Error;
@@ -46,7 +47,7 @@ pub enum LayError {
     /// It would have this many bytes, which is more than 65535 (JVM Specification 4.7.3).
     #[error("too long")]
     TooLong(u32),
-    /// The branch at this original offset would not fit into two bytes.
+    /// The branch at this original offset is the first that would not fit into two bytes.
     #[error("a branch is too far")]
     Far(u16),
     #[error("no memory")]
@@ -61,11 +62,46 @@ impl From<NoMemory> for LayError {
     }
 }
 
+/// Whether a distance fits into a branch offset of two bytes.
+fn is_near(distance: i32) -> bool
+    ensures { result ≡ is_near distance }
+{
+    -32768 <= distance && distance <= 32767
+}
+
+/// Whether a branch fits at this place.
+fn fits_branch(homes: &Homes, place: u16, instr: &Instr) -> bool
+    requires { IsStrictlyIncreasing homes.now.from }
+    ensures { result ≡ fits_branch (home_of homes.now) place (width_of instr.now) instr.now.arg }
+{
+    match &instr.arg {
+        Arg::Target(target) => size_of_number(instr).len() == 4
+            || is_near(i32::from(homes.home_of(*target)) - i32::from(place)),
+        _ => true,
+    }
+}
+
+/// The original offset of the first branch of two bytes that does not fit.
+#[tactic(auto, using(crate::proofs::Walks::walk_bounds))]
+fn first_far(homes: &Homes, groups: &[Group], start: u32) -> Option<u16>
+    requires homes { IsStrictlyIncreasing homes.now.from }
+    requires short { end_from start groups.now ≤ 65535 }
+    ensures { result ≡ first_far_from (home_of homes.now) start groups.now }
+{
+    let mut at = start;
+    for group in groups {
+        if !fits_branch(homes, place_of(group, at) as u16, &group.instr) {
+            return Some(group.instr.at);
+        }
+        at = group_end(group, at);
+    }
+    None
+}
+
 /// Lays code out anew: the front, then for each group what goes in front of its instruction and the instruction itself,
-/// then the back (JVM Specification 4.7.3). The instructions are those of one decoded code, in order, and a target becomes
-/// its home. What rewrites methods calls it, and carries offsets of the method's tables over by the homes. To a user
-/// `TooLong` and `Far` mean that the method is too long to be profiled; of the forms that are decoded so far none is a
-/// branch, so that `Far` does not come.
+/// then the back (JVM Specification 4.7.3). The instructions are those of one decoded code, in order. A target becomes its
+/// home, and padding zero. What rewrites methods calls it, and carries offsets of the method's tables over by the homes. To a
+/// user `TooLong` and `Far` mean that the method is too long to be profiled.
 pub fn lay_out(alloc: Global, front: &[u8], groups: &[Group], back: &[u8]) -> Result<Laid, LayError>
     requires groups { AreGroups groups.now }
     requires front { IsShort front.now }
@@ -82,7 +118,10 @@ pub fn lay_out(alloc: Global, front: &[u8], groups: &[Group], back: &[u8]) -> Re
         return Err(LayError::TooLong(len));
     }
     let homes = homes_of(alloc, front, groups, end as u16)?;
-    let code = code_of(alloc, front, groups, back, len as usize)?;
+    if let Some(at) = first_far(&homes, groups, front.len() as u32) {
+        return Err(LayError::Far(at));
+    }
+    let code = code_of(alloc, front, groups, back, &homes, len as usize)?;
     Ok(Laid { code, homes })
 }
 

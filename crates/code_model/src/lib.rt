@@ -2,15 +2,19 @@
 #![tactic(auto)]
 
 mod decoding;
+mod encoding;
 mod error;
+mod homes;
 mod instr;
 mod laying;
-mod opcodes;
+mod numbers;
+mod operands;
 mod sizes;
 mod spelling;
-mod spots;
+mod switches;
 
 pub use decoding::{decode, instr_at};
+pub use encoding::encode;
 pub use error::CodeError;
 pub use instr::{Arg, Code, Instr};
 pub use laying::{Group, Homes, Laid, LayError, lay_out};

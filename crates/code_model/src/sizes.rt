@@ -1,39 +1,83 @@
 //! How many bytes instructions take where they stand (JVM Specification 6.5).
 
-ghost use Rattle.std.specs.Prelude.{◌≡◌, ◌<◌, ◌^◌, length, All};
-ghost use Rattle.code_model.specs.Layout.{is_far_jump, padding, operand_bytes, size_at, place_of, group_end, end_from, source_end};
-ghost use Rattle.code_model.specs.Built.{IsBuilt};
+ghost use Rattle.std.specs.Prelude.{◌≡◌, ◌≤◌, ◌<◌, ◌^◌, length, All};
+ghost use Rattle.std.specs.Int.{byte_len};
+ghost use Rattle.code_model.specs.Widths.{width};
+ghost use Rattle.code_model.specs.Operands.{slot_width, padding_len};
+ghost use Rattle.code_model.specs.Layout.{operand_width, operand_len, width_of, size_at, place_of, group_end, end_from, source_end};
+ghost use Rattle.code_model.specs.Groups.{EndsWithin};
 
 use crate::instr::{Arg, Instr};
 use crate::laying::Group;
-use crate::opcodes::{BIPUSH, GOTO_W, JSR_W, LDC};
+use crate::operands::form_of;
+use op_table::Form;
 
-/// Whether a jump has a branch offset of four bytes.
-fn is_far_jump(op: u8) -> bool
-    ensures { result ≡ is_far_jump op }
+/// How many bytes the number of an operand has.
+#[derive(Clone, Copy, Debug, PartialEq, Eq)]
+pub(crate) enum NumberSize {
+    One,
+    Two,
+    Four,
+}
+
+impl NumberSize {
+    pub(crate) fn len(self) -> u32
+        ensures { result ≡ byte_len (width self) }
+    {
+        match self {
+            NumberSize::One => 1,
+            NumberSize::Two => 2,
+            NumberSize::Four => 4,
+        }
+    }
+}
+
+/// How many bytes a slot or an increment has.
+fn slot_size(wide: bool) -> NumberSize
+    ensures { width result ≡ slot_width wide }
 {
-    op == GOTO_W || op == JSR_W
+    if wide {
+        NumberSize::Two
+    } else {
+        NumberSize::One
+    }
+}
+
+/// How many bytes the number of an operand has, by its form.
+fn number_size(wide: bool, form: Form) -> NumberSize
+    ensures { width result ≡ operand_width wide form }
+{
+    match form {
+        Form::Byte | Form::PoolByte => NumberSize::One,
+        Form::Local | Form::Inc => slot_size(wide),
+        Form::JumpWide => NumberSize::Four,
+        _ => NumberSize::Two,
+    }
+}
+
+/// How many bytes the number of an instruction's operand has.
+pub(crate) fn size_of_number(instr: &Instr) -> NumberSize
+    ensures { width result ≡ width_of instr.now }
+{
+    number_size(instr.wide, form_of(instr.wide, instr.op))
 }
 
 /// How many zeros stand behind the opcode of a switch.
-fn padding_len(place: u32) -> u32
-    ensures { result ≡ length (padding place) }
+pub(crate) fn padding_len(place: u32) -> u32
+    ensures { result ≡ padding_len place }
 {
     3 - place % 4
 }
 
 /// How many bytes stand behind the opcode of an instruction at this place.
-fn operand_len(instr: &Instr, place: u32) -> u32
-    requires { length (operand_bytes (λ t. t) place instr.now.wide instr.now.op instr.now.arg) < 2 ^ 31 }
-    ensures { result ≡ length (operand_bytes (λ t. t) place instr.now.wide instr.now.op instr.now.arg) }
+fn operand_len(size: NumberSize, arg: &Arg, place: u32) -> u32
+    requires { operand_len place (width size) arg.now < 2 ^ 31 }
+    ensures { result ≡ operand_len place (width size) arg.now }
 {
-    match &instr.arg {
+    match arg {
         Arg::Plain => 0,
-        Arg::Value(_) => if instr.op == BIPUSH { 1 } else { 2 },
-        Arg::Pool(_) => if instr.op == LDC { 1 } else { 2 },
-        Arg::Local(_) => if instr.wide { 2 } else { 1 },
-        Arg::Inc(_, _) => if instr.wide { 4 } else { 2 },
-        Arg::Target(_) => if is_far_jump(instr.op) { 4 } else { 2 },
+        Arg::Value(_) | Arg::Pool(_) | Arg::Local(_) | Arg::Target(_) => size.len(),
+        Arg::Inc(_, _) => size.len() + size.len(),
         Arg::Table(_, _, targets) => padding_len(place) + 12 + 4 * targets.len() as u32,
         Arg::Lookup(_, keys, targets) => padding_len(place)
             + 8
@@ -45,16 +89,17 @@ fn operand_len(instr: &Instr, place: u32) -> u32
 }
 
 /// How many bytes an instruction takes at this place.
-fn instr_len(instr: &Instr, place: u32) -> u32
+#[tactic(auto, using(crate::proofs::Lengths::sizes))]
+pub(crate) fn instr_len(instr: &Instr, place: u32) -> u32
     requires { size_at place instr.now < 2 ^ 31 }
     ensures { result ≡ size_at place instr.now }
 {
     let opcode_len = if instr.wide { 2 } else { 1 };
-    opcode_len + operand_len(instr, place)
+    opcode_len + operand_len(size_of_number(instr), &instr.arg, place)
 }
 
 /// Where a group's instruction stands.
-pub fn place_of(group: &Group, at: u32) -> u32
+pub(crate) fn place_of(group: &Group, at: u32) -> u32
     requires { place_of at group.now < 2 ^ 31 }
     ensures { result ≡ place_of at group.now }
 {
@@ -62,7 +107,7 @@ pub fn place_of(group: &Group, at: u32) -> u32
 }
 
 /// Where a group ends.
-pub fn group_end(group: &Group, at: u32) -> u32
+pub(crate) fn group_end(group: &Group, at: u32) -> u32
     requires { group_end at group.now < 2 ^ 31 }
     ensures { result ≡ group_end at group.now }
 {
@@ -72,7 +117,7 @@ pub fn group_end(group: &Group, at: u32) -> u32
 
 /// Where groups end that follow one another from here on.
 #[tactic(auto, using(crate::proofs::Walks::walk_bounds))]
-pub fn end_of_groups(groups: &[Group], start: u32) -> u32
+pub(crate) fn end_of_groups(groups: &[Group], start: u32) -> u32
     requires { end_from start groups.now < 2 ^ 31 }
     ensures { result ≡ end_from start groups.now }
 {
@@ -84,13 +129,12 @@ pub fn end_of_groups(groups: &[Group], start: u32) -> u32
 }
 
 /// Where the original code ends.
-pub fn source_end(groups: &[Group]) -> u16
-    requires { All IsBuilt groups.now }
+pub(crate) fn source_end(groups: &[Group]) -> u16
+    requires { All EndsWithin groups.now }
     ensures { result ≡ source_end 0 groups.now }
 {
-    let Some(group) = groups.last() else {
-        return 0;
-    };
-    let at = u32::from(group.instr.at);
-    (at + instr_len(&group.instr, at)) as u16
+    match groups.last() {
+        Some(group) => group.instr.next_offset(),
+        None => 0,
+    }
 }

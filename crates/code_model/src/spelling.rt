@@ -1,43 +1,251 @@
 //! The bytes of instructions (JVM Specification 6.5).
 
-ghost use Rattle.std.specs.Prelude.{◌≡◌, ℕ, ◌++◌, OnOk, IfOk, All, FitsSigned, ◌==◌, MatchBool, if◌then◌else◌};
-ghost use Rattle.std.specs.Int.{w8, w16};
-ghost use Rattle.code_model.specs.Layout.{s1, s2, u2, operand_bytes, opcode_bytes, instr_bytes, groups_bytes};
-ghost use Rattle.code_model.specs.Built.{FitsOperand, IsBuilt};
+ghost use Rattle.std.specs.Prelude.{◌≡◌, ◌≤◌, ◌<◌, ◌^◌, ◌++◌, ◌+ℤ◌, ◌-ℤ◌, pos, true, None, length, zip, OnOk, IfOk, IfSome, All, FitsSigned};
+ghost use Rattle.std.specs.Option.{option_copied};
+ghost use Rattle.std.specs.Int.{w32, byte_len};
+ghost use Rattle.code_model.specs.declared.instr.Arg.TheVariants.{Target, Table, Lookup};
+ghost use Rattle.std.specs.List.{flat_map};
+ghost use Rattle.std.specs.List.Sorted.{IsStrictlyIncreasing};
+ghost use Rattle.code_model.specs.Widths.{width};
+ghost use Rattle.code_model.specs.Layout.{number_bytes, signed_bytes, s4, padding, target_bytes, pair_bytes, operand_bytes, distance, home_of, opcode_bytes, width_of, instr_bytes, groups_bytes, code_bytes, home_by, fits_branch, end_from, first_far_from};
+ghost use Rattle.code_model.specs.Groups.{FitsNumber, FitsOperand, FitsInstr, FitsGroup, IsUnmovedAt};
 
+use crate::homes::home_by;
 use crate::instr::{Arg, Instr};
-use crate::laying::Group;
-use crate::opcodes::{BIPUSH, WIDE};
+use crate::laying::{Group, Homes};
+use crate::sizes::{NumberSize, group_end, padding_len, place_of, size_of_number};
 use jf_bytes::{NoMemory, Seq};
 use std::alloc::Global;
 
-/// Adds a constant, in one byte behind bipush and in two behind sipush.
-fn put_value(out: &mut Seq<u8>, op: u8, value: i32) -> Result<(), NoMemory>
-    requires { MatchBool (op == 16) (FitsSigned w8 value) (FitsSigned w16 value) }
-    ensures { OnOk result (out.new ≡ out.old ++ (if op == 16 then s1 value else s2 value)) }
+/// The prefix of instructions whose slots have two bytes.
+const WIDE: u8 = 196;
+
+/// Adds an unsigned number.
+fn put_number(out: &mut Seq<u8>, size: NumberSize, n: u16) -> Result<(), NoMemory>
+    requires { FitsNumber (width size) n }
+    ensures { OnOk result (out.new ≡ out.old ++ number_bytes (width size) n) }
 {
-    if op == BIPUSH {
-        out.push((value as i8).cast_unsigned())?;
-        return Ok(());
+    match size {
+        NumberSize::One => out.push(n as u8)?,
+        NumberSize::Two => out.extend_from_slice(&n.to_be_bytes())?,
+        NumberSize::Four => out.extend_from_slice(&u32::from(n).to_be_bytes())?,
     }
-    let short = (value as i16).cast_unsigned();
-    out.extend_from_slice(&short.to_be_bytes())?;
     Ok(())
 }
 
-/// Adds what stands behind the opcode of an instruction.
-fn put_operand(out: &mut Seq<u8>, instr: &Instr) -> Result<(), NoMemory>
-    requires { FitsOperand instr.now.op instr.now.arg }
-    ensures { (home : ℕ → ℕ) (place : ℕ) → OnOk result (out.new ≡ out.old ++ operand_bytes home place instr.now.wide instr.now.op instr.now.arg) }
+/// Adds a signed number.
+fn put_signed(out: &mut Seq<u8>, size: NumberSize, n: i32) -> Result<(), NoMemory>
+    requires { FitsSigned (width size) n }
+    ensures { OnOk result (out.new ≡ out.old ++ signed_bytes (width size) n) }
 {
-    match &instr.arg {
+    match size {
+        NumberSize::One => out.push((n as i8).cast_unsigned())?,
+        NumberSize::Two => out.extend_from_slice(&(n as i16).cast_unsigned().to_be_bytes())?,
+        NumberSize::Four => out.extend_from_slice(&n.cast_unsigned().to_be_bytes())?,
+    }
+    Ok(())
+}
+
+/// How far the home of a target lies behind a place.
+fn distance(homes: Option<&Homes>, place: u16, target: u16) -> i32
+    requires { IfSome homes (λ h. IsStrictlyIncreasing h.now.from) }
+    ensures value { result ≡ distance place (home_by (option_copied homes.entry) target) }
+    ensures fits { FitsSigned w32 (distance place (home_by (option_copied homes.entry) target)) }
+{
+    i32::from(home_by(homes, target)) - i32::from(place)
+}
+
+/// Adds the offset of a branch that stands at this place, in four bytes.
+fn put_far_target(
+    out: &mut Seq<u8>,
+    homes: Option<&Homes>,
+    place: u16,
+    target: u16,
+) -> Result<(), NoMemory>
+    requires { IfSome homes (λ h. IsStrictlyIncreasing h.now.from) }
+    ensures { OnOk result (out.new ≡ out.old ++ target_bytes (home_by (option_copied homes.entry)) place w32 target) }
+{
+    put_signed(out, NumberSize::Four, distance(homes, place, target))
+}
+
+/// Adds the offset of a branch that stands at this place, in two bytes or four.
+fn put_branch(
+    out: &mut Seq<u8>,
+    homes: Option<&Homes>,
+    place: u16,
+    size: NumberSize,
+    target: u16,
+) -> Result<(), NoMemory>
+    requires homes { IfSome homes (λ h. IsStrictlyIncreasing h.now.from) }
+    requires size { 2 ≤ byte_len (width size) }
+    requires near { fits_branch (home_by (option_copied homes)) place (width size) (Target target) ≡ true }
+    ensures { OnOk result (out.new ≡ out.old ++ target_bytes (home_by (option_copied homes.entry)) place (width size) target) }
+{
+    put_signed(out, size, distance(homes, place, target))
+}
+
+/// Adds the zeros behind the opcode of a switch.
+fn put_padding(out: &mut Seq<u8>, place: u16) -> Result<(), NoMemory>
+    ensures { OnOk result (out.new ≡ out.old ++ padding place) }
+{
+    let zeros = [0, 0, 0];
+    let len = padding_len(u32::from(place)) as usize;
+    out.extend_from_slice(&zeros[..len])?;
+    Ok(())
+}
+
+/// Adds the offsets of a tableswitch.
+fn put_targets(
+    out: &mut Seq<u8>,
+    homes: Option<&Homes>,
+    place: u16,
+    targets: &[u16],
+) -> Result<(), NoMemory>
+    requires { IfSome homes (λ h. IsStrictlyIncreasing h.now.from) }
+    ensures { OnOk result (out.new ≡ out.old ++ flat_map (target_bytes (home_by (option_copied homes.entry)) place w32) targets.now) }
+{
+    for target in targets {
+        put_far_target(out, homes, place, *target)?;
+    }
+    Ok(())
+}
+
+/// The greatest key of a tableswitch with so many cases.
+fn high_of(low: i32, cases: usize) -> i32
+    requires { FitsSigned w32 ((low +ℤ pos cases) -ℤ pos 1) }
+    ensures { result ≡ (low +ℤ pos cases) -ℤ pos 1 }
+{
+    (i64::from(low) + cases as i64 - 1) as i32
+}
+
+/// Adds the operands of a tableswitch.
+fn put_table(
+    out: &mut Seq<u8>,
+    homes: Option<&Homes>,
+    place: u16,
+    default: u16,
+    low: i32,
+    targets: &[u16],
+) -> Result<(), NoMemory>
+    requires homes { IfSome homes (λ h. IsStrictlyIncreasing h.now.from) }
+    requires fits { FitsOperand w32 (Table default low targets.now) }
+    ensures { OnOk result (out.new ≡ out.old ++ operand_bytes (home_by (option_copied homes.entry)) place w32 (Table default low targets.now)) }
+{
+    put_padding(out, place)?;
+    put_far_target(out, homes, place, default)?;
+    put_signed(out, NumberSize::Four, low)?;
+    put_signed(out, NumberSize::Four, high_of(low, targets.len()))?;
+    put_targets(out, homes, place, targets)?;
+    Ok(())
+}
+
+/// Adds a pair of a lookupswitch.
+fn put_pair(
+    out: &mut Seq<u8>,
+    homes: Option<&Homes>,
+    place: u16,
+    key: i32,
+    target: u16,
+) -> Result<(), NoMemory>
+    requires { IfSome homes (λ h. IsStrictlyIncreasing h.now.from) }
+    ensures { OnOk result (out.new ≡ out.old ++ pair_bytes (home_by (option_copied homes.entry)) place (key, target)) }
+{
+    put_signed(out, NumberSize::Four, key)?;
+    put_far_target(out, homes, place, target)
+}
+
+/// Adds the pairs of a lookupswitch.
+fn put_pairs(
+    out: &mut Seq<u8>,
+    homes: Option<&Homes>,
+    place: u16,
+    keys: &[i32],
+    targets: &[u16],
+) -> Result<(), NoMemory>
+    requires homes { IfSome homes (λ h. IsStrictlyIncreasing h.now.from) }
+    requires columns { length keys.now ≡ length targets.now }
+    ensures { OnOk result (out.new ≡ out.old ++ flat_map (pair_bytes (home_by (option_copied homes.entry)) place) (zip keys.now targets.now)) }
+{
+    for (row, key) in keys.iter().enumerate() {
+        put_pair(out, homes, place, *key, targets[row])?;
+    }
+    Ok(())
+}
+
+/// Adds the operands of a lookupswitch.
+fn put_lookup(
+    out: &mut Seq<u8>,
+    homes: Option<&Homes>,
+    place: u16,
+    default: u16,
+    keys: &[i32],
+    targets: &[u16],
+) -> Result<(), NoMemory>
+    requires homes { IfSome homes (λ h. IsStrictlyIncreasing h.now.from) }
+    requires columns { length keys.now ≡ length targets.now }
+    requires few { length keys.now < 2147483648 }
+    ensures { OnOk result (out.new ≡ out.old ++ operand_bytes (home_by (option_copied homes.entry)) place w32 (Lookup default keys.now targets.now)) }
+{
+    put_padding(out, place)?;
+    put_far_target(out, homes, place, default)?;
+    put_signed(out, NumberSize::Four, keys.len() as i32)?;
+    put_pairs(out, homes, place, keys, targets)?;
+    Ok(())
+}
+
+/// Adds what stands behind the opcode of an instruction at this place.
+fn put_operand(
+    out: &mut Seq<u8>,
+    homes: Option<&Homes>,
+    place: u16,
+    size: NumberSize,
+    arg: &Arg,
+) -> Result<(), NoMemory>
+    requires homes { IfSome homes (λ h. IsStrictlyIncreasing h.now.from) }
+    requires fits { FitsOperand (width size) arg.now }
+    requires near { fits_branch (home_by (option_copied homes)) place (width size) arg.now ≡ true }
+    ensures { OnOk result (out.new ≡ out.old ++ operand_bytes (home_by (option_copied homes.entry)) place (width size) arg.now) }
+{
+    match arg {
         Arg::Plain => Ok(()),
-        Arg::Value(value) => put_value(out, instr.op, *value),
-        Arg::Pool(index) => {
-            out.extend_from_slice(&index.to_be_bytes())?;
+        Arg::Value(n) => put_signed(out, size, *n),
+        Arg::Pool(n) | Arg::Local(n) => put_number(out, size, *n),
+        Arg::Inc(slot, n) => {
+            put_number(out, size, *slot)?;
+            put_signed(out, size, i32::from(*n))
+        }
+        Arg::Target(target) => put_branch(out, homes, place, size, *target),
+        Arg::Table(default, low, targets) => put_table(
+            out,
+            homes,
+            place,
+            *default,
+            *low,
+            targets.as_slice(),
+        ),
+        Arg::Lookup(default, keys, targets) => put_lookup(
+            out,
+            homes,
+            place,
+            *default,
+            keys.as_slice(),
+            targets.as_slice(),
+        ),
+        Arg::Interface(index, count, last) => {
+            put_number(out, NumberSize::Two, *index)?;
+            out.push(*count)?;
+            out.push(*last)?;
             Ok(())
         }
-        _ => unreachable!(),
+        Arg::Multi(index, dimensions) => {
+            put_number(out, NumberSize::Two, *index)?;
+            out.push(*dimensions)?;
+            Ok(())
+        }
+        Arg::Array(kind) => {
+            out.push(*kind)?;
+            Ok(())
+        }
     }
 }
 
@@ -52,41 +260,76 @@ fn put_opcode(out: &mut Seq<u8>, wide: bool, op: u8) -> Result<(), NoMemory>
     Ok(())
 }
 
-/// Adds an instruction.
-fn put_instr(out: &mut Seq<u8>, instr: &Instr) -> Result<(), NoMemory>
-    requires { FitsOperand instr.now.op instr.now.arg }
-    ensures { (home : ℕ → ℕ) (place : ℕ) → OnOk result (out.new ≡ out.old ++ instr_bytes home place instr.now) }
+/// Adds an instruction that stands at this place.
+fn put_instr(
+    out: &mut Seq<u8>,
+    homes: Option<&Homes>,
+    place: u16,
+    instr: &Instr,
+) -> Result<(), NoMemory>
+    requires homes { IfSome homes (λ h. IsStrictlyIncreasing h.now.from) }
+    requires fits { FitsInstr instr.now }
+    requires near { fits_branch (home_by (option_copied homes)) place (width_of instr.now) instr.now.arg ≡ true }
+    ensures { OnOk result (out.new ≡ out.old ++ instr_bytes (home_by (option_copied homes.entry)) place instr.now) }
 {
     put_opcode(out, instr.wide, instr.op)?;
-    put_operand(out, instr)
+    put_operand(out, homes, place, size_of_number(instr), &instr.arg)
 }
 
-/// Adds the groups, each with what goes in front of its instruction.
-pub fn put_groups(out: &mut Seq<u8>, groups: &[Group]) -> Result<(), NoMemory>
-    requires { All IsBuilt groups.now }
-    ensures { (home : ℕ → ℕ) (at : ℕ) → OnOk result (out.new ≡ out.old ++ groups_bytes home at groups.now) }
+/// Adds the groups, each with what goes in front of its instruction, from this place on.
+#[tactic(auto, using(crate::proofs::Walks::walk_bounds))]
+fn put_groups(
+    out: &mut Seq<u8>,
+    homes: &Homes,
+    groups: &[Group],
+    start: u32,
+) -> Result<(), NoMemory>
+    requires homes { IsStrictlyIncreasing homes.now.from }
+    requires fits { All FitsGroup groups.now }
+    requires near { first_far_from (home_of homes.now) start groups.now ≡ None }
+    requires short { end_from start groups.now ≤ 65535 }
+    ensures { OnOk result (out.new ≡ out.old ++ groups_bytes (home_of homes.now) start groups.now) }
 {
+    let mut at = start;
     for group in groups {
         out.extend_from_slice(group.before.as_slice())?;
-        put_instr(out, &group.instr)?;
+        put_instr(out, Some(homes), place_of(group, at) as u16, &group.instr)?;
+        at = group_end(group, at);
     }
     Ok(())
 }
 
 /// The front, the groups and the back, one behind the other, `len` bytes in all.
-pub fn code_of(
+#[tactic(auto, using(crate::proofs::Walks::walk_bounds))]
+pub(crate) fn code_of(
     alloc: Global,
     front: &[u8],
     groups: &[Group],
     back: &[u8],
+    homes: &Homes,
     len: usize,
 ) -> Result<Seq<u8>, NoMemory>
-    requires { All IsBuilt groups.now }
-    ensures { (home : ℕ → ℕ) (at : ℕ) → IfOk result (λ code. code ≡ front.now ++ (groups_bytes home at groups.now ++ back.now)) }
+    requires homes { IsStrictlyIncreasing homes.now.from }
+    requires fits { All FitsGroup groups.now }
+    requires near { first_far_from (home_of homes.now) (length front.now) groups.now ≡ None }
+    requires short { end_from (length front.now) groups.now ≤ 65535 }
+    ensures { IfOk result (λ code. code ≡ front.now ++ (groups_bytes (home_of homes.now) (length front.now) groups.now ++ back.now)) }
 {
     let mut code = Seq::with_capacity(alloc, len)?;
     code.extend_from_slice(front)?;
-    put_groups(&mut code, groups)?;
+    put_groups(&mut code, homes, groups, front.len() as u32)?;
     code.extend_from_slice(back)?;
     Ok(code)
+}
+
+/// Adds instructions where they stand.
+pub(crate) fn put_instrs(out: &mut Seq<u8>, instrs: &[Instr]) -> Result<(), NoMemory>
+    requires fits { All FitsInstr instrs.now }
+    requires near { All IsUnmovedAt instrs.now }
+    ensures { OnOk result (out.new ≡ out.old ++ code_bytes instrs.now) }
+{
+    for instr in instrs {
+        put_instr(out, None, instr.at, instr)?;
+    }
+    Ok(())
 }

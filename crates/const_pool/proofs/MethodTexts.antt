@@ -18,7 +18,7 @@ use Rattle.const_pool.specs.declared.stages.Stage.TheVariants as stages
 use Rattle.const_pool.specs.declared.stages.Step.{Step}
 use Rattle.const_pool.specs.Descriptors.{IsField, AreFields, IsResult, IsMethod, IsMethodText, IsReadAs, slots, slot_count}
 use Rattle.const_pool.specs.Fronts.{IsStuckAt}
-use Rattle.const_pool.specs.Stages.{Reading, front_step, first_slots, to_stage, within_param, within_result, method_step, with_step, reading_step, reading_end, stage_end, array_kind, method_answer, Tells}
+use Rattle.const_pool.specs.Stages.{Reading, front_step, first_slots, to_stage, within_param, within_result, method_step, with_step, reading_step, reading_end, stage_end, array_kind, method_answer, Answers}
 use Rattle.const_pool.proofs.Halts.{EndsWith, CanEnd, behind, behind_keeps, and_then_some, some_is, answer_found, answer_only, answer_stuck}
 use Rattle.const_pool.proofs.FieldTexts.{chosen, passed, not_failed, mapped, field_behind, field_read, IsFrontText, IsStageText, front_grows, no_text}
 use Rattle.const_pool.proofs.ParamSlots.{IsInside, HasSlots, first_unit, next_unit, slots_read}
@@ -283,14 +283,14 @@ method_can_end reading = stage_can_end reading.stage reading.params
 method_told : (text : List ℕ) (shape : Shape) → IsMethod text shape → method_answer text ≡ Ok shape
 method_told text shape h = answer_only reading_step reading_end (reading_at stages.Open []) IsMethod method_sound method_complete method_can_end text shape h
 
-pub method_found : (text : List ℕ) (result : Result Shape DescriptorError) → Tells result (method_answer text) → IfOk result (λ shape. IsMethod text shape)
+pub method_found : (text : List ℕ) (result : Result Shape DescriptorError) → Answers result (method_answer text) → IfOk result (λ shape. IsMethod text shape)
 method_found text (Ok shape) e = answer_found reading_step reading_end (reading_at stages.Open []) IsMethod method_sound method_complete method_can_end text shape e
 method_found text (Err error) e = tt
 
-pub method_only : (text : List ℕ) (result : Result Shape DescriptorError) (shape : Shape) → Tells result (method_answer text) → IsMethod text shape → IsReadAs result shape
+pub method_only : (text : List ℕ) (result : Result Shape DescriptorError) (shape : Shape) → Answers result (method_answer text) → IsMethod text shape → IsReadAs result shape
 method_only text (Ok read) shape e h = let told = method_told text shape h in cc
 method_only text (Err (BadDescriptor at)) shape e h = let told = method_told text shape h in absurd cc
 method_only text (Err NoMemory) shape e h = tt
 
-pub method_stuck : (text : List ℕ) (result : Result Shape DescriptorError) (at : ℕ) → Tells result (method_answer text) → result ≡ Err (BadDescriptor at) → IsStuckAt IsMethodText text at
-method_stuck text result at e is = answer_stuck reading_step reading_end (reading_at stages.Open []) IsMethod method_sound method_complete method_can_end text at (subst (λ (r : Result Shape DescriptorError). Tells r (method_answer text)) is e)
+pub method_stuck : (text : List ℕ) (result : Result Shape DescriptorError) (at : ℕ) → Answers result (method_answer text) → result ≡ Err (BadDescriptor at) → IsStuckAt IsMethodText text at
+method_stuck text result at e is = answer_stuck reading_step reading_end (reading_at stages.Open []) IsMethod method_sound method_complete method_can_end text at (subst (λ (r : Result Shape DescriptorError). Answers r (method_answer text)) is e)

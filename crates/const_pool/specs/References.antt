@@ -43,8 +43,11 @@ pub record NameAndType : Type 0 where
   pub name : List ℕ
   pub descriptor : List ℕ
 
+abbrev pub name_type_of : List ℕ → List ℕ → NameAndType
+name_type_of name descriptor = record { name = name; descriptor = descriptor }
+
 abbrev pub name_type_entry : List Const → Const → Result NameAndType PoolError
-name_type_entry pool (NameType n d) = text_walk pool n >>= λ name. text_walk pool d >>= λ descriptor. Ok (record { name = name; descriptor = descriptor })
+name_type_entry pool (NameType n d) = text_walk pool n >>= λ name. text_walk pool d >>= λ descriptor. Ok (name_type_of name descriptor)
 name_type_entry pool _ = Err WrongKind
 
 abbrev pub name_type_walk : List Const → ℕ → Result NameAndType PoolError

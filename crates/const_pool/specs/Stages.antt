@@ -132,7 +132,7 @@ told (Ok x) = Ok x
 told (Err at) = Err (BadDescriptor at)
 
 -- a call tells the answer, where it has the memory for it
-abbrev pub Tells : {A : Type 0} → Result A DescriptorError → Result A ℕ → Type 0
-Tells (Ok x) answer = answer ≡ Ok x
-Tells (Err (BadDescriptor at)) answer = answer ≡ Err at
-Tells (Err NoMemory) answer = Unit {0}
+abbrev pub Answers : {A : Type 0} → Result A DescriptorError → Result A ℕ → Type 0
+Answers (Ok x) answer = answer ≡ Ok x
+Answers (Err (BadDescriptor at)) answer = answer ≡ Err at
+Answers (Err NoMemory) answer = Unit {0}

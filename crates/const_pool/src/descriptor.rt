@@ -6,11 +6,12 @@ ghost use Rattle.const_pool.specs.declared.descriptor.Shape.{Shape as TheShape};
 ghost use Rattle.const_pool.specs.declared.descriptor.DescriptorError.TheVariants.{BadDescriptor, NoMemory};
 ghost use Rattle.const_pool.specs.Descriptors.{IsField, IsMethod, IsFieldText, IsMethodText, IsReadAs};
 ghost use Rattle.const_pool.specs.Fronts.{IsStuckAt};
-ghost use Rattle.const_pool.specs.Stages.{Tells, told, field_answer, method_answer, field_from, reading_from};
+ghost use Rattle.const_pool.specs.Stages.{Answers, told, field_answer, method_answer};
 
 use crate::stages::{FieldStage, Front, Stage, field_step, method_step};
 use jf_bytes::{Seq, Text16};
 use std::alloc::{AllocError, AllocFailed, Global};
+use thiserror::Error;
 
 /// What a field, a parameter or a result holds. An array and a class are both `Ref`.
 #[derive(Clone, Copy, Debug, PartialEq, Eq)]
@@ -34,10 +35,12 @@ pub struct Shape {
 }
 
 /// Why a text gives no kind or shape.
-#[derive(Clone, Copy, Debug, PartialEq, Eq)]
+#[derive(Clone, Copy, Debug, PartialEq, Eq, Error)]
 pub enum DescriptorError {
     /// The place of the first unit with which no descriptor goes on. Where the text ends early it is the text's length.
+    #[error("no descriptor at unit {0}")]
     BadDescriptor(usize),
+    #[error("no memory")]
     NoMemory,
 }
 
@@ -92,7 +95,7 @@ pub fn parse_field(text: &Text16) -> Result<Kind, DescriptorError>
 
 /// What a method descriptor stands for, unit by unit.
 fn read_method(alloc: Global, units: &[u16]) -> Result<Shape, DescriptorError>
-    ensures { Tells result (method_answer units.now) }
+    ensures { Answers result (method_answer units.now) }
 {
     let mut stage = Stage::Open;
     let mut params = Seq::new(alloc);

@@ -4,10 +4,11 @@ ghost use Rattle.std.specs.Prelude.{◌≡◌, ◌↔◌, ◌<◌, ◌^◌, leng
 ghost use Rattle.std.specs.Option.{option_copied};
 ghost use Rattle.const_pool.specs.Pool.{entry_at, has_gaps, IsUnusable};
 ghost use Rattle.const_pool.specs.Members.{reference_view};
-ghost use Rattle.const_pool.specs.References.{Walks, entry_walk, text_walk, class_walk, name_type_walk, member_walk, reference_walk};
+ghost use Rattle.const_pool.specs.References.{Walks, name_type_of, entry_walk, text_walk, class_walk, name_type_walk, member_walk, reference_walk};
 
 use jf_bytes::{Seq, Text16};
 use std::marker::Model;
+use thiserror::Error;
 
 /// An entry of the constant pool (JVM Specification 4.4). The numbers of `Class` to `NameType` are indices.
 #[derive(Debug, Drop)]
@@ -31,10 +32,12 @@ pub enum Const {
 }
 
 /// Why a look-up gives nothing: an index that names no entry, or an entry of another tag.
-#[derive(Clone, Copy, Debug, PartialEq, Eq)]
+#[derive(Clone, Copy, Debug, PartialEq, Eq, Error)]
 pub enum PoolError {
     /// 0, the second index of a `Long` or `Double`, or past the end.
+    #[error("no entry at this index")]
     BadIndex,
+    #[error("an entry of another tag")]
     WrongKind,
 }
 
@@ -140,7 +143,7 @@ impl Pool {
     }
 
     fn name_type(&self, i: u16) -> Result<(&Text16, &Text16), PoolError>
-        ensures { Walks (λ p. record { name = p.0.now; descriptor = p.1.now }) result (name_type_walk self.now i) }
+        ensures { Walks (λ p. name_type_of p.0.now p.1.now) result (name_type_walk self.now i) }
     {
         match self.entry(i)? {
             Const::NameType(name, descriptor) => Ok((self.text(*name)?, self.text(*descriptor)?)),

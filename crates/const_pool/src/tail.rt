@@ -8,6 +8,7 @@ ghost use Rattle.const_pool.specs.Tail.{tail_entries, with_tail, root_index, ent
 use crate::pool::{Const, Pool};
 use jf_bytes::{NoMemory, Text16};
 use std::alloc::{AllocError, AllocFailed, Global};
+use thiserror::Error;
 
 /// How many entries the tail has.
 const TAIL_ENTRIES: usize = 18;
@@ -29,10 +30,12 @@ pub struct Tail {
 }
 
 /// Why a pool gets no tail.
-#[derive(Clone, Copy, Debug, PartialEq, Eq)]
+#[derive(Clone, Copy, Debug, PartialEq, Eq, Error)]
 pub enum TailError {
     /// The pool has no room for the eighteen entries: a class file has at most 65,535.
+    #[error("no room in the constant pool")]
     Full,
+    #[error("no memory")]
     NoMemory,
 }
 

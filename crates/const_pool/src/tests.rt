@@ -131,48 +131,6 @@ fn refuses_other_members(rt: HostRuntime) -> Result<(), Fail> {
     Ok(())
 }
 
-#[test]
-fn refuses_other_entries(rt: HostRuntime) -> Result<(), Fail> {
-    let pool = pool(rt.alloc())?;
-    for index in [0, 16, 24, 25, 65_535] {
-        assert!(rt; pool.get(index).is_none(), "at {index}");
-    }
-    assert!(rt; matches!(pool.get(15), Some(Const::Long(1))));
-    assert!(rt; matches!(pool.text(16), Err(PoolError::BadIndex)));
-    assert!(rt; matches!(pool.text(2), Err(PoolError::WrongKind)));
-    assert!(rt; matches!(pool.class_name(25), Err(PoolError::BadIndex)));
-    assert!(rt; matches!(pool.class_name(3), Err(PoolError::WrongKind)));
-    assert!(rt; matches!(pool.class_name(8), Err(PoolError::WrongKind)));
-    Ok(())
-}
-
-#[test]
-fn only_the_gap(rt: HostRuntime) -> Result<(), Fail> {
-    let pool = ints(rt.alloc(), 0)?;
-    assert_eq!(rt; pool.count(), 1);
-    for index in [0, 1] {
-        assert!(rt; matches!(pool.text(index), Err(PoolError::BadIndex)));
-        assert!(rt; matches!(pool.class_name(index), Err(PoolError::BadIndex)));
-        assert!(rt; matches!(pool.member(index), Err(PoolError::BadIndex)));
-    }
-    Ok(())
-}
-
-// the entries behind 24 that are no texts
-const TAIL: [(u16, &str); 11] = [
-    (23, "Some(Integer(7))"),
-    (25, "Some(Class(24))"),
-    (28, "Some(NameType(27, 26))"),
-    (29, "Some(Method(25, 28))"),
-    (31, "Some(NameType(30, 26))"),
-    (32, "Some(Method(25, 31))"),
-    (34, "Some(NameType(33, 26))"),
-    (35, "Some(Method(25, 34))"),
-    (37, "Some(NameType(36, 26))"),
-    (38, "Some(Method(25, 37))"),
-    (40, "Some(Class(39))"),
-];
-
 // the texts
 const TAIL_TEXTS: [(u16, &[u8]); 8] = [
     (24, b"jfluid/Probe"),
@@ -191,10 +149,6 @@ fn tail_of_24(alloc: Global) -> Result<Tail, Fail> {
     Ok(tail)
 }
 
-fn shown_entry(alloc: Global, pool: &Pool, index: u16) -> Result<String, Fail> {
-    Ok(format!(in alloc; "{:?}", pool.get(index))?)
-}
-
 fn has_text(pool: &Pool, index: u16, text: &[u8]) -> bool {
     match pool.text(index) {
         Ok(found) => found.is_bytes(text),
@@ -203,34 +157,17 @@ fn has_text(pool: &Pool, index: u16, text: &[u8]) -> bool {
 }
 
 #[test]
-fn indices_of_the_tail(rt: HostRuntime) -> Result<(), Fail> {
-    let tail = tail_of_24(rt.alloc())?;
-    assert_eq!(rt; tail.pool.count(), 42);
-    assert_eq!(rt; tail.root, 29);
-    assert_eq!(rt; tail.enter, 32);
-    assert_eq!(rt; tail.leave, 35);
-    assert_eq!(rt; tail.unwind, 38);
-    assert_eq!(rt; tail.throwable, 40);
-    assert_eq!(rt; tail.frames, 41);
-    Ok(())
-}
-
-#[test]
-fn entries_of_the_tail(rt: HostRuntime) -> Result<(), Fail> {
-    let tail = tail_of_24(rt.alloc())?;
-    for (index, wanted) in TAIL {
-        let shown = shown_entry(rt.alloc(), &tail.pool, index)?;
-        assert_eq!(rt; shown.as_str(), wanted);
-    }
-    Ok(())
-}
-
-#[test]
-fn texts_of_the_tail(rt: HostRuntime) -> Result<(), Fail> {
+fn texts_and_indices_of_the_tail(rt: HostRuntime) -> Result<(), Fail> {
     let tail = tail_of_24(rt.alloc())?;
     for (index, text) in TAIL_TEXTS {
         assert!(rt; has_text(&tail.pool, index, text), "at {index}");
     }
+    let hooks = [tail.root, tail.enter, tail.leave, tail.unwind];
+    assert_eq!(rt; hooks.as_slice(), [29, 32, 35, 38].as_slice());
+    assert_eq!(rt;
+        [tail.throwable, tail.frames].as_slice(),
+        [40, 41].as_slice()
+    );
     Ok(())
 }
 
@@ -332,18 +269,6 @@ fn repeated(
     Ok(Text16::new(units))
 }
 
-#[test]
-fn counts_dimensions(rt: HostRuntime) -> Result<(), Fail> {
-    let most = repeated(rt.alloc(), "", "[", 255, "I")?;
-    assert_eq!(rt; parse_field(&most), Ok(Kind::Ref));
-    let more = repeated(rt.alloc(), "", "[", 256, "I")?;
-    assert_eq!(rt;
-        parse_field(&more),
-        Err(DescriptorError::BadDescriptor(255))
-    );
-    Ok(())
-}
-
 /// The place of the bad unit in a method descriptor of so many equal parameters and what follows.
 fn bad_place(alloc: Global, param: &str, count: usize, rest: &str) -> Result<Option<usize>, Fail> {
     let text = repeated(alloc, "(", param, count, rest)?;
@@ -354,40 +279,27 @@ fn bad_place(alloc: Global, param: &str, count: usize, rest: &str) -> Result<Opt
     }
 }
 
-// a parameter so many times, and what follows, within 255 slots
-const FITTING: [(&str, usize, &str); 6] = [
-    ("I", 255, ")V"),
-    ("I", 253, "J)V"),
-    ("I", 254, "[J)V"),
-    ("J", 127, "I)V"),
-    ("[J", 255, ")J"),
-    ("Lx;", 254, "Lx;)V"),
-];
-
-#[test]
-fn fits_into_slots(rt: HostRuntime) -> Result<(), Fail> {
-    for (param, count, rest) in FITTING {
-        let place = bad_place(rt.alloc(), param, count, rest)?;
-        assert_eq!(rt; place, None, "at {count} times {param}");
-    }
-    Ok(())
-}
-
-// a parameter so many times, what follows, and the place of the unit for which no slot is left
-const MISFITTING: [(&str, usize, &str, usize); 6] = [
-    ("I", 256, ")V", 256),
-    ("I", 255, "[I)V", 256),
-    ("I", 254, "J)V", 255),
-    ("I", 254, "D)V", 255),
-    ("J", 128, ")V", 128),
-    ("I", 255, "", 256),
+// a parameter so many times, what follows, and the place of the unit for which no slot is left, where there is one
+const SLOTS: [(&str, usize, &str, Option<usize>); 12] = [
+    ("I", 255, ")V", None),
+    ("I", 253, "J)V", None),
+    ("I", 254, "[J)V", None),
+    ("J", 127, "I)V", None),
+    ("[J", 255, ")J", None),
+    ("Lx;", 254, "Lx;)V", None),
+    ("I", 256, ")V", Some(256)),
+    ("I", 255, "[I)V", Some(256)),
+    ("I", 254, "J)V", Some(255)),
+    ("I", 254, "D)V", Some(255)),
+    ("J", 128, ")V", Some(128)),
+    ("I", 255, "", Some(256)),
 ];
 
 #[test]
 fn counts_slots(rt: HostRuntime) -> Result<(), Fail> {
-    for (param, count, rest, wanted) in MISFITTING {
+    for (param, count, rest, wanted) in SLOTS {
         let place = bad_place(rt.alloc(), param, count, rest)?;
-        assert_eq!(rt; place, Some(wanted), "at {count} times {param}");
+        assert_eq!(rt; place, wanted, "at {count} times {param}");
     }
     Ok(())
 }

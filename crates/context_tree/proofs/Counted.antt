@@ -7,7 +7,7 @@ use Rattle.std.proofs.lemmas.List.Elements.{filter-append}
 use Rattle.std.proofs.lemmas.List.Folds.{sum_by-replicate}
 use Rattle.std.proofs.lemmas.List.Sums.{sum_by_push, sum_by-cons, sum_by-append}
 use Rattle.jvm_model.specs.Paths.{Context, same_path, is_outside, is_inside, distinct, context_of, contexts_of}
-use Rattle.context_tree.specs.Profiles.{has_path, with_own, with_call, entered}
+use Rattle.context_tree.specs.Profiles.{has_path, with_own, with_call, call_begun}
 use Rattle.context_tree.proofs.SamePaths.{same_path-is, same_path-refl, same_path-sym}
 use Rattle.context_tree.proofs.Distinct.{list_any-distinct, distinct-push}
 
@@ -123,10 +123,10 @@ new_context path begun made new none =
     ap (λ n. counted n 0) (sym calls) ∙ ap (counted (count_by (same_path path) (begun ++ path ∷ []))) (sym none)
 
 -- an entry of a path, among contexts that are counted
-pub entered-contexts_of : (path : List ℕ) (begun made : List (List ℕ)) → is_outside path ≡ false
+pub call_begun-contexts_of : (path : List ℕ) (begun made : List (List ℕ)) → is_outside path ≡ false
     → (list_any (same_path path) begun ≡ false → count_by (same_path path) made ≡ 0)
-    → entered path (contexts_of begun made) ≡ contexts_of (begun ++ path ∷ []) made
-entered-contexts_of path begun made inside none =
+    → call_begun path (contexts_of begun made) ≡ contexts_of (begun ++ path ∷ []) made
+call_begun-contexts_of path begun made inside none =
     ap (λ b. if b then map (with_call path) (contexts_of begun made) else contexts_of begun made ++ record { path = path; calls = 1; own = 0 } ∷ []) seen
     ∙ by (list_any (same_path path) begun) refl
     ∙ sym (ap (map (context_of (begun ++ path ∷ []) made)) more)

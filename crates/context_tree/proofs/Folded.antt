@@ -13,7 +13,7 @@ use Rattle.context_tree.specs.Profiles.{Profile, parent_path, last_method, credi
 use Rattle.context_tree.specs.Counts.{path_by, path_after, opens, paths_opened, paths_stepped, AreInOrder}
 use Rattle.context_tree.specs.Laws.{FoldsToCounts}
 use Rattle.context_tree.proofs.SamePaths.{same_path-is, same_path-refl, is_outside-cons, is_outside-push, path-split}
-use Rattle.context_tree.proofs.Counted.{map-with_own, count_by-replicate, entered-contexts_of}
+use Rattle.context_tree.proofs.Counted.{map-with_own, count_by-replicate, call_begun-contexts_of}
 
 -- each path on the way from outside to this one, and it itself, was begun
 pub record IsBegun (begun : List (List ℕ)) (path : List ℕ) : Type 0 where
@@ -98,7 +98,7 @@ goes_opened : (method : ℕ) (begun made : List (List ℕ)) (path : List ℕ) (c
 goes_opened method begun made path clock way of =
     let inside = is_outside-push path method in
     ap (λ (l : List Context). record { contexts = l; «open» = path ++ method ∷ []; clock = clock })
-    (entered-contexts_of (path ++ method ∷ []) begun made inside (of.none (path ++ method ∷ []) inside))
+    (call_begun-contexts_of (path ++ method ∷ []) begun made inside (of.none (path ++ method ∷ []) inside))
 
 stays : (begun made : List (List ℕ)) (path : List ℕ) (clock : ℕ) → profile_at begun made path clock ≡ profile_at (begun ++ []) made path clock
 stays begun made path clock = ap (λ (l : List (List ℕ)). profile_at l made path clock) (sym (append-nil begun))

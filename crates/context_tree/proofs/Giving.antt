@@ -5,7 +5,7 @@ use Rattle.std.proofs.lemmas.List.{map-append}
 use Rattle.jvm_model.specs.declared.event.EventKind.{EventKind}
 use Rattle.jvm_model.specs.declared.event.EventKind.TheVariants.{Root, Enter, Leave, Unwind}
 use Rattle.jvm_model.specs.Paths.{Context, same_path, is_outside}
-use Rattle.context_tree.specs.Profiles.{Profile, has_path, with_own, with_call, entered, opened, told, credited}
+use Rattle.context_tree.specs.Profiles.{Profile, has_path, with_own, with_call, call_begun, opened, told, credited}
 use Rattle.context_tree.proofs.SamePaths.{path-goes_on}
 
 -- the steps since the last clock were made in this path
@@ -48,8 +48,8 @@ calls_and_own path P s [] = refl
 calls_and_own path P s (c ∷ cs) =
     ap (λ d. d ∷ map (with_call path) (map (with_own P s) cs)) (call_and_own path P s c) ∙ ap (λ l. with_own P s (with_call path c) ∷ l) (calls_and_own path P s cs)
 
-entered-with_own : (path P : List ℕ) (s : ℕ) (cs : List Context) → same_path P path ≡ false → entered path (map (with_own P s) cs) ≡ map (with_own P s) (entered path cs)
-entered-with_own path P s cs h =
+call_begun-with_own : (path P : List ℕ) (s : ℕ) (cs : List Context) → same_path P path ≡ false → call_begun path (map (with_own P s) cs) ≡ map (with_own P s) (call_begun path cs)
+call_begun-with_own path P s cs h =
     ap (λ b. if b then map (with_call path) (map (with_own P s) cs) else map (with_own P s) cs ++ new ∷ []) (list_any-with_own path P s cs) ∙ by (list_any (has_path path) cs)
   where
     new : Context
@@ -63,7 +63,7 @@ entered-with_own path P s cs h =
 opened-credited : (method clock : ℕ) (p : Profile) → opened method (credited clock p) ≡ credited_in p.open clock (opened method p)
 opened-credited method clock p =
     ap (λ (l : List Context). record { contexts = l; «open» = p.open ++ method ∷ []; clock = clock })
-    (entered-with_own (p.open ++ method ∷ []) p.open (clock - p.clock) p.contexts (path-goes_on p.open method))
+    (call_begun-with_own (p.open ++ method ∷ []) p.open (clock - p.clock) p.contexts (path-goes_on p.open method))
 
 pub told-credited : (kind : EventKind) (method clock : ℕ) (p : Profile) → told kind method (credited clock p) ≡ credited_in p.open clock (told kind method p)
 told-credited Root method clock p = opened-credited method clock p

@@ -12,6 +12,7 @@ pub mod NodeChildren
 pub mod TreeParts
 pub mod TreeSteps
 pub mod TreeCalls
+pub mod EventCalls
 pub mod Within
 pub mod Totals
 pub mod TotalLoop

@@ -46,14 +46,14 @@ credited clock p = record p { contexts = map (with_own p.open (clock - p.clock))
 abbrev pub with_call : List ℕ → Context → Context
 with_call path c = if has_path path c then record c { calls = c.calls + 1 } else c
 
-abbrev pub entered : List ℕ → List Context → List Context
-entered path contexts =
+abbrev pub call_begun : List ℕ → List Context → List Context
+call_begun path contexts =
     if list_any (has_path path) contexts then map (with_call path) contexts
     else contexts ++ record { path = path; calls = 1; own = 0 } ∷ []
 
 -- a method's entry opens the path that goes on from the open one
 abbrev pub opened : ℕ → Profile → Profile
-opened method p = record p { contexts = entered (p.open ++ method ∷ []) p.contexts; «open» = p.open ++ method ∷ [] }
+opened method p = record p { contexts = call_begun (p.open ++ method ∷ []) p.contexts; «open» = p.open ++ method ∷ [] }
 
 -- its end goes back to the path before
 abbrev pub closed : Profile → Profile

@@ -8,10 +8,8 @@ mod node;
 mod table;
 mod tree;
 
-pub use children::{ChildLists, Children};
 pub use laws::folds_to_counts;
 pub use node::Node;
-pub use table::NodeTable;
 pub use tree::Tree;
 
 #[cfg(test)]

@@ -1,5 +1,20 @@
-//! Values and the objects that references name (JVM Specification 2.3, 2.4).
+//! Values and the objects that references name (JVM Specification 2.3, 2.4, 2.7).
 #![tactic(auto)]
+
+mod array;
+mod cells;
+mod datum;
+mod element;
+mod error;
+mod heap;
+mod interned;
+mod kept;
+mod lists;
+mod object;
+
+pub use datum::Datum;
+pub use error::HeapError;
+pub use heap::Heap;
 
 /// A value on the operand stack or in a local (JVM Specification 2.6.1, 2.6.2).
 #[derive(Clone, Copy, Debug, PartialEq, Eq)]
@@ -11,3 +26,6 @@ pub enum Value {
     /// The return address of a subroutine: an offset in the code.
     Addr(u16),
 }
+
+#[cfg(test)]
+mod tests;

@@ -1,5 +1,4 @@
 pub mod Laying
-pub mod Beside
 pub mod Images
 pub mod Rewritable
 mod WorkedVersion

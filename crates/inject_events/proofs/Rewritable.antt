@@ -1,8 +1,8 @@
 -- Each method of a small class can be rewritten.
-use Rattle.std.proofs.Common.{◌≡◌, ℕ, zero, suc, ◌<◌, List, [], ◌∷◌, length, Some, subst}
+use Rattle.std.proofs.Common.{◌≡◌, ℕ, zero, suc, ◌<◌, true, List, [], ◌∷◌, length, Some, subst}
 use Rattle.std.specs.Prelude.{slice_get}
 use Rattle.std.specs.List.{AllByRecursion}
-use Rattle.std.proofs.lemmas.Option.{same_Some, none-some}
+use Rattle.std.proofs.lemmas.Option.{same_Some, none-some, option_and_then_some}
 use Rattle.const_pool.specs.declared.pool.Const.{Const}
 use Rattle.const_pool.specs.declared.class.ClassFile.{ClassFile}
 use Rattle.const_pool.specs.declared.class.Member.{Member}
@@ -11,8 +11,19 @@ use Rattle.const_pool.specs.declared.class.Attribute.{Attribute}
 use Rattle.const_pool.specs.declared.class.Attribute.TheVariants.{ConstantValue, Code, Other}
 use Rattle.const_pool.specs.ClassFile.{IsMember, IsMethodAttribute}
 use Rattle.const_pool.specs.Plain.{IsPlainCode, IsLoneCode}
+use Rattle.std.specs.List.{list_all}
+use Rattle.std.proofs.lemmas.Bool.{and_parts}
+use Rattle.const_pool.specs.declared.descriptor.Shape.{Shape}
+use Rattle.code_model.specs.declared.instr.Instr.{Instr}
+use Rattle.code_model.specs.Groups.{targets_of}
+use Rattle.jvm_model.specs.Lines.{operation_of}
+use Rattle.jvm_model.specs.Resolved.{resolved_in, resolved_of}
+use Rattle.jvm_model.specs.SmallClass.{fits_method, is_small_instr}
+use Rattle.jvm_model.proofs.ImageLines.{some-passed}
+use Rattle.jvm_model.proofs.Opcodes.{StaysAlike-operation}
 use Rattle.jvm_model.specs.Methods.{code_among}
-use Rattle.inject_events.specs.Instrumentable.{IsInstrumentable, AreRewritable}
+use Rattle.jvm_model.specs.StandsFor.{IsBuilt}
+use Rattle.inject_events.specs.Instrumentable.{AreRewritable}
 
 holds_at : {A : Type 0} (P : A → Type 0) (xs : List A) (k : ℕ) (x : A) → AllByRecursion P xs → slice_get xs k ≡ Some x → P x
 holds_at P [] k x all at = absurd (none-some x at)
@@ -27,7 +38,17 @@ lone pool (ConstantValue name index ∷ rest) code plain formed coded = absurd p
 lone pool (Other raw ∷ rest) code plain formed coded = absurd plain
 lone pool (Code name old ∷ next ∷ rest) code plain formed coded = absurd plain
 
-pub AreRewritable-methods : (c : ClassFile) → IsInstrumentable c → AreRewritable c.methods
+-- small instructions have no targets
+all_straight : (c : ClassFile) (k most : ℕ) (shape : Shape) (is : List Instr) → list_all (is_small_instr c k most shape) is ≡ true → AllByRecursion (λ (i : Instr). targets_of i.arg ≡ []) is
+all_straight c k most shape [] small = tt
+all_straight c k most shape (i ∷ is) small =
+    let both = and_parts (is_small_instr c k most shape i) (list_all (is_small_instr c k most shape) is) small in
+    let does = some-passed (fits_method k most shape) (resolved_of c i) both.0 in (
+      option_and_then_some (resolved_in c) (operation_of c i) does.0 does.1 (λ o found resolved. (StaysAlike-operation c i o found).straight),
+      all_straight c k most shape is both.1,
+    )
+
+pub AreRewritable-methods : (c : ClassFile) → IsBuilt c → AreRewritable c.methods
 AreRewritable-methods c is k m at =
     let method = is.small.methods k m at in
     let shape = holds_at (λ (m : Member). IsLoneCode m.attributes) c.methods k m is.plain.methods at in
@@ -36,5 +57,5 @@ AreRewritable-methods c is k m at =
     record {
       code = method.code;
       coded = method.coded;
-      rewritable = record { some = code.1; plain = code.0; readable = record { reading = method.small.reading; reads = method.small.reads } };
+      rewritable = record { some = code.1; plain = code.0; readable = record { reading = method.small.reading; reads = method.small.reads; straight = all_straight c k method.code.max_locals method.shape method.small.reading.instrs method.small.small } };
     }

@@ -15,10 +15,13 @@ use Rattle.const_pool.specs.ClassFile.{code_bytes, IsByte, IsCode, IsMember, IsM
 use Rattle.const_pool.specs.Plain.{IsPlainEntry, IsPlainCode, HasPlainShape}
 use Rattle.code_model.specs.declared.instr.Arg.TheVariants.{Plain as no_operand, Value, Pool as index}
 use Rattle.code_model.specs.declared.instr.Code.{Code}
-use Rattle.code_model.specs.Instructions.{with_operand, IsReading}
+use Rattle.op_table.specs.Opcodes.{row_of, groups}
+use Rattle.code_model.specs.Operands.{instr_with}
+use Rattle.code_model.specs.Reading.{read_instruction, behind_opcode_at, operand_at, value_at, index_at, signed_at, number_at}
+use Rattle.code_model.specs.Instructions.{instruction_at, IsReading}
 use Rattle.jvm_model.specs.SmallClass.{IsSmallMethod}
 use Rattle.jvm_model.proofs.PlainRun.{p1, p1_pool, code_with, method_with}
-use Rattle.inject_events.specs.Instrumentable.{IsInstrumentable}
+use Rattle.jvm_model.specs.StandsFor.{IsBuilt}
 
 abbrev pub f_bytes : List ℕ
 f_bytes = 26 ∷ 4 ∷ 96 ∷ 172 ∷ []
@@ -199,16 +202,18 @@ main_member = method_with 21 22 main_bytes
 
 -- iload_0, iconst_1, iadd, ireturn
 abbrev pub f_reading : Code
-f_reading = record { instrs = with_operand 0 26 no_operand ∷ with_operand 1 4 no_operand ∷ with_operand 2 96 no_operand ∷ with_operand 3 172 no_operand ∷ []; len = 4 }
+f_reading = record { instrs = instr_with 0 false 26 no_operand ∷ instr_with 1 false 4 no_operand ∷ instr_with 2 false 96 no_operand ∷ instr_with 3 false 172 no_operand ∷ []; len = 4 }
 
 -- getstatic, bipush, invokestatic, invokevirtual, return
 abbrev pub main_reading : Code
-main_reading = record { instrs = with_operand 0 178 (index 10) ∷ with_operand 3 16 (Value (pos 41)) ∷ with_operand 5 184 (index 14) ∷ with_operand 8 182 (index 20) ∷ with_operand 11 177 no_operand ∷ []; len = 12 }
+main_reading = record { instrs = instr_with 0 false 178 (index 10) ∷ instr_with 3 false 16 (Value (pos 41)) ∷ instr_with 5 false 184 (index 14) ∷ instr_with 8 false 182 (index 20) ∷ instr_with 11 false 177 no_operand ∷ []; len = 12 }
 
 pub f_reads : IsReading f_bytes f_reading
+unfolding instruction_at read_instruction behind_opcode_at operand_at value_at index_at signed_at number_at row_of groups
 f_reads = record { instrs = (refl, (refl, (refl, (refl, refl)))); len = refl }
 
 pub main_reads : IsReading main_bytes main_reading
+unfolding instruction_at read_instruction behind_opcode_at operand_at value_at index_at signed_at number_at row_of groups
 main_reads = record { instrs = (refl, (refl, (refl, (refl, (refl, refl))))); len = refl }
 
 f_small : IsSmallMethod p1 0 f_member
@@ -240,8 +245,8 @@ p1_methods zero m at = subst (IsSmallMethod p1 0) (same_Some f_member m at) f_sm
 p1_methods (suc zero) m at = subst (IsSmallMethod p1 1) (same_Some main_member m at) main_small
 p1_methods (suc (suc k)) m at = absurd (none-some m at)
 
-pub p1_instrumentable : IsInstrumentable p1
-p1_instrumentable = record {
+pub p1_built : IsBuilt p1
+p1_built = record {
   formed = p1_formed;
   plain = p1_plain;
   small = record { name = refl; super = refl; methods = p1_methods };

@@ -1,6 +1,7 @@
 -- The definitions of a version and of an image, computed on the worked class P1: its method f has the number 0, and its pool
 -- 24 entries.
 use Rattle.std.specs.Prelude.{◌≡◌, ℕ, List, [], ◌∷◌, Some, None, refl}
+use Rattle.op_table.specs.Opcodes.{row_of, groups}
 use Rattle.const_pool.specs.declared.class.CodeAttribute.{CodeAttribute}
 use Rattle.const_pool.specs.declared.class.ClassFile.{ClassFile}
 use Rattle.const_pool.specs.declared.class.Member.{Member}
@@ -30,9 +31,11 @@ f_version index = record {
 }
 
 f_root : IsVersion 24 0 Root (code_with f_bytes) (f_version 0x1D) f_homes
+unfolding row_of groups
 f_root = record { reading = f_reading; reads = f_reads; moved = refl; code = refl }
 
 f_plain : IsVersion 24 0 Plain (code_with f_bytes) (f_version 0x20) f_homes
+unfolding row_of groups
 f_plain = record { reading = f_reading; reads = f_reads; moved = refl; code = refl }
 
 home_of_return : home_in f_homes 3 ≡ Some 9
@@ -43,6 +46,7 @@ place_of_return = refl
 
 -- the low sixteen bits of a number are pushed
 high_number : (laid_version 24 2147418113 Root f_reading.instrs).code ≡ 0x11 ∷ 0 ∷ 1 ∷ 0xB8 ∷ 0 ∷ 0x1D ∷ 0x1A ∷ 0x04 ∷ 0x60 ∷ 0x11 ∷ 0 ∷ 1 ∷ 0xB8 ∷ 0 ∷ 0x23 ∷ 0xAC ∷ 0x11 ∷ 0 ∷ 1 ∷ 0xB8 ∷ 0 ∷ 0x26 ∷ 0xBF ∷ []
+unfolding row_of groups
 high_number = refl
 
 -- ---- the version of main, which returns nothing
@@ -60,6 +64,7 @@ main_version = record {
 }
 
 main_plain : IsVersion 24 1 Plain (code_with main_bytes) main_version main_homes
+unfolding row_of groups
 main_plain = record { reading = main_reading; reads = main_reads; moved = refl; code = refl }
 
 -- ---- images

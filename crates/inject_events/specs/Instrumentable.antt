@@ -1,24 +1,20 @@
--- What can be rewritten so far: a class file whose class is small, of the plain shape.
-use Rattle.std.specs.Prelude.{◌≡◌, ℕ, ◌<◌, List, length, Some, slice_get}
-use Rattle.const_pool.specs.declared.class.ClassFile.{ClassFile}
+-- What can be rewritten so far: methods of the plain shape, whose code has no branches.
+use Rattle.std.specs.Prelude.{◌≡◌, ℕ, ◌<◌, List, [], length, Some, slice_get}
+use Rattle.std.specs.List.{AllByRecursion}
 use Rattle.const_pool.specs.declared.class.CodeAttribute.{CodeAttribute}
 use Rattle.const_pool.specs.declared.class.Member.{Member}
-use Rattle.const_pool.specs.ClassFile.{IsClassFile}
-use Rattle.const_pool.specs.Plain.{HasPlainShape, IsPlainCode}
+use Rattle.const_pool.specs.Plain.{IsPlainCode}
+use Rattle.code_model.specs.declared.instr.Instr.{Instr}
 use Rattle.code_model.specs.declared.instr.Code.{Code}
+use Rattle.code_model.specs.Groups.{targets_of}
 use Rattle.code_model.specs.Instructions.{IsReading}
 use Rattle.jvm_model.specs.Methods.{code_of}
-use Rattle.jvm_model.specs.SmallClass.{IsSmallClass}
 
-pub record IsInstrumentable (class : ClassFile) : Type 0 where
-  pub formed : IsClassFile class
-  pub plain : HasPlainShape class
-  pub small : IsSmallClass class
-
--- the bytes are a code
+-- the bytes are a code without branches
 pub record IsReadable (bytes : List ℕ) : Type 0 where
   pub reading : Code
   pub reads : IsReading bytes reading
+  pub straight : AllByRecursion (λ (i : Instr). targets_of i.arg ≡ []) reading.instrs
 
 -- a method whose code can be rewritten
 pub record IsRewritable (code : CodeAttribute) : Type 0 where

@@ -2,7 +2,7 @@
 
 ghost use Rattle.std.specs.Prelude.{◌≡◌, ◌≢◌, ◌≤◌, ℕ, List, length, map, None, Err, IfOk};
 ghost use Rattle.inject_events.specs.declared.error.Cause.{Cause as TheCause};
-ghost use Rattle.inject_events.specs.Instrumentable.{IsInstrumentable};
+ghost use Rattle.jvm_model.specs.StandsFor.{IsBuilt};
 ghost use Rattle.jvm_model.specs.Images.{IsImage, IsOriginal, IsRewritten};
 
 use crate::copying::{copy_attributes, copy_members};
@@ -76,7 +76,7 @@ fn rewritten(
     first: u32,
     marks: &[Mark],
 ) -> Result<Image, NoMemory>
-    requires class { IsInstrumentable class.now }
+    requires class { IsBuilt class.now }
     requires first { first ≤ 2147418112 }
     requires marks { length marks.now ≡ length class.now.methods }
     ensures { IfOk result (λ image. IsRewritten class.now first marks.now image.class image.homes) }
@@ -107,7 +107,7 @@ pub fn instrument(
     first: u32,
     marks: &[Mark],
 ) -> Result<Image, InjectError>
-    requires class { IsInstrumentable class.now }
+    requires class { IsBuilt class.now }
     requires first { first ≤ 2147418112 }
     requires marks { length marks.now ≡ length class.now.methods }
     ensures image { IfOk result (λ image. IsImage class.now first marks.now image.class image.homes) }

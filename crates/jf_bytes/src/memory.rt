@@ -1,12 +1,11 @@
 //! Sources, sinks and files in memory, which fail at the calls that they are told to fail at.
 
-ghost use Rattle.std.specs.Prelude.{◌≡◌, ◌+◌, ◌^◌, ◌≤◌, ◌<◌, ◌↔◌, [], Some, None, ◌++◌, length, take, drop, map, min, vec_items, vec_len, string_bytes, is_err, IfOk, IsErr, OnOk, IsErrOf, IsTrue, IsFalse};
+ghost use Rattle.std.specs.Prelude.{◌≡◌, ◌+◌, ◌≤◌, ◌<◌, ◌↔◌, [], Some, None, ◌++◌, length, take, drop, map, min, vec_items, vec_len, string_bytes, is_err, IfOk, IsErr, OnOk, OnErr, IsErrOf, IsTrue, IsFalse};
 ghost use Rattle.std.specs.List.{zip};
 ghost use Rattle.std.specs.Option.{option_copied};
-ghost use Rattle.std.specs.Io.KnownBytes.{append_known, prepend_known};
-ghost use Rattle.jf_bytes.specs.Streams.{HasCause, PutsFront, FetchCause, greatest, contents_at, front_at, failed_name};
+ghost use Rattle.jf_bytes.specs.Streams.{HasCause, TakesFront, PutsAll, PutsFront, FetchCause, contents_at, IsFetched, IsAbsent, NamesLast};
 ghost use Rattle.jf_bytes.specs.Calls.{first_calls, is_failing, after_call};
-ghost use Rattle.jf_bytes.specs.Memory.{take_count, after_take, put_fails, after_put, fetch_fails, is_fault, after_fetch};
+ghost use Rattle.jf_bytes.specs.Memory.{empty_sink, take_count, after_take, put_fails, after_put, fetch_fails, is_fault, after_fetch};
 
 use crate::error::{Failed, FetchError, NoMemory};
 use crate::seq::Seq;
@@ -111,8 +110,9 @@ impl Source for MemSource {
     fn take(&mut self, buf: &mut [u8]) -> Result<usize, Failed>
         requires { 0 < length buf.old }
         ensures within { IfOk result (λ n. n ≤ length buf.new) }
-        ensures front { IfOk result (λ n. Some self.old.left ≡ prepend_known (take n buf.new) (Some self.new.left)) }
+        ensures front { IfOk result (TakesFront (Some self.old.left) (Some self.new.left) buf.new) }
         ensures end { IfOk result (λ n. (n ≡ 0) ↔ (self.old.left ≡ [])) }
+        ensures stays { OnErr result (Some self.new.left ≡ Some self.old.left) }
         ensures cause { HasCause self.old.calls.faults self.new.calls.faults result }
         ensures fails { is_err result ≡ is_failing self.old.calls }
         ensures count { IfOk result (λ n. n ≡ take_count self.old (length buf.old)) }
@@ -151,7 +151,7 @@ impl MemSink {
     /// A sink with room for that many bytes, which is taken at once. The puts whose numbers are in `failing`, counted
     /// from 1, fail.
     pub fn new(alloc: Global, room: usize, failing: Vec<u64>) -> Result<MemSink, NoMemory>
-        ensures { IfOk result (λ s. s ≡ record { bytes = []; room = room; calls = first_calls failing.items }) }
+        ensures { IfOk result (λ s. s ≡ empty_sink room failing.items) }
     {
         Ok(MemSink {
             bytes: Vec::with_capacity(alloc, room)?,
@@ -174,7 +174,7 @@ impl Sink for MemSink {
     ghost faults = { λ s. s.calls.faults };
 
     fn put(&mut self, bytes: &[u8]) -> Result<(), Failed>
-        ensures all { OnOk result (Some self.new.bytes ≡ append_known (Some self.old.bytes) bytes.now) }
+        ensures all { OnOk result (PutsAll (Some self.old.bytes) (Some self.new.bytes) bytes.now) }
         ensures front { PutsFront (Some self.old.bytes) (Some self.new.bytes) bytes.now }
         ensures cause { HasCause self.old.calls.faults self.new.calls.faults result }
         ensures fails { is_err result ≡ put_fails self.old bytes.now }
@@ -195,7 +195,8 @@ impl Sink for MemSink {
 /// The contents beside the first name that equals this one.
 fn find<'a>(names: &[String], contents: &'a [Vec<u8>], name: &str) -> Option<&'a [u8]>
     requires { length names.now ≡ length contents.now }
-    ensures { option_copied result ≡ contents_at (zip (map string_bytes names.now) (map vec_items contents.now)) name.now }
+    ensures { let files = zip (map string_bytes names.now) (map vec_items contents.now) in
+        option_copied result ≡ contents_at files name.now }
 {
     for (at, known) in names.iter().enumerate() {
         if known.as_str() == name {
@@ -264,8 +265,8 @@ impl MemFiles {
 
     /// What the next fetch answers, but for the want of memory for the name.
     fn answer(&self, alloc: Global, name: &str, most: usize) -> Result<Vec<u8>, FetchError>
-        requires { most < 2 ^ 32 }
-        ensures found { IfOk result (λ bytes. front_at self.now.contents name.now most ≡ Some bytes.items) }
+        ensures found { IfOk result (λ bytes.
+            IsFetched (Some self.now.contents) name.now most bytes.items) }
         ensures given { OnOk result (IsFalse (fetch_fails self.now name.now)) }
         ensures failed { IsErrOf result FetchError.Failed → IsTrue (fetch_fails self.now name.now) }
     {
@@ -274,7 +275,7 @@ impl MemFiles {
         }
         match self.find(name) {
             Some(bytes) => {
-                let count = bytes.len().min(most + 1);
+                let count = bytes.len().min(most.saturating_add(1));
                 Ok(Vec::from_slice(alloc, &bytes[..count])?)
             }
             None => Err(FetchError::Failed),
@@ -308,12 +309,12 @@ impl Files for MemFiles {
     ghost last_failed = { λ f. f.last_failed };
 
     fn fetch(&mut self, alloc: Global, name: &str, most: usize) -> Result<Vec<u8>, FetchError>
-        requires { most < 2 ^ 32 }
-        ensures found { IfOk result (λ bytes. front_at self.old.contents name.now most ≡ Some bytes.items) }
-        ensures absent { contents_at self.old.contents name.now ≡ None → IsErr result }
+        ensures found { IfOk result (λ bytes.
+            IsFetched (Some self.old.contents) name.now most bytes.items) }
+        ensures absent { IsAbsent (Some self.old.contents) name.now → IsErr result }
         ensures contents_stay { self.new.contents ≡ self.old.contents }
         ensures cause { FetchCause self.old.calls.faults self.new.calls.faults result }
-        ensures last_failed { self.new.last_failed ≡ failed_name self.old.last_failed name.now result }
+        ensures last_failed { NamesLast self.old.last_failed self.new.last_failed name.now result }
         ensures given { OnOk result (IsFalse (fetch_fails self.old name.now)) }
         ensures failed { IsErrOf result FetchError.Failed → IsTrue (fetch_fails self.old name.now) }
         ensures after { self.new ≡ after_fetch self.old name.now (is_fault result) }

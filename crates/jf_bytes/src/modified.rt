@@ -1,7 +1,8 @@
 //! Texts as the bytes of a class file: modified UTF-8 (JVM Specification 4.4.7).
 
-ghost use Rattle.std.specs.Prelude.{◌≡◌, ◌+◌, ◌/◌, ◌%◌, ◌^◌, ◌<◌, ◌≤◌, ◌++◌, ◌⊎◌, ℕ, List, Ok, Err, [], ◌∷◌, length, slice_index, IsTrue, ◌↔◌, IfOk, IfErr, OnOk};
-ghost use Rattle.jf_bytes.specs.ModifiedUtf8.{one_byte, two_bytes, three_bytes, unit_bytes, modified_utf8};
+ghost use Rattle.std.specs.Prelude.{◌≡◌, ◌+◌, ◌/◌, ◌%◌, ◌<◌, ◌≤◌, ◌++◌, ℕ, List, Ok, Err, length, slice_index, IsTrue, ◌↔◌, IfOk, IfErr, OnOk};
+ghost use Rattle.jf_bytes.specs.Results.{IsUnless};
+ghost use Rattle.jf_bytes.specs.ModifiedUtf8.{two_bytes, three_bytes, unit_bytes, modified_utf8};
 ghost use Rattle.jf_bytes.specs.Spelling.{IsUnits, IsSpelling, IsFirstBad, BeginsWith, IsDoubleLead, IsTripleLead};
 
 use crate::error::{NoMemory, TextError};
@@ -125,9 +126,11 @@ fn front_unit(bytes: &[u8]) -> Result<u16, usize>
 /// The offset in `BadUtf8` counts from the first of these bytes. What is given here `to_modified` gives back.
 pub fn from_modified(alloc: Global, bytes: &[u8]) -> Result<Text16, TextError>
     ensures found { IfOk result (λ text. IsSpelling bytes.now text) }
-    ensures only { (units : List ℕ) → IsSpelling bytes.now units → (result ≡ Ok units) ⊎ (result ≡ Err TextError.NoMemory) }
+    ensures only { (units : List ℕ) → IsSpelling bytes.now units
+        → IsUnless result (Ok units) TextError.NoMemory }
     ensures refused { (at : ℕ) → result ≡ Err (TextError.BadUtf8 at) → IsFirstBad bytes.now at }
-    ensures first_bad { (at : ℕ) → IsFirstBad bytes.now at → (result ≡ Err (TextError.BadUtf8 at)) ⊎ (result ≡ Err TextError.NoMemory) }
+    ensures first_bad { (at : ℕ) → IsFirstBad bytes.now at
+        → IsUnless result (Err (TextError.BadUtf8 at)) TextError.NoMemory }
 {
     let mut units = Vec::with_capacity(alloc, bytes.len())?;
     let mut at = 0;

@@ -1,9 +1,9 @@
 //! The library's readers and writers as sources and sinks, which count their faults.
 
 ghost use Rattle.std.specs.Prelude.{◌≡◌, ◌≤◌, ◌<◌, [], None, length, take, IfOk, OnOk, OnErr, IsOk};
-ghost use Rattle.std.specs.Io.KnownBytes.{Appends, Consumes, IsAtEnd, Keeps};
+ghost use Rattle.std.specs.Io.KnownBytes.{Appends, IsAtEnd, Keeps};
 ghost use Rattle.jf_bytes.specs.Streams.{HasCause};
-ghost use Rattle.jf_bytes.specs.Adapters.{WritesFront};
+ghost use Rattle.jf_bytes.specs.Adapters.{ReadsFirst, WritesFirst, WritesFront};
 
 use crate::error::Failed;
 use crate::streams::{Sink, Source};
@@ -13,7 +13,8 @@ use std::marker::Model;
 /// One read, again where a signal cuts it short.
 pub(crate) fn read_some<R: Read>(reader: &mut R, buf: &mut [u8]) -> Result<usize, Failed>
     ensures within { IfOk result (λ n. n ≤ length buf.new) }
-    ensures front { IfOk result (λ n. Consumes (R.remaining reader.old) (R.remaining reader.new) (take n buf.new)) }
+    ensures front { IfOk result
+        (ReadsFirst (R.remaining reader.old) (R.remaining reader.new) buf.new) }
     ensures end { IfOk result (λ n. n ≡ 0 → 0 < length buf.old → IsAtEnd (R.remaining reader.new)) }
     ensures err { OnErr result (Keeps (R.remaining reader.old) (R.remaining reader.new)) }
 {
@@ -33,7 +34,8 @@ pub(crate) fn read_some<R: Read>(reader: &mut R, buf: &mut [u8]) -> Result<usize
 /// One write, again where a signal cuts it short.
 fn write_some<W: Write>(writer: &mut W, bytes: &[u8]) -> Result<usize, Failed>
     ensures within { IfOk result (λ n. n ≤ length bytes.now) }
-    ensures front { IfOk result (λ n. Appends (W.contents writer.old) (W.contents writer.new) (take n bytes.now)) }
+    ensures front { IfOk result
+        (WritesFirst (W.contents writer.old) (W.contents writer.new) bytes.now) }
     ensures err { OnErr result (Keeps (W.contents writer.old) (W.contents writer.new)) }
 {
     for _ in 0..u64::MAX {
@@ -102,9 +104,11 @@ impl<R: Read> Source for StdSource<R> {
         ensures cause { HasCause self.old.faults self.new.faults result }
 
         // What the reader gives, where it knows its bytes.
-        ensures read { IfOk result (λ n. Consumes (R.remaining self.old.inner) (R.remaining self.new.inner) (take n buf.new)) }
+        ensures read { let old = R.remaining self.old.inner in
+            IfOk result (ReadsFirst old (R.remaining self.new.inner) buf.new) }
         ensures read_end { IfOk result (λ n. n ≡ 0 → IsAtEnd (R.remaining self.new.inner)) }
-        ensures read_nothing { OnErr result (Keeps (R.remaining self.old.inner) (R.remaining self.new.inner)) }
+        ensures read_nothing { OnErr result
+            (Keeps (R.remaining self.old.inner) (R.remaining self.new.inner)) }
     {
         let answer = read_some(&mut self.reader, buf);
         if answer.is_err() {
@@ -150,8 +154,10 @@ impl<W: Write> Sink for StdSink<W> {
         ensures nothing { bytes.now ≡ [] → IsOk result }
 
         // What the writer got, where it knows its bytes.
-        ensures written { OnOk result (Appends (W.contents self.old.inner) (W.contents self.new.inner) bytes.now) }
-        ensures written_front { WritesFront (W.contents self.old.inner) (W.contents self.new.inner) bytes.now }
+        ensures written { OnOk result
+            (Appends (W.contents self.old.inner) (W.contents self.new.inner) bytes.now) }
+        ensures written_front { WritesFront (W.contents self.old.inner)
+            (W.contents self.new.inner) bytes.now }
     {
         let answer = write_whole(&mut self.writer, bytes);
         if answer.is_err() {

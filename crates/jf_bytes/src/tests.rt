@@ -1,8 +1,8 @@
-//! Each source, sink and files at its work, and at a fault.
+//! A source in memory and the adapters at their work, and at a fault. The sinks and files in memory are at work in each row of
+//! worked_rows.
 
 use crate::{
-    DiskFiles, Failed, FetchError, Files, LateFile, MemFiles, MemSink, MemSource, Sink, Source,
-    StdSink, StdSource,
+    DiskFiles, Failed, FetchError, Files, LateFile, MemSource, Sink, Source, StdSink, StdSource,
 };
 use std::io::{ErrorKind, Read};
 use std::test::Fail;
@@ -22,48 +22,6 @@ fn a_source_in_memory_gives_the_next_bytes(rt: HostRuntime) -> Result<(), Fail> 
         assert_eq!(rt; source.take(&mut buf), answer);
         assert_eq!(rt; buf, content);
     }
-    Ok(())
-}
-
-#[test]
-fn a_sink_in_memory_keeps_half_of_a_put_that_fails(rt: HostRuntime) -> Result<(), Fail> {
-    let mut sink = MemSink::new(rt.alloc(), 6, vec![in rt.alloc(); 2]?)?;
-    let puts = [
-        (b"ab".as_slice(), Ok(()), b"ab".as_slice()),
-        (b"cde", Err(Failed), b"abc"),
-        (b"fghi", Err(Failed), b"abcfgh"),
-        (b"", Ok(()), b"abcfgh"),
-        (b"j", Err(Failed), b"abcfgh"),
-    ];
-    for (bytes, answer, all) in puts {
-        assert_eq!(rt; sink.put(bytes), answer);
-        assert_eq!(rt; sink.bytes(), all);
-    }
-    Ok(())
-}
-
-#[test]
-fn files_in_memory_are_fetched_by_name(rt: HostRuntime) -> Result<(), Fail> {
-    let alloc = rt.alloc();
-    let names = vec![in alloc;
-        "A".to_string(alloc)?,
-        "B".to_string(alloc)?,
-        "A".to_string(alloc)?,
-    ]?;
-    let contents = vec![in alloc;
-        vec![in alloc; 1, 2, 3]?,
-        vec![in alloc; 4]?,
-        vec![in alloc; 5]?,
-    ]?;
-    let mut files = MemFiles::new(alloc, names, contents, vec![in alloc; 3]?);
-    assert_eq!(rt;
-        files.fetch(alloc, "A", 4)?.as_slice(),
-        [1, 2, 3].as_slice()
-    );
-    assert_eq!(rt; files.fetch(alloc, "A", 1)?.as_slice(), [1, 2].as_slice());
-    assert!(rt; matches!(files.fetch(alloc, "B", 4), Err(FetchError::Failed)));
-    assert_eq!(rt; files.fetch(alloc, "B", 4)?.as_slice(), [4].as_slice());
-    assert!(rt; matches!(files.fetch(alloc, "C", 4), Err(FetchError::Failed)));
     Ok(())
 }
 

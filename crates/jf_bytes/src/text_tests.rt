@@ -1,20 +1,12 @@
-//! The four text calls, on texts whose bytes are known from outside.
+//! The four text calls, on texts whose bytes are known from outside. Bytes that are no modified UTF-8 are rows of worked_rows.
 
-use crate::{Text16, TextError, from_modified, from_utf8, to_modified, to_utf8};
+use crate::{Text16, from_modified, from_utf8, to_modified, to_utf8};
 use std::alloc::{AllocError, Global};
 use std::test::Fail;
 
 /// The text of some units.
 fn text(alloc: Global, units: &[u16]) -> Result<Text16, AllocError> {
     Ok(Text16::new(Vec::from_slice(alloc, units)?))
-}
-
-/// The offset of the first bad byte, where the bytes are no text.
-fn first_bad(alloc: Global, bytes: &[u8]) -> Option<usize> {
-    match from_modified(alloc, bytes) {
-        Err(TextError::BadUtf8(at)) => Some(at),
-        _ => None,
-    }
 }
 
 #[test]
@@ -29,66 +21,6 @@ fn a_text_with_a_zero_and_a_pair(rt: HostRuntime) -> Result<(), Fail> {
         b"\x41\x00\xF0\x9F\x98\x80".as_slice()
     );
     Ok(())
-}
-
-#[test]
-fn each_unit_at_the_end_of_its_kind(rt: HostRuntime) -> Result<(), Fail> {
-    let alloc = rt.alloc();
-    let rows = [
-        (0, b"\xC0\x80".as_slice()),
-        (1, b"\x01"),
-        (0x7F, b"\x7F"),
-        (0x80, b"\xC2\x80"),
-        (0x7FF, b"\xDF\xBF"),
-        (0x800, b"\xE0\xA0\x80"),
-        (0xD800, b"\xED\xA0\x80"),
-        (0xFFFF, b"\xEF\xBF\xBF"),
-    ];
-    for (unit, bytes) in rows {
-        assert_eq!(rt; from_modified(alloc, bytes)?.units(), [unit].as_slice());
-        assert_eq!(rt;
-            to_modified(alloc, &text(alloc, &[unit])?)?.as_slice(),
-            bytes
-        );
-    }
-    assert!(rt; from_modified(alloc, b"")?.units().is_empty());
-    Ok(())
-}
-
-#[test]
-fn bytes_that_no_text_goes_on_with(rt: HostRuntime) {
-    let rows = [
-        (b"\x00".as_slice(), 0),
-        (b"A\x00B", 1),
-        (b"\x80", 0),
-        (b"\xC1\x81", 0),
-        (b"\xC0\x81", 1),
-        (b"\xF0\x9F\x98\x80", 0),
-        (b"A\xFF", 1),
-        (b"\xC3\xC3", 1),
-        (b"\xE0\x80\x80", 1),
-        (b"\xE0\x9F\xBF", 1),
-        (b"\xE2\x28\xA1", 1),
-        (b"\xE2\x82\x28", 2),
-        (b"\xED\xA0\xBD\xC1\x81", 3),
-    ];
-    for (bytes, at) in rows {
-        assert_eq!(rt; first_bad(rt.alloc(), bytes), Some(at));
-    }
-}
-
-#[test]
-fn bytes_that_end_early(rt: HostRuntime) {
-    let rows = [
-        (b"\xC0".as_slice(), 1),
-        (b"\xC3", 1),
-        (b"\xE0", 1),
-        (b"\xE2\x82", 2),
-        (b"AB\xED\xA0", 4),
-    ];
-    for (bytes, at) in rows {
-        assert_eq!(rt; first_bad(rt.alloc(), bytes), Some(at));
-    }
 }
 
 #[test]

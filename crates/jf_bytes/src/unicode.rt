@@ -1,6 +1,6 @@
 //! Texts as UTF-8, and text that is in UTF-8 as UTF-16 units.
 
-ghost use Rattle.std.specs.Prelude.{◌≡◌, ◌<◌, ◌≤◌, ◌∷◌, ◌&&◌, Some, length, drop, slice_index, true, IfOk, unwrap_or, encode_utf8_all};
+ghost use Rattle.std.specs.Prelude.{◌≡◌, ◌<◌, ◌≤◌, ◌∷◌, ◌&&◌, Some, length, drop, slice_index, true, IfOk, unwrap_or};
 ghost use Rattle.std.specs.Char.Utf16.{is_high_surrogate, is_low_surrogate, surrogate_pair_char, lone_unit_char, utf16_chars};
 ghost use Rattle.jf_bytes.specs.Unicode.{utf8_of, utf16_of};
 ghost use Rattle.jf_bytes.specs.Spelling.{IsUnits};

@@ -6,7 +6,8 @@ use Rattle.std.specs.Io.KnownBytes.{append_known}
 use Rattle.jf_bytes.specs.Streams.{PutsFront, Rose}
 use Rattle.const_pool.specs.declared.class.ClassFile.{ClassFile}
 use Rattle.jvm_model.proofs.Growth.{ending-earlier}
-use Rattle.jvm_machine.specs.View.{View}
+use Rattle.jvm_model.specs.Originals.{original}
+use Rattle.jvm_machine.specs.View.{View, world, shown}
 use Rattle.jfluid_cli.specs.declared.kept.Kept.{Kept}
 use Rattle.jfluid_cli.specs.declared.refusal.Refusal.{Refusal}
 use Rattle.jfluid_cli.specs.declared.running.Stop.{Stop}
@@ -21,7 +22,7 @@ use Rattle.jfluid_cli.proofs.Complete.{chosen-said}
 -- the run had not ended before the step where it stopped
 not-before : (v : View) (budget : ℕ) (old new : Option (List ℕ)) → IsCarriedOut v budget old new → (m : ℕ) → m < v.clock → is_ended_at v m ≡ false
 not-before v budget old new carried m lt = elim carried.stop [
-  | inl (at, on) ↦ ending-earlier v.class v.main v.input m v.clock (omega arith) on
+  | inl (at, on) ↦ ending-earlier (world v) (original (world v).program) m v.clock (omega arith) on
   | inr ended ↦ ended.before m lt
 ]
 

@@ -1,27 +1,29 @@
 -- Where all is accepted and nothing fails, the status is that of the run at the budget.
 use Rattle.std.proofs.Common.{◌≡◌, ◌≢◌, ℕ, ◌+◌, ◌<◌, ◌≤◌, true, false, List, [], Option, Some, None, refl, sym, ap, subst, ◌∙◌, arith, inl, inr}
-use Rattle.std.specs.Prelude.{◌⊎◌, min, Result, Ok, Err, IfSome, IfOk, IfErr, IsSome, MatchResult}
+use Rattle.std.specs.Prelude.{◌⊎◌, min, IsSomeAnd, Result, Ok, Err, IfSome, IfOk, IfErr, IsSome, MatchResult}
 use Rattle.std.specs.Option.{option_and_then}
 use Rattle.std.proofs.lemmas.Option.{same_Some, none-some}
 use Rattle.jfluid_cli.specs.declared.kept.Kept.{Kept}
 use Rattle.jfluid_cli.specs.declared.refusal.Refusal.{Refusal}
 use Rattle.jfluid_cli.specs.declared.refusal.Refusal.TheVariants.{Words, BadRoot, NotRead, NotBuilt, NoMain, NoSuchRoot, NotFetched, OutFailed, NoMemory}
-use Rattle.jf_bytes.specs.Streams.{Told, Rose, greatest}
+use Rattle.jf_bytes.specs.Streams.{Told, Rose, HasTold, IsToldAs, greatest}
 use Rattle.const_pool.specs.declared.class.ClassFile.{ClassFile}
 use Rattle.class_reader.specs.Files.{IsFile}
 use Rattle.jvm_model.specs.declared.state.State.{State}
+use Rattle.jvm_model.specs.Originals.{original}
+use Rattle.jvm_model.specs.Programs.{world_of}
 use Rattle.jvm_model.specs.Run.{ending_of}
 use Rattle.jvm_model.specs.SmallClass.{main_of}
 use Rattle.jvm_model.proofs.Growth.{run-stays}
-use Rattle.jvm_machine.specs.View.{View}
+use Rattle.jvm_machine.specs.View.{View, world}
 use Rattle.jfluid_cli.specs.Roots.{IsRoot, IsChosen, IsBadRoot, LacksRoot, root_said, root_method}
 use Rattle.jfluid_cli.specs.Selections.{RunsProgram}
 use Rattle.const_pool.specs.References.{Reference}
-use Rattle.jfluid_cli.specs.PlainFiles.{IsPlainFile}
+use Rattle.small_program.specs.PlainFiles.{IsPlainFile}
 use Rattle.jfluid_cli.specs.Refusals.{status_of}
 use Rattle.jfluid_cli.specs.Words.{Command, command_of}
 use Rattle.jfluid_cli.specs.Runs.{ending_at, SameProgram, IsCarriedOut}
-use Rattle.jfluid_cli.specs.Top.{status_of_ending, IsProgram, HasNoRooted, Has, IsToldAs, IsCalm, IsAccepted}
+use Rattle.jfluid_cli.specs.Top.{status_of_ending, IsProgram, HasNoRooted, IsCalm, IsAccepted}
 
 -- a calm count did not rise
 pub calm_not_rose : (old new : ℕ) → IsCalm old new → Rose old new → ⊥
@@ -36,7 +38,7 @@ pub ends_as : (v : View) (budget : ℕ) (old new : Option (List ℕ)) → IsCarr
 ends_as v budget old new carried =
     elim carried.stop [
       | inl (at, on) ↦ ap (ending_at v) at
-      | inr ended ↦ ap (λ (s : State). s.ending) (sym (run-stays v.class v.main v.input v.clock budget carried.within ended.ended))
+      | inr ended ↦ ap (λ (s : State). s.ending) (sym (run-stays (world v) (original (world v).program) v.clock budget carried.within ended.ended))
     ]
 
 -- ---- what is accepted is no other program
@@ -48,10 +50,10 @@ abbrev pub some_bytes : List ℕ → Option (List ℕ)
 some_bytes bytes = Some bytes
 
 -- a file with this name has no other contents than those that are accepted
-accepted_has : (told : Option Told) (words : List (List ℕ)) (c : ClassFile) (main : ℕ) (a : IsAccepted told words c main) (P : List ℕ → Type 0) → Has told a.command.file P → P a.bytes
+accepted_has : (told : Option Told) (words : List (List ℕ)) (c : ClassFile) (main : ℕ) (a : IsAccepted told words c main) (P : List ℕ → Type 0) → HasTold told a.command.file P → P a.bytes
 accepted_has told words c main a P has =
-    let files : Has (Some a.files) a.command.file P = subst (λ (t : Option Told). Has t a.command.file P) a.telling has in
-    subst (λ (o : Option (List ℕ)). IfSome o P) a.told_as files
+    let files : HasTold (Some a.files) a.command.file P = subst (λ (t : Option Told). HasTold t a.command.file P) a.telling has in
+    subst (λ (o : Option (List ℕ)). IsSomeAnd o P) a.told_as files
 
 abbrev pub some_command : Command → Option Command
 some_command k = Some k
@@ -87,16 +89,16 @@ chosen-said (Some word) c root chosen = ap (option_and_then (root_method c)) cho
 
 -- what is accepted is a program with its root
 accepted_none : (told : Option Told) (words : List (List ℕ)) (c : ClassFile) (main : ℕ) (a : IsAccepted told words c main) (command : Command) → command_of words ≡ Some command
-    → Has told command.file (HasNoRooted command.options.root command.main) → ⊥
+    → HasTold told command.file (HasNoRooted command.options.root command.main) → ⊥
 accepted_none told words c main a command e none =
     let same : command ≡ a.command = accepted_command told words c main a command e in
-    let has : Has told a.command.file (HasNoRooted a.command.options.root a.command.main) = subst (λ (k : Command). Has told k.file (HasNoRooted k.options.root k.main)) same none in
+    let has : HasTold told a.command.file (HasNoRooted a.command.options.root a.command.main) = subst (λ (k : Command). HasTold told k.file (HasNoRooted k.options.root k.main)) same none in
     accepted_has told words c main a (HasNoRooted a.command.options.root a.command.main) has c main a.root a.program a.chosen
 
 -- What a load refused was not accepted, unless memory ran out.
 pub load_refused : (told : Option Told) (words : List (List ℕ)) (c : ClassFile) (main : ℕ) (command : Command) (refusal : Refusal) (before after : ℕ) → IsAccepted told words c main → command_of words ≡ Some command
     → IsCalm before after → (refusal ≢ Words) → (refusal ≢ OutFailed) → (refusal ≡ NotFetched → Rose before after) → (refusal ≡ BadRoot → IsBadRoot command.options.root)
-    → (status_of refusal ≡ 3 → Has told command.file (HasNoRooted command.options.root command.main)) → refusal ≡ NoMemory
+    → (status_of refusal ≡ 3 → HasTold told command.file (HasNoRooted command.options.root command.main)) → refusal ≡ NoMemory
 load_refused told words c main command Words before after a e calm not_words not_out failed bad none = absurd (not_words refl)
 load_refused told words c main command OutFailed before after a e calm not_words not_out failed bad none = absurd (not_out refl)
 load_refused told words c main command NotFetched before after a e calm not_words not_out failed bad none = absurd (calm_not_rose before after calm (failed refl))
@@ -131,9 +133,9 @@ accepted_is told words c main a command bytes class number e as_told program onl
     let found : main_of class command.main ≡ Some main = ap (λ (k : ClassFile). main_of k command.main) (sym class_is) ∙ (ap (λ (k : Command). main_of c k.main) same ∙ a.program.main_is) in
     (class_is, number_is main number (sym found ∙ program.main_is))
 
-ending_of_same : (c d : ClassFile) (m n : ℕ) (x y : List ℕ) (budget : ℕ) → c ≡ d → m ≡ n → x ≡ y → ending_of c m x budget ≡ ending_of d n y budget
+ending_of_same : (c d : ClassFile) (m n : ℕ) (x y : List ℕ) (budget : ℕ) → c ≡ d → m ≡ n → x ≡ y → ending_of (world_of c m x) budget ≡ ending_of (world_of d n y) budget
 ending_of_same c d m n x y budget e f h =
-    ap (λ (k : ClassFile). ending_of k m x budget) e ∙ (ap (λ (k : ℕ). ending_of d k x budget) f ∙ ap (λ (i : List ℕ). ending_of d n i budget) h)
+    ap (λ (k : ClassFile). ending_of (world_of k m x) budget) e ∙ (ap (λ (k : ℕ). ending_of (world_of d k x) budget) f ∙ ap (λ (i : List ℕ). ending_of (world_of d n i) budget) h)
 
 abbrev failed_with : Refusal → Result ℕ Refusal
 failed_with e = Err e
@@ -147,10 +149,10 @@ pub run_answers : (A B : Kept → Type 0) (C D : Kept → Type 0) (r : Result �
     → IfSome kept (λ k. SameProgram from k.vm × A k × B k) → IfOk r (λ s. IfSome kept (λ k. IsCarriedOut k.vm budget old new))
     → IfOk r (λ s. s ≢ 8 → IfSome kept (λ k. (s ≡ status_of_ending (ending_at k.vm k.vm.clock)) × C k × D k))
     → (r ≡ Err OutFailed → Rose before after) → IfErr r (λ e. (e ≡ OutFailed) ⊎ (e ≡ NoMemory))
-    → MatchResult r (λ s. s ≢ 8 → s ≡ status_of_ending (ending_of c m [] budget)) (λ e. e ≡ NoMemory)
+    → MatchResult r (λ s. s ≢ 8 → s ≡ status_of_ending (ending_of (world_of c m []) budget)) (λ e. e ≡ NoMemory)
 run_answers A B C D (Ok s) None c d m n budget from before after old new accepted is calm some same carried whole stopped errors = absurd (not_both some)
 run_answers A B C D (Ok s) (Some k) c d m n budget from before after old new accepted is calm some same carried whole stopped errors = λ not_eight.
-    let seen : ending_at k.vm budget ≡ ending_of c m [] budget =
+    let seen : ending_at k.vm budget ≡ ending_of (world_of c m []) budget =
     ending_of_same k.vm.class c k.vm.main m k.vm.input [] budget (same.0.class ∙ (is.class_is ∙ sym accepted.0)) (same.0.main ∙ (is.main_is ∙ sym accepted.1)) (same.0.input ∙ is.input_is) in
     (whole not_eight).0 ∙ ap status_of_ending (ends_as k.vm budget old new carried ∙ seen)
 run_answers A B C D (Err e) kept c d m n budget from before after old new accepted is calm some same carried whole stopped errors =

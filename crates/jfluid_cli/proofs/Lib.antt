@@ -1,8 +1,4 @@
-pub mod Codes
 pub mod Numbers
-pub mod Formed
-pub mod Methods
-pub mod Shapes
 pub mod Outputs
 pub mod Telling
 pub mod Selected

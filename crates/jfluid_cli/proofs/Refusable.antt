@@ -1,7 +1,7 @@
 -- What is refusable is not kept, and its status is that of a refused file.
 use Rattle.std.proofs.Common.{◌≡◌, ℕ, List, [], ◌∷◌, Option, Some, None, refl, sym, ap, subst, ◌∙◌, inl, inr}
 use Rattle.std.specs.Prelude.{◌⊎◌, IsSome, IfSome}
-use Rattle.jf_bytes.specs.Streams.{Told, Rose}
+use Rattle.jf_bytes.specs.Streams.{Told, Rose, IsToldAs}
 use Rattle.const_pool.specs.declared.class.ClassFile.{ClassFile}
 use Rattle.class_reader.specs.declared.error.ReadError.{ReadError}
 use Rattle.class_reader.specs.Files.{IsFile, IsFirstFault}
@@ -13,7 +13,7 @@ use Rattle.jfluid_cli.specs.declared.refusal.Refusal.TheVariants.{Words, BadRoot
 use Rattle.jfluid_cli.specs.Words.{Command, command_of}
 use Rattle.jfluid_cli.specs.Refusals.{status_of}
 use Rattle.jfluid_cli.specs.Origins.{HasOrigin, IsOnlyProgram}
-use Rattle.jfluid_cli.specs.Top.{IsProgram, IsUnread, IsOutside, LacksMain, IsToldAs, IsCalm, IsRefusable, HasBadRoot, LacksRootMethod}
+use Rattle.jfluid_cli.specs.Top.{IsProgram, IsUnread, IsOutside, LacksMain, IsCalm, IsRefusable, HasBadRoot, LacksRootMethod}
 use Rattle.jfluid_cli.specs.Roots.{IsChosen, IsBadRoot, LacksRoot}
 use Rattle.jfluid_cli.proofs.Complete.{some_command, some_bytes, calm_not_rose, chosen-known, file_of}
 

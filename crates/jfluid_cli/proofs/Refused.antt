@@ -5,7 +5,7 @@ use Rattle.class_reader.specs.declared.error.ReadError.{ReadError}
 use Rattle.jf_bytes.specs.Streams.{Told}
 use Rattle.jfluid_cli.specs.declared.refusal.Refusal.{Refusal}
 use Rattle.jfluid_cli.specs.declared.refusal.Refusal.TheVariants.{Words, BadRoot, NotRead, NotBuilt, NoMain, NoSuchRoot, NotFetched, OutFailed, NoMemory}
-use Rattle.jfluid_cli.specs.Refusals.{status_of, line_of, PutsOrRose, Tells}
+use Rattle.jfluid_cli.specs.Refusals.{status_of, refusal_line, PutsOrRose, TellsRefusal}
 use Rattle.jfluid_cli.specs.Top.{is_refused, IsOutside, LacksMain, RefusesFile, RefusesBytes, RefusesRoot, HasBadRoot, AreRefused, IsRefusedFile}
 use Rattle.jfluid_cli.specs.Words.{command_of}
 
@@ -41,11 +41,11 @@ told_of_words refusal NoMemory (inl same) status = absurd cc
 
 -- The line that was put after nothing else was.
 pub tells : (old mid new : Option (List ℕ)) (before between after : ℕ) (file : List ℕ) (told refusal : Refusal) → mid ≡ old → between ≡ before → told ≡ refusal
-    → PutsOrRose mid new between after (line_of told file) → Tells old new before after file refusal
+    → PutsOrRose mid new between after (refusal_line told file) → TellsRefusal old new before after file refusal
 tells old mid new before between after file told refusal same calm is puts =
-    subst (λ (r : Refusal). PutsOrRose old new before after (line_of r file)) is
-    (subst (λ (n : ℕ). PutsOrRose old new n after (line_of told file)) calm
-    (subst (λ (o : Option (List ℕ)). PutsOrRose o new between after (line_of told file)) same puts))
+    subst (λ (r : Refusal). PutsOrRose old new before after (refusal_line r file)) is
+    (subst (λ (n : ℕ). PutsOrRose old new n after (refusal_line told file)) calm
+    (subst (λ (o : Option (List ℕ)). PutsOrRose o new between after (refusal_line told file)) same puts))
 
 -- A file was refused, and the line says why.
 pub file_refused : (told : Option Told) (words : List (List ℕ)) (Line : Refusal → Type 0) (refusal last : Refusal) → (last ≡ refusal) ⊎ (last ≡ NoMemory) → status_of last ≡ 3

@@ -1,5 +1,3 @@
-pub mod Admission
-pub mod PlainFiles
 pub mod Refusals
 pub mod Runs
 pub mod Words

@@ -8,7 +8,8 @@ use Rattle.jfluid_cli.specs.declared.kept.Kept.{Kept}
 use Rattle.jfluid_cli.specs.Roots.{IsChosen}
 use Rattle.jfluid_cli.specs.Selections.{IsSelected}
 use Rattle.jfluid_cli.specs.Words.{Command, command_of}
-use Rattle.jfluid_cli.specs.Top.{IsProgram, IsToldAs}
+use Rattle.jf_bytes.specs.Streams.{IsToldAs}
+use Rattle.jfluid_cli.specs.Top.{IsProgram}
 
 -- The kept class file is what the files tell under the word, it is the program that the kept machine runs, in the versions
 -- for the root that the words name, and the input is empty.

@@ -34,16 +34,16 @@ cause_of (fault.Trailing at) = codes "Trailing " ++ decimal at
 cause_of fault.NoMemory = codes "NoMemory"
 
 -- the line, with its end; a file is called by its word
-abbrev pub line_of : Refusal → List ℕ → List ℕ
-line_of Words file = codes "jfluid: words refused\n"
-line_of BadRoot file = codes "jfluid: plan: BadLine 0 Root\n"
-line_of (NotRead why) file = codes "jfluid: " ++ (file ++ (codes ": " ++ (cause_of why ++ codes "\n")))
-line_of NotBuilt file = codes "jfluid: " ++ (file ++ codes ": NotBuilt\n")
-line_of NoMain file = codes "jfluid: NoMain\n"
-line_of NoSuchRoot file = codes "jfluid: NoSuchRoot 1\n"
-line_of OutFailed file = codes "jfluid: output failed\n"
-line_of NotFetched file = codes "jfluid: " ++ (file ++ codes ": fetch failed\n")
-line_of NoMemory file = codes "jfluid: no memory\n"
+abbrev pub refusal_line : Refusal → List ℕ → List ℕ
+refusal_line Words file = codes "jfluid: words refused\n"
+refusal_line BadRoot file = codes "jfluid: plan: BadLine 0 Root\n"
+refusal_line (NotRead why) file = codes "jfluid: " ++ (file ++ (codes ": " ++ (cause_of why ++ codes "\n")))
+refusal_line NotBuilt file = codes "jfluid: " ++ (file ++ codes ": NotBuilt\n")
+refusal_line NoMain file = codes "jfluid: NoMain\n"
+refusal_line NoSuchRoot file = codes "jfluid: NoSuchRoot 1\n"
+refusal_line OutFailed file = codes "jfluid: output failed\n"
+refusal_line NotFetched file = codes "jfluid: " ++ (file ++ codes ": fetch failed\n")
+refusal_line NoMemory file = codes "jfluid: no memory\n"
 
 -- These bytes were put, or a front of them where the count of faults rose.
 pub record PutsOrRose (old new : Option (List ℕ)) (before after : ℕ) (bytes : List ℕ) : Type 0 where
@@ -51,5 +51,5 @@ pub record PutsOrRose (old new : Option (List ℕ)) (before after : ℕ) (bytes 
   pub whole : (new ≡ append_known old bytes) ⊎ Rose before after
 
 -- The line of this refusal was put, or a front of it where the report's count of faults rose.
-abbrev pub Tells : Option (List ℕ) → Option (List ℕ) → ℕ → ℕ → List ℕ → Refusal → Type 0
-Tells old new before after file refusal = PutsOrRose old new before after (line_of refusal file)
+abbrev pub TellsRefusal : Option (List ℕ) → Option (List ℕ) → ℕ → ℕ → List ℕ → Refusal → Type 0
+TellsRefusal old new before after file refusal = PutsOrRose old new before after (refusal_line refusal file)

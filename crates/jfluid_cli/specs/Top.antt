@@ -2,18 +2,18 @@
 use Rattle.std.specs.Prelude.{◌≡◌, ℕ, ◌<◌, ◌⊎◌, Bool, false, List, [], ◌∷◌, Option, Some, None, IfSome, slice_get, unwrap_or, ◌==◌}
 use Rattle.std.specs.Option.{option_and_then}
 use Rattle.std.specs.List.{list_any}
-use Rattle.jf_bytes.specs.Streams.{Told, contents_at, front_at, greatest}
+use Rattle.jf_bytes.specs.Streams.{Told, HasTold, contents_at, greatest}
 use Rattle.const_pool.specs.declared.class.ClassFile.{ClassFile}
 use Rattle.const_pool.specs.Plain.{HasPlainShape}
 use Rattle.class_reader.specs.declared.error.ReadError.{ReadError}
-use Rattle.class_reader.specs.Files.{IsFile, IsFirstFault}
+use Rattle.class_reader.specs.Files.{IsFile, IsFirstFault, most_bytes}
 use Rattle.jvm_model.specs.declared.ending.Ending.{Ending}
 use Rattle.jvm_model.specs.declared.ending.Ending.TheVariants.{Returned, Exited, Uncaught, Unverifiable}
 use Rattle.jvm_model.specs.SmallClass.{IsSmallClass, main_of}
-use Rattle.jvm_machine.specs.View.{View}
+use Rattle.jvm_machine.specs.View.{View, world}
 use Rattle.jfluid_cli.specs.declared.refusal.Refusal.{Refusal}
 use Rattle.jfluid_cli.specs.declared.refusal.Refusal.TheVariants.{Words, BadRoot, NotRead, NotBuilt, NoMain, NoSuchRoot, NotFetched, NoMemory}
-use Rattle.jfluid_cli.specs.PlainFiles.{IsPlainFile}
+use Rattle.small_program.specs.PlainFiles.{IsPlainFile}
 use Rattle.jfluid_cli.specs.Words.{Command, command_of}
 use Rattle.jfluid_cli.specs.Roots.{IsChosen, IsBadRoot, LacksRoot, root_said}
 use Rattle.jfluid_cli.specs.Runs.{ending_at}
@@ -86,22 +86,6 @@ HasNoProgram name bytes = (c : ClassFile) (main : ℕ) → IsProgram bytes name 
 abbrev pub HasNoRooted : Option (List ℕ) → List ℕ → List ℕ → Type 0
 HasNoRooted word name bytes = (c : ClassFile) (main : ℕ) (root : Option ℕ) → IsProgram bytes name c main → IsChosen word c root → ⊥
 
--- the files, where they tell their contents, have this under the name
-abbrev pub Has : Option Told → List ℕ → (List ℕ → Type 0) → Type 0
-Has told name P = IfSome told (λ files. IfSome (contents_at files name) P)
-
--- the contents of the file, where the files tell them, are these bytes
-abbrev pub IsToldAs : Option Told → List ℕ → List ℕ → Type 0
-IsToldAs told name bytes = IfSome told (λ files. contents_at files name ≡ Some bytes)
-
--- the greatest length of a class file
-abbrev pub most : ℕ
-most = 4194304
-
--- the contents of the file are these bytes, or begin with them where they are too long
-abbrev pub IsFrontOf : Option Told → List ℕ → List ℕ → Type 0
-IsFrontOf told name bytes = IfSome told (λ files. front_at files name most ≡ Some bytes)
-
 -- what a fetch refuses
 abbrev pub IsFetchRefusal : Refusal → Type 0
 IsFetchRefusal refusal = (refusal ≡ NotFetched) ⊎ (refusal ≡ NoMemory)
@@ -110,7 +94,7 @@ IsFetchRefusal refusal = (refusal ≡ NotFetched) ⊎ (refusal ≡ NoMemory)
 
 -- what is reported of a machine's run, with the tree that is projected on the activations of the root
 abbrev pub report_of : Option ℕ → View → List ℕ
-report_of root v = report_text v.class (ending_at v v.clock) v.clock (swaps_for root) false (projection (acts_for root) v.class v.main v.input v.clock)
+report_of root v = report_text v.class (ending_at v v.clock) v.clock (swaps_for root) false (projection (acts_for root) (world v) v.clock)
 
 -- the root that the words name in a class
 abbrev pub root_of : List (List ℕ) → ClassFile → Option ℕ
@@ -131,13 +115,13 @@ file_word words = unwrap_or (slice_get words 2) []
 pub record RefusesFile (told : Option Told) (words : List (List ℕ)) (Reason : List ℕ → List ℕ → Type 0) : Type 0 where
   pub command : Command
   pub commanded : command_of words ≡ Some command
-  pub reason : Has told command.file (λ bytes. Reason bytes command.main)
+  pub reason : HasTold told command.file (λ bytes. Reason bytes command.main)
 
 -- The words are a command whose root names no method of the class that the files tell.
 pub record RefusesRoot (told : Option Told) (words : List (List ℕ)) : Type 0 where
   pub command : Command
   pub commanded : command_of words ≡ Some command
-  pub reason : Has told command.file (λ bytes. LacksRootMethod command.options.root bytes command.main)
+  pub reason : HasTold told command.file (λ bytes. LacksRootMethod command.options.root bytes command.main)
 
 -- The words are a command whose word for the root is outside the grammar.
 pub record HasBadRoot (words : List (List ℕ)) : Type 0 where

@@ -4,25 +4,22 @@ ghost use Rattle.std.specs.Prelude.{◌≡◌, ◌≢◌, ◌<◌, ◌^◌, ◌�
 ghost use Rattle.std.specs.Option.{option_copied, option_map};
 ghost use Rattle.const_pool.specs.declared.class.ClassFile.{ClassFile as Class};
 ghost use Rattle.class_reader.specs.declared.error.ReadError.{ReadError as Fault};
-ghost use Rattle.class_reader.specs.Files.{IsFile, IsFirstFault};
+ghost use Rattle.class_reader.specs.Files.{IsFile, IsFirstFault, most_bytes};
 ghost use Rattle.jfluid_cli.specs.Refusals.{status_of};
-ghost use Rattle.jf_bytes.specs.Streams.{Rose};
+ghost use Rattle.jf_bytes.specs.Streams.{Rose, HasTold, IsFetched, IsToldAs};
 ghost use Rattle.jfluid_cli.specs.Roots.{IsSaid, IsChosen, IsBadRoot, HasChosen, LacksNamed};
 ghost use Rattle.jfluid_cli.specs.Views.{root_view};
-ghost use Rattle.jfluid_cli.specs.Top.{LacksRootMethod, IsProgram, IsOutside, LacksMain, HasNoProgram, HasNoRooted, Has, IsToldAs, IsFrontOf, IsFetchRefusal};
+ghost use Rattle.jfluid_cli.specs.Top.{LacksRootMethod, IsProgram, IsOutside, LacksMain, HasNoProgram, HasNoRooted, IsFetchRefusal};
 ghost use Rattle.jfluid_cli.specs.Words.{slashed};
 
-use crate::admission::{AdmitError, admit};
 use crate::refusal::Refusal;
 use crate::roots::{Root, read_root, root_number};
 use crate::words::{Command, class_name};
-use class_reader::{ReadError, read_class};
+use class_reader::{MOST_BYTES, ReadError, read_class};
 use const_pool::ClassFile;
 use jf_bytes::{FetchError, Files, NoMemory, Text16};
+use small_program::{AdmitError, admit};
 use std::alloc::Global;
-
-/// The greatest length of a class file.
-const MOST: usize = 4_194_304;
 
 /// A class file that was read and admitted.
 #[derive(Drop)]
@@ -69,13 +66,13 @@ pub struct Loaded {
 
 /// Fetches a class file, or, of a longer one, enough to see that it is too long.
 fn fetch<F: Files>(alloc: Global, name: &str, files: &mut F) -> Result<Vec<u8>, Refusal>
-    ensures found { IfOk result (λ bytes. IsFrontOf (F.contents files.old) name.now bytes.items) }
+    ensures found { IfOk result (λ bytes. IsFetched (F.contents files.old) name.now most_bytes bytes.items) }
     ensures failed { result ≡ Err Refusal.NotFetched → Rose (F.faults files.old) (F.faults files.new) }
     ensures name { result ≡ Err Refusal.NotFetched → F.last_failed files.new ≡ name.now }
     ensures calm { result ≢ Err Refusal.NotFetched → F.faults files.new ≡ F.faults files.old }
     ensures errors { IfErr result IsFetchRefusal }
 {
-    match files.fetch(alloc, name, MOST) {
+    match files.fetch(alloc, name, MOST_BYTES) {
         Ok(bytes) => Ok(bytes),
         Err(FetchError::Failed) => Err(Refusal::NotFetched),
         Err(FetchError::NoMemory) => Err(Refusal::NoMemory),
@@ -88,10 +85,10 @@ fn load<F: Files>(alloc: Global, command: Command<'_>, files: &mut F) -> Result<
     ensures program { IfOk result (λ l. IsProgram l.bytes.items (slashed command.entry.main.now) l.program.class l.program.main) }
     ensures one { IfOk result (λ l. (c : Class) → IsFile l.bytes.items c → c ≡ l.program.class) }
     ensures faultless { IfOk result (λ l. (fault : Fault) → IsFirstFault l.bytes.items fault → ⊥) }
-    ensures refuses { IfErr result (λ e. status_of e ≡ 3 → Has (F.contents files.old) command.entry.file.now (HasNoProgram (slashed command.entry.main.now))) }
-    ensures not_read { (fault : Fault) → result ≡ Err (Refusal.NotRead fault) → Has (F.contents files.old) command.entry.file.now (λ bytes. IsFirstFault bytes fault) }
-    ensures not_built { result ≡ Err Refusal.NotBuilt → Has (F.contents files.old) command.entry.file.now IsOutside }
-    ensures no_main { result ≡ Err Refusal.NoMain → Has (F.contents files.old) command.entry.file.now (λ bytes. LacksMain bytes (slashed command.entry.main.now)) }
+    ensures refuses { IfErr result (λ e. status_of e ≡ 3 → HasTold (F.contents files.old) command.entry.file.now (HasNoProgram (slashed command.entry.main.now))) }
+    ensures not_read { (fault : Fault) → result ≡ Err (Refusal.NotRead fault) → HasTold (F.contents files.old) command.entry.file.now (λ bytes. IsFirstFault bytes fault) }
+    ensures not_built { result ≡ Err Refusal.NotBuilt → HasTold (F.contents files.old) command.entry.file.now IsOutside }
+    ensures no_main { result ≡ Err Refusal.NoMain → HasTold (F.contents files.old) command.entry.file.now (λ bytes. LacksMain bytes (slashed command.entry.main.now)) }
     ensures failed { result ≡ Err Refusal.NotFetched → Rose (F.faults files.old) (F.faults files.new) }
     ensures name { result ≡ Err Refusal.NotFetched → F.last_failed files.new ≡ command.entry.file.now }
     ensures calm { result ≢ Err Refusal.NotFetched → F.faults files.new ≡ F.faults files.old }
@@ -159,12 +156,12 @@ pub fn prepare<F: Files>(
     ensures program { IfOk result (λ p. IsProgram p.loaded.bytes.items (slashed command.entry.main.now) p.loaded.program.class p.loaded.program.main) }
     ensures one { IfOk result (λ p. (c : Class) → IsFile p.loaded.bytes.items c → c ≡ p.loaded.program.class) }
     ensures faultless { IfOk result (λ p. (fault : Fault) → IsFirstFault p.loaded.bytes.items fault → ⊥) }
-    ensures refuses { IfErr result (λ e. status_of e ≡ 3 → Has (F.contents files.old) command.entry.file.now (HasNoRooted (option_copied command.entry.options.root) (slashed command.entry.main.now))) }
+    ensures refuses { IfErr result (λ e. status_of e ≡ 3 → HasTold (F.contents files.old) command.entry.file.now (HasNoRooted (option_copied command.entry.options.root) (slashed command.entry.main.now))) }
     ensures root { IfOk result (λ p. IsChosen (option_copied command.entry.options.root) p.loaded.program.class p.root) }
-    ensures not_read { (fault : Fault) → result ≡ Err (Refusal.NotRead fault) → Has (F.contents files.old) command.entry.file.now (λ bytes. IsFirstFault bytes fault) }
-    ensures not_built { result ≡ Err Refusal.NotBuilt → Has (F.contents files.old) command.entry.file.now IsOutside }
-    ensures no_main { result ≡ Err Refusal.NoMain → Has (F.contents files.old) command.entry.file.now (λ bytes. LacksMain bytes (slashed command.entry.main.now)) }
-    ensures no_root { result ≡ Err Refusal.NoSuchRoot → Has (F.contents files.old) command.entry.file.now (λ bytes. LacksRootMethod (option_copied command.entry.options.root) bytes (slashed command.entry.main.now)) }
+    ensures not_read { (fault : Fault) → result ≡ Err (Refusal.NotRead fault) → HasTold (F.contents files.old) command.entry.file.now (λ bytes. IsFirstFault bytes fault) }
+    ensures not_built { result ≡ Err Refusal.NotBuilt → HasTold (F.contents files.old) command.entry.file.now IsOutside }
+    ensures no_main { result ≡ Err Refusal.NoMain → HasTold (F.contents files.old) command.entry.file.now (λ bytes. LacksMain bytes (slashed command.entry.main.now)) }
+    ensures no_root { result ≡ Err Refusal.NoSuchRoot → HasTold (F.contents files.old) command.entry.file.now (λ bytes. LacksRootMethod (option_copied command.entry.options.root) bytes (slashed command.entry.main.now)) }
     ensures bad_root { result ≡ Err Refusal.BadRoot → IsBadRoot (option_copied command.entry.options.root) }
     ensures bad_only { IsBadRoot (option_copied command.entry.options.root) → MatchResult result (λ _. ⊥) (λ e. (e ≡ Refusal.BadRoot) ⊎ (e ≡ Refusal.NoMemory)) }
     ensures failed { result ≡ Err Refusal.NotFetched → Rose (F.faults files.old) (F.faults files.new) }

@@ -4,7 +4,7 @@ ghost use Rattle.std.specs.Prelude.{◌≡◌, ◌⊎◌, true, false, IfOk};
 ghost use Rattle.std.specs.String.{string_bytes};
 ghost use Rattle.std.specs.Io.KnownBytes.{append_known};
 ghost use Rattle.jf_bytes.specs.Streams.{Rose};
-ghost use Rattle.jfluid_cli.specs.Refusals.{status_of, cause_of, line_of, PutsOrRose};
+ghost use Rattle.jfluid_cli.specs.Refusals.{status_of, cause_of, refusal_line, PutsOrRose};
 
 use class_reader::ReadError;
 use jf_bytes::Sink;
@@ -73,7 +73,7 @@ fn cause(alloc: Global, fault: ReadError) -> Result<String, AllocError>
 
 /// The line of a file that is not read.
 fn fault_line(alloc: Global, fault: ReadError, file: &str) -> Result<String, AllocError>
-    ensures { IfOk result (λ line. string_bytes line ≡ line_of (Refusal.NotRead fault) file.now) }
+    ensures { IfOk result (λ line. string_bytes line ≡ refusal_line (Refusal.NotRead fault) file.now) }
 {
     let cause = cause(alloc, fault)?;
     format!(in alloc; "jfluid: {file}: {cause}\n")
@@ -81,7 +81,7 @@ fn fault_line(alloc: Global, fault: ReadError, file: &str) -> Result<String, All
 
 /// The line of a refusal; a file is called by its word.
 fn line(alloc: Global, refusal: Refusal, file: &str) -> Result<String, AllocError>
-    ensures { IfOk result (λ line. string_bytes line ≡ line_of refusal file.now) }
+    ensures { IfOk result (λ line. string_bytes line ≡ refusal_line refusal file.now) }
 {
     match refusal {
         Refusal::Words => String::from_str(alloc, "jfluid: words refused\n"),
@@ -108,7 +108,7 @@ pub fn put_bytes<P: Sink>(report: &mut P, bytes: &[u8]) -> bool
 /// Puts the line of a refusal, and answers which refusal it was in the end: where no memory is left for the line, that.
 pub fn tell<P: Sink>(alloc: Global, refusal: Refusal, file: &str, report: &mut P) -> Refusal
     ensures told { (result ≡ refusal) ⊎ (result ≡ Refusal.NoMemory) }
-    ensures line { PutsOrRose (P.taken report.old) (P.taken report.new) (P.faults report.old) (P.faults report.new) (line_of result file.now) }
+    ensures line { PutsOrRose (P.taken report.old) (P.taken report.new) (P.faults report.old) (P.faults report.new) (refusal_line result file.now) }
 {
     match line(alloc, refusal, file) {
         Ok(line) => {

@@ -3,8 +3,9 @@
 ghost use Rattle.std.specs.Prelude.{◌≡◌, ◌≢◌, ◌≤◌, ◌<◌, ◌⊎◌, ◌↔◌, ℕ, [], true, false, None, Err, map, MatchResult, IfOk, IfErr, IfSome, IsOk, IsSome, OnOk};
 ghost use Rattle.const_pool.specs.declared.class.ClassFile.{ClassFile as Class};
 ghost use Rattle.class_reader.specs.declared.error.ReadError.{ReadError as Fault};
+ghost use Rattle.jvm_model.specs.Programs.{world_of};
 ghost use Rattle.jvm_model.specs.Run.{ending_of};
-ghost use Rattle.jfluid_cli.specs.Refusals.{Tells};
+ghost use Rattle.jfluid_cli.specs.Refusals.{TellsRefusal};
 ghost use Rattle.std.specs.Io.KnownBytes.{append_known};
 ghost use Rattle.jf_bytes.specs.Streams.{PutsFront, Rose};
 ghost use Rattle.jfluid_cli.specs.Runs.{IsFresh, IsTold, is_ended_at, IsGoing, SameProgram, IsCarriedOut, PutsAtMost, ending_at};
@@ -118,7 +119,7 @@ fn carry_out<F: Files, O: Sink, P: Sink>(
     ensures stopped { result ≡ Err Refusal.OutFailed → Rose (O.faults out.old) (O.faults out.new) }
     ensures not_fetched { result ≡ Err Refusal.NotFetched → (kept.new ≡ None) × Rose (F.faults files.old) (F.faults files.new) × (F.last_failed files.new ≡ file_word (map string_bytes words.now)) }
     ensures not_words { result ≡ Err Refusal.Words → kept.new ≡ None }
-    ensures complete { (c : Class) (main : ℕ) → IsAccepted (F.contents files.old) (map string_bytes words.now) c main → IsCalm (F.faults files.old) (F.faults files.new) → IsCalm (O.faults out.old) (O.faults out.new) → MatchResult result (λ s. s ≢ 8 → s ≡ status_of_ending (ending_of c main [] (budget_of (map string_bytes words.now)))) (λ e. e ≡ Refusal.NoMemory) }
+    ensures complete { (c : Class) (main : ℕ) → IsAccepted (F.contents files.old) (map string_bytes words.now) c main → IsCalm (F.faults files.old) (F.faults files.new) → IsCalm (O.faults out.old) (O.faults out.new) → MatchResult result (λ s. s ≢ 8 → s ≡ status_of_ending (ending_of (world_of c main []) (budget_of (map string_bytes words.now)))) (λ e. e ≡ Refusal.NoMemory) }
 {
     *kept = None;
     let Some(command) = read_words(words) else {
@@ -186,21 +187,21 @@ pub fn jfluid<F: Files, I: Source, O: Sink, P: Sink, G: Sink>(
     ensures status { is_status result ≡ true }
 
     // Why each refusal comes.
-    ensures words { result ≡ 2 → AreRefused (map string_bytes words.now) (Tells (P.taken report.old) (P.taken report.new) (P.faults report.old) (P.faults report.new) (file_word (map string_bytes words.now))) }
+    ensures words { result ≡ 2 → AreRefused (map string_bytes words.now) (TellsRefusal (P.taken report.old) (P.taken report.new) (P.faults report.old) (P.faults report.new) (file_word (map string_bytes words.now))) }
     ensures words_only { command_of (map string_bytes words.now) ≡ None → (result ≡ 2) ⊎ (result ≡ 9) }
     ensures root_only { HasBadRoot (map string_bytes words.now) → (result ≡ 2) ⊎ (result ≡ 9) }
-    ensures file { result ≡ 3 → IsRefusedFile (F.contents files.old) (map string_bytes words.now) (Tells (P.taken report.old) (P.taken report.new) (P.faults report.old) (P.faults report.new) (file_word (map string_bytes words.now))) }
+    ensures file { result ≡ 3 → IsRefusedFile (F.contents files.old) (map string_bytes words.now) (TellsRefusal (P.taken report.old) (P.taken report.new) (P.faults report.old) (P.faults report.new) (file_word (map string_bytes words.now))) }
     ensures file_only { IsRefusable (F.contents files.old) (map string_bytes words.now) → IsCalm (F.faults files.old) (F.faults files.new) → (result ≡ 3) ⊎ (result ≡ 9) }
     ensures stopped { result ≡ 6 → Rose (O.faults out.old) (O.faults out.new) }
     ensures not_fetched { result ≡ 7 → Rose (F.faults files.old) (F.faults files.new) × (F.last_failed files.new ≡ file_word (map string_bytes words.now)) }
     ensures not_reported { result ≡ 8 → Rose (P.faults report.old) (P.faults report.new) }
     // The line of each refusal was put; with status 2 and 3 the clauses above say which.
-    ensures stopped_line { result ≡ 6 → Tells (P.taken report.old) (P.taken report.new) (P.faults report.old) (P.faults report.new) (file_word (map string_bytes words.now)) Refusal.OutFailed }
-    ensures not_fetched_line { result ≡ 7 → Tells (P.taken report.old) (P.taken report.new) (P.faults report.old) (P.faults report.new) (file_word (map string_bytes words.now)) Refusal.NotFetched }
-    ensures memory_line { result ≡ 9 → Tells (P.taken report.old) (P.taken report.new) (P.faults report.old) (P.faults report.new) (file_word (map string_bytes words.now)) Refusal.NoMemory }
+    ensures stopped_line { result ≡ 6 → TellsRefusal (P.taken report.old) (P.taken report.new) (P.faults report.old) (P.faults report.new) (file_word (map string_bytes words.now)) Refusal.OutFailed }
+    ensures not_fetched_line { result ≡ 7 → TellsRefusal (P.taken report.old) (P.taken report.new) (P.faults report.old) (P.faults report.new) (file_word (map string_bytes words.now)) Refusal.NotFetched }
+    ensures memory_line { result ≡ 9 → TellsRefusal (P.taken report.old) (P.taken report.new) (P.faults report.old) (P.faults report.new) (file_word (map string_bytes words.now)) Refusal.NoMemory }
 
     // Where all is accepted and nothing failed, the status is that of the run at the budget, or memory ran out.
-    ensures complete { (c : Class) (main : ℕ) → IsAccepted (F.contents files.old) (map string_bytes words.now) c main → IsCalm (F.faults files.old) (F.faults files.new) → IsCalm (O.faults out.old) (O.faults out.new) → IsCalm (P.faults report.old) (P.faults report.new) → (result ≡ status_of_ending (ending_of c main [] (budget_of (map string_bytes words.now)))) ⊎ (result ≡ 9) }
+    ensures complete { (c : Class) (main : ℕ) → IsAccepted (F.contents files.old) (map string_bytes words.now) c main → IsCalm (F.faults files.old) (F.faults files.new) → IsCalm (O.faults out.old) (O.faults out.new) → IsCalm (P.faults report.old) (P.faults report.new) → (result ≡ status_of_ending (ending_of (world_of c main []) (budget_of (map string_bytes words.now)))) ⊎ (result ≡ 9) }
     ensures calm { is_reported result ≡ true → (F.faults files.new ≡ F.faults files.old) × (O.faults out.new ≡ O.faults out.old) × (P.faults report.new ≡ P.faults report.old) }
 
     ensures input_stays { input.new ≡ input.old }

@@ -4,17 +4,19 @@ use Rattle.std.specs.Prelude.{map, slice_get}
 use Rattle.std.specs.Option.{option_map, option_map_or, option_and_then, option_flatten}
 use Rattle.std.specs.List.{range_with_len}
 use Rattle.std.proofs.lemmas.Bool.{cases_lt}
-use Rattle.std.proofs.lemmas.Option.{slice_get-map, slice_get_past}
+use Rattle.std.proofs.lemmas.Option.{slice_get-map}
 use Rattle.const_pool.specs.declared.class.ClassFile.{ClassFile}
 use Rattle.const_pool.specs.declared.class.Member.{Member}
 use Rattle.const_pool.specs.declared.class.CodeAttribute.{CodeAttribute}
 use Rattle.code_model.specs.declared.laying.Homes.{Homes}
 use Rattle.jvm_model.specs.declared.operation.Line.{Line}
-use Rattle.jvm_model.specs.Lines.{code_line}
+use Rattle.code_model.proofs.Readings.{instruction_at-past}
 use Rattle.jvm_model.specs.Methods.{code_of, member_shape}
-use Rattle.jvm_model.specs.StandsFor.{homes_at, origin_by, placed_line, probe_in}
+use Rattle.jvm_model.specs.SmallClass.{IsSmallClass}
+use Rattle.jvm_model.specs.StandsFor.{homes_at, origin_by, code_line, placed_line, probe_in}
+use Rattle.jvm_model.proofs.Numbers.{max_stack-alone, max_locals-alone}
 use Rattle.jvm_machine.specs.declared.tables.Method.{Method}
-use Rattle.jvm_machine.specs.declared.tables.Version.{Version}
+use Rattle.jvm_machine.specs.declared.tables.PreparedVersion.{PreparedVersion}
 use Rattle.jvm_machine.specs.Prepared.{ArePrepared, AreVersions, line_in, probe_in as version_probe}
 use Rattle.jvm_machine.specs.Probes.{placed_probe}
 use Rattle.jvm_machine.specs.TableEntries.{entry_of, lines_of, placed_probe_in, probes_of, version_of, versions_of}
@@ -34,20 +36,20 @@ max_locals-member : (c : ClassFile) (m : Option Member) → option_map_or (λ en
 max_locals-member c None = refl
 max_locals-member c (Some m) = refl
 
-pub ArePrepared-entries : (c : ClassFile) (methods : List Method) → methods ≡ map (entry_of c) c.methods → ArePrepared c methods
-ArePrepared-entries c methods is =
+pub ArePrepared-entries : (c : ClassFile) (methods : List Method) → IsSmallClass c → methods ≡ map (entry_of c) c.methods → ArePrepared c methods
+ArePrepared-entries c methods small is =
     let entry : (k : ℕ) → slice_get methods k ≡ option_map (entry_of c) (slice_get c.methods k) = λ k. ap (λ ms. slice_get ms k) is ∙ slice_get-map (entry_of c) c.methods k in
     record {
       params = λ k. ap (option_and_then (λ (m : Method). m.params)) (entry k) ∙ params-member c (slice_get c.methods k);
-      max_stack = λ k. ap (λ (o : Option Method). option_map_or (λ m. m.max_stack) o 0) (entry k) ∙ max_stack-member c (slice_get c.methods k);
-      max_locals = λ k. ap (λ (o : Option Method). option_map_or (λ m. m.max_locals) o 0) (entry k) ∙ max_locals-member c (slice_get c.methods k);
+      max_stack = λ k. ap (λ (o : Option Method). option_map_or (λ m. m.max_stack) o 0) (entry k) ∙ max_stack-member c (slice_get c.methods k) ∙ sym (max_stack-alone c 0 [] k small);
+      max_locals = λ k. ap (λ (o : Option Method). option_map_or (λ m. m.max_locals) o 0) (entry k) ∙ max_locals-member c (slice_get c.methods k) ∙ sym (max_locals-alone c 0 [] k small);
     }
 
 -- ---- one version
 
 -- no instruction stands past the end, so no line and no probe
 code_line-past : (image : ClassFile) (code : List ℕ) (at : ℕ) → length code ≤ at → code_line image code at ≡ None
-code_line-past image code at le = rw (slice_get_past code at le) refl
+code_line-past image code at le = rw (instruction_at-past code at le) refl
 
 no_line : (own : Option ℕ) → option_and_then (λ own. option_map (λ (line : Line). record line { own = own }) None) own ≡ None
 no_line None = refl
@@ -58,7 +60,7 @@ placed_line-past image homes code place le =
     ap (λ line. option_and_then (λ own. option_map (λ (l : Line). record l { own = own }) line) (origin_by homes place)) (code_line-past image code place le) ∙ no_line (origin_by homes place)
 
 placed_probe-past : (image : ClassFile) (code : List ℕ) (place : ℕ) → length code ≤ place → placed_probe_in image code place ≡ None
-placed_probe-past image code place le = rw (slice_get_past code place le) refl
+placed_probe-past image code place le = rw (instruction_at-past code place le) refl
 
 -- at each place a table of the places of a code has what stands there, and past the code nothing does
 tabled-place : {X : Type 0} (f : ℕ → Option X) (n place : ℕ) → (n ≤ place → f place ≡ None) → option_flatten (slice_get (map f (range_with_len 0 n)) place) ≡ f place
@@ -98,7 +100,7 @@ version-at image (h ∷ homes) [] k each = refl
 version-at image (h ∷ homes) (m ∷ methods) zero each = refl
 version-at image (h ∷ homes) (m ∷ methods) (suc k) each = version-at image homes methods k (omega arith)
 
-pub AreVersions-entries : (image : ClassFile) (homes : List (Option Homes)) (versions : List Version) → length homes ≡ length image.methods → versions ≡ versions_of image homes image.methods
+pub AreVersions-entries : (image : ClassFile) (homes : List (Option Homes)) (versions : List PreparedVersion) → length homes ≡ length image.methods → versions ≡ versions_of image homes image.methods
     → AreVersions image homes versions
 AreVersions-entries image homes versions each is =
     let entry : (k : ℕ) → slice_get versions k ≡ option_map (version_of image (homes_at homes k)) (slice_get image.methods k) =
@@ -109,12 +111,12 @@ AreVersions-entries image homes versions each is =
     }
 
 -- one more version
-pub versions_of-more : (image : ClassFile) (homes : List (Option Homes)) (methods : List Member) (i : ℕ) (h : Option Homes) (m : Member) (versions whole : List Version)
+pub versions_of-more : (image : ClassFile) (homes : List (Option Homes)) (methods : List Member) (i : ℕ) (h : Option Homes) (m : Member) (versions whole : List PreparedVersion)
     → i < length homes → i < length methods → h ≡ get_or homes i h → m ≡ get_or methods i m
     → versions ++ versions_of image (drop i homes) (drop i methods) ≡ whole
     → (versions ++ version_of image h m ∷ []) ++ versions_of image (drop (i + 1) homes) (drop (i + 1) methods) ≡ whole
 versions_of-more image homes methods i h m versions whole lth ltm ish ism so_far =
-    let rest : List Version = versions_of image (drop (i + 1) homes) (drop (i + 1) methods) in
+    let rest : List PreparedVersion = versions_of image (drop (i + 1) homes) (drop (i + 1) methods) in
     let one : i + 1 ≡ suc i = add-one i in
     let split : versions_of image (drop i homes) (drop i methods) ≡ version_of image h m ∷ rest =
     ap (λ hs. versions_of image hs (drop i methods)) (drop-cons homes i h lth)

@@ -2,8 +2,11 @@ pub mod Filled
 pub mod FitsLemmas
 pub mod Tabled
 pub mod Entries
-pub mod Outcomes
-pub mod Steps
-pub mod Stops
-pub mod Machines
 pub mod Images
+pub mod Callees
+pub mod Depths
+pub mod Ends
+pub mod DescriptorTexts
+pub mod Steps
+pub mod Machines
+mod Within

@@ -1,6 +1,7 @@
 -- The machine stands for the run: when it is made, when versions are installed, and when it goes on.
-use Rattle.std.proofs.Common.{◌≡◌, ℕ, ◌+◌, Bool, true, false, List, [], ◌∷◌, length, Option, Some, None, refl, sym, ap, subst, ◌∙◌}
-use Rattle.std.specs.Prelude.{map, slice_get, ◌==◌}
+use Rattle.std.proofs.Common.{◌≡◌, ℕ, ◌+◌, ◌-◌, Bool, true, false, cond, List, [], ◌∷◌, length, Option, Some, None, refl, sym, ap, subst, ◌∙◌, eqb-true}
+use Rattle.std.specs.Prelude.{map, slice_get, is_none, ◌==◌, ◌||◌}
+use Rattle.std.proofs.lemmas.List.{length-map}
 use Rattle.std.specs.Result.{OnOk, OnErr}
 use Rattle.std.specs.declared.result.Result.{Result}
 use Rattle.std.specs.declared.result.Result.TheVariants.{Ok, Err}
@@ -13,41 +14,40 @@ use Rattle.jvm_model.specs.declared.event.Mark.{Mark}
 use Rattle.jvm_model.specs.declared.event.Mark.TheVariants.{Off}
 use Rattle.jvm_model.specs.declared.state.State.{State}
 use Rattle.jvm_model.specs.Agreement.{Agrees}
+use Rattle.jvm_model.specs.Attempts.{start_placed}
 use Rattle.jvm_model.specs.Images.{IsImage, all_off}
-use Rattle.jvm_model.specs.Run.{blank, start, run}
-use Rattle.jvm_model.specs.StandsFor.{IsBuilt, moved}
-use Rattle.jvm_machine.specs.declared.phase.Phase.{Phase}
-use Rattle.jvm_machine.specs.declared.phase.Phase.TheVariants.{Resting, Leaving, Entered}
+use Rattle.jvm_model.specs.Installed.{Installed, all_originals, world_in}
+use Rattle.jvm_model.specs.Moved.{moved_entry, moved}
+use Rattle.jvm_model.specs.Run.{before, run}
+use Rattle.jvm_model.specs.StandsFor.{IsBuilt, by_homes}
+use Rattle.jvm_model.proofs.ImageAgrees.{Agrees-image}
 use Rattle.jvm_machine.specs.declared.probes.Probe.{Probe}
 use Rattle.jvm_machine.specs.Advances.{Advances}
-use Rattle.jvm_machine.specs.Attempts.{attempt_placed}
-use Rattle.jvm_machine.specs.Installed.{Installed, all_originals}
-use Rattle.jvm_machine.specs.Moves.{Move, moved_on, clock_in, begun_move, stepped}
+use Rattle.jvm_machine.specs.Moves.{leave_passed, rest_by, Move, entered, stepped, begun_move, rest_of, moved_on, clock_in}
 use Rattle.jvm_machine.specs.Probes.{event_of}
-use Rattle.jvm_machine.specs.Running.{IsRunning, finished, seen, told_in, top_of}
+use Rattle.jvm_machine.specs.Running.{IsRunning, finished, is_done, seen, shown_of, top_of}
 use Rattle.jvm_machine.specs.Turns.{IsGoingOn}
-use Rattle.jvm_machine.specs.View.{View, events_now}
-use Rattle.jvm_model.proofs.ImageAgrees.{Agrees-image}
-use Rattle.jvm_machine.proofs.Steps.{IsStep, start-is, step-is}
-use Rattle.jvm_machine.proofs.Stops.{HasStopped, entered-stops, stepped-stops}
+use Rattle.jvm_machine.specs.View.{View, made, state_of, shown, advanced, begun, events_now}
+use Rattle.jvm_machine.proofs.Steps.{IsStep, start-step, step-is}
 
 -- ---- before the start
 
 -- nothing is in hand, and nothing was done
-pub early-state : (t : Installed) (main : ℕ) (input : List ℕ) (s : State) (phase : Phase) (started broken : Bool) (clock : ℕ) → IsRunning (seen t main input s phase started broken clock) phase s
-    → started ≡ false → broken ≡ false → (phase ≡ Resting) × (s ≡ blank)
-early-state t main input s Resting false false clock is early whole = (refl, is.stands refl)
-early-state t main input s Leaving false false clock is early whole = absurd (let none = (is.early refl).1 in cc)
-early-state t main input s Entered false false clock is early whole = absurd (let none = (is.early refl).1 in cc)
-early-state t main input s phase true broken clock is early whole = absurd cc
-early-state t main input s phase false true clock is early whole = absurd cc
+pub early-state : (t : Installed) (s : State) (told : ℕ) (started broken : Bool) (clock : ℕ) → IsRunning (seen t s told started broken clock) s
+    → started ≡ false → broken ≡ false → (told ≡ 0) × (s ≡ before (world_in t))
+early-state t s told false false clock is early whole =
+    let none : told ≡ 0 = (is.early refl).1 in
+    (none, ap (λ n. finished t n s) (sym none) ∙ is.stands refl)
+early-state t s told true broken clock is early whole = absurd cc
+early-state t s told false true clock is early whole = absurd cc
 
 -- a machine whose start is still to come
-early-running : (t : Installed) (main : ℕ) (input : List ℕ) → IsBuilt t.class → Agrees t.class t.marks t.image t.homes → IsRunning (seen t main input blank Resting false false 0) Resting blank
-early-running t main input built agrees = record {
+early-running : (t : Installed) → IsBuilt t.class → Agrees t.class t.marks t.image t.homes → IsRunning (seen t (before (world_in t)) 0 false false 0) (before (world_in t))
+early-running t built agrees = record {
   built = built;
   agrees = agrees;
   stands = λ whole. refl;
+  waits = λ whole undone. absurd cc;
   told = λ whole step. absurd cc;
   early = λ early. (refl, refl);
 }
@@ -62,167 +62,209 @@ originals-agree c built =
     Agrees-image c (map (λ m. Off) c.methods) c (map (λ m. None) c.methods) built
     (rw (all_off-originals c.methods) (record { class_stays = refl; unmoved = refl }))
 
-pub is_made : (t : Installed) (main : ℕ) (input : List ℕ) (c : ClassFile) (s : State) → IsBuilt c → t ≡ all_originals c → s ≡ blank → IsRunning (seen t main input s Resting false false 0) Resting s
-is_made t main input c s built originals empty =
-    subst (λ (x : Installed). IsRunning (seen x main input s Resting false false 0) Resting s) (sym originals)
-    (subst (λ (x : State). IsRunning (seen (all_originals c) main input x Resting false false 0) Resting x) (sym empty)
-    (early-running (all_originals c) main input built (originals-agree c built)))
+pub is_made : (t : Installed) (c : ClassFile) (main : ℕ) (input : List ℕ) (s : State) → IsBuilt c → t ≡ all_originals c main input → s ≡ before (world_in (all_originals c main input)) → IsRunning (seen t s 0 false false 0) s
+is_made t c main input s built originals empty =
+    subst (λ (x : Installed). IsRunning (seen x s 0 false false 0) s) (sym originals)
+    (subst (λ (x : State). IsRunning (seen (all_originals c main input) x 0 false false 0) x) (sym empty)
+    (early-running (all_originals c main input) built (originals-agree c built)))
+
+-- and what is seen of it
+pub seen-made : (t : Installed) (c : ClassFile) (main number : ℕ) (input bytes : List ℕ) (s : State) → number ≡ main → bytes ≡ input
+    → t ≡ all_originals c number bytes → s ≡ before (world_in (all_originals c number bytes)) → seen t s 0 false false 0 ≡ made c main input
+seen-made t c main number input bytes s numbered given originals empty =
+    ap (λ (x : Installed). seen x s 0 false false 0) originals
+    ∙ (ap (λ (x : State). seen (all_originals c number bytes) x 0 false false 0) empty
+    ∙ (ap (λ n. made c n bytes) numbered ∙ ap (made c main) given))
 
 -- ---- installing versions
 
-installed-early : (t : Installed) (main : ℕ) (input : List ℕ) (s : State) (phase : Phase) (started broken : Bool) (clock : ℕ) (marks : List Mark) (image : ClassFile) (homes : List (Option Homes))
-    → IsRunning (seen t main input s phase started broken clock) phase s → started ≡ false → broken ≡ false → Agrees t.class marks image homes
-    → IsRunning (seen (record t { marks = marks; image = image; homes = homes }) main input s phase started broken clock) phase s
-installed-early t main input s phase true broken clock marks image homes is early whole agrees = absurd cc
-installed-early t main input s phase false true clock marks image homes is early whole agrees = absurd cc
-installed-early t main input s Leaving false false clock marks image homes is early whole agrees = absurd (let none = (is.early refl).1 in cc)
-installed-early t main input s Entered false false clock marks image homes is early whole agrees = absurd (let none = (is.early refl).1 in cc)
-installed-early t main input s Resting false false clock marks image homes is early whole agrees = record {
-  built = is.built;
-  agrees = agrees;
-  stands = λ unbroken. is.stands refl;
-  told = λ unbroken step. absurd cc;
-  early = λ none. is.early refl;
-}
+installed-early : (t : Installed) (s : State) (told : ℕ) (started broken : Bool) (clock : ℕ) (marks : List Mark) (image : ClassFile) (homes : List (Option Homes))
+    → IsRunning (seen t s told started broken clock) s → started ≡ false → broken ≡ false → Agrees t.class marks image homes
+    → IsRunning (seen (record t { marks = marks; image = image; homes = homes }) s told started broken clock) s
+installed-early t s told true broken clock marks image homes is early whole agrees = absurd cc
+installed-early t s told false true clock marks image homes is early whole agrees = absurd cc
+installed-early t s told false false clock marks image homes is early whole agrees =
+    let found = early-state t s told false false clock is refl refl in
+    let none : told ≡ 0 = found.0 in
+    let new : Installed = record t { marks = marks; image = image; homes = homes } in
+    record {
+      built = is.built;
+      agrees = agrees;
+      stands = λ unbroken. ap (λ n. finished new n s) none ∙ found.1;
+      waits = λ unbroken undone. absurd (let done : true ≡ false = sym (ap (λ n. is_done new n s) none) ∙ undone in cc);
+      told = λ unbroken unresting. absurd (let resting : true ≡ false = sym (ap (λ n. n == 0) none) ∙ unresting in cc);
+      early = λ e. is.early refl;
+    }
 
-pub is_installed : (result : Result (Unit {0}) NoMemory) (t new : Installed) (main : ℕ) (input : List ℕ) (s : State) (phase : Phase) (started broken : Bool) (clock : ℕ)
+pub is_installed : (result : Result (Unit {0}) NoMemory) (t new : Installed) (s : State) (told : ℕ) (started broken : Bool) (clock : ℕ)
     (marks : List Mark) (image : ClassFile) (homes : List (Option Homes))
-    → IsRunning (seen t main input s phase started broken clock) phase s → started ≡ false → broken ≡ false
+    → IsRunning (seen t s told started broken clock) s → started ≡ false → broken ≡ false
     → length marks ≡ length t.class.methods → IsImage t.class 0 marks image homes
     → OnOk result (new ≡ record t { marks = marks; image = image; homes = homes }) → OnErr result (new ≡ t)
-    → IsRunning (seen new main input s phase started broken clock) phase s
-is_installed (Ok u) t new main input s phase started broken clock marks image homes is early whole each is_image ok err =
-    subst (λ (x : Installed). IsRunning (seen x main input s phase started broken clock) phase s) (sym ok)
-    (installed-early t main input s phase started broken clock marks image homes is early whole (Agrees-image t.class marks image homes is.built is_image))
-is_installed (Err e) t new main input s phase started broken clock marks image homes is early whole each is_image ok err =
-    subst (λ (x : Installed). IsRunning (seen x main input s phase started broken clock) phase s) (sym err) is
+    → IsRunning (seen new s told started broken clock) s
+is_installed (Ok u) t new s told started broken clock marks image homes is early whole each is_image ok err =
+    subst (λ (x : Installed). IsRunning (seen x s told started broken clock) s) (sym ok)
+    (installed-early t s told started broken clock marks image homes is early whole (Agrees-image t.class marks image homes is.built is_image))
+is_installed (Err e) t new s told started broken clock marks image homes is early whole each is_image ok err =
+    subst (λ (x : Installed). IsRunning (seen x s told started broken clock) s) (sym err) is
 
 -- ---- going on
 
 -- what the parts have gone on to
-pub record GoesOn (old : View) (t : Installed) (main : ℕ) (input : List ℕ) (n : ℕ) (m : Move) : Type 0 where
-  pub running : IsRunning (seen t main input m.state m.phase true false n) m.phase m.state
-  pub advances : Advances old m.probe (seen t main input m.state m.phase true false n)
+pub record GoesOn (old : View) (t : Installed) (n : ℕ) (m : Move) : Type 0 where
+  pub running : IsRunning (seen t m.state m.told true false n) m.state
+  pub advances : Advances old m.probe (seen t m.state m.told true false n)
+
+-- the view of a step in hand, but for how many of its events were told
+abbrev view_at : Installed → State → ℕ → Bool → ℕ → View
+view_at t after told done clock = record {
+  class = t.class;
+  main = t.main;
+  input = t.input;
+  marks = t.marks;
+  image = t.image;
+  homes = t.homes;
+  started = true;
+  broken = false;
+  clock = clock;
+  told = told;
+  done = done;
+  top = top_of after.stack;
+}
 
 -- a step that begins
-begun-on : (t : Installed) (main : ℕ) (input : List ℕ) (s after : State) (phase : Phase) (probe : Option Probe) (started : Bool) (clock n : ℕ) → IsBuilt t.class → Agrees t.class t.marks t.image t.homes
-    → clock_in Resting started clock ≡ n → IsStep t main input n (record { state = after; phase = phase; probe = probe }) → HasStopped t.image probe phase after.frames
-    → GoesOn (seen t main input s Resting started false clock) t main input n (record { state = after; phase = phase; probe = probe })
-begun-on t main input s after phase None started clock n built agrees now step stop =
-    let old : View = seen t main input s Resting started false clock in
-    let at : ℕ → ℕ → View = λ told k. record {
-      class = t.class;
-      main = main;
-      input = input;
-      marks = t.marks;
-      image = t.image;
-      homes = t.homes;
-      started = true;
-      broken = false;
-      clock = k;
-      told = told;
-      top = top_of after.frames;
-    } in
-    let none : told_in phase ≡ 0 = ap told_in stop in
+begun-by : (t : Installed) (s after : State) (told : ℕ) (probe : Option Probe) (started : Bool) (clock n : ℕ) → IsBuilt t.class → Agrees t.class t.marks t.image t.homes
+    → clock_in 0 started clock ≡ n → IsStep t n (record { state = after; told = told; probe = probe })
+    → GoesOn (seen t s 0 started false clock) t n (record { state = after; told = told; probe = probe })
+begun-by t s after told None started clock n built agrees now step =
+    let none : told ≡ 0 = step.counts in
+    let done : is_done t told after ≡ true = ap (λ k. is_done t k after) none in
     record {
       running = record {
         built = built;
         agrees = agrees;
         stands = λ whole. step.leads;
-        told = λ whole unresting. absurd (let resting : (told_in phase == 0) ≡ true = ap (λ k. k == 0) none in cc);
+        waits = λ whole undone. step.waits undone;
+        told = λ whole unresting. absurd (let resting : true ≡ false = sym (ap (λ k. k == 0) none) ∙ unresting in cc);
         early = λ early. absurd cc;
       };
       advances = record {
-        all = sym (ap (λ k. length (events_now (at 0 k))) now ∙ ap length step.tells);
-        stepped = ap (λ k. at k n) none ∙ ap (at 0) (sym now);
+        all = sym (ap (λ k. length (events_now (view_at t after 0 true k))) now ∙ ap length step.tells);
+        stepped = ap (λ b. view_at t after told b n) done ∙ (ap (λ k. view_at t after k true n) none ∙ ap (view_at t after 0 true) (sym now));
       };
     }
-begun-on t main input s after phase (Some p) started clock n built agrees now step stop =
-    let at : ℕ → ℕ → View = λ told k. record {
-      class = t.class;
-      main = main;
-      input = input;
-      marks = t.marks;
-      image = t.image;
-      homes = t.homes;
-      started = true;
-      broken = false;
-      clock = k;
-      told = told;
-      top = top_of after.frames;
-    } in
+begun-by t s after told (Some p) started clock n built agrees now step =
+    let one : told ≡ 1 = step.counts in
     record {
       running = record {
         built = built;
         agrees = agrees;
         stands = λ whole. step.leads;
-        told = λ whole unresting. stop.one ∙ sym (ap length step.tells);
+        waits = λ whole undone. step.waits undone;
+        told = λ whole unresting. one ∙ sym (ap length step.tells);
         early = λ early. absurd cc;
       };
       advances = record {
-        next = ap (λ (es : List Event). slice_get es 0) (ap (λ k. events_now (at 0 k)) now ∙ step.tells) ∙ ap (λ k. Some (event_of k p)) (sym now);
-        stepped = ap (λ k. at k n) stop.one ∙ ap (at 1) (sym now);
-        at = stop.stop.at;
-        stands = stop.stop.stands;
-        behind = stop.stop.behind;
+        next = ap (λ (es : List Event). slice_get es 0) (ap (λ k. events_now (view_at t after 0 true k)) now ∙ step.tells) ∙ ap (λ k. let o : Option Event = Some (event_of k p) in o) (sym now);
+        stepped = ap (λ k. view_at t after k (is_done t told after) n) one ∙ ap (view_at t after 1 (is_done t told after)) (sym now);
+        at = step.behind.at;
+        stands = step.behind.stands;
+        behind = step.behind.behind;
       };
     }
 
--- the end of a step whose event was told
-pub ended-on : (t : Installed) (main : ℕ) (input : List ℕ) (s after : State) (phase : Phase) (clock : ℕ) → IsRunning (seen t main input s phase true false clock) phase s → told_in phase ≡ 1
-    → finished t phase s ≡ after
-    → GoesOn (seen t main input s phase true false clock) t main input clock (record { state = after; phase = Resting; probe = None })
-ended-on t main input s after Resting clock is one done = absurd cc
-ended-on t main input s after Leaving clock is one done = record {
-  running = record {
-    built = is.built;
-    agrees = is.agrees;
-    stands = λ whole. sym done ∙ is.stands refl;
-    told = λ whole unresting. absurd cc;
-    early = λ early. absurd cc;
-  };
-  advances = record { all = is.told refl refl; stepped = refl };
-}
-ended-on t main input s after Entered clock is one done = record {
-  running = record {
-    built = is.built;
-    agrees = is.agrees;
-    stands = λ whole. sym done ∙ is.stands refl;
-    told = λ whole unresting. absurd cc;
-    early = λ early. absurd cc;
-  };
-  advances = record { all = is.told refl refl; stepped = refl };
-}
+-- the end of a step whose events were told
+ended-by : (t : Installed) (s : State) (told clock : ℕ) → IsRunning (seen t s told true false clock) s → (told == 0) ≡ false
+    → GoesOn (seen t s told true false clock) t clock (record { state = rest_of t s; told = 0; probe = None })
+ended-by t s told clock is some =
+    let old : View = seen t s told true false clock in
+    let rest : finished t told s ≡ rest_of t s = ap (λ b. cond b s (rest_of t s)) some in
+    let begun_is : begun old ≡ old = ap (λ b. cond b (advanced old) old) some in
+    record {
+      running = record {
+        built = is.built;
+        agrees = is.agrees;
+        stands = λ whole. sym rest ∙ is.stands refl;
+        waits = λ whole undone. absurd cc;
+        told = λ whole unresting. absurd cc;
+        early = λ early. absurd cc;
+      };
+      advances = record {
+        all = ap (λ (v : View). v.told) begun_is ∙ (is.told refl some ∙ ap (λ (v : View). length (events_now v)) (sym begun_is));
+        stepped = ap (λ (v : View). record v { told = 0; done = true; top = top_of (rest_of t s).stack }) (sym begun_is);
+      };
+    }
 
-pub goes_on : (t : Installed) (main : ℕ) (input : List ℕ) (s : State) (phase : Phase) (started : Bool) (clock : ℕ)
-    → IsRunning (seen t main input s phase started false clock) phase s → IsGoingOn (seen t main input s phase started false clock)
-    → GoesOn (seen t main input s phase started false clock) t main input (clock_in phase started clock) (moved_on t main started phase s)
-goes_on t main input s Resting false clock is going =
-    let m : Move = begun_move t main false s in
-    begun-on t main input s m.state m.phase m.probe false clock 0 is.built is.agrees refl (start-is t is.built is.agrees main input) (entered-stops t (start t.class main))
-goes_on t main input s Resting true clock is going =
-    let there : State = moved t.homes (run t.class main input clock) in
-    let m : Move = stepped t there in
-    subst (λ (x : State). GoesOn (seen t main input s Resting true false clock) t main input (clock + 1) (stepped t x)) (sym (is.stands refl))
-    (begun-on t main input s m.state m.phase m.probe true clock (clock + 1) is.built is.agrees refl (step-is t is.built is.agrees main input clock going) (stepped-stops t there))
-goes_on t main input s Leaving false clock is going = absurd (let none = (is.early refl).1 in cc)
-goes_on t main input s Leaving true clock is going = ended-on t main input s (attempt_placed t s) Leaving clock is refl refl
-goes_on t main input s Entered false clock is going = absurd (let none = (is.early refl).1 in cc)
-goes_on t main input s Entered true clock is going = ended-on t main input s s Entered clock is refl refl
+pub goes_on : (t : Installed) (s : State) (told : ℕ) (started : Bool) (clock : ℕ) → IsRunning (seen t s told started false clock) s → IsGoingOn (seen t s told started false clock)
+    → GoesOn (seen t s told started false clock) t (clock_in told started clock) (moved_on t started told s)
+goes_on t s told started clock is going = by_told (told == 0) refl where
+  at-start : (s : State) (clock : ℕ) → IsRunning (seen t s 0 false false clock) s → GoesOn (seen t s 0 false false clock) t 0 (begun_move t false s)
+  at-start s clock is = (
+      let m : Move = entered t (start_placed t) in
+      begun-by t s m.state m.told m.probe false clock 0 is.built is.agrees refl (start-step t is.built is.agrees))
+
+  at-step : (s : State) (clock : ℕ) → IsRunning (seen t s 0 true false clock) s → IsGoingOn (seen t s 0 true false clock) → GoesOn (seen t s 0 true false clock) t (clock + 1) (begun_move t true s)
+  at-step s clock is going =
+      let there : State = moved (by_homes t.homes) (run (world_in t) clock) in
+      let m : Move = stepped t there in
+      subst (λ (x : State). GoesOn (seen t x 0 true false clock) t (clock + 1) (stepped t x)) (sym (is.stands refl))
+      (begun-by t there m.state m.told m.probe true clock (clock + 1) is.built is.agrees refl (step-is t is.built is.agrees clock going))
+
+  resting : (started : Bool) → IsRunning (seen t s 0 started false clock) s → IsGoingOn (seen t s 0 started false clock) → GoesOn (seen t s 0 started false clock) t (clock_in 0 started clock) (moved_on t started 0 s)
+  resting false is going = at-start s clock is
+  resting true is going = at-step s clock is going
+
+  in-hand : (started : Bool) → (told == 0) ≡ false → IsRunning (seen t s told started false clock) s → GoesOn (seen t s told started false clock) t (clock_in told started clock) (moved_on t started told s)
+  in-hand false some is = absurd (let none : told ≡ 0 = (is.early refl).1 in let e : true ≡ false = sym (ap (λ n. n == 0) none) ∙ some in cc)
+  in-hand true some is =
+      subst (λ (m : Move). GoesOn (seen t s told true false clock) t (clock_in told true clock) m) (sym (ap (λ b. cond b (begun_move t true s) (record { state = rest_of t s; told = 0; probe = None })) some))
+      (subst (λ n. GoesOn (seen t s told true false clock) t n (record { state = rest_of t s; told = 0; probe = None })) (sym (ap (λ b. cond b (clock + 1) clock) some))
+      (ended-by t s told clock is some))
+
+  by_told : (b : Bool) → (told == 0) ≡ b → GoesOn (seen t s told started false clock) t (clock_in told started clock) (moved_on t started told s)
+  by_told false some = in-hand started some is
+  by_told true none =
+      let zero_told : told ≡ 0 = eqb-true told 0 none in
+      subst (λ n. GoesOn (seen t s n started false clock) t (clock_in n started clock) (moved_on t started n s)) (sym zero_told)
+      (resting started (subst (λ n. IsRunning (seen t s n started false clock) s) zero_told is) (subst (λ n. IsGoingOn (seen t s n started false clock)) zero_told going))
 
 -- the same, of what the program has computed
-pub is_advanced : (v : View) (t : Installed) (main : ℕ) (input : List ℕ) (s after : State) (phase next : Phase) (probe : Option Probe) (started broken : Bool) (clock n : ℕ)
-    → seen t main input s phase started broken clock ≡ v → IsRunning (seen t main input s phase started broken clock) phase s → v.broken ≡ false → IsGoingOn v
-    → after ≡ (moved_on t main started phase s).state → next ≡ (moved_on t main started phase s).phase → probe ≡ (moved_on t main started phase s).probe
-    → n ≡ clock_in phase started clock
-    → GoesOn v t main input n (record { state = after; phase = next; probe = probe })
-is_advanced v t main input s after phase next probe started true clock n sees is whole going moved stops passes now =
+pub is_advanced : (v : View) (t : Installed) (s after : State) (told next : ℕ) (probe : Option Probe) (started broken : Bool) (clock n : ℕ)
+    → seen t s told started broken clock ≡ v → IsRunning (seen t s told started broken clock) s → v.broken ≡ false → IsGoingOn v
+    → after ≡ (moved_on t started told s).state → next ≡ (moved_on t started told s).told → probe ≡ (moved_on t started told s).probe
+    → n ≡ clock_in told started clock
+    → GoesOn v t n (record { state = after; told = next; probe = probe })
+is_advanced v t s after told next probe started true clock n sees is whole going moved stops passes now =
     absurd (let broken : true ≡ v.broken = ap (λ (x : View). x.broken) sees in cc)
-is_advanced v t main input s after phase next probe started false clock n sees is whole going moved stops passes now =
-    let m : Move = moved_on t main started phase s in
-    let made : State → Phase → Option Probe → Move = λ a b c. record { state = a; phase = b; probe = c } in
-    let same : made after next probe ≡ m = ap (λ a. made a next probe) moved ∙ (ap (λ b. made m.state b probe) stops ∙ ap (made m.state m.phase) passes) in
-    subst (λ (x : View). GoesOn x t main input n (made after next probe)) sees
-    (subst (λ (x : Move). GoesOn (seen t main input s phase started false clock) t main input n x) (sym same)
-    (subst (λ k. GoesOn (seen t main input s phase started false clock) t main input k m) (sym now)
-    (goes_on t main input s phase started clock is (subst IsGoingOn (sym sees) going))))
+is_advanced v t s after told next probe started false clock n sees is whole going moved stops passes now =
+    let m : Move = moved_on t started told s in
+    let made : State → ℕ → Option Probe → Move = λ a b c. record { state = a; told = b; probe = c } in
+    let same : made after next probe ≡ m = ap (λ a. made a next probe) moved ∙ (ap (λ b. made m.state b probe) stops ∙ ap (made m.state m.told) passes) in
+    subst (λ (x : View). GoesOn x t n (made after next probe)) sees
+    (subst (λ (x : Move). GoesOn (seen t s told started false clock) t n x) (sym same)
+    (subst (λ k. GoesOn (seen t s told started false clock) t k m) (sym now)
+    (goes_on t s told started clock is (subst IsGoingOn (sym sees) going))))
+
+finished-by : (t : Installed) (s : State) (b : Bool) (passed : Option Probe) → (b || is_none passed) ≡ true → cond b s (rest_by t s passed) ≡ s
+finished-by t s true passed e = refl
+finished-by t s false None e = refl
+finished-by t s false (Some p) e = absurd cc
+
+-- where the instruction was done, nothing is left of the step
+finished-done : (t : Installed) (told : ℕ) (s : State) → is_done t told s ≡ true → finished t told s ≡ s
+finished-done t told s done = finished-by t s (told == 0) (leave_passed t.image s.stack) done
+
+-- what is shown is the model's, of the last step or of the step before
+pub shown-is : (t : Installed) (s : State) (told : ℕ) (started broken : Bool) (clock : ℕ) → IsRunning (seen t s told started broken clock) s → broken ≡ false
+    → shown_of s ≡ shown_of (shown (seen t s told started broken clock))
+shown-is t s told started broken clock is whole = by_done (is_done t told s) refl where
+  v : View
+  v = seen t s told started broken clock
+
+  same-shown : (x : State) → shown_of (moved (by_homes t.homes) x) ≡ shown_of x
+  same-shown x = ap (λ n. record { output = x.output; ending = x.ending; live = n }) (length-map x.stack (moved_entry (by_homes t.homes)))
+
+  by_done : (b : Bool) → is_done t told s ≡ b → shown_of s ≡ shown_of (shown v)
+  by_done false undone = is.waits whole undone ∙ sym (ap (λ b. shown_of (cond b (state_of v) (run (world_in t) (clock - 1)))) undone)
+  by_done true done =
+      ap shown_of (sym (finished-done t told s done)) ∙ (ap shown_of (is.stands whole) ∙ (same-shown (state_of v) ∙ sym (ap (λ b. shown_of (cond b (state_of v) (run (world_in t) (clock - 1)))) done)))

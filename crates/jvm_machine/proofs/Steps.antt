@@ -1,252 +1,357 @@
 -- One step over places, from a state of the run with its frames at their homes: it leads to the next state of the run, and
 -- the probe that it passes tells the events of the step.
-use Rattle.std.proofs.Common.{◌≡◌, ℕ, suc, ◌+◌, Bool, true, false, cond, List, [], ◌∷◌, length, Option, Some, None, refl, sym, ap, subst, ◌∙◌, arith}
-use Rattle.std.specs.Prelude.{map, is_some, not, ◌&&◌, nat_le}
+use Rattle.std.proofs.Common.{◌≡◌, ℕ, suc, ◌+◌, ◌-◌, Bool, true, false, cond, List, [], ◌∷◌, length, Option, Some, None, refl, sym, ap, subst, ◌∙◌, arith}
+use Rattle.std.specs.Prelude.{is_some, is_none, not, ◌&&◌, nat_le}
 use Rattle.std.specs.Option.{option_map}
+use Rattle.std.proofs.lemmas.Bool.{le-leb}
+use Rattle.std.proofs.lemmas.List.{append-nil, length-map}
 use Rattle.const_pool.specs.declared.class.ClassFile.{ClassFile}
-use Rattle.heap_objects.specs.declared.Value.TheVariants.{Ref}
-use Rattle.jvm_model.specs.declared.ending.Ending.TheVariants.{Unverifiable}
+use Rattle.const_pool.specs.declared.class.CodeAttribute.{CodeAttribute}
 use Rattle.jvm_model.specs.declared.event.EventKind.TheVariants as kind
 use Rattle.jvm_model.specs.declared.event.Mark.{Mark}
 use Rattle.jvm_model.specs.declared.event.Mark.TheVariants.{Off, Plain, Root}
-use Rattle.jvm_model.specs.declared.operation.Line.{Line}
+use Rattle.jvm_model.specs.declared.state.Entry.{Entry}
+use Rattle.jvm_model.specs.declared.state.Entry.TheVariants.{Active}
 use Rattle.jvm_model.specs.declared.state.Frame.{Frame}
 use Rattle.jvm_model.specs.declared.state.State.{State}
-use Rattle.jvm_model.specs.Activations.{trace, top_method}
-use Rattle.jvm_model.specs.Agreement.{IsStart, ArePlaced, Agrees, is_left_by, place_at, leave_probe_of, entry_kind, entry_probe_of, is_entry_kind, after_entry}
-use Rattle.jvm_model.specs.EventLists.{step_events, begin_events, end_events}
+use Rattle.jvm_model.specs.Data.{Change, Loads, Began, Left, Turn, World}
+use Rattle.jvm_model.specs.declared.ending.Ending.TheVariants.{Unverifiable}
+use Rattle.jvm_model.specs.Applies.{new_frame, has_room}
+use Rattle.jvm_model.specs.Moves.{argument_array}
+use Rattle.jvm_model.specs.Agreement.{rewritten, Agrees, is_return_operation, is_left_by, leave_probe_of, entry_kind, entry_probe_of, is_entry_kind, is_leave_kind}
+use Rattle.jvm_model.specs.Attempts.{has_begun, attempt_placed, ready, start_placed}
+use Rattle.jvm_model.specs.Changes.{methods}
+use Rattle.jvm_model.specs.EventLists.{begin_events, end_events, step_events}
 use Rattle.jvm_model.specs.Images.{is_off}
-use Rattle.jvm_model.specs.Lines.{line_at}
-use Rattle.jvm_model.specs.Rules.{max_locals_of, new_frame, rule}
-use Rattle.jvm_model.specs.Run.{blank, start, run, attempts, attempt, run-zero, run-more}
-use Rattle.jvm_model.specs.StandsFor.{IsBuilt, Probe as ModelProbe, home_at, moved_frame, moved, probe_at, mark_at, marking_of}
-use Rattle.jvm_model.proofs.Moves.{placed_rule, attempt-line, attempt-moves, start-moves}
-use Rattle.jvm_model.proofs.Placed.{placed, attempt-placed, first-of}
-use Rattle.jvm_model.proofs.Starts.{HasLine-start}
-use Rattle.jvm_model.proofs.TracesEvents.{events-start, events-start_none, events-same_more, events-begun_more, events-ended_always_more}
-use Rattle.jvm_machine.specs.declared.phase.Phase.TheVariants.{Leaving}
+use Rattle.jvm_model.specs.Installed.{Installed, world_in, tabled}
+use Rattle.jvm_model.specs.Methods.{method_code}
+use Rattle.jvm_model.specs.Moved.{moved_entry, moved_frame, moved_stack, moved, moved_turn}
+use Rattle.jvm_model.specs.Originals.{original}
+use Rattle.jvm_model.specs.Quiet.{AreCoded}
+use Rattle.jvm_model.specs.Run.{turn, run, step, start, turn_in-zero, turn_in-more}
+use Rattle.jvm_model.specs.StandsFor.{IsBuilt, ProbeCall, by_homes, home_at, probe_at, mark_at, marking_of}
+use Rattle.jvm_model.proofs.QuietStart.{begun_in, unbegun_in, start-is, main-coded}
+use Rattle.jvm_model.proofs.RewrittenAgrees.{norm_in, original-agrees, rewritten-agrees}
+use Rattle.jvm_model.proofs.StepMoves.{start-moves}
+use Rattle.jvm_model.proofs.PlacedSteps.{first-home, at_return, attempt-behind, attempt-is}
+use Rattle.jvm_model.proofs.QuietChanges.{Went, stays, starts, leaves}
+use Rattle.jvm_model.proofs.QuietRun.{run-quiet, run-placed, HasFrame, run-frame}
+use Rattle.jvm_model.proofs.QuietSteps.{IsStepOf, step-of}
+use Rattle.jvm_model.proofs.TracesEvents.{IsAlways, all_told_of, events-start}
+use Rattle.jvm_model.proofs.TracesFrames.{events-step_more}
 use Rattle.jvm_machine.specs.declared.probes.Probe.{Probe}
-use Rattle.jvm_machine.specs.Attempts.{does_placed, attempt_placed}
-use Rattle.jvm_machine.specs.Installed.{Installed}
-use Rattle.jvm_machine.specs.Moves.{Move, phase_behind, entered, stepped_by, stepped}
-use Rattle.jvm_machine.specs.Probes.{placed_probe, placed_probe_at, probe_of_kind, is_leave_kind, entry_here, passes, events_by}
-use Rattle.jvm_machine.specs.Running.{finished}
-use Rattle.jvm_machine.proofs.Outcomes.{Outcome, stays, leaves, enters, outcome, passes-entry}
+use Rattle.jvm_machine.specs.Moves.{entry_here, leave_here, leave_behind, leave_passed, Move, told_by, entered_by, entered, stack_at, state_at, stepped_by, stepped, rest_by}
+use Rattle.jvm_machine.specs.Probes.{placed_probe, placed_probe_at, probe_of_kind, events_by}
+use Rattle.jvm_machine.specs.Running.{top_of, is_done, finished, shown_of}
+use Rattle.jvm_machine.specs.View.{Place}
 
 -- ---- what the probes tell
 
--- where a method begins
-entry-tells : (marks : List Mark) (step method : ℕ) (mark : Mark) → mark_at marks method ≡ mark
-    → begin_events step method (mark_at marks method) ≡ events_by step (probe_of_kind is_entry_kind (option_map (placed_probe 0) (entry_probe_of marks method)))
-entry-tells marks step method Off e = ap (λ m. begin_events step method m) e ∙ sym (ap (λ m. events_by step (probe_of_kind is_entry_kind (option_map (placed_probe 0) (option_map (λ k. record { kind = k; number = method }) (entry_kind m))))) e)
-entry-tells marks step method Plain e = ap (λ m. begin_events step method m) e ∙ sym (ap (λ m. events_by step (probe_of_kind is_entry_kind (option_map (placed_probe 0) (option_map (λ k. record { kind = k; number = method }) (entry_kind m))))) e)
-entry-tells marks step method Root e = ap (λ m. begin_events step method m) e ∙ sym (ap (λ m. events_by step (probe_of_kind is_entry_kind (option_map (placed_probe 0) (option_map (λ k. record { kind = k; number = method }) (entry_kind m))))) e)
+-- the probe at a method's entry, by its mark
+abbrev pub entry_by : ℕ → Mark → Option Probe
+entry_by method mark = probe_of_kind is_entry_kind (option_map (placed_probe 0) (option_map (λ k. let p : ProbeCall = record { kind = k; number = method } in p) (entry_kind mark)))
 
--- where one ends
-leave_of : ℕ → ℕ → Bool → Option Probe
+entry-tells : (step method : ℕ) (mark : Mark) → begin_events step method mark ≡ events_by step (entry_by method mark)
+entry-tells step method Off = refl
+entry-tells step method Plain = refl
+entry-tells step method Root = refl
+
+-- the leave probe at a place
+abbrev leave_of : ℕ → ℕ → Bool → Option Probe
 leave_of place method b = probe_of_kind is_leave_kind (option_map (placed_probe place) (leave_probe_of method b))
 
-leave-tells : (step place method : ℕ) (mark : Mark) → end_events step method mark ≡ events_by step (probe_of_kind is_leave_kind (option_map (placed_probe place) (leave_probe_of method (not (is_off mark)))))
+leave-tells : (step place method : ℕ) (mark : Mark) → end_events kind.Leave step method mark ≡ events_by step (leave_of place method (not (is_off mark)))
 leave-tells step place method Off = refl
 leave-tells step place method Plain = refl
 leave-tells step place method Root = refl
 
 -- ---- one step
 
--- a move leads to the state after so many steps, and tells the events of the last one
-pub record IsStep (t : Installed) (main : ℕ) (input : List ℕ) (n : ℕ) (m : Move) : Type 0 where
-  pub leads : finished t m.phase m.state ≡ moved t.homes (run t.class main input n)
-  pub tells : step_events (marking_of t.marks) (trace t.class main input n).activations n ≡ events_by n m.probe
+-- the current frame stands behind the probe, in its version
+pub record IsBehind (image : ClassFile) (p : Probe) (stack : List Entry) : Type 0 where
+  pub at : Place
+  pub stands : probe_at image at.method at.at ≡ Some (record { kind = p.kind; number = p.number })
+  pub behind : top_of stack ≡ Some (record at { at = at.at + 6 })
 
-finished-behind : (t : Installed) (probe : Option Probe) (s : State) → finished t (phase_behind probe) s ≡ s
-finished-behind t None s = refl
-finished-behind t (Some p) s = refl
+abbrev pub StandsBehind : ClassFile → Option Probe → List Entry → Type 0
+StandsBehind image None stack = Unit {0}
+StandsBehind image (Some p) stack = IsBehind image p stack
 
-module _ (t : Installed) (built : IsBuilt t.class) (agrees : Agrees t.class t.marks t.image t.homes) (main : ℕ) (input : List ℕ) where
+-- A move leads to the state after so many steps, and tells the events of the last one; where a return is still to come, what is
+-- shown is what the step before has shown.
+pub record IsStep (t : Installed) (n : ℕ) (m : Move) : Type 0 where
+  pub leads : finished t m.told m.state ≡ moved (by_homes t.homes) (run (world_in t) n)
+  pub tells : step_events (marking_of t.marks) (world_in t) n ≡ events_by n m.probe
+  pub waits : is_done t m.told m.state ≡ false → shown_of m.state ≡ shown_of (run (world_in t) (n - 1))
+  pub counts : m.told ≡ told_by m.probe
+  pub behind : StandsBehind t.image m.probe m.state.stack
+
+module _ (t : Installed) (built : IsBuilt t.class) (agrees : Agrees t.class t.marks t.image t.homes) where
+  abbrev w : World
+  w = world_in t
+
   abbrev now : ℕ → State
-  now n = run t.class main input n
+  now n = run w n
+
+  abbrev there : ℕ → State
+  there n = moved (by_homes t.homes) (now n)
+
+  abbrev mark : ℕ → Mark
+  mark v = mark_at t.marks v
+
+  always : IsAlways mark (marking_of t.marks)
+  always step method = refl
+
+  -- ---- nothing is told behind an instruction
+
+  plain-step : (n : ℕ) (a : Turn) → has_begun a.changes ≡ false → a.after ≡ there n → step_events (marking_of t.marks) w n ≡ [] → IsStep t n (entered t a)
+  plain-step n a none after events =
+      subst (IsStep t n) (sym (ap (λ b. entered_by (cond b (entry_here t.image a.after.stack) None) a.after) none ∙ ap (entered_by None) after))
+      (record { leads = refl; tells = events; waits = λ e. absurd cc; counts = refl; behind = tt })
+
+  -- ---- an activation has begun
+
+  code-of : (v : ℕ) → is_some (method_code t.class v) ≡ true → (code : CodeAttribute) × (method_code t.class v ≡ Some code)
+  code-of v some = by_code (method_code t.class v) refl where
+    by_code : (found : Option CodeAttribute) → method_code t.class v ≡ found → (code : CodeAttribute) × (method_code t.class v ≡ Some code)
+    by_code None none = absurd (let e : false ≡ true = ap is_some (sym none) ∙ some in cc)
+    by_code (Some code) e = (code, e)
+
+  entry-is : (v : ℕ) → is_some (method_code t.class v) ≡ true → probe_of_kind is_entry_kind (placed_probe_at t.image v 0) ≡ entry_by v (mark v)
+  entry-is v some =
+      let code = code-of v some in
+      ap (λ p. probe_of_kind is_entry_kind (option_map (placed_probe 0) p)) (agrees.enters v code.0 code.1)
+
+  -- behind an entry probe no leave probe was passed
+  not-left : (v : ℕ) (k : Mark) → is_some (method_code t.class v) ≡ true → mark v ≡ k → is_off k ≡ false → leave_behind t.image v (home_at t.homes v 0) ≡ None
+  not-left v k some is marked =
+      let code = code-of v some in
+      let home : home_at t.homes v 0 ≡ 6 = agrees.first v code.0 code.1 ∙ (ap (λ x. cond (is_off x) 0 6) is ∙ ap (λ b. let n : ℕ = cond b 0 6 in n) marked) in
+      let probe : probe_at t.image v 0 ≡ entry_probe_of t.marks v = agrees.enters v code.0 code.1 in
+      ap (leave_behind t.image v) home ∙ (ap (λ p. probe_of_kind is_leave_kind (option_map (placed_probe 0) p)) probe
+      ∙ (ap (λ x. probe_of_kind is_leave_kind (option_map (placed_probe 0) (option_map (λ kd. let p : ProbeCall = record { kind = kd; number = v } in p) (entry_kind x)))) is ∙ no-leave k marked))
+    where
+      no-leave : (k : Mark) → is_off k ≡ false → probe_of_kind is_leave_kind (option_map (placed_probe 0) (option_map (λ kd. let p : ProbeCall = record { kind = kd; number = v } in p) (entry_kind k))) ≡ None
+      no-leave Off e = absurd cc
+      no-leave Plain e = refl
+      no-leave Root e = refl
+
+  by-mark : (n v : ℕ) (k : Mark) → mark v ≡ k → (is_off k ≡ false → leave_passed t.image (there n).stack ≡ None)
+      → probe_at t.image v 0 ≡ option_map (λ kd. let p : ProbeCall = record { kind = kd; number = v } in p) (entry_kind k)
+      → (is_off k ≡ false → top_of (there n).stack ≡ Some (record { method = v; at = 6 })) → step_events (marking_of t.marks) w n ≡ begin_events n v k → IsStep t n (entered_by (entry_by v k) (there n))
+  by-mark n v Off is passed probe top events = record { leads = refl; tells = events; waits = λ e. absurd cc; counts = refl; behind = tt }
+  by-mark n v Plain is passed probe top events = record {
+    leads = ap (rest_by t (there n)) (passed refl);
+    tells = events;
+    waits = λ e. absurd (let done : true ≡ false = sym (ap is_none (passed refl)) ∙ e in cc);
+    counts = refl;
+    behind = record { at = record { method = v; at = 0 }; stands = probe; behind = top refl };
+  }
+  by-mark n v Root is passed probe top events = record {
+    leads = ap (rest_by t (there n)) (passed refl);
+    tells = events;
+    waits = λ e. absurd (let done : true ≡ false = sym (ap is_none (passed refl)) ∙ e in cc);
+    counts = refl;
+    behind = record { at = record { method = v; at = 0 }; stands = probe; behind = top refl };
+  }
+
+  begun-step : (n : ℕ) (a : Turn) (v : ℕ) (f : Frame) (below : List Entry) → has_begun a.changes ≡ true → a.after ≡ there n → (now n).stack ≡ Active f ∷ below → f.version ≡ v → f.place ≡ 0
+      → is_some (method_code t.class v) ≡ true → step_events (marking_of t.marks) w n ≡ begin_events n v (mark v) → IsStep t n (entered t a)
+  begun-step n a v f below begun after stack version place some events =
+      let top : (there n).stack ≡ Active (moved_frame (by_homes t.homes) f) ∷ moved_stack (by_homes t.homes) below = ap (moved_stack (by_homes t.homes)) stack in
+      let probe : entry_here t.image (there n).stack ≡ entry_by v (mark v) =
+      ap (entry_here t.image) top ∙ (ap (λ x. probe_of_kind is_entry_kind (placed_probe_at t.image x 0)) version ∙ entry-is v some) in
+      let whole : entered t a ≡ entered_by (entry_by v (mark v)) (there n) =
+      ap (λ b. entered_by (cond b (entry_here t.image a.after.stack) None) a.after) begun
+      ∙ (ap (λ (s : State). entered_by (entry_here t.image s.stack) s) after ∙ ap (λ p. entered_by p (there n)) probe) in
+      let passed : is_off (mark v) ≡ false → leave_passed t.image (there n).stack ≡ None = λ marked. (
+      ap (leave_passed t.image) top ∙ (ap (λ x. leave_behind t.image f.version (home_at t.homes f.version x)) place
+      ∙ (ap (λ x. leave_behind t.image x (home_at t.homes x 0)) version ∙ not-left v (mark v) some refl marked))) in
+      let code = code-of v some in
+      let six : is_off (mark v) ≡ false → home_at t.homes v 0 ≡ 6 = λ marked. agrees.first v code.0 code.1 ∙ ap (λ b. let n : ℕ = cond b 0 6 in n) marked in
+      let tops : is_off (mark v) ≡ false → top_of (there n).stack ≡ Some (record { method = v; at = 6 }) = λ marked. (
+      ap top_of top ∙ (ap (λ x. let o : Option Place = Some (record { method = f.version; at = home_at t.homes f.version x }) in o) place
+      ∙ (ap (λ x. let o : Option Place = Some (record { method = x; at = home_at t.homes x 0 }) in o) version
+      ∙ ap (λ x. let o : Option Place = Some (record { method = v; at = x }) in o) (six marked)))) in
+      subst (IsStep t n) (sym whole) (by-mark n v (mark v) refl passed (agrees.enters v code.0 code.1) tops events)
+
+  -- ---- a step after the start
+
+  next-is : (n : ℕ) → turn w (n + 1) ≡ step w (original w.program) (now n)
+  next-is n = turn_in-more w (original w.program) n
+
+  -- the events of the next step, by its changes
+  next-events : (n : ℕ) (f : Frame) (below : List Entry) (changes : List Change) → (now n).stack ≡ Active f ∷ below → (step w (original w.program) (now n)).changes ≡ changes
+      → step_events (marking_of t.marks) w (n + 1) ≡ all_told_of mark (n + 1) (f.method ∷ methods below) changes
+  next-events n f below changes stack is =
+      events-step_more (marking_of t.marks) mark always w n
+      ∙ (ap (λ (es : List Entry). all_told_of mark (n + 1) (methods es) (turn w (n + 1)).changes) stack
+      ∙ ap (all_told_of mark (n + 1) (f.method ∷ methods below)) (ap (λ (a : Turn). a.changes) (next-is n) ∙ is))
+
+  -- the current frame, its line, and what its step changes
+  record Stepping (n : ℕ) : Type 0 where
+    has_frame : HasFrame t.class t.main t.input built (now n)
+    step_is : IsStepOf t.class t.main t.input built (now n) has_frame.frame
+    attempted : attempt_placed t (there n) ≡ moved_turn (by_homes t.homes) (step w (original w.program) (now n))
+    same : has_frame.frame.version ≡ has_frame.frame.method
+
+  stepping : (n : ℕ) → is_some (now n).ending ≡ false → Stepping n
+  stepping n going =
+      let hf = run-frame t.class t.main t.input built n going in
+      let quiet = run-quiet t.class t.main t.input built n in
+      let placed = run-placed t.class t.main t.input built n in
+      record {
+        has_frame = hf;
+        step_is = step-of t.class t.main t.input built (now n) hf.frame hf.below hf.is hf.going quiet placed;
+        attempted = attempt-is t built agrees (now n) hf.frame hf.below hf.is hf.going quiet placed;
+        same = (subst (AreCoded t.class) hf.is quiet.coded).0.same;
+      }
+
+  after-next : (n : ℕ) (now_is : Stepping n) → (attempt_placed t (there n)).after ≡ there (n + 1)
+  after-next n now_is = ap (λ (a : Turn). a.after) now_is.attempted ∙ ap (λ (a : Turn). moved (by_homes t.homes) a.after) (sym (next-is n))
+
+  changes-next : (n : ℕ) (now_is : Stepping n) (changes : List Change) → (step w (original w.program) (now n)).changes ≡ changes → has_begun (attempt_placed t (there n)).changes ≡ has_begun changes
+  changes-next n now_is changes is = ap has_begun (ap (λ (a : Turn). a.changes) now_is.attempted ∙ is)
+
+  abbrev left_in : (n : ℕ) → Stepping n → Bool
+  left_in n now_is = is_left_by t.marks now_is.has_frame.frame.version now_is.step_is.has.resolved
+
+  off-events : (step method : ℕ) (b : Bool) (k : Mark) → b ≡ true → (b && not (is_off k)) ≡ false → end_events kind.Leave step method k ≡ []
+  off-events step method b Off e f = refl
+  off-events step method b Plain e f = absurd (let x : true ≡ false = sym (ap (λ y. y && true) e) ∙ f in cc)
+  off-events step method b Root e f = absurd (let x : true ≡ false = sym (ap (λ y. y && true) e) ∙ f in cc)
+
+  -- without a leave probe
+  unleft-by : (n : ℕ) (now_is : Stepping n) → left_in n now_is ≡ false → Went t.class (original w.program) now_is.step_is.has.resolved (step w (original w.program) (now n)) → IsStep t (n + 1) (entered t (attempt_placed t (there n)))
+  unleft-by n now_is left (stays goes changes) =
+      plain-step (n + 1) (attempt_placed t (there n)) (changes-next n now_is [] changes) (after-next n now_is)
+      (next-events n now_is.has_frame.frame now_is.has_frame.below [] now_is.has_frame.is changes)
+  unleft-by n now_is left (starts goes v f below code version place stack changes) =
+      begun-step (n + 1) (attempt_placed t (there n)) v f below (changes-next n now_is (Began v ∷ []) changes) (after-next n now_is)
+      (ap (λ (a : Turn). a.after.stack) (next-is n) ∙ stack) version place code
+      (next-events n now_is.has_frame.frame now_is.has_frame.below (Began v ∷ []) now_is.has_frame.is changes ∙ append-nil (begin_events (n + 1) v (mark v)))
+  unleft-by n now_is left (leaves returns changes) =
+      let f : Frame = now_is.has_frame.frame in
+      plain-step (n + 1) (attempt_placed t (there n)) (changes-next n now_is (Left ∷ []) changes) (after-next n now_is)
+      (next-events n f now_is.has_frame.below (Left ∷ []) now_is.has_frame.is changes
+      ∙ (append-nil (end_events kind.Leave (n + 1) f.method (mark f.method))
+      ∙ off-events (n + 1) f.method (is_return_operation now_is.step_is.has.resolved) (mark f.method) returns (ap (λ v. is_left_by t.marks v now_is.step_is.has.resolved) (sym now_is.same) ∙ left)))
+
+  -- with a leave probe
+  goes-not : (a b : Bool) → a ≡ false → (a && b) ≡ true → ⊥
+  goes-not true b e f = let x : true ≡ false = e in cc
+  goes-not false b e f = let x : false ≡ true = f in cc
+
+  left-events : (n : ℕ) (now_is : Stepping n) → left_in n now_is ≡ true → Went t.class (original w.program) now_is.step_is.has.resolved (step w (original w.program) (now n))
+      → step_events (marking_of t.marks) w (n + 1) ≡ events_by (n + 1) (leave_of (home_at t.homes now_is.has_frame.frame.version now_is.has_frame.frame.place) now_is.has_frame.frame.version true)
+  left-events n now_is left (stays goes changes) = absurd (goes-not (is_return_operation now_is.step_is.has.resolved) _ goes left)
+  left-events n now_is left (starts goes v f below code version place stack changes) = absurd (goes-not (is_return_operation now_is.step_is.has.resolved) _ goes left)
+  left-events n now_is left (leaves returns changes) =
+      let f : Frame = now_is.has_frame.frame in
+      let home : ℕ = home_at t.homes f.version f.place in
+      let marked : not (is_off (mark f.method)) ≡ true =
+      ap (λ b. b && not (is_off (mark f.method))) (sym returns) ∙ (ap (λ v. is_left_by t.marks v now_is.step_is.has.resolved) (sym now_is.same) ∙ left) in
+      next-events n f now_is.has_frame.below (Left ∷ []) now_is.has_frame.is changes
+      ∙ (append-nil (end_events kind.Leave (n + 1) f.method (mark f.method))
+      ∙ (leave-tells (n + 1) home f.method (mark f.method)
+      ∙ (ap (λ b. events_by (n + 1) (leave_of home f.method b)) marked ∙ ap (λ v. events_by (n + 1) (leave_of home v true)) (sym now_is.same))))
+
+  -- the probe before the current frame's return
+  abbrev left_probe : (n : ℕ) → Stepping n → Probe
+  left_probe n now_is = record { kind = kind.Leave; number = now_is.has_frame.frame.version; next = home_at t.homes now_is.has_frame.frame.version now_is.has_frame.frame.place + 6 }
+
+  leave-at : (n : ℕ) (now_is : Stepping n) → probe_of_kind is_leave_kind (placed_probe_at t.image now_is.has_frame.frame.version (home_at t.homes now_is.has_frame.frame.version now_is.has_frame.frame.place))
+      ≡ leave_of (home_at t.homes now_is.has_frame.frame.version now_is.has_frame.frame.place) now_is.has_frame.frame.version (left_in n now_is)
+  leave-at n now_is =
+      let f : Frame = now_is.has_frame.frame in
+      ap (λ p. probe_of_kind is_leave_kind (option_map (placed_probe (home_at t.homes f.version f.place)) p)) (agrees.leaves f.version f.place _ now_is.step_is.start now_is.step_is.has.lined)
+
+  left-step : (n : ℕ) (now_is : Stepping n) → left_in n now_is ≡ true → IsStep t (n + 1) (record { state = state_at (left_probe n now_is).next (there n); told = 1; probe = Some (left_probe n now_is) })
+  left-step n now_is left =
+      let f : Frame = now_is.has_frame.frame in
+      let below : List Entry = now_is.has_frame.below in
+      let home : ℕ = home_at t.homes f.version f.place in
+      let at : state_at (home + 6) (there n) ≡ at_return t built agrees (now n) f below =
+      ap (λ es. record (there n) { stack = stack_at (home + 6) (moved_stack (by_homes t.homes) es) }) now_is.has_frame.is in
+      let passed : leave_passed t.image (state_at (home + 6) (there n)).stack ≡ Some (left_probe n now_is) =
+      ap (λ (s : State). leave_passed t.image s.stack) at ∙ (behind home (le-leb 6 (home + 6) (omega arith)) ∙ (leave-at n now_is ∙ ap (leave_of home f.version) left)) in
+      record {
+        leads = ap (rest_by t (state_at (home + 6) (there n))) passed
+            ∙ (ap (λ s. (attempt_placed t s).after) at
+            ∙ (ap (λ (a : Turn). a.after) (attempt-behind t built agrees (now n) f below now_is.step_is.start now_is.step_is.has now_is.has_frame.is left) ∙ after-next n now_is));
+        tells = left-events n now_is left now_is.step_is.went;
+        waits = λ e. shown-before at;
+        counts = refl;
+        behind = record {
+          at = record { method = f.version; at = home };
+          stands = agrees.leaves f.version f.place _ now_is.step_is.start now_is.step_is.has.lined ∙ ap (leave_probe_of f.version) left;
+          behind = ap (λ (s : State). top_of s.stack) at;
+        };
+      }
+    where
+      behind : (home : ℕ) → nat_le 6 (home + 6) ≡ true → leave_behind t.image now_is.has_frame.frame.version (home + 6) ≡ probe_of_kind is_leave_kind (placed_probe_at t.image now_is.has_frame.frame.version home)
+      behind home le = ap (λ b. cond b (probe_of_kind is_leave_kind (placed_probe_at t.image now_is.has_frame.frame.version (home + 6 - 6))) None) le
+          ∙ ap (λ x. probe_of_kind is_leave_kind (placed_probe_at t.image now_is.has_frame.frame.version x)) (let e : home + 6 - 6 ≡ home = omega arith in e)
+
+      shown-before : state_at (home_at t.homes now_is.has_frame.frame.version now_is.has_frame.frame.place + 6) (there n) ≡ at_return t built agrees (now n) now_is.has_frame.frame now_is.has_frame.below
+          → shown_of (state_at (home_at t.homes now_is.has_frame.frame.version now_is.has_frame.frame.place + 6) (there n)) ≡ shown_of (now (n + 1 - 1))
+      shown-before at =
+          let back : n + 1 - 1 ≡ n = omega arith in
+          let long : suc (length (moved_stack (by_homes t.homes) now_is.has_frame.below)) ≡ length (now n).stack = ap suc (length-map now_is.has_frame.below (moved_entry (by_homes t.homes))) ∙ sym (ap length now_is.has_frame.is) in
+          ap shown_of at ∙ (ap (λ x. record { output = (now n).output; ending = (now n).ending; live = x }) long ∙ sym (ap (λ k. shown_of (now k)) back))
+
+  pub step-is : (n : ℕ) → is_some (now n).ending ≡ false → IsStep t (n + 1) (stepped t (there n))
+  step-is n going =
+      let now_is = stepping n going in
+      let f : Frame = now_is.has_frame.frame in
+      let here : leave_here t.image (there n).stack ≡ leave_of (home_at t.homes f.version f.place) f.version (left_in n now_is) =
+      ap (λ es. leave_here t.image (moved_stack (by_homes t.homes) es)) now_is.has_frame.is ∙ leave-at n now_is in
+      subst (λ p. IsStep t (n + 1) (stepped_by t (there n) p)) (sym here) (by_left (left_in n now_is) now_is refl)
+    where
+      by_left : (b : Bool) (now_is : Stepping n) → left_in n now_is ≡ b → IsStep t (n + 1) (stepped_by t (there n) (leave_of (home_at t.homes now_is.has_frame.frame.version now_is.has_frame.frame.place) now_is.has_frame.frame.version b))
+      by_left true now_is left = left-step n now_is left
+      by_left false now_is left = unleft-by n now_is left now_is.step_is.went
 
   -- ---- the start
 
-  entered-leads : (s after : State) → moved t.homes after ≡ after_entry t.image s → finished t (entered t s).phase (entered t s).state ≡ moved t.homes after
-  entered-leads s after moves = finished-behind t (entry_here t.image s.frames) (passes (entry_here t.image s.frames) s) ∙ (passes-entry t.image s ∙ sym moves)
+  start-by : (b : Bool) → has_room w t.main argument_array ≡ b → start w (rewritten t.class t.main t.image t.homes) ≡ cond b (begun_in w (rewritten t.class t.main t.image t.homes)) (unbegun_in w)
+      → start_placed t ≡ start w (rewritten t.class t.main t.image t.homes)
+  start-by true room is =
+      let code = main-coded t.class t.main t.input (rewritten t.class t.main t.image t.homes) built.small room in
+      let frame : new_frame w (tabled t) t.main argument_array ≡ new_frame w (rewritten t.class t.main t.image t.homes) t.main argument_array =
+      ap (λ (place : ℕ). record (new_frame w (rewritten t.class t.main t.image t.homes) t.main argument_array) { place = place }) (first-home t built agrees t.main code) in
+      ap (λ b. cond b (placed_begin (new_frame w (tabled t) t.main argument_array)) placed_end) room ∙ (ap placed_begin frame ∙ sym is)
+    where
+      placed_begin : Frame → Turn
+      placed_begin f = record { after = record (ready t) { begun = true; stack = Active f ∷ [] }; changes = Loads (0 ∷ []) ∷ Began t.main ∷ [] }
 
-  entry-at : (method : ℕ) (step : ℕ) → IsStart t.class method 0 → begin_events step method (mark_at t.marks method) ≡ events_by step (probe_of_kind is_entry_kind (placed_probe_at t.image method 0))
-  entry-at method step first =
-      entry-tells t.marks step method (mark_at t.marks method) refl
-      ∙ ap (λ (p : Option ModelProbe). events_by step (probe_of_kind is_entry_kind (option_map (placed_probe 0) p))) (sym (agrees.enters method first.code first.coded))
+      placed_end : Turn
+      placed_end = record { after = record (ready t) { ending = Some (Unverifiable t.main 0) }; changes = Loads (0 ∷ []) ∷ [] }
+  start-by false room is = ap (λ b. cond b (record {
+    after = record (ready t) { begun = true; stack = Active (new_frame w (tabled t) t.main argument_array) ∷ [] };
+    changes = Loads (0 ∷ []) ∷ Began t.main ∷ [];
+  }) (record { after = record (ready t) { ending = Some (Unverifiable t.main 0) }; changes = Loads (0 ∷ []) ∷ [] })) room ∙ sym is
 
-  start-tells : (b : Bool) (first : b ≡ true → IsStart t.class main 0)
-      → start t.class main ≡ cond b (record blank { frames = new_frame main (Ref 5 ∷ []) (max_locals_of t.class main) ∷ [] }) (record blank { ending = Some (Unverifiable main 0) })
-      → step_events (marking_of t.marks) (trace t.class main input 0).activations 0 ≡ events_by 0 (entry_here t.image (start t.class main).frames)
-  start-tells true first e =
-      let frames : (now 0).frames ≡ new_frame main (Ref 5 ∷ []) (max_locals_of t.class main) ∷ [] = ap (λ (s : State). s.frames) (run-zero t.class main input ∙ e) in
-      let one : length (now 0).frames ≡ 1 = ap length frames in
-      events-start (marking_of t.marks) t.class main input (omega arith)
-      ∙ (ap (λ (fs : List Frame). begin_events 0 (top_method fs) (mark_at t.marks (top_method fs))) frames
-      ∙ (entry-at main 0 (first refl)
-      ∙ ap (λ (s : State). events_by 0 (entry_here t.image s.frames)) (sym e)))
-  start-tells false first e =
-      events-start_none (marking_of t.marks) t.class main input (ap (λ (s : State). length s.frames) (run-zero t.class main input ∙ e))
-      ∙ ap (λ (s : State). events_by 0 (entry_here t.image s.frames)) (sym e)
+  start-placed_is : start_placed t ≡ moved_turn (by_homes t.homes) (start w (original w.program))
+  start-placed_is =
+      start-by (has_room w t.main argument_array) refl (start-is t.class t.main t.input (rewritten t.class t.main t.image t.homes) built.small)
+      ∙ start-moves (norm_in t.class) w (by_homes t.homes) (original w.program) (rewritten t.class t.main t.image t.homes) (original-agrees t.class t.main built) (rewritten-agrees t.class t.main t.marks t.image t.homes built agrees)
 
-  pub start-is : IsStep t main input 0 (entered t (start t.class main))
-  start-is = record {
-    leads = entered-leads (start t.class main) (start t.class main) (start-moves t.class t.marks t.image t.homes main built agrees) ∙ ap (moved t.homes) (sym (run-zero t.class main input));
-    tells = start-tells (nat_le 1 (max_locals_of t.class main)) (λ room. first-of t.class main built room) refl;
-  }
+  started-by : (b : Bool) → has_room w t.main argument_array ≡ b → turn w 0 ≡ cond b (begun_in w (original w.program)) (unbegun_in w) → IsStep t 0 (entered t (start_placed t))
+  started-by true room is =
+      begun-step 0 (start_placed t) t.main (new_frame w (original w.program) t.main argument_array) []
+      (ap (λ (a : Turn). has_begun a.changes) (start-placed_is ∙ ap (moved_turn (by_homes t.homes)) (sym (turn_in-zero w (original w.program)) ∙ is)))
+      (ap (λ (a : Turn). a.after) (start-placed_is ∙ ap (moved_turn (by_homes t.homes)) (sym (turn_in-zero w (original w.program)))))
+      (ap (λ (a : Turn). a.after.stack) is) refl refl
+      (main-coded t.class t.main t.input (original w.program) built.small room)
+      (events-start (marking_of t.marks) mark always w ∙ (ap (λ (a : Turn). all_told_of mark 0 [] a.changes) is ∙ append-nil (begin_events 0 t.main (mark t.main))))
+  started-by false room is =
+      plain-step 0 (start_placed t)
+      (ap (λ (a : Turn). has_begun a.changes) (start-placed_is ∙ ap (moved_turn (by_homes t.homes)) (sym (turn_in-zero w (original w.program)) ∙ is)))
+      (ap (λ (a : Turn). a.after) (start-placed_is ∙ ap (moved_turn (by_homes t.homes)) (sym (turn_in-zero w (original w.program)))))
+      (events-start (marking_of t.marks) mark always w ∙ ap (λ (a : Turn). all_told_of mark 0 [] a.changes) is)
 
-  -- ---- a step after it
-
-  next-is : (n : ℕ) → is_some (now n).ending ≡ false → now (n + 1) ≡ attempt t.class (now n)
-  next-is n going = run-more t.class main input n ∙ ap (λ b. cond b (now n) (attempt t.class (now n))) going
-
-  -- without a frame nothing happens
-  no_frame-is : (n : ℕ) → is_some (now n).ending ≡ false → (now n).frames ≡ [] → IsStep t main input (n + 1) (stepped t (moved t.homes (now n)))
-  no_frame-is n going frames =
-      let s : State = now n in
-      let there : (moved t.homes s).frames ≡ [] = ap (map (moved_frame t.homes)) frames in
-      let same : now (n + 1) ≡ s = next-is n going ∙ ap (attempts t.class s) frames in
-      let empty : State = record s { frames = [] } in
-      let at : moved t.homes s ≡ empty = ap (λ (fs : List Frame). record s { frames = fs }) there in
-      record {
-        leads = ap (λ (x : State). finished t (stepped t x).phase (stepped t x).state) at ∙ (sym at ∙ ap (moved t.homes) (sym same));
-        tells = events-same_more (marking_of t.marks) t.class main input n (ap (λ (x : State). length x.frames) same) ∙ sym (ap (λ (x : State). events_by (n + 1) (stepped t x).probe) at);
-      }
-
-  -- the attempt at the instruction's place
-  attempt-at : (s : State) (f : Frame) (below : List Frame) (line : Line) → IsStart t.class f.method f.offset → line_at t.class f.method f.offset ≡ Some line
-      → attempt_placed t (record (moved t.homes s) { frames = record f { offset = place_at t.marks t.homes f.method f.offset line.operation } ∷ map (moved_frame t.homes) below })
-      ≡ placed_rule t.class t.marks t.image t.homes (record s { frames = below }) f line.operation line.own line.next
-  attempt-at s f below line starts lined =
-      ap (does_placed t (record (moved t.homes s) { frames = map (moved_frame t.homes) below }) (record f { offset = place_at t.marks t.homes f.method f.offset line.operation }))
-      (agrees.lines f.method f.offset line starts lined)
-
-  -- what stands in a step with this frame at this line
-  record Stepping (n : ℕ) (f : Frame) (below : List Frame) (line : Line) : Type 0 where
-    going : is_some (now n).ending ≡ false
-    frames : (now n).frames ≡ f ∷ below
-    starts : IsStart t.class f.method f.offset
-    lined : line_at t.class f.method f.offset ≡ Some line
-    moves : moved t.homes (now (n + 1)) ≡ after_entry t.image (placed_rule t.class t.marks t.image t.homes (record (now n) { frames = below }) f line.operation line.own line.next)
-    comes : Outcome t.class t.image (length below) line.operation (placed_rule t.class t.marks t.image t.homes (record (now n) { frames = below }) f line.operation line.own line.next) (now (n + 1))
-
-  stepping : (n : ℕ) (f : Frame) (below : List Frame) → is_some (now n).ending ≡ false → (now n).frames ≡ f ∷ below → (line : Line) × Stepping n f below line
-  stepping n f below going frames =
-      let c : ClassFile = t.class in
-      let s : State = now n in
-      let all : ArePlaced c s.frames = placed c main input n built in
-      let at : ArePlaced c (f ∷ below) = subst (ArePlaced c) frames all in
-      let has = HasLine-start c f.method f.offset built at.0 in
-      let line : Line = has.line in
-      let moves = attempt-moves c t.marks t.image t.homes s f below line built agrees frames all has.lined in
-      let is : attempt c s ≡ rule c (line_at c) (record s { frames = below }) f line.operation line.own line.next = attempt-line c s f below line frames has.lined in
-      let next : now (n + 1) ≡ rule c (line_at c) (record s { frames = below }) f line.operation line.own line.next = next-is n going ∙ is in
-      let placed_after : ArePlaced c (rule c (line_at c) (record s { frames = below }) f line.operation line.own line.next).frames =
-      subst (λ (x : State). ArePlaced c x.frames) is (attempt-placed c s built all) in
-      let result : State = placed_rule c t.marks t.image t.homes (record s { frames = below }) f line.operation line.own line.next in (
-        line,
-        record {
-          going = going;
-          frames = frames;
-          starts = at.0;
-          lined = has.lined;
-          moves = ap (moved t.homes) (next-is n going) ∙ moves;
-          comes = subst (λ (x : State). Outcome c t.image (length below) line.operation result x) (sym next)
-              (outcome c t.marks t.image t.homes built agrees (record s { frames = below }) f line.operation line.own line.next at placed_after has.callee (ap (moved t.homes) (sym is) ∙ moves));
-        },
-      )
-
-  -- before each return of a marked method
-  abbrev leaves_in : Frame → Line → Bool
-  leaves_in f line = is_left_by t.marks f.method line.operation
-
-  -- where the frame's instruction stands, with a leave probe and without
-  abbrev placed_at : (n : ℕ) → Frame → List Frame → ℕ → State
-  placed_at n f below place = record (moved t.homes (now n)) { frames = record f { offset = place } ∷ map (moved_frame t.homes) below }
-
-  abbrev result_of : (n : ℕ) → Frame → List Frame → Line → State
-  result_of n f below line = placed_rule t.class t.marks t.image t.homes (record (now n) { frames = below }) f line.operation line.own line.next
-
-  attempt-there : (n : ℕ) (f : Frame) (below : List Frame) (line : Line) (b : Bool) → Stepping n f below line → leaves_in f line ≡ b
-      → attempt_placed t (placed_at n f below (cond b (home_at t.homes f.method f.offset + 6) (home_at t.homes f.method f.offset))) ≡ result_of n f below line
-  attempt-there n f below line b is e =
-      ap (λ x. attempt_placed t (placed_at n f below (cond x (home_at t.homes f.method f.offset + 6) (home_at t.homes f.method f.offset)))) (sym e)
-      ∙ attempt-at (now n) f below line is.starts is.lined
-
-  -- without a leave probe
-  no_leave-tells : (n : ℕ) (f : Frame) (below : List Frame) (line : Line) → Stepping n f below line → leaves_in f line ≡ false
-      → Outcome t.class t.image (length below) line.operation (result_of n f below line) (now (n + 1))
-      → step_events (marking_of t.marks) (trace t.class main input (n + 1)).activations (n + 1) ≡ events_by (n + 1) (entry_here t.image (result_of n f below line).frames)
-  no_leave-tells n f below line is e (stays count goes entry) =
-      events-same_more (marking_of t.marks) t.class main input n (count ∙ ap length (sym is.frames)) ∙ ap (events_by (n + 1)) (sym entry)
-  no_leave-tells n f below line is e (leaves count returns entry) =
-      let off : not (is_off (mark_at t.marks f.method)) ≡ false = ap (λ b. b && not (is_off (mark_at t.marks f.method))) (sym returns) ∙ e in
-      let old : length (now n).frames ≡ suc (length below) = ap length is.frames in
-      events-ended_always_more (marking_of t.marks) (mark_at t.marks) (λ step method. refl) t.class main input n (omega arith)
-      ∙ (ap (λ (fs : List Frame). end_events (n + 1) (top_method fs) (mark_at t.marks (top_method fs))) is.frames
-      ∙ (leave-tells (n + 1) 0 f.method (mark_at t.marks f.method)
-      ∙ (ap (λ b. events_by (n + 1) (probe_of_kind is_leave_kind (option_map (placed_probe 0) (leave_probe_of f.method b)))) off
-      ∙ ap (events_by (n + 1)) (sym entry))))
-  no_leave-tells n f below line is e (enters method count goes top first entry) =
-      let old : length (now n).frames ≡ suc (length below) = ap length is.frames in
-      events-begun_more (marking_of t.marks) t.class main input n (omega arith)
-      ∙ (ap (λ m. begin_events (n + 1) m (mark_at t.marks m)) top
-      ∙ (entry-at method (n + 1) first ∙ ap (events_by (n + 1)) (sym entry)))
-
-  no_leave-is : (n : ℕ) (f : Frame) (below : List Frame) (line : Line) → Stepping n f below line → leaves_in f line ≡ false
-      → IsStep t main input (n + 1) (entered t (attempt_placed t (placed_at n f below (home_at t.homes f.method f.offset))))
-  no_leave-is n f below line is e =
-      subst (λ (x : State). IsStep t main input (n + 1) (entered t x)) (sym (attempt-there n f below line false is e))
-      (record { leads = entered-leads (result_of n f below line) (now (n + 1)) is.moves; tells = no_leave-tells n f below line is e is.comes })
-
-  -- with a leave probe
-  leave-tells_it : (n : ℕ) (f : Frame) (below : List Frame) (line : Line) → Stepping n f below line → leaves_in f line ≡ true
-      → Outcome t.class t.image (length below) line.operation (result_of n f below line) (now (n + 1))
-      → (result_of n f below line ≡ moved t.homes (now (n + 1)))
-      × (step_events (marking_of t.marks) (trace t.class main input (n + 1)).activations (n + 1)
-      ≡ events_by (n + 1) (Some (record { kind = kind.Leave; number = f.method; next = home_at t.homes f.method f.offset + 6 })))
-  leave-tells_it n f below line is e (stays count goes entry) =
-      absurd (let no : leaves_in f line ≡ false = ap (λ b. b && not (is_off (mark_at t.marks f.method))) goes in cc)
-  leave-tells_it n f below line is e (enters method count goes top first entry) =
-      absurd (let no : leaves_in f line ≡ false = ap (λ b. b && not (is_off (mark_at t.marks f.method))) goes in cc)
-  leave-tells_it n f below line is e (leaves count returns entry) =
-      let result : State = result_of n f below line in
-      let marked : not (is_off (mark_at t.marks f.method)) ≡ true = ap (λ b. b && not (is_off (mark_at t.marks f.method))) (sym returns) ∙ e in
-      let old : length (now n).frames ≡ suc (length below) = ap length is.frames in (
-        ap (λ p. passes p result) (sym entry) ∙ (passes-entry t.image result ∙ sym is.moves),
-        events-ended_always_more (marking_of t.marks) (mark_at t.marks) (λ step method. refl) t.class main input n (omega arith)
-            ∙ (ap (λ (fs : List Frame). end_events (n + 1) (top_method fs) (mark_at t.marks (top_method fs))) is.frames
-            ∙ (leave-tells (n + 1) (home_at t.homes f.method f.offset) f.method (mark_at t.marks f.method)
-            ∙ ap (λ b. events_by (n + 1) (probe_of_kind is_leave_kind (option_map (placed_probe (home_at t.homes f.method f.offset)) (leave_probe_of f.method b)))) marked)),
-      )
-
-  leave-is : (n : ℕ) (f : Frame) (below : List Frame) (line : Line) → Stepping n f below line → leaves_in f line ≡ true
-      → IsStep t main input (n + 1) (record { state = placed_at n f below (home_at t.homes f.method f.offset + 6); phase = Leaving; probe = Some (record { kind = kind.Leave; number = f.method; next = home_at t.homes f.method f.offset + 6 }) })
-  leave-is n f below line is e =
-      let it = leave-tells_it n f below line is e is.comes in
-      record { leads = attempt-there n f below line true is e ∙ it.0; tells = it.1 }
-
-  -- both, by the probe that stands there
-  frame-by : (n : ℕ) (f : Frame) (below : List Frame) (line : Line) (b : Bool) → Stepping n f below line → leaves_in f line ≡ b
-      → IsStep t main input (n + 1) (stepped_by t (placed_at n f below (home_at t.homes f.method f.offset)) (probe_of_kind is_leave_kind (option_map (placed_probe (home_at t.homes f.method f.offset)) (leave_probe_of f.method b))))
-  frame-by n f below line true is e = leave-is n f below line is e
-  frame-by n f below line false is e = no_leave-is n f below line is e
-
-  frame-is : (n : ℕ) (f : Frame) (below : List Frame) → is_some (now n).ending ≡ false → (now n).frames ≡ f ∷ below → IsStep t main input (n + 1) (stepped t (moved t.homes (now n)))
-  frame-is n f below going frames =
-      let found = stepping n f below going frames in
-      let line : Line = found.0 in
-      let place : ℕ = home_at t.homes f.method f.offset in
-      let at : moved t.homes (now n) ≡ placed_at n f below place = ap (λ (fs : List Frame). record (now n) { frames = map (moved_frame t.homes) fs }) frames in
-      let leave : probe_at t.image f.method place ≡ leave_probe_of f.method (leaves_in f line) = agrees.leaves f.method f.offset line found.1.starts found.1.lined in
-      subst (λ (x : State). IsStep t main input (n + 1) (stepped t x)) (sym at)
-      (subst (λ (p : Option ModelProbe). IsStep t main input (n + 1) (stepped_by t (placed_at n f below place) (probe_of_kind is_leave_kind (option_map (placed_probe place) p)))) (sym leave)
-      (frame-by n f below line (leaves_in f line) found.1 refl))
-
-  frames-is : (n : ℕ) (frames : List Frame) → is_some (now n).ending ≡ false → (now n).frames ≡ frames → IsStep t main input (n + 1) (stepped t (moved t.homes (now n)))
-  frames-is n [] going e = no_frame-is n going e
-  frames-is n (f ∷ below) going e = frame-is n f below going e
-
-  pub step-is : (n : ℕ) → is_some (now n).ending ≡ false → IsStep t main input (n + 1) (stepped t (moved t.homes (now n)))
-  step-is n going = frames-is n (now n).frames going refl
+  pub start-step : IsStep t 0 (entered t (start_placed t))
+  start-step =
+      started-by (has_room w t.main argument_array) refl
+      (turn_in-zero w (original w.program) ∙ start-is t.class t.main t.input (original w.program) built.small)

@@ -1,10 +1,10 @@
-pub mod Installed
 pub mod Prepared
 pub mod Operands
 pub mod Shapes
 pub mod TableEntries
 pub mod Probes
-pub mod Attempts
+pub mod Arguments
+pub mod Flows
 pub mod Moves
 pub mod View
 pub mod Running

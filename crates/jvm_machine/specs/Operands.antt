@@ -12,15 +12,6 @@ abbrev pub below_ints : List Value → List Value
 below_ints (Int b ∷ Int a ∷ below) = below
 below_ints operands = operands
 
--- an int
-abbrev pub int_of : List Value → Option ℤ
-int_of (Int n ∷ below) = Some n
-int_of _ = None
-
-abbrev pub below_int : List Value → List Value
-below_int (Int n ∷ below) = below
-below_int operands = operands
-
 -- an int over a reference: the argument and the receiver of println
 abbrev pub print_of : List Value → Option (ℕ × ℤ)
 print_of (Int n ∷ Ref r ∷ below) = Some (r, n)

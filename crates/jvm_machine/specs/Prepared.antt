@@ -1,31 +1,31 @@
 -- What the machine's tables say: at each number and offset or place, what the definitions look up there.
-use Rattle.std.specs.Prelude.{◌≡◌, ℕ, List, Option, slice_get}
+use Rattle.std.specs.Prelude.{◌≡◌, ℕ, List, [], Option, slice_get}
 use Rattle.std.specs.Option.{option_and_then, option_flatten, option_map_or}
 use Rattle.const_pool.specs.declared.class.ClassFile.{ClassFile}
 use Rattle.code_model.specs.declared.laying.Homes.{Homes}
 use Rattle.jvm_machine.specs.declared.probes.Probe.{Probe}
 use Rattle.jvm_machine.specs.declared.tables.Method.{Method}
-use Rattle.jvm_machine.specs.declared.tables.Version.{Version}
+use Rattle.jvm_machine.specs.declared.tables.PreparedVersion.{PreparedVersion}
 use Rattle.jvm_machine.specs.Probes.{placed_probe_at}
 use Rattle.jvm_model.specs.declared.operation.Line.{Line}
 use Rattle.jvm_model.specs.Methods.{method_params}
-use Rattle.jvm_model.specs.Rules.{max_stack_of, max_locals_of}
+use Rattle.jvm_model.specs.Programs.{world_of, max_stack_of, max_locals_of}
 use Rattle.jvm_model.specs.StandsFor.{version_line}
 
 -- of the class
 pub record ArePrepared (c : ClassFile) (methods : List Method) : Type 0 where
   pub params : (k : ℕ) → option_and_then (λ m. m.params) (slice_get methods k) ≡ method_params c k
-  pub max_stack : (k : ℕ) → option_map_or (λ m. m.max_stack) (slice_get methods k) 0 ≡ max_stack_of c k
-  pub max_locals : (k : ℕ) → option_map_or (λ m. m.max_locals) (slice_get methods k) 0 ≡ max_locals_of c k
+  pub max_stack : (k : ℕ) → option_map_or (λ m. m.max_stack) (slice_get methods k) 0 ≡ max_stack_of (world_of c 0 []) k
+  pub max_locals : (k : ℕ) → option_map_or (λ m. m.max_locals) (slice_get methods k) 0 ≡ max_locals_of (world_of c 0 []) k
 
 -- what a version has at a place
-abbrev pub line_in : ℕ → Version → Option Line
+abbrev pub line_in : ℕ → PreparedVersion → Option Line
 line_in place v = option_flatten (slice_get v.lines place)
 
-abbrev pub probe_in : ℕ → Version → Option Probe
+abbrev pub probe_in : ℕ → PreparedVersion → Option Probe
 probe_in place v = option_flatten (slice_get v.probes place)
 
 -- of its versions
-pub record AreVersions (image : ClassFile) (homes : List (Option Homes)) (versions : List Version) : Type 0 where
+pub record AreVersions (image : ClassFile) (homes : List (Option Homes)) (versions : List PreparedVersion) : Type 0 where
   pub lines : (k place : ℕ) → option_and_then (line_in place) (slice_get versions k) ≡ version_line image homes k place
   pub probes : (k place : ℕ) → option_and_then (probe_in place) (slice_get versions k) ≡ placed_probe_at image k place

@@ -1,5 +1,5 @@
 -- What the tables hold of a method and of a version, and of which classes they can be made.
-use Rattle.std.specs.Prelude.{◌≡◌, ℕ, ◌<◌, ◌^◌, List, [], ◌∷◌, length, map, Option, IfSome, All}
+use Rattle.std.specs.Prelude.{◌≡◌, ℕ, ◌<◌, ◌^◌, List, [], ◌∷◌, length, map, Option, Some, None, IfSome, All, if◌then◌else◌}
 use Rattle.std.specs.Option.{option_and_then, option_map, option_map_or}
 use Rattle.std.specs.List.{range_with_len}
 use Rattle.const_pool.specs.declared.class.ClassFile.{ClassFile}
@@ -7,16 +7,17 @@ use Rattle.const_pool.specs.declared.class.Member.{Member}
 use Rattle.const_pool.specs.declared.descriptor.Kind.{Kind}
 use Rattle.code_model.specs.declared.instr.Instr.{Instr}
 use Rattle.code_model.specs.declared.laying.Homes.{Homes}
-use Rattle.code_model.specs.Instructions.{instruction_at}
+use Rattle.code_model.specs.Instructions.{instruction_at, end_of}
 use Rattle.jvm_machine.specs.declared.probes.Probe.{Probe}
 use Rattle.jvm_machine.specs.declared.tables.Method.{Method}
-use Rattle.jvm_machine.specs.declared.tables.Version.{Version}
+use Rattle.jvm_machine.specs.declared.tables.PreparedVersion.{PreparedVersion}
 use Rattle.jvm_machine.specs.Probes.{placed_probe}
 use Rattle.jvm_model.specs.declared.event.EventKind.{EventKind}
 use Rattle.jvm_model.specs.declared.operation.Line.{Line}
-use Rattle.jvm_model.specs.Lines.{code_line}
+use Rattle.jvm_model.specs.declared.operation.Resolved.{Resolved}
+use Rattle.jvm_model.specs.Agreement.{is_return_operation}
 use Rattle.jvm_model.specs.Methods.{code_of, member_shape}
-use Rattle.jvm_model.specs.StandsFor.{origin_by, placed_line, invoked_probe, pushed_number, probe_in}
+use Rattle.jvm_model.specs.StandsFor.{origin_by, code_line, placed_line, invoked_probe, pushed_number, probe_in}
 
 -- ---- of a method of the class
 
@@ -36,6 +37,10 @@ entry_of c m = record {
 -- the original offset at each place of a code of this length
 abbrev pub origins_of : Option Homes → ℕ → List (Option ℕ)
 origins_of homes len = map (origin_by homes) (range_with_len 0 len)
+
+-- the line that an instruction is, by what it does: control ends behind a return alone
+abbrev pub resolved_line : Instr → Resolved → Line
+resolved_line i operation = record { operation = operation; own = i.at; next = if is_return_operation operation then None else Some (end_of i) }
 
 -- the line at a place, from its original offset
 abbrev pub line_with : ClassFile → List ℕ → ℕ → Option ℕ → Option Line
@@ -59,14 +64,14 @@ placed_probe_in image code place = option_map (placed_probe place) (probe_in ima
 abbrev pub probes_of : ClassFile → List ℕ → List (Option Probe)
 probes_of image code = map (placed_probe_in image code) (range_with_len 0 (length code))
 
-abbrev pub version_of : ClassFile → Option Homes → Member → Version
+abbrev pub version_of : ClassFile → Option Homes → Member → PreparedVersion
 version_of image homes m = record {
   lines = option_map_or (λ code. lines_of image homes code.code) (code_of m) [];
   probes = option_map_or (λ code. probes_of image code.code) (code_of m) [];
 }
 
 -- a version for each method, with its homes
-abbrev pub versions_of : ClassFile → List (Option Homes) → List Member → List Version
+abbrev pub versions_of : ClassFile → List (Option Homes) → List Member → List PreparedVersion
 versions_of image (h ∷ homes) (m ∷ methods) = version_of image h m ∷ versions_of image homes methods
 versions_of image [] methods = []
 versions_of image (h ∷ homes) [] = []

@@ -15,7 +15,7 @@ pub record Settles (old new : View) : Type 0 where
   pub whole : old.broken ≡ false
   pub went_on : IsGoingOn old
   pub all : (begun old).told ≡ length (events_now (begun old))
-  pub stepped : new ≡ record (begun old) { told = 0; top = new.top }
+  pub stepped : new ≡ record (begun old) { told = 0; done = true; top = new.top }
   pub goes_on : has_ended new ≡ false
 
 -- The next event of the step is told, by a probe that the current frame stands behind, in its version.
@@ -23,14 +23,14 @@ pub record Tells (old : View) (event : Event) (new : View) : Type 0 where
   pub whole : old.broken ≡ false
   pub went_on : IsGoingOn old
   pub next : slice_get (events_now (begun old)) (begun old).told ≡ Some event
-  pub stepped : new ≡ record (begun old) { told = (begun old).told + 1; top = new.top }
+  pub stepped : new ≡ record (begun old) { told = (begun old).told + 1; done = new.done; top = new.top }
   pub at : Place
   pub stands : probe_at old.image at.method at.at ≡ Some (record { kind = event.kind; number = event.method })
   pub behind : new.top ≡ Some (record at { at = at.at + 6 })
 
 -- the run had ended before, or it ended in this step, all of whose events were told
 abbrev pub after_last : View → View → View
-after_last old new = if is_resting old && has_ended old then old else record (begun old) { told = 0; top = new.top }
+after_last old new = if is_resting old && has_ended old then old else record (begun old) { told = 0; done = true; top = new.top }
 
 pub record Ends (old new : View) : Type 0 where
   pub whole : old.broken ≡ false
@@ -45,7 +45,7 @@ pub record Refuses (old new : View) : Type 0 where
 pub record Breaks (old new : View) : Type 0 where
   pub whole : old.broken ≡ false
   pub went_on : IsGoingOn old
-  pub stepped : new ≡ record (begun old) { broken = true; told = new.told; top = new.top }
+  pub stepped : new ≡ record (begun old) { broken = true; told = new.told; done = new.done; top = new.top }
 
 -- a call of `step` came to this turn
 abbrev pub Turns : View → Turn → View → Type 0

@@ -1,14 +1,15 @@
 -- What a clause sees of a machine: what it runs, in which versions, and how far it has come.
-use Rattle.std.specs.Prelude.{ℕ, ◌+◌, Bool, true, false, List, map, Option, None, is_some, ◌==◌, if◌then◌else◌}
+use Rattle.std.specs.Prelude.{ℕ, ◌+◌, ◌-◌, Bool, true, false, List, map, Option, None, is_some, ◌==◌, if◌then◌else◌}
 use Rattle.const_pool.specs.declared.class.ClassFile.{ClassFile}
 use Rattle.code_model.specs.declared.laying.Homes.{Homes}
 use Rattle.jvm_model.specs.declared.event.Event.{Event}
 use Rattle.jvm_model.specs.declared.event.Mark.{Mark}
 use Rattle.jvm_model.specs.declared.event.Mark.TheVariants.{Off}
 use Rattle.jvm_model.specs.declared.state.State.{State}
-use Rattle.jvm_model.specs.Activations.{trace}
+use Rattle.jvm_model.specs.Data.{World}
+use Rattle.jvm_model.specs.Programs.{world_of}
 use Rattle.jvm_model.specs.EventLists.{step_events}
-use Rattle.jvm_model.specs.Run.{blank, run}
+use Rattle.jvm_model.specs.Run.{before, run}
 use Rattle.jvm_model.specs.StandsFor.{marking_of}
 
 -- where a frame stands: in which method, and at which place of its version
@@ -18,7 +19,8 @@ pub record Place : Type 0 where
 
 -- A machine of a class, with the number of its main method and its input; the marks of the versions that it runs, their
 -- image and homes. It has made the start, or not; memory has run out, or not; the clock is the number of steps begun
--- after the start; so many events of the step in hand were told; and the current frame stands here.
+-- after the start; so many events of the step in hand were told; whether its instruction was done; and the current frame
+-- stands here.
 pub record View : Type 0 where
   pub class : ClassFile
   pub main : ℕ
@@ -30,6 +32,7 @@ pub record View : Type 0 where
   pub broken : Bool
   pub clock : ℕ
   pub told : ℕ
+  pub done : Bool
   pub top : Option Place
 
 -- a machine that was just made: every version is the original
@@ -45,12 +48,21 @@ made class main input = record {
   broken = false;
   clock = 0;
   told = 0;
+  done = true;
   top = None;
 }
 
+abbrev pub world : View → World
+world v = world_of v.class v.main v.input
+
 -- the state that it stands for between steps: the run's after that many steps, and before the start nothing was done
 abbrev pub state_of : View → State
-state_of v = if v.started then run v.class v.main v.input v.clock else blank
+state_of v = if v.started then run (world v) v.clock else before (world v)
+
+-- The state that its output, its ending and its live activations are of: while a step is in hand and its instruction is still
+-- to come, that of the step before.
+abbrev pub shown : View → State
+shown v = if v.done then state_of v else run (world v) (v.clock - 1)
 
 abbrev pub has_ended : View → Bool
 has_ended v = is_some (state_of v).ending
@@ -69,4 +81,4 @@ begun v = if is_resting v then advanced v else v
 
 -- the events of the step in hand
 abbrev pub events_now : View → List Event
-events_now v = step_events (marking_of v.marks) (trace v.class v.main v.input v.clock).activations v.clock
+events_now v = step_events (marking_of v.marks) (world v) v.clock

@@ -1,8 +1,9 @@
 //! Reading the method descriptors of the built part (JVM Specification 4.3.3).
 
-ghost use Rattle.std.specs.Prelude.{◌≡◌, [], IfOk};
+ghost use Rattle.std.specs.Prelude.{◌≡◌, [], IfOk, IfSome};
 ghost use Rattle.std.specs.Option.{option_map};
-ghost use Rattle.jvm_model.specs.Descriptors.{result_of, params_of, ints_shape, shape_of};
+ghost use Rattle.const_pool.specs.Descriptors.{IsMethod};
+ghost use Rattle.jvm_model.specs.Descriptors.{result_of, params_of, with_room as with_room_of, ints_shape, shape_of};
 ghost use Rattle.jvm_machine.specs.Shapes.{with_params};
 
 use const_pool::{Kind, Shape};
@@ -23,6 +24,9 @@ const INT: u16 = 73;
 
 /// `V`, no result.
 const VOID: u16 = 86;
+
+/// The most slots of a call's arguments, of which an int takes one (4.3.3).
+const MOST_SLOTS: usize = 255;
 
 /// The result that the letters behind the parameters spell: an absent one for void.
 fn find_result(units: &[u16]) -> Option<Option<Kind>>
@@ -57,6 +61,17 @@ fn params_shape(alloc: Global, units: &[u16]) -> Result<Option<Shape>, NoMemory>
     Ok(None)
 }
 
+/// The shape, where its parameters fit into the slots of a call's arguments.
+fn with_room(shape: Shape) -> Option<Shape>
+    ensures { result ≡ with_room_of shape }
+{
+    if shape.params.len() <= MOST_SLOTS {
+        Some(shape)
+    } else {
+        None
+    }
+}
+
 /// The ints between parentheses, and the result.
 fn ints_shape(alloc: Global, units: &[u16]) -> Result<Option<Shape>, NoMemory>
     ensures { IfOk result (λ shape. shape ≡ ints_shape units.now) }
@@ -64,11 +79,14 @@ fn ints_shape(alloc: Global, units: &[u16]) -> Result<Option<Shape>, NoMemory>
     if units.first() != Some(&OPEN) {
         return Ok(None);
     }
-    params_shape(alloc, &units[1..])
+    match params_shape(alloc, &units[1..])? {
+        Some(shape) => Ok(with_room(shape)),
+        None => Ok(None),
+    }
 }
 
-/// The shape that a descriptor of the built part spells; none for another text.
-pub fn shape_of(alloc: Global, descriptor: &Text16) -> Result<Option<Shape>, NoMemory>
+/// The shape that `shape_of` gives.
+fn find_shape(alloc: Global, descriptor: &Text16) -> Result<Option<Shape>, NoMemory>
     ensures { IfOk result (λ shape. shape ≡ shape_of descriptor.now) }
 {
     if !descriptor.is_bytes(MAIN_DESCRIPTOR) {
@@ -80,6 +98,15 @@ pub fn shape_of(alloc: Global, descriptor: &Text16) -> Result<Option<Shape>, NoM
         params,
         result: None,
     }))
+}
+
+/// The shape that a descriptor of the built part spells; none for another text. It is the shape that the
+/// grammar of descriptors has for it.
+pub fn shape_of(alloc: Global, descriptor: &Text16) -> Result<Option<Shape>, NoMemory>
+    ensures shape { IfOk result (λ shape. shape ≡ shape_of descriptor.now) }
+    ensures method { IfOk result (λ shape. IfSome shape (IsMethod descriptor.now)) }
+{
+    find_shape(alloc, descriptor)
 }
 
 #[cfg(test)]

@@ -1,7 +1,7 @@
 //! What the top of the operand stack has.
 
 ghost use Rattle.std.specs.Prelude.{◌≡◌};
-ghost use Rattle.jvm_machine.specs.Operands.{ints_of, below_ints, int_of, below_int, print_of, below_print};
+ghost use Rattle.jvm_machine.specs.Operands.{ints_of, below_ints, print_of, below_print};
 
 use heap_objects::Value;
 use jf_bytes::Stack;
@@ -19,18 +19,6 @@ pub fn take_ints(operands: &mut Stack<Value>) -> Option<(i32, i32)>
     };
     operands.discard(2);
     Some((a, b))
-}
-
-/// Takes an int off, where one is on top; else it changes nothing.
-pub fn take_int(operands: &mut Stack<Value>) -> Option<i32>
-    ensures found { result ≡ int_of operands.old }
-    ensures left { operands.new ≡ below_int operands.old }
-{
-    let Some(Value::Int(n)) = operands.peek(0) else {
-        return None;
-    };
-    operands.discard(1);
-    Some(n)
 }
 
 /// Takes an int and the reference below it off, where they are on top; else it changes nothing. The reference is first.

@@ -1,24 +1,30 @@
-//! Invocation and return (JVM Specification 2.6, 2.6.4, 2.6.5).
+//! Invocation (JVM Specification 2.6, 2.6.1, 2.6.4).
 
-ghost use Rattle.std.specs.Prelude.{◌≡◌, ◌≤◌, ◌-◌, ◌++◌, length, replicate, None, OnOk, IfOk};
-ghost use Rattle.jvm_model.specs.Descriptors.{has_kind, have_kinds};
-ghost use Rattle.jvm_model.specs.Rules.{locals_with, max_locals_of, new_frame, calls, own_of, next_of, returns};
-ghost use Rattle.jvm_machine.specs.Installed.{installed_lines};
+ghost use Rattle.std.specs.Prelude.{◌≡◌, ◌≤◌, ◌-◌, ◌++◌, [], ◌∷◌, length, replicate, None, Some, is_some, OnOk, IfOk};
+ghost use Rattle.std.specs.Option.{option_map_or};
+ghost use Rattle.jvm_model.specs.Methods.{method_params};
+ghost use Rattle.jvm_model.specs.Values.{datum_of, data_of, spread};
+ghost use Rattle.jvm_model.specs.Rules.{invokes_with};
+ghost use Rattle.jvm_model.specs.Applies.{with_frame, applies};
+ghost use Rattle.jvm_model.specs.Attempts.{has_begun};
+ghost use Rattle.jvm_model.specs.Installed.{world_in, placed, tabled};
+ghost use Rattle.jvm_machine.specs.Arguments.{spread_values, fitting_frame, callee_frame, without_arguments};
 
-use crate::rules::{end_unverifiable, go_on, put_frame};
+use crate::applying::{break_off, put_frame};
 use crate::tables::Tables;
 use const_pool::Kind;
 use heap_objects::Value;
 use jf_bytes::{NoMemory, Seq, Stack};
-use jvm_model::{Ending, Frame, State};
+use jvm_model::{Frame, Line, State};
 use std::alloc::Global;
 
-/// Whether a local or an operand of this kind may hold the value.
+/// Whether an argument of this kind may be the value: boolean, byte, char and short are ints.
 fn is_of_kind(kind: Kind, value: Value) -> bool
-    ensures { result ≡ has_kind kind value }
+    ensures { result ≡ is_some (datum_of kind value) }
 {
     match (kind, value) {
-        (Kind::Int, Value::Int(_)) => true,
+        (Kind::Int | Kind::Bool | Kind::Byte | Kind::Char | Kind::Short, Value::Int(_)) => true,
+        (Kind::Long, Value::Long(_)) => true,
         (Kind::Ref, Value::Ref(_)) => true,
         _ => false,
     }
@@ -26,7 +32,7 @@ fn is_of_kind(kind: Kind, value: Value) -> bool
 
 /// Whether there are as many values as parameters, each of its kind.
 fn are_of_kinds(params: &[Kind], values: &[Value]) -> bool
-    ensures { result ≡ have_kinds params.now values.now }
+    ensures { result ≡ is_some (data_of params.now values.now) }
 {
     if params.len() != values.len() {
         return false;
@@ -37,6 +43,31 @@ fn are_of_kinds(params: &[Kind], values: &[Value]) -> bool
         }
     }
     true
+}
+
+/// Adds the locals that an argument takes: a long takes two.
+fn add(locals: &mut Seq<Option<Value>>, arg: Value) -> Result<(), NoMemory>
+    ensures { OnOk result (locals.new ≡ locals.old ++ spread_values (arg ∷ [])) }
+{
+    locals.push(Some(arg))?;
+    match arg {
+        Value::Long(_) => {
+            locals.push(None)?;
+            Ok(())
+        }
+        _ => Ok(()),
+    }
+}
+
+/// The locals that arguments take, from slot 0 on.
+fn spread(alloc: Global, args: &[Value]) -> Result<Seq<Option<Value>>, NoMemory>
+    ensures { IfOk result (λ locals. locals ≡ spread_values args.now) }
+{
+    let mut locals = Seq::new(alloc);
+    for arg in args {
+        add(&mut locals, *arg)?;
+    }
+    Ok(locals)
 }
 
 /// Adds unwritten locals up to this number.
@@ -50,96 +81,100 @@ fn fill(locals: &mut Seq<Option<Value>>, max_locals: usize) -> Result<(), NoMemo
     Ok(())
 }
 
-/// The locals of a method that begins with these arguments.
-pub fn locals_of(
-    alloc: Global,
-    args: &[Value],
-    max_locals: u16,
-) -> Result<Seq<Option<Value>>, NoMemory>
-    requires { length args.now ≤ max_locals }
-    ensures { IfOk result (λ locals. locals ≡ locals_with args.now max_locals) }
-{
-    let mut locals = Seq::with_capacity(alloc, max_locals as usize)?;
-    for arg in args {
-        locals.push(Some(*arg))?;
-    }
-    fill(&mut locals, max_locals as usize)?;
-    Ok(locals)
-}
-
-/// A frame at the beginning of a method, with room for its operands.
-pub fn frame_of(
+/// A frame at the beginning of a method, with room for its operands; None where the arguments do not fit into its locals.
+pub fn frame_with(
     alloc: Global,
     tables: &Tables,
     method: u32,
     args: &[Value],
-) -> Result<Frame, NoMemory>
-    requires { length args.now ≤ max_locals_of tables.now.class method }
-    ensures { IfOk result (λ f. f ≡ new_frame method args.now (max_locals_of tables.now.class method)) }
+) -> Result<Option<Frame>, NoMemory>
+    ensures { IfOk result (λ found. found ≡ fitting_frame tables.now method args.now) }
 {
-    let locals = locals_of(alloc, args, tables.max_locals(method))?;
+    let max_locals = tables.max_locals(method) as usize;
+    let mut locals = spread(alloc, args)?;
+    if locals.len() > max_locals {
+        return Ok(None);
+    }
+    fill(&mut locals, max_locals)?;
     let operands = Stack::with_capacity(alloc, tables.max_stack(method) as usize)?;
-    Ok(Frame {
+    Ok(Some(Frame {
         method,
-        offset: 0,
+        version: method,
+        place: tables.first(method),
         locals,
         operands,
-    })
+    }))
 }
 
-/// Begins a static method (invokestatic): it takes the arguments off, and its caller stays at the instruction.
-pub fn call(
+/// The frame that a method begins with, where its arguments are on top of the caller and fit.
+fn callee_of(
     alloc: Global,
     tables: &Tables,
-    state: &mut State,
-    mut frame: Frame,
+    caller: &Frame,
     method: u32,
-    own: u16,
-) -> Result<(), NoMemory>
-    ensures { OnOk result (state.new ≡ calls tables.now.class state.old frame method own) }
+) -> Result<Option<Frame>, NoMemory>
+    ensures { IfOk result (λ found. found ≡ callee_frame tables.now method caller.now.operands) }
 {
     let Some(params) = tables.params(method) else {
-        return end_unverifiable(state, frame, own);
+        return Ok(None);
     };
     let count = params.len();
-    if frame.operands.len() < count {
-        return end_unverifiable(state, frame, own);
+    if caller.operands.len() < count {
+        return Ok(None);
     }
-    let args = frame.operands.topmost(count);
-    if !are_of_kinds(params.as_slice(), args) || count > tables.max_locals(method) as usize {
-        return end_unverifiable(state, frame, own);
+    let args = caller.operands.topmost(count);
+    if !are_of_kinds(params.as_slice(), args) {
+        return Ok(None);
     }
-    let callee = frame_of(alloc, tables, method, args)?;
-    frame.operands.discard(count);
-    put_frame(state, frame)?;
+    frame_with(alloc, tables, method, args)
+}
+
+/// How many arguments a method takes.
+fn count_of(tables: &Tables, method: u32) -> usize
+    ensures { result ≡ option_map_or length (method_params tables.now.class method) 0 }
+{
+    match tables.params(method) {
+        Some(params) => params.len(),
+        None => 0,
+    }
+}
+
+/// The callee goes on top of its caller, whose arguments are taken off.
+fn put_callee(
+    tables: &Tables,
+    state: &mut State,
+    mut caller: Frame,
+    callee: Frame,
+    method: u32,
+) -> Result<(), NoMemory>
+    requires { option_map_or length (method_params tables.now.class method) 0 ≤ length caller.operands }
+    ensures { OnOk result (state.new ≡ with_frame (with_frame state.old (without_arguments tables.now method caller)) callee) }
+{
+    caller.operands.discard(count_of(tables, method));
+    put_frame(state, caller)?;
     put_frame(state, callee)
 }
 
-/// The offset of a caller's invoke instruction, and where the caller goes on behind it.
-fn ends_of(tables: &Tables, caller: &Frame) -> (u16, u16)
-    ensures { result ≡ (own_of (installed_lines tables.now) caller.now, next_of (installed_lines tables.now) caller.now) }
-{
-    match tables.line(caller.method, caller.offset) {
-        Some(line) => (line.own, line.next),
-        None => (caller.offset, caller.offset),
-    }
-}
-
-/// Goes back to the caller, which is behind its invoke instruction then; without one the run has returned.
-pub fn return_to_caller(
+/// Begins a method: its caller stays at the instruction without the arguments. Answers whether it began.
+pub fn invoke(
+    alloc: Global,
     tables: &Tables,
     state: &mut State,
-    value: Option<Value>,
-) -> Result<(), NoMemory>
-    ensures { OnOk result (state.new ≡ returns tables.now.class (installed_lines tables.now) state.old value state.old.frames) }
+    frame: Frame,
+    method: u32,
+    line: Line,
+) -> Result<bool, NoMemory>
+    ensures state { OnOk result (state.new ≡ (applies (world_in tables.now) (tabled tables.now) (placed line) (invokes_with method (method_params tables.now.class method) frame.operands) state.old frame).after) }
+    ensures begun { IfOk result (λ b. b ≡ has_begun (applies (world_in tables.now) (tabled tables.now) (placed line) (invokes_with method (method_params tables.now.class method) frame.operands) state.old frame).changes) }
 {
-    let Some(mut caller) = state.frames.pop() else {
-        state.ending = Some(Ending::Returned);
-        return Ok(());
-    };
-    let (own, next) = ends_of(tables, &caller);
-    if let Some(value) = value {
-        caller.operands.push(value)?;
+    match callee_of(alloc, tables, &frame, method)? {
+        None => {
+            break_off(state, frame, line.own)?;
+            Ok(false)
+        }
+        Some(callee) => {
+            put_callee(tables, state, frame, callee, method)?;
+            Ok(true)
+        }
     }
-    go_on(tables, state, caller, own, next)
 }

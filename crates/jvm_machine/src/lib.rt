@@ -2,25 +2,27 @@
 //! a call.
 #![tactic(auto)]
 
+mod applying;
 mod copies;
 mod descriptor;
+mod flow;
 mod frames;
 mod invoking;
 mod lookup;
 mod machine;
 mod origins;
 mod passing;
-mod phase;
 mod prepare;
 mod probes;
 mod rules;
+mod starting;
 mod stepping;
 mod tables;
 mod turn;
 mod versions;
 
 pub use descriptor::shape_of;
-pub use lookup::{method_named, operation_of};
+pub use lookup::{method_named, resolved_of};
 pub use machine::Vm;
 pub use prepare::code_of;
 pub use turn::Turn;

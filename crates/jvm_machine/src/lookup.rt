@@ -1,16 +1,20 @@
 //! What an instruction's operand names (JVM Specification 5.4.3), in a class whose methods a u32 can number.
 
 ghost use Rattle.std.specs.Prelude.{◌≡◌, ◌<◌, ◌^◌, length};
-ghost use Rattle.std.specs.Option.{option_map};
 ghost use Rattle.const_pool.specs.Members.{reference_view};
 ghost use Rattle.const_pool.specs.References.{named_field, named_method};
 ghost use Rattle.jvm_model.specs.Methods.{same_text_at, is_member, method_named};
-ghost use Rattle.jvm_model.specs.Lines.{is_reference, out_of, println_of, call_of, plain_operation, pool_operation, operation_of};
+ghost use Rattle.std.specs.Option.{option_and_then, option_map};
+ghost use Rattle.jvm_model.specs.Rules.{is_reference, is_out, is_println};
+ghost use Rattle.jvm_model.specs.Lines.{getstatic_of, invokevirtual_of, plain_operation, pool_operation};
+ghost use Rattle.jvm_model.specs.Data.{Invokestatic};
+ghost use Rattle.const_pool.specs.declared.class.ClassFile.{ClassFile as Class};
+ghost use Rattle.jvm_model.specs.Resolved.{own_method, resolved_in, resolved_of};
 
 use code_model::{Arg, Instr};
 use const_pool::{ClassFile, Const, Member, MemberRef, Pool};
 use jf_bytes::Text16;
-use jvm_model::Operation;
+use jvm_model::{IntOperator, Resolved};
 
 /// Whether an entry is this text.
 fn is_text_at(pool: &Pool, index: u16, text: &Text16) -> bool
@@ -51,40 +55,35 @@ pub fn is_reference(reference: &MemberRef<'_>, class: &[u8], name: &[u8], descri
         && reference.descriptor.is_bytes(descriptor)
 }
 
-/// Pushing System.out, where that is the field.
-fn out_of(reference: &MemberRef<'_>) -> Option<Operation>
-    ensures { result ≡ out_of (reference_view reference.now) }
+/// Whether a field is System.out.
+fn is_out(reference: &MemberRef<'_>) -> bool
+    ensures { result ≡ is_out (reference_view reference.now) }
 {
-    let out = b"Ljava/io/PrintStream;";
-    if is_reference(reference, b"java/lang/System", b"out", out) {
-        Some(Operation::Out)
-    } else {
-        None
-    }
+    is_reference(
+        reference,
+        b"java/lang/System",
+        b"out",
+        b"Ljava/io/PrintStream;",
+    )
 }
 
-/// PrintStream.println of an int, where that is the method.
-fn println_of(reference: &MemberRef<'_>) -> Option<Operation>
-    ensures { result ≡ println_of (reference_view reference.now) }
+/// Whether a method is PrintStream.println of an int.
+fn is_println(reference: &MemberRef<'_>) -> bool
+    ensures { result ≡ is_println (reference_view reference.now) }
 {
-    if is_reference(reference, b"java/io/PrintStream", b"println", b"(I)V") {
-        Some(Operation::Println)
-    } else {
-        None
-    }
+    is_reference(reference, b"java/io/PrintStream", b"println", b"(I)V")
 }
 
-/// The call of a method of the class itself.
-fn call_of(class: &ClassFile, reference: &MemberRef<'_>) -> Option<Operation>
+/// The number of the method of the class itself that a reference names.
+fn own_method(class: &ClassFile, reference: &MemberRef<'_>) -> Option<u32>
     requires { length class.now.methods < 2 ^ 32 }
-    ensures { result ≡ call_of class.now (reference_view reference.now) }
+    ensures { result ≡ own_method class.now (reference_view reference.now) }
 {
     let own = class.pool.class_name(class.this_class).ok()?;
     if !reference.class.same(own) {
         return None;
     }
-    let method = method_named(class, reference.name, reference.descriptor)?;
-    Some(Operation::Call(method))
+    method_named(class, reference.name, reference.descriptor)
 }
 
 /// What a Fieldref names.
@@ -108,43 +107,77 @@ pub fn method_at(pool: &Pool, index: u16) -> Option<MemberRef<'_>>
 }
 
 /// What an instruction without operand does.
-fn plain_operation(op: u8) -> Option<Operation>
-    ensures { result ≡ plain_operation op }
+fn plain_operation(op: u8) -> Option<Resolved>
+    ensures { (c : Class) → result ≡ option_and_then (resolved_in c) (plain_operation op) }
 {
     match op {
-        0 => Some(Operation::Nothing),
-        2..=8 => Some(Operation::Constant(i32::from(op) - 3)),
-        26..=29 => Some(Operation::Load(u16::from(op) - 26)),
-        96 => Some(Operation::Add),
-        100 => Some(Operation::Subtract),
-        104 => Some(Operation::Multiply),
-        172 => Some(Operation::ReturnInt),
-        177 => Some(Operation::Return),
+        0 => Some(Resolved::Nop),
+        2..=8 => Some(Resolved::Constant(i32::from(op) - 3)),
+        26..=29 => Some(Resolved::Iload(u16::from(op) - 26)),
+        96 => Some(Resolved::Binary(IntOperator::Iadd)),
+        100 => Some(Resolved::Binary(IntOperator::Isub)),
+        104 => Some(Resolved::Binary(IntOperator::Imul)),
+        172 => Some(Resolved::Ireturn),
+        177 => Some(Resolved::Return),
         _ => None,
     }
+}
+
+/// getstatic: System.out alone.
+fn getstatic(pool: &Pool, index: u16) -> Option<Resolved>
+    ensures { (c : Class) → result ≡ option_and_then (resolved_in c) (option_and_then getstatic_of (named_field pool.now index)) }
+{
+    let field = field_at(pool, index)?;
+    if is_out(&field) {
+        Some(Resolved::Out)
+    } else {
+        None
+    }
+}
+
+/// invokevirtual: println(I)V alone.
+fn invokevirtual(pool: &Pool, index: u16) -> Option<Resolved>
+    ensures { (c : Class) → result ≡ option_and_then (resolved_in c) (option_and_then invokevirtual_of (named_method pool.now index)) }
+{
+    let method = method_at(pool, index)?;
+    if is_println(&method) {
+        Some(Resolved::Println)
+    } else {
+        None
+    }
+}
+
+/// invokestatic of a method of the class itself.
+fn invokestatic(class: &ClassFile, index: u16) -> Option<Resolved>
+    requires { length class.now.methods < 2 ^ 32 }
+    ensures { result ≡ option_and_then (resolved_in class.now) (option_map Invokestatic (named_method class.now.pool index)) }
+{
+    let method = method_at(&class.pool, index)?;
+    let number = own_method(class, &method)?;
+    Some(Resolved::Invokestatic(number))
 }
 
 /// What an instruction with a pool index does: getstatic, invokevirtual and invokestatic.
-fn pool_operation(class: &ClassFile, op: u8, index: u16) -> Option<Operation>
+fn pool_operation(class: &ClassFile, op: u8, index: u16) -> Option<Resolved>
     requires { length class.now.methods < 2 ^ 32 }
-    ensures { result ≡ pool_operation class.now op index }
+    ensures { result ≡ option_and_then (resolved_in class.now) (pool_operation class.now op index) }
 {
     match op {
-        178 => out_of(&field_at(&class.pool, index)?),
-        182 => println_of(&method_at(&class.pool, index)?),
-        184 => call_of(class, &method_at(&class.pool, index)?),
+        178 => getstatic(&class.pool, index),
+        182 => invokevirtual(&class.pool, index),
+        184 => invokestatic(class, index),
         _ => None,
     }
 }
 
-/// What an instruction does, where the built part has it.
-pub fn operation_of(class: &ClassFile, instr: &Instr) -> Option<Operation>
+/// What an instruction does, its names looked up, where it is of the part that runs so far.
+pub fn resolved_of(class: &ClassFile, instr: &Instr) -> Option<Resolved>
     requires { length class.now.methods < 2 ^ 32 }
-    ensures { result ≡ operation_of class.now instr.now }
+    ensures { result ≡ resolved_of class.now instr.now }
 {
     match &instr.arg {
         Arg::Plain => plain_operation(instr.op),
-        Arg::Value(n) => Some(Operation::Constant(*n)),
+        Arg::Value(n) => Some(Resolved::Constant(*n)),
         Arg::Pool(index) => pool_operation(class, instr.op, *index),
         _ => None,
     }

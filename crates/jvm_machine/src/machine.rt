@@ -5,16 +5,16 @@ ghost use Rattle.jvm_model.specs.Images.{IsImage};
 ghost use Rattle.jvm_model.specs.StandsFor.{IsBuilt};
 ghost use Rattle.jvm_machine.specs.Advances.{Advances, broken_in};
 ghost use Rattle.jvm_machine.specs.Turns.{Turns, IsGoingOn};
-ghost use Rattle.jvm_machine.specs.View.{made, state_of, is_resting, has_ended};
+ghost use Rattle.jvm_machine.specs.View.{made, shown, is_resting, has_ended};
 
-use crate::phase::Phase;
 use crate::probes::Probe;
+use crate::starting::state_before;
 use crate::stepping::{clock_in, move_on};
 use crate::tables::Tables;
 use crate::turn::Turn;
 use code_model::Homes;
 use const_pool::ClassFile;
-use jf_bytes::{NoMemory, Seq, Stack};
+use jf_bytes::{NoMemory, Seq};
 use jvm_model::{Ending, Event, Mark, State};
 use std::alloc::Global;
 use std::marker::Model;
@@ -25,10 +25,8 @@ use std::marker::Model;
 pub struct Vm {
     alloc: Global,
     tables: Tables,
-    main: u32,
-    input: Seq<u8>,
     state: State,
-    phase: Phase,
+    told: u32,
     started: bool,
     broken: bool,
     clock: u64,
@@ -40,9 +38,9 @@ impl Model for Vm {
 
     ghost Value = { View };
 
-    ghost view = { λ v. seen v.tables v.main v.input v.state v.phase v.started v.broken v.clock };
+    ghost view = { λ v. seen v.tables v.state v.told v.started v.broken v.clock };
 
-    ghost invariant = { λ v. IsRunning (seen v.tables v.main v.input v.state v.phase v.started v.broken v.clock) v.phase v.state };
+    ghost invariant = { λ v. IsRunning (seen v.tables v.state v.told v.started v.broken v.clock) v.state };
 }
 
 impl Vm {
@@ -51,21 +49,13 @@ impl Vm {
         requires { IsBuilt class }
         ensures { IfOk result (λ vm. vm ≡ made class main input.items) }
     {
-        let tables = Tables::new(alloc, class)?;
-        let state = State {
-            frames: Stack::new(alloc),
-            begun: true,
-            read: 0,
-            output: Seq::new(alloc),
-            ending: None,
-        };
+        let tables = Tables::new(alloc, class, u32::from(main), Seq::from_vec(input))?;
+        let state = state_before(alloc)?;
         Ok(Vm {
             alloc,
             tables,
-            main: u32::from(main),
-            input: Seq::from_vec(input),
             state,
-            phase: Phase::Resting,
+            told: 0,
             started: false,
             broken: false,
             clock: 0,
@@ -97,7 +87,7 @@ impl Vm {
     fn is_over(&self) -> bool
         ensures { self.now.broken ≡ false → result ≡ (is_resting self.now && has_ended self.now) }
     {
-        self.phase == Phase::Resting && self.state.ending.is_some()
+        self.told == 0 && self.state.ending.is_some()
     }
 
     /// Goes on to the next event of the step, or to its end; the answer is the probe that has told the event.
@@ -111,19 +101,18 @@ impl Vm {
     {
         let started = self.started;
         self.broken = true;
-        self.clock = clock_in(self.phase, started, self.clock);
+        self.clock = clock_in(self.told, started, self.clock);
         self.started = true;
-        let stop = move_on(
+        let advance = move_on(
             self.alloc,
             &self.tables,
             &mut self.state,
-            self.main,
             started,
-            self.phase,
+            self.told,
         )?;
-        self.phase = stop.phase;
+        self.told = advance.told;
         self.broken = false;
-        Ok(stop.probe)
+        Ok(advance.probe)
     }
 
     /// Goes on with the step in hand, or begins the next one: the start, and then one instruction of the original class
@@ -168,24 +157,24 @@ impl Vm {
         self.tables.class()
     }
 
-    /// What the program has written.
+    /// What the program has written: by the step in hand only once its instruction was done.
     pub fn output(&self) -> &[u8]
-        ensures { self.now.broken ≡ false → is_resting self.now ≡ true → result.now ≡ (state_of self.now).output }
+        ensures { self.now.broken ≡ false → result.now ≡ (shown self.now).output }
     {
         self.state.output.as_slice()
     }
 
-    /// How the run has ended, if it has.
+    /// How the run has ended, if it has: in the step in hand only once its instruction was done.
     pub fn ending(&self) -> Option<Ending>
-        ensures { self.now.broken ≡ false → is_resting self.now ≡ true → result ≡ (state_of self.now).ending }
+        ensures { self.now.broken ≡ false → result ≡ (shown self.now).ending }
     {
         self.state.ending
     }
 
-    /// The number of live activations, where it is below 2^32; a larger number is given as 2^32 - 1.
+    /// The number of live activations, with that of a return whose event was told and which is still to come, where it is below 2^32; a larger number is given as 2^32 - 1.
     pub fn live(&self) -> u32
-        ensures { self.now.broken ≡ false → is_resting self.now ≡ true → result ≡ min (length (state_of self.now).frames) (2 ^ 32 - 1) }
+        ensures { self.now.broken ≡ false → result ≡ min (length (shown self.now).stack) (2 ^ 32 - 1) }
     {
-        u32::try_from(self.state.frames.len()).unwrap_or(u32::MAX)
+        u32::try_from(self.state.stack.len()).unwrap_or(u32::MAX)
     }
 }

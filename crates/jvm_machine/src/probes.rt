@@ -1,6 +1,6 @@
 //! The probes of rewritten code.
 
-ghost use Rattle.std.specs.Prelude.{◌≡◌, ◌<◌, ◌^◌, length};
+ghost use Rattle.std.specs.Prelude.{◌≡◌, ◌+◌, ◌<◌, ◌≤◌, ◌^◌, length, IfOk, IfSome};
 ghost use Rattle.std.specs.Int.{w16, cast_unsigned};
 ghost use Rattle.const_pool.specs.Members.{reference_view};
 ghost use Rattle.jvm_model.specs.StandsFor.{probe_kind, invoked_kind, pushed_number};
@@ -9,7 +9,9 @@ ghost use Rattle.jvm_machine.specs.TableEntries.{number_at, kind_at, placed_prob
 use crate::lookup::{is_reference, method_at};
 use code_model::{Arg, instr_at};
 use const_pool::{ClassFile, MemberRef};
+use jf_bytes::NoMemory;
 use jvm_model::EventKind;
+use std::alloc::Global;
 
 /// The class whose methods the probes invoke.
 const PROBE_CLASS: &[u8] = b"jfluid/Probe";
@@ -86,33 +88,55 @@ fn pushed_number(op: u8, arg: &Arg) -> Option<u32>
 }
 
 /// The number that is pushed at a place.
-fn number_at(code: &[u8], place: u16) -> Option<u32>
-    ensures { result ≡ number_at code.now place }
+fn number_at(alloc: Global, code: &[u8], place: u16) -> Result<Option<u32>, NoMemory>
+    ensures value { IfOk result (λ number. number ≡ number_at code.now place) }
+    ensures within { IfOk result (λ number. IfSome number (λ n. place + 3 ≤ length code.now)) }
 {
-    let push = instr_at(code, place)?;
-    pushed_number(push.op, &push.arg)
+    let found = instr_at(alloc, code, place)?;
+    match found {
+        Some(push) => Ok(pushed_number(push.op, &push.arg)),
+        None => Ok(None),
+    }
 }
 
 /// The kind of the probe that is invoked at a place.
-fn kind_at(image: &ClassFile, code: &[u8], place: u16) -> Option<EventKind>
-    ensures { result ≡ kind_at image.now code.now place }
+fn kind_at(
+    alloc: Global,
+    image: &ClassFile,
+    code: &[u8],
+    place: u16,
+) -> Result<Option<EventKind>, NoMemory>
+    ensures value { IfOk result (λ kind. kind ≡ kind_at image.now code.now place) }
+    ensures within { IfOk result (λ kind. IfSome kind (λ k. place + 3 ≤ length code.now)) }
 {
-    let invoke = instr_at(code, place)?;
-    invoked_kind(image, invoke.op, &invoke.arg)
+    let found = instr_at(alloc, code, place)?;
+    match found {
+        Some(invoke) => Ok(invoked_kind(image, invoke.op, &invoke.arg)),
+        None => Ok(None),
+    }
 }
 
 /// The probe at a place of a code.
-pub fn probe_in(image: &ClassFile, code: &[u8], place: u16) -> Option<Probe>
+pub fn probe_in(
+    alloc: Global,
+    image: &ClassFile,
+    code: &[u8],
+    place: u16,
+) -> Result<Option<Probe>, NoMemory>
     requires { length code.now < 2 ^ 16 }
-    ensures { result ≡ placed_probe_in image.now code.now place }
+    ensures { IfOk result (λ probe. probe ≡ placed_probe_in image.now code.now place) }
 {
-    let number = number_at(code, place)?;
-    let kind = kind_at(image, code, place + 3)?;
-    Some(Probe {
+    let Some(number) = number_at(alloc, code, place)? else {
+        return Ok(None);
+    };
+    let Some(kind) = kind_at(alloc, image, code, place + 3)? else {
+        return Ok(None);
+    };
+    Ok(Some(Probe {
         kind,
         number,
         next: place + 6,
-    })
+    }))
 }
 
 #[cfg(test)]
@@ -166,9 +190,12 @@ mod tests {
         };
         let probes = image(rt.alloc(), "jfluid/Probe")?;
         let others = image(rt.alloc(), "Probe")?;
-        assert_eq!(rt; probe_in(&probes, &CODE, 0), Some(probe));
-        assert_eq!(rt; probe_in(&probes, &CODE, 1), None);
-        assert_eq!(rt; probe_in(&others, &CODE, 0), None);
+        let here = probe_in(rt.alloc(), &probes, &CODE, 0);
+        assert_eq!(rt; here.ok().ok_or("no memory")?, Some(probe));
+        let within = probe_in(rt.alloc(), &probes, &CODE, 1);
+        assert_eq!(rt; within.ok().ok_or("no memory")?, None);
+        let other = probe_in(rt.alloc(), &others, &CODE, 0);
+        assert_eq!(rt; other.ok().ok_or("no memory")?, None);
         Ok(())
     }
 }

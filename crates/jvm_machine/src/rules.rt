@@ -1,17 +1,19 @@
-//! What each instruction does, as the rules of jvm_model say it: the state is without the current frame, which a rule
-//! is given and puts back.
+//! What each instruction asks for (JVM Specification 6.5), as the rules of jvm_model say it.
 
-ghost use Rattle.std.specs.Prelude.{◌≡◌, ◌++◌, OnOk};
-ghost use Rattle.std.specs.Int.{w32, int_wrapping_add, int_wrapping_sub, int_wrapping_mul};
-ghost use Rattle.jvm_model.specs.Rules.{with_frame, unverifiable, unverifiable_return, goes_on, constant, load, arithmetic, pushes_out, line_text, prints, returns_int, rule};
-ghost use Rattle.jvm_machine.specs.Installed.{installed_lines};
+ghost use Rattle.std.specs.Prelude.{◌≡◌, ◌∷◌, ◌++◌, slice_get, OnOk, IfOk};
+ghost use Rattle.const_pool.specs.declared.class.ClassFile.{ClassFile};
+ghost use Rattle.const_pool.specs.declared.descriptor.Kind.TheVariants as kind;
+ghost use Rattle.jvm_model.specs.Rules.{line_text};
+ghost use Rattle.jvm_model.specs.Values.{loaded};
+ghost use Rattle.jvm_model.specs.LocalRules.{calculated, calculates, pushes, returns};
+ghost use Rattle.jvm_model.specs.Attempts.{asks, asks_println, printed, writes};
+ghost use Rattle.jvm_machine.specs.Flows.{outcome_of, IsKept};
 
-use crate::frames::{take_int, take_ints, take_print};
-use crate::invoking::{call, return_to_caller};
-use crate::tables::Tables;
-use heap_objects::Value;
+use crate::flow::Flow;
+use crate::frames::{take_ints, take_print};
+use heap_objects::{Datum, Value};
 use jf_bytes::{NoMemory, Seq};
-use jvm_model::{Ending, Frame, Line, Operation, State};
+use jvm_model::{Frame, IntOperator, Resolved};
 use std::alloc::Global;
 
 /// System.out's object.
@@ -20,138 +22,56 @@ const OUT: u32 = 3;
 /// System.err's object, which is a PrintStream too.
 const ERR: u32 = 4;
 
-/// Puts a frame on top.
-pub fn put_frame(state: &mut State, frame: Frame) -> Result<(), NoMemory>
-    ensures { OnOk result (state.new ≡ with_frame state.old frame) }
+/// Puts a value on top.
+fn push(frame: &mut Frame, value: Value) -> Result<(), NoMemory>
+    ensures { OnOk result (frame.new ≡ record frame.old { operands = value ∷ frame.old.operands }) }
 {
-    state.frames.push(frame)?;
+    frame.operands.push(value)?;
     Ok(())
 }
 
-/// Ends the run at this frame's instruction; its activation stays live.
-pub fn end_unverifiable(state: &mut State, frame: Frame, own: u16) -> Result<(), NoMemory>
-    ensures { OnOk result (state.new ≡ unverifiable state.old frame own) }
+/// iload: the local must hold an int.
+fn load_int(frame: &mut Frame, slot: u16) -> Result<Flow, NoMemory>
+    ensures outcome { (c : ClassFile) → IfOk result (λ flow. outcome_of c flow frame.new ≡ pushes (loaded kind.Int (slice_get frame.old.locals slot)) frame.old.locals frame.old.operands) }
+    ensures kept { IfOk result (λ flow. IsKept flow frame.old frame.new) }
 {
-    state.ending = Some(Ending::Unverifiable(frame.method, own));
-    put_frame(state, frame)
-}
-
-/// Ends the run at this frame's return, which ends its activation.
-fn end_at_return(state: &mut State, frame: &Frame, own: u16)
-    ensures { state.new ≡ unverifiable_return state.old frame.now own }
-{
-    state.ending = Some(Ending::Unverifiable(frame.method, own));
-}
-
-/// The frame goes on behind its instruction, unless its operands are too deep.
-pub fn go_on(
-    tables: &Tables,
-    state: &mut State,
-    mut frame: Frame,
-    own: u16,
-    next: u16,
-) -> Result<(), NoMemory>
-    ensures { OnOk result (state.new ≡ goes_on tables.now.class state.old frame frame.operands own next) }
-{
-    if frame.operands.len() > tables.max_stack(frame.method) as usize {
-        return end_unverifiable(state, frame, own);
-    }
-    frame.offset = next;
-    put_frame(state, frame)
-}
-
-fn push_constant(
-    tables: &Tables,
-    state: &mut State,
-    mut frame: Frame,
-    n: i32,
-    own: u16,
-    next: u16,
-) -> Result<(), NoMemory>
-    ensures { OnOk result (state.new ≡ constant tables.now.class state.old frame n own next) }
-{
+    let Some(Some(Value::Int(n))) = frame.locals.at(slot as usize) else {
+        return Ok(Flow::Breaks(false));
+    };
     frame.operands.push(Value::Int(n))?;
-    go_on(tables, state, frame, own, next)
+    Ok(Flow::GoesOn)
 }
 
-fn push_local(
-    tables: &Tables,
-    state: &mut State,
-    mut frame: Frame,
-    slot: u16,
-    own: u16,
-    next: u16,
-) -> Result<(), NoMemory>
-    ensures { OnOk result (state.new ≡ load tables.now.class state.old frame slot own next) }
+fn calculate(op: IntOperator, a: i32, b: i32) -> i32
+    ensures { result ≡ calculated op a b }
 {
-    match frame.locals.at(slot as usize) {
-        Some(Some(Value::Int(n))) => {
-            frame.operands.push(Value::Int(n))?;
-            go_on(tables, state, frame, own, next)
-        }
-        _ => end_unverifiable(state, frame, own),
+    match op {
+        IntOperator::Iadd => a.wrapping_add(b),
+        IntOperator::Isub => a.wrapping_sub(b),
+        IntOperator::Imul => a.wrapping_mul(b),
     }
 }
 
-fn add(
-    tables: &Tables,
-    state: &mut State,
-    mut frame: Frame,
-    own: u16,
-    next: u16,
-) -> Result<(), NoMemory>
-    ensures { OnOk result (state.new ≡ arithmetic (int_wrapping_add w32) tables.now.class state.old frame frame.operands own next) }
+/// An arithmetic instruction over two ints; the topmost operand is the second one.
+fn do_binary(frame: &mut Frame, op: IntOperator) -> Result<Flow, NoMemory>
+    ensures outcome { (c : ClassFile) → IfOk result (λ flow. outcome_of c flow frame.new ≡ calculates op frame.old.locals frame.old.operands) }
+    ensures kept { IfOk result (λ flow. IsKept flow frame.old frame.new) }
 {
     let Some((a, b)) = take_ints(&mut frame.operands) else {
-        return end_unverifiable(state, frame, own);
+        return Ok(Flow::Breaks(false));
     };
-    frame.operands.push(Value::Int(a.wrapping_add(b)))?;
-    go_on(tables, state, frame, own, next)
+    frame.operands.push(Value::Int(calculate(op, a, b)))?;
+    Ok(Flow::GoesOn)
 }
 
-fn subtract(
-    tables: &Tables,
-    state: &mut State,
-    mut frame: Frame,
-    own: u16,
-    next: u16,
-) -> Result<(), NoMemory>
-    ensures { OnOk result (state.new ≡ arithmetic (int_wrapping_sub w32) tables.now.class state.old frame frame.operands own next) }
+/// ireturn.
+fn return_int(frame: &Frame) -> Flow
+    ensures { (c : ClassFile) → outcome_of c result frame.now ≡ returns (Some kind.Int) frame.now.operands }
 {
-    let Some((a, b)) = take_ints(&mut frame.operands) else {
-        return end_unverifiable(state, frame, own);
-    };
-    frame.operands.push(Value::Int(a.wrapping_sub(b)))?;
-    go_on(tables, state, frame, own, next)
-}
-
-fn multiply(
-    tables: &Tables,
-    state: &mut State,
-    mut frame: Frame,
-    own: u16,
-    next: u16,
-) -> Result<(), NoMemory>
-    ensures { OnOk result (state.new ≡ arithmetic (int_wrapping_mul w32) tables.now.class state.old frame frame.operands own next) }
-{
-    let Some((a, b)) = take_ints(&mut frame.operands) else {
-        return end_unverifiable(state, frame, own);
-    };
-    frame.operands.push(Value::Int(a.wrapping_mul(b)))?;
-    go_on(tables, state, frame, own, next)
-}
-
-fn push_out(
-    tables: &Tables,
-    state: &mut State,
-    mut frame: Frame,
-    own: u16,
-    next: u16,
-) -> Result<(), NoMemory>
-    ensures { OnOk result (state.new ≡ pushes_out tables.now.class state.old frame own next) }
-{
-    frame.operands.push(Value::Ref(OUT))?;
-    go_on(tables, state, frame, own, next)
+    match frame.operands.peek(0) {
+        Some(Value::Int(n)) => Flow::Returns(Some(Datum::Int(n))),
+        _ => Flow::Breaks(true),
+    }
 }
 
 /// The text of a number, and the end of the line.
@@ -163,65 +83,49 @@ fn write_line(alloc: Global, output: &mut Seq<u8>, n: i32) -> Result<(), NoMemor
     Ok(())
 }
 
-fn println(
-    alloc: Global,
-    tables: &Tables,
-    state: &mut State,
-    mut frame: Frame,
-    own: u16,
-    next: u16,
-) -> Result<(), NoMemory>
-    ensures { OnOk result (state.new ≡ prints tables.now.class state.old frame frame.operands own next) }
+/// println(I)V: the receiver below the argument must be a PrintStream.
+fn println(alloc: Global, output: &mut Seq<u8>, frame: &mut Frame) -> Result<Flow, NoMemory>
+    ensures outcome { (c : ClassFile) → IfOk result (λ flow. outcome_of c flow frame.new ≡ asks_println frame.old.locals frame.old.operands) }
+    ensures written { OnOk result (output.new ≡ output.old ++ printed frame.old.operands) }
+    ensures kept { IfOk result (λ flow. IsKept flow frame.old frame.new) }
 {
     match frame.operands.peek(1) {
         Some(Value::Ref(OUT | ERR)) => {}
-        _ => return end_unverifiable(state, frame, own),
+        _ => return Ok(Flow::Breaks(false)),
     }
     let Some((_, n)) = take_print(&mut frame.operands) else {
-        return end_unverifiable(state, frame, own);
+        return Ok(Flow::Breaks(false));
     };
-    write_line(alloc, &mut state.output, n)?;
-    go_on(tables, state, frame, own, next)
+    write_line(alloc, output, n)?;
+    Ok(Flow::GoesOn)
 }
 
-fn return_int(
-    tables: &Tables,
-    state: &mut State,
-    mut frame: Frame,
-    own: u16,
-) -> Result<(), NoMemory>
-    ensures { OnOk result (state.new ≡ returns_int tables.now.class (installed_lines tables.now) state.old frame frame.operands own) }
-{
-    let Some(n) = take_int(&mut frame.operands) else {
-        end_at_return(state, &frame, own);
-        return Ok(());
-    };
-    return_to_caller(tables, state, Some(Value::Int(n)))
-}
-
-/// Does one instruction.
+/// Does one instruction within its frame.
 pub fn execute(
     alloc: Global,
-    tables: &Tables,
-    state: &mut State,
-    frame: Frame,
-    line: Line,
-) -> Result<(), NoMemory>
-    ensures { OnOk result (state.new ≡ rule tables.now.class (installed_lines tables.now) state.old frame line.operation line.own line.next) }
+    output: &mut Seq<u8>,
+    frame: &mut Frame,
+    operation: Resolved,
+) -> Result<Flow, NoMemory>
+    ensures outcome { (c : ClassFile) → IfOk result (λ flow. outcome_of c flow frame.new ≡ asks c operation frame.old.locals frame.old.operands) }
+    ensures written { OnOk result (output.new ≡ output.old ++ writes operation frame.old.operands) }
+    ensures kept { IfOk result (λ flow. IsKept flow frame.old frame.new) }
 {
-    let own = line.own;
-    let next = line.next;
-    match line.operation {
-        Operation::Nothing => go_on(tables, state, frame, own, next),
-        Operation::Constant(n) => push_constant(tables, state, frame, n, own, next),
-        Operation::Load(slot) => push_local(tables, state, frame, slot, own, next),
-        Operation::Add => add(tables, state, frame, own, next),
-        Operation::Subtract => subtract(tables, state, frame, own, next),
-        Operation::Multiply => multiply(tables, state, frame, own, next),
-        Operation::ReturnInt => return_int(tables, state, frame, own),
-        Operation::Return => return_to_caller(tables, state, None),
-        Operation::Out => push_out(tables, state, frame, own, next),
-        Operation::Println => println(alloc, tables, state, frame, own, next),
-        Operation::Call(method) => call(alloc, tables, state, frame, method, own),
+    match operation {
+        Resolved::Nop => Ok(Flow::GoesOn),
+        Resolved::Constant(n) => {
+            push(frame, Value::Int(n))?;
+            Ok(Flow::GoesOn)
+        }
+        Resolved::Iload(slot) => load_int(frame, slot),
+        Resolved::Binary(op) => do_binary(frame, op),
+        Resolved::Ireturn => Ok(return_int(frame)),
+        Resolved::Return => Ok(Flow::Returns(None)),
+        Resolved::Out => {
+            push(frame, Value::Ref(OUT))?;
+            Ok(Flow::GoesOn)
+        }
+        Resolved::Println => println(alloc, output, frame),
+        Resolved::Invokestatic(method) => Ok(Flow::Invokes(method)),
     }
 }

@@ -1,109 +1,163 @@
 //! One call of `step` over the parts of a machine: what it does to the state, and which probe is passed.
 
-ghost use Rattle.std.specs.Prelude.{◌≡◌, ◌^◌, ◌<◌, false, OnOk, IfOk};
-ghost use Rattle.jvm_model.specs.Run.{blank, start};
-ghost use Rattle.jvm_machine.specs.Attempts.{attempt_placed};
-ghost use Rattle.jvm_machine.specs.Moves.{phase_behind, entered, stepped, begun_move, moved_on, clock_in};
+ghost use Rattle.std.specs.Prelude.{◌≡◌, ◌^◌, ◌<◌, false, List, OnOk, IfOk};
+ghost use Rattle.jvm_model.specs.Data.{Change};
+ghost use Rattle.jvm_model.specs.Run.{before};
+ghost use Rattle.jvm_model.specs.Attempts.{does_line, attempts, closed_state, attempt_placed, start_placed, ready, has_begun};
+ghost use Rattle.jvm_model.specs.Installed.{world_in, line_in};
+ghost use Rattle.jvm_machine.specs.Moves.{told_by, entered, stepped, begun_move, rest_of, moved_on, clock_in};
 
-use crate::invoking::frame_of;
-use crate::passing::{leave_here, pass, pass_entry};
-use crate::phase::Phase;
+use crate::applying::{apply, break_off};
+use crate::invoking::frame_with;
+use crate::passing::{entry_here, leave_here, leave_passed, stand_at};
 use crate::probes::Probe;
-use crate::rules::{end_unverifiable, execute};
+use crate::rules::execute;
 use crate::tables::Tables;
 use heap_objects::Value;
 use jf_bytes::NoMemory;
-use jvm_model::{Ending, State};
+use jvm_model::{Ending, Entry, Frame, Phase, State};
 use std::alloc::Global;
 
 /// The argument array's object.
 const ARGUMENTS: u32 = 5;
 
-/// Where a call of `step` has left the machine: in which phase, and behind which probe, if that has told an event.
+/// Where a call of `step` has left the machine: how many events of the step in hand were told, and the probe that has told
+/// the last one, if one has.
 #[derive(Clone, Copy, Debug, PartialEq, Eq)]
-pub struct Stop {
-    pub phase: Phase,
+pub struct Advance {
+    pub told: u32,
     pub probe: Option<Probe>,
 }
 
-/// The start (5.2): `main` begins with its argument array, if it has a local for it.
-fn begin(alloc: Global, tables: &Tables, state: &mut State, main: u32) -> Result<(), NoMemory>
-    requires { state.old ≡ blank }
-    ensures { OnOk result (state.new ≡ start tables.now.class main) }
+/// The main class is loaded and made ready: it has no initializer, and its superclass is no class of the program.
+fn make_ready(tables: &Tables, state: &mut State) -> Result<(), NoMemory>
+    requires { state.old ≡ before (world_in tables.now) }
+    ensures { OnOk result (state.new ≡ ready tables.now) }
 {
-    if tables.max_locals(main) == 0 {
-        state.ending = Some(Ending::Unverifiable(main, 0));
-        return Ok(());
+    state.shared.loaded.push(0)?;
+    if !state.shared.phases.is_empty() {
+        state.shared.phases.set(0, Phase::Ready);
     }
-    let frame = frame_of(alloc, tables, main, &[Value::Ref(ARGUMENTS)])?;
-    state.frames.push(frame)?;
     Ok(())
 }
 
-/// One attempt of an instruction.
-fn attempt_one(alloc: Global, tables: &Tables, state: &mut State) -> Result<(), NoMemory>
-    ensures { OnOk result (state.new ≡ attempt_placed tables.now state.old) }
+/// The start (5.2, 5.5): `main` begins with its argument array, if it has a local for it.
+fn begin(alloc: Global, tables: &Tables, state: &mut State) -> Result<bool, NoMemory>
+    requires { state.old ≡ before (world_in tables.now) }
+    ensures state { OnOk result (state.new ≡ (start_placed tables.now).after) }
+    ensures begun { IfOk result (λ b. b ≡ has_begun (start_placed tables.now).changes) }
 {
-    let Some(frame) = state.frames.pop() else {
-        return Ok(());
+    let main = tables.main();
+    make_ready(tables, state)?;
+    let Some(frame) = frame_with(alloc, tables, main, &[Value::Ref(ARGUMENTS)])? else {
+        state.ending = Some(Ending::Unverifiable(main, 0));
+        return Ok(false);
     };
-    let Some(line) = tables.line(frame.method, frame.offset) else {
-        let own = frame.offset;
-        return end_unverifiable(state, frame, own);
-    };
-    execute(alloc, tables, state, frame, line)
+    state.begun = true;
+    state.stack.push(Entry::Active(frame))?;
+    Ok(true)
 }
 
-/// Where the machine stands behind an instruction, by the entry probe that was passed.
-fn phase_behind(probe: &Option<Probe>) -> Phase
-    ensures { result ≡ phase_behind probe.now }
-{
-    match probe {
-        Some(_) => Phase::Entered,
-        None => Phase::Resting,
-    }
-}
-
-/// Behind an instruction: a frame that stands at an entry probe passes it.
-fn enter(tables: &Tables, state: &mut State) -> Result<Stop, NoMemory>
-    ensures moved { OnOk result (state.new ≡ (entered tables.now state.old).state) }
-    ensures phase { IfOk result (λ stop. stop.phase ≡ (entered tables.now state.old).phase) }
-    ensures probe { IfOk result (λ stop. stop.probe ≡ (entered tables.now state.old).probe) }
-{
-    let probe = pass_entry(tables, state)?;
-    let phase = phase_behind(&probe);
-    Ok(Stop { phase, probe })
-}
-
-/// The start.
-fn make_start(
+/// What stands at the frame's place is done, where the state is without that frame.
+fn attempt_frame(
     alloc: Global,
     tables: &Tables,
     state: &mut State,
-    main: u32,
-) -> Result<Stop, NoMemory>
-    requires { state.old ≡ blank }
-    ensures moved { OnOk result (state.new ≡ (begun_move tables.now main false state.old).state) }
-    ensures phase { IfOk result (λ stop. stop.phase ≡ (begun_move tables.now main false state.old).phase) }
-    ensures probe { IfOk result (λ stop. stop.probe ≡ (begun_move tables.now main false state.old).probe) }
+    mut frame: Frame,
+) -> Result<bool, NoMemory>
+    ensures state { OnOk result (state.new ≡ (does_line tables.now state.old frame (line_in tables.now frame.version frame.place)).after) }
+    ensures begun { IfOk result (λ b. b ≡ has_begun (does_line tables.now state.old frame (line_in tables.now frame.version frame.place)).changes) }
 {
-    begin(alloc, tables, state, main)?;
-    enter(tables, state)
+    let Some(line) = tables.line(frame.version, frame.place) else {
+        break_off(state, frame, 0)?;
+        return Ok(false);
+    };
+    let flow = execute(alloc, &mut state.output, &mut frame, line.operation)?;
+    apply(alloc, tables, state, frame, line, flow)
+}
+
+/// One attempt of an instruction, up to what follows from it without another instruction.
+fn attempt_top(alloc: Global, tables: &Tables, state: &mut State) -> Result<bool, NoMemory>
+    ensures state { OnOk result (state.new ≡ (attempts tables.now state.old state.old.stack).after) }
+    ensures begun { IfOk result (λ b. b ≡ has_begun (attempts tables.now state.old state.old.stack).changes) }
+{
+    match state.stack.pop() {
+        None => Ok(false),
+        Some(Entry::Initializing(class, part)) => {
+            state.stack.push(Entry::Initializing(class, part))?;
+            Ok(false)
+        }
+        Some(Entry::Active(frame)) => attempt_frame(alloc, tables, state, frame),
+    }
+}
+
+/// Where nothing is left, the run has returned.
+fn close(state: &mut State)
+    ensures { state.new ≡ closed_state state.old }
+{
+    if state.stack.is_empty() && state.ending.is_none() {
+        state.ending = Some(Ending::Returned);
+    }
+}
+
+/// One attempt of an instruction, and what follows from it; the answer is whether an activation began.
+fn attempt_one(alloc: Global, tables: &Tables, state: &mut State) -> Result<bool, NoMemory>
+    ensures state { OnOk result (state.new ≡ (attempt_placed tables.now state.old).after) }
+    ensures begun { IfOk result (λ b. b ≡ has_begun (attempt_placed tables.now state.old).changes) }
+{
+    let begun = attempt_top(alloc, tables, state)?;
+    close(state);
+    Ok(begun)
+}
+
+/// How many events a probe has told.
+fn told_by(probe: &Option<Probe>) -> u32
+    ensures { result ≡ told_by probe.now }
+{
+    match probe {
+        Some(_) => 1,
+        None => 0,
+    }
+}
+
+/// Behind an instruction: a method that began has passed its entry probe.
+fn enter(tables: &Tables, state: &State, begun: bool) -> Advance
+    ensures told { (changes : List Change) → begun ≡ has_begun changes → result.told ≡ (entered tables.now (record { after = state.now; changes = changes })).told }
+    ensures probe { (changes : List Change) → begun ≡ has_begun changes → result.probe ≡ (entered tables.now (record { after = state.now; changes = changes })).probe }
+{
+    let probe = if begun {
+        entry_here(tables, state)
+    } else {
+        None
+    };
+    let told = told_by(&probe);
+    Advance { told, probe }
+}
+
+/// The start.
+fn make_start(alloc: Global, tables: &Tables, state: &mut State) -> Result<Advance, NoMemory>
+    requires { state.old ≡ before (world_in tables.now) }
+    ensures moved { OnOk result (state.new ≡ (begun_move tables.now false state.old).state) }
+    ensures told { IfOk result (λ advance. advance.told ≡ (begun_move tables.now false state.old).told) }
+    ensures probe { IfOk result (λ advance. advance.probe ≡ (begun_move tables.now false state.old).probe) }
+{
+    let begun = begin(alloc, tables, state)?;
+    Ok(enter(tables, state, begun))
 }
 
 /// A step, up to the event that it tells first.
-fn make_step(alloc: Global, tables: &Tables, state: &mut State) -> Result<Stop, NoMemory>
+fn make_step(alloc: Global, tables: &Tables, state: &mut State) -> Result<Advance, NoMemory>
     ensures moved { OnOk result (state.new ≡ (stepped tables.now state.old).state) }
-    ensures phase { IfOk result (λ stop. stop.phase ≡ (stepped tables.now state.old).phase) }
-    ensures probe { IfOk result (λ stop. stop.probe ≡ (stepped tables.now state.old).probe) }
+    ensures told { IfOk result (λ advance. advance.told ≡ (stepped tables.now state.old).told) }
+    ensures probe { IfOk result (λ advance. advance.probe ≡ (stepped tables.now state.old).probe) }
 {
     let Some(probe) = leave_here(tables, state) else {
-        attempt_one(alloc, tables, state)?;
-        return enter(tables, state);
+        let begun = attempt_one(alloc, tables, state)?;
+        return Ok(enter(tables, state, begun));
     };
-    pass(state, &probe)?;
-    Ok(Stop {
-        phase: Phase::Leaving,
+    stand_at(state, probe.next)?;
+    Ok(Advance {
+        told: 1,
         probe: Some(probe),
     })
 }
@@ -113,19 +167,28 @@ fn begin_step(
     alloc: Global,
     tables: &Tables,
     state: &mut State,
-    main: u32,
     started: bool,
-) -> Result<Stop, NoMemory>
-    requires { started ≡ false → state.old ≡ blank }
-    ensures moved { OnOk result (state.new ≡ (begun_move tables.now main started state.old).state) }
-    ensures phase { IfOk result (λ stop. stop.phase ≡ (begun_move tables.now main started state.old).phase) }
-    ensures probe { IfOk result (λ stop. stop.probe ≡ (begun_move tables.now main started state.old).probe) }
+) -> Result<Advance, NoMemory>
+    requires { started ≡ false → state.old ≡ before (world_in tables.now) }
+    ensures moved { OnOk result (state.new ≡ (begun_move tables.now started state.old).state) }
+    ensures told { IfOk result (λ advance. advance.told ≡ (begun_move tables.now started state.old).told) }
+    ensures probe { IfOk result (λ advance. advance.probe ≡ (begun_move tables.now started state.old).probe) }
 {
     if started {
         make_step(alloc, tables, state)
     } else {
-        make_start(alloc, tables, state, main)
+        make_start(alloc, tables, state)
     }
+}
+
+/// Does what is left of the step in hand.
+fn finish_step(alloc: Global, tables: &Tables, state: &mut State) -> Result<(), NoMemory>
+    ensures { OnOk result (state.new ≡ rest_of tables.now state.old) }
+{
+    if leave_passed(tables, state).is_some() {
+        attempt_one(alloc, tables, state)?;
+    }
+    Ok(())
 }
 
 /// Goes on with the step in hand, or begins the next one.
@@ -133,33 +196,31 @@ pub fn move_on(
     alloc: Global,
     tables: &Tables,
     state: &mut State,
-    main: u32,
     started: bool,
-    phase: Phase,
-) -> Result<Stop, NoMemory>
-    requires { started ≡ false → state.old ≡ blank }
-    ensures moved { OnOk result (state.new ≡ (moved_on tables.now main started phase state.old).state) }
-    ensures phase { IfOk result (λ stop. stop.phase ≡ (moved_on tables.now main started phase state.old).phase) }
-    ensures probe { IfOk result (λ stop. stop.probe ≡ (moved_on tables.now main started phase state.old).probe) }
+    told: u32,
+) -> Result<Advance, NoMemory>
+    requires { started ≡ false → state.old ≡ before (world_in tables.now) }
+    ensures moved { OnOk result (state.new ≡ (moved_on tables.now started told state.old).state) }
+    ensures told { IfOk result (λ advance. advance.told ≡ (moved_on tables.now started told state.old).told) }
+    ensures probe { IfOk result (λ advance. advance.probe ≡ (moved_on tables.now started told state.old).probe) }
 {
-    match phase {
-        Phase::Resting => return begin_step(alloc, tables, state, main, started),
-        Phase::Leaving => attempt_one(alloc, tables, state)?,
-        Phase::Entered => {}
+    if told == 0 {
+        return begin_step(alloc, tables, state, started);
     }
-    Ok(Stop {
-        phase: Phase::Resting,
+    finish_step(alloc, tables, state)?;
+    Ok(Advance {
+        told: 0,
         probe: None,
     })
 }
 
 /// The clock rises where a step after the start begins.
-pub fn clock_in(phase: Phase, started: bool, clock: u64) -> u64
+pub fn clock_in(told: u32, started: bool, clock: u64) -> u64
     requires { clock < 2 ^ 63 }
-    ensures { result ≡ clock_in phase started clock }
+    ensures { result ≡ clock_in told started clock }
 {
-    match phase {
-        Phase::Resting => { if started { clock + 1 } else { 0 } }
-        Phase::Leaving | Phase::Entered => clock,
+    if told != 0 {
+        return clock;
     }
+    if started { clock + 1 } else { 0 }
 }

@@ -1,12 +1,14 @@
 //! A class with its methods and their versions prepared: what stands at each place is looked up once, and found by its
 //! place from then on.
 
-ghost use Rattle.std.specs.Prelude.{◌≡◌, length, map, None, IfOk, OnOk, OnErr};
+ghost use Rattle.std.specs.Prelude.{◌≡◌, None, IfOk, OnOk, OnErr};
 ghost use Rattle.std.specs.Option.{option_copied};
-ghost use Rattle.jvm_model.specs.declared.event.Mark.TheVariants.{Off};
-ghost use Rattle.jvm_model.specs.Rules.{max_stack_of, max_locals_of};
+ghost use Rattle.jvm_model.specs.Agreement.{first_place, is_entry_kind, is_leave, is_leave_kind};
+ghost use Rattle.jvm_model.specs.Programs.{max_stack_of, max_locals_of};
+ghost use Rattle.jvm_model.specs.SmallClass.{IsSmallClass};
+ghost use Rattle.jvm_model.specs.StandsFor.{probe_at, version_line};
 ghost use Rattle.jvm_model.specs.Methods.{method_params};
-ghost use Rattle.jvm_machine.specs.Installed.{all_originals, installed_lines};
+ghost use Rattle.jvm_model.specs.Installed.{all_originals, world_in, line_in};
 ghost use Rattle.jvm_machine.specs.Probes.{placed_probe_at};
 ghost use Rattle.jvm_machine.specs.TableEntries.{FitsTables, FitsVersions};
 
@@ -17,9 +19,32 @@ use crate::versions::prepare_versions;
 use code_model::Homes;
 use const_pool::{ClassFile, Kind};
 use jf_bytes::{NoMemory, Seq};
-use jvm_model::{Line, Mark};
+use jvm_model::{EventKind, Line, Mark};
 use std::alloc::Global;
 use std::marker::Model;
+
+/// How many bytes a probe has.
+const PROBE: usize = 6;
+
+/// Whether a probe of this kind stands at a method's entry.
+fn is_entry_kind(kind: EventKind) -> bool
+    ensures { result ≡ is_entry_kind kind }
+{
+    match kind {
+        EventKind::Root | EventKind::Enter => true,
+        EventKind::Leave | EventKind::Unwind => false,
+    }
+}
+
+/// Whether it stands before a return.
+fn is_leave_kind(kind: EventKind) -> bool
+    ensures { result ≡ is_leave_kind kind }
+{
+    match kind {
+        EventKind::Leave => true,
+        EventKind::Root | EventKind::Enter | EventKind::Unwind => false,
+    }
+}
 
 /// What the machine keeps of a method: what it takes, and its limits.
 #[derive(Debug, Drop)]
@@ -31,7 +56,7 @@ pub struct Method {
 
 /// What it keeps of a method's version: the line and the probe at each place where one stands.
 #[derive(Debug, Drop)]
-pub struct Version {
+pub struct PreparedVersion {
     pub lines: Seq<Option<Line>>,
     pub probes: Seq<Option<Probe>>,
 }
@@ -40,31 +65,39 @@ pub struct Version {
 #[derive(Debug, Drop)]
 pub struct Tables {
     class: ClassFile,
+    main: u32,
+    input: Seq<u8>,
     methods: Seq<Method>,
     marks: Seq<Mark>,
     /// None where it is the class itself.
     image: Option<ClassFile>,
     homes: Seq<Option<Homes>>,
-    versions: Seq<Version>,
+    versions: Seq<PreparedVersion>,
 }
 
 impl Model for Tables {
     ghost use Rattle.std.specs.Prelude.{unwrap_or};
-    ghost use Rattle.jvm_machine.specs.Installed.{Installed};
+    ghost use Rattle.jvm_model.specs.Installed.{Installed};
     ghost use Rattle.jvm_machine.specs.Prepared.{ArePrepared, AreVersions};
 
     ghost Value = { Installed };
 
-    ghost view = { λ t. record { class = t.class; marks = t.marks; image = unwrap_or t.image t.class; homes = t.homes } };
+    ghost view = { λ t. record { class = t.class; main = t.main; input = t.input; marks = t.marks; image = unwrap_or t.image t.class; homes = t.homes } };
 
     ghost invariant = { λ t. ArePrepared t.class t.methods × AreVersions (unwrap_or t.image t.class) t.homes t.versions };
 }
 
 impl Tables {
     /// Prepares a class, each version of which is the original.
-    pub fn new(alloc: Global, class: ClassFile) -> Result<Tables, NoMemory>
-        requires { FitsTables class }
-        ensures { IfOk result (λ tables. tables ≡ all_originals class) }
+    pub fn new(
+        alloc: Global,
+        class: ClassFile,
+        main: u32,
+        input: Seq<u8>,
+    ) -> Result<Tables, NoMemory>
+        requires fits { FitsTables class }
+        requires small { IsSmallClass class }
+        ensures { IfOk result (λ tables. tables ≡ all_originals class main input) }
     {
         let methods = prepare_methods(alloc, &class)?;
         let marks = no_marks(alloc, class.methods.as_slice())?;
@@ -72,6 +105,8 @@ impl Tables {
         let versions = prepare_versions(alloc, &class, homes.as_slice())?;
         Ok(Tables {
             class,
+            main,
+            input,
             methods,
             marks,
             image: None,
@@ -108,12 +143,51 @@ impl Tables {
         &self.class
     }
 
-    /// The line at a place of a method's version, by two look-ups.
-    pub fn line(&self, method: u32, place: u16) -> Option<Line>
-        ensures { result ≡ installed_lines self.now method place }
+    /// The number of the main method.
+    pub fn main(&self) -> u32
+        ensures { result ≡ self.now.main }
+    {
+        self.main
+    }
+
+    /// What stands at a place of a method's version, by two look-ups.
+    fn line_at(&self, method: u32, place: usize) -> Option<Line>
+        ensures { result ≡ version_line self.now.image self.now.homes method place }
     {
         let version = self.versions.get(method as usize)?;
-        version.lines.at(place as usize)?
+        version.lines.at(place)?
+    }
+
+    /// Whether a leave probe stands at a place of a method's version.
+    fn leaves(&self, method: u32, place: u16) -> bool
+        ensures { result ≡ is_leave (probe_at self.now.image method place) }
+    {
+        match self.probe(method, place) {
+            Some(probe) => is_leave_kind(probe.kind),
+            None => false,
+        }
+    }
+
+    /// The line that goes with a place of a method's version: behind the leave probe, if one stands there.
+    pub fn line(&self, method: u32, place: u16) -> Option<Line>
+        ensures { result ≡ line_in self.now method place }
+    {
+        if self.leaves(method, place) {
+            self.line_at(method, place as usize + PROBE)
+        } else {
+            self.line_at(method, place as usize)
+        }
+    }
+
+    /// Where a method's frame begins: behind the entry probe, if one stands there.
+    pub fn first(&self, method: u32) -> u16
+        ensures { result ≡ first_place self.now.image method }
+    {
+        let enters = match self.probe(method, 0) {
+            Some(probe) => is_entry_kind(probe.kind),
+            None => false,
+        };
+        if enters { PROBE as u16 } else { 0 }
     }
 
     /// The probe at a place of a method's version, by two look-ups.
@@ -125,7 +199,7 @@ impl Tables {
     }
 
     pub fn max_stack(&self, method: u32) -> u16
-        ensures { result ≡ max_stack_of self.now.class method }
+        ensures { result ≡ max_stack_of (world_in self.now) method }
     {
         match self.methods.get(method as usize) {
             Some(method) => method.max_stack,
@@ -134,7 +208,7 @@ impl Tables {
     }
 
     pub fn max_locals(&self, method: u32) -> u16
-        ensures { result ≡ max_locals_of self.now.class method }
+        ensures { result ≡ max_locals_of (world_in self.now) method }
     {
         match self.methods.get(method as usize) {
             Some(method) => method.max_locals,

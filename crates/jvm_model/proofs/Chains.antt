@@ -5,7 +5,7 @@ use Rattle.std.proofs.lemmas.Bool.{cond-true, or_right, ne_eqb}
 use Rattle.std.proofs.lemmas.List.{map_push, length_push}
 use Rattle.std.proofs.lemmas.Option.{slice_get-map, same_Some, none-some}
 use Rattle.jvm_model.specs.declared.event.Act.{Act}
-use Rattle.const_pool.specs.declared.class.ClassFile.{ClassFile}
+use Rattle.jvm_model.specs.Data.{World}
 use Rattle.jvm_model.specs.Paths.{is_inside, distinct, context_of}
 use Rattle.jvm_model.specs.Activations.{Activation, trace}
 use Rattle.jvm_model.specs.Projection.{is_root, chain_of, chains_after, chains_of, from_root, path_of, paths_of, path_at, paths_made, projection}
@@ -182,6 +182,6 @@ outside-each [] = refl
 outside-each (chain ∷ chains) = ap (λ rest. filter is_inside (map (λ (a : Activation). a.method) rest ∷ map (path_of []) chains)) (from_root-none chain) ∙ outside-each chains
 
 -- Where nothing is ever selected, no activation is profiled, and the projection is empty.
-pub projection-none : (c : ClassFile) (main : ℕ) (input : List ℕ) (n : ℕ) → projection [] c main input n ≡ []
-projection-none c main input n =
-    ap (λ paths. map (context_of (paths_of [] (trace c main input n).activations) (paths_made [] c main input n)) (distinct paths)) (outside-each (chains_of (trace c main input n).activations))
+pub projection-none : (w : World) (n : ℕ) → projection [] w n ≡ []
+projection-none w n =
+    ap (λ paths. map (context_of (paths_of [] (trace w n).activations) (paths_made [] w n)) (distinct paths)) (outside-each (chains_of (trace w n).activations))

@@ -1,24 +1,23 @@
--- A run's output only grows, and a run that has ended stays as it is.
-use Rattle.std.proofs.Common.{◌≡◌, ℕ, zero, suc, ◌≤◌, Bool, true, false, List, [], ◌∷◌, ◌++◌, length, take, Option, Some, None, is_some, ℤ, nat_le, if◌then◌else◌, refl, sym, ap, subst, ◌∙◌, inl, inr, append_assoc, arith}
+-- A run's output only grows, and a run that has ended stays as it is. What an instruction writes is appended, and nothing else
+-- touches the output.
+use Rattle.std.proofs.Common.{◌≡◌, ℕ, zero, suc, ◌≤◌, Bool, true, false, List, [], ◌∷◌, ◌++◌, length, take, Option, Some, None, is_some, nat_le, if◌then◌else◌, refl, sym, ap, subst, ◌∙◌, inl, inr, append_assoc, arith}
 use Rattle.std.specs.List.{slice_get}
-use Rattle.std.specs.Option.{option_map_or}
-use Rattle.std.specs.Int.{w32, int_wrapping_add, int_wrapping_sub, int_wrapping_mul}
-use Rattle.std.proofs.lemmas.Bool.{both_ways, cases_lt, cond-true, false_from_ne_true}
+use Rattle.std.specs.Option.{IfSome, option_map}
+use Rattle.std.proofs.lemmas.Option.{IfSome_then}
+use Rattle.std.proofs.lemmas.Bool.{both_ways, cases_lt, false_from_ne_true}
 use Rattle.std.proofs.lemmas.List.{append-nil, take_at}
-use Rattle.heap_objects.specs.declared.Value.{Value}
-use Rattle.heap_objects.specs.declared.Value.TheVariants.{Int, Ref}
-use Rattle.const_pool.specs.declared.descriptor.Kind.{Kind}
-use Rattle.const_pool.specs.declared.class.ClassFile.{ClassFile}
-use Rattle.jvm_model.specs.declared.operation.Operation.{Operation}
-use Rattle.jvm_model.specs.declared.operation.Operation.TheVariants.{Nothing, Constant, Load, Add, Subtract, Multiply, ReturnInt, Return, Out, Println, Call}
-use Rattle.jvm_model.specs.declared.operation.Line.{Line}
-use Rattle.jvm_model.specs.declared.state.Frame.{Frame}
-use Rattle.jvm_model.specs.declared.state.State.{State}
-use Rattle.jvm_model.specs.Methods.{method_params}
-use Rattle.jvm_model.specs.Lines.{line_at}
-use Rattle.jvm_model.specs.Rules.{goes_on, max_stack_of, max_locals_of, depth, pushes_local, arithmetic, is_print_stream, line_text, written, prints, arguments, begins, own_of, next_of, Lines, with_result, returns, returns_int, rule, unverifiable}
-use Rattle.jvm_model.specs.Run.{does, attempts, attempt, step_of, run, run-suc, output_of, ending_of}
+use Rattle.heap_objects.specs.declared.Value.TheVariants.{Ref, Addr}
+use Rattle.jvm_model.specs.Data.{Datum, Locals, Operands, Frame, Entry, Active, Initializing, Constants, Superclass, Initializer, Finish, Phase, Fresh, Erroneous, Ending, State, Turn, Instruction, Text, Outcome, GoesOn, Subroutine, Invokes, Returns, Throws, Raises, Initializes, Exits, Breaks, Done, World}
+use Rattle.jvm_model.specs.Values.{as_value, depth, with_value}
+use Rattle.jvm_model.specs.Programs.{super_of, initializer_of, max_stack_of}
+use Rattle.jvm_model.specs.SharedState.{phase_of, class_of}
+use Rattle.jvm_model.specs.Rules.{does, loads}
+use Rattle.jvm_model.specs.Applies.{still, goes, place_of, enters_subroutine, has_room, resumes, gives_back, applies}
+use Rattle.jvm_model.specs.Moves.{handler_for, own_at, caught, after_super, with_super, runs_initializer, argument_array, main_or_end, moves, move, settled}
+use Rattle.jvm_model.specs.Run.{attempt, starts, with_loaded, steps_by, steps_at, steps_on, step, turn_in, turn_in-suc}
 use Rattle.jvm_model.specs.Growth.{Extends}
+use Rattle.jvm_model.proofs.Settles.{settled-keeps}
+use Rattle.jvm_model.proofs.Attempts.{again-by, with_loaded-shared, loaded-after}
 
 -- ---- growth
 
@@ -34,76 +33,116 @@ Extends-trans {old} {mid} {new} a b = record {
   longer = b.longer ∙ (ap (λ (l : List ℕ). l ++ b.more) a.longer ∙ append_assoc old a.more b.more);
 }
 
--- where a test decides, both ways grow
-chosen-grows : (old : List ℕ) (test : Bool) (x y : State) → Extends old x.output → Extends old y.output → Extends old (if test then x else y).output
-chosen-grows old true x y first second = first
-chosen-grows old false x y first second = second
+-- where a test decides, both ways leave the output
+chosen-keeps : (kept : List ℕ) (test : Bool) (x y : State) → x.output ≡ kept → y.output ≡ kept → (if test then x else y).output ≡ kept
+chosen-keeps kept true x y p q = p
+chosen-keeps kept false x y p q = q
 
--- ---- each rule leaves the output, or appends to it
+chosen_turn-keeps : (kept : List ℕ) (test : Bool) (x y : Turn) → x.after.output ≡ kept → y.after.output ≡ kept → (if test then x else y).after.output ≡ kept
+chosen_turn-keeps kept true x y p q = p
+chosen_turn-keeps kept false x y p q = q
 
-pub goes_on-grows : (c : ClassFile) (s : State) (f : Frame) (operands : List Value) (own next : ℕ) → Extends s.output (goes_on c s f operands own next).output
-goes_on-grows c s f operands own next = chosen-grows s.output (nat_le (depth operands) (max_stack_of c f.method)) _ _ (Extends-same s.output) (Extends-same s.output)
+-- ---- outcomes leave the output
 
-pub pushes_local-grows : (c : ClassFile) (s : State) (f : Frame) (found : Option (Option Value)) (own next : ℕ) → Extends s.output (pushes_local c s f found own next).output
-pushes_local-grows c s f (Some (Some (Int n))) own next = goes_on-grows c s f (Int n ∷ f.operands) own next
-pushes_local-grows c s f _ own next = Extends-same s.output
+goes-keeps : (w : World) (s : State) (f : Frame) (own : ℕ) (l : Locals) (o : Operands) (place : Option ℕ) → (goes w s f own l o place).output ≡ s.output
+goes-keeps w s f own l o None = refl
+goes-keeps w s f own l o (Some place) = chosen-keeps s.output (nat_le (depth o) (max_stack_of w f.method)) _ _ refl refl
 
-pub arithmetic-grows : (op : ℤ → ℤ → ℤ) (c : ClassFile) (s : State) (f : Frame) (operands : List Value) (own next : ℕ) → Extends s.output (arithmetic op c s f operands own next).output
-arithmetic-grows op c s f (Int b ∷ Int a ∷ below) own next = goes_on-grows c s f (Int (op a b) ∷ below) own next
-arithmetic-grows op c s f _ own next = Extends-same s.output
+enters-keeps : (w : World) (s : State) (f : Frame) (i : Instruction) (next : Option ℕ) → (enters_subroutine w s f i next).output ≡ s.output
+enters-keeps w s f i None = refl
+enters-keeps w s f i (Some next) = goes-keeps w s f i.own f.locals (Addr next ∷ f.operands) (slice_get i.targets 0)
 
-pub prints-grows : (c : ClassFile) (s : State) (f : Frame) (operands : List Value) (own next : ℕ) → Extends s.output (prints c s f operands own next).output
-prints-grows c s f (Int n ∷ Ref r ∷ below) own next =
-    let printed = Extends-trans (Extends-appended s.output (line_text n)) (goes_on-grows c (written s (line_text n)) f below own next) in
-    chosen-grows s.output (is_print_stream r) _ _ printed (Extends-same s.output)
-prints-grows c s f _ own next = Extends-same s.output
+resumes-keeps : (w : World) (s : State) (f : Frame) (d : Option Datum) (found : Option Instruction) → (resumes w s f d found).output ≡ s.output
+resumes-keeps w s f d None = refl
+resumes-keeps w s f d (Some i) = goes-keeps w s f i.own f.locals (with_value (option_map as_value d) f.operands) i.next
 
-pub begins-grows : (c : ClassFile) (s : State) (f : Frame) (method : ℕ) (params : List Kind) (args : Option (List Value)) (own : ℕ) → Extends s.output (begins c s f method params args own).output
-begins-grows c s f method params None own = Extends-same s.output
-begins-grows c s f method params (Some args) own = chosen-grows s.output (nat_le (length args) (max_locals_of c method)) _ _ (Extends-same s.output) (Extends-same s.output)
+gives_back-keeps : (w : World) (t : Text) (s : State) (d : Option Datum) (stack : List Entry) → (gives_back w t s d stack).output ≡ s.output
+gives_back-keeps w t s d [] = refl
+gives_back-keeps w t s d (Initializing c part ∷ below) = refl
+gives_back-keeps w t s d (Active f ∷ below) = resumes-keeps w (record s { stack = below }) f d (t.at f.version f.place)
 
--- a call of the method with these parameters, if there is one
-calls_with-grows : (c : ClassFile) (s : State) (f : Frame) (method : ℕ) (found : Option (List Kind)) (own : ℕ)
-    → Extends s.output (option_map_or (λ params. begins c s f method params (arguments params f.operands) own) found (unverifiable s f own)).output
-calls_with-grows c s f method None own = Extends-same s.output
-calls_with-grows c s f method (Some params) own = begins-grows c s f method params (arguments params f.operands) own
+pub applies-keeps : (w : World) (t : Text) (i : Instruction) (outcome : Outcome) (s : State) (f : Frame) → (applies w t i outcome s f).after.output ≡ s.output
+applies-keeps w t i (GoesOn l o to) s f = goes-keeps w s f i.own l o (place_of i to)
+applies-keeps w t i Subroutine s f = enters-keeps w s f i i.next
+applies-keeps w t i (Invokes m args below) s f = chosen_turn-keeps s.output (has_room w m args) _ _ refl refl
+applies-keeps w t i (Returns d) s f = gives_back-keeps w t s d s.stack
+applies-keeps w t i (Throws r) s f = refl
+applies-keeps w t i (Raises c) s f = refl
+applies-keeps w t i (Initializes c) s f = refl
+applies-keeps w t i (Exits n) s f = refl
+applies-keeps w t i (Breaks true) s f = refl
+applies-keeps w t i (Breaks false) s f = refl
 
-pub returns-grows : (c : ClassFile) (lines : Lines) (s : State) (result : Option Value) (frames : List Frame) → Extends s.output (returns c lines s result frames).output
-returns-grows c lines s result [] = Extends-same s.output
-returns-grows c lines s result (caller ∷ below) = goes_on-grows c (record s { frames = below }) caller (with_result result caller.operands) (own_of lines caller) (next_of lines caller)
+-- ---- moves leave the output
 
-pub returns_int-grows : (c : ClassFile) (lines : Lines) (s : State) (f : Frame) (operands : List Value) (own : ℕ) → Extends s.output (returns_int c lines s f operands own).output
-returns_int-grows c lines s f (Int n ∷ below) own = returns-grows c lines s (Some (Int n)) s.frames
-returns_int-grows c lines s f _ own = Extends-same s.output
+caught-keeps : (w : World) (t : Text) (s : State) (r : ℕ) (f : Frame) (h : Option ℕ) → (caught w t s r f h).after.output ≡ s.output
+caught-keeps w t s r f None = refl
+caught-keeps w t s r f (Some target) = goes-keeps w (record s { thrown = None }) f (own_at t f) f.locals (Ref r ∷ []) (Some target)
 
-pub rule-grows : (c : ClassFile) (lines : Lines) (s : State) (f : Frame) (operation : Operation) (own next : ℕ) → Extends s.output (rule c lines s f operation own next).output
-rule-grows c lines s f Nothing own next = goes_on-grows c s f f.operands own next
-rule-grows c lines s f (Constant n) own next = goes_on-grows c s f (Int n ∷ f.operands) own next
-rule-grows c lines s f (Load slot) own next = pushes_local-grows c s f (slice_get f.locals slot) own next
-rule-grows c lines s f Add own next = arithmetic-grows (int_wrapping_add w32) c s f f.operands own next
-rule-grows c lines s f Subtract own next = arithmetic-grows (int_wrapping_sub w32) c s f f.operands own next
-rule-grows c lines s f Multiply own next = arithmetic-grows (int_wrapping_mul w32) c s f f.operands own next
-rule-grows c lines s f ReturnInt own next = returns_int-grows c lines s f f.operands own
-rule-grows c lines s f Return own next = returns-grows c lines s None s.frames
-rule-grows c lines s f Out own next = goes_on-grows c s f (Ref 3 ∷ f.operands) own next
-rule-grows c lines s f Println own next = prints-grows c s f f.operands own next
-rule-grows c lines s f (Call method) own next = calls_with-grows c s f method (method_params c method) own
+super-keeps : (w : World) (s : State) (c d : ℕ) (p : Option Phase) → (after_super w s c d p).output ≡ s.output
+super-keeps w s c d (Some Erroneous) = refl
+super-keeps w s c d (Some Fresh) = refl
+super-keeps w s c d _ = refl
 
--- ---- each step
+with_super-keeps : (w : World) (s : State) (c : ℕ) (d : Option ℕ) → (with_super w s c d).output ≡ s.output
+with_super-keeps w s c None = refl
+with_super-keeps w s c (Some d) = super-keeps w s c d (phase_of s.shared d)
 
-does-grows : (c : ClassFile) (s : State) (f : Frame) (found : Option Line) → Extends s.output (does c s f found).output
-does-grows c s f (Some line) = rule-grows c (line_at c) s f line.operation line.own line.next
-does-grows c s f None = Extends-same s.output
+runs-keeps : (w : World) (t : Text) (s : State) (c : ℕ) (m : Option ℕ) → (runs_initializer w t s c m).after.output ≡ s.output
+runs-keeps w t s c None = refl
+runs-keeps w t s c (Some m) = refl
 
-attempts-grows : (c : ClassFile) (s : State) (frames : List Frame) → Extends s.output (attempts c s frames).output
-attempts-grows c s [] = Extends-same s.output
-attempts-grows c s (f ∷ below) = does-grows c (record s { frames = below }) f (line_at c f.method f.offset)
+main-keeps : (w : World) (t : Text) (s : State) (begun : Bool) → (main_or_end w t s begun).after.output ≡ s.output
+main-keeps w t s true = refl
+main-keeps w t s false = chosen_turn-keeps s.output (has_room w w.program.main argument_array) _ _ refl refl
 
-pub attempt-grows : (c : ClassFile) (s : State) → Extends s.output (attempt c s).output
-attempt-grows c s = attempts-grows c s s.frames
+moves-keep : (w : World) (t : Text) (s : State) (ending : Option Ending) (thrown : Option ℕ) (stack : List Entry) → IfSome (moves w t s ending thrown stack) (λ next. next.after.output ≡ s.output)
+moves-keep w t s (Some e) thrown stack = tt
+moves-keep w t s None (Some r) [] = refl
+moves-keep w t s None (Some r) (Active f ∷ below) = caught-keeps w t (record s { stack = below }) r f (handler_for w (class_of s.shared r) f.place (t.handlers f.version))
+moves-keep w t s None (Some r) (Initializing c part ∷ below) = refl
+moves-keep w t s None None [] = main-keeps w t s s.begun
+moves-keep w t s None None (Active f ∷ below) = tt
+moves-keep w t s None None (Initializing c Constants ∷ below) = refl
+moves-keep w t s None None (Initializing c Superclass ∷ below) = with_super-keeps w (record s { stack = below }) c (super_of w.program c)
+moves-keep w t s None None (Initializing c Initializer ∷ below) = runs-keeps w t (record s { stack = below }) c (initializer_of w.program c)
+moves-keep w t s None None (Initializing c Finish ∷ below) = refl
 
-pub step_of-grows : (c : ClassFile) (s : State) → Extends s.output (step_of c s).output
-step_of-grows c s = chosen-grows s.output (is_some s.ending) s (attempt c s) (Extends-same s.output) (attempt-grows c s)
+pub settled-output : (w : World) (t : Text) (kept : List ℕ) (a : Turn) → a.after.output ≡ kept → (settled w t a).after.output ≡ kept
+settled-output w t kept a e = settled-keeps w t (λ b. b.after.output ≡ kept)
+    (λ b p. IfSome_then (move w t b.after) {P = λ next. next.after.output ≡ b.after.output} {Q = λ next. next.after.output ≡ kept}
+    (moves-keep w t b.after b.after.ending b.after.thrown b.after.stack) (λ next q. q ∙ p)) a e
+
+-- ---- a step
+
+attempt-grows : (w : World) (t : Text) (i : Instruction) (s : State) (f : Frame) → Extends s.output (attempt w t i s f).after.output
+attempt-grows w t i s f =
+    let d : Done = does w i.operation s.shared f.locals f.operands in
+    let after : State = record s { shared = d.shared; output = s.output ++ d.wrote } in
+    record { more = d.wrote; longer = settled-output w t after.output (applies w t i d.outcome after f) (applies-keeps w t i d.outcome after f) }
+
+by-grows : (w : World) (t : Text) (i : Instruction) (s : State) (f : Frame) → Extends s.output (steps_by w t i s f (does w i.operation s.shared f.locals f.operands)).after.output
+by-grows w t i s f =
+    let a = attempt w t i s f in
+    let first = attempt-grows w t i s f in
+    again-by (λ b. Extends s.output b.after.output) w t i s f (starts (does w i.operation s.shared f.locals f.operands).outcome) a first
+    (λ quiet on. Extends-trans first (attempt-grows w t i (record a.after { stack = s.stack }) f))
+
+at-grows : (w : World) (t : Text) (s : State) (f : Frame) (found : Option Instruction) → Extends s.output (steps_at w t s f found).after.output
+at-grows w t s f None = Extends-same s.output
+at-grows w t s f (Some i) =
+    let classes = loads w i.operation s.shared f.operands in
+    let ready = with_loaded classes s in
+    let turn = steps_by w t i ready f (does w i.operation ready.shared f.locals f.operands) in
+    let same : ready.output ≡ s.output = ap (λ (x : State). x.output) (with_loaded-shared classes s) in
+    subst (λ (x : State). Extends s.output x.output) (sym (loaded-after classes turn)) (subst (λ old. Extends old turn.after.output) same (by-grows w t i ready f))
+
+on-grows : (w : World) (t : Text) (s : State) (ending : Option Ending) (stack : List Entry) → Extends s.output (steps_on w t s ending stack).after.output
+on-grows w t s None (Active f ∷ below) = at-grows w t (record s { stack = below }) f (t.at f.version f.place)
+on-grows w t s _ _ = Extends-same s.output
+
+pub step-grows : (w : World) (t : Text) (s : State) → Extends s.output (step w t s).after.output
+step-grows w t s = on-grows w t s s.ending s.stack
 
 -- ---- the run
 
@@ -115,26 +154,38 @@ from_on P n here more (suc m) le = elim (cases_lt m n) as (λ _. P (suc m)) [
   | inr before ↦ more m (from_on P n here more m before)
 ]
 
-pub run-grows : (c : ClassFile) (main : ℕ) (input : List ℕ) (n m : ℕ) → n ≤ m → Extends (output_of c main input n) (output_of c main input m)
-run-grows c main input n m le = from_on (λ k. Extends (output_of c main input n) (output_of c main input k)) n (Extends-same (output_of c main input n))
-    (λ k so_far. subst (λ (s : State). Extends (output_of c main input n) s.output) (sym (run-suc c main input k))
-    (Extends-trans so_far (step_of-grows c (run c main input k)))) m le
+-- what is written stays, and more comes behind it
+pub run-grows : (w : World) (t : Text) (m n : ℕ) → m ≤ n → Extends (turn_in w t m).after.output (turn_in w t n).after.output
+run-grows w t m n le = from_on (λ k. Extends (turn_in w t m).after.output (turn_in w t k).after.output) m (Extends-same (turn_in w t m).after.output)
+    (λ k so_far. subst (λ (x : Turn). Extends (turn_in w t m).after.output x.after.output) (sym (turn_in-suc w t k))
+    (Extends-trans so_far (step-grows w t (turn_in w t k).after))) n le
 
 -- what was written first stays in front
-pub output-is-front : (c : ClassFile) (main : ℕ) (input : List ℕ) (n m : ℕ) → n ≤ m → take (length (output_of c main input n)) (output_of c main input m) ≡ output_of c main input n
-output-is-front c main input n m le =
-    let grown = run-grows c main input n m le in
-    ap (take (length (output_of c main input n))) grown.longer ∙ take_at (output_of c main input n) grown.more (length (output_of c main input n)) refl
+pub output-is-front : (w : World) (t : Text) (m n : ℕ) → m ≤ n → take (length (turn_in w t m).after.output) (turn_in w t n).after.output ≡ (turn_in w t m).after.output
+output-is-front w t m n le =
+    let grown = run-grows w t m n le in
+    ap (take (length (turn_in w t m).after.output)) grown.longer ∙ take_at (turn_in w t m).after.output grown.more (length (turn_in w t m).after.output) refl
 
 -- ---- the end
 
-step_of-ended : (c : ClassFile) (s : State) → is_some s.ending ≡ true → step_of c s ≡ s
-step_of-ended c s ended = cond-true (is_some s.ending) s (attempt c s) ended
+on-ended : (w : World) (t : Text) (s : State) (ending : Option Ending) → is_some ending ≡ true → steps_on w t s ending s.stack ≡ still s
+on-ended w t s (Some e) ended = refl
+on-ended w t s None ended = absurd (let f : false ≡ true = ended in cc)
 
-pub run-stays : (c : ClassFile) (main : ℕ) (input : List ℕ) (n m : ℕ) → n ≤ m → is_some (ending_of c main input n) ≡ true → run c main input m ≡ run c main input n
-run-stays c main input n m le ended = from_on (λ k. run c main input k ≡ run c main input n) n refl
-    (λ k so_far. run-suc c main input k ∙ (ap (step_of c) so_far ∙ step_of-ended c (run c main input n) ended)) m le
+-- a step of a run that has ended does nothing
+pub step-ended : (w : World) (t : Text) (s : State) → is_some s.ending ≡ true → step w t s ≡ still s
+step-ended w t s ended = on-ended w t s s.ending ended
 
-pub ending-earlier : (c : ClassFile) (main : ℕ) (input : List ℕ) (n m : ℕ) → n ≤ m → is_some (ending_of c main input m) ≡ false → is_some (ending_of c main input n) ≡ false
-ending-earlier c main input n m le on = false_from_ne_true (is_some (ending_of c main input n))
-    (λ ended. both_ways (is_some (ending_of c main input m)) on (ap (λ (s : State). is_some s.ending) (run-stays c main input n m le ended) ∙ ended))
+pub run-stays : (w : World) (t : Text) (m n : ℕ) → m ≤ n → is_some (turn_in w t m).after.ending ≡ true → (turn_in w t n).after ≡ (turn_in w t m).after
+run-stays w t m n le ended = from_on (λ k. (turn_in w t k).after ≡ (turn_in w t m).after) m refl
+    (λ k so_far. ap (λ (x : Turn). x.after) (turn_in-suc w t k) ∙ (ap (λ s. (step w t s).after) so_far ∙ ap (λ (x : Turn). x.after) (step-ended w t (turn_in w t m).after ended))) n le
+
+-- and tells of no change
+pub run-quiet : (w : World) (t : Text) (m n : ℕ) → m ≤ n → is_some (turn_in w t m).after.ending ≡ true → (turn_in w t (suc n)).changes ≡ []
+run-quiet w t m n le ended =
+    ap (λ (x : Turn). x.changes) (turn_in-suc w t n)
+    ∙ (ap (λ s. (step w t s).changes) (run-stays w t m n le ended) ∙ ap (λ (x : Turn). x.changes) (step-ended w t (turn_in w t m).after ended))
+
+pub ending-earlier : (w : World) (t : Text) (m n : ℕ) → m ≤ n → is_some (turn_in w t n).after.ending ≡ false → is_some (turn_in w t m).after.ending ≡ false
+ending-earlier w t m n le on = false_from_ne_true (is_some (turn_in w t m).after.ending)
+    (λ ended. both_ways (is_some (turn_in w t n).after.ending) on (ap (λ (s : State). is_some s.ending) (run-stays w t m n le ended) ∙ ended))

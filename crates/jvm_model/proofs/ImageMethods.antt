@@ -19,11 +19,13 @@ use Rattle.code_model.specs.declared.instr.Instr.{Instr}
 use Rattle.code_model.specs.declared.laying.Homes.{Homes}
 use Rattle.jvm_model.specs.declared.event.Mark.{Mark}
 use Rattle.jvm_model.specs.declared.event.Mark.TheVariants.{Off, Plain, Root}
-use Rattle.jvm_model.specs.declared.operation.Operation.{Operation}
-use Rattle.jvm_model.specs.declared.operation.Operation.TheVariants.{Call}
+use Rattle.jvm_model.specs.declared.operation.Resolved.{Resolved}
+use Rattle.jvm_model.specs.declared.operation.Resolved.TheVariants as resolved
+use Rattle.jvm_model.specs.Data.{Operation, Within, Getstatic, Putstatic, Invokestatic, Invokevirtual, Athrow}
 use Rattle.jvm_model.specs.Descriptors.{same_text}
 use Rattle.jvm_model.specs.Images.{with_code_at, IsMarkedMember, IsMemberImage, next_number, AreMemberImages, IsRewritten}
-use Rattle.jvm_model.specs.Lines.{out_of, println_of, call_of, pool_operation, operation_with, operation_of}
+use Rattle.jvm_model.specs.Lines.{getstatic_of, invokevirtual_of, pool_operation, operation_with, operation_of}
+use Rattle.jvm_model.specs.Resolved.{own_method, resolved_in}
 use Rattle.jvm_model.specs.Methods.{code_among, code_of, same_text_at, is_member, method_from, method_named}
 use Rattle.jvm_model.specs.SmallClass.{IsSmallMethod, IsSmallClass, is_plain_member, is_free_name, member_of}
 use Rattle.jvm_model.proofs.ImagePools.{named_text-more, named_class-more, named_field-more, named_method-more}
@@ -60,7 +62,7 @@ pub record NthImage (count number : ℕ) (marks : List Mark) (old : Member) (new
   pub housed : slice_get homes k ≡ Some home
   pub image : IsMemberImage count (number + k) mark old new home
 
-abbrev has_code : Member → Type 0
+abbrev pub has_code : Member → Type 0
 has_code m = is_some (code_of m) ≡ true
 
 pub nth-image : (count number : ℕ) (marks : List Mark) (olds news : List Member) (homes : List (Option Homes)) (k : ℕ) (old : Member)
@@ -145,7 +147,7 @@ method_from-kept pool more wanted n count number [] [] [] (h ∷ homes) has are 
 
 -- ---- a small class
 
-each-nth : {A : Type 0} (P : A → Type 0) (xs : List A) → ((k : ℕ) (x : A) → slice_get xs k ≡ Some x → P x) → AllByRecursion P xs
+pub each-nth : {A : Type 0} (P : A → Type 0) (xs : List A) → ((k : ℕ) (x : A) → slice_get xs k ≡ Some x → P x) → AllByRecursion P xs
 each-nth P [] all = tt
 each-nth P (x ∷ xs) all = (all 0 x refl, each-nth P xs (λ k y e. all (suc k) y e))
 
@@ -169,13 +171,17 @@ pub record LooksAlike (c image : ClassFile) : Type 0 where
   pub this : image.this_class ≡ c.this_class
   pub methods : (wanted : NameAndType) → method_named image wanted ≡ method_named c wanted
 
-call_of-kept : (c image : ClassFile) (r : Reference) (o : Operation) → LooksAlike c image → call_of c r ≡ Some o → call_of image r ≡ Some o
-call_of-kept c image r o alike e =
-    option_and_then_some (λ own. cond (same_text r.class own) (option_map Call (method_named c r.member)) None) (named_class c.pool c.this_class) o e
+own_method-kept : (c image : ClassFile) (r : Reference) (k : ℕ) → LooksAlike c image → own_method c r ≡ Some k → own_method image r ≡ Some k
+own_method-kept c image r k alike e =
+    option_and_then_some (λ own. cond (same_text r.class own) (method_named c r.member) None) (named_class c.pool c.this_class) k e
     (λ own is rest.
-    ap (option_and_then (λ own. cond (same_text r.class own) (option_map Call (method_named image r.member)) None))
+    ap (option_and_then (λ own. cond (same_text r.class own) (method_named image r.member) None))
     (ap (named_class image.pool) alike.this ∙ (ap (λ p. named_class p c.this_class) alike.pool ∙ named_class-more c.pool alike.more c.this_class own is))
-    ∙ (ap (λ m. cond (same_text r.class own) (option_map Call m) None) (alike.methods r.member) ∙ rest))
+    ∙ (ap (λ m. cond (same_text r.class own) m None) (alike.methods r.member) ∙ rest))
+
+map-kept : {A B : Type 0} (f : A → B) (old new : Option A) (o : B) → ((a : A) → old ≡ Some a → new ≡ Some a) → option_map f old ≡ Some o → option_map f new ≡ Some o
+map-kept f None new o keeps e = absurd (none-some o e)
+map-kept f (Some a) new o keeps e = ap (option_map f) (keeps a refl) ∙ e
 
 chosen-kept : {A : Type 0} (b : Bool) (x y x' y' : Option A) (o : A) → (x ≡ Some o → x' ≡ Some o) → (y ≡ Some o → y' ≡ Some o) → cond b x y ≡ Some o → cond b x' y' ≡ Some o
 chosen-kept true x y x' y' o first second e = first e
@@ -189,9 +195,9 @@ pool_operation-kept : (c image : ClassFile) (op index : ℕ) (o : Operation) →
 pool_operation-kept c image op index o alike e =
     let field : (r : Reference) → named_field c.pool index ≡ Some r → named_field image.pool index ≡ Some r = λ r is. ap (λ p. named_field p index) alike.pool ∙ named_field-more c.pool alike.more index r is in
     let method : (r : Reference) → named_method c.pool index ≡ Some r → named_method image.pool index ≡ Some r = λ r is. ap (λ p. named_method p index) alike.pool ∙ named_method-more c.pool alike.more index r is in
-    chosen-kept (op == 178) _ _ _ _ o (then-kept out_of out_of (named_field c.pool index) (named_field image.pool index) o field (λ r is. is))
-    (chosen-kept (op == 182) _ _ _ _ o (then-kept println_of println_of (named_method c.pool index) (named_method image.pool index) o method (λ r is. is))
-    (chosen-kept (op == 184) _ None _ None o (then-kept (call_of c) (call_of image) (named_method c.pool index) (named_method image.pool index) o method (λ r is. call_of-kept c image r o alike is)) (λ none. none))) e
+    chosen-kept (op == 178) _ _ _ _ o (then-kept getstatic_of getstatic_of (named_field c.pool index) (named_field image.pool index) o field (λ r is. is))
+    (chosen-kept (op == 182) _ _ _ _ o (then-kept invokevirtual_of invokevirtual_of (named_method c.pool index) (named_method image.pool index) o method (λ r is. is))
+    (chosen-kept (op == 184) _ None _ None o (map-kept Invokestatic (named_method c.pool index) (named_method image.pool index) o method) (λ none. none))) e
 
 operation_with-kept : (c image : ClassFile) (op : ℕ) (a : Arg) (o : Operation) → LooksAlike c image → operation_with c op a ≡ Some o → operation_with image op a ≡ Some o
 operation_with-kept c image op arg.Plain o alike e = e
@@ -202,6 +208,15 @@ operation_with-kept c image op _ o alike e = absurd (none-some o e)
 -- an instruction does in the image what it does in the class
 pub operation_of-kept : (c image : ClassFile) (i : Instr) (o : Operation) → LooksAlike c image → operation_of c i ≡ Some o → operation_of image i ≡ Some o
 operation_of-kept c image i o alike e = operation_with-kept c image i.op i.arg o alike e
+
+-- and so with its names looked up
+pub resolved_in-kept : (c image : ClassFile) (o : Operation) (q : Resolved) → LooksAlike c image → resolved_in c o ≡ Some q → resolved_in image o ≡ Some q
+resolved_in-kept c image (Within i) q alike e = e
+resolved_in-kept c image (Getstatic r) q alike e = e
+resolved_in-kept c image (Putstatic r) q alike e = e
+resolved_in-kept c image (Invokestatic r) q alike e = map-kept resolved.Invokestatic (own_method c r) (own_method image r) q (λ k is. own_method-kept c image r k alike is) e
+resolved_in-kept c image (Invokevirtual r) q alike e = e
+resolved_in-kept c image Athrow q alike e = e
 
 -- ---- the rewritten class
 

@@ -1,11 +1,11 @@
 -- Probes in the code of an image: where their bytes stand there is a probe, and where an original instruction stands there
 -- is none.
-use Rattle.std.proofs.Common.{◌≡◌, ℕ, ◌+◌, ◌<◌, ◌^◌, Bool, true, false, List, [], ◌∷◌, ◌++◌, length, slice_get, cond, Option, Some, None, refl, sym, ap, ◌∙◌, append_assoc, length-append, eqb-true, arith}
+use Rattle.std.proofs.Common.{◌≡◌, ℕ, ◌+◌, ◌<◌, ◌^◌, Bool, true, false, List, ◌∷◌, ◌++◌, length, cond, Option, Some, None, refl, sym, ap, ◌∙◌, append_assoc, length-append, eqb-true, arith}
 use Rattle.std.specs.Prelude.{codes, ◌==◌, ◌&&◌, not}
 use Rattle.std.specs.Option.{option_map, option_and_then}
 use Rattle.std.specs.Int.{w16, cast_signed, cast_unsigned}
 use Rattle.std.proofs.lemmas.Int.{of_z-to_z}
-use Rattle.std.proofs.lemmas.Option.{none-some, option_and_then_some}
+use Rattle.std.proofs.lemmas.Option.{none-some, same_Some}
 use Rattle.const_pool.specs.declared.class.ClassFile.{ClassFile}
 use Rattle.std.proofs.lemmas.Slice.Eq.{bytes_eq-Decides}
 use Rattle.const_pool.specs.BuiltIn.{probe_class}
@@ -13,41 +13,44 @@ use Rattle.const_pool.specs.References.{Reference, named_class, named_method}
 use Rattle.code_model.specs.declared.instr.Arg.{Arg}
 use Rattle.code_model.specs.declared.instr.Arg.TheVariants as arg
 use Rattle.code_model.specs.declared.instr.Instr.{Instr}
-use Rattle.code_model.specs.Instructions.{instruction_at, short_at, with_operand}
+use Rattle.op_table.specs.Opcodes.{row_of, groups}
+use Rattle.code_model.specs.Formats.{number}
+use Rattle.code_model.specs.Operands.{signed, instr_with}
+use Rattle.code_model.specs.Instructions.{instruction_at}
 use Rattle.code_model.specs.Layout.{u2}
-use Rattle.code_model.proofs.Again.{slice_get-behind, u2_again}
+use Rattle.code_model.proofs.Again.{made_of, number_again, back16, short_again, instr_of_operand}
+use Rattle.code_model.proofs.Readings.{stands_to}
 use Rattle.jvm_model.specs.declared.event.EventKind.{EventKind}
-use Rattle.jvm_model.specs.StandsFor.{Probe, probe_kind, invoked_kind, invoked_probe, pushed_number, probe_in}
+use Rattle.jvm_model.specs.StandsFor.{ProbeCall, probe_kind, invoked_kind, invoked_probe, pushed_number, probe_in}
 use Rattle.jvm_model.specs.Versions.{probe_bytes}
 use Rattle.jvm_model.specs.Descriptors.{same_text}
-use Rattle.jvm_model.specs.Lines.{is_reference, call_of, pool_operation, operation_with, operation_of}
+use Rattle.jvm_model.specs.Data.{Operation, Invokestatic}
+use Rattle.jvm_model.specs.Lines.{pool_operation, operation_with, operation_of}
+use Rattle.jvm_model.specs.Resolved.{own_method, resolved_in}
+use Rattle.jvm_model.specs.Rules.{is_reference}
 use Rattle.jvm_model.specs.Methods.{method_named}
 use Rattle.jvm_model.specs.SmallClass.{begins_with, is_free_name}
-use Rattle.jvm_model.specs.declared.operation.Operation.{Operation}
-use Rattle.jvm_model.specs.declared.operation.Operation.TheVariants.{Call}
+use Rattle.jvm_model.specs.declared.operation.Resolved.{Resolved}
+use Rattle.jvm_model.specs.declared.operation.Resolved.TheVariants as resolved
 
 -- ---- the bytes of a probe
 
 -- sipush, with its operand behind it
 pub sipush_at : (p ys : List ℕ) (number n : ℕ) → number < 2 ^ 16 → length p ≡ n
-    → instruction_at (p ++ (17 ∷ (u2 number ++ ys))) n ≡ Some (with_operand n 17 (arg.Value (cast_signed w16 number)))
+    → instruction_at (p ++ (17 ∷ (u2 number ++ ys))) n ≡ Some (instr_with n false 17 (arg.Value (cast_signed w16 number)))
+unfolding row_of groups
 sipush_at p ys number n lt len =
-    let code : List ℕ = p ++ (17 ∷ (u2 number ++ ys)) in
-    let op : slice_get code n ≡ Some 17 = slice_get-behind p 17 (u2 number ++ ys) n len in
-    let regrouped : (p ++ 17 ∷ []) ++ (u2 number ++ ys) ≡ code = append_assoc p (17 ∷ []) (u2 number ++ ys) in
-    let short : short_at code (n + 1) ≡ Some number =
-    ap (λ (t : List ℕ). short_at t (n + 1)) (sym regrouped) ∙ u2_again number (p ++ 17 ∷ []) ys (n + 1) lt (omega (arith, length-append p (17 ∷ []))) in
-    rw (op, short) refl
+    let operand = made_of (signed n w16) arg.Value (u2 number) (cast_signed w16 number) (short_again n number lt) in
+    stands_to (p ++ (17 ∷ (u2 number ++ ys))) n (instr_with n false 17 (arg.Value (cast_signed w16 number)))
+    (record { front = p; text = 17 ∷ u2 number; rest = ys; parts = refl; place = len; spelled = instr_of_operand n false 17 (u2 number) (arg.Value (cast_signed w16 number)) refl operand })
 
 invokestatic_at : (p ys : List ℕ) (index n : ℕ) → index < 2 ^ 16 → length p ≡ n
-    → instruction_at (p ++ (184 ∷ (u2 index ++ ys))) n ≡ Some (with_operand n 184 (arg.Pool index))
+    → instruction_at (p ++ (184 ∷ (u2 index ++ ys))) n ≡ Some (instr_with n false 184 (arg.Pool index))
+unfolding row_of groups
 invokestatic_at p ys index n lt len =
-    let code : List ℕ = p ++ (184 ∷ (u2 index ++ ys)) in
-    let op : slice_get code n ≡ Some 184 = slice_get-behind p 184 (u2 index ++ ys) n len in
-    let regrouped : (p ++ 184 ∷ []) ++ (u2 index ++ ys) ≡ code = append_assoc p (184 ∷ []) (u2 index ++ ys) in
-    let short : short_at code (n + 1) ≡ Some index =
-    ap (λ (t : List ℕ). short_at t (n + 1)) (sym regrouped) ∙ u2_again index (p ++ 184 ∷ []) ys (n + 1) lt (omega (arith, length-append p (184 ∷ []))) in
-    rw (op, short) refl
+    let operand = made_of (number n w16) arg.Pool (u2 index) index (number_again n w16 index back16 lt) in
+    stands_to (p ++ (184 ∷ (u2 index ++ ys))) n (instr_with n false 184 (arg.Pool index))
+    (record { front = p; text = 184 ∷ u2 index; rest = ys; parts = refl; place = len; spelled = instr_of_operand n false 184 (u2 index) (arg.Pool index) refl operand })
 
 -- where the bytes of a probe stand, and its index names a method of the probe class, there is that probe
 pub probe_stands : (image : ClassFile) (p ys : List ℕ) (number index n : ℕ) (r : Reference) (kind : EventKind) → number < 2 ^ 16 → index < 2 ^ 16 → length p ≡ n
@@ -56,12 +59,12 @@ pub probe_stands : (image : ClassFile) (p ys : List ℕ) (number index n : ℕ) 
 probe_stands image p ys number index n r kind small few len named is =
     let code : List ℕ = p ++ (probe_bytes number index ++ ys) in
     let rest : List ℕ = 184 ∷ (u2 index ++ ys) in
-    let push : instruction_at code n ≡ Some (with_operand n 17 (arg.Value (cast_signed w16 number))) = sipush_at p rest number n small len in
+    let push : instruction_at code n ≡ Some (instr_with n false 17 (arg.Value (cast_signed w16 number))) = sipush_at p rest number n small len in
     let regrouped : (p ++ (17 ∷ u2 number)) ++ rest ≡ code = append_assoc p (17 ∷ u2 number) rest in
     let longer : length (p ++ (17 ∷ u2 number)) ≡ n + 3 = omega (arith, length-append p (17 ∷ u2 number)) in
-    let invoke : instruction_at code (n + 3) ≡ Some (with_operand (n + 3) 184 (arg.Pool index)) =
+    let invoke : instruction_at code (n + 3) ≡ Some (instr_with (n + 3) false 184 (arg.Pool index)) =
     ap (λ (t : List ℕ). instruction_at t (n + 3)) (sym regrouped) ∙ invokestatic_at (p ++ (17 ∷ u2 number)) ys index (n + 3) few longer in
-    let probe : ℕ → Option EventKind → Option Probe = λ number kind. option_map (λ k. record { kind = k; number = number }) kind in
+    let probe : ℕ → Option EventKind → Option ProbeCall = λ number kind. option_map (λ k. record { kind = k; number = number }) kind in
     let pushed : option_and_then (λ (i : Instr). pushed_number i.op i.arg) (instruction_at code n) ≡ Some number =
     ap (option_and_then (λ (i : Instr). pushed_number i.op i.arg)) push ∙ ap (λ m. let o : Option ℕ = Some m in o) (of_z-to_z w16 number small) in
     let invoked : option_and_then (invoked_probe image) (instruction_at code (n + 3)) ≡ Some kind =
@@ -75,8 +78,8 @@ pub no_probe-op : (image : ClassFile) (code : List ℕ) (n : ℕ) (i : Instr) �
 no_probe-op image code n i stands other =
     let invoked : Option EventKind = option_and_then (invoked_probe image) (instruction_at code (n + 3)) in
     let number : pushed_number i.op i.arg ≡ None = pushed-none i.op i.arg other in
-    ap (λ o. option_and_then (λ (number : ℕ). option_map (λ kind. let q : Probe = record { kind = kind; number = number } in q) invoked) (option_and_then (λ (j : Instr). pushed_number j.op j.arg) o)) stands
-    ∙ ap (option_and_then (λ (number : ℕ). option_map (λ kind. let q : Probe = record { kind = kind; number = number } in q) invoked)) number
+    ap (λ o. option_and_then (λ (number : ℕ). option_map (λ kind. let q : ProbeCall = record { kind = kind; number = number } in q) invoked) (option_and_then (λ (j : Instr). pushed_number j.op j.arg) o)) stands
+    ∙ ap (option_and_then (λ (number : ℕ). option_map (λ kind. let q : ProbeCall = record { kind = kind; number = number } in q) invoked)) number
   where
     pushed-none : (op : ℕ) (a : Arg) → (op == 17) ≡ false → pushed_number op a ≡ None
     pushed-none op (arg.Value n) other = ap (λ b. cond b (let o : Option ℕ = Some (cast_unsigned w16 n) in o) None) other
@@ -85,10 +88,10 @@ no_probe-op image code n i stands other =
 -- where no probe's method is invoked three bytes on there is no probe
 pub no_probe-invoked : (image : ClassFile) (code : List ℕ) (n : ℕ) → option_and_then (invoked_probe image) (instruction_at code (n + 3)) ≡ None → probe_in image code n ≡ None
 no_probe-invoked image code n none =
-    ap (λ k. option_and_then (λ (number : ℕ). option_map (λ kind. let q : Probe = record { kind = kind; number = number } in q) k) (option_and_then (λ (i : Instr). pushed_number i.op i.arg) (instruction_at code n))) none
+    ap (λ k. option_and_then (λ (number : ℕ). option_map (λ kind. let q : ProbeCall = record { kind = kind; number = number } in q) k) (option_and_then (λ (i : Instr). pushed_number i.op i.arg) (instruction_at code n))) none
     ∙ then-none (option_and_then (λ (i : Instr). pushed_number i.op i.arg) (instruction_at code n))
   where
-    then-none : (o : Option ℕ) → option_and_then (λ (number : ℕ). let none : Option Probe = None in none) o ≡ None
+    then-none : (o : Option ℕ) → option_and_then (λ (number : ℕ). let none : Option ProbeCall = None in none) o ≡ None
     then-none None = refl
     then-none (Some m) = refl
 
@@ -123,32 +126,36 @@ other-kind r other =
     λ name. ap (λ b. b && same_text r.member.name name && same_text r.member.descriptor (codes "(I)V")) other in
     rw (none (codes "root"), none (codes "enter"), none (codes "leave"), none (codes "unwind")) refl
 
-called-own : (image : ClassFile) (r : Reference) (own : List ℕ) (o : Operation) → named_class image.pool image.this_class ≡ Some own → call_of image r ≡ Some o → r.class ≡ own
-called-own image r own o named e =
-    let test : cond (same_text r.class own) (option_map Call (method_named image r.member)) None ≡ Some o =
-    ap (option_and_then (λ own. cond (same_text r.class own) (option_map Call (method_named image r.member)) None)) (sym named) ∙ e in
-    same_text-true r.class own (chosen_true (same_text r.class own) (option_map Call (method_named image r.member)) o test)
+called-own : (image : ClassFile) (r : Reference) (own : List ℕ) (k : ℕ) → named_class image.pool image.this_class ≡ Some own → own_method image r ≡ Some k → r.class ≡ own
+called-own image r own k named e =
+    let test : cond (same_text r.class own) (method_named image r.member) None ≡ Some k =
+    ap (option_and_then (λ own. cond (same_text r.class own) (method_named image r.member) None)) (sym named) ∙ e in
+    same_text-true r.class own (chosen_true (same_text r.class own) (method_named image r.member) k test)
   where
-    chosen_true : (b : Bool) (x : Option Operation) (o : Operation) → cond b x None ≡ Some o → b ≡ true
-    chosen_true true x o e = refl
-    chosen_true false x o e = absurd (none-some o e)
+    chosen_true : (b : Bool) (x : Option ℕ) (k : ℕ) → cond b x None ≡ Some k → b ≡ true
+    chosen_true true x k e = refl
+    chosen_true false x k e = absurd (none-some k e)
 
-invoked_by : (image : ClassFile) (own : List ℕ) (op : ℕ) (a : Arg) (o : Operation) → named_class image.pool image.this_class ≡ Some own → is_free_name own ≡ true
-    → operation_with image op a ≡ Some o → invoked_kind image op a ≡ None
-invoked_by image own op (arg.Pool index) o named free e = by_opcode (op == 184) refl
+in_map : {A B : Type 0} (f : A → B) (o : Option A) (y : B) → option_map f o ≡ Some y → (x : A) × (o ≡ Some x) × (f x ≡ y)
+in_map f None y e = absurd (none-some y e)
+in_map f (Some x) y e = (x, refl, same_Some (f x) y e)
+
+invoked_by : (image : ClassFile) (own : List ℕ) (op : ℕ) (a : Arg) (o : Operation) (q : Resolved) → named_class image.pool image.this_class ≡ Some own → is_free_name own ≡ true
+    → operation_with image op a ≡ Some o → resolved_in image o ≡ Some q → invoked_kind image op a ≡ None
+invoked_by image own op (arg.Pool index) o q named free e resolves = by_opcode (op == 184) refl
   where
     by_opcode : (b : Bool) → (op == 184) ≡ b → invoked_kind image op (arg.Pool index) ≡ None
     by_opcode false is = ap (λ b. cond b (option_and_then probe_kind (named_method image.pool index)) None) is
     by_opcode true is =
         let op_is : op ≡ 184 = eqb-true op 184 is in
-        let called : option_and_then (call_of image) (named_method image.pool index) ≡ Some o = ap (λ n. pool_operation image n index) (sym op_is) ∙ e in
-        option_and_then_some (call_of image) (named_method image.pool index) o called
-        (λ r found rest. (
-        let same : r.class ≡ own = called-own image r own o named rest in
-        let other : same_text r.class probe_class ≡ false = ap (λ t. same_text t probe_class) same ∙ own-free own free in
-        ap (λ b. cond b (option_and_then probe_kind (named_method image.pool index)) None) is ∙ (ap (option_and_then probe_kind) found ∙ other-kind r other)))
-invoked_by image own op _ o named free e = refl
+        let called : option_map Invokestatic (named_method image.pool index) ≡ Some o = ap (λ n. pool_operation image n index) (sym op_is) ∙ e in
+        let found = in_map Invokestatic (named_method image.pool index) o called in
+        let own_found = in_map resolved.Invokestatic (own_method image found.0) q (ap (resolved_in image) found.2 ∙ resolves) in
+        let same : found.0.class ≡ own = called-own image found.0 own own_found.0 named own_found.1 in
+        let other : same_text found.0.class probe_class ≡ false = ap (λ t. same_text t probe_class) same ∙ own-free own free in
+        ap (λ b. cond b (option_and_then probe_kind (named_method image.pool index)) None) is ∙ (ap (option_and_then probe_kind) found.1 ∙ other-kind found.0 other)
+invoked_by image own op _ o q named free e resolves = refl
 
-pub invoked-none : (image : ClassFile) (own : List ℕ) (i : Instr) (o : Operation) → named_class image.pool image.this_class ≡ Some own → is_free_name own ≡ true
-    → operation_of image i ≡ Some o → invoked_probe image i ≡ None
-invoked-none image own i o named free e = invoked_by image own i.op i.arg o named free e
+pub invoked-none : (image : ClassFile) (own : List ℕ) (i : Instr) (o : Operation) (q : Resolved) → named_class image.pool image.this_class ≡ Some own → is_free_name own ≡ true
+    → operation_of image i ≡ Some o → resolved_in image o ≡ Some q → invoked_probe image i ≡ None
+invoked-none image own i o q named free e resolves = invoked_by image own i.op i.arg o q named free e resolves

@@ -16,7 +16,7 @@ use Rattle.code_model.specs.declared.laying.Homes.{Homes}
 use Rattle.code_model.specs.Instructions.{end_of, Reads, IsReading}
 use Rattle.code_model.specs.Layout.{place_of, group_end, end_from, laid_of}
 use Rattle.code_model.proofs.Readings.{at-instruction_at}
-use Rattle.code_model.proofs.Decoded.{end_of-size_at, size_at-within}
+use Rattle.code_model.proofs.Lengths.{size_at-some, size_at-near}
 use Rattle.code_model.proofs.Walks.{length-laid_of}
 use Rattle.jvm_model.specs.declared.event.Mark.{Mark}
 use Rattle.jvm_model.specs.declared.event.Mark.TheVariants.{Off, Plain, Root}
@@ -37,8 +37,8 @@ end_from-le leave bytes at place [] reads six = omega arith
 end_from-le leave bytes at place (i ∷ rest) reads six =
     let g : Group = group_of leave i in
     let here = at-instruction_at bytes at i reads.0 in
-    let next = end_of-size_at bytes at i reads.0 (place_of place g) in
-    let some = size_at-within bytes at i reads.0 (place_of place g) in
+    let near = size_at-near (place_of place g) i.at i in
+    let some = size_at-some i.at i in
     let front = length-before leave (is_return_opcode i.op) in
     let behind = end_from-le leave bytes (end_of i) (group_end place g) rest reads.1 six in
     omega arith

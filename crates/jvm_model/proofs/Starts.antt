@@ -1,6 +1,6 @@
 -- What stands at the start of an instruction of a small class: a line, behind which the next instruction starts unless it
 -- returns, and which calls a method that can begin.
-use Rattle.std.proofs.Common.{◌≡◌, ℕ, zero, suc, ◌+◌, ◌<◌, Bool, true, false, List, [], ◌∷◌, length, slice_get, Option, Some, None, refl, sym, ap, subst, ◌∙◌, arith}
+use Rattle.std.proofs.Common.{◌≡◌, ℕ, zero, suc, ◌<◌, Bool, true, false, List, [], ◌∷◌, length, slice_get, Option, Some, None, refl, sym, ap, subst, ◌∙◌, arith}
 use Rattle.std.specs.Prelude.{nat_lt}
 use Rattle.std.specs.Option.{option_map, option_map_or, option_and_then}
 use Rattle.std.specs.List.{list_all, AllByRecursion}
@@ -16,18 +16,21 @@ use Rattle.const_pool.specs.declared.class.CodeAttribute.{CodeAttribute}
 use Rattle.const_pool.specs.declared.descriptor.Shape.{Shape}
 use Rattle.code_model.specs.declared.instr.Instr.{Instr}
 use Rattle.code_model.specs.declared.instr.Code.{Code as Reading}
-use Rattle.code_model.specs.declared.instr.Arg.{Arg}
-use Rattle.code_model.specs.Instructions.{form_of, operand_at, with_operand, instruction_at, end_of, Reads, IsReading}
+use Rattle.code_model.specs.Instructions.{instruction_at, end_of, Reads, IsReading}
+use Rattle.code_model.specs.Groups.{IsBytes}
+use Rattle.code_model.proofs.Ready.{known}
 use Rattle.code_model.proofs.Readings.{at-instruction_at, IsReading-unique}
 use Rattle.jvm_model.specs.declared.operation.Line.{Line}
-use Rattle.jvm_model.specs.declared.operation.Operation.{Operation}
-use Rattle.jvm_model.specs.declared.operation.Operation.TheVariants.{Call}
+use Rattle.jvm_model.specs.declared.operation.Resolved.{Resolved}
+use Rattle.jvm_model.specs.declared.operation.Resolved.TheVariants.{Invokestatic}
+use Rattle.jvm_model.specs.Data.{Operation, Instruction}
 use Rattle.jvm_model.specs.Agreement.{IsStart, is_return_operation}
-use Rattle.jvm_model.specs.Lines.{operation_of, line_of, code_line, line_at}
-use Rattle.jvm_model.specs.StandsFor.{IsBuilt}
+use Rattle.jvm_model.specs.Lines.{operation_of, ends, next_of, targets_of, instruction_of, code_instruction, method_instruction}
+use Rattle.jvm_model.specs.Resolved.{resolved_in, resolved_of, line_of}
+use Rattle.jvm_model.specs.StandsFor.{IsBuilt, code_line, line_at}
 use Rattle.jvm_model.specs.Versions.{is_return_opcode}
 use Rattle.jvm_model.specs.Methods.{code_among, code_of, method_code}
-use Rattle.jvm_model.proofs.Opcodes.{and-first, and-second, returns-instr}
+use Rattle.jvm_model.proofs.Opcodes.{and-first, and-second, returns-instr, ends-resolved}
 use Rattle.jvm_model.specs.SmallClass.{IsSmallClass, IsSmallCode, is_small_instr, fits_method, ends_in_return, is_return}
 
 -- ---- readings, by number
@@ -118,27 +121,24 @@ HasSmallCode-small c m code reading small e reads =
 
 -- ---- starts
 
--- an opcode of the code is a byte
-op-byte : (bytes : List ℕ) (at : ℕ) (i : Instr) → AllByRecursion IsByte bytes → instruction_at bytes at ≡ Some i → i.op < 256
-op-byte bytes at i each e =
-    option_and_then_some (λ op. option_and_then (λ form. option_map (with_operand at op) (operand_at form bytes (at + 1))) (form_of op)) (slice_get bytes at) i e
-    (λ op is rest. option_and_then_some (λ form. option_map (with_operand at op) (operand_at form bytes (at + 1))) (form_of op) i rest
-    (λ form formed last. (let byte : IsByte op = nth-each IsByte bytes at op each is in let kept : i.op ≡ op = op-kept at op (operand_at form bytes (at + 1)) i last in subst (λ (n : ℕ). n < 256) (sym kept) byte)))
-  where
-    op-kept : (at op : ℕ) (arg : Option Arg) (i : Instr) → option_map (with_operand at op) arg ≡ Some i → i.op ≡ op
-    op-kept at op None i e = absurd (none-some i e)
-    op-kept at op (Some arg) i e = ap (λ (j : Instr). j.op) (sym (same_Some (with_operand at op arg) i e))
+pub bytes-each : (bytes : List ℕ) → AllByRecursion IsByte bytes → IsBytes bytes
+bytes-each [] each k = omega arith
+bytes-each (b ∷ bytes) each zero = each.0
+bytes-each (b ∷ bytes) each (suc k) = bytes-each bytes each.1 k
 
--- the line at a start, and where it leads
+-- the instruction at a start, and where it leads
 pub record HasLine (c : ClassFile) (m at : ℕ) (i : Instr) : Type 0 where
-  pub line : Line
-  pub lined : line_at c m at ≡ Some line
-  pub own : line.own ≡ at
-  pub operated : operation_of c i ≡ Some line.operation
-  pub ends : line.next ≡ end_of i
-  pub returns : is_return_operation line.operation ≡ is_return_opcode i.op
-  pub next : is_return_operation line.operation ≡ false → IsStart c m line.next
-  pub callee : (k : ℕ) → line.operation ≡ Call k → IsStart c k 0
+  pub operation : Operation
+  pub operated : operation_of c i ≡ Some operation
+  pub resolved : Resolved
+  pub resolves : resolved_in c operation ≡ Some resolved
+  pub own : i.at ≡ at
+  pub instructed : method_instruction c m at ≡ Some (record { operation = operation; own = i.at; next = next_of operation (end_of i); targets = targets_of i.arg })
+  pub lined : line_at c m at ≡ Some (record { operation = resolved; own = i.at; next = next_of operation (end_of i) })
+  pub returns : is_return_operation resolved ≡ is_return_opcode i.op
+  pub stops : ends operation ≡ is_return_operation resolved
+  pub next : is_return_operation resolved ≡ false → IsStart c m (end_of i)
+  pub callee : (k : ℕ) → resolved ≡ Invokestatic k → IsStart c k 0
 
 some-of : {A : Type 0} (f : A → Bool) (o : Option A) → option_map_or f o false ≡ true → (x : A) × (o ≡ Some x) × (f x ≡ true)
 some-of f None e = absurd cc
@@ -175,20 +175,25 @@ HasLine-start c m at built start =
     let code = HasSmallCode-small c m start.code start.reading built.small start.coded start.reads in
     let stands : instruction_at bytes i.at ≡ Some i = Reads-nth bytes 0 start.reading.instrs start.nth i start.reads.instrs start.stands in
     let here : instruction_at bytes at ≡ Some i = subst (λ (n : ℕ). instruction_at bytes n ≡ Some i) start.here stands in
-    let fits = some-of (fits_method m start.code.max_locals code.shape) (operation_of c i) (nth-passes (is_small_instr c m start.code.max_locals code.shape) start.reading.instrs start.nth i code.small start.stands) in
-    let operation = fits.0 in
-    let made : Operation → Line = λ o. record { operation = o; own = i.at; next = end_of i } in
-    let lined : line_at c m at ≡ Some (made operation) =
-    ap (option_and_then (λ (k : CodeAttribute). code_line c k.code at)) start.coded ∙ (ap (option_and_then (line_of c)) here ∙ ap (option_map made) fits.1) in
-    let byte = op-byte bytes at i (IsCode-method_code c m start.code built.formed start.coded).code here in
-    let returns = returns-instr c bytes at i operation byte here fits.1 in
+    let fits = some-of (fits_method m start.code.max_locals code.shape) (resolved_of c i) (nth-passes (is_small_instr c m start.code.max_locals code.shape) start.reading.instrs start.nth i code.small start.stands) in
+    let q = fits.0 in
+    let byte = (known bytes at i here (bytes-each bytes (IsCode-method_code c m start.code built.formed start.coded).code)).op in
+    let returns = returns-instr c bytes at i q byte here fits.1 in
+    option_and_then_some (resolved_in c) (operation_of c i) q fits.1
+    (λ o is rest. (
+    let made : Operation → Instruction = λ op. record { operation = op; own = i.at; next = next_of op (end_of i); targets = targets_of i.arg } in
+    let line : Resolved → Line = λ x. record { operation = x; own = i.at; next = next_of o (end_of i) } in
+    let coded : code_instruction c bytes at ≡ Some (made o) = ap (option_and_then (instruction_of c)) here ∙ ap (option_map made) is in
     record {
-      line = made operation;
-      lined = lined;
+      operation = o;
+      operated = is;
+      resolved = q;
+      resolves = rest;
       own = start.here;
-      operated = fits.1;
-      ends = refl;
+      instructed = ap (option_and_then (λ (k : CodeAttribute). code_instruction c k.code at)) start.coded ∙ coded;
+      lined = ap (option_and_then (λ (k : CodeAttribute). code_line c k.code at)) start.coded ∙ (ap (option_and_then (line_of c)) coded ∙ ap (option_map line) rest);
       returns = returns.0;
+      stops = ends-resolved c o q rest;
       next = λ stays. (
           let j = next-instr start.reading.instrs start.nth i code.ends start.stands (returns.1 ∙ (sym returns.0 ∙ stays)) in
           record {
@@ -202,9 +207,9 @@ HasLine-start c m at built start =
             here = Reads-next bytes 0 start.reading.instrs start.nth i j.0 start.reads.instrs start.stands j.1;
           });
       callee = λ k is. (
-          let below : nat_lt k m ≡ true = subst (λ (o : Operation). fits_method m start.code.max_locals code.shape o ≡ true) is fits.2 in
+          let below : nat_lt k m ≡ true = subst (λ (o : Resolved). fits_method m start.code.max_locals code.shape o ≡ true) is fits.2 in
           let has = HasCode-method_code c m start.code start.coded in
           let within : m < length c.methods = slice_get_within c.methods m has.member has.is in
           let callee = earlier c k m (ltb-true k m below) within in
           IsStart-first c k callee.0 built.small callee.1);
-    }
+    }))

@@ -1,77 +1,20 @@
--- The activations of a run, step by step: which are live, that each frame is one live activation of its method, and which
--- events a step has.
-use Rattle.std.proofs.Common.{◌≡◌, ℕ, zero, suc, ◌<◌, List, [], ◌∷◌, ◌++◌, length, Option, Some, None, slice_get, slice_set, nat_lt, if◌then◌else◌, refl, sym, ap, subst, ◌∙◌, inl, inr, arith}
+-- What holds of every trace: which activations are live, and that their methods are changed as told. Each change keeps it,
+-- so all changes of a step do, and the trace of a run has it.
+use Rattle.std.proofs.Common.{◌≡◌, ℕ, zero, suc, ◌<◌, List, [], ◌∷◌, ◌++◌, length, map, Option, Some, None, option_and_then, slice_get, slice_set, refl, sym, ap, ap₂, subst, ◌∙◌, inl, inr, arith}
 use Rattle.std.specs.Bool.{⊤}
-use Rattle.std.specs.List.{AllByRecursion}
-use Rattle.std.specs.Option.{IfSome, option_map_or}
-use Rattle.std.proofs.lemmas.Bool.{cond-true, cond-false, cond_both, cases_eq, ltb-true, ltb-false, lt-ltb, le-ltb}
-use Rattle.std.proofs.lemmas.Option.{slice_get_within, same_Some, none-some}
-use Rattle.const_pool.specs.declared.class.ClassFile.{ClassFile}
-use Rattle.jvm_model.specs.declared.state.Frame.{Frame}
-use Rattle.jvm_model.specs.Run.{run}
-use Rattle.jvm_model.specs.Activations.{Activation, Trace, no_trace, current, with_begin, ended_at, without_current, with_end, top_method, traced, trace}
-use Rattle.jvm_model.specs.declared.event.Act.{Act}
-use Rattle.jvm_model.specs.Projection.{path_at, who, paths_made}
-use Rattle.jvm_model.specs.EventLists.{Marking, step_events, events_of}
+use Rattle.std.specs.Option.{option_map_or}
+use Rattle.std.proofs.lemmas.Bool.{cases_eq}
+use Rattle.std.proofs.lemmas.Option.{slice_get_within, same_Some}
+use Rattle.jvm_model.specs.declared.event.EventKind.{EventKind}
+use Rattle.jvm_model.specs.declared.event.Mark.{Mark}
+use Rattle.jvm_model.specs.Data.{Text, World, Change, Loads, Began, Left, Unwound, State}
+use Rattle.jvm_model.specs.Run.{start, step, turn_in, turn_in-zero, turn_in-suc}
+use Rattle.jvm_model.specs.Changes.{methods, without_first, after_change, after_changes}
+use Rattle.jvm_model.specs.Activations.{Activation, Trace, no_trace, current, with_begin, ended_at, without_current, with_end, changed, all_changed, trace_in, trace_in-zero, trace_in-suc}
+use Rattle.jvm_model.specs.EventLists.{Marking, end_events, current_activation, end_of}
 use Rattle.jvm_model.proofs.Chains.{slice_get-append_left, slice_get_at, IsBelow}
 
--- ---- how they go on: all that is needed of the recursions
-
-pub trace-zero : (c : ClassFile) (main : ℕ) (input : List ℕ) → trace c main input 0 ≡ traced 0 [] (run c main input 0).frames no_trace
-unfolding trace
-trace-zero c main input = refl
-
-pub trace-suc : (c : ClassFile) (main : ℕ) (input : List ℕ) (n : ℕ) → trace c main input (suc n) ≡ traced (suc n) (run c main input n).frames (run c main input (suc n)).frames (trace c main input n)
-unfolding trace
-trace-suc c main input n = refl
-
-pub events_of-zero : (marking : Marking) (c : ClassFile) (main : ℕ) (input : List ℕ) → events_of marking c main input 0 ≡ step_events marking (trace c main input 0).activations 0
-unfolding events_of
-events_of-zero marking c main input = refl
-
-pub events_of-suc : (marking : Marking) (c : ClassFile) (main : ℕ) (input : List ℕ) (n : ℕ)
-    → events_of marking c main input (suc n) ≡ events_of marking c main input n ++ step_events marking (trace c main input (suc n)).activations (suc n)
-unfolding events_of
-events_of-suc marking c main input n = refl
-
-pub paths_made-zero : (acts : List Act) (c : ClassFile) (main : ℕ) (input : List ℕ) → paths_made acts c main input 0 ≡ []
-unfolding paths_made
-paths_made-zero acts c main input = refl
-
-pub paths_made-suc : (acts : List Act) (c : ClassFile) (main : ℕ) (input : List ℕ) (n : ℕ)
-    → paths_made acts c main input (suc n) ≡ paths_made acts c main input n ++ path_at acts (trace c main input (suc n)).activations (who c main input (suc n)) ∷ []
-unfolding paths_made
-paths_made-suc acts c main input n = refl
-
--- ---- the three ways on
-
--- what holds in each of them holds of the trace after the step
-pub traced-cases : (P : Trace → Type 0) (step : ℕ) (old new : List Frame) (t : Trace)
-    → (length old < length new → P (with_begin step (top_method new) t)) → (length new < length old → P (with_end step t)) → (length new ≡ length old → P t)
-    → P (traced step old new t)
-traced-cases P step old new t more less same =
-    cond_both (nat_lt (length old) (length new)) (with_begin step (top_method new) t) (if nat_lt (length new) (length old) then with_end step t else t) P
-    (λ e. more (ltb-true (length old) (length new) e))
-    (λ e. cond_both (nat_lt (length new) (length old)) (with_end step t) t P
-    (λ f. less (ltb-true (length new) (length old) f))
-    (λ f. same (omega (arith, ltb-false (length old) (length new) e, ltb-false (length new) (length old) f))))
-
-pub traced-more : (step : ℕ) (old new : List Frame) (t : Trace) → length old < length new → traced step old new t ≡ with_begin step (top_method new) t
-traced-more step old new t more = cond-true (nat_lt (length old) (length new)) (with_begin step (top_method new) t) (if nat_lt (length new) (length old) then with_end step t else t) (lt-ltb _ _ more)
-
-pub traced-less : (step : ℕ) (old new : List Frame) (t : Trace) → length new < length old → traced step old new t ≡ with_end step t
-traced-less step old new t less = cond-false (nat_lt (length old) (length new)) (with_begin step (top_method new) t) (if nat_lt (length new) (length old) then with_end step t else t) (le-ltb _ _ (omega arith))
-    ∙ cond-true (nat_lt (length new) (length old)) (with_end step t) t (lt-ltb _ _ less)
-
-pub traced-same : (step : ℕ) (old new : List Frame) (t : Trace) → length new ≡ length old → traced step old new t ≡ t
-traced-same step old new t same = cond-false (nat_lt (length old) (length new)) (with_begin step (top_method new) t) (if nat_lt (length new) (length old) then with_end step t else t) (le-ltb _ _ (omega arith))
-    ∙ cond-false (nat_lt (length new) (length old)) (with_end step t) t (le-ltb _ _ (omega arith))
-
--- ---- what holds of every trace
-
--- It began before this step, and, where it has ended, ended before it.
-abbrev pub IsBefore : ℕ → Activation → Type 0
-IsBefore step a = (a.begin < step) × IfSome a.end (λ last. last < step)
+-- ---- live activations
 
 -- The live activation with this number: it is there, the next live one invoked it, and that one began before it.
 pub record IsLive (activations : List Activation) (number : ℕ) (rest : List ℕ) : Type 0 where
@@ -84,30 +27,14 @@ abbrev pub AreLive : List Activation → List ℕ → Type 0
 AreLive activations [] = ⊤
 AreLive activations (number ∷ rest) = IsLive activations number rest × AreLive activations rest
 
--- The trace before a step.
-pub record IsTrace (step : ℕ) (t : Trace) : Type 0 where
-  pub before : AllByRecursion (IsBefore step) t.activations
-  pub live : AreLive t.activations t.live
+abbrev pub IsTrace : Trace → Type 0
+IsTrace t = AreLive t.activations t.live
 
 pub current-below : (activations : List Activation) (live : List ℕ) → AreLive activations live → IsBelow (length activations) (current live)
 current-below activations [] are = tt
 current-below activations (number ∷ rest) are = slice_get_within activations number are.0.activation are.0.found
 
 -- ---- an activation begins
-
-before-later : (step : ℕ) (a : Activation) → IsBefore step a → IsBefore (suc step) a
-before-later step a is = (omega arith, later a.end is.1) where
-  later : (last : Option ℕ) → IfSome last (λ k. k < step) → IfSome last (λ k. k < suc step)
-  later None before = tt
-  later (Some k) before = omega arith
-
-before-all_later : (step : ℕ) (activations : List Activation) → AllByRecursion (IsBefore step) activations → AllByRecursion (IsBefore (suc step)) activations
-before-all_later step [] all = tt
-before-all_later step (a ∷ rest) all = (before-later step a all.0, before-all_later step rest all.1)
-
-before-push : (step : ℕ) (activations : List Activation) (a : Activation) → AllByRecursion (IsBefore step) activations → IsBefore step a → AllByRecursion (IsBefore step) (activations ++ a ∷ [])
-before-push step [] a all is = (is, tt)
-before-push step (b ∷ rest) a all is = (all.0, before-push step rest a all.1 is)
 
 live-push : (activations : List Activation) (a : Activation) (live : List ℕ) → AreLive activations live → AreLive (activations ++ a ∷ []) live
 live-push activations a [] are = tt
@@ -121,21 +48,17 @@ live-push activations a (number ∷ rest) are = (
   live-push activations a rest are.1,
 )
 
-begin-keeps : (step method : ℕ) (t : Trace) → IsTrace step t → IsTrace (suc step) (with_begin step method t)
+begin-keeps : (step method : ℕ) (t : Trace) → IsTrace t → IsTrace (with_begin step method t)
 begin-keeps step method t is =
-    let a : Activation = record { method = method; parent = current t.live; begin = step; «end» = None } in
-    record {
-      before = before-push (suc step) t.activations a (before-all_later step t.activations is.before) (omega arith, tt);
-      live = (
-        record {
-          activation = a;
-          found = slice_get_at t.activations a [];
-          invoked = refl;
-          earlier = current-below t.activations t.live is.live;
-        },
-        live-push t.activations a t.live is.live,
-      );
-    }
+    let a : Activation = record { method = method; parent = current t.live; begin = step; «end» = None } in (
+      record {
+        activation = a;
+        found = slice_get_at t.activations a [];
+        invoked = refl;
+        earlier = current-below t.activations t.live is;
+      },
+      live-push t.activations a t.live is,
+    )
 
 -- ---- an activation ends
 
@@ -145,16 +68,6 @@ ended_in step a = record a { «end» = Some step }
 
 pub ended_at-found : (step number : ℕ) (activations : List Activation) (a : Activation) → slice_get activations number ≡ Some a → ended_at step number activations ≡ slice_set activations number (ended_in step a)
 ended_at-found step number activations a found = ap (λ o. option_map_or (λ (b : Activation). slice_set activations number (ended_in step b)) o activations) found
-
-before-set : (step : ℕ) (activations : List Activation) (number : ℕ) (a : Activation) → AllByRecursion (IsBefore step) activations → IsBefore step a → AllByRecursion (IsBefore step) (slice_set activations number a)
-before-set step [] number a all is = tt
-before-set step (b ∷ rest) zero a all is = (is, all.1)
-before-set step (b ∷ rest) (suc number) a all is = (all.0, before-set step rest number a all.1 is)
-
-pub before-at : (step : ℕ) (activations : List Activation) (number : ℕ) (a : Activation) → AllByRecursion (IsBefore step) activations → slice_get activations number ≡ Some a → IsBefore step a
-before-at step [] number a all found = absurd (none-some a found)
-before-at step (b ∷ rest) zero a all found = subst (IsBefore step) (same_Some b a found) all.0
-before-at step (b ∷ rest) (suc number) a all found = before-at step rest number a all.1 found
 
 slice_get-set_same : {X : Type 0} (xs : List X) (i : ℕ) (y : X) → i < length xs → slice_get (slice_set xs i y) i ≡ Some y
 slice_get-set_same [] i y within = absurd (omega arith)
@@ -193,33 +106,140 @@ live-set : (activations : List Activation) (number : ℕ) (a : Activation) (step
 live-set activations number a step found [] are = tt
 live-set activations number a step found (other ∷ rest) are = (live_one-set activations number a step found other rest are.0, live-set activations number a step found rest are.1)
 
-pub trace-later : (step : ℕ) (t : Trace) → IsTrace step t → IsTrace (suc step) t
-trace-later step t is = record { before = before-all_later step t.activations is.before; live = is.live }
+end-keeps : (step : ℕ) (t : Trace) → IsTrace t → IsTrace (with_end step t)
+end-keeps step t is = keeps t.live is where
+  keeps : (live : List ℕ) → AreLive t.activations live → IsTrace (without_current step live t)
+  keeps [] are = is
+  keeps (number ∷ rest) are = subst (λ activations. AreLive activations rest) (sym (ended_at-found step number t.activations are.0.activation are.0.found))
+      (live-set t.activations number are.0.activation step are.0.found rest are.1)
 
--- the current activation, as the trace before the step has it
-end_at-keeps : (step : ℕ) (t : Trace) (number : ℕ) (rest : List ℕ) → IsTrace step t → IsLive t.activations number rest → AreLive t.activations rest → IsTrace (suc step) (without_current step (number ∷ rest) t)
-end_at-keeps step t number rest is one are =
-    let old = before-at step t.activations number one.activation is.before one.found in
-    subst (λ (activations : List Activation). IsTrace (suc step) (record { activations = activations; live = rest })) (sym (ended_at-found step number t.activations one.activation one.found)) (record {
-      before = before-set (suc step) t.activations number (ended_in step one.activation) (before-all_later step t.activations is.before) (omega arith, omega arith);
-      live = live-set t.activations number one.activation step one.found rest are;
-    })
+-- ---- changes
 
-end-keeps : (step : ℕ) (t : Trace) → IsTrace step t → IsTrace (suc step) (with_end step t)
-end-keeps step t is = keeps t.live is.live where
-  keeps : (live : List ℕ) → AreLive t.activations live → IsTrace (suc step) (without_current step live t)
-  keeps [] are = trace-later step t is
-  keeps (number ∷ rest) are = end_at-keeps step t number rest is are.0 are.1
+pub changed-keeps : (step : ℕ) (t : Trace) (c : Change) → IsTrace t → IsTrace (changed step t c)
+changed-keeps step t (Loads classes) is = is
+changed-keeps step t (Began method) is = begin-keeps step method t is
+changed-keeps step t Left is = end-keeps step t is
+changed-keeps step t Unwound is = end-keeps step t is
 
-pub traced-keeps : (step : ℕ) (old new : List Frame) (t : Trace) → IsTrace step t → IsTrace (suc step) (traced step old new t)
-traced-keeps step old new t is = traced-cases (IsTrace (suc step)) step old new t
-    (λ more. begin-keeps step (top_method new) t is) (λ less. end-keeps step t is)
-    (λ same. trace-later step t is)
+pub all_changed-keeps : (step : ℕ) (t : Trace) (changes : List Change) → IsTrace t → IsTrace (all_changed step t changes)
+all_changed-keeps step t [] is = is
+all_changed-keeps step t (c ∷ more) is = all_changed-keeps step (changed step t c) more (changed-keeps step t c is)
 
-pub no_trace-is : IsTrace 0 no_trace
-no_trace-is = record { before = tt; live = tt }
+pub no_trace-is : IsTrace no_trace
+no_trace-is = tt
 
-pub trace-is : (c : ClassFile) (main : ℕ) (input : List ℕ) (n : ℕ) → IsTrace (suc n) (trace c main input n)
-trace-is c main input zero = subst (IsTrace 1) (sym (trace-zero c main input)) (traced-keeps 0 [] (run c main input 0).frames no_trace no_trace-is)
-trace-is c main input (suc n) = subst (IsTrace (suc (suc n))) (sym (trace-suc c main input n))
-    (traced-keeps (suc n) (run c main input n).frames (run c main input (suc n)).frames (trace c main input n) (trace-is c main input n))
+pub trace_in-is : (w : World) (t : Text) (n : ℕ) → IsTrace (trace_in w t n)
+trace_in-is w t zero = subst IsTrace (sym (trace_in-zero w t)) (all_changed-keeps 0 no_trace (turn_in w t 0).changes no_trace-is)
+trace_in-is w t (suc n) = subst IsTrace (sym (trace_in-suc w t n)) (all_changed-keeps (suc n) (trace_in w t n) (turn_in w t (suc n)).changes (trace_in-is w t n))
+
+-- ---- the methods of the live activations
+
+-- the method of the activation with this number
+abbrev pub method_at : List Activation → ℕ → ℕ
+method_at activations number = option_map_or (λ (a : Activation). a.method) (slice_get activations number) 0
+
+abbrev pub live_methods : Trace → List ℕ
+live_methods t = map (method_at t.activations) t.live
+
+methods-push : (activations : List Activation) (a : Activation) (live : List ℕ) → AreLive activations live → map (method_at (activations ++ a ∷ [])) live ≡ map (method_at activations) live
+methods-push activations a [] are = refl
+methods-push activations a (number ∷ rest) are = ap₂ ◌∷◌
+    (ap (λ o. option_map_or (λ (b : Activation). b.method) o 0) (slice_get-append_left activations (a ∷ []) number (slice_get_within activations number are.0.activation are.0.found)))
+    (methods-push activations a rest are.1)
+
+method_at-set : (activations : List Activation) (number : ℕ) (a : Activation) (step other : ℕ) → slice_get activations number ≡ Some a
+    → method_at (slice_set activations number (ended_in step a)) other ≡ method_at activations other
+method_at-set [] number a step other found = refl
+method_at-set (b ∷ rest) zero a step zero found = ap (λ (x : Activation). x.method) (sym (same_Some b a found))
+method_at-set (b ∷ rest) zero a step (suc other) found = refl
+method_at-set (b ∷ rest) (suc number) a step zero found = refl
+method_at-set (b ∷ rest) (suc number) a step (suc other) found = method_at-set rest number a step other found
+
+methods-set : (activations : List Activation) (number : ℕ) (a : Activation) (step : ℕ) → slice_get activations number ≡ Some a
+    → (live : List ℕ) → map (method_at (slice_set activations number (ended_in step a))) live ≡ map (method_at activations) live
+methods-set activations number a step found [] = refl
+methods-set activations number a step found (other ∷ rest) = ap₂ ◌∷◌ (method_at-set activations number a step other found) (methods-set activations number a step found rest)
+
+-- the begin of an activation puts its method on top
+begin-methods : (step method : ℕ) (t : Trace) → IsTrace t → live_methods (with_begin step method t) ≡ method ∷ live_methods t
+begin-methods step method t is =
+    let a : Activation = record { method = method; parent = current t.live; begin = step; «end» = None } in
+    ap₂ ◌∷◌ (ap (λ o. option_map_or (λ (b : Activation). b.method) o 0) (slice_get_at t.activations a [])) (methods-push t.activations a t.live is)
+
+-- the end of the current one takes its method off
+end-methods : (step : ℕ) (t : Trace) → IsTrace t → live_methods (with_end step t) ≡ without_first (live_methods t)
+end-methods step t is = ends t.live refl is where
+  ends : (live : List ℕ) → t.live ≡ live → AreLive t.activations live → live_methods (without_current step live t) ≡ without_first (map (method_at t.activations) live)
+  ends [] e are = ap (map (method_at t.activations)) e
+  ends (number ∷ rest) e are =
+      ap (λ (activations : List Activation). map (method_at activations) rest) (ended_at-found step number t.activations are.0.activation are.0.found)
+      ∙ methods-set t.activations number are.0.activation step are.0.found rest
+
+pub changed-methods : (step : ℕ) (t : Trace) (c : Change) → IsTrace t → live_methods (changed step t c) ≡ after_change (live_methods t) c
+changed-methods step t (Loads classes) is = refl
+changed-methods step t (Began method) is = begin-methods step method t is
+changed-methods step t Left is = end-methods step t is
+changed-methods step t Unwound is = end-methods step t is
+
+-- The methods of the live activations are changed as told.
+pub all_changed-methods : (step : ℕ) (t : Trace) (changes : List Change) → IsTrace t → live_methods (all_changed step t changes) ≡ after_changes (live_methods t) changes
+all_changed-methods step t [] is = refl
+all_changed-methods step t (c ∷ more) is =
+    all_changed-methods step (changed step t c) more (changed-keeps step t c is) ∙ ap (λ ms. after_changes ms more) (changed-methods step t c is)
+
+-- That frames are changed as told, at the start and in each step over a text.
+pub record FramesFollow (w : World) (t : Text) : Type 0 where
+  pub starts : methods (start w t).after.stack ≡ after_changes [] (start w t).changes
+  pub steps : (s : State) → methods (step w t s).after.stack ≡ after_changes (methods s.stack) (step w t s).changes
+
+-- Then the live activations are the frames, one for one, each of its frame's method.
+pub live-follow : (w : World) (t : Text) → FramesFollow w t → (n : ℕ) → live_methods (trace_in w t n) ≡ methods (turn_in w t n).after.stack
+live-follow w t follow zero =
+    ap live_methods (trace_in-zero w t)
+    ∙ (all_changed-methods 0 no_trace (turn_in w t 0).changes no_trace-is
+    ∙ subst (λ first. after_changes [] first.changes ≡ methods first.after.stack) (sym (turn_in-zero w t)) (sym follow.starts))
+live-follow w t follow (suc n) =
+    ap live_methods (trace_in-suc w t n)
+    ∙ (all_changed-methods (suc n) (trace_in w t n) (turn_in w t (suc n)).changes (trace_in-is w t n)
+    ∙ (ap (λ ms. after_changes ms (turn_in w t (suc n)).changes) (live-follow w t follow n)
+    ∙ subst (λ next. after_changes (methods (turn_in w t n).after.stack) next.changes ≡ methods next.after.stack) (sym (turn_in-suc w t n)) (sym (follow.steps (turn_in w t n).after))))
+
+-- ---- what is told of an end
+
+-- the step in which the current activation began
+abbrev pub current_begin : Trace → ℕ
+current_begin t = option_map_or (λ (a : Activation). a.begin) (current_activation t) 0
+
+-- It is told with the mark that its method had when it began.
+pub end_of-live : (marking : Marking) (k : EventKind) (step : ℕ) (t : Trace) (method : ℕ) (more : List ℕ) → IsTrace t → live_methods t ≡ method ∷ more
+    → end_of marking k step t ≡ end_events k step method (marking (current_begin t) method)
+end_of-live marking k step t method more is front = ends t.live is front where
+  found_in : List ℕ → Option Activation
+  found_in live = option_and_then (slice_get t.activations) (current live)
+
+  ends : (live : List ℕ) → AreLive t.activations live → map (method_at t.activations) live ≡ method ∷ more
+      → option_map_or (λ (a : Activation). end_events k step a.method (marking a.begin a.method)) (found_in live) []
+      ≡ end_events k step method (marking (option_map_or (λ (a : Activation). a.begin) (found_in live) 0) method)
+  ends [] are e = absurd (cc)
+  ends (number ∷ rest) are e =
+      let a = are.0.activation in
+      let at_method : method_at t.activations number ≡ a.method = ap (λ o. option_map_or (λ (b : Activation). b.method) o 0) are.0.found in
+      let at_begin : option_map_or (λ (b : Activation). b.begin) (slice_get t.activations number) 0 ≡ a.begin = ap (λ o. option_map_or (λ (b : Activation). b.begin) o 0) are.0.found in
+      let first : a.method ≡ method = cc in
+      ap (λ o. option_map_or (λ (b : Activation). end_events k step b.method (marking b.begin b.method)) o []) are.0.found
+      ∙ (ap (λ m. end_events k step m (marking a.begin m)) first ∙ ap (λ b. end_events k step method (marking b method)) (sym at_begin))
+
+-- the same for a marking that is the same in every step
+pub end_of-always : (marking : Marking) (mark : ℕ → Mark) → ((step method : ℕ) → marking step method ≡ mark method)
+    → (k : EventKind) (step : ℕ) (t : Trace) (method : ℕ) (more : List ℕ) → IsTrace t → live_methods t ≡ method ∷ more
+    → end_of marking k step t ≡ end_events k step method (mark method)
+end_of-always marking mark always k step t method more is front =
+    end_of-live marking k step t method more is front ∙ ap (end_events k step method) (always (current_begin t) method)
+
+-- and where none is live, nothing is told
+pub end_of-none : (marking : Marking) (k : EventKind) (step : ℕ) (t : Trace) → live_methods t ≡ [] → end_of marking k step t ≡ []
+end_of-none marking k step t none = ends t.live none where
+  ends : (live : List ℕ) → map (method_at t.activations) live ≡ []
+      → option_map_or (λ (a : Activation). end_events k step a.method (marking a.begin a.method)) (option_and_then (slice_get t.activations) (current live)) [] ≡ []
+  ends [] e = refl
+  ends (number ∷ rest) e = absurd (cc)

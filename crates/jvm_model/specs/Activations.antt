@@ -1,10 +1,10 @@
 -- The activations of a run (JVM Specification 2.6): which method was invoked by which activation, in which step it began,
--- and in which it ended. They are read off the run's frames alone, each of which is one live activation.
-use Rattle.std.specs.Prelude.{ℕ, zero, suc, List, [], ◌∷◌, ◌++◌, length, Option, Some, None, nat_lt, slice_get, slice_set, if◌then◌else◌}
+-- and in which it ended. The changes of each step are folded, one after another.
+use Rattle.std.specs.Prelude.{◌≡◌, ℕ, zero, suc, List, [], ◌∷◌, ◌++◌, length, Option, Some, None, refl, slice_get, slice_set}
 use Rattle.std.specs.Option.{option_map_or}
-use Rattle.const_pool.specs.declared.class.ClassFile.{ClassFile}
-use Rattle.jvm_model.specs.declared.state.Frame.{Frame}
-use Rattle.jvm_model.specs.Run.{run}
+use Rattle.jvm_model.specs.Data.{Change, Loads, Began, Left, Unwound, Text, World}
+use Rattle.jvm_model.specs.Run.{turn_in}
+use Rattle.jvm_model.specs.Originals.{original}
 
 -- An activation: its method, the number of the activation that invoked it, the step in which it began, and the step in
 -- which it ended, if it has.
@@ -45,18 +45,37 @@ without_current step (a ∷ rest) t = record { activations = ended_at step a t.a
 abbrev pub with_end : ℕ → Trace → Trace
 with_end step t = without_current step t.live t
 
-abbrev pub top_method : List Frame → ℕ
-top_method [] = 0
-top_method (f ∷ below) = f.method
+-- ---- what a step does to them
 
--- Between two states of a run an activation begins where there is a frame more, and one ends where there is one less.
-abbrev pub traced : ℕ → List Frame → List Frame → Trace → Trace
-traced step old new t =
-    if nat_lt (length old) (length new) then with_begin step (top_method new) t
-    else if nat_lt (length new) (length old) then with_end step t
-    else t
+abbrev pub changed : ℕ → Trace → Change → Trace
+changed step t (Loads classes) = t
+changed step t (Began method) = with_begin step method t
+changed step t Left = with_end step t
+changed step t Unwound = with_end step t
 
--- the activations after so many steps; the start is step 0
-unfoldable pub trace : ClassFile → ℕ → List ℕ → ℕ → Trace
-trace c main input zero = traced 0 [] (run c main input 0).frames no_trace
-trace c main input (suc n) = traced (suc n) (run c main input n).frames (run c main input (suc n)).frames (trace c main input n)
+abbrev pub all_changed : ℕ → Trace → List Change → Trace
+all_changed step t [] = t
+all_changed step t (c ∷ more) = all_changed step (changed step t c) more
+
+-- the activations after so many steps over a text; the start is step 0
+unfoldable pub trace_in : World → Text → ℕ → Trace
+trace_in w t zero = all_changed 0 no_trace (turn_in w t 0).changes
+trace_in w t (suc n) = all_changed (suc n) (trace_in w t n) (turn_in w t (suc n)).changes
+
+abbrev pub trace : World → ℕ → Trace
+trace w n = trace_in w (original w.program) n
+
+-- those before a step
+abbrev pub trace_before : World → ℕ → Trace
+trace_before w zero = no_trace
+trace_before w (suc n) = trace w n
+
+-- ---- how they go on: all that is needed of the recursion
+
+pub trace_in-zero : (w : World) (t : Text) → trace_in w t 0 ≡ all_changed 0 no_trace (turn_in w t 0).changes
+unfolding trace_in
+trace_in-zero w t = refl
+
+pub trace_in-suc : (w : World) (t : Text) (n : ℕ) → trace_in w t (suc n) ≡ all_changed (suc n) (trace_in w t n) (turn_in w t (suc n)).changes
+unfolding trace_in
+trace_in-suc w t n = refl

@@ -1,6 +1,7 @@
--- Method descriptors of the built part (JVM Specification 4.3.3): int parameters with result int or void, and that of `main`.
-use Rattle.std.specs.Prelude.{ℕ, Bool, true, false, List, [], ◌∷◌, Option, Some, None, codes, ◌==◌, ◌&&◌, if◌then◌else◌}
-use Rattle.std.specs.Option.{option_map}
+-- Method descriptors of the built part (JVM Specification 4.3.3): up to 255 int parameters with result int or void, and that of
+-- `main`.
+use Rattle.std.specs.Prelude.{ℕ, Bool, true, false, List, [], ◌∷◌, length, Option, Some, None, codes, nat_le, ◌==◌, ◌&&◌, if◌then◌else◌}
+use Rattle.std.specs.Option.{option_and_then, option_map}
 use Rattle.std.specs.Str.{bytes_eq}
 use Rattle.heap_objects.specs.declared.Value.{Value}
 use Rattle.heap_objects.specs.declared.Value.TheVariants as value
@@ -31,10 +32,14 @@ params_of (unit ∷ rest) =
     else if unit == 41 then result_of rest
     else None
 
+-- a call's arguments take 255 slots at most, of which an int takes one
+abbrev pub with_room : Shape → Option Shape
+with_room shape = if nat_le (length shape.params) 255 then Some shape else None
+
 -- behind `(`
 abbrev pub ints_shape : List ℕ → Option Shape
 ints_shape [] = None
-ints_shape (unit ∷ rest) = if unit == 40 then params_of rest else None
+ints_shape (unit ∷ rest) = if unit == 40 then option_and_then with_room (params_of rest) else None
 
 abbrev pub main_name : List ℕ
 main_name = codes "main"

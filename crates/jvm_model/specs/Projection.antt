@@ -1,9 +1,9 @@
 -- The projection: a run's activations and steps, counted below the activations of selected methods. It knows nothing of
 -- versions, probes and events.
-use Rattle.std.specs.Prelude.{ℕ, zero, suc, ◌-◌, Bool, false, List, [], ◌∷◌, ◌++◌, map, fold, Option, None, is_some, nat_le, unwrap_or, slice_get, ◌==◌, ◌&&◌, if◌then◌else◌}
+use Rattle.std.specs.Prelude.{◌≡◌, refl, ℕ, zero, suc, ◌-◌, Bool, false, List, [], ◌∷◌, ◌++◌, map, fold, Option, None, is_some, nat_le, unwrap_or, slice_get, ◌==◌, ◌&&◌, if◌then◌else◌}
 use Rattle.std.specs.Option.{option_and_then}
-use Rattle.const_pool.specs.declared.class.ClassFile.{ClassFile}
 use Rattle.jvm_model.specs.declared.event.Act.{Act}
+use Rattle.jvm_model.specs.Data.{World}
 use Rattle.jvm_model.specs.Run.{run}
 use Rattle.jvm_model.specs.Paths.{Context, contexts_of}
 use Rattle.jvm_model.specs.Activations.{Activation, current, trace}
@@ -56,19 +56,27 @@ path_at acts activations number = unwrap_or (option_and_then (slice_get (paths_o
 -- ---- steps
 
 -- The activation whose instruction a step attempted: the current one before it, if the run had not ended by then.
-abbrev pub who : ClassFile → ℕ → List ℕ → ℕ → Option ℕ
-who c main input zero = None
-who c main input (suc n) = if is_some (run c main input n).ending then None else current (trace c main input n).live
+abbrev pub who : World → ℕ → Option ℕ
+who w zero = None
+who w (suc n) = if is_some (run w n).ending then None else current (trace w n).live
 
 -- the path in which each step from 1 on was made
-unfoldable pub paths_made : List Act → ClassFile → ℕ → List ℕ → ℕ → List (List ℕ)
-paths_made acts c main input zero = []
-paths_made acts c main input (suc n) =
-    paths_made acts c main input n ++ path_at acts (trace c main input (suc n)).activations (who c main input (suc n)) ∷ []
+unfoldable pub paths_made : List Act → World → ℕ → List (List ℕ)
+paths_made acts w zero = []
+paths_made acts w (suc n) = paths_made acts w n ++ path_at acts (trace w (suc n)).activations (who w (suc n)) ∷ []
+
+pub paths_made-zero : (acts : List Act) (w : World) → paths_made acts w 0 ≡ []
+unfolding paths_made
+paths_made-zero acts w = refl
+
+pub paths_made-suc : (acts : List Act) (w : World) (n : ℕ)
+    → paths_made acts w (suc n) ≡ paths_made acts w n ++ path_at acts (trace w (suc n)).activations (who w (suc n)) ∷ []
+unfolding paths_made
+paths_made-suc acts w n = refl
 
 -- ---- the tree
 
 -- The contexts after so many steps, in order of first begin: for each path the profiled activations that began with it,
 -- and the steps that they made.
-abbrev pub projection : List Act → ClassFile → ℕ → List ℕ → ℕ → List Context
-projection acts c main input n = contexts_of (paths_of acts (trace c main input n).activations) (paths_made acts c main input n)
+abbrev pub projection : List Act → World → ℕ → List Context
+projection acts w n = contexts_of (paths_of acts (trace w n).activations) (paths_made acts w n)

@@ -1,64 +1,123 @@
--- The run of a class as a function of the number of steps. One step is the attempt of one instruction.
-use Rattle.std.specs.Prelude.{◌≡◌, ℕ, zero, suc, ◌+◌, true, List, [], ◌∷◌, Option, Some, None, refl, is_some, nat_le, if◌then◌else◌}
+-- The run of a program as a function of the number of steps: a step is one attempt of an instruction, and all moves behind it.
+use Rattle.std.specs.Prelude.{◌≡◌, ℕ, zero, suc, ◌+◌, Bool, true, false, List, [], ◌∷◌, ◌++◌, Option, Some, None, refl, ◌&&◌, if◌then◌else◌}
+use Rattle.std.specs.Option.{option_map_or}
 use Rattle.std.proofs.Common.{ap, ◌∙◌, add-one}
-use Rattle.heap_objects.specs.declared.Value.TheVariants.{Ref}
-use Rattle.const_pool.specs.declared.class.ClassFile.{ClassFile}
-use Rattle.jvm_model.specs.declared.ending.Ending.{Ending}
-use Rattle.jvm_model.specs.declared.ending.Ending.TheVariants.{Unverifiable}
-use Rattle.jvm_model.specs.declared.operation.Line.{Line}
-use Rattle.jvm_model.specs.declared.state.Frame.{Frame}
-use Rattle.jvm_model.specs.declared.state.State.{State}
-use Rattle.jvm_model.specs.Lines.{line_at}
-use Rattle.jvm_model.specs.Rules.{rule, unverifiable, new_frame, max_locals_of}
+use Rattle.jvm_model.specs.Data.{Frame, Entry, Active, Initializing, Constants, MethodPlace, Phase, Running, Ready, Ending, State, Change, Loads, Turn, Outcome, Initializes, Done, Instruction, Program, Text, World}
+use Rattle.jvm_model.specs.Programs.{place_of_method}
+use Rattle.jvm_model.specs.SharedState.{phase_of, with_phase, shared_before}
+use Rattle.jvm_model.specs.Rules.{does, loads}
+use Rattle.jvm_model.specs.Applies.{still, breaks, applies}
+use Rattle.jvm_model.specs.Moves.{then_turn, settled}
+use Rattle.jvm_model.specs.Originals.{original}
 
--- Nothing runs yet, and nothing was read or written.
-abbrev pub blank : State
-blank = record { frames = []; begun = true; read = 0; output = []; ending = None }
+-- ---- a step
 
--- The start (5.2): `main` begins with its argument array, which is object 5, unless it has no local for it.
-abbrev pub start : ClassFile → ℕ → State
-start c main =
-    if nat_le 1 (max_locals_of c main)
-    then record blank { frames = new_frame main (Ref 5 ∷ []) (max_locals_of c main) ∷ [] }
-    else record blank { ending = Some (Unverifiable main 0) }
+-- the instruction is attempted, with all that follows; from the state without the current frame
+abbrev pub tries : World → Text → Instruction → State → Frame → Done → Turn
+tries w t i s f done = settled w t (applies w t i done.outcome (record s { shared = done.shared; output = s.output ++ done.wrote }) f)
 
--- the instruction at the frame's offset is done
-abbrev pub does : ClassFile → State → Frame → Option Line → State
-does c s f (Some line) = rule c (line_at c) s f line.operation line.own line.next
-does c s f None = unverifiable s f f.offset
+abbrev pub attempt : World → Text → Instruction → State → Frame → Turn
+attempt w t i s f = tries w t i s f (does w i.operation s.shared f.locals f.operands)
 
--- one attempt, with the current frame apart; without a frame nothing is left to do
-abbrev pub attempts : ClassFile → State → List Frame → State
-attempts c s [] = s
-attempts c s (f ∷ below) = does c (record s { frames = below }) f (line_at c f.method f.offset)
+-- the class that is initialized before
+abbrev pub starts : Outcome → Option ℕ
+starts (Initializes c) = Some c
+starts _ = None
 
-abbrev pub attempt : ClassFile → State → State
-attempt c s = attempts c s s.frames
+abbrev pub is_ready : Option Phase → Bool
+is_ready (Some Ready) = true
+is_ready _ = false
 
--- one step further, unless the run has ended
-abbrev pub step_of : ClassFile → State → State
-step_of c s = if is_some s.ending then s else attempt c s
+abbrev pub is_quiet : List Change → Bool
+is_quiet [] = true
+is_quiet (c ∷ more) = false
 
--- The state after so many steps. No instruction of the built part reads the input.
-unfoldable pub run : ClassFile → ℕ → List ℕ → ℕ → State
-run c main input zero = start c main
-run c main input (suc n) = step_of c (run c main input n)
+abbrev pub goes_on : Option Ending → Option ℕ → Bool
+goes_on None None = true
+goes_on _ _ = false
 
-abbrev pub output_of : ClassFile → ℕ → List ℕ → ℕ → List ℕ
-output_of c main input n = (run c main input n).output
+-- where the class was initialized without any activation, the instruction is executed in the same step
+abbrev pub goes_again : World → Text → Instruction → State → Frame → Option ℕ → Turn → Turn
+goes_again w t i s f None turn = turn
+goes_again w t i s f (Some c) turn =
+    if is_quiet turn.changes && is_ready (phase_of turn.after.shared c) && goes_on turn.after.ending turn.after.thrown
+    then then_turn turn (attempt w t i (record turn.after { stack = s.stack }) f)
+    else turn
 
-abbrev pub ending_of : ClassFile → ℕ → List ℕ → ℕ → Option Ending
-ending_of c main input n = (run c main input n).ending
+abbrev pub steps_by : World → Text → Instruction → State → Frame → Done → Turn
+steps_by w t i s f done = goes_again w t i s f (starts done.outcome) (tries w t i s f done)
+
+-- the classes that it needs are loaded first
+abbrev pub with_loaded : List ℕ → State → State
+with_loaded [] s = s
+with_loaded (c ∷ more) s = record s { shared = record s.shared { loaded = s.shared.loaded ++ c ∷ more } }
+
+abbrev pub loaded_turn : List ℕ → Turn → Turn
+loaded_turn [] turn = turn
+loaded_turn (c ∷ more) turn = record turn { changes = Loads (c ∷ more) ∷ turn.changes }
+
+abbrev pub steps_at : World → Text → State → Frame → Option Instruction → Turn
+steps_at w t s f None = still (breaks s f 0)
+steps_at w t s f (Some i) =
+    let classes = loads w i.operation s.shared f.operands in
+    let ready = with_loaded classes s in
+    loaded_turn classes (steps_by w t i ready f (does w i.operation ready.shared f.locals f.operands))
+
+abbrev pub steps_on : World → Text → State → Option Ending → List Entry → Turn
+steps_on w t s None (Active f ∷ below) = steps_at w t (record s { stack = below }) f (t.at f.version f.place)
+steps_on w t s _ _ = still s
+
+abbrev pub step : World → Text → State → Turn
+step w t s = steps_on w t s s.ending s.stack
+
+-- ---- the start (5.2, 5.5)
+
+-- nothing runs yet, and nothing was read or written
+abbrev pub before : World → State
+before w = record { stack = []; thrown = None; begun = false; shared = shared_before w.program; output = []; ending = None }
+
+-- the main class: that of the method `main`
+abbrev pub main_class : Program → ℕ
+main_class p = option_map_or (λ (place : MethodPlace). place.class) (place_of_method p p.main) 0
+
+abbrev pub starts_with : World → ℕ → State
+starts_with w class =
+    let loaded = with_loaded (class ∷ []) (before w) in
+    record loaded { stack = Initializing class Constants ∷ []; shared = with_phase loaded.shared class Running }
+
+-- the main class is loaded, and then initialized
+abbrev pub start : World → Text → Turn
+start w t = let class = main_class w.program in loaded_turn (class ∷ []) (settled w t (still (starts_with w class)))
+
+-- ---- the run
+
+-- The last one of so many steps, over a text; the start is step 0.
+unfoldable pub turn_in : World → Text → ℕ → Turn
+turn_in w t zero = start w t
+turn_in w t (suc n) = step w t (turn_in w t n).after
+
+-- The run knows original code alone.
+abbrev pub turn : World → ℕ → Turn
+turn w n = turn_in w (original w.program) n
+
+abbrev pub run : World → ℕ → State
+run w n = (turn w n).after
+
+abbrev pub output_of : World → ℕ → List ℕ
+output_of w n = (run w n).output
+
+abbrev pub ending_of : World → ℕ → Option Ending
+ending_of w n = (run w n).ending
 
 -- ---- how the run goes: all that is needed of it
 
-pub run-zero : (c : ClassFile) (main : ℕ) (input : List ℕ) → run c main input 0 ≡ start c main
-unfolding run
-run-zero c main input = refl
+pub turn_in-zero : (w : World) (t : Text) → turn_in w t 0 ≡ start w t
+unfolding turn_in
+turn_in-zero w t = refl
 
-pub run-suc : (c : ClassFile) (main : ℕ) (input : List ℕ) (n : ℕ) → run c main input (suc n) ≡ step_of c (run c main input n)
-unfolding run
-run-suc c main input n = refl
+pub turn_in-suc : (w : World) (t : Text) (n : ℕ) → turn_in w t (suc n) ≡ step w t (turn_in w t n).after
+unfolding turn_in
+turn_in-suc w t n = refl
 
-pub run-more : (c : ClassFile) (main : ℕ) (input : List ℕ) (n : ℕ) → run c main input (n + 1) ≡ step_of c (run c main input n)
-run-more c main input n = ap (run c main input) (add-one n) ∙ run-suc c main input n
+pub turn_in-more : (w : World) (t : Text) (n : ℕ) → turn_in w t (n + 1) ≡ step w t (turn_in w t n).after
+turn_in-more w t n = ap (turn_in w t) (add-one n) ∙ turn_in-suc w t n

@@ -12,11 +12,11 @@ use Rattle.const_pool.specs.BuiltIn.{probe_class, built_in_names}
 use Rattle.code_model.specs.declared.instr.Instr.{Instr}
 use Rattle.code_model.specs.declared.instr.Code.{Code}
 use Rattle.code_model.specs.Instructions.{IsReading}
-use Rattle.jvm_model.specs.declared.operation.Operation.{Operation}
-use Rattle.jvm_model.specs.declared.operation.Operation.TheVariants.{Load, ReturnInt, Return, Call}
+use Rattle.jvm_model.specs.declared.operation.Resolved.{Resolved}
+use Rattle.jvm_model.specs.declared.operation.Resolved.TheVariants.{Iload, Ireturn, Return, Invokestatic}
 use Rattle.jvm_model.specs.Descriptors.{same_text, main_name, main_descriptor}
 use Rattle.jvm_model.specs.Methods.{code_of, member_shape, method_named}
-use Rattle.jvm_model.specs.Lines.{operation_of}
+use Rattle.jvm_model.specs.Resolved.{resolved_of}
 
 -- ---- access flags (4.6)
 
@@ -57,15 +57,15 @@ member_of pool m = option_and_then (λ name. option_map (λ descriptor. record {
 
 -- what an operation needs of the method that it stands in: slots below max_locals (4.9.1), a return that fits the
 -- descriptor, and calls of methods that stand earlier in the class
-abbrev pub fits_method : ℕ → ℕ → Shape → Operation → Bool
-fits_method k max_locals shape (Load slot) = nat_lt slot max_locals
-fits_method k max_locals shape ReturnInt = not (is_none shape.result)
+abbrev pub fits_method : ℕ → ℕ → Shape → Resolved → Bool
+fits_method k max_locals shape (Iload slot) = nat_lt slot max_locals
+fits_method k max_locals shape Ireturn = not (is_none shape.result)
 fits_method k max_locals shape Return = is_none shape.result
-fits_method k max_locals shape (Call method) = nat_lt method k
+fits_method k max_locals shape (Invokestatic method) = nat_lt method k
 fits_method k max_locals shape _ = true
 
 abbrev pub is_small_instr : ClassFile → ℕ → ℕ → Shape → Instr → Bool
-is_small_instr c k max_locals shape i = option_map_or (fits_method k max_locals shape) (operation_of c i) false
+is_small_instr c k max_locals shape i = option_map_or (fits_method k max_locals shape) (resolved_of c i) false
 
 -- ireturn or return
 abbrev pub is_return : Instr → Bool

@@ -1,6 +1,6 @@
 -- How a machine that runs rewritten classes stands for the run of the original ones: its states are the same but for where
 -- the frames stand. A frame stands at the home of its offset, in the version of its method.
-use Rattle.std.specs.Prelude.{ℕ, ◌+◌, List, map, Option, Some, None, unwrap_or, slice_get, codes, ◌==◌, if◌then◌else◌}
+use Rattle.std.specs.Prelude.{ℕ, ◌+◌, List, Option, Some, None, unwrap_or, slice_get, codes, ◌==◌, if◌then◌else◌}
 use Rattle.std.specs.Option.{option_and_then, option_map}
 use Rattle.std.specs.Int.{w16, cast_unsigned}
 use Rattle.const_pool.specs.declared.class.ClassFile.{ClassFile}
@@ -18,10 +18,11 @@ use Rattle.jvm_model.specs.declared.event.EventKind.TheVariants.{Root, Enter, Le
 use Rattle.jvm_model.specs.declared.event.Mark.{Mark}
 use Rattle.jvm_model.specs.declared.event.Mark.TheVariants.{Off}
 use Rattle.jvm_model.specs.declared.operation.Line.{Line}
-use Rattle.jvm_model.specs.declared.state.Frame.{Frame}
-use Rattle.jvm_model.specs.declared.state.State.{State}
 use Rattle.jvm_model.specs.EventLists.{Marking}
-use Rattle.jvm_model.specs.Lines.{code_line, is_reference}
+use Rattle.jvm_model.specs.Lines.{code_instruction}
+use Rattle.jvm_model.specs.Moved.{Moving}
+use Rattle.jvm_model.specs.Resolved.{line_of}
+use Rattle.jvm_model.specs.Rules.{is_reference}
 use Rattle.jvm_model.specs.Methods.{method_code}
 use Rattle.jvm_model.specs.SmallClass.{IsSmallClass}
 
@@ -44,17 +45,14 @@ home_by (Some moved) at = home_of moved at
 abbrev pub home_at : List (Option Homes) → ℕ → ℕ → ℕ
 home_at homes method at = home_by (homes_at homes method) at
 
-abbrev pub moved_frame : List (Option Homes) → Frame → Frame
-moved_frame homes f = record f { offset = home_at homes f.method f.offset }
-
--- the state with each frame at its home
-abbrev pub moved : List (Option Homes) → State → State
-moved homes s = record s { frames = map (moved_frame homes) s.frames }
+-- each frame at its home, and each return address at its home; a method has one version, which has its number
+abbrev pub by_homes : List (Option Homes) → Moving
+by_homes homes = record { version = λ version. version; home = home_at homes }
 
 -- ---- what stands at a place of a version
 
 -- a probe: which one, and the number that it is given
-pub record Probe : Type 0 where
+pub record ProbeCall : Type 0 where
   pub kind : EventKind
   pub number : ℕ
 
@@ -81,19 +79,26 @@ pushed_number op (Value n) = if op == 17 then Some (cast_unsigned w16 n) else No
 pushed_number op _ = None
 
 -- the probe at a place: sipush, and three bytes behind it invokestatic of a method of jfluid/Probe
-abbrev pub probe_in : ClassFile → List ℕ → ℕ → Option Probe
+abbrev pub probe_in : ClassFile → List ℕ → ℕ → Option ProbeCall
 probe_in image code place =
     option_and_then (λ (number : ℕ).
     option_map (λ kind. record { kind = kind; number = number }) (option_and_then (invoked_probe image) (instruction_at code (place + 3))))
     (option_and_then (λ (i : Instr). pushed_number i.op i.arg) (instruction_at code place))
 
-abbrev pub probe_at : ClassFile → ℕ → ℕ → Option Probe
+abbrev pub probe_at : ClassFile → ℕ → ℕ → Option ProbeCall
 probe_at image method place = option_and_then (λ code. probe_in image code.code place) (method_code image method)
 
 -- the original offset of the instruction at a place
 abbrev pub origin_by : Option Homes → ℕ → Option ℕ
 origin_by None place = Some place
 origin_by (Some moved) place = origin_in moved place
+
+-- the line at an offset of a code, its names looked up
+abbrev pub code_line : ClassFile → List ℕ → ℕ → Option Line
+code_line c code at = option_and_then (line_of c) (code_instruction c code at)
+
+abbrev pub line_at : ClassFile → ℕ → ℕ → Option Line
+line_at c method at = option_and_then (λ code. code_line c code.code at) (method_code c method)
 
 -- the line at a place of a version, with the instruction's original offset
 abbrev pub placed_line : ClassFile → Option Homes → List ℕ → ℕ → Option Line

@@ -1,15 +1,17 @@
 //! The definitions of the machine that jfluid runs programs on (JVM Specification 2, 5 and 6): its state, what each
-//! instruction does, and the run of a program as a function of the number of steps; and of profiling: which activations
-//! there are, what is projected on the root activations, and what a rewritten class is. All of it stands in specs/; the
-//! types below are its data.
+//! instruction asks for, what becomes of a state by that, and the run of a program as a function of the number of steps;
+//! and of profiling: which activations there are, what is projected on the root activations, and what a rewritten class
+//! is. All of it stands in specs/; the types below are its data.
 #![tactic(auto)]
 
 mod ending;
 mod event;
 mod operation;
+mod program;
 mod state;
 
 pub use ending::Ending;
 pub use event::{Act, Event, EventKind, Mark};
-pub use operation::{Line, Operation};
-pub use state::{Frame, State};
+pub use operation::{IntOperator, Line, Resolved};
+pub use program::{MethodPlace, Program};
+pub use state::{Entry, Frame, Made, Object, Part, Phase, Shared, State};

@@ -1,36 +1,38 @@
 //! Instructions whose names are looked up.
 
-/// What an instruction does, once the names that it gives are looked up (JVM Specification 5.4.3, 6.5).
+/// An arithmetic instruction over two ints (JVM Specification 2.11.3, 6.5).
 #[derive(Clone, Copy, Debug, PartialEq, Eq)]
-pub enum Operation {
-    /// Does nothing.
-    Nothing,
+pub enum IntOperator {
+    Iadd,
+    Isub,
+    Imul,
+}
+
+/// What an instruction of the part that runs so far does, once the names that it gives are looked up (5.4.3, 6.5).
+#[derive(Clone, Copy, Debug, PartialEq, Eq)]
+pub enum Resolved {
+    Nop,
     /// Pushes an int.
     Constant(i32),
     /// Pushes the int in a local.
-    Load(u16),
-    /// Adds two ints.
-    Add,
-    /// Subtracts the topmost int from the one below it.
-    Subtract,
-    /// Multiplies two ints.
-    Multiply,
-    /// Returns an int.
-    ReturnInt,
-    /// Returns nothing.
+    Iload(u16),
+    /// Puts a number in the place of two ints.
+    Binary(IntOperator),
+    Ireturn,
     Return,
     /// Pushes System.out.
     Out,
     /// PrintStream.println of an int.
     Println,
     /// Invokes the static method with this number.
-    Call(u32),
+    Invokestatic(u32),
 }
 
-/// An instruction: what it does, its offset in the original code, and where the frame goes on behind it.
+/// An instruction: what it does, its offset in the original code, and where its frame goes on behind it. Nothing goes on
+/// behind a return.
 #[derive(Clone, Copy, Debug, PartialEq, Eq)]
 pub struct Line {
-    pub operation: Operation,
+    pub operation: Resolved,
     pub own: u16,
-    pub next: u16,
+    pub next: Option<u16>,
 }

@@ -1,27 +1,88 @@
 //! The state of a run.
 
 use crate::ending::Ending;
-use heap_objects::Value;
+use heap_objects::{Datum, Value};
 use jf_bytes::{Seq, Stack};
 
-/// A frame (JVM Specification 2.6): the number of its method, the offset of the instruction that is executed next (or,
-/// while a callee runs, of the invoking one), its locals, of which each is unwritten at first, and its operand stack,
-/// the top first.
+/// A frame (JVM Specification 2.6): the number of its method, the version of it that the frame runs, the place in that
+/// version of the instruction that is executed next (or, while a callee runs, of the invoking one), its locals, of which
+/// each is unwritten at first, and its operand stack, the top first. Original code is the version whose number is the
+/// method's, and its places are offsets.
 #[derive(Debug, Drop)]
 pub struct Frame {
     pub method: u32,
-    pub offset: u16,
+    pub version: u32,
+    pub place: u16,
     pub locals: Seq<Option<Value>>,
     pub operands: Stack<Value>,
 }
 
-/// The state of a run: the frames, the current one first; whether `main` has begun; how many bytes of the input were
-/// read; what was written; and how the run ended, if it has.
+/// Which part of a class's initialization is done next (5.5): its constants, its superclass, its static initializer, or
+/// what makes it ready.
+#[derive(Clone, Copy, Debug, PartialEq, Eq)]
+pub enum Part {
+    Constants,
+    Superclass,
+    Initializer,
+    Finish,
+}
+
+/// What stands on the stack: the frame of an activation, or the initialization of the class at this position.
+#[derive(Debug, Drop)]
+pub enum Entry {
+    Active(Frame),
+    Initializing(u32, Part),
+}
+
+/// How far the initialization of a class has come (5.5).
+#[derive(Clone, Copy, Debug, PartialEq, Eq)]
+pub enum Phase {
+    Fresh,
+    Running,
+    Ready,
+    Erroneous,
+}
+
+/// An object: an instance of the class at this position with its fields, an array with the position of its class and its
+/// elements, or a text with the position of its class and its units.
+#[derive(Debug, Drop)]
+pub enum Object {
+    Instance(u32, Seq<Datum>),
+    Array(u32, Seq<Datum>),
+    Text(u32, Seq<u16>),
+}
+
+/// Objects that the machine makes once and finds again: the text with the same units that was interned, the Class object
+/// of a class, and the object that valueOf gave for a number of a class.
+#[derive(Clone, Copy, Debug, PartialEq, Eq)]
+pub enum Made {
+    Interned(u32),
+    ClassObject(u32, u32),
+    Boxed(u32, i64, u32),
+}
+
+/// What all activations share: the positions of the loaded classes in the order in which they were loaded; the phase and
+/// the static fields of each class; the objects, numbered from 1, and how many slots they use; the objects that are made
+/// once; and how many bytes of the input were read.
+#[derive(Debug, Drop)]
+pub struct Shared {
+    pub loaded: Seq<u32>,
+    pub phases: Seq<Phase>,
+    pub statics: Seq<Seq<Datum>>,
+    pub heap: Seq<Object>,
+    pub used: u32,
+    pub made: Seq<Made>,
+    pub read: usize,
+}
+
+/// The state of a run: the frames and initializations, the current one first; the object that is thrown, if one is;
+/// whether `main` has begun; what is shared; what was written; and how the run ended, if it has.
 #[derive(Debug, Drop)]
 pub struct State {
-    pub frames: Stack<Frame>,
+    pub stack: Stack<Entry>,
+    pub thrown: Option<u32>,
     pub begun: bool,
-    pub read: usize,
+    pub shared: Shared,
     pub output: Seq<u8>,
     pub ending: Option<Ending>,
 }

@@ -13,7 +13,7 @@ use Rattle.op_table.specs.declared.Form.{Form}
 use Rattle.op_table.specs.declared.Form.TheVariants.{Table, Lookup, Wide, Unknown}
 use Rattle.op_table.specs.declared.OpRow.{OpRow}
 use Rattle.op_table.specs.declared.tables.TheConstants.{OPS, WIDE_OPS}
-use Rattle.op_table.specs.Opcodes.{groups, row_of, wide_groups, wide_row_of, HasNoFixedSize, NeverGoesOn}
+use Rattle.op_table.specs.Opcodes.{groups, row_of, wide_groups, wide_row_of, HasNoFixedSize, NeverGoesOn, IsReturn}
 
 -- ---- the constants are the definitions' rows
 
@@ -84,6 +84,14 @@ Decides-never_goes_on op =
     (Decides-or (is_in_range 169 177 op) _ (Decides-is_in_range 169 177 op)
     (Decides-or (op == 191) (op == 200) (Decides-eqb op 191) (Decides-eqb op 200)))
 
+returns_fit : list_all (λ op. same (row_of op).returns (is_in_range 172 177 op)) (range_with_len 0 256) ≡ true
+unfolding row_of groups
+returns_fit = refl
+
+none_returns : list_all (λ op. same (wide_row_of op).returns false) (range_with_len 0 256) ≡ true
+unfolding wide_row_of wide_groups
+none_returns = refl
+
 sizes_fit : list_all (λ op. same ((row_of op).size == 0) (has_no_fixed_size (row_of op).form)) (range_with_len 0 256) ≡ true
 unfolding row_of groups
 sizes_fit = refl
@@ -126,3 +134,11 @@ wide_row_of-sizeless op h = sizeless_at wide_row_of op wide_sizes_fit h
 
 pub wide_row_of-ending : (op : ℕ) → op < 256 → IsTrue (wide_row_of op).ends ↔ (op ≡ 169)
 wide_row_of-ending op h = ending_at wide_row_of (λ k. k == 169) (λ k. k ≡ 169) op wide_ends_fit (Decides-eqb op 169) h
+
+pub row_of-returning : (op : ℕ) → op < 256 → IsTrue (row_of op).returns ↔ IsReturn op
+row_of-returning op h =
+    let agree = equal_from_same _ _ (holds_below (λ k. same (row_of k).returns (is_in_range 172 177 k)) 256 op returns_fit h) in
+    iff_from_decides (row_of op).returns (is_in_range 172 177 op) agree (λ t. t, λ t. t) (Decides-is_in_range 172 177 op)
+
+pub wide_row_of-staying : (op : ℕ) → op < 256 → (wide_row_of op).returns ≡ false
+wide_row_of-staying op h = equal_from_same _ _ (holds_below (λ k. same (wide_row_of k).returns false) 256 op none_returns h)

@@ -13,24 +13,28 @@ pub record Group : Type 0 where
 
 -- instructions after which control may go on
 abbrev pub group : ℕ → ℕ → Form → ℕ → Group
-group a b f n = record { first = a; last = b; row = record { form = f; size = n; floating = false; ends = false } }
+group a b f n = record { first = a; last = b; row = record { form = f; size = n; floating = false; ends = false; returns = false } }
 
 -- the same for instructions that take or give a float or a double
 abbrev pub floating : ℕ → ℕ → Form → ℕ → Group
-floating a b f n = record { first = a; last = b; row = record { form = f; size = n; floating = true; ends = false } }
+floating a b f n = record { first = a; last = b; row = record { form = f; size = n; floating = true; ends = false; returns = false } }
 
 -- instructions after which control never goes on
 abbrev pub ending : ℕ → ℕ → Form → ℕ → Group
-ending a b f n = record { first = a; last = b; row = record { form = f; size = n; floating = false; ends = true } }
+ending a b f n = record { first = a; last = b; row = record { form = f; size = n; floating = false; ends = true; returns = false } }
 
--- freturn and dreturn are both
-abbrev pub floating_ending : ℕ → ℕ → Form → ℕ → Group
-floating_ending a b f n = record { first = a; last = b; row = record { form = f; size = n; floating = true; ends = true } }
+-- those that return from the method
+abbrev pub returning : ℕ → ℕ → Form → ℕ → Group
+returning a b f n = record { first = a; last = b; row = record { form = f; size = n; floating = false; ends = true; returns = true } }
+
+-- freturn and dreturn
+abbrev pub floating_returning : ℕ → ℕ → Form → ℕ → Group
+floating_returning a b f n = record { first = a; last = b; row = record { form = f; size = n; floating = true; ends = true; returns = true } }
 
 -- The row of the group that the opcode is in. An opcode in no group stands for no instruction: 186, invokedynamic, is in no class
 -- file of a version up to 50.
 abbrev pub row_among : List Group → ℕ → OpRow
-row_among [] op = record { form = Unknown; size = 0; floating = false; ends = false }
+row_among [] op = record { form = Unknown; size = 0; floating = false; ends = false; returns = false }
 row_among (g ∷ gs) op = if is_in_range g.first g.last op then g.row else row_among gs op
 
 unfoldable pub groups : List Group
@@ -69,7 +73,7 @@ groups =
     -- ifeq to ifle, if_icmpeq to if_acmpne; goto; jsr; ret; tableswitch; lookupswitch
     ∷ group 153 166 Jump 3 ∷ ending 167 167 Jump 3 ∷ group 168 168 Jump 3 ∷ ending 169 169 Local 2 ∷ ending 170 170 Table 0 ∷ ending 171 171 Lookup 0
     -- ireturn and lreturn; freturn and dreturn; areturn and return
-    ∷ ending 172 173 Plain 1 ∷ floating_ending 174 175 Plain 1 ∷ ending 176 177 Plain 1
+    ∷ returning 172 173 Plain 1 ∷ floating_returning 174 175 Plain 1 ∷ returning 176 177 Plain 1
     -- getstatic to putfield, invokevirtual to invokestatic; invokeinterface
     ∷ group 178 184 Pool 3 ∷ group 185 185 Interface 5
     -- new; newarray; anewarray; arraylength; athrow; checkcast and instanceof; monitorenter and monitorexit
@@ -101,3 +105,7 @@ HasNoFixedSize _ = ⊥
 -- goto; ret, the two switches and the returns; athrow; goto_w
 abbrev pub NeverGoesOn : ℕ → Type 0
 NeverGoesOn op = (op ≡ 167) ⊎ (IsInRange 169 177 op ⊎ ((op ≡ 191) ⊎ (op ≡ 200)))
+
+-- ireturn, lreturn, freturn, dreturn, areturn and return
+abbrev pub IsReturn : ℕ → Type 0
+IsReturn op = IsInRange 172 177 op

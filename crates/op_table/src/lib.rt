@@ -2,8 +2,8 @@
 //! operands lie, how long it is, and whether control goes on after it. Nothing here takes memory.
 #![tactic(auto)]
 
-ghost use Rattle.std.specs.Prelude.{◌≡◌, ◌↔◌, ◌<◌, IsTrue, Some, slice_get};
-ghost use Rattle.op_table.specs.Opcodes.{row_of, wide_row_of, HasNoFixedSize, NeverGoesOn};
+ghost use Rattle.std.specs.Prelude.{◌≡◌, ◌↔◌, ◌<◌, IsTrue, false, Some, slice_get};
+ghost use Rattle.op_table.specs.Opcodes.{row_of, wide_row_of, HasNoFixedSize, NeverGoesOn, IsReturn};
 
 mod tables;
 #[cfg(test)]
@@ -60,6 +60,8 @@ pub struct OpRow {
     pub floating: bool,
     /// Whether control never goes on to the instruction after it.
     pub ends: bool,
+    /// Whether the instruction returns from its method.
+    pub returns: bool,
 }
 
 /// The row of an opcode.
@@ -67,6 +69,7 @@ pub fn row(op: u8) -> OpRow
     ensures value { result ≡ row_of op }
     ensures sizeless { (result.size ≡ 0) ↔ HasNoFixedSize result.form }
     ensures ending { IsTrue result.ends ↔ NeverGoesOn op }
+    ensures returning { IsTrue result.returns ↔ IsReturn op }
 {
     at(&OPS, op as usize)
 }
@@ -76,6 +79,7 @@ pub fn wide_row(op: u8) -> OpRow
     ensures value { result ≡ wide_row_of op }
     ensures sizeless { (result.size ≡ 0) ↔ HasNoFixedSize result.form }
     ensures ending { IsTrue result.ends ↔ (op ≡ 169) }
+    ensures staying { result.returns ≡ false }
 {
     at(&WIDE_OPS, op as usize)
 }

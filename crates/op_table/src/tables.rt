@@ -4,19 +4,22 @@ use crate::{Form, OpRow};
 
 macro_rules! op_row {
     (-) => {
-        OpRow { form: Form::Unknown, size: 0, floating: false, ends: false }
+        op_row!([none Unknown 0])
     };
     ([$name:tt $form:ident $size:literal]) => {
-        OpRow { form: Form::$form, size: $size, floating: false, ends: false }
+        OpRow { form: Form::$form, size: $size, floating: false, ends: false, returns: false }
     };
     ([$name:tt $form:ident $size:literal floating]) => {
-        OpRow { form: Form::$form, size: $size, floating: true, ends: false }
+        OpRow { form: Form::$form, size: $size, floating: true, ends: false, returns: false }
     };
     ([$name:tt $form:ident $size:literal ends]) => {
-        OpRow { form: Form::$form, size: $size, floating: false, ends: true }
+        OpRow { form: Form::$form, size: $size, floating: false, ends: true, returns: false }
     };
-    ([$name:tt $form:ident $size:literal floating ends]) => {
-        OpRow { form: Form::$form, size: $size, floating: true, ends: true }
+    ([$name:tt $form:ident $size:literal returns]) => {
+        OpRow { form: Form::$form, size: $size, floating: false, ends: true, returns: true }
+    };
+    ([$name:tt $form:ident $size:literal floating returns]) => {
+        OpRow { form: Form::$form, size: $size, floating: true, ends: true, returns: true }
     };
 }
 
@@ -83,10 +86,11 @@ pub const OPS: [OpRow; 256] = op_rows![
     // 160 to 175
     [if_icmpne Jump 3] [if_icmplt Jump 3] [if_icmpge Jump 3] [if_icmpgt Jump 3] [if_icmple Jump 3]
     [if_acmpeq Jump 3] [if_acmpne Jump 3] [goto Jump 3 ends] [jsr Jump 3] [ret Local 2 ends]
-    [tableswitch Table 0 ends] [lookupswitch Lookup 0 ends] [ireturn Plain 1 ends]
-    [lreturn Plain 1 ends] [freturn Plain 1 floating ends] [dreturn Plain 1 floating ends]
+    [tableswitch Table 0 ends] [lookupswitch Lookup 0 ends] [ireturn Plain 1 returns]
+    [lreturn Plain 1 returns] [freturn Plain 1 floating returns]
+    [dreturn Plain 1 floating returns]
     // 176 to 191
-    [areturn Plain 1 ends] [return Plain 1 ends] [getstatic Pool 3] [putstatic Pool 3]
+    [areturn Plain 1 returns] [return Plain 1 returns] [getstatic Pool 3] [putstatic Pool 3]
     [getfield Pool 3] [putfield Pool 3] [invokevirtual Pool 3] [invokespecial Pool 3]
     [invokestatic Pool 3] [invokeinterface Interface 5] - [new Pool 3] [newarray Array 2]
     [anewarray Pool 3] [arraylength Plain 1] [athrow Plain 1 ends]

@@ -23,6 +23,7 @@ fn rows_by_name(rt: HostRuntime) {
             size,
             floating,
             ends,
+            returns: (172..=177).contains(&op),
         };
         assert_eq!(rt; row(op), want, "{name}");
     }
@@ -61,6 +62,7 @@ fn wide_rows(rt: HostRuntime) {
         size: 6,
         floating: false,
         ends: false,
+        returns: false,
     };
     assert_eq!(rt; wide_row(132), long_increment);
     assert_eq!(rt; at(&WIDE_OPS, 169).size, 4);

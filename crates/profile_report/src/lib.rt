@@ -1,7 +1,6 @@
 //! The report of a run: how it ended, what it counted, and the tree of calling contexts.
 #![tactic(auto)]
 
-mod built_in;
 mod ending;
 mod facts;
 mod names;

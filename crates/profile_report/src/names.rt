@@ -6,7 +6,7 @@ ghost use Rattle.const_pool.specs.BuiltIn.{built_in_names};
 ghost use Rattle.profile_report.specs.Reports.{class_text, method_text};
 ghost use Rattle.profile_report.specs.Shown.{shown};
 
-use crate::built_in::built_in_name;
+use base_classes::built_in_name;
 use const_pool::ClassFile;
 use jf_bytes::{NoMemory, Text16, to_utf8};
 use std::alloc::Global;
@@ -53,7 +53,7 @@ pub fn push_class(
         return push_text(alloc, out, class.pool.class_name(class.this_class).ok());
     }
     if let Some(name) = built_in_name(number as usize - 1) {
-        out.extend_from_slice(name)?;
+        out.extend_from_slice(name.as_bytes())?;
     }
     Ok(())
 }

@@ -69,8 +69,6 @@ const F: u32 = 0;
 
 const M: u32 = 1;
 
-const G: u32 = 2;
-
 fn root(method: u32, clock: u64) -> Event {
     Event {
         kind: EventKind::Root,
@@ -113,16 +111,6 @@ fn tree_of(alloc: Global, events: &[Event], steps: u64) -> Result<Tree, Fail> {
     Ok(tree)
 }
 
-/// The report of a run that returned, with its tree.
-fn returned(steps: u64, swaps: u64) -> Facts {
-    Facts {
-        ending: Some(Ending::Returned),
-        steps,
-        swaps,
-        summary: false,
-    }
-}
-
 /// The report over P1 and these events.
 fn over_p1(alloc: Global, facts: Facts, events: &[Event]) -> Result<Vec<u8>, Fail> {
     let class = p1(alloc)?;
@@ -132,72 +120,6 @@ fn over_p1(alloc: Global, facts: Facts, events: &[Event]) -> Result<Vec<u8>, Fai
             .ok()
             .ok_or("no report")?,
     )
-}
-
-#[test]
-fn reports_a_plain_run(rt: HostRuntime) -> Result<(), Fail> {
-    let text = over_p1(rt.alloc(), returned(9, 0), &[])?;
-    assert!(rt; text.as_slice() == "ending returned\nsteps 9\nswaps 0\ntree\n".as_bytes());
-    Ok(())
-}
-
-#[test]
-fn reports_two_levels(rt: HostRuntime) -> Result<(), Fail> {
-    let events = [root(M, 0), enter(F, 3), leave(F, 7), leave(M, 9)];
-    let text = over_p1(rt.alloc(), returned(9, 2), &events)?;
-    assert!(rt;
-        text.as_slice()
-            == "ending returned\nsteps 9\nswaps 2\ntree\n1 5 9 P1.main([Ljava/lang/String;)V\n  1 4 4 P1.f(I)I\n".as_bytes()
-    );
-    Ok(())
-}
-
-#[test]
-fn reports_siblings_in_order_of_first_begin(rt: HostRuntime) -> Result<(), Fail> {
-    let events = [
-        root(M, 0),
-        enter(G, 2),
-        enter(F, 4),
-        leave(F, 8),
-        leave(G, 9),
-        enter(F, 11),
-        leave(F, 15),
-        enter(G, 17),
-        leave(G, 18),
-        leave(M, 20),
-        root(G, 23),
-        leave(G, 24),
-    ];
-    let text = over_p1(rt.alloc(), returned(30, 3), &events)?;
-    assert!(rt;
-        text.as_slice()
-            == "ending returned\nsteps 30\nswaps 3\ntree\n1 8 20 P1.main([Ljava/lang/String;)V\n  2 4 8 P1.g(I)I\n    1 4 4 P1.f(I)I\n  1 4 4 P1.f(I)I\n1 1 1 P1.g(I)I\n".as_bytes()
-    );
-    Ok(())
-}
-
-#[test]
-fn reports_a_root_within_itself(rt: HostRuntime) -> Result<(), Fail> {
-    let alloc = rt.alloc();
-    let texts = ["r", "(I)V", "main", STRINGS, "g", "(I)I"];
-    let class = class_of(alloc, text16(alloc, "R")?, texts)?;
-    let events = [
-        root(0, 2),
-        root(0, 8),
-        root(0, 14),
-        leave(0, 17),
-        leave(0, 18),
-        leave(0, 19),
-    ];
-    let tree = tree_of(alloc, &events, 20)?;
-    let text = report(alloc, &returned(20, 3), &tree, &class)
-        .ok()
-        .ok_or("no report")?;
-    assert!(rt;
-        text.as_slice()
-            == "ending returned\nsteps 20\nswaps 3\ntree\n1 7 17 R.r(I)V\n  1 7 10 R.r(I)V\n    1 3 3 R.r(I)V\n".as_bytes()
-    );
-    Ok(())
 }
 
 #[test]
@@ -245,52 +167,27 @@ fn reports_each_ending(rt: HostRuntime) -> Result<(), Fail> {
     Ok(())
 }
 
+/// The ending of a class whose name has a pair of surrogates and one without a partner, with sums in place of the tree.
 #[test]
-fn reports_sums_in_place_of_the_tree(rt: HostRuntime) -> Result<(), Fail> {
-    let facts = Facts {
-        ending: None,
-        steps: 12,
-        swaps: 2,
-        summary: true,
-    };
-    let events = [
-        root(M, 0),
-        enter(F, 3),
-        leave(F, 7),
-        enter(F, 8),
-        leave(F, 10),
-        leave(M, 11),
-    ];
-    let text = over_p1(rt.alloc(), facts, &events)?;
-    assert!(rt;
-        text.as_slice()
-            == "ending budget\nsteps 12\nswaps 2\ncontexts 2\ncalls 3\nown 11\n".as_bytes()
-    );
-    Ok(())
-}
-
-#[test]
-fn shows_names_in_utf8(rt: HostRuntime) -> Result<(), Fail> {
+fn reports_sums_and_names_in_utf8(rt: HostRuntime) -> Result<(), Fail> {
     let alloc = rt.alloc();
-    let mut units = Vec::new(alloc);
-    for unit in [0x41u16, 0xD83D, 0xDE00, 0xDE00, 0xE9, 0] {
-        units.push(unit)?;
-    }
+    let units = Vec::from_array(alloc, [0x41u16, 0xD83D, 0xDE00, 0xDE00, 0xE9, 0])?;
     let texts = ["f", "(I)I", "main", STRINGS, "g", "(I)I"];
     let class = class_of(alloc, Text16::new(units), texts)?;
     let facts = Facts {
         ending: Some(Ending::Uncaught(0)),
-        steps: 1,
-        swaps: 0,
+        steps: 12,
+        swaps: 2,
         summary: true,
     };
-    let tree = Tree::new(alloc);
+    let events = [root(M, 0), enter(F, 3), leave(F, 7), leave(M, 11)];
+    let tree = tree_of(alloc, &events, 12)?;
     let text = report(alloc, &facts, &tree, &class)
         .ok()
         .ok_or("no report")?;
     assert!(rt;
         text.as_slice()
-            == "ending uncaught A\u{1F600}?\u{E9}\0\nsteps 1\nswaps 0\ncontexts 0\ncalls 0\nown 0\n".as_bytes()
+            == "ending uncaught A\u{1F600}?\u{E9}\0\nsteps 12\nswaps 2\ncontexts 2\ncalls 2\nown 11\n".as_bytes()
     );
     Ok(())
 }

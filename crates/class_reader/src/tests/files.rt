@@ -2,8 +2,6 @@
 
 use crate::{ReadError, read_class};
 use std::alloc::{AllocError, Global};
-use std::process::Abort;
-use std::test::Fail;
 
 /// A class with the methods `f(I)I` and `main([Ljava/lang/String;)V`. Its constant pool has 23 entries and ends before the
 /// offset 214.
@@ -57,23 +55,6 @@ pub(super) fn wide() -> &'static [u8; 201] {
     &WIDE
 }
 
-/// Other bytes at an offset of a file, and the fault that they make.
-pub(super) type Row = (usize, &'static [u8], ReadError);
-
-/// The file with other bytes from an offset on.
-pub(super) fn changed(
-    alloc: Global,
-    file: &[u8],
-    place: usize,
-    bytes: &[u8],
-) -> Result<Vec<u8>, AllocError> {
-    let mut made = Vec::new(alloc);
-    for (i, old) in file.iter().enumerate() {
-        made.push(*bytes.get(i.wrapping_sub(place)).unwrap_or(old))?;
-    }
-    Ok(made)
-}
-
 /// Some bytes, so many times others, and then further ones.
 pub(super) fn repeated(
     alloc: Global,
@@ -93,22 +74,4 @@ pub(super) fn repeated(
 /// Why these bytes are refused.
 pub(super) fn fault_of(alloc: Global, bytes: &[u8]) -> Option<ReadError> {
     read_class(alloc, bytes).err()
-}
-
-/// That each change of the file makes its fault.
-pub(super) fn assert_faults(
-    rt: &impl Abort,
-    alloc: Global,
-    file: &[u8],
-    rows: &[Row],
-) -> Result<(), Fail> {
-    for (place, bytes, fault) in rows {
-        let made = changed(alloc, file, *place, bytes)?;
-        assert_eq!(rt;
-            fault_of(alloc, &made),
-            Some(*fault),
-            "{bytes:?} at {place}"
-        );
-    }
-    Ok(())
 }

@@ -1,7 +1,7 @@
 //! Files of the greatest lengths and counts. Each is read in proportion to its bytes.
 
 use super::files::{fault_of, p1, repeated};
-use crate::ReadError::{TooLong, Trailing};
+use crate::ReadError::TooLong;
 use crate::{read_class, read_image};
 use std::test::Fail;
 
@@ -27,16 +27,6 @@ fn too_long(rt: HostRuntime) -> Result<(), Fail> {
     assert_eq!(rt; fault_of(rt.alloc(), &bytes), Some(TooLong));
     let class = read_image(rt.alloc(), &bytes)?;
     assert_eq!(rt; class.attributes.len(), 1);
-    Ok(())
-}
-
-#[test]
-fn many_bytes_more(rt: HostRuntime) -> Result<(), Fail> {
-    let bytes = repeated(rt.alloc(), p1(), &[0], 4_194_008, &[])?;
-    assert_eq!(rt; fault_of(rt.alloc(), &bytes), Some(Trailing(296)));
-    let longer = repeated(rt.alloc(), &bytes, &[0], 1, &[])?;
-    assert_eq!(rt; fault_of(rt.alloc(), &longer), Some(TooLong));
-    assert_eq!(rt; read_image(rt.alloc(), &longer).err(), Some(Trailing(296)));
     Ok(())
 }
 

@@ -1,6 +1,11 @@
-use Rattle.std.proofs.Common.{◌≡◌, ◌+◌, length, ap, ◌∙◌, arith}
-use Rattle.code_model.specs.Layout.{home_of, homes_of, laid_of}
-use Rattle.code_model.proofs.Ready.{groups_built, groups_end, groups_near}
+use Rattle.std.proofs.Common.{◌≡◌, ℕ, ◌+◌, List, ◌++◌, Option, Some, length, sym, ap, subst, ◌∙◌, arith}
+use Rattle.std.specs.List.Sorted.{IsStrictlyIncreasing}
+use Rattle.code_model.specs.declared.laying.Homes.{Homes}
+use Rattle.code_model.specs.Layout.{home_of, homes_of, groups_bytes, first_far_from, first_far, laid_of}
+use Rattle.code_model.specs.declared.laying.Group.{Group}
+use Rattle.code_model.specs.Groups.{AreGroups}
+use Rattle.code_model.proofs.Ready.{groups_fit, groups_within, groups_end, groups_read}
+use Rattle.code_model.proofs.Layouts.{starts-increasing}
 use Rattle.code_model.proofs.Walks.{length-laid_of}
 use Rattle.code_model.proofs.laying.lay_out.Goals as goal
 
@@ -21,20 +26,40 @@ returns-then-len-gt-MOST_BYTES-clause-too_long c = λ len is.
     let laid = length-laid_of c.args.front.now c.args.groups.now c.args.back.now in
     (omega arith, omega arith)
 
-pub homes_of-requires-clause-built : goal.homes_of-requires-clause-built
-homes_of-requires-clause-built c = groups_built c.args.groups.now c.requires.groups
+pub homes_of-requires-clause-ends : goal.homes_of-requires-clause-ends
+homes_of-requires-clause-ends c = groups_within c.args.groups.now c.requires.groups
 
-pub code_of-requires : goal.code_of-requires
-code_of-requires c = groups_built c.args.groups.now c.requires.groups
+homes_rise : (front : List ℕ) (gs : List Group) (homes : Homes) → AreGroups gs → homes ≡ homes_of front gs → IsStrictlyIncreasing homes.from
+homes_rise front gs homes a is = subst (λ (h : Homes). IsStrictlyIncreasing h.from) (sym is) (starts-increasing a.bytes front gs (groups_read gs a))
+
+pub first_far-requires-clause-homes : goal.first_far-requires-clause-homes
+first_far-requires-clause-homes c = homes_rise c.args.front.now c.args.groups.now c.in_ok-homes.homes c.requires.groups c.in_ok-homes.ensures
+
+pub code_of-requires-clause-homes : goal.code_of-requires-clause-homes
+code_of-requires-clause-homes c = homes_rise c.args.front.now c.args.groups.now c.in_ok-homes.homes c.requires.groups c.in_ok-homes.ensures
+
+pub code_of-requires-clause-fits : goal.code_of-requires-clause-fits
+code_of-requires-clause-fits c = groups_fit c.args.groups.now c.requires.groups
+
+far_is : (front : List ℕ) (gs : List Group) (homes : Homes) (at other : ℕ) → homes ≡ homes_of front gs → Some at ≡ first_far_from (home_of homes) (length front) gs → at ≡ other → first_far front gs ≡ Some other
+far_is front gs homes at other is far same =
+    let found : ℕ → Option ℕ = λ n. Some n in
+    ap (λ (h : Homes). first_far_from (home_of h) (length front) gs) (sym is) ∙ sym far ∙ ap found same
+
+pub returns-in-Some-clause-far : goal.returns-in-Some-clause-far
+returns-in-Some-clause-far c = λ at is.
+    let same : c.in-Some.at ≡ at = cc in
+    let laid = length-laid_of c.args.front.now c.args.groups.now c.args.back.now in
+    let end = c.end_of_groups-end.ensures in
+    (far_is c.args.front.now c.args.groups.now c.in_ok-homes.homes c.in-Some.at at c.in_ok-homes.ensures c.in-Some.ensures same, omega arith)
 
 pub returns-clause-short : goal.returns-clause-short
 returns-clause-short c =
     let front = c.args.front.now in
     let groups = c.args.groups.now in
     let back = c.args.back.now in
-    let code : c.in_ok-code.code ≡ (laid_of front groups back).code = c.in_ok-code.ensures (home_of (homes_of front groups)) (length front) in
+    let code : c.in_ok-code.code ≡ (laid_of front groups back).code =
+    c.in_ok-code.ensures ∙ ap (λ (h : Homes). front ++ (groups_bytes (home_of h) (length front) groups ++ back)) c.in_ok-homes.ensures in
     let laid = ap length code ∙ length-laid_of front groups back in
+    let end = c.end_of_groups-end.ensures in
     omega arith
-
-pub returns-clause-near : goal.returns-clause-near
-returns-clause-near c = groups_near c.args.front.now c.args.groups.now c.requires.groups

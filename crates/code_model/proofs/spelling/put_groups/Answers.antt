@@ -1,13 +1,23 @@
-use Rattle.std.proofs.Common.{ap, ◌++◌, take, ◌∙◌}
-use Rattle.code_model.specs.Layout.{place_of, end_from, instr_bytes, groups_bytes}
-use Rattle.code_model.proofs.Walks.{groups_bytes-more, put_on}
+use Rattle.std.proofs.Common.{◌++◌, ap, subst, sym, ◌∙◌, ◌≡◌, ◌≤◌, ◌+◌, drop, None}
+use Rattle.code_model.specs.Layout.{home_of, instr_bytes, groups_bytes, first_far_from, end_from}
+use Rattle.code_model.proofs.Steps.{put_group, near-next, short-next}
 use Rattle.code_model.proofs.spelling.put_groups.Goals as goal
 
 pub loop-group-preserved : goal.loop-group-preserved
-loop-group-preserved c = λ home at.
+loop-group-preserved c =
+    let home = home_of c.args.homes.now in
     let g = c.group-item.result in
-    let done = take c.loop-group.group-index c.args.groups.now in
-    let place = place_of (end_from at done) g in
-    put_on c.args.out.now (groups_bytes home at done) g.before (instr_bytes home place g.instr) _ c.loop-group.out c.extend_from_slice.new.self c.put_instr.new.out (c.loop-group.invariant home at)
-    (c.in_ok-extend_from_slice.ensures ∙ ap (λ bytes. c.loop-group.out ++ bytes) c.as_slice.ensures) (c.in_ok-put_instr.ensures home place)
-    (groups_bytes-more home at c.loop-group.group-index c.args.groups.now g c.loop-group-test.true c.group-item.is)
+    let at = c.loop-group.at in
+    let gs = c.args.groups.now in
+    let i = c.loop-group.group-index in
+    let lt = c.loop-group-test.true in
+    let total = c.args.out.now ++ groups_bytes home c.args.start gs in
+    let whole = put_group home total c.loop-group.out c.extend_from_slice.new.self c.put_instr.new.out at i gs g lt c.group-item.is c.loop-group.invariant.whole
+    (c.in_ok-extend_from_slice.ensures ∙ ap (λ bytes. c.loop-group.out ++ bytes) c.as_slice.ensures)
+    (c.in_ok-put_instr.ensures ∙ ap (λ place. c.extend_from_slice.new.self ++ instr_bytes home place g.instr) c.place_of.ensures) in
+    let next = sym c.group_end-at.ensures in
+    record {
+      whole = subst (λ n. c.put_instr.new.out ++ groups_bytes home n (drop (i + 1) gs) ≡ total) next whole;
+      near = subst (λ n. first_far_from home n (drop (i + 1) gs) ≡ None) next (near-next home at i gs g lt c.group-item.is c.loop-group.invariant.near);
+      short = subst (λ n. end_from n (drop (i + 1) gs) ≤ 65535) next (short-next at i gs g lt c.group-item.is c.loop-group.invariant.short);
+    }

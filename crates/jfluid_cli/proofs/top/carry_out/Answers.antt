@@ -2,6 +2,7 @@ use Rattle.std.proofs.Common.{◌≡◌, ◌≢◌, ℕ, [], sym, ap, subst}
 use Rattle.std.specs.Prelude.{map, MatchResult}
 use Rattle.std.specs.String.{string_bytes}
 use Rattle.std.specs.Io.KnownBytes.{append_known}
+use Rattle.jvm_model.specs.Programs.{world_of}
 use Rattle.jvm_model.specs.Run.{ending_of}
 use Rattle.jfluid_cli.specs.declared.refusal.Refusal.TheVariants.{NoMemory}
 use Rattle.jfluid_cli.specs.declared.loading.Prepared.{Prepared}
@@ -24,7 +25,7 @@ returns-in-Err-clause-complete g c = λ class main accepted calm _.
 pub returns-clause-complete : goal.returns-clause-complete
 returns-clause-complete g c = λ class main accepted calm still.
     let loaded = c.in-Ok.prepared.loaded in
-    subst (λ (budget : ℕ). MatchResult c.run_made.result (λ s. s ≢ 8 → s ≡ status_of_ending (ending_of class main [] budget)) (λ e. e ≡ NoMemory)) c.in-Some.ensures.budget
+    subst (λ (budget : ℕ). MatchResult c.run_made.result (λ s. s ≢ 8 → s ≡ status_of_ending (ending_of (world_of class main []) budget)) (λ e. e ≡ NoMemory)) c.in-Some.ensures.budget
     (run_answers (λ k. k.classes ≡ c.in-Ok-make.made_of.classes) (λ k. k.input ≡ c.in-Ok-make.made_of.input)
     (λ k. g.P.Sink.taken c.run_made.new.report ≡ append_known (g.P.Sink.taken c.args.report.now) (report_of c.in-Ok.prepared.root k.vm)) (λ k. g.P.Sink.faults c.run_made.new.report ≡ g.P.Sink.faults c.args.report.now)
     c.run_made.result c.run_made.new.kept class loaded.program.class main loaded.program.main c.in-Some.command.options.budget c.in-Ok-make.made_of.vm (g.O.Sink.faults c.args.out.now) (g.O.Sink.faults c.run_made.new.out) (g.O.Sink.taken c.args.out.now) (g.O.Sink.taken c.run_made.new.out)

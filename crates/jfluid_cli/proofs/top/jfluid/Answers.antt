@@ -1,7 +1,7 @@
 use Rattle.std.proofs.Common.{◌≡◌, List, ℕ, sym, ap, subst, ◌∙◌, None, Err, inr}
 use Rattle.std.specs.Prelude.{map}
 use Rattle.std.specs.String.{string_bytes}
-use Rattle.jfluid_cli.specs.Refusals.{Tells, PutsOrRose, line_of}
+use Rattle.jfluid_cli.specs.Refusals.{TellsRefusal, PutsOrRose, refusal_line}
 use Rattle.jfluid_cli.specs.Top.{file_word, is_refused}
 use Rattle.jfluid_cli.proofs.Refused.{tells, file_refused, words_refused, bad_told, memory_told, nothing_made}
 use Rattle.jfluid_cli.proofs.Refusable.{not_kept, told_three}
@@ -12,12 +12,12 @@ returns-clause-file g c status =
     let words : List (List ℕ) = map string_bytes c.args.words.now in
     let word : c.third_word.result.now ≡ file_word words = c.third_word.ensures in
     file_refused (g.F.Files.contents c.args.files.now) words
-    (Tells (g.P.Sink.taken c.args.report.now) (g.P.Sink.taken c.tell.new.report) (g.P.Sink.faults c.args.report.now) (g.P.Sink.faults c.tell.new.report) (file_word words))
+    (TellsRefusal (g.P.Sink.taken c.args.report.now) (g.P.Sink.taken c.tell.new.report) (g.P.Sink.faults c.args.report.now) (g.P.Sink.faults c.tell.new.report) (file_word words))
     c.in-Err.refusal c.tell.result c.tell.ensures.told (sym c.status.ensures.value ∙ status)
     (λ why e. (c.in-Err.ensures.not_read why (ap Err e)).1) (λ e. (c.in-Err.ensures.not_built (ap Err e)).1) (λ e. (c.in-Err.ensures.no_main (ap Err e)).1) (λ e. (c.in-Err.ensures.no_root (ap Err e)).1)
     (λ r e. tells (g.P.Sink.taken c.args.report.now) (g.P.Sink.taken c.carry_out.new.report) (g.P.Sink.taken c.tell.new.report) (g.P.Sink.faults c.args.report.now) (g.P.Sink.faults c.carry_out.new.report) (g.P.Sink.faults c.tell.new.report)
     (file_word words) c.tell.result r c.in-Err.ensures.stays.0 c.in-Err.ensures.stays.1 e
-    (subst (λ (file : List ℕ). PutsOrRose (g.P.Sink.taken c.carry_out.new.report) (g.P.Sink.taken c.tell.new.report) (g.P.Sink.faults c.carry_out.new.report) (g.P.Sink.faults c.tell.new.report) (line_of c.tell.result file)) word c.tell.ensures.line))
+    (subst (λ (file : List ℕ). PutsOrRose (g.P.Sink.taken c.carry_out.new.report) (g.P.Sink.taken c.tell.new.report) (g.P.Sink.faults c.carry_out.new.report) (g.P.Sink.faults c.tell.new.report) (refusal_line c.tell.result file)) word c.tell.ensures.line))
 
 pub returns-clause-complete : goal.returns-clause-complete
 returns-clause-complete g c = λ class main accepted calm still _.
@@ -37,12 +37,12 @@ returns-clause-words g c status =
     let words : List (List ℕ) = map string_bytes c.args.words.now in
     let word : c.third_word.result.now ≡ file_word words = c.third_word.ensures in
     words_refused words
-    (Tells (g.P.Sink.taken c.args.report.now) (g.P.Sink.taken c.tell.new.report) (g.P.Sink.faults c.args.report.now) (g.P.Sink.faults c.tell.new.report) (file_word words))
+    (TellsRefusal (g.P.Sink.taken c.args.report.now) (g.P.Sink.taken c.tell.new.report) (g.P.Sink.faults c.args.report.now) (g.P.Sink.faults c.tell.new.report) (file_word words))
     c.in-Err.refusal c.tell.result c.tell.ensures.told (sym c.status.ensures.value ∙ status)
     (λ e. c.in-Err.ensures.words.0 (ap Err e)) (λ e. (c.in-Err.ensures.bad_root (ap Err e)).1)
     (λ r e. tells (g.P.Sink.taken c.args.report.now) (g.P.Sink.taken c.carry_out.new.report) (g.P.Sink.taken c.tell.new.report) (g.P.Sink.faults c.args.report.now) (g.P.Sink.faults c.carry_out.new.report) (g.P.Sink.faults c.tell.new.report)
     (file_word words) c.tell.result r c.in-Err.ensures.stays.0 c.in-Err.ensures.stays.1 e
-    (subst (λ (file : List ℕ). PutsOrRose (g.P.Sink.taken c.carry_out.new.report) (g.P.Sink.taken c.tell.new.report) (g.P.Sink.faults c.carry_out.new.report) (g.P.Sink.faults c.tell.new.report) (line_of c.tell.result file)) word c.tell.ensures.line))
+    (subst (λ (file : List ℕ). PutsOrRose (g.P.Sink.taken c.carry_out.new.report) (g.P.Sink.taken c.tell.new.report) (g.P.Sink.faults c.carry_out.new.report) (g.P.Sink.faults c.tell.new.report) (refusal_line c.tell.result file)) word c.tell.ensures.line))
 
 pub returns-clause-root_only : goal.returns-clause-root_only
 returns-clause-root_only g c = λ bad.

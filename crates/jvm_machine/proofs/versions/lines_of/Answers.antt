@@ -15,5 +15,5 @@ loop-place-preserved c =
     let origin : get_or c.as_slice.result.now c.loop-place.place None ≡ origin_by c.args.homes.now c.loop-place.place =
     ap (λ os. get_or os c.loop-place.place None) (c.as_slice.ensures ∙ c.in_ok-origins.ensures)
     ∙ get_or-map-range_with_len (origin_by c.args.homes.now) 0 (length c.args.code.now) c.loop-place.place c.loop-place.place None c.loop-place-test.true (zero-add c.loop-place.place) in
-    rw c.in_ok-push.ensures.items (tabled-more (placed_line c.args.image.now c.args.homes.now c.args.code.now) c.loop-place.place c.loop-place.lines c.line_with.result c.loop-place.invariant
-    (c.line_with.ensures ∙ ap (line_with c.args.image.now c.args.code.now c.loop-place.place) origin))
+    rw c.in_ok-push.ensures.items (tabled-more (placed_line c.args.image.now c.args.homes.now c.args.code.now) c.loop-place.place c.loop-place.lines c.in_ok-line.line c.loop-place.invariant
+    (c.in_ok-line.ensures ∙ ap (line_with c.args.image.now c.args.code.now c.loop-place.place) origin))

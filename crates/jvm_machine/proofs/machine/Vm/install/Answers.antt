@@ -18,7 +18,7 @@ invariant_of-self c =
     let class : c.args.self.now.class ≡ c.self.inside.tables.class = ap (λ (v : View). v.class) (sym c.self.view_is) in
     let started : c.self.inside.started ≡ false = ap (λ (v : View). v.started) c.self.view_is ∙ c.requires.early in
     let whole : c.self.inside.broken ≡ false = ap (λ (v : View). v.broken) c.self.view_is ∙ c.requires.whole in
-    is_installed c.install.result c.self.inside.tables c.install.new.self c.self.inside.main c.self.inside.input c.self.inside.state c.self.inside.phase c.self.inside.started c.self.inside.broken c.self.inside.clock
+    is_installed c.install.result c.self.inside.tables c.install.new.self c.self.inside.state c.self.inside.told c.self.inside.started c.self.inside.broken c.self.inside.clock
     c.args.marks.now c.args.image c.args.homes.now c.self.invariant started whole
     (c.requires.marks ∙ ap (λ (k : ClassFile). length k.methods) class)
     (subst (λ (k : ClassFile). IsImage k 0 c.args.marks.now c.args.image c.args.homes.now) class c.requires.image)

@@ -1,0 +1,14 @@
+pub mod Declarations
+pub mod Notation
+pub mod ObjectClasses
+pub mod TextClasses
+pub mod StreamClasses
+pub mod ValueClasses
+pub mod ThrowableClasses
+pub mod RowViews
+pub mod Shown
+pub mod BuiltInClasses
+pub mod Making
+pub mod Hashes
+pub mod Natives
+pub mod Soundness

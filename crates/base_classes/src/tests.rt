@@ -1,0 +1,6 @@
+use super::*;
+use jf_bytes::from_utf8;
+use std::test::Fail;
+
+mod members;
+mod numbers;

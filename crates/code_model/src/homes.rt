@@ -1,0 +1,89 @@
+//! Where instructions come to stand when they are laid out anew.
+
+ghost use Rattle.std.specs.Prelude.{◌≡◌, ◌≤◌, [], ◌∷◌, length, OnOk, IfOk, IfSome, All};
+ghost use Rattle.std.specs.Option.{option_copied};
+ghost use Rattle.std.specs.List.Sorted.{IsStrictlyIncreasing};
+ghost use Rattle.code_model.specs.Layout.{spots_from, end_from, with_spots, homes_of, home_of, home_by};
+ghost use Rattle.code_model.specs.Groups.{EndsWithin};
+
+use crate::laying::{Group, Homes};
+use crate::sizes::{group_end, place_of, source_end};
+use jf_bytes::{NoMemory, Seq};
+use std::alloc::Global;
+
+/// No homes, with room for so many.
+fn no_homes(alloc: Global, capacity: usize) -> Result<Homes, NoMemory>
+    ensures { IfOk result (λ homes. homes ≡ record { from = []; home = []; place = [] }) }
+{
+    Ok(Homes {
+        from: Seq::with_capacity(alloc, capacity)?,
+        home: Seq::with_capacity(alloc, capacity)?,
+        place: Seq::with_capacity(alloc, capacity)?,
+    })
+}
+
+/// Adds a spot.
+fn add_spot(homes: &mut Homes, from: u16, home: u16, place: u16) -> Result<(), NoMemory>
+    ensures { OnOk result (homes.new ≡ with_spots homes.old (record { from = from; home = home; place = place } ∷ [])) }
+{
+    homes.from.push(from)?;
+    homes.home.push(home)?;
+    homes.place.push(place)?;
+    Ok(())
+}
+
+/// Adds the spots of groups that follow one another from here on.
+#[tactic(auto, using(crate::proofs::Walks::walk_bounds))]
+fn add_spots(homes: &mut Homes, groups: &[Group], start: u32) -> Result<(), NoMemory>
+    requires { end_from start groups.now ≤ 65535 }
+    ensures { OnOk result (homes.new ≡ with_spots homes.old (spots_from start groups.now)) }
+{
+    let mut at = start;
+    for group in groups {
+        add_spot(homes, group.instr.at, at as u16, place_of(group, at) as u16)?;
+        at = group_end(group, at);
+    }
+    Ok(())
+}
+
+/// Where each original offset comes to stand behind a front. The groups end here.
+#[tactic(auto, using(crate::proofs::Walks::walk_bounds))]
+pub(crate) fn homes_of(
+    alloc: Global,
+    front: &[u8],
+    groups: &[Group],
+    end: u16,
+) -> Result<Homes, NoMemory>
+    requires ends { All EndsWithin groups.now }
+    requires end { end ≡ end_from (length front.now) groups.now }
+    ensures { IfOk result (λ homes. homes ≡ homes_of front.now groups.now) }
+{
+    let mut homes = no_homes(alloc, groups.len() + 1)?;
+    add_spots(&mut homes, groups, front.len() as u32)?;
+    add_spot(&mut homes, source_end(groups), end, end)?;
+    Ok(homes)
+}
+
+impl Homes {
+    /// Where an original offset comes to stand: its home, or 0 where it has none. It is found by halves.
+    pub fn home_of(&self, at: u16) -> u16
+        requires { IsStrictlyIncreasing self.now.from }
+        ensures { result ≡ home_of self.now at }
+    {
+        match self.from.as_slice().binary_search(&at) {
+            Ok(place) => self.home.at(place).unwrap_or(0),
+            Err(_) => 0,
+        }
+    }
+}
+
+/// Where a target leads in code that is laid out with homes, or that stays as it was.
+pub(crate) fn home_by(homes: Option<&Homes>, at: u16) -> u16
+    requires { IfSome homes (λ h. IsStrictlyIncreasing h.now.from) }
+    ensures { result ≡ home_by (option_copied homes.entry) at }
+{
+    match homes {
+        Some(homes) => homes.home_of(at),
+        None => at,
+    }
+}

@@ -1,0 +1,23 @@
+use Rattle.std.proofs.Common.{◌+◌, ◌≤◌, length, arith}
+use Rattle.std.specs.Vec.{vec_capacity}
+use Rattle.frame_stack.specs.Cuts.{top_limit}
+use Rattle.frame_stack.proofs.Cutting.{flat-roomier, flat-reserved, length-below-limit}
+use Rattle.frame_stack.proofs.frames.Frames.reserve.Goals as goal
+
+pub invariant_of-self-in_err-reserve-2 : goal.invariant_of-self-in_err-reserve-2
+invariant_of-self-in_err-reserve-2 c =
+    let f = c.self.inside in
+    rw (c.reserve.ensures.items, c.reserve-2.ensures.items)
+    (flat-roomier f.top f.below.items (vec_capacity f.below) (vec_capacity c.reserve-2.new.self) f.slots.items (vec_capacity f.slots) (vec_capacity c.reserve.new.self) f.room
+    c.self.invariant c.reserve-2.ensures.capacity c.reserve.ensures.capacity)
+
+pub invariant_of-self-2 : goal.invariant_of-self-2
+invariant_of-self-2 c =
+    let f = c.self.inside in
+    let long : length f.slots.items ≤ top_limit f.top = length-below-limit f.top f.below.items (vec_capacity f.slots) f.slots.items c.self.invariant.frames in
+    rw (c.reserve.ensures.items, c.reserve-2.ensures.items)
+    (flat-reserved f.top f.below.items (vec_capacity f.below) (vec_capacity c.reserve-2.new.self) f.slots.items (vec_capacity f.slots) (vec_capacity c.reserve.new.self) f.room
+    (c.args.max_locals + c.args.max_stack)
+    c.self.invariant c.reserve-2.ensures.capacity c.reserve.ensures.capacity
+    (omega (arith, c.in_ok-reserve.ensures.ok, c.in-Some.ensures))
+    (omega (arith, c.in_ok-reserve-2.ensures.ok)))

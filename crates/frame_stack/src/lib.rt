@@ -1,0 +1,12 @@
+//! The frames of a machine in one vector of slots. Contracts see a list of frames, the top first.
+#![tactic(auto)]
+
+mod entry;
+mod frames;
+mod slots;
+mod width;
+
+pub use frames::Frames;
+
+#[cfg(test)]
+mod tests;

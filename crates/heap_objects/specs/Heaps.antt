@@ -1,0 +1,99 @@
+-- The heap as a list of objects, numbered from 1 in order of allocation; how many slots were used; and the interned texts.
+-- An object takes one slot and one for each field, element or unit. Slots are never given back.
+use Rattle.std.specs.Prelude.{◌<◌, ◌≤◌, ℕ, ◌+◌, ◌-◌, ◌++◌, Bool, false, List, [], ◌∷◌, length, Option, IsSome, unwrap_or, option_and_then, slice_get, sum_by, replicate, is_some, if◌then◌else◌}
+use Rattle.std.specs.Option.{option_map, option_map_or}
+use Rattle.heap_objects.specs.declared.datum.Datum.{Datum}
+use Rattle.heap_objects.specs.declared.object.Object.{Object}
+use Rattle.heap_objects.specs.declared.object.Object.TheVariants.{Array, Text}
+use Rattle.heap_objects.specs.Objects.{kind_of, length_of, cost_of, slots_of, units_of, has_slot, with_slot, with_units, with_more_units, object_at, changed_at}
+use Rattle.heap_objects.specs.Kinds.{element_of}
+use Rattle.heap_objects.specs.Kept.{kept}
+use Rattle.heap_objects.specs.Interning.{number_of}
+
+pub record HeapView : Type 0 where
+  pub limit : ℕ
+  pub used : ℕ
+  pub objects : List Object
+  pub interned : List (List ℕ × ℕ)
+
+abbrev pub empty_heap : ℕ → HeapView
+empty_heap limit = record { limit = limit; used = 0; objects = []; interned = [] }
+
+-- so many slots more pass the limit
+abbrev pub ExceedsLimit : ℕ → HeapView → Type 0
+ExceedsLimit asked h = h.limit < h.used + asked
+
+-- ---- what is read
+
+abbrev pub slot_at : ℕ → ℕ → HeapView → Option Datum
+slot_at object slot h = option_and_then (λ o. slice_get (slots_of o) slot) (object_at object h.objects)
+
+abbrev pub has_slot_at : ℕ → ℕ → HeapView → Bool
+has_slot_at object slot h = option_map_or (has_slot slot) (object_at object h.objects) false
+
+abbrev pub kind_at : ℕ → HeapView → Option ℕ
+kind_at object h = option_map kind_of (object_at object h.objects)
+
+abbrev pub length_at : ℕ → HeapView → Option ℕ
+length_at object h = option_map length_of (object_at object h.objects)
+
+abbrev pub units_at : ℕ → HeapView → Option (List ℕ)
+units_at object h = option_and_then units_of (object_at object h.objects)
+
+-- the object is a text
+abbrev pub IsText : ℕ → HeapView → Type 0
+IsText object h = IsSome (units_at object h)
+
+-- ---- what is made
+
+-- one object more
+abbrev pub with_object : Object → HeapView → HeapView
+with_object o h = record h { used = h.used + cost_of o; objects = h.objects ++ o ∷ [] }
+
+-- an array whose elements all have what they keep of a value
+abbrev pub new_array : ℕ → Datum → ℕ → Object
+new_array kind zero len = Array (record { kind = kind; items = replicate len (kept (element_of kind) zero) })
+
+-- the number of the object that is made next
+abbrev pub next_number : HeapView → ℕ
+next_number h = length h.objects + 1
+
+-- the number of the object that was made for equal units, or of the one that is made for these
+abbrev pub interned_number : List ℕ → HeapView → ℕ
+interned_number units h = unwrap_or (number_of units h.interned) (next_number h)
+
+-- a text that is made once for equal units
+abbrev pub with_interned : ℕ → List ℕ → HeapView → HeapView
+with_interned kind units h =
+    if is_some (number_of units h.interned) then h
+    else record (with_object (Text kind units) h) { interned = h.interned ++ (units, next_number h) ∷ [] }
+
+-- ---- what is changed
+
+abbrev pub with_changed : (Object → Object) → ℕ → HeapView → HeapView
+with_changed f object h = record h { objects = changed_at f (object - 1) h.objects }
+
+-- a value was put into a slot
+abbrev pub with_slot_at : ℕ → ℕ → Datum → HeapView → HeapView
+with_slot_at object slot v h = with_changed (with_slot slot v) object h
+
+-- how many slots more a text takes with these units in place of its own
+abbrev pub growth_of : ℕ → List ℕ → HeapView → ℕ
+growth_of object units h = length units - unwrap_or (length_at object h) 0
+
+-- units were added to a text
+abbrev pub with_units_added : ℕ → List ℕ → HeapView → HeapView
+with_units_added object units h =
+    record (with_changed (with_more_units units) object h) { used = h.used + length units }
+
+-- a text has these units in place of its own
+abbrev pub with_units_replaced : ℕ → List ℕ → HeapView → HeapView
+with_units_replaced object units h =
+    record (with_changed (with_units units) object h) { used = h.used + growth_of object units h }
+
+-- ---- what always holds
+
+-- The objects take no more slots than were used, and those are within the limit.
+pub record IsSound (h : HeapView) : Type 0 where
+  pub within : h.used ≤ h.limit
+  pub counted : sum_by cost_of h.objects ≤ h.used

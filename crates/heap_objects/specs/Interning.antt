@@ -1,0 +1,8 @@
+-- The interned texts: the units of each, with the number of the object that was made for them, in order.
+use Rattle.std.specs.Prelude.{ℕ, List, Option}
+use Rattle.std.specs.Str.{bytes_eq}
+use Rattle.std.specs.Map.{lookup}
+
+-- the number that stands with equal units
+abbrev pub number_of : List ℕ → List (List ℕ × ℕ) → Option ℕ
+number_of units entries = lookup (bytes_eq units) entries

@@ -1,0 +1,7 @@
+pub mod Kinds
+pub mod Kept
+pub mod Cells
+pub mod ArrayView
+pub mod Objects
+pub mod Interning
+pub mod Heaps

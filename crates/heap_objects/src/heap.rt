@@ -1,0 +1,279 @@
+//! The heap of a run.
+
+ghost use Rattle.std.specs.Prelude.{◌≡◌, ◌<◌, ◌≤◌, ◌+◌, ◌-◌, ◌↔◌, ◌++◌, ◌∷◌, ◌^◌, [], Some, None, IfOk, IfSome, length, replicate, is_ok, nat_le, if◌then◌else◌};
+ghost use Rattle.std.specs.Option.{option_copied, option_map};
+ghost use Rattle.std.specs.Vec.{vec_len, vec_capacity};
+
+use crate::array::ArrayObject;
+use crate::datum::Datum;
+use crate::error::HeapError;
+use crate::interned::Interned;
+use crate::lists::{append_at, item_at, put_at, replace_at};
+use crate::object::Object;
+use jf_bytes::{NoMemory, Seq};
+use std::alloc::Global;
+use std::marker::Model;
+
+/// The objects of a run, numbered from 1 in order of allocation (JVM Specification 2.5.3), how many slots were used, and the
+/// texts that were interned. 0 is null, and no object's number. A clause sees the list of the objects. The limit is the
+/// product's own: an instance takes one slot and one for each field, an array one and one for each element, a text one and
+/// one for each unit, and none is given back.
+#[derive(Drop)]
+pub struct Heap {
+    alloc: Global,
+    limit: u32,
+    used: u32,
+    objects: Vec<Object>,
+    interned: Interned,
+}
+
+impl Model for Heap {
+    ghost use Rattle.heap_objects.specs.Heaps.{HeapView, IsSound};
+
+    ghost Value = { HeapView };
+
+    ghost view = { λ h. record {
+      limit = h.limit;
+      used = h.used;
+      objects = h.objects.items;
+      interned = h.interned;
+    } };
+
+    ghost invariant = { λ h. IsSound (record {
+      limit = h.limit;
+      used = h.used;
+      objects = h.objects.items;
+      interned = h.interned;
+    }) };
+}
+
+/// How many slots are used with so many more, where the limit allows.
+fn charged(limit: u32, used: u32, asked: usize) -> Option<u32>
+    requires { used ≤ limit }
+    ensures { result ≡ (if nat_le (used + asked) limit then Some (used + asked) else None) }
+{
+    if asked > (limit - used) as usize {
+        return None;
+    }
+    Some(used + asked as u32)
+}
+
+/// Puts an object behind the others, where there is room.
+fn put_last(objects: &mut Vec<Object>, object: Object)
+    requires { vec_len objects.old < vec_capacity objects.old }
+    ensures { objects.new.items ≡ objects.old.items ++ object ∷ [] }
+{
+    let _ = objects.push(object);
+}
+
+impl Heap {
+    ghost use Rattle.heap_objects.specs.declared.object.Object.{Object};
+    ghost use Rattle.heap_objects.specs.Kinds.{element_of};
+    ghost use Rattle.heap_objects.specs.Kept.{kept};
+    ghost use Rattle.heap_objects.specs.Objects.{cost_of, length_of, kept_by, object_at};
+    ghost use Rattle.heap_objects.specs.Interning.{number_of};
+    ghost use Rattle.heap_objects.specs.Heaps.{empty_heap, ExceedsLimit, slot_at, has_slot_at, kind_at, length_at, units_at, IsText, with_object, next_number, interned_number, with_interned, with_slot_at, growth_of, new_array, with_units_added, with_units_replaced, IsSound};
+
+    /// A heap without objects, for so many slots. It takes no memory.
+    pub fn new(alloc: Global, limit: u32) -> Heap
+        ensures { result ≡ empty_heap limit }
+    {
+        Heap {
+            alloc,
+            limit,
+            used: 0,
+            objects: Vec::new(alloc),
+            interned: Interned::new(alloc),
+        }
+    }
+
+    /// How many slots were used.
+    pub fn used(&self) -> u32
+        ensures used { result ≡ self.now.used }
+        ensures sound { IsSound self.now }
+    {
+        self.used
+    }
+
+    fn find(&self, object: u32) -> Option<&Object>
+        ensures found { option_copied result ≡ object_at object self.now.objects }
+        ensures fits { IfSome result (λ o. length_of o.now < 2 ^ 32) }
+    {
+        let _limit = self.limit;
+        if object == 0 {
+            return None;
+        }
+        item_at(&self.objects, object as usize - 1)
+    }
+
+    /// The value of a field or an element, or None where there is no such object or slot. A text has no slots. The value is
+    /// one that the slot keeps whole: that of an array is of its elements' sort and within their range.
+    pub fn get(&self, object: u32, slot: u32) -> Option<Datum>
+        ensures found { result ≡ slot_at object slot self.now }
+        ensures whole { IfSome result (λ v. IfSome (object_at object self.now.objects) (λ o. kept_by o v ≡ v)) }
+    {
+        self.find(object)?.get(slot as usize)
+    }
+
+    /// The kind of an object, or None where there is none of this number.
+    pub fn kind(&self, object: u32) -> Option<u32>
+        ensures { result ≡ kind_at object self.now }
+    {
+        Some(self.find(object)?.kind())
+    }
+
+    /// How many fields, elements or units an object has, or None where there is none of this number.
+    pub fn len(&self, object: u32) -> Option<u32>
+        ensures { result ≡ length_at object self.now }
+    {
+        let size = self.find(object)?.size();
+        Some(size as u32)
+    }
+
+    /// The units of a text, or None where the number is no text's.
+    pub fn units(&self, object: u32) -> Option<&[u16]>
+        ensures { option_map (λ u. u.now) result ≡ units_at object self.now }
+    {
+        self.find(object)?.units()
+    }
+
+    /// Adds an object that takes the heap to so many slots.
+    #[tactic(auto, using(crate::proofs::HeapLemmas::length_within, crate::proofs::HeapLemmas::cost_more))]
+    fn add(&mut self, object: Object, used: u32) -> Result<u32, NoMemory>
+        requires cost { used ≡ self.old.used + cost_of object }
+        requires within { used ≤ self.old.limit }
+        ensures number { IfOk result (λ n. n ≡ next_number self.old) }
+        ensures heap { self.new ≡ (if is_ok result then with_object object self.old else self.old) }
+    {
+        let number = self.objects.len() as u32 + 1;
+        self.objects.push(object)?;
+        self.used = used;
+        Ok(number)
+    }
+
+    /// Makes an instance with these fields, and gives its number. Its class is told by its kind. An Err changes nothing.
+    pub fn instance(&mut self, kind: u32, fields: &[Datum]) -> Result<u32, HeapError>
+        ensures full { (result ≡ Err HeapError.HeapFull) ↔ ExceedsLimit (1 + length fields.now) self.old }
+        ensures number { IfOk result (λ n. n ≡ next_number self.old) }
+        ensures heap { self.new ≡ (if is_ok result then with_object (Object.Instance kind fields.now) self.old
+            else self.old) }
+    {
+        let Some(used) = charged(self.limit, self.used, 1 + fields.len()) else {
+            return Err(HeapError::HeapFull);
+        };
+        let own = Seq::from_slice(self.alloc, fields)?;
+        let number = self.add(Object::Instance(kind, own), used)?;
+        Ok(number)
+    }
+
+    /// Makes an array of so many elements, each with what it keeps of `zero`, and gives its number. The zeros are written
+    /// once. An Err changes nothing.
+    pub fn array(&mut self, kind: u32, zero: Datum, len: u32) -> Result<u32, HeapError>
+        ensures full { (result ≡ Err HeapError.HeapFull) ↔ ExceedsLimit (1 + len) self.old }
+        ensures number { IfOk result (λ n. n ≡ next_number self.old) }
+        ensures heap { self.new ≡ (if is_ok result then with_object (new_array kind zero len) self.old
+            else self.old) }
+    {
+        let Some(used) = charged(self.limit, self.used, 1 + len as usize) else {
+            return Err(HeapError::HeapFull);
+        };
+        let array = ArrayObject::make(self.alloc, kind, zero, len as usize)?;
+        let number = self.add(Object::Array(array), used)?;
+        Ok(number)
+    }
+
+    /// Makes a text with these units, and gives its number. An Err changes nothing.
+    pub fn text(&mut self, kind: u32, units: &[u16]) -> Result<u32, HeapError>
+        ensures full { (result ≡ Err HeapError.HeapFull) ↔ ExceedsLimit (1 + length units.now) self.old }
+        ensures number { IfOk result (λ n. n ≡ next_number self.old) }
+        ensures heap { self.new ≡ (if is_ok result then with_object (Object.Text kind units.now) self.old
+            else self.old) }
+    {
+        let Some(used) = charged(self.limit, self.used, 1 + units.len()) else {
+            return Err(HeapError::HeapFull);
+        };
+        let own = Seq::from_slice(self.alloc, units)?;
+        let number = self.add(Object::Text(kind, own), used)?;
+        Ok(number)
+    }
+
+    /// Makes the text that these units are interned as, where none was interned yet.
+    #[tactic(auto, using(crate::proofs::HeapLemmas::length_within, crate::proofs::HeapLemmas::cost_more))]
+    fn intern_new(&mut self, kind: u32, units: &[u16]) -> Result<u32, HeapError>
+        requires { number_of units.now self.old.interned ≡ None }
+        ensures full { (result ≡ Err HeapError.HeapFull) ↔ ExceedsLimit (1 + length units.now) self.old }
+        ensures number { IfOk result (λ n. n ≡ next_number self.old) }
+        ensures heap { self.new ≡ (if is_ok result then with_interned kind units.now self.old else self.old) }
+    {
+        let Some(used) = charged(self.limit, self.used, 1 + units.len()) else {
+            return Err(HeapError::HeapFull);
+        };
+        let own = Seq::from_slice(self.alloc, units)?;
+        self.objects.reserve(1)?;
+        let number = self.objects.len() as u32 + 1;
+        self.interned.add(self.alloc, units, number)?;
+        put_last(&mut self.objects, Object::Text(kind, own));
+        self.used = used;
+        Ok(number)
+    }
+
+    /// The number of the text that was made for equal units, or of the one that is made for these now (JVM Specification 5.1,
+    /// string literals). `kind` is that of the class String. An Err changes nothing.
+    pub fn intern(&mut self, kind: u32, units: &[u16]) -> Result<u32, HeapError>
+        ensures full { (result ≡ Err HeapError.HeapFull)
+            ↔ ((number_of units.now self.old.interned ≡ None)
+            × ExceedsLimit (1 + length units.now) self.old) }
+        ensures number { IfOk result (λ n. n ≡ interned_number units.now self.old) }
+        ensures heap { self.new ≡ (if is_ok result then with_interned kind units.now self.old else self.old) }
+    {
+        match self.interned.find(units) {
+            Some(number) => Ok(number),
+            None => self.intern_new(kind, units),
+        }
+    }
+
+    /// Puts a value into a field or an element. False, with nothing changed, where there is no such object or slot. An
+    /// array keeps of the value what its elements keep: of a boolean the lowest bit, of a byte, char or short the low bits.
+    pub fn put(&mut self, object: u32, slot: u32, value: Datum) -> bool
+        ensures answer { result ≡ has_slot_at object slot self.old }
+        ensures heap { self.new ≡ (if result then with_slot_at object slot value self.old else self.old) }
+    {
+        if object == 0 {
+            return false;
+        }
+        put_at(&mut self.objects, object as usize - 1, slot as usize, value)
+    }
+
+    /// Adds units at the end of a text, which takes a slot for each. An Err changes nothing.
+    pub fn append(&mut self, object: u32, units: &[u16]) -> Result<(), HeapError>
+        requires { IsText object self.old }
+        ensures full { (result ≡ Err HeapError.HeapFull) ↔ ExceedsLimit (length units.now) self.old }
+        ensures heap { self.new ≡ (if is_ok result then with_units_added object units.now self.old
+            else self.old) }
+    {
+        let Some(used) = charged(self.limit, self.used, units.len()) else {
+            return Err(HeapError::HeapFull);
+        };
+        append_at(&mut self.objects, object as usize - 1, units)?;
+        self.used = used;
+        Ok(())
+    }
+
+    /// Gives a text these units in place of its own. It takes as many slots as it gets longer. An Err changes nothing.
+    pub fn replace(&mut self, object: u32, units: &[u16]) -> Result<(), HeapError>
+        requires { IsText object self.old }
+        ensures full { (result ≡ Err HeapError.HeapFull)
+            ↔ ExceedsLimit (growth_of object units.now self.old) self.old }
+        ensures heap { self.new ≡ (if is_ok result then with_units_replaced object units.now self.old
+            else self.old) }
+    {
+        let before = self.len(object).unwrap_or(0) as usize;
+        let grown = units.len().saturating_sub(before);
+        let Some(used) = charged(self.limit, self.used, grown) else {
+            return Err(HeapError::HeapFull);
+        };
+        replace_at(self.alloc, &mut self.objects, object as usize - 1, units)?;
+        self.used = used;
+        Ok(())
+    }
+}

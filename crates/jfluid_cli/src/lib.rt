@@ -1,0 +1,15 @@
+//! The command jfluid: from its words to a status, over any files and streams.
+#![tactic(auto)]
+
+mod kept;
+mod loading;
+mod making;
+mod refusal;
+mod reporting;
+mod roots;
+mod running;
+mod top;
+mod words;
+
+pub use kept::Kept;
+pub use top::jfluid;

@@ -1,0 +1,31 @@
+-- What the machine's code answers for an outcome: the locals and operands are those that the frame has then.
+use Rattle.std.specs.Prelude.{◌≡◌, ℕ}
+use Rattle.const_pool.specs.declared.class.ClassFile.{ClassFile}
+use Rattle.jvm_model.specs.declared.state.Frame.{Frame}
+use Rattle.jvm_model.specs.Data.{Next, Outcome, GoesOn, Returns, Breaks}
+use Rattle.jvm_model.specs.Methods.{method_params}
+use Rattle.jvm_model.specs.Rules.{invokes_with}
+use Rattle.jvm_machine.specs.declared.flow.Flow.{Flow}
+use Rattle.jvm_machine.specs.declared.flow.Flow.TheVariants as flow
+
+abbrev pub outcome_of : ClassFile → Flow → Frame → Outcome
+outcome_of c flow.GoesOn f = GoesOn f.locals f.operands Next
+outcome_of c (flow.Invokes method) f = invokes_with method (method_params c method) f.operands
+outcome_of c (flow.Returns d) f = Returns d
+outcome_of c (flow.Breaks ends) f = Breaks ends
+
+-- which method and version a frame is of, and where it stands
+pub record Standing : Type 0 where
+  pub method : ℕ
+  pub version : ℕ
+  pub place : ℕ
+
+abbrev pub stands : Frame → Standing
+stands f = record { method = f.method; version = f.version; place = f.place }
+
+-- An instruction leaves its frame where it stands; and unless the frame goes on, it leaves it as it is.
+abbrev pub IsKept : Flow → Frame → Frame → Type 0
+IsKept flow.GoesOn old new = stands new ≡ stands old
+IsKept (flow.Invokes method) old new = new ≡ old
+IsKept (flow.Returns d) old new = new ≡ old
+IsKept (flow.Breaks ends) old new = new ≡ old

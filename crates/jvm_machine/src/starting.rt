@@ -1,0 +1,44 @@
+//! The state before the start.
+
+ghost use Rattle.std.specs.Prelude.{◌≡◌, ℕ, List, [], IfOk};
+ghost use Rattle.const_pool.specs.declared.class.ClassFile.{ClassFile};
+ghost use Rattle.jvm_model.specs.Programs.{world_of};
+ghost use Rattle.jvm_model.specs.Run.{before};
+
+use heap_objects::Datum;
+use jf_bytes::{NoMemory, Seq, Stack};
+use jvm_model::{Phase, Shared, State};
+use std::alloc::Global;
+
+/// What is shared before the start: the class is fresh, and has no static fields.
+fn shared_before(alloc: Global) -> Result<Shared, NoMemory>
+    ensures { (c : ClassFile) (main : ℕ) (input : List ℕ) → c.fields ≡ [] → IfOk result (λ shared. shared ≡ (before (world_of c main input)).shared) }
+{
+    let mut phases = Seq::new(alloc);
+    phases.push(Phase::Fresh)?;
+    let mut statics: Seq<Seq<Datum>> = Seq::new(alloc);
+    statics.push(Seq::new(alloc))?;
+    Ok(Shared {
+        loaded: Seq::new(alloc),
+        phases,
+        statics,
+        heap: Seq::new(alloc),
+        used: 0,
+        made: Seq::new(alloc),
+        read: 0,
+    })
+}
+
+/// The state before the start of a class without fields.
+pub fn state_before(alloc: Global) -> Result<State, NoMemory>
+    ensures { (c : ClassFile) (main : ℕ) (input : List ℕ) → c.fields ≡ [] → IfOk result (λ s. s ≡ before (world_of c main input)) }
+{
+    Ok(State {
+        stack: Stack::new(alloc),
+        thrown: None,
+        begun: false,
+        shared: shared_before(alloc)?,
+        output: Seq::new(alloc),
+        ending: None,
+    })
+}

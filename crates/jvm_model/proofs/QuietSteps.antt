@@ -1,0 +1,179 @@
+-- A step of a small class: one attempt of its current instruction, resolved; and an attempt over the tables of versions is that
+-- step, with frames at their homes.
+use Rattle.std.proofs.Common.{◌≡◌, ℕ, Bool, true, false, List, [], ◌∷◌, ◌++◌, cond, Option, Some, None, refl, sym, ap, subst, ◌∙◌}
+use Rattle.std.specs.Prelude.{is_some, is_none, ◌&&◌}
+use Rattle.std.proofs.lemmas.Option.{none-some}
+use Rattle.const_pool.specs.declared.class.ClassFile.{ClassFile}
+use Rattle.const_pool.specs.declared.class.CodeAttribute.{CodeAttribute}
+use Rattle.code_model.specs.Instructions.{end_of}
+use Rattle.jvm_model.specs.declared.operation.Resolved.{Resolved}
+use Rattle.jvm_model.specs.declared.operation.Resolved.TheVariants as resolved
+use Rattle.jvm_model.specs.Data.{Frame, Entry, Active, Initializing, Ending, Returned, State, Turn, Instruction, Text, Next, Outcome, GoesOn, Invokes, Returns, Breaks, World}
+use Rattle.jvm_model.specs.Agreement.{IsStart}
+use Rattle.jvm_model.specs.Attempts.{asks, writes, is_empty, closed_state, closed}
+use Rattle.jvm_model.specs.Lines.{next_of, targets_of}
+use Rattle.jvm_model.specs.Methods.{method_code}
+use Rattle.jvm_model.specs.Moved.{IsPlace, IsPlaced}
+use Rattle.jvm_model.specs.Originals.{original}
+use Rattle.jvm_model.specs.Programs.{alone, world_of}
+use Rattle.jvm_model.specs.Quiet.{IsCoded, IsQuiet}
+use Rattle.jvm_model.specs.Resolved.{resolved_in}
+use Rattle.jvm_model.specs.Rules.{does}
+use Rattle.jvm_model.specs.Run.{tries, starts, goes_again, steps_by, steps_at, step}
+use Rattle.jvm_model.specs.Applies.{applies}
+use Rattle.jvm_model.specs.StandsFor.{IsBuilt}
+use Rattle.jvm_model.proofs.OriginalPlaces.{place-start, at-original}
+use Rattle.jvm_model.proofs.QuietApplies.{IsSimple, CodedCallee, simple-asks, IsOneVersion, applies-quiet}
+use Rattle.jvm_model.proofs.QuietChanges.{Went, attempt-went}
+use Rattle.jvm_model.proofs.QuietSettles.{settled-quiet}
+use Rattle.jvm_model.proofs.Resolving.{HasCallee, done_by, does-resolved}
+use Rattle.jvm_model.proofs.RewrittenAgrees.{norm_in, place-norm}
+use Rattle.jvm_model.proofs.Starts.{HasLine, HasLine-start, HasCode-method_code}
+use Rattle.jvm_model.proofs.StepMoves.{placed-places}
+
+-- ---- what stands at a frame's place
+
+pub start-of : (c : ClassFile) (v at : ℕ) → IsBuilt c → is_some (method_code c v) ≡ true → IsPlace (norm_in c) v at → IsStart c v at
+start-of c v at built code here = by_code (method_code c v) refl where
+  by_code : (found : Option CodeAttribute) → method_code c v ≡ found → IsStart c v at
+  by_code None none = absurd (let e : false ≡ true = ap is_some (sym none) ∙ code in cc)
+  by_code (Some found) coded = place-start c v at found built coded (place-norm c v at here)
+
+pub callee-at : (c : ClassFile) (q : Resolved) → ((k : ℕ) → q ≡ resolved.Invokestatic k → IsStart c k 0) → HasCallee c q
+callee-at c (resolved.Invokestatic k) callee =
+    let start = callee k refl in
+    let has = HasCode-method_code c k start.code start.coded in
+    (has.member, has.is)
+callee-at c resolved.Nop callee = tt
+callee-at c (resolved.Constant n) callee = tt
+callee-at c (resolved.Iload slot) callee = tt
+callee-at c (resolved.Binary op) callee = tt
+callee-at c resolved.Ireturn callee = tt
+callee-at c resolved.Return callee = tt
+callee-at c resolved.Out callee = tt
+callee-at c resolved.Println callee = tt
+
+pub callee-coded : (c : ClassFile) (q : Resolved) → ((k : ℕ) → q ≡ resolved.Invokestatic k → IsStart c k 0) → CodedCallee c q
+callee-coded c (resolved.Invokestatic k) callee = ap is_some (callee k refl).coded
+callee-coded c resolved.Nop callee = tt
+callee-coded c (resolved.Constant n) callee = tt
+callee-coded c (resolved.Iload slot) callee = tt
+callee-coded c (resolved.Binary op) callee = tt
+callee-coded c resolved.Ireturn callee = tt
+callee-coded c resolved.Return callee = tt
+callee-coded c resolved.Out callee = tt
+callee-coded c resolved.Println callee = tt
+
+starts-simple : (c : ClassFile) (outcome : Outcome) → IsSimple c outcome → starts outcome ≡ None
+starts-simple c (GoesOn l o Next) simple = refl
+starts-simple c (Invokes k args below) simple = refl
+starts-simple c (Returns d) simple = refl
+starts-simple c (Breaks ends) simple = refl
+starts-simple c _ simple = absurd simple
+
+pub closed-quiet : (c : ClassFile) (s : State) → IsQuiet c s → IsQuiet c (closed_state s)
+closed-quiet c s quiet = by_test (is_empty s.stack && is_none s.ending) where
+  by_test : (b : Bool) → IsQuiet c (cond b (record s { ending = Some Returned }) s)
+  by_test true = record { thrown = quiet.thrown; begun = λ e. absurd (none-some Returned (sym e)); ready = quiet.ready; coded = quiet.coded }
+  by_test false = quiet
+
+-- ---- a step over a text, by the resolved instruction at the frame's place
+
+-- the state that an instruction's outcome is applied to
+abbrev pub wrote_by : Resolved → State → Frame → State
+wrote_by q s f = record s { output = s.output ++ writes q f.operands }
+
+module _ (c : ClassFile) (main : ℕ) (input : List ℕ) (built : IsBuilt c) where
+  abbrev w : World
+  w = world_of c main input
+
+  pub applied-quiet : (t : Text) (i : Instruction) (q : Resolved) (s : State) (f : Frame) → IsOneVersion t → CodedCallee c q → IsQuiet c s → IsCoded c f.method f.version
+      → IsQuiet c (applies w t i (asks c q f.locals f.operands) (wrote_by q s f) f).after
+  applied-quiet t i q s f one callee quiet coded =
+      applies-quiet c w t i (asks c q f.locals f.operands) (wrote_by q s f) f one (simple-asks c q f.locals f.operands callee)
+      (record { thrown = quiet.thrown; begun = quiet.begun; ready = quiet.ready; coded = quiet.coded }) coded
+
+  pub steps_at-is : (t : Text) (i : Instruction) (q : Resolved) (s : State) (f : Frame) → IsOneVersion t → resolved_in c i.operation ≡ Some q → HasCallee c q → CodedCallee c q → IsQuiet c s → IsCoded c f.method f.version
+      → steps_at w t s f (Some i) ≡ closed (applies w t i (asks c q f.locals f.operands) (wrote_by q s f) f)
+  steps_at-is t i q s f one resolves there callee quiet coded =
+      let done : does w i.operation s.shared f.locals f.operands ≡ done_by c q s.shared f.locals f.operands = does-resolved c main input i.operation q s.shared f.locals f.operands built.small resolves there quiet.ready in
+      let simple : IsSimple c (asks c q f.locals f.operands) = simple-asks c q f.locals f.operands callee in
+      ap (steps_by w t i s f) done
+      ∙ (ap (λ k. goes_again w t i s f k (tries w t i s f (done_by c q s.shared f.locals f.operands))) (starts-simple c (asks c q f.locals f.operands) simple)
+      ∙ settled-quiet c w t (applies w t i (asks c q f.locals f.operands) (wrote_by q s f) f) (applied-quiet t i q s f one callee quiet coded))
+
+  -- a step of the original keeps a state quiet
+  original-one : IsOneVersion (original (alone c main))
+  original-one m = refl
+
+  below-quiet : (s : State) (f : Frame) (below : List Entry) → IsQuiet c (record s { stack = Active f ∷ below }) → IsQuiet c (record s { stack = below })
+  below-quiet s f below quiet = record { thrown = quiet.thrown; begun = quiet.begun; ready = quiet.ready; coded = quiet.coded.1 }
+
+  -- the current frame, its place and its line
+  record Current (f : Frame) : Type 0 where
+    start : IsStart c f.version f.place
+    has : HasLine c f.version f.place start.instr
+
+  current-of : (s : State) (f : Frame) (below : List Entry) → IsQuiet c (record s { stack = Active f ∷ below }) → IsPlaced (norm_in c) (record s { stack = Active f ∷ below }) → Current f
+  current-of s f below quiet at =
+      let coded : is_some (method_code c f.version) ≡ true = ap (λ v. is_some (method_code c v)) quiet.coded.0.same ∙ quiet.coded.0.code in
+      let start = start-of c f.version f.place built coded (placed-places (norm_in c) (Active f ∷ below) at).0 in
+      record { start = start; has = HasLine-start c f.version f.place built start }
+
+  frame-quiet_step : (s : State) (f : Frame) (below : List Entry) → IsQuiet c (record s { stack = Active f ∷ below; ending = None }) → IsPlaced (norm_in c) (record s { stack = Active f ∷ below; ending = None })
+      → IsQuiet c (step w (original (alone c main)) (record s { stack = Active f ∷ below; ending = None })).after
+  frame-quiet_step s f below quiet at =
+      let going : State = record s { ending = None } in
+      let now = current-of going f below quiet at in
+      let t : Text = original (alone c main) in
+      let i : Instruction = record { operation = now.has.operation; own = now.start.instr.at; next = next_of now.has.operation (end_of now.start.instr); targets = targets_of now.start.instr.arg } in
+      let there : t.at f.version f.place ≡ Some i = at-original c main f.version f.place built ∙ now.has.instructed in
+      let s' : State = record going { stack = below } in
+      let calm = below-quiet going f below quiet in
+      let is : steps_at w t s' f (t.at f.version f.place) ≡ closed (applies w t i (asks c now.has.resolved f.locals f.operands) (wrote_by now.has.resolved s' f) f) =
+      ap (steps_at w t s' f) there ∙ steps_at-is t i now.has.resolved s' f original-one now.has.resolves (callee-at c now.has.resolved now.has.callee) (callee-coded c now.has.resolved now.has.callee) calm quiet.coded.0 in
+      subst (λ (a : Turn). IsQuiet c a.after) (sym is)
+      (closed-quiet c (applies w t i (asks c now.has.resolved f.locals f.operands) (wrote_by now.has.resolved s' f) f).after
+      (applied-quiet t i now.has.resolved s' f original-one (callee-coded c now.has.resolved now.has.callee) calm quiet.coded.0))
+
+  by-parts : (s : State) (ending : Option Ending) (stack : List Entry) → IsQuiet c (record s { stack = stack; ending = ending }) → IsPlaced (norm_in c) (record s { stack = stack; ending = ending })
+      → IsQuiet c (step w (original (alone c main)) (record s { stack = stack; ending = ending })).after
+  by-parts s (Some e) stack quiet at = quiet
+  by-parts s None [] quiet at = quiet
+  by-parts s None (Initializing class part ∷ below) quiet at = absurd quiet.coded
+  by-parts s None (Active f ∷ below) quiet at = frame-quiet_step s f below quiet at
+
+  pub step-quiet : (s : State) → IsQuiet c s → IsPlaced (norm_in c) s → IsQuiet c (step w (original (alone c main)) s).after
+  step-quiet s quiet at = by-parts s s.ending s.stack quiet at
+
+  -- ---- what a step is of
+
+  -- the current frame's instruction, and what the step changes
+  pub record IsStepOf (s : State) (f : Frame) : Type 0 where
+    pub start : IsStart c f.version f.place
+    pub has : HasLine c f.version f.place start.instr
+    pub went : Went c (original (alone c main)) has.resolved (step w (original (alone c main)) s)
+
+  explicit-step : (s : State) (f : Frame) (below : List Entry) → IsQuiet c (record s { stack = Active f ∷ below; ending = None }) → IsPlaced (norm_in c) (record s { stack = Active f ∷ below; ending = None })
+      → IsStepOf (record s { stack = Active f ∷ below; ending = None }) f
+  explicit-step s f below quiet at =
+      let going : State = record s { ending = None } in
+      let now = current-of going f below quiet at in
+      let t : Text = original (alone c main) in
+      let i : Instruction = record { operation = now.has.operation; own = now.start.instr.at; next = next_of now.has.operation (end_of now.start.instr); targets = targets_of now.start.instr.arg } in
+      let there : t.at f.version f.place ≡ Some i = at-original c main f.version f.place built ∙ now.has.instructed in
+      let s' : State = record going { stack = below } in
+      let coded = callee-coded c now.has.resolved now.has.callee in
+      let is : steps_at w t s' f (t.at f.version f.place) ≡ closed (applies w t i (asks c now.has.resolved f.locals f.operands) (wrote_by now.has.resolved s' f) f) =
+      ap (steps_at w t s' f) there ∙ steps_at-is t i now.has.resolved s' f original-one now.has.resolves (callee-at c now.has.resolved now.has.callee) coded (below-quiet going f below quiet) quiet.coded.0 in
+      record {
+        start = now.start;
+        has = now.has;
+        went = subst (Went c t now.has.resolved) (sym is) (attempt-went c w t i now.has.resolved (wrote_by now.has.resolved s' f) f original-one coded);
+      }
+
+  pub step-of : (s : State) (f : Frame) (below : List Entry) → s.stack ≡ Active f ∷ below → s.ending ≡ None → IsQuiet c s → IsPlaced (norm_in c) s → IsStepOf s f
+  step-of s f below is going quiet at =
+      let x : State = record s { stack = Active f ∷ below; ending = None } in
+      let same : x ≡ s = ap (λ es. let y : State = record s { stack = es; ending = None } in y) (sym is) ∙ ap (λ e. record s { ending = e }) (sym going) in
+      subst (λ y. IsStepOf y f) same (explicit-step s f below (subst (IsQuiet c) (sym same) quiet) (subst (IsPlaced (norm_in c)) (sym same) at))

@@ -1,0 +1,94 @@
+-- What becomes of a state by an outcome: one function, for all instructions (JVM Specification 2.6, 2.6.4, 2.6.5, 2.10, 2.17).
+use Rattle.std.specs.Prelude.{ℕ, Bool, true, false, List, [], ◌∷◌, length, Option, Some, None, slice_get, nat_le, if◌then◌else◌}
+use Rattle.std.specs.Option.{option_map}
+use Rattle.heap_objects.specs.declared.Value.TheVariants.{Addr}
+use Rattle.jvm_model.specs.Data.{Datum, Locals, Operands, Frame, Entry, Active, Initializing, Constants, Running, Exited, Unverifiable, State, Began, Left, Turn, Instruction, Text, Where, Next, Target, Back, Outcome, GoesOn, Subroutine, Invokes, Returns, Throws, Raises, Initializes, Exits, Breaks, World}
+use Rattle.jvm_model.specs.Values.{as_value, depth, spread, locals_with, with_value}
+use Rattle.jvm_model.specs.Programs.{max_stack_of, max_locals_of}
+use Rattle.jvm_model.specs.SharedState.{with_phase, Allocated, raised}
+
+abbrev pub still : State → Turn
+still s = record { after = s; changes = [] }
+
+abbrev pub with_frame : State → Frame → State
+with_frame s f = record s { stack = Active f ∷ s.stack }
+
+-- the run ends at this frame's instruction, and its activation stays live
+abbrev pub breaks : State → Frame → ℕ → State
+breaks s f own = record s { stack = Active f ∷ s.stack; ending = Some (Unverifiable f.method own) }
+
+-- The frame has moved on, unless its operands are deeper than its method allows (4.9.2): then the run ends at the
+-- instruction at which it stood before, whose original offset is given.
+abbrev pub lands : World → State → Frame → ℕ → State
+lands w s f own =
+    if nat_le (depth f.operands) (max_stack_of w f.method) then with_frame s f else breaks s f own
+
+-- with these locals and operands, at a place
+abbrev pub goes : World → State → Frame → ℕ → Locals → Operands → Option ℕ → State
+goes w s f own l o None = breaks s f own
+goes w s f own l o (Some place) = lands w s (record f { place = place; locals = l; operands = o }) own
+
+abbrev pub place_of : Instruction → Where → Option ℕ
+place_of i Next = i.next
+place_of i (Target k) = slice_get i.targets k
+place_of i (Back place) = Some place
+
+-- the place behind the instruction is the return address
+abbrev pub enters_subroutine : World → State → Frame → Instruction → Option ℕ → State
+enters_subroutine w s f i None = breaks s f i.own
+enters_subroutine w s f i (Some next) = goes w s f i.own f.locals (Addr next ∷ f.operands) (slice_get i.targets 0)
+
+-- ---- invocation and return (2.6, 2.6.4)
+
+abbrev pub new_frame : World → Text → ℕ → List Datum → Frame
+new_frame w t m args = record {
+  method = m;
+  version = t.current m;
+  place = t.first (t.current m);
+  locals = locals_with args (max_locals_of w m);
+  operands = [];
+}
+
+abbrev pub throws_at : State → Frame → Allocated → State
+throws_at s f a = record s { stack = Active f ∷ s.stack; shared = a.shared; thrown = Some a.reference }
+
+abbrev pub has_room : World → ℕ → List Datum → Bool
+has_room w m args = nat_le (length (spread args)) (max_locals_of w m)
+
+-- the caller stays at its instruction without the arguments
+abbrev pub begins : World → Text → State → Frame → ℕ → List Datum → Operands → Turn
+begins w t s f m args below = record { after = with_frame (with_frame s (record f { operands = below })) (new_frame w t m args); changes = Began m ∷ [] }
+
+abbrev pub invokes : World → Text → Instruction → State → Frame → ℕ → List Datum → Operands → Turn
+invokes w t i s f m args below =
+    if has_room w m args then begins w t s f m args below else still (breaks s f i.own)
+
+-- the caller goes on behind its instruction, with the result on top
+abbrev pub resumes : World → State → Frame → Option Datum → Option Instruction → State
+resumes w s caller d None = breaks s caller 0
+resumes w s caller d (Some i) = goes w s caller i.own caller.locals (with_value (option_map as_value d) caller.operands) i.next
+
+-- the current frame is off; an initialization goes on by itself
+abbrev pub gives_back : World → Text → State → Option Datum → List Entry → State
+gives_back w t s d [] = s
+gives_back w t s d (Initializing c part ∷ below) = s
+gives_back w t s d (Active caller ∷ below) = resumes w (record s { stack = below }) caller d (t.at caller.version caller.place)
+
+-- ---- every outcome
+
+-- a return's activation ends
+abbrev pub breaks_or_ends : Bool → State → Frame → ℕ → Turn
+breaks_or_ends true s f own = record { after = record s { ending = Some (Unverifiable f.method own) }; changes = Left ∷ [] }
+breaks_or_ends false s f own = still (breaks s f own)
+
+-- from the state without the current frame, and that frame
+abbrev pub applies : World → Text → Instruction → Outcome → State → Frame → Turn
+applies w t i (GoesOn l o to) s f = still (goes w s f i.own l o (place_of i to))
+applies w t i Subroutine s f = still (enters_subroutine w s f i i.next)
+applies w t i (Invokes m args below) s f = invokes w t i s f m args below
+applies w t i (Returns d) s f = record { after = gives_back w t s d s.stack; changes = Left ∷ [] }
+applies w t i (Throws r) s f = still (throws_at s f (record { shared = s.shared; reference = r }))
+applies w t i (Raises c) s f = still (throws_at s f (raised w s.shared c))
+applies w t i (Initializes c) s f = still (record s { stack = Initializing c Constants ∷ Active f ∷ s.stack; shared = with_phase s.shared c Running })
+applies w t i (Exits n) s f = still (record s { stack = Active f ∷ s.stack; ending = Some (Exited n) })
+applies w t i (Breaks ends) s f = breaks_or_ends ends s f i.own

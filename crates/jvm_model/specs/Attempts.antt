@@ -1,0 +1,102 @@
+-- One attempt over versions: what the line at the current frame's place asks for, by its operation with names looked up.
+use Rattle.std.specs.Prelude.{ℕ, Bool, true, false, List, [], ◌∷◌, ◌++◌, Option, Some, None, is_none, slice_get, ◌&&◌, if◌then◌else◌}
+use Rattle.heap_objects.specs.declared.Value.TheVariants.{Int, Ref}
+use Rattle.const_pool.specs.declared.class.ClassFile.{ClassFile}
+use Rattle.const_pool.specs.declared.descriptor.Kind.TheVariants as kind
+use Rattle.jvm_model.specs.declared.operation.Line.{Line}
+use Rattle.jvm_model.specs.declared.operation.Resolved.{Resolved}
+use Rattle.jvm_model.specs.declared.operation.Resolved.TheVariants as resolved
+use Rattle.jvm_model.specs.declared.state.Frame.{Frame}
+use Rattle.jvm_model.specs.declared.state.Entry.{Entry}
+use Rattle.jvm_model.specs.declared.state.State.{State}
+use Rattle.jvm_model.specs.declared.state.Entry.TheVariants.{Active, Initializing}
+use Rattle.jvm_model.specs.declared.state.Phase.TheVariants.{Ready}
+use Rattle.jvm_model.specs.declared.ending.Ending.TheVariants.{Returned, Unverifiable}
+use Rattle.jvm_model.specs.Data.{Locals, Operands, Change, Loads, Began, Left, Unwound, Turn, Next, Outcome, GoesOn, Returns, Breaks}
+use Rattle.jvm_model.specs.Methods.{method_params}
+use Rattle.jvm_model.specs.Values.{loaded}
+use Rattle.jvm_model.specs.LocalRules.{pushes, calculates, returns}
+use Rattle.jvm_model.specs.Rules.{is_print_stream, line_text, invokes_with}
+use Rattle.jvm_model.specs.Applies.{still, breaks, applies, new_frame, has_room}
+use Rattle.jvm_model.specs.Moves.{argument_array}
+use Rattle.jvm_model.specs.SharedState.{with_phase}
+use Rattle.jvm_model.specs.Run.{before, with_loaded}
+use Rattle.jvm_model.specs.Installed.{Installed, world_in, line_in, placed, tabled}
+
+-- ---- what an operation asks for, and what it writes
+
+abbrev pub asks_println : Locals → Operands → Outcome
+asks_println l (Int n ∷ Ref r ∷ below) = if is_print_stream r then GoesOn l below Next else Breaks false
+asks_println l _ = Breaks false
+
+abbrev pub asks : ClassFile → Resolved → Locals → Operands → Outcome
+asks c resolved.Nop l o = GoesOn l o Next
+asks c (resolved.Constant n) l o = GoesOn l (Int n ∷ o) Next
+asks c (resolved.Iload slot) l o = pushes (loaded kind.Int (slice_get l slot)) l o
+asks c (resolved.Binary op) l o = calculates op l o
+asks c resolved.Ireturn l o = returns (Some kind.Int) o
+asks c resolved.Return l o = Returns None
+asks c resolved.Out l o = GoesOn l (Ref 3 ∷ o) Next
+asks c resolved.Println l o = asks_println l o
+asks c (resolved.Invokestatic method) l o = invokes_with method (method_params c method) o
+
+abbrev pub printed : Operands → List ℕ
+printed (Int n ∷ Ref r ∷ below) = if is_print_stream r then line_text n else []
+printed _ = []
+
+abbrev pub writes : Resolved → Operands → List ℕ
+writes resolved.Println o = printed o
+writes _ o = []
+
+-- ---- an attempt
+
+-- the line at the frame's place is executed; from the state without that frame
+abbrev pub does_line : Installed → State → Frame → Option Line → Turn
+does_line t s f None = still (breaks s f 0)
+does_line t s f (Some line) =
+    applies (world_in t) (tabled t) (placed line) (asks t.class line.operation f.locals f.operands) (record s { output = s.output ++ writes line.operation f.operands }) f
+
+abbrev pub attempts : Installed → State → List Entry → Turn
+attempts t s [] = still s
+attempts t s (Initializing c part ∷ below) = still s
+attempts t s (Active f ∷ below) = does_line t (record s { stack = below }) f (line_in t f.version f.place)
+
+-- where nothing is left, the run has returned
+abbrev pub is_empty : List Entry → Bool
+is_empty [] = true
+is_empty (e ∷ below) = false
+
+abbrev pub closed_state : State → State
+closed_state s = if is_empty s.stack && is_none s.ending then record s { ending = Some Returned } else s
+
+abbrev pub closed : Turn → Turn
+closed turn = record turn { after = closed_state turn.after }
+
+abbrev pub attempt_placed : Installed → State → Turn
+attempt_placed t s = closed (attempts t s s.stack)
+
+-- ---- the start
+
+-- the class is loaded and made ready, and nothing of it runs
+abbrev pub ready : Installed → State
+ready t =
+    let loaded = with_loaded (0 ∷ []) (before (world_in t)) in
+    record loaded { shared = with_phase loaded.shared 0 Ready }
+
+-- `main` begins, where it has a local for its arguments
+abbrev pub start_placed : Installed → Turn
+start_placed t =
+    if has_room (world_in t) t.main argument_array
+    then record {
+      after = record (ready t) { begun = true; stack = Active (new_frame (world_in t) (tabled t) t.main argument_array) ∷ [] };
+      changes = Loads (0 ∷ []) ∷ Began t.main ∷ [];
+    }
+    else record { after = record (ready t) { ending = Some (Unverifiable t.main 0) }; changes = Loads (0 ∷ []) ∷ [] }
+
+-- whether an activation began
+abbrev pub has_begun : List Change → Bool
+has_begun [] = false
+has_begun (Began method ∷ more) = true
+has_begun (Loads classes ∷ more) = has_begun more
+has_begun (Left ∷ more) = has_begun more
+has_begun (Unwound ∷ more) = has_begun more

@@ -1,0 +1,127 @@
+//! The top call over objects in memory.
+
+ghost use Rattle.std.specs.Prelude.{◌≡◌, map, IfOk};
+ghost use Rattle.std.specs.String.{string_bytes};
+ghost use Rattle.worked_rows.specs.Calls.{IsAnswerTo};
+
+use crate::comparing::Answer;
+use crate::given::{Device, Failure, Given, NamedFile};
+use jf_bytes::{MemFiles, MemSink, MemSource, NoMemory};
+use jfluid_cli::jfluid;
+use std::alloc::{AllocError, Global};
+
+/// How many bytes the output and the report have room for: above those of a tree of a thousand levels.
+const ROOM: usize = 4_194_304;
+
+/// The numbers of the failing calls of an object.
+fn failing(alloc: Global, failures: &[Failure], device: Device) -> Result<Vec<u64>, AllocError> {
+    failures
+        .iter()
+        .filter(|failure| failure.device == device)
+        .map(|failure| failure.call)
+        .collect(alloc)
+}
+
+/// The files in memory.
+fn files_of(
+    alloc: Global,
+    files: Vec<NamedFile>,
+    failing: Vec<u64>,
+) -> Result<MemFiles, AllocError> {
+    let mut names = Vec::new(alloc);
+    let mut all = Vec::new(alloc);
+    for file in files {
+        let NamedFile { name, contents } = file;
+        names.push(name)?;
+        all.push(contents)?;
+    }
+    Ok(MemFiles::new(alloc, names, all, failing))
+}
+
+/// What the top call is given.
+#[derive(Drop)]
+struct Objects {
+    words: Vec<String>,
+    files: MemFiles,
+    input: MemSource,
+    out: MemSink,
+    report: MemSink,
+    images: MemSink,
+}
+
+fn sink_of(alloc: Global, failures: &[Failure], device: Device) -> Result<MemSink, NoMemory> {
+    MemSink::new(alloc, ROOM, failing(alloc, failures, device)?)
+}
+
+/// The objects that hold what a row gives.
+fn objects_of(alloc: Global, given: Given) -> Result<Objects, NoMemory>
+    ensures { IfOk result (λ objects. objects.words ≡ given.words) }
+{
+    let Given {
+        words,
+        files,
+        input,
+        failures,
+    } = given;
+    Ok(Objects {
+        words,
+        files: files_of(alloc, files, failing(alloc, &failures, Device::Files)?)?,
+        input: MemSource::new(input, failing(alloc, &failures, Device::Input)?),
+        out: sink_of(alloc, &failures, Device::Output)?,
+        report: sink_of(alloc, &failures, Device::Report)?,
+        images: sink_of(alloc, &failures, Device::Images)?,
+    })
+}
+
+/// The status that the top call answers.
+fn call(
+    alloc: Global,
+    words: &[String],
+    files: &mut MemFiles,
+    input: &mut MemSource,
+    out: &mut MemSink,
+    report: &mut MemSink,
+    images: &mut MemSink,
+) -> u8
+    ensures { IsAnswerTo (map string_bytes words.now) result }
+{
+    jfluid(alloc, words, files, input, out, report, images, &mut None)
+}
+
+/// What the top call makes of its objects.
+fn answer_of(alloc: Global, objects: Objects) -> Result<Answer, NoMemory>
+    ensures { IfOk result (λ answer. IsAnswerTo (map string_bytes objects.words.items) answer.status) }
+{
+    let Objects {
+        words,
+        mut files,
+        mut input,
+        mut out,
+        mut report,
+        mut images,
+    } = objects;
+    let status = call(
+        alloc,
+        &words,
+        &mut files,
+        &mut input,
+        &mut out,
+        &mut report,
+        &mut images,
+    );
+    let output = Vec::from_slice(alloc, out.bytes())?;
+    let report = Vec::from_slice(alloc, report.bytes())?;
+    Ok(Answer {
+        status,
+        output,
+        report,
+    })
+}
+
+/// What comes of what a row gives.
+pub fn answer_to(alloc: Global, given: Given) -> Result<Answer, NoMemory>
+    ensures { IfOk result (λ answer. IsAnswerTo (map string_bytes given.words.items) answer.status) }
+{
+    let objects = objects_of(alloc, given)?;
+    answer_of(alloc, objects)
+}

@@ -1,0 +1,183 @@
+//! What a row gives to the top call.
+
+ghost use Rattle.std.specs.Prelude.{◌≡◌, ◌∷◌, Some, map, codes, IfOk, IfSome};
+ghost use Rattle.std.specs.Str.Lines.{lines};
+ghost use Rattle.std.specs.String.{string_bytes};
+ghost use Rattle.worked_rows.specs.Rows.{HasWords, part_at};
+
+use crate::lists::lines_of;
+use crate::parts::{RowError, fetch_file, fetch_part};
+use jf_bytes::Files;
+use std::alloc::{AllocError, Global};
+
+/// An object that the top call is given.
+#[derive(Clone, Copy, PartialEq, Eq)]
+pub enum Device {
+    Files,
+    Input,
+    Output,
+    Report,
+    Images,
+}
+
+/// A call of an object that fails.
+#[derive(Clone, Copy)]
+pub struct Failure {
+    pub device: Device,
+    /// The number of the call, counted from 1.
+    pub call: u64,
+}
+
+/// A file that the top call can fetch.
+#[derive(Drop)]
+pub struct NamedFile {
+    pub name: String,
+    pub contents: Vec<u8>,
+}
+
+/// What a row gives: the words, the program's name among them, and what is in the objects.
+#[derive(Drop)]
+pub struct Given {
+    pub words: Vec<String>,
+    pub files: Vec<NamedFile>,
+    pub input: Vec<u8>,
+    pub failures: Vec<Failure>,
+}
+
+/// A line of the file `given`.
+#[derive(Clone, Copy)]
+enum Line<'a> {
+    /// `file NAME PATH`: the file NAME has what the file at this path has.
+    File { name: &'a str, path: &'a str },
+    /// `zeros NAME COUNT`: the file NAME is that many zeros.
+    Zeros { name: &'a str, count: usize },
+    /// `input PATH`: the input is what the file at this path has.
+    Input(&'a str),
+    /// `input_zeros COUNT`: the input is that many zeros.
+    InputZeros(usize),
+    /// `fails DEVICE CALL`
+    Fails(Failure),
+}
+
+fn device_of(word: &str) -> Option<Device> {
+    match word {
+        "files" => Some(Device::Files),
+        "input" => Some(Device::Input),
+        "output" => Some(Device::Output),
+        "report" => Some(Device::Report),
+        "images" => Some(Device::Images),
+        _ => None,
+    }
+}
+
+/// What a line of the file `given` says.
+fn line_of(text: &str) -> Option<Line<'_>> {
+    let (word, rest) = text.split_once(' ')?;
+    match word {
+        "file" => {
+            let (name, path) = rest.split_once(' ')?;
+            Some(Line::File { name, path })
+        }
+        "zeros" => {
+            let (name, count) = rest.split_once(' ')?;
+            let count = count.parse::<usize>().ok()?;
+            Some(Line::Zeros { name, count })
+        }
+        "input" => Some(Line::Input(rest)),
+        "input_zeros" => Some(Line::InputZeros(rest.parse::<usize>().ok()?)),
+        "fails" => {
+            let (device, call) = rest.split_once(' ')?;
+            let device = device_of(device)?;
+            let call = call.parse::<u64>().ok()?;
+            Some(Line::Fails(Failure { device, call }))
+        }
+        _ => None,
+    }
+}
+
+fn zeros(alloc: Global, count: usize) -> Result<Vec<u8>, AllocError> {
+    let mut bytes = Vec::new(alloc);
+    bytes.resize(count, 0)?;
+    Ok(bytes)
+}
+
+/// Adds what a line says to what is given so far.
+fn take_line<F: Files>(
+    alloc: Global,
+    text: &str,
+    given: &mut Given,
+    files: &mut F,
+) -> Result<(), RowError>
+    ensures words { given.new.words ≡ given.old.words }
+    ensures stay { F.contents files.new ≡ F.contents files.old }
+{
+    let Some(line) = line_of(text) else {
+        return Err(RowError::Unknown(String::from_str(alloc, text)?));
+    };
+    match line {
+        Line::File { name, path } => {
+            let contents = fetch_file(alloc, path, files)?;
+            let name = String::from_str(alloc, name)?;
+            given.files.push(NamedFile { name, contents })?;
+        }
+        Line::Zeros { name, count } => {
+            let contents = zeros(alloc, count)?;
+            let name = String::from_str(alloc, name)?;
+            given.files.push(NamedFile { name, contents })?;
+        }
+        Line::Input(path) => given.input = fetch_file(alloc, path, files)?,
+        Line::InputZeros(count) => given.input = zeros(alloc, count)?,
+        Line::Fails(failure) => given.failures.push(failure)?,
+    }
+    Ok(())
+}
+
+/// The words that the lines say, behind the program's name.
+fn words_of(alloc: Global, text: &str) -> Result<Vec<String>, AllocError>
+    ensures { IfOk result (λ words. map string_bytes words.items ≡ codes "jfluid" ∷ lines text.now) }
+{
+    let mut words = Vec::new(alloc);
+    words.push(String::from_str(alloc, "jfluid")?)?;
+    let all = lines_of(alloc, text)?;
+    for line in &all {
+        words.push(String::from_str(alloc, line)?)?;
+    }
+    Ok(words)
+}
+
+/// A file of the row's folder that is a text.
+fn text_part<F: Files>(
+    alloc: Global,
+    row: &str,
+    part: &str,
+    files: &mut F,
+) -> Result<String, RowError>
+    ensures found { IfOk result (λ text. IfSome (F.contents files.old) (λ told. part_at told row.now part.now ≡ Some (string_bytes text))) }
+    ensures stay { F.contents files.new ≡ F.contents files.old }
+{
+    let bytes = fetch_part(alloc, row, part, files)?;
+    match String::from_utf8(bytes) {
+        Ok(text) => Ok(text),
+        Err(_) => Err(RowError::NotText),
+    }
+}
+
+/// What a row gives: the files `args` and `given` of its folder.
+pub fn read_given<F: Files>(alloc: Global, row: &str, files: &mut F) -> Result<Given, RowError>
+    ensures words { IfOk result (λ given. IfSome (F.contents files.old) (λ told. HasWords told row.now (map string_bytes given.words.items))) }
+    ensures stay { F.contents files.new ≡ F.contents files.old }
+{
+    let args = text_part(alloc, row, "args", files)?;
+    let mut given = Given {
+        words: words_of(alloc, args.as_str())?,
+        files: Vec::new(alloc),
+        input: Vec::new(alloc),
+        failures: Vec::new(alloc),
+    };
+    let text = text_part(alloc, row, "given", files)?;
+    let all = lines_of(alloc, text.as_str())?;
+    for line in &all {
+        take_line(alloc, line, &mut given, files)?;
+    }
+    Ok(given)
+}
