@@ -215,6 +215,3 @@ pub fn jfluid<F: Files, I: Source, O: Sink, P: Sink, G: Sink>(
     };
     tell(alloc, refusal, third_word(words), report).status()
 }
-
-#[cfg(test)]
-mod tests;
