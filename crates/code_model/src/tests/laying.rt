@@ -90,7 +90,7 @@ struct Branch {
 
 /// What becomes of it: the goto comes to stand at a place, with an offset, or it is not laid out.
 enum Reach {
-    Reached(usize, [u8; 2]),
+    Reached(u16, [u8; 2]),
     Far(u16),
     TooLong(u32),
 }
@@ -123,8 +123,10 @@ fn lay_branch(alloc: Global, branch: &Branch) -> Result<Laid, LayError> {
 /// Whether a layout is this.
 fn is_reached(laid: Result<Laid, LayError>, reach: &Reach) -> bool {
     match (laid, reach) {
-        (Ok(laid), Reach::Reached(place, [high, low])) => laid.code.at(*place + 1) == Some(*high)
-            && laid.code.at(*place + 2) == Some(*low),
+        (Ok(laid), Reach::Reached(place, [high, low])) => {
+            let goto = usize::from(*place);
+            laid.code.at(goto + 1) == Some(*high) && laid.code.at(goto + 2) == Some(*low)
+        }
         (Err(LayError::Far(at)), Reach::Far(goto)) => at == *goto,
         (Err(LayError::TooLong(len)), Reach::TooLong(whole)) => len == *whole,
         _ => false,
