@@ -14,13 +14,9 @@ use Rattle.jvm_model.specs.Images.{is_off, IsMarkedMember, IsMemberImage, AreMem
 use Rattle.inject_events.specs.declared.methods.MethodImage.{MethodImage}
 use Rattle.inject_events.specs.declared.probes.Probes.{Probes}
 use Rattle.inject_events.specs.Instrumentable.{HasRewritableCode}
-use Rattle.inject_events.specs.Probing.{probes_of, version_with, image_with}
+use Rattle.inject_events.specs.Probing.{probes_of, version_with, image_with, IsMadeWith}
 
 -- ---- one method
-
--- what a method becomes with these probes, whichever its code and the reading of it are
-abbrev pub IsMadeWith : Probes → Member → MethodImage → Type 0
-IsMadeWith probes m image = (old : CodeAttribute) (reading : Code) → code_of m ≡ Some old → IsReading old.code reading → image ≡ image_with (version_with probes old reading.instrs) m
 
 marked : (count number : ℕ) (mark : Mark) (m : Member) (image : MethodImage) → HasRewritableCode m → IsMadeWith (probes_of count number mark) m image
     → (moved : Homes) × IsMarkedMember count number mark m image.member moved × (image.homes ≡ Some moved)
