@@ -1,14 +1,13 @@
 -- Laid code reads as the moved instructions: what stands at the home and at the place of each group.
 use Rattle.std.proofs.Common.{◌≡◌, ℕ, ◌≤◌, List, [], ◌∷◌, ◌++◌, length, Option, Some, None, true, refl, sym, ap, subst, ◌∙◌, append_assoc, arith, inl, inr}
 use Rattle.std.specs.Prelude.{Bool, ℤ, pos, negsuc, unwrap_or, FitsSigned}
-use Rattle.std.specs.Int.{Width, w16, w32}
+use Rattle.std.specs.Int.{w16, w32}
 use Rattle.std.specs.List.{AllByRecursion}
 use Rattle.std.proofs.lemmas.Int.{ints}
 use Rattle.op_table.specs.declared.Form.{Form}
 use Rattle.op_table.specs.declared.Form.TheVariants as form
 use Rattle.code_model.specs.declared.instr.Arg.{Arg}
 use Rattle.code_model.specs.declared.laying.Group.{Group}
-use Rattle.code_model.specs.declared.laying.Homes.{Homes}
 use Rattle.code_model.specs.Operands.{form_of}
 use Rattle.code_model.specs.Instructions.{Reads}
 use Rattle.code_model.specs.Layout.{Spot, distance, operand_width, width_of, place_of, group_end, end_from, all_spots, homes_of, home_in, home_of, laid_of, is_near, fits_branch, first_far_from, first_far}

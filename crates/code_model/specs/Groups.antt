@@ -1,5 +1,5 @@
 -- What can be laid out or encoded: the instructions of a decoded code.
-use Rattle.std.specs.Prelude.{◌≡◌, ℕ, ◌+◌, ◌*◌, ◌^◌, ◌<◌, ◌≤◌, Bool, true, ◌==◌, List, [], ◌∷◌, length, take, drop, map, pos, ◌+ℤ◌, ◌-ℤ◌, Some, get_or, FitsSigned}
+use Rattle.std.specs.Prelude.{◌≡◌, ℕ, ◌*◌, ◌^◌, ◌<◌, ◌≤◌, Bool, true, ◌==◌, List, [], ◌∷◌, length, take, drop, map, pos, ◌+ℤ◌, ◌-ℤ◌, Some, get_or, FitsSigned}
 use Rattle.std.specs.Int.{Width, w8, w16, w32, byte_len}
 use Rattle.std.specs.List.{AllByRecursion, list_any, list_all}
 use Rattle.code_model.specs.declared.instr.Arg.{Arg}

@@ -10,7 +10,7 @@ use Rattle.code_model.specs.declared.instr.Arg.TheVariants.{Table, Lookup}
 use Rattle.code_model.specs.declared.instr.Instr.{Instr}
 use Rattle.code_model.specs.declared.laying.Group.{Group}
 use Rattle.code_model.specs.declared.laying.Homes.{Homes}
-use Rattle.code_model.specs.Layout.{Spot, home_of, home_by, width_of, target_bytes, pair_bytes, operand_bytes, instr_bytes, groups_bytes}
+use Rattle.code_model.specs.Layout.{Spot, home_of, home_by, target_bytes, pair_bytes, operand_bytes, instr_bytes, groups_bytes}
 
 -- where it succeeds, these bytes are behind those that were there
 abbrev pub Adds : {A E : Type 0} → Result A E → List ℕ → List ℕ → List ℕ → Type 0

@@ -6,13 +6,11 @@ use Rattle.const_pool.specs.declared.class.Member.{Member}
 use Rattle.const_pool.specs.declared.class.CodeAttribute.{CodeAttribute}
 use Rattle.code_model.specs.declared.instr.Code.{Code}
 use Rattle.code_model.specs.declared.laying.Homes.{Homes}
-use Rattle.code_model.specs.Instructions.{IsReading}
 use Rattle.jvm_model.specs.declared.event.Mark.{Mark}
 use Rattle.jvm_model.specs.declared.event.Mark.TheVariants.{Off, Plain, Root}
 use Rattle.jvm_model.specs.Methods.{code_of}
 use Rattle.jvm_model.specs.Images.{is_off, IsMarkedMember, IsMemberImage, AreMemberImages, next_number}
 use Rattle.inject_events.specs.declared.methods.MethodImage.{MethodImage}
-use Rattle.inject_events.specs.declared.probes.Probes.{Probes}
 use Rattle.inject_events.specs.Instrumentable.{HasRewritableCode}
 use Rattle.inject_events.specs.Probing.{probes_of, version_with, image_with, IsMadeWith}
 

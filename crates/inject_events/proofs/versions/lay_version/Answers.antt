@@ -1,5 +1,5 @@
 -- what decoding read is what is laid out
-use Rattle.std.proofs.Common.{◌≤◌, length, Err, ap, sym, ◌∙◌, arith}
+use Rattle.std.proofs.Common.{◌≤◌, length, Err, ap, ◌∙◌, arith}
 use Rattle.inject_events.proofs.Laying.{AreGroups-groups, only_memory, laid_is, starts_rise}
 use Rattle.code_model.specs.declared.laying.Laid.{Laid}
 use Rattle.inject_events.proofs.versions.lay_version.Goals as goal
