@@ -2,7 +2,7 @@
 use Rattle.std.proofs.Common.{◌≡◌}
 use Rattle.std.specs.Prelude.{All}
 use Rattle.code_model.specs.Groups.{instrs_of, IsShort}
-use Rattle.code_model.proofs.laying.tests.groups_of.Given as goal
+use Rattle.code_model.proofs.tests.laying.groups_of.Given as goal
 
 abbrev pub invariant-loop-instr : goal.invariant-loop-instr
 invariant-loop-instr l = record {
