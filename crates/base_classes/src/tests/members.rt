@@ -412,22 +412,24 @@ fn members() -> &'static str {
     MEMBERS
 }
 
-/// Puts a word. One that memory lacks for is missed in the list.
-fn put(out: &mut Vec<u8>, word: &str) {
-    let _ = out.extend_from_slice(word.as_bytes());
-}
-
-/// An ASCII text, or a hyphen where there is none.
-fn put_text(out: &mut Vec<u8>, text: Option<&Text16>) {
-    let Some(text) = text else {
-        return put(out, "-");
-    };
-    for unit in text.units() {
-        let _ = out.push(u8::try_from(*unit).unwrap_or(b'?'));
+/// Puts a word. One that there is no memory for is missed in the list.
+fn put(out: &mut Vec<u16>, word: &str) {
+    for byte in word.as_bytes() {
+        let _ = out.push(u16::from(*byte));
     }
 }
 
-fn put_number(alloc: Global, out: &mut Vec<u8>, number: u16) {
+/// A text, or a hyphen where there is none.
+fn put_text(out: &mut Vec<u16>, text: Option<&Text16>) {
+    match text {
+        Some(text) => {
+            let _ = out.extend_from_slice(text.units());
+        }
+        None => put(out, "-"),
+    }
+}
+
+fn put_number(alloc: Global, out: &mut Vec<u16>, number: u16) {
     if let Ok(digits) = number.to_string(alloc) {
         put(out, &digits);
     }
@@ -451,16 +453,8 @@ fn word_of(access: u16, is_field: bool) -> &'static str {
     }
 }
 
-fn put_member(out: &mut Vec<u8>, class: &ClassFile, member: &Member, word: &str) {
-    put(out, word);
-    put_text(out, class.pool.text(member.name).ok());
-    put(out, " ");
-    put_text(out, class.pool.text(member.descriptor).ok());
-    put(out, "\n");
-}
-
 /// The string or the member at the index.
-fn put_named(out: &mut Vec<u8>, class: &ClassFile, index: u16) {
+fn put_named(out: &mut Vec<u16>, class: &ClassFile, index: u16) {
     if let Some(Const::Text(text)) = class.pool.get(index) {
         return put_text(out, class.pool.text(*text).ok());
     }
@@ -472,7 +466,7 @@ fn put_named(out: &mut Vec<u8>, class: &ClassFile, index: u16) {
     }
 }
 
-fn put_instruction(alloc: Global, out: &mut Vec<u8>, class: &ClassFile, instr: &Instr) {
+fn put_instruction(alloc: Global, out: &mut Vec<u16>, class: &ClassFile, instr: &Instr) {
     put(out, "    ");
     put_number(alloc, out, u16::from(instr.op));
     match &instr.arg {
@@ -491,7 +485,7 @@ fn put_instruction(alloc: Global, out: &mut Vec<u8>, class: &ClassFile, instr: &
 }
 
 /// The limits of a code, and the instructions that its bytes are, one behind the other.
-fn put_code(alloc: Global, out: &mut Vec<u8>, class: &ClassFile, code: &CodeAttribute) {
+fn put_code(alloc: Global, out: &mut Vec<u16>, class: &ClassFile, code: &CodeAttribute) {
     put(out, "    ");
     put_number(alloc, out, code.max_stack);
     put(out, " ");
@@ -508,7 +502,7 @@ fn put_code(alloc: Global, out: &mut Vec<u8>, class: &ClassFile, code: &CodeAttr
     }
 }
 
-fn put_class(out: &mut Vec<u8>, class: &ClassFile) {
+fn put_class(out: &mut Vec<u16>, class: &ClassFile) {
     put(out, word_of(class.access, false));
     put_text(out, class.pool.class_name(class.this_class).ok());
     put(out, " ");
@@ -521,16 +515,20 @@ fn put_class(out: &mut Vec<u8>, class: &ClassFile) {
     put(out, "\n");
 }
 
-fn put_fields(out: &mut Vec<u8>, class: &ClassFile) {
-    for field in class.fields.as_slice() {
-        put_member(out, class, field, word_of(field.access, true));
-    }
-}
-
-fn put_methods(alloc: Global, out: &mut Vec<u8>, class: &ClassFile) {
-    for method in class.methods.as_slice() {
-        put_member(out, class, method, word_of(method.access, false));
-        if let Some(Attribute::Code(_, code)) = method.attributes.get(0) {
+fn put_members(
+    alloc: Global,
+    out: &mut Vec<u16>,
+    class: &ClassFile,
+    members: &[Member],
+    are_fields: bool,
+) {
+    for member in members {
+        put(out, word_of(member.access, are_fields));
+        put_text(out, class.pool.text(member.name).ok());
+        put(out, " ");
+        put_text(out, class.pool.text(member.descriptor).ok());
+        put(out, "\n");
+        if let Some(Attribute::Code(_, code)) = member.attributes.get(0) {
             put_code(alloc, out, class, code);
         }
     }
@@ -542,9 +540,9 @@ fn each_member_is_the_lists(rt: HostRuntime) -> Result<(), Fail> {
     let mut out = Vec::new(alloc);
     for class in built_in(alloc)?.as_slice() {
         put_class(&mut out, class);
-        put_fields(&mut out, class);
-        put_methods(alloc, &mut out, class);
+        put_members(alloc, &mut out, class, class.fields.as_slice(), true);
+        put_members(alloc, &mut out, class, class.methods.as_slice(), false);
     }
-    assert!(rt; out.as_slice() == members().as_bytes());
+    assert!(rt; Text16::new(out).is_bytes(members().as_bytes()));
     Ok(())
 }
