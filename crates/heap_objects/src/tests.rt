@@ -99,7 +99,11 @@ fn what_objects_have(rt: HostRuntime) {
 fn make(heap: &mut Heap, sort: u8, fields: &[Datum], units: &[u16]) -> Result<u32, HeapError> {
     match sort {
         0 => heap.instance(CLASS, fields),
-        1 => heap.array(INTS, Datum::Int(0), u32::try_from(fields.len()).unwrap_or(0)),
+        1 => heap.array(
+            INTS,
+            Datum::Int(0),
+            u32::try_from(fields.len()).unwrap_or(0),
+        ),
         2 => heap.text(TEXT, units),
         _ => heap.intern(TEXT, units),
     }
@@ -150,7 +154,11 @@ fn a_text_that_grows(rt: HostRuntime) {
     assert!(rt; holds(&heap, 1, &[8; 2]));
     let mut heap = Heap::new(rt.alloc(), 7);
     assert_eq!(rt; text(&mut heap, &[1, 2, 3]), Ok(1));
-    assert_eq!(rt; append(&mut heap, 1, &[5; 3]), Some(true), "up to the limit");
+    assert_eq!(rt;
+        append(&mut heap, 1, &[5; 3]),
+        Some(true),
+        "up to the limit"
+    );
     assert_eq!(rt; append(&mut heap, 1, &[5]), Some(false));
 }
 
