@@ -73,7 +73,7 @@ front-within (suc k) n rest h = by (nat_lt n 128) refl (λ large. front-within k
         let same : ((n % 128 + 128) - 128) + 128 * (n / 128) ≡ n = omega (arith, parts) in
         let front = front-large (n % 128 + 128) (leb128_within k (n / 128) ++ rest) (n / 128) rest (omega arith) (later large) in
         subst (λ bytes. IsFront (bytes ++ rest) n rest) (sym (within-large k n large))
-            (subst (λ m. IsFront ((n % 128 + 128) ∷ (leb128_within k (n / 128) ++ rest)) m rest) same front)
+        (subst (λ m. IsFront ((n % 128 + 128) ∷ (leb128_within k (n / 128) ++ rest)) m rest) same front)
 
 pub leb128-front : (n : ℕ) (rest : List ℕ) → IsFront (leb128 n ++ rest) n rest
 unfolding leb128

@@ -119,11 +119,11 @@ pub push-holds : (popped last : ℕ) (bytes : List ℕ) (e : Event) → AreRecor
 push-holds popped last bytes e are next =
     let events = events_in popped bytes in
     records-of popped e.clock (bytes ++ record_of last e) (events ++ e ∷ [])
-        (ap (λ front. front ++ record_of last e) are.spelled
-        ∙ ap (λ before. records_of popped events ++ record_of before e) are.until
-        ∙ sym (records_of-push events popped e))
-        (AreInOrder-push events popped e are.ordered (subst (λ before. IsNext before e) are.until next))
-        (sym (clock_behind-push events popped e))
+    (ap (λ front. front ++ record_of last e) are.spelled
+    ∙ ap (λ before. records_of popped events ++ record_of before e) are.until
+    ∙ sym (records_of-push events popped e))
+    (AreInOrder-push events popped e are.ordered (subst (λ before. IsNext before e) are.until next))
+    (sym (clock_behind-push events popped e))
 
 -- ---- popping
 

@@ -35,9 +35,9 @@ impl Model for Events {
     ghost Value = { Held };
 
     ghost view = { λ b. record {
-        events = events_in b.popped b.bytes.items;
-        popped = b.popped;
-        capacity = b.bytes.capacity
+      events = events_in b.popped b.bytes.items;
+      popped = b.popped;
+      capacity = b.bytes.capacity;
     } };
 
     ghost invariant = { λ b. AreRecords b.popped b.last b.bytes.items };

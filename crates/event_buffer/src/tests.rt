@@ -1,7 +1,7 @@
 //! Records of events byte by byte, the edge of the room, and many events through a small ring.
 
-use crate::records::{length_of_record, put_record};
 use crate::Events;
+use crate::records::{length_of_record, put_record};
 use circular_buffer::HeapCircularBuffer;
 use jvm_model::{Event, EventKind};
 use std::alloc::Global;
@@ -91,7 +91,11 @@ fn event_numbered(number: u32) -> Event {
         _ => EventKind::Unwind,
     };
     let clock = number as u64;
-    event(kind, number.wrapping_mul(4_294_967), clock.wrapping_mul(clock))
+    event(
+        kind,
+        number.wrapping_mul(4_294_967),
+        clock.wrapping_mul(clock),
+    )
 }
 
 #[test]

@@ -123,7 +123,7 @@ class-added n pool name g h fits =
     let t = text-added n pool (class_text name) g (omega arith) (class_text-fit name fits) in
     let text = shared pool (Utf8 (class_text name)) in
     let c = entry-added (n + 1) text.pool (Class text.index) t.grows.good (omega arith)
-        (record { entry = (t.small, names-at is_utf8 text.pool text.index _ t.at refl); narrow = refl }) in
+    (record { entry = (t.small, names-at is_utf8 text.pool text.index _ t.at refl); narrow = refl }) in
     record {
       name = text.index;
       added = record { grows = then-grows n 1 1 _ _ _ t.grows c.grows; at = c.at; small = c.small };
@@ -144,7 +144,7 @@ name_type-added n pool member g h =
     let both = then-grows n 1 1 _ _ _ a.grows b.grows in
     let name_at = at-grown (n + 1) 1 _ _ name.index _ b.grows a.at in
     let c = entry-added (n + 2) descriptor.pool (NameType name.index descriptor.index) both.good (omega arith)
-        (record { entry = (a.small, b.small, names-at is_utf8 descriptor.pool name.index _ name_at refl, names-at is_utf8 descriptor.pool descriptor.index _ b.at refl); narrow = refl }) in
+    (record { entry = (a.small, b.small, names-at is_utf8 descriptor.pool name.index _ name_at refl, names-at is_utf8 descriptor.pool descriptor.index _ b.at refl); narrow = refl }) in
     record {
       name = name.index;
       descriptor = descriptor.index;
@@ -174,8 +174,8 @@ member-added n pool op class member g h fits =
     let both = then-grows n 2 3 _ _ _ a.added.grows b.added.grows in
     let class_at = at-grown (n + 2) 3 _ _ c.index _ b.added.grows a.added.at in
     let d = entry-added (n + 5) m.pool (member_entry op c.index m.index) both.good (omega arith)
-        (member-narrow m.pool op c.index m.index
-        (a.added.small, b.added.small, names-at is_class m.pool c.index _ class_at refl, names-at is_name_type m.pool m.index _ b.added.at refl)) in
+    (member-narrow m.pool op c.index m.index
+    (a.added.small, b.added.small, names-at is_class m.pool c.index _ class_at refl, names-at is_name_type m.pool m.index _ b.added.at refl)) in
     record {
       entry = member_entry op c.index m.index;
       added = record { grows = then-grows n 5 1 _ _ _ both d.grows; at = d.at; small = d.small };

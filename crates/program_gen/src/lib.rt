@@ -11,3 +11,6 @@ mod programs;
 mod rows;
 
 pub use generator::generate;
+
+#[cfg(test)]
+mod tests;

@@ -42,8 +42,11 @@ const GETSTATIC_OUT: Instruction = Instruction::OfMember(178, ClassName::System,
 /// Gen0.run.
 const RUN: Instruction = Instruction::OfMember(182, ClassName::Numbered(0), MemberName::Run);
 
-const PRINTLN: Instruction =
-    Instruction::OfMember(182, ClassName::PrintStream, MemberName::Println);
+const PRINTLN: Instruction = Instruction::OfMember(
+    182,
+    ClassName::PrintStream,
+    MemberName::Println,
+);
 
 fn new(class: u32) -> Instruction
     ensures { result ≡ OfClass 187 (Numbered class) }
