@@ -1,5 +1,5 @@
 -- What a caller sees of a buffer.
-use Rattle.std.specs.Prelude.{◌≡◌, ℕ, ◌+◌, ◌≤◌, List, [], ◌∷◌, ◌++◌, drop, length, slice_get, Option}
+use Rattle.std.specs.Prelude.{ℕ, List, [], ◌∷◌, ◌++◌, length}
 use Rattle.jvm_model.specs.declared.event.Event.{Event}
 use Rattle.event_buffer.specs.Records.{record_of, records_of}
 

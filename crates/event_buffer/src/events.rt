@@ -58,7 +58,8 @@ impl Events {
     /// Puts an event behind those that are held, where its record fits.
     pub fn push(&mut self, event: Event) -> Result<(), Full>
         requires later { last_clock self.old ≤ event.clock }
-        ensures full { IsErr result ↔ (self.old.capacity - used_of self.old < length_of self.old event) }
+        ensures full { IsErr result
+            ↔ (self.old.capacity - used_of self.old < length_of self.old event) }
         ensures ok { OnOk result (self.new ≡ pushed self.old event) }
         ensures err { OnErr result (self.new ≡ self.old) }
         ensures clock { OnOk result (last_clock self.new ≡ event.clock) }

@@ -1,6 +1,5 @@
 -- One byte, or one more than the rest has.
-use Rattle.std.proofs.Common.{◌≡◌, ◌+◌, ◌/◌, ◌<◌, ◌≤◌, length, sym, ap, arith}
-use Rattle.event_buffer.specs.Records.{leb128}
+use Rattle.std.proofs.Common.{length, sym, ap, arith}
 use Rattle.event_buffer.proofs.Leb128.{leb128-small, leb128-large, length-leb128-wide, length-leb128-narrow}
 use Rattle.event_buffer.proofs.numbers.+length_of_number.Goals as goal
 

@@ -1,5 +1,5 @@
 -- One byte, or one byte and the rest.
-use Rattle.std.proofs.Common.{◌≡◌, ◌+◌, ◌/◌, ◌<◌, ◌≤◌, ◌%◌, length, arith}
+use Rattle.std.proofs.Common.{arith}
 use Rattle.std.proofs.lemmas.Nat.{div-add-mod'}
 use Rattle.event_buffer.proofs.Leb128.{room-small, room-large, room-rest, put-small, put-large}
 use Rattle.event_buffer.proofs.numbers.+put_number.Goals as goal

@@ -1,7 +1,6 @@
 -- No bytes are the records of no events.
-use Rattle.std.proofs.Common.{◌≡◌, ℕ, [], ap, sym, subst, ◌∙◌}
+use Rattle.std.proofs.Common.{ℕ, sym, subst}
 use Rattle.circular_buffer.specs.Buffer.{Buffer}
-use Rattle.event_buffer.specs.Reading.{events_in}
 use Rattle.event_buffer.specs.Spelled.{AreRecords}
 use Rattle.event_buffer.proofs.ReadBack.{records-none, new-view}
 use Rattle.event_buffer.proofs.events.Events.new.Goals as goal

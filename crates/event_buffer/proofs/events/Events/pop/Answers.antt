@@ -1,5 +1,5 @@
 -- The bytes that are taken are the first record.
-use Rattle.std.proofs.Common.{◌≡◌, ◌+◌, ◌<◌, ◌^◌, List, None, slice_get, ap, sym, subst, ◌∙◌, arith}
+use Rattle.std.proofs.Common.{◌+◌, List, slice_get, ap, sym, ◌∙◌, arith}
 use Rattle.jvm_model.specs.declared.event.Event.{Event}
 use Rattle.jvm_model.specs.declared.event.EventKind.{EventKind}
 use Rattle.event_buffer.specs.Buffers.{Held, rest_of, last_clock}

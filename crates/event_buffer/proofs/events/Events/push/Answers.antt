@@ -1,5 +1,5 @@
 -- The record comes behind those that are held.
-use Rattle.std.proofs.Common.{◌≡◌, ap, sym, ◌∙◌}
+use Rattle.std.proofs.Common.{ap, sym, ◌∙◌}
 use Rattle.event_buffer.specs.Buffers.{Held, pushed}
 use Rattle.event_buffer.proofs.ReadBack.{push-view}
 use Rattle.event_buffer.proofs.events.Events.push.Goals as goal
