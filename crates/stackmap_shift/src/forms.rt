@@ -1,8 +1,9 @@
 //! The types of frames, and where a frame stands (JVM Specification 4.7.4).
 
-ghost use Rattle.std.specs.Prelude.{◌≡◌, ◌≤◌, IfOk};
+ghost use Rattle.std.specs.Prelude.{◌≡◌, IfOk, IfSome};
 ghost use Rattle.stackmap_shift.specs.Tables.{Gives, with_rest};
 ghost use Rattle.stackmap_shift.specs.Frames.{form_of, short_delta, delta_at, offset_behind, offset_at, known_form};
+ghost use Rattle.stackmap_shift.specs.Conditions.{FitsForm, IsBehind};
 
 use crate::error::FrameError;
 use crate::numbers::u16_of;
@@ -19,7 +20,8 @@ pub(crate) enum Form {
 
 /// The form of a type of frames. The types 128 to 246 are none.
 fn form_of(kind: u8) -> Option<Form>
-    ensures { result ≡ form_of kind }
+    ensures form { result ≡ form_of kind }
+    ensures fits { IfSome result (λ form. FitsForm form) }
 {
     match kind {
         0..=63 | 251 => Some(Form::Same),
@@ -33,7 +35,8 @@ fn form_of(kind: u8) -> Option<Form>
 
 /// The form of the type that stands at this offset.
 pub(crate) fn known_form(start: usize, kind: u8) -> Result<Form, FrameError>
-    ensures { Gives (λ x. x) result (known_form start (form_of kind)) }
+    ensures form { Gives (λ x. x) result (known_form start (form_of kind)) }
+    ensures fits { IfOk result (λ form. FitsForm form) }
 {
     match form_of(kind) {
         Some(form) => Ok(form),
@@ -76,7 +79,8 @@ fn offset_behind(before: Option<u16>, delta: u16) -> u32
 
 /// The same, where an offset can be so great. The frame's type stands at `start`.
 pub(crate) fn offset_of(start: usize, before: Option<u16>, delta: u16) -> Result<u16, FrameError>
-    ensures { Gives (λ x. x) result (offset_at start before delta) }
+    ensures offset { Gives (λ x. x) result (offset_at start before delta) }
+    ensures behind { IfOk result (λ at. IsBehind before at) }
 {
     let offset = offset_behind(before, delta);
     if offset > 65535 {

@@ -77,6 +77,9 @@ fn moved_frame(alloc: Global, homes: &Homes, frame: &Frame) -> Result<Frame, NoM
 pub fn shift_frames(alloc: Global, frames: &Frames, homes: &Homes) -> Result<Frames, NoMemory>
     requires { IsStrictlyIncreasing homes.now.from }
     ensures moved { IfOk result (λ moved. moved.list ≡ moved_frames homes.now frames.now.list) }
+    // So `write_frames` takes them, and a frame that is added behind the last one.
+    ensures writable { AreHomes homes.now → EachStands homes.now.from frames.now.list
+        → AreWritable frames.now.list → IfOk result (λ moved. AreWritable moved.list) }
 {
     let mut list = Seq::with_capacity(alloc, frames.list.len())?;
     for frame in frames.list.as_slice() {
