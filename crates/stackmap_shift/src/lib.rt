@@ -18,3 +18,6 @@ pub use frames::{Frame, FrameKind, Frames, VType};
 pub use moves::shift_frames;
 pub use reading::read_frames;
 pub use writing::write_frames;
+
+#[cfg(test)]
+mod tests;

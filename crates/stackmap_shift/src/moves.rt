@@ -71,6 +71,17 @@ fn moved_frame(alloc: Global, homes: &Homes, frame: &Frame) -> Result<Frame, NoM
     Ok(Frame { at, kind })
 }
 
+fn moved_list(alloc: Global, homes: &Homes, frames: &[Frame]) -> Result<Seq<Frame>, NoMemory>
+    requires { IsStrictlyIncreasing homes.now.from }
+    ensures { IfOk result (λ moved. moved ≡ moved_frames homes.now frames.now) }
+{
+    let mut moved = Seq::with_capacity(alloc, frames.len())?;
+    for frame in frames {
+        moved.push(moved_frame(alloc, homes, frame)?)?;
+    }
+    Ok(moved)
+}
+
 /// The frames for code that is laid out anew, with these homes. A frame moves to the home of its instruction, where what goes
 /// in front of it begins; an Uninitialized goes on naming the `new` itself. An offset that starts no instruction becomes 0, so
 /// the caller sees to it that there is none. All else stays.
@@ -81,9 +92,6 @@ pub fn shift_frames(alloc: Global, frames: &Frames, homes: &Homes) -> Result<Fra
     ensures writable { AreHomes homes.now → EachStands homes.now.from frames.now.list
         → AreWritable frames.now.list → IfOk result (λ moved. AreWritable moved.list) }
 {
-    let mut list = Seq::with_capacity(alloc, frames.list.len())?;
-    for frame in frames.list.as_slice() {
-        list.push(moved_frame(alloc, homes, frame)?)?;
-    }
+    let list = moved_list(alloc, homes, frames.list.as_slice())?;
     Ok(Frames { list })
 }
