@@ -24,7 +24,12 @@ fn one_item_of(limit: usize, bytes: &[u8]) -> Result<(FrameKind, &[u8]), FrameEr
 }
 
 #[tactic(auto, unfolding(crate::specs::Frames::append_at))]
-fn append_of(alloc: Global, count: u8, limit: usize, bytes: &[u8]) -> Result<(FrameKind, &[u8]), FrameError>
+fn append_of(
+    alloc: Global,
+    count: u8,
+    limit: usize,
+    bytes: &[u8],
+) -> Result<(FrameKind, &[u8]), FrameError>
     requires some { 1 ≤ count }
     requires few { count ≤ 3 }
     ensures kind { Gives with_rest result (append_at count limit bytes.now) }
@@ -46,7 +51,12 @@ fn full_of(alloc: Global, limit: usize, bytes: &[u8]) -> Result<(FrameKind, &[u8
 
 /// What stands behind the delta.
 #[tactic(auto, unfolding(crate::specs::Frames::kind_at))]
-fn kind_of(alloc: Global, form: Form, limit: usize, bytes: &[u8]) -> Result<(FrameKind, &[u8]), FrameError>
+fn kind_of(
+    alloc: Global,
+    form: Form,
+    limit: usize,
+    bytes: &[u8],
+) -> Result<(FrameKind, &[u8]), FrameError>
     requires { FitsForm form }
     ensures kind { Gives with_rest result (kind_at form limit bytes.now) }
     ensures fits { IfOk result (λ x. FitsKind x.0) }
@@ -62,7 +72,12 @@ fn kind_of(alloc: Global, form: Form, limit: usize, bytes: &[u8]) -> Result<(Fra
 
 /// A frame behind one at the offset `before`.
 #[tactic(auto, unfolding(crate::specs::Frames::frame_at))]
-fn frame_of(alloc: Global, before: Option<u16>, limit: usize, bytes: &[u8]) -> Result<(Frame, &[u8]), FrameError>
+fn frame_of(
+    alloc: Global,
+    before: Option<u16>,
+    limit: usize,
+    bytes: &[u8],
+) -> Result<(Frame, &[u8]), FrameError>
     ensures frame { Gives with_rest result (frame_at before limit bytes.now) }
     ensures fits { IfOk result (λ x. FitsFrame x.0) }
     ensures behind { IfOk result (λ x. IsBehind before x.0.at) }
@@ -77,7 +92,12 @@ fn frame_of(alloc: Global, before: Option<u16>, limit: usize, bytes: &[u8]) -> R
 }
 
 /// So many frames, from the first one on.
-fn frames_from(alloc: Global, count: u16, limit: usize, bytes: &[u8]) -> Result<(Seq<Frame>, &[u8]), FrameError>
+fn frames_from(
+    alloc: Global,
+    count: u16,
+    limit: usize,
+    bytes: &[u8],
+) -> Result<(Seq<Frame>, &[u8]), FrameError>
     ensures frames { Gives with_rest result (frames_at count None limit bytes.now) }
     ensures writable { IfOk result (λ x. AreWritable x.0) }
 {

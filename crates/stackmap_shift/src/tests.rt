@@ -29,8 +29,8 @@ fn written(alloc: Global, bytes: &[u8]) -> Option<Vec<u8>> {
 const BRANCH: [u8; 3] = [0, 1, 6];
 
 const EVERY_KIND: [u8; 33] = [
-    0, 8, 1, 63, 65, 1, 247, 0, 64, 0, 248, 0, 1, 251, 0, 64, 253, 0, 1, 7, 1, 2, 8, 0, 3, 255, 255,
-    53, 0, 1, 0, 0, 0,
+    0, 8, 1, 63, 65, 1, 247, 0, 64, 0, 248, 0, 1, 251, 0, 64, 253, 0, 1, 7, 1, 2, 8, 0, 3, 255,
+    255, 53, 0, 1, 0, 0, 0,
 ];
 
 /// A same frame and a frame of one item in the long form, with a delta of 63.
@@ -42,7 +42,7 @@ fn writes_what_was_read(rt: HostRuntime) {
         assert!(rt; matches!(written(rt.alloc(), bytes), Some(again) if again.as_slice() == bytes));
     }
     let short = written(rt.alloc(), &LONG[..9]);
-    assert!(rt; matches!(short, Some(again) if again.as_slice() == &[0, 2, 63, 127, 4]));
+    assert!(rt; matches!(short, Some(again) if again.as_slice() == [0, 2, 63, 127, 4].as_slice()));
 }
 
 /// The place at which a table is refused.
@@ -78,8 +78,12 @@ fn tells_the_first_bad_byte(rt: HostRuntime) {
 fn moves_a_frame(rt: HostRuntime) -> Result<(), Fail> {
     let alloc = rt.alloc();
     let homes = homes_of_adding(alloc).ok().ok_or("no memory")?;
-    let frames = read_frames(alloc, &[0, 1, 67, 8, 0, 3]).ok().ok_or("no frames")?;
-    let moved = shift_frames(alloc, &frames, &homes).ok().ok_or("no memory")?;
+    let frames = read_frames(alloc, &[0, 1, 67, 8, 0, 3])
+        .ok()
+        .ok_or("no frames")?;
+    let moved = shift_frames(alloc, &frames, &homes)
+        .ok()
+        .ok_or("no memory")?;
     let at = moved.list.get(0).map(|frame| frame.at);
     assert_eq!(rt; at, Some(9));
     let kind = moved.list.get(0).map(|frame| &frame.kind);
@@ -87,30 +91,73 @@ fn moves_a_frame(rt: HostRuntime) -> Result<(), Fail> {
     Ok(())
 }
 
+/// A LineNumberTable, moved.
+fn moved_lines(alloc: Global, bytes: &[u8]) -> Result<Vec<u8>, FrameError> {
+    let homes = homes_of_adding(alloc)?;
+    shift_lines(alloc, bytes, &homes)
+}
+
+/// A LocalVariableTable, moved.
+fn moved_variables(alloc: Global, bytes: &[u8]) -> Result<Vec<u8>, FrameError> {
+    let homes = homes_of_adding(alloc)?;
+    shift_vars(alloc, bytes, &homes)
+}
+
+/// Whether a table came out so.
+fn is_table(moved: Result<Vec<u8>, FrameError>, wanted: &[u8]) -> bool {
+    matches!(moved, Ok(bytes) if bytes.as_slice() == wanted)
+}
+
+/// Whether a table was refused at this place.
+fn is_refused(moved: Result<Vec<u8>, FrameError>, at: usize) -> bool {
+    matches!(moved, Err(FrameError::BadFrame(place)) if place == at)
+}
+
+/// Two lines; a line past the code's end; a line and a variable whose code goes on to the code's end.
+const LINES: [(&'static [u8], &'static [u8]); 2] = [
+    (
+        &[0, 2, 0, 0, 0, 3, 0, 3, 0, 4],
+        &[0, 2, 0, 6, 0, 3, 0, 9, 0, 4],
+    ),
+    (&[0, 1, 0, 9, 0, 3], &[0, 1, 0, 16, 0, 3]),
+];
+
+const VARIABLES: [(&'static [u8], &'static [u8]); 2] = [
+    (
+        &[0, 1, 0, 0, 0, 4, 1, 2, 3, 4, 5, 6],
+        &[0, 1, 0, 6, 0, 10, 1, 2, 3, 4, 5, 6],
+    ),
+    (
+        &[0, 1, 0, 3, 255, 255, 1, 2, 3, 4, 5, 6],
+        &[0, 1, 0, 9, 0, 7, 1, 2, 3, 4, 5, 6],
+    ),
+];
+
 #[test]
-fn moves_lines(rt: HostRuntime) -> Result<(), Fail> {
+fn moves_debug_tables(rt: HostRuntime) {
     let alloc = rt.alloc();
-    let homes = homes_of_adding(alloc).ok().ok_or("no memory")?;
-    let lines = shift_lines(alloc, &[0, 2, 0, 0, 0, 3, 0, 3, 0, 4], &homes).ok().ok_or("bad")?;
-    assert_eq!(rt; lines.as_slice(), &[0, 2, 0, 6, 0, 3, 0, 9, 0, 4]);
-    let past = shift_lines(alloc, &[0, 1, 0, 9, 0, 3], &homes).ok().ok_or("bad")?;
-    assert_eq!(rt; past.as_slice(), &[0, 1, 0, 16, 0, 3]);
-    let cut = shift_lines(alloc, &[0, 2, 0, 0, 0, 3, 0], &homes).err();
-    assert!(rt; matches!(cut, Some(FrameError::BadFrame(7))));
-    let longer = shift_lines(alloc, &[0, 0, 0], &homes).err();
-    assert!(rt; matches!(longer, Some(FrameError::BadFrame(2))));
-    Ok(())
+    for (bytes, wanted) in LINES {
+        let moved = is_table(moved_lines(alloc, bytes), wanted);
+        assert!(rt; moved);
+    }
+    for (bytes, wanted) in VARIABLES {
+        let moved = is_table(moved_variables(alloc, bytes), wanted);
+        assert!(rt; moved);
+    }
 }
 
 #[test]
-fn moves_variables(rt: HostRuntime) -> Result<(), Fail> {
+fn refuses_debug_tables(rt: HostRuntime) {
     let alloc = rt.alloc();
-    let homes = homes_of_adding(alloc).ok().ok_or("no memory")?;
-    let moved = shift_vars(alloc, &[0, 1, 0, 0, 0, 4, 1, 2, 3, 4, 5, 6], &homes).ok().ok_or("bad")?;
-    assert_eq!(rt; moved.as_slice(), &[0, 1, 0, 6, 0, 10, 1, 2, 3, 4, 5, 6]);
-    let cut = shift_vars(alloc, &[0, 1, 0, 0, 0, 4, 1, 2, 3, 4, 5], &homes).err();
-    assert!(rt; matches!(cut, Some(FrameError::BadFrame(11))));
-    let longer = shift_vars(alloc, &[0, 0, 0], &homes).err();
-    assert!(rt; matches!(longer, Some(FrameError::BadFrame(2))));
-    Ok(())
+    let cut_lines = is_refused(moved_lines(alloc, &[0, 2, 0, 0, 0, 3, 0]), 7);
+    assert!(rt; cut_lines);
+    let longer_lines = is_refused(moved_lines(alloc, &[0, 0, 0]), 2);
+    assert!(rt; longer_lines);
+    let cut_variables = is_refused(
+        moved_variables(alloc, &[0, 1, 0, 0, 0, 4, 1, 2, 3, 4, 5]),
+        11,
+    );
+    assert!(rt; cut_variables);
+    let longer_variables = is_refused(moved_variables(alloc, &[0, 0, 0]), 2);
+    assert!(rt; longer_variables);
 }

@@ -53,7 +53,12 @@ fn uninit_of(limit: usize, bytes: &[u8]) -> Result<(VType, &[u8]), FrameError>
 
 /// The type of a tag that stands at `start`, with what follows the tag.
 #[tactic(auto, unfolding(crate::specs::Frames::behind_tag))]
-fn behind_tag(start: usize, tag: u8, limit: usize, bytes: &[u8]) -> Result<(VType, &[u8]), FrameError>
+fn behind_tag(
+    start: usize,
+    tag: u8,
+    limit: usize,
+    bytes: &[u8],
+) -> Result<(VType, &[u8]), FrameError>
     ensures { Gives with_rest result (behind_tag start tag limit bytes.now) }
 {
     match tag {
