@@ -3,7 +3,7 @@
 
 ghost use Rattle.std.specs.Prelude.{◌≡◌};
 ghost use Rattle.std.specs.Int.{w8, w16};
-ghost use Rattle.stackmap_shift.specs.Tables.{Gives, place, with_rest, number_at};
+ghost use Rattle.stackmap_shift.specs.Tables.{Gives, place, with_rest, number_at, nothing_left};
 
 use crate::error::FrameError;
 use byteorder::{BigEndian, ByteOrder};
@@ -39,7 +39,7 @@ pub(crate) fn u16_of(limit: usize, bytes: &[u8]) -> Result<(u16, &[u8]), FrameEr
 
 /// Nothing, where no bytes are left over.
 pub(crate) fn nothing_left(limit: usize, rest: &[u8]) -> Result<(), FrameError>
-    ensures { Gives (λ x. x) result (Rattle.stackmap_shift.specs.Tables.nothing_left limit rest.now) }
+    ensures { Gives (λ x. x) result (nothing_left limit rest.now) }
 {
     if !rest.is_empty() {
         return Err(FrameError::BadFrame(place_of(limit, rest)));

@@ -20,9 +20,25 @@ fn homes_of_adding(alloc: Global) -> Result<Homes, NoMemory>
 }
 
 /// What is written of the frames that were read.
-fn written(alloc: Global, bytes: &[u8]) -> Option<Vec<u8>> {
-    let frames = read_frames(alloc, bytes).ok()?;
-    write_frames(alloc, &frames).ok()
+fn written(alloc: Global, bytes: &[u8]) -> Result<Vec<u8>, FrameError> {
+    let frames = read_frames(alloc, bytes)?;
+    Ok(write_frames(alloc, &frames)?)
+}
+
+/// Whether a table came out so.
+fn is_table(table: Result<Vec<u8>, FrameError>, wanted: &[u8]) -> bool {
+    match table {
+        Ok(bytes) => bytes.as_slice() == wanted,
+        Err(_) => false,
+    }
+}
+
+/// Whether a table was refused at this place.
+fn is_refused(table: Result<Vec<u8>, FrameError>, at: usize) -> bool {
+    match table {
+        Ok(_) => false,
+        Err(fault) => fault == FrameError::BadFrame(at),
+    }
 }
 
 /// The frame of a branch; one frame of each kind, the offsets 1, 65, 67, 132, 134, 199, 201 and 65535.
@@ -38,19 +54,13 @@ const LONG: [u8; 10] = [0, 2, 251, 0, 63, 247, 0, 63, 4, 0];
 
 #[test]
 fn writes_what_was_read(rt: HostRuntime) {
-    for bytes in [BRANCH.as_slice(), EVERY_KIND.as_slice()] {
-        assert!(rt; matches!(written(rt.alloc(), bytes), Some(again) if again.as_slice() == bytes));
-    }
-    let short = written(rt.alloc(), &LONG[..9]);
-    assert!(rt; matches!(short, Some(again) if again.as_slice() == [0, 2, 63, 127, 4].as_slice()));
-}
-
-/// The place at which a table is refused.
-fn bad_place(alloc: Global, bytes: &[u8]) -> Option<usize> {
-    match read_frames(alloc, bytes) {
-        Err(FrameError::BadFrame(at)) => Some(at),
-        _ => None,
-    }
+    let alloc = rt.alloc();
+    let branch = is_table(written(alloc, &BRANCH), &BRANCH);
+    assert!(rt; branch);
+    let every_kind = is_table(written(alloc, &EVERY_KIND), &EVERY_KIND);
+    assert!(rt; every_kind);
+    let short = is_table(written(alloc, &LONG[..9]), &[0, 2, 63, 127, 4]);
+    assert!(rt; short);
 }
 
 /// No frames' type; no tag; ends within a delta; goes on behind its frames; a frame above offset 65535 whose tag is none
@@ -67,11 +77,13 @@ const BAD: [(&'static [u8], usize); 7] = [
 
 #[test]
 fn tells_the_first_bad_byte(rt: HostRuntime) {
+    let alloc = rt.alloc();
     for (bytes, at) in BAD {
-        assert_eq!(rt; bad_place(rt.alloc(), bytes), Some(at));
+        let refused = is_refused(written(alloc, bytes), at);
+        assert!(rt; refused);
     }
-    let after_long = bad_place(rt.alloc(), &LONG);
-    assert_eq!(rt; after_long, Some(9));
+    let after_long = is_refused(written(alloc, &LONG), 9);
+    assert!(rt; after_long);
 }
 
 #[test]
@@ -103,17 +115,7 @@ fn moved_variables(alloc: Global, bytes: &[u8]) -> Result<Vec<u8>, FrameError> {
     shift_vars(alloc, bytes, &homes)
 }
 
-/// Whether a table came out so.
-fn is_table(moved: Result<Vec<u8>, FrameError>, wanted: &[u8]) -> bool {
-    matches!(moved, Ok(bytes) if bytes.as_slice() == wanted)
-}
-
-/// Whether a table was refused at this place.
-fn is_refused(moved: Result<Vec<u8>, FrameError>, at: usize) -> bool {
-    matches!(moved, Err(FrameError::BadFrame(place)) if place == at)
-}
-
-/// Two lines; a line past the code's end; a line and a variable whose code goes on to the code's end.
+/// Two lines; a line past the code's end.
 const LINES: [(&'static [u8], &'static [u8]); 2] = [
     (
         &[0, 2, 0, 0, 0, 3, 0, 3, 0, 4],
@@ -122,6 +124,7 @@ const LINES: [(&'static [u8], &'static [u8]); 2] = [
     (&[0, 1, 0, 9, 0, 3], &[0, 1, 0, 16, 0, 3]),
 ];
 
+/// A variable of the whole code; one whose range goes on past all offsets.
 const VARIABLES: [(&'static [u8], &'static [u8]); 2] = [
     (
         &[0, 1, 0, 0, 0, 4, 1, 2, 3, 4, 5, 6],
