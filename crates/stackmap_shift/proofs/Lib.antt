@@ -2,5 +2,5 @@ mod Many
 mod Starts
 mod Rows
 mod Again
-mod Rising
+pub mod Rising
 pub mod Laid
