@@ -1,5 +1,5 @@
 -- The homes that a layout gives are homes as what moves tables asks for.
-use Rattle.std.proofs.Common.{◌≡◌, ℕ, List, length, map, sym, ◌∙◌}
+use Rattle.std.proofs.Common.{ℕ, List, length, sym, ◌∙◌}
 use Rattle.std.proofs.lemmas.List.{length-map}
 use Rattle.code_model.specs.declared.laying.Group.{Group}
 use Rattle.code_model.specs.Layout.{Spot, all_spots, homes_of}

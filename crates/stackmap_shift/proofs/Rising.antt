@@ -1,5 +1,5 @@
 -- Offsets that rise: with one more frame, and moved.
-use Rattle.std.proofs.Common.{◌≡◌, ℕ, zero, suc, ◌+◌, ◌-◌, ◌<◌, ◌≤◌, List, [], ◌∷◌, ◌++◌, length, get_or, map, Option, Some, None, Ok, Err, refl, sym, ap, subst, ◌∙◌, inl, inr, arith}
+use Rattle.std.proofs.Common.{◌≡◌, ℕ, zero, suc, ◌<◌, List, [], ◌∷◌, ◌++◌, length, get_or, Option, Some, None, refl, sym, ◌∙◌, inl, inr, arith}
 use Rattle.std.specs.Prelude.{All, Contains, slice_get, slice_index_or, unwrap_or}
 use Rattle.std.specs.List.{AllByRecursion}
 use Rattle.std.proofs.lemmas.Bool.{cases_lt}
@@ -11,7 +11,7 @@ use Rattle.code_model.proofs.Searches.{rise-lt, rise-le, home_of-at}
 use Rattle.stackmap_shift.specs.declared.frames.FrameKind.{FrameKind}
 use Rattle.stackmap_shift.specs.declared.frames.FrameKind.TheVariants.{Same, OneItem, Chop, Append, Full}
 use Rattle.stackmap_shift.specs.declared.frames.Frame.{Frame}
-use Rattle.stackmap_shift.specs.Moves.{moved_type, moved_types, moved_kind, moved_frame, moved_frames}
+use Rattle.stackmap_shift.specs.Moves.{moved_type, moved_kind, moved_frame, moved_frames}
 use Rattle.stackmap_shift.specs.Conditions.{FitsKind, FitsFrame, IsBehind, Rise, last_offset, AreWritable, AreHomes, EachStands}
 
 -- ---- one more frame

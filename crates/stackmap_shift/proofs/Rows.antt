@@ -1,10 +1,9 @@
 -- The definitions, computed on worked tables.
-use Rattle.std.specs.Prelude.{◌≡◌, List, [], ◌∷◌, ◌++◌, Ok, Err, refl}
+use Rattle.std.specs.Prelude.{◌≡◌, [], ◌∷◌, ◌++◌, Ok, Err, refl}
 use Rattle.code_model.specs.declared.laying.Homes.{Homes}
 use Rattle.stackmap_shift.specs.declared.error.FrameError.TheVariants.{BadFrame}
 use Rattle.stackmap_shift.specs.declared.frames.VType.TheVariants.{Top, Integer, Object, Uninit}
 use Rattle.stackmap_shift.specs.declared.frames.FrameKind.TheVariants.{Same, OneItem, Chop, Append, Full}
-use Rattle.stackmap_shift.specs.declared.frames.Frame.{Frame}
 use Rattle.stackmap_shift.specs.Tables.{number_at, many_at, counted_at}
 use Rattle.stackmap_shift.specs.Frames.{object_at, uninit_at, behind_tag, type_at, one_item_at, append_at, full_at, kind_at, frame_at, frames_at, table_at, frames_of}
 use Rattle.stackmap_shift.specs.Spelling.{table_bytes}

@@ -2,7 +2,7 @@
 -- the grammar. A table that ends early is at fault where it ends.
 use Rattle.std.specs.Prelude.{◌≡◌, ◌≢◌, ℕ, zero, suc, ◌-◌, List, [], ◌∷◌, ◌++◌, length, take, drop, Result, Ok, Err, nat_lt, ◌==◌, if◌then◌else◌}
 use Rattle.std.specs.Borrow.{Bor}
-use Rattle.std.specs.Int.{Width, w8, w16, byte_len, from_be_bytes}
+use Rattle.std.specs.Int.{Width, w16, byte_len, from_be_bytes}
 use Rattle.stackmap_shift.specs.declared.error.FrameError.{FrameError}
 use Rattle.stackmap_shift.specs.declared.error.FrameError.TheVariants.{BadFrame, NoMemory}
 

@@ -1,4 +1,4 @@
-use Rattle.std.proofs.Common.{Ok, Err, nat_cmp, ◌∙◌, arith}
+use Rattle.std.proofs.Common.{Ok, Err, ◌∙◌, arith}
 use Rattle.std.proofs.lemmas.List.Sorted.{searched}
 use Rattle.code_model.proofs.Searches.{rise-le, rise-lt}
 use Rattle.stackmap_shift.proofs.Starts.{start_for-at}

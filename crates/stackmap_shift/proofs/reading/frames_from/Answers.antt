@@ -1,4 +1,4 @@
-use Rattle.std.proofs.Common.{None, [], ◌∷◌, length, sym, subst, arith}
+use Rattle.std.proofs.Common.{None, [], ◌∷◌, sym, subst, arith}
 use Rattle.std.proofs.lemmas.List.{length-append}
 use Rattle.std.proofs.lemmas.List.Elements.{All-push}
 use Rattle.std.proofs.lemmas.Result.{err_from_is_err_and}
