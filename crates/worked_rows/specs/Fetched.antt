@@ -1,6 +1,7 @@
 -- What was fetched of a row's folder, where the files tell their contents.
 use Rattle.std.specs.Prelude.{◌≡◌, ℕ, List, Option, Some, map, Result, IfOk, IfSome}
-use Rattle.std.specs.String.{String, string_bytes}
+use Rattle.std.specs.String.{string_bytes}
+use Rattle.std_alloc.specs.declared.string.String.{String}
 use Rattle.jf_bytes.specs.Streams.{Told}
 use Rattle.worked_rows.specs.Rows.{file_at, part_at, HasWords}
 
