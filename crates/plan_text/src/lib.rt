@@ -1,0 +1,9 @@
+//! What a run is asked to profile, and how: the plan, and the words that name a method. Admission looks the methods up.
+#![tactic(auto)]
+
+mod plan;
+mod roots;
+#[cfg(test)]
+mod tests;
+
+pub use plan::{Action, LineCause, Plan, PlanError, RootName, plan_of_root};
