@@ -1,0 +1,91 @@
+-- What is admitted: a program's classes, or its first fault.
+use Rattle.std.specs.Prelude.{◌≡◌, ◌≢◌, ℕ, ◌+◌, Bool, true, false, List, [], ◌∷◌, ◌++◌, length, map, Option, Some, None, is_none, is_some, Result, Ok, Err, unwrap_or, nat_lt, ◌&&◌, ◌||◌, if◌then◌else◌}
+use Rattle.std.specs.Option.{option_and_then, option_map, option_map_or, option_or}
+use Rattle.const_pool.specs.declared.class.ClassFile.{ClassFile}
+use Rattle.const_pool.specs.References.{Reference, NameAndType}
+use Rattle.plan_text.specs.declared.plan.Action.{Action}
+use Rattle.plan_text.specs.declared.plan.Plan.{Plan}
+use Rattle.plan_text.specs.declared.plan.RootName.{RootName}
+use Rattle.jvm_model.specs.declared.event.Act.{Act}
+use Rattle.jvm_model.specs.declared.program.Program.{Program}
+use Rattle.jvm_model.specs.Methods.{method_code, method_named}
+use Rattle.jvm_model.specs.Programs.{class_at, class_named, declared_method, number_of_method, numbered}
+use Rattle.jvm_model.specs.SmallClass.{main_member, public_static}
+use Rattle.admit_check.specs.declared.error.AdmitError.{AdmitError}
+use Rattle.admit_check.specs.declared.error.AdmitError.TheVariants.{TooManyMethods, NoMain, NoSuchRoot, NoMemory}
+use Rattle.admit_check.specs.Checks.{fault_if, first_of, first_from}
+use Rattle.admit_check.specs.Shapes.{name_fault, shape_fault}
+use Rattle.admit_check.specs.Codes.{codes_fault}
+use Rattle.admit_check.specs.Floating.{floating_fault}
+
+-- ---- the classes, in order
+
+abbrev pub class_fault : List ClassFile → ℕ → ClassFile → Option AdmitError
+class_fault earlier k c = first_of (name_fault earlier k c ∷ shape_fault k c ∷ codes_fault k c ∷ floating_fault k c ∷ [])
+
+abbrev pub classes_fault : List ClassFile → List ClassFile → Option AdmitError
+classes_fault earlier [] = None
+classes_fault earlier (c ∷ rest) = option_or (class_fault earlier (length earlier) c) (classes_fault (earlier ++ c ∷ []) rest)
+
+-- ---- the program of classes that have no fault
+
+-- the classes, and the built-in ones behind them; main is found later
+abbrev pub program_with : List ClassFile → List ClassFile → ℕ → List Act → Plan → Program
+program_with classes built_in main acts plan = record {
+  classes = classes ++ built_in;
+  methods = numbered (classes ++ built_in);
+  main = main;
+  acts = acts;
+  args = plan.args;
+  heap = unwrap_or plan.heap 4194304;
+}
+
+-- at most 32,768 methods have Code
+abbrev pub count_fault : Program → Option AdmitError
+count_fault p = fault_if (nat_lt 32768 (length p.methods)) (TooManyMethods (length p.methods))
+
+-- the number of the public static `main` of the class of this name among the given ones
+abbrev pub main_in : Program → ℕ → List ℕ → Option ℕ
+main_in p given name =
+    option_and_then (λ class. if nat_lt class given then option_and_then (λ c. option_and_then (number_of_method p class) (option_and_then (public_static c) (method_named c main_member))) (class_at p class) else None) (class_named p name)
+
+-- the number of the method that a root names
+abbrev pub root_in : Program → RootName → Option ℕ
+root_in p r = option_and_then (declared_method p (record { name = r.name; descriptor = r.descriptor })) (class_named p r.class)
+
+abbrev pub act_of : Program → Action → Option Act
+act_of p a = option_map (λ method. record { moment = a.moment; select = a.select; method = method }) (root_in p a.root)
+
+-- the acts, or the place of the first whose root is no method, counted from this number
+abbrev pub acts_from : Program → ℕ → List Action → Result (List Act) AdmitError
+acts_from p at [] = Ok []
+acts_from p at (a ∷ rest) = act_with (act_of p a) at (acts_from p (at + 1) rest)
+  where
+  act_with : Option Act → ℕ → Result (List Act) AdmitError → Result (List Act) AdmitError
+  act_with None n more = Err (NoSuchRoot n)
+  act_with (Some act) n (Ok acts) = Ok (act ∷ acts)
+  act_with (Some act) n (Err fault) = Err fault
+
+-- ---- the answer
+
+abbrev pub with_acts : List ClassFile → List ClassFile → ℕ → Plan → Result (List Act) AdmitError → Result Program AdmitError
+with_acts classes built_in main plan (Ok acts) = Ok (program_with classes built_in main acts plan)
+with_acts classes built_in main plan (Err fault) = Err fault
+
+abbrev pub with_main : List ClassFile → List ClassFile → Plan → Option ℕ → Result Program AdmitError
+with_main classes built_in plan None = Err NoMain
+with_main classes built_in plan (Some main) = with_acts classes built_in main plan (acts_from (program_with classes built_in main [] plan) 1 plan.actions)
+
+abbrev pub unless_fault : {A : Type 0} → Option AdmitError → Result A AdmitError → Result A AdmitError
+unless_fault (Some fault) answer = Err fault
+unless_fault None answer = answer
+
+abbrev pub admission : List ClassFile → List ClassFile → List ℕ → Plan → Result Program AdmitError
+admission classes built_in main plan =
+    let p = program_with classes built_in 0 [] plan in
+    unless_fault (classes_fault [] classes) (unless_fault (count_fault p) (with_main classes built_in plan (main_in p (length classes) main)))
+
+-- a call answers that, unless memory ran out
+abbrev pub Answers : {A : Type 0} → Result A AdmitError → Result A AdmitError → Type 0
+Answers (Ok x) answer = answer ≡ Ok x
+Answers (Err fault) answer = fault ≢ NoMemory → answer ≡ Err fault

@@ -1,0 +1,7 @@
+pub mod Checks
+pub mod Texts
+pub mod Shapes
+pub mod Uses
+pub mod Codes
+pub mod Floating
+pub mod Admission
