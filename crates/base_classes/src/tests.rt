@@ -1,5 +1,5 @@
 use super::*;
-use jf_bytes::from_utf8;
+use jf_bytes::{Text16, from_utf8};
 use std::test::Fail;
 
 mod members;

@@ -17,6 +17,7 @@ pub mod Layouts
 pub mod Searches
 pub mod Steps
 pub mod Ready
+pub mod LaidReads
 mod LaidRows
 mod ReadRows
 pub mod Starting

@@ -1,13 +1,14 @@
 -- What can be laid out or encoded: the instructions of a decoded code.
-use Rattle.std.specs.Prelude.{◌≡◌, ℕ, ◌*◌, ◌^◌, ◌<◌, ◌≤◌, true, List, [], ◌∷◌, length, map, pos, ◌+ℤ◌, ◌-ℤ◌, Some, get_or, FitsSigned}
+use Rattle.std.specs.Prelude.{◌≡◌, ℕ, ◌*◌, ◌^◌, ◌<◌, ◌≤◌, Bool, true, ◌==◌, List, [], ◌∷◌, length, take, drop, map, pos, ◌+ℤ◌, ◌-ℤ◌, Some, get_or, FitsSigned}
 use Rattle.std.specs.Int.{Width, w8, w16, w32, byte_len}
-use Rattle.std.specs.List.{AllByRecursion}
+use Rattle.std.specs.List.{AllByRecursion, list_any, list_all}
 use Rattle.code_model.specs.declared.instr.Arg.{Arg}
 use Rattle.code_model.specs.declared.instr.Arg.TheVariants.{Plain, Value, Pool, Local, Inc, Target, Table, Lookup, Interface, Multi, Array}
 use Rattle.code_model.specs.declared.instr.Instr.{Instr}
 use Rattle.code_model.specs.declared.instr.Code.{Code}
 use Rattle.code_model.specs.declared.laying.Group.{Group}
-use Rattle.code_model.specs.Layout.{distance, width_of, fits_branch}
+use Rattle.code_model.specs.declared.laying.Laid.{Laid}
+use Rattle.code_model.specs.Layout.{distance, width_of, fits_branch, moved, place_of, group_end, home_in, place_in, home_of, laid_of, first_far}
 use Rattle.code_model.specs.Instructions.{instruction_at, end_of, IsReading}
 
 -- each number is a byte
@@ -96,3 +97,41 @@ pub record IsEncodable (code : Code) : Type 0 where
   pub reads : IsReading bytes code
   pub short : length bytes ≤ 65535
   pub targets : AllByRecursion (λ (i : Instr). AllByRecursion (IsStartIn bytes) (targets_of i.arg)) code.instrs
+
+-- ---- starts, as a test
+
+-- whether an instruction begins at this offset
+abbrev pub is_start : List Instr → ℕ → Bool
+is_start instrs at = list_any (λ (i : Instr). i.at == at) instrs
+
+abbrev pub are_starts : List Instr → List ℕ → Bool
+are_starts instrs offsets = list_all (λ t. is_start instrs t) offsets
+
+abbrev pub leads_to_starts : List Instr → Arg → Bool
+leads_to_starts instrs arg = are_starts instrs (targets_of arg)
+
+abbrev pub all_lead_to_starts : List Instr → Bool
+all_lead_to_starts instrs = list_all (λ (i : Instr). leads_to_starts instrs i.arg) instrs
+
+-- ---- layouts
+
+-- What is laid out of a group: at the home of its instruction's offset stands what goes in front, and behind that, at the place, the
+-- instruction, with each target where the homes have it. The next offset has its home where the group ends.
+pub record IsLaidIn (laid : Laid) (g : Group) : Type 0 where
+  pub home : ℕ
+  pub homed : home_in laid.homes g.instr.at ≡ Some home
+  pub placed : place_in laid.homes g.instr.at ≡ Some (place_of home g)
+  pub before : take (length g.before) (drop home laid.code) ≡ g.before
+  pub stands : instruction_at laid.code (place_of home g) ≡ Some (moved (home_of laid.homes) (place_of home g) g.instr)
+  pub next : home_in laid.homes (end_of g.instr) ≡ Some (group_end home g)
+
+abbrev pub AreLaidIn : Laid → List Group → Type 0
+AreLaidIn laid groups = AllByRecursion (IsLaidIn laid) groups
+
+-- the code would have this many bytes, which are too many
+abbrev pub IsTooLong : List ℕ → List Group → List ℕ → ℕ → Type 0
+IsTooLong front groups back len = (len ≡ length (laid_of front groups back).code) × (65535 < len)
+
+-- its length would do, and this is the first branch that does not fit
+abbrev pub IsTooFar : List ℕ → List Group → List ℕ → ℕ → Type 0
+IsTooFar front groups back at = (first_far front groups ≡ Some at) × (length (laid_of front groups back).code ≤ 65535)

@@ -1,6 +1,7 @@
 -- The instructions of a code: which one stands at an offset, which offsets have one, and the first fault of bytes that are no
 -- code (JVM Specification 4.9.1, 6.5).
-use Rattle.std.specs.Prelude.{◌≡◌, ℕ, ◌+◌, ◌<◌, List, [], ◌∷◌, ◌++◌, length, drop, Option, Some, None, Result, Ok, Err}
+use Rattle.std.specs.Prelude.{◌≡◌, ◌≢◌, ◌↔◌, ℕ, ◌+◌, ◌<◌, List, [], ◌∷◌, ◌++◌, length, drop, Option, Some, None, Result, Ok, Err}
+use Rattle.std.specs.List.{AllByRecursion}
 use Rattle.code_model.specs.declared.instr.Instr.{Instr}
 use Rattle.code_model.specs.declared.instr.Code.{Code}
 use Rattle.code_model.specs.declared.error.CodeError.{CodeError}
@@ -25,6 +26,14 @@ pub record StandsAt (bytes : List ℕ) (at : ℕ) (i : Instr) : Type 0 where
   pub parts : bytes ≡ front ++ (text ++ rest)
   pub place : length front ≡ at
   pub spelled : (instruction at).Spells text i
+
+-- What stands at an offset is what the formats spell there.
+abbrev pub StandAsSpelled : List ℕ → Type 0
+StandAsSpelled bytes = (at : ℕ) (i : Instr) → instruction_at bytes at ≡ Some i ↔ StandsAt bytes at i
+
+-- each of these instructions stands at its own offset
+abbrev pub ArePlaced : List ℕ → List Instr → Type 0
+ArePlaced bytes instrs = AllByRecursion (λ (i : Instr). instruction_at bytes i.at ≡ Some i) instrs
 
 -- where the next instruction begins
 abbrev pub end_of : Instr → ℕ
@@ -54,6 +63,10 @@ pub record IsFirstFault (bytes : List ℕ) (fault : CodeError) : Type 0 where
   pub reads : ReadsTo bytes 0 before at
   pub more : at < length bytes
   pub faults : (instruction at).Faults (drop at bytes) fault
+
+-- it is the first fault, unless memory ran out
+abbrev pub IsToldFault : List ℕ → CodeError → Type 0
+IsToldFault bytes fault = fault ≢ NoMemory → IsFirstFault bytes fault
 
 -- ---- answers
 

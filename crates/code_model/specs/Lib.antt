@@ -5,3 +5,4 @@ pub mod Layout
 pub mod Instructions
 pub mod Groups
 pub mod Widths
+pub mod Spelling

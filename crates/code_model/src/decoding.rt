@@ -1,12 +1,12 @@
 //! Bytes to instructions.
 
-ghost use Rattle.std.specs.Prelude.{◌≡◌, ◌≢◌, ◌↔◌, ◌<◌, ◌≤◌, ℕ, length, drop, IfOk, IfErr, OnOk, Some};
-ghost use Rattle.std.specs.List.{AllByRecursion};
+ghost use Rattle.std.specs.Prelude.{◌≡◌, ◌≢◌, ◌<◌, ◌≤◌, length, drop, IfOk, IfErr, OnOk};
 ghost use Rattle.code_model.specs.declared.error.CodeError.{CodeError as Fault};
 ghost use Rattle.code_model.specs.declared.instr.Code.{Code as Reading};
-ghost use Rattle.code_model.specs.declared.instr.Instr.{Instr as Instruction};
 ghost use Rattle.code_model.specs.Reading.{Gives, read_instruction};
-ghost use Rattle.code_model.specs.Instructions.{instruction_at, StandsAt, IsReading, IsFirstFault, IsDecodedAs, IsRefusedAs};
+ghost use Rattle.code_model.specs.Instructions.{instruction_at, StandAsSpelled, ArePlaced};
+ghost use Rattle.code_model.specs.Instructions.{IsReading, IsFirstFault, IsToldFault};
+ghost use Rattle.code_model.specs.Instructions.{IsDecodedAs, IsRefusedAs};
 
 use crate::error::CodeError;
 use crate::instr::{Code, Instr};
@@ -57,12 +57,12 @@ pub fn decode(alloc: Global, bytes: &[u8]) -> Result<Code, CodeError>
     requires short { length bytes.now ≤ 65535 }
     ensures found { IfOk result (λ code. IsReading bytes.now code) }
     ensures not_empty { IfOk result (λ code. 0 < length code.instrs) }
-    ensures placed { IfOk result (λ code. AllByRecursion (λ i. instruction_at bytes.now i.at ≡ Some i) code.instrs) }
+    ensures placed { IfOk result (λ code. ArePlaced bytes.now code.instrs) }
     ensures only { (code : Reading) → IsReading bytes.now code → IsDecodedAs result code }
-    ensures refused { IfErr result (λ fault. fault ≢ CodeError.NoMemory → IsFirstFault bytes.now fault) }
-    ensures first_fault { (fault : Fault) → IsFirstFault bytes.now fault → IsRefusedAs result fault }
+    ensures refused { IfErr result (IsToldFault bytes.now) }
+    ensures first_fault { (e : Fault) → IsFirstFault bytes.now e → IsRefusedAs result e }
     // Which instruction stands at an offset is said by the formats alone.
-    ensures stands { (at : ℕ) (i : Instruction) → instruction_at bytes.now at ≡ Some i ↔ StandsAt bytes.now at i }
+    ensures stands { StandAsSpelled bytes.now }
 {
     let len = bytes.len() as u16;
     let mut instrs = Seq::new(alloc);

@@ -1,10 +1,10 @@
 //! Where instructions come to stand when they are laid out anew.
 
 ghost use Rattle.std.specs.Prelude.{◌≡◌, ◌≤◌, [], ◌∷◌, length, OnOk, IfOk, IfSome, All};
-ghost use Rattle.std.specs.Option.{option_copied};
 ghost use Rattle.std.specs.List.Sorted.{IsStrictlyIncreasing};
-ghost use Rattle.code_model.specs.Layout.{spots_from, end_from, with_spots, homes_of, home_of, home_by};
+ghost use Rattle.code_model.specs.Layout.{spots_from, end_from, with_spots, homes_of, home_of};
 ghost use Rattle.code_model.specs.Groups.{EndsWithin};
+ghost use Rattle.code_model.specs.Spelling.{spot, home_with};
 
 use crate::laying::{Group, Homes};
 use crate::sizes::{group_end, place_of, source_end};
@@ -24,7 +24,7 @@ fn no_homes(alloc: Global, capacity: usize) -> Result<Homes, NoMemory>
 
 /// Adds a spot.
 fn add_spot(homes: &mut Homes, from: u16, home: u16, place: u16) -> Result<(), NoMemory>
-    ensures { OnOk result (homes.new ≡ with_spots homes.old (record { from = from; home = home; place = place } ∷ [])) }
+    ensures { OnOk result (homes.new ≡ with_spots homes.old (spot from home place ∷ [])) }
 {
     homes.from.push(from)?;
     homes.home.push(home)?;
@@ -80,7 +80,7 @@ impl Homes {
 /// Where a target leads in code that is laid out with homes, or that stays as it was.
 pub(crate) fn home_by(homes: Option<&Homes>, at: u16) -> u16
     requires { IfSome homes (λ h. IsStrictlyIncreasing h.now.from) }
-    ensures { result ≡ home_by (option_copied homes.entry) at }
+    ensures { result ≡ home_with homes.entry at }
 {
     match homes {
         Some(homes) => homes.home_of(at),

@@ -1,9 +1,11 @@
 //! Laying instructions out anew, with bytes in front of some of them (JVM Specification 4.7.3).
 
-ghost use Rattle.std.specs.Prelude.{◌≡◌, ◌<◌, ◌≤◌, ℕ, length, Err, Some, None, IfOk};
+ghost use Rattle.std.specs.Prelude.{◌≡◌, ◌≤◌, ℕ, length, Err, None, IfOk};
 ghost use Rattle.std.specs.List.Sorted.{IsStrictlyIncreasing};
-ghost use Rattle.code_model.specs.Groups.{AreGroups, IsShort};
-ghost use Rattle.code_model.specs.Layout.{width_of, home_of, end_from, laid_of, is_near, fits_branch, first_far_from, first_far};
+ghost use Rattle.code_model.specs.Groups.{AreGroups, IsShort, AreLaidIn, IsTooLong, IsTooFar};
+ghost use Rattle.code_model.specs.Layout.{width_of, home_of, end_from, laid_of};
+ghost use Rattle.code_model.specs.Layout.{is_near, fits_branch, first_far_from, first_far};
+ghost use Rattle.code_model.specs.declared.laying.LayError.TheVariants.{TooLong, Far};
 ghost use Rattle.code_model.specs.declared.laying.LayError.TheVariants.{NoMemory as out_of_memory};
 
 use crate::homes::homes_of;
@@ -107,10 +109,12 @@ pub fn lay_out(alloc: Global, front: &[u8], groups: &[Group], back: &[u8]) -> Re
     requires front { IsShort front.now }
     requires back { IsShort back.now }
     ensures laid { IfOk result (λ laid. laid ≡ laid_of front.now groups.now back.now) }
+    ensures moved { IfOk result (λ laid. AreLaidIn laid groups.now) }
     ensures short { IfOk result (λ laid. length laid.code ≤ 65535) }
     ensures near { IfOk result (λ laid. first_far front.now groups.now ≡ None) }
-    ensures too_long { (len : ℕ) → result ≡ Err (LayError.TooLong len) → (len ≡ length (laid_of front.now groups.now back.now).code) × (65535 < len) }
-    ensures far { (at : ℕ) → result ≡ Err (LayError.Far at) → (first_far front.now groups.now ≡ Some at) × (length (laid_of front.now groups.now back.now).code ≤ 65535) }
+    ensures too_long { (len : ℕ) → result ≡ Err (TooLong len)
+        → IsTooLong front.now groups.now back.now len }
+    ensures far { (at : ℕ) → result ≡ Err (Far at) → IsTooFar front.now groups.now back.now at }
 {
     let end = end_of_groups(groups, front.len() as u32);
     let len = end + back.len() as u32;
@@ -124,6 +128,3 @@ pub fn lay_out(alloc: Global, front: &[u8], groups: &[Group], back: &[u8]) -> Re
     let code = code_of(alloc, front, groups, back, &homes, len as usize)?;
     Ok(Laid { code, homes })
 }
-
-#[cfg(test)]
-mod tests;

@@ -3,7 +3,9 @@
 ghost use Rattle.std.specs.Prelude.{◌≡◌, if◌then◌else◌};
 ghost use Rattle.std.specs.Int.{w8, w16, w32};
 ghost use Rattle.code_model.specs.Operands.{form_of, is_wide};
-ghost use Rattle.code_model.specs.Reading.{Gives, value_at, index_at, local_at, increment_at, branch_at, interface_at, multi_at, array_at, operand_at, behind_opcode_at, behind_wide_at, read_instruction};
+ghost use Rattle.code_model.specs.Reading.{Gives, value_at, index_at, local_at, increment_at};
+ghost use Rattle.code_model.specs.Reading.{branch_at, interface_at, multi_at, array_at, operand_at};
+ghost use Rattle.code_model.specs.Reading.{behind_opcode_at, behind_wide_at, read_instruction};
 
 use crate::error::CodeError;
 use crate::instr::{Arg, Instr};

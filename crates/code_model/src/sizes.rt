@@ -4,7 +4,8 @@ ghost use Rattle.std.specs.Prelude.{◌≡◌, ◌≤◌, ◌<◌, ◌^◌, leng
 ghost use Rattle.std.specs.Int.{byte_len};
 ghost use Rattle.code_model.specs.Widths.{width};
 ghost use Rattle.code_model.specs.Operands.{slot_width, padding_len};
-ghost use Rattle.code_model.specs.Layout.{operand_width, operand_len, width_of, size_at, place_of, group_end, end_from, source_end};
+ghost use Rattle.code_model.specs.Layout.{operand_width, operand_len, width_of, size_at};
+ghost use Rattle.code_model.specs.Layout.{place_of, group_end, end_from, source_end};
 ghost use Rattle.code_model.specs.Groups.{EndsWithin};
 
 use crate::instr::{Arg, Instr};

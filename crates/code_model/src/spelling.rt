@@ -1,14 +1,19 @@
 //! The bytes of instructions (JVM Specification 6.5).
 
-ghost use Rattle.std.specs.Prelude.{◌≡◌, ◌≤◌, ◌<◌, ◌^◌, ◌++◌, ◌+ℤ◌, ◌-ℤ◌, pos, true, None, length, zip, OnOk, IfOk, IfSome, All, FitsSigned};
-ghost use Rattle.std.specs.Option.{option_copied};
+ghost use Rattle.std.specs.Prelude.{◌≡◌, ◌≤◌, ◌<◌, ◌+ℤ◌, ◌-ℤ◌, pos, true, None, length, IfOk};
+ghost use Rattle.std.specs.Prelude.{IfSome, All, FitsSigned};
 ghost use Rattle.std.specs.Int.{w32, byte_len};
-ghost use Rattle.code_model.specs.declared.instr.Arg.TheVariants.{Target, Table, Lookup};
-ghost use Rattle.std.specs.List.{flat_map};
 ghost use Rattle.std.specs.List.Sorted.{IsStrictlyIncreasing};
+ghost use Rattle.code_model.specs.declared.instr.Arg.TheVariants.{Target, Table};
 ghost use Rattle.code_model.specs.Widths.{width};
-ghost use Rattle.code_model.specs.Layout.{number_bytes, signed_bytes, s4, padding, target_bytes, pair_bytes, operand_bytes, distance, home_of, opcode_bytes, width_of, instr_bytes, groups_bytes, code_bytes, home_by, fits_branch, end_from, first_far_from};
-ghost use Rattle.code_model.specs.Groups.{FitsNumber, FitsOperand, FitsInstr, FitsGroup, IsUnmovedAt};
+ghost use Rattle.code_model.specs.Layout.{number_bytes, signed_bytes, padding, distance, home_of};
+ghost use Rattle.code_model.specs.Layout.{opcode_bytes, width_of, groups_bytes, code_bytes};
+ghost use Rattle.code_model.specs.Layout.{fits_branch, end_from, first_far_from};
+ghost use Rattle.code_model.specs.Groups.{FitsNumber, FitsOperand, FitsInstr, FitsGroup};
+ghost use Rattle.code_model.specs.Groups.{IsUnmovedAt};
+ghost use Rattle.code_model.specs.Spelling.{Adds, home_with, target_text, targets_text, table_text};
+ghost use Rattle.code_model.specs.Spelling.{pair_text, pairs_text, lookup_text, operand_text};
+ghost use Rattle.code_model.specs.Spelling.{instr_text, code_text};
 
 use crate::homes::home_by;
 use crate::instr::{Arg, Instr};
@@ -23,7 +28,7 @@ const WIDE: u8 = 196;
 /// Adds an unsigned number.
 fn put_number(out: &mut Seq<u8>, size: NumberSize, n: u16) -> Result<(), NoMemory>
     requires { FitsNumber (width size) n }
-    ensures { OnOk result (out.new ≡ out.old ++ number_bytes (width size) n) }
+    ensures { Adds result out.old out.new (number_bytes (width size) n) }
 {
     match size {
         NumberSize::One => out.push(n as u8)?,
@@ -36,7 +41,7 @@ fn put_number(out: &mut Seq<u8>, size: NumberSize, n: u16) -> Result<(), NoMemor
 /// Adds a signed number.
 fn put_signed(out: &mut Seq<u8>, size: NumberSize, n: i32) -> Result<(), NoMemory>
     requires { FitsSigned (width size) n }
-    ensures { OnOk result (out.new ≡ out.old ++ signed_bytes (width size) n) }
+    ensures { Adds result out.old out.new (signed_bytes (width size) n) }
 {
     match size {
         NumberSize::One => out.push((n as i8).cast_unsigned())?,
@@ -49,8 +54,8 @@ fn put_signed(out: &mut Seq<u8>, size: NumberSize, n: i32) -> Result<(), NoMemor
 /// How far the home of a target lies behind a place.
 fn distance(homes: Option<&Homes>, place: u16, target: u16) -> i32
     requires { IfSome homes (λ h. IsStrictlyIncreasing h.now.from) }
-    ensures value { result ≡ distance place (home_by (option_copied homes.entry) target) }
-    ensures fits { FitsSigned w32 (distance place (home_by (option_copied homes.entry) target)) }
+    ensures value { result ≡ distance place (home_with homes.entry target) }
+    ensures fits { FitsSigned w32 (distance place (home_with homes.entry target)) }
 {
     i32::from(home_by(homes, target)) - i32::from(place)
 }
@@ -63,7 +68,7 @@ fn put_far_target(
     target: u16,
 ) -> Result<(), NoMemory>
     requires { IfSome homes (λ h. IsStrictlyIncreasing h.now.from) }
-    ensures { OnOk result (out.new ≡ out.old ++ target_bytes (home_by (option_copied homes.entry)) place w32 target) }
+    ensures { Adds result out.old out.new (target_text homes.entry place w32 target) }
 {
     put_signed(out, NumberSize::Four, distance(homes, place, target))
 }
@@ -78,15 +83,15 @@ fn put_branch(
 ) -> Result<(), NoMemory>
     requires homes { IfSome homes (λ h. IsStrictlyIncreasing h.now.from) }
     requires size { 2 ≤ byte_len (width size) }
-    requires near { fits_branch (home_by (option_copied homes)) place (width size) (Target target) ≡ true }
-    ensures { OnOk result (out.new ≡ out.old ++ target_bytes (home_by (option_copied homes.entry)) place (width size) target) }
+    requires near { fits_branch (home_with homes) place (width size) (Target target) ≡ true }
+    ensures { Adds result out.old out.new (target_text homes.entry place (width size) target) }
 {
     put_signed(out, size, distance(homes, place, target))
 }
 
 /// Adds the zeros behind the opcode of a switch.
 fn put_padding(out: &mut Seq<u8>, place: u16) -> Result<(), NoMemory>
-    ensures { OnOk result (out.new ≡ out.old ++ padding place) }
+    ensures { Adds result out.old out.new (padding place) }
 {
     let zeros = [0, 0, 0];
     let len = padding_len(u32::from(place)) as usize;
@@ -102,7 +107,7 @@ fn put_targets(
     targets: &[u16],
 ) -> Result<(), NoMemory>
     requires { IfSome homes (λ h. IsStrictlyIncreasing h.now.from) }
-    ensures { OnOk result (out.new ≡ out.old ++ flat_map (target_bytes (home_by (option_copied homes.entry)) place w32) targets.now) }
+    ensures { Adds result out.old out.new (targets_text homes.entry place targets.now) }
 {
     for target in targets {
         put_far_target(out, homes, place, *target)?;
@@ -129,7 +134,7 @@ fn put_table(
 ) -> Result<(), NoMemory>
     requires homes { IfSome homes (λ h. IsStrictlyIncreasing h.now.from) }
     requires fits { FitsOperand w32 (Table default low targets.now) }
-    ensures { OnOk result (out.new ≡ out.old ++ operand_bytes (home_by (option_copied homes.entry)) place w32 (Table default low targets.now)) }
+    ensures { Adds result out.old out.new (table_text homes.entry place default low targets.now) }
 {
     put_padding(out, place)?;
     put_far_target(out, homes, place, default)?;
@@ -148,7 +153,7 @@ fn put_pair(
     target: u16,
 ) -> Result<(), NoMemory>
     requires { IfSome homes (λ h. IsStrictlyIncreasing h.now.from) }
-    ensures { OnOk result (out.new ≡ out.old ++ pair_bytes (home_by (option_copied homes.entry)) place (key, target)) }
+    ensures { Adds result out.old out.new (pair_text homes.entry place key target) }
 {
     put_signed(out, NumberSize::Four, key)?;
     put_far_target(out, homes, place, target)
@@ -164,7 +169,7 @@ fn put_pairs(
 ) -> Result<(), NoMemory>
     requires homes { IfSome homes (λ h. IsStrictlyIncreasing h.now.from) }
     requires columns { length keys.now ≡ length targets.now }
-    ensures { OnOk result (out.new ≡ out.old ++ flat_map (pair_bytes (home_by (option_copied homes.entry)) place) (zip keys.now targets.now)) }
+    ensures { Adds result out.old out.new (pairs_text homes.entry place keys.now targets.now) }
 {
     for (row, key) in keys.iter().enumerate() {
         put_pair(out, homes, place, *key, targets[row])?;
@@ -184,7 +189,8 @@ fn put_lookup(
     requires homes { IfSome homes (λ h. IsStrictlyIncreasing h.now.from) }
     requires columns { length keys.now ≡ length targets.now }
     requires few { length keys.now < 2147483648 }
-    ensures { OnOk result (out.new ≡ out.old ++ operand_bytes (home_by (option_copied homes.entry)) place w32 (Lookup default keys.now targets.now)) }
+    ensures { Adds result out.old out.new
+        (lookup_text homes.entry place default keys.now targets.now) }
 {
     put_padding(out, place)?;
     put_far_target(out, homes, place, default)?;
@@ -203,8 +209,8 @@ fn put_operand(
 ) -> Result<(), NoMemory>
     requires homes { IfSome homes (λ h. IsStrictlyIncreasing h.now.from) }
     requires fits { FitsOperand (width size) arg.now }
-    requires near { fits_branch (home_by (option_copied homes)) place (width size) arg.now ≡ true }
-    ensures { OnOk result (out.new ≡ out.old ++ operand_bytes (home_by (option_copied homes.entry)) place (width size) arg.now) }
+    requires near { fits_branch (home_with homes) place (width size) arg.now ≡ true }
+    ensures { Adds result out.old out.new (operand_text homes.entry place (width size) arg.now) }
 {
     match arg {
         Arg::Plain => Ok(()),
@@ -251,7 +257,7 @@ fn put_operand(
 
 /// Adds an opcode, behind the prefix `wide` where it has that.
 fn put_opcode(out: &mut Seq<u8>, wide: bool, op: u8) -> Result<(), NoMemory>
-    ensures { OnOk result (out.new ≡ out.old ++ opcode_bytes wide op) }
+    ensures { Adds result out.old out.new (opcode_bytes wide op) }
 {
     if wide {
         out.push(WIDE)?;
@@ -269,8 +275,8 @@ fn put_instr(
 ) -> Result<(), NoMemory>
     requires homes { IfSome homes (λ h. IsStrictlyIncreasing h.now.from) }
     requires fits { FitsInstr instr.now }
-    requires near { fits_branch (home_by (option_copied homes)) place (width_of instr.now) instr.now.arg ≡ true }
-    ensures { OnOk result (out.new ≡ out.old ++ instr_bytes (home_by (option_copied homes.entry)) place instr.now) }
+    requires near { fits_branch (home_with homes) place (width_of instr.now) instr.now.arg ≡ true }
+    ensures { Adds result out.old out.new (instr_text homes.entry place instr.now) }
 {
     put_opcode(out, instr.wide, instr.op)?;
     put_operand(out, homes, place, size_of_number(instr), &instr.arg)
@@ -288,7 +294,7 @@ fn put_groups(
     requires fits { All FitsGroup groups.now }
     requires near { first_far_from (home_of homes.now) start groups.now ≡ None }
     requires short { end_from start groups.now ≤ 65535 }
-    ensures { OnOk result (out.new ≡ out.old ++ groups_bytes (home_of homes.now) start groups.now) }
+    ensures { Adds result out.old out.new (groups_bytes (home_of homes.now) start groups.now) }
 {
     let mut at = start;
     for group in groups {
@@ -313,7 +319,7 @@ pub(crate) fn code_of(
     requires fits { All FitsGroup groups.now }
     requires near { first_far_from (home_of homes.now) (length front.now) groups.now ≡ None }
     requires short { end_from (length front.now) groups.now ≤ 65535 }
-    ensures { IfOk result (λ code. code ≡ front.now ++ (groups_bytes (home_of homes.now) (length front.now) groups.now ++ back.now)) }
+    ensures { IfOk result (λ code. code ≡ code_text homes.now front.now groups.now back.now) }
 {
     let mut code = Seq::with_capacity(alloc, len)?;
     code.extend_from_slice(front)?;
@@ -326,7 +332,7 @@ pub(crate) fn code_of(
 pub(crate) fn put_instrs(out: &mut Seq<u8>, instrs: &[Instr]) -> Result<(), NoMemory>
     requires fits { All FitsInstr instrs.now }
     requires near { All IsUnmovedAt instrs.now }
-    ensures { OnOk result (out.new ≡ out.old ++ code_bytes instrs.now) }
+    ensures { Adds result out.old out.new (code_bytes instrs.now) }
 {
     for instr in instrs {
         put_instr(out, None, instr.at, instr)?;

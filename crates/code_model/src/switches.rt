@@ -3,7 +3,8 @@
 ghost use Rattle.std.specs.Prelude.{◌≡◌, ◌<◌, ◌^◌};
 ghost use Rattle.std.specs.Int.{w32};
 ghost use Rattle.code_model.specs.Operands.{padding_len, case_count, rise_above, keys_rise};
-ghost use Rattle.code_model.specs.Reading.{Gives, target_at, pair_at, many_at, high_at, table_at, count_at, columns_at, lookup_at};
+ghost use Rattle.code_model.specs.Reading.{Gives, target_at, pair_at, many_at, high_at, table_at};
+ghost use Rattle.code_model.specs.Reading.{count_at, columns_at, lookup_at};
 
 use crate::error::CodeError;
 use crate::instr::Arg;
@@ -107,7 +108,8 @@ fn columns_of(
     at: u16,
     bytes: &[u8],
 ) -> Result<(Columns, &[u8]), CodeError>
-    ensures { Gives (λ x. ((x.0.keys, x.0.targets), x.1.now)) result (columns_at at count bytes.now) }
+    ensures { Gives (λ x. ((x.0.keys, x.0.targets), x.1.now)) result
+        (columns_at at count bytes.now) }
 {
     let mut keys = Seq::new(alloc);
     let mut targets = Seq::new(alloc);

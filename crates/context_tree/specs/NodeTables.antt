@@ -60,10 +60,14 @@ stepped_at (Some i) steps nodes = changed_at (stepped steps) i nodes
 abbrev pub given : Option ℕ → ℕ → NodeTable → NodeTable
 given node clock t = record t { nodes = stepped_at node (clock - t.clock) t.nodes; clock = clock }
 
+-- a node's number with its parent's
+abbrev pub sum_of : ℕ → ℕ → List ℕ → ℕ
+sum_of parent node numbers = slice_index numbers parent + slice_index numbers node
+
 -- the numbers of nodes, with one of them added to its parent's
 abbrev pub gathered : Option ℕ → ℕ → List ℕ → List ℕ
 gathered None node numbers = numbers
-gathered (Some parent) node numbers = slice_set numbers parent (slice_index numbers parent + slice_index numbers node)
+gathered (Some parent) node numbers = slice_set numbers parent (sum_of parent node numbers)
 
 -- ---- nodes
 

@@ -106,6 +106,10 @@ abbrev pub path_of_node : Option ℕ → List Context → List ℕ
 path_of_node None contexts = []
 path_of_node (Some node) contexts = option_map_or (λ (c : Context). c.path) (slice_get contexts node) []
 
+-- the number of the child at this place of a node, or of no node, which has the outermost paths
+abbrev pub child_at : Option ℕ → ℕ → List Context → Option ℕ
+child_at node place contexts = slice_get (children_of (path_of_node node contexts) contexts) place
+
 -- the steps of a path and of all that go on from it
 abbrev pub total_of : List ℕ → List Context → ℕ
 total_of path contexts = sum_by (λ (c : Context). c.own) (filter (is_within path) contexts)

@@ -1,7 +1,7 @@
 //! The totals of all nodes, in one pass.
 
 ghost use Rattle.std.specs.Prelude.{◌≡◌, ◌+◌, ◌<◌, ◌^◌, length, map, slice_index, IfOk, IfSome};
-ghost use Rattle.context_tree.specs.NodeTables.{gathered};
+ghost use Rattle.context_tree.specs.NodeTables.{gathered, sum_of};
 ghost use Rattle.context_tree.specs.TreeViews.{profile_in, IsTree};
 ghost use Rattle.context_tree.specs.Profiles.{totals_of};
 
@@ -20,7 +20,7 @@ fn number_at(numbers: &Seq<u64>, index: usize) -> u64
 /// Adds a node's number to its parent's.
 fn add_to_parent(numbers: &mut Seq<u64>, node: usize, parent: Option<usize>)
     requires within { IfSome parent (λ i. i < length numbers.old) }
-    requires fits { IfSome parent (λ i. slice_index numbers.old i + slice_index numbers.old node < 2 ^ 64) }
+    requires fits { IfSome parent (λ i. sum_of i node numbers.old < 2 ^ 64) }
     ensures { numbers.new ≡ gathered parent node numbers.old }
 {
     let Some(parent) = parent else {

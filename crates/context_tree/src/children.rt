@@ -2,7 +2,7 @@
 
 ghost use Rattle.std.specs.Prelude.{◌≡◌, ◌<◌, ◌++◌, ◌∷◌, [], None, length, is_ok, slice_get, slice_set, slice_index_or, take, ◌-◌, OnOk, OnErr, if◌then◌else◌};
 ghost use Rattle.std.specs.Option.{option_map};
-ghost use Rattle.context_tree.specs.ChildLists.{number_under, list_at, with_entry};
+ghost use Rattle.context_tree.specs.ChildLists.{Becomes, number_under, list_at, with_entry};
 
 use indexmap::IndexMap;
 use jf_bytes::NoMemory;
@@ -51,7 +51,7 @@ impl Children {
     /// Adds a child at the end. An Err changes nothing.
     pub fn add(&mut self, method: u32, number: usize) -> Result<(), NoMemory>
         requires { number_under method self.old ≡ None }
-        ensures { self.new ≡ (if is_ok result then self.old ++ (method, number) ∷ [] else self.old) }
+        ensures { Becomes result self.old self.new (self.old ++ (method, number) ∷ []) }
     {
         self.entries.insert(method, number)?;
         Ok(())
@@ -115,7 +115,7 @@ impl ChildLists {
     pub fn add(&mut self, node: usize, method: u32, number: usize) -> Result<(), NoMemory>
         requires within { node < length self.old }
         requires absent { number_under method (list_at node self.old) ≡ None }
-        ensures { self.new ≡ (if is_ok result then with_entry node (method, number) self.old else self.old) }
+        ensures { Becomes result self.old self.new (with_entry node (method, number) self.old) }
     {
         self.lists[node].add(method, number)
     }

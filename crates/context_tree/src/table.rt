@@ -2,6 +2,7 @@
 
 ghost use Rattle.std.specs.Prelude.{◌≡◌, ◌<◌, ◌≤◌, ◌+◌, ◌-◌, ◌^◌, Some, None, length, take, is_ok, slice_get, OnOk, OnErr, IfSome, if◌then◌else◌};
 ghost use Rattle.context_tree.specs.NodeTables.{entries_of, numbers_in, child_by, parent_in, changed_at, called, stepped, calls_in, own_in, own_at, given, fresh, with_node, with_child, grown, entered_at, opened_in, closed_in, told_in, taken_in};
+ghost use Rattle.context_tree.specs.ChildLists.{Becomes};
 ghost use Rattle.context_tree.specs.TreeViews.{total_at, IsTree};
 
 use crate::children::{ChildLists, Children};
@@ -128,7 +129,7 @@ impl NodeTable {
     ) -> Result<(), NoMemory>
         requires within { IfSome parent (λ i. i < length self.old.children) }
         requires absent { child_by parent method self.old ≡ None }
-        ensures { self.new ≡ (if is_ok result then with_child parent (method, number) self.old else self.old) }
+        ensures { Becomes result self.old self.new (with_child parent (method, number) self.old) }
     {
         match parent {
             None => self.outermost.add(method, number),

@@ -1,7 +1,7 @@
 //! The tree: nodes in order of first begin, and a cursor at the open path.
 
 ghost use Rattle.std.specs.Prelude.{◌≡◌, ◌<◌, ◌≤◌, ◌+◌, ◌-◌, ◌^◌, Some, length, slice_get, OnOk, OnErr, IfOk, IfSome};
-ghost use Rattle.context_tree.specs.Profiles.{blank, taken, credited, calls_of, nodes_of, children_of, path_of_node, total_of, totals_of};
+ghost use Rattle.context_tree.specs.Profiles.{blank, taken, credited, calls_of, nodes_of, child_at, path_of_node, total_of, totals_of};
 
 use crate::children::{ChildLists, Children};
 use crate::node::Node;
@@ -84,7 +84,7 @@ impl Tree {
     /// paths. It is None exactly where there is no child at that place.
     pub fn child(&self, node: Option<usize>, place: usize) -> Option<usize>
         requires { IfSome node (λ i. i < length self.now.contexts) }
-        ensures child { result ≡ slice_get (children_of (path_of_node node self.now.contexts) self.now.contexts) place }
+        ensures child { result ≡ child_at node place self.now.contexts }
         ensures within { IfSome result (λ child. child < length self.now.contexts) }
         ensures behind { IfSome result (λ child. IfSome node (λ parent. parent < child)) }
     {

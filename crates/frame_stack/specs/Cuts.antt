@@ -1,8 +1,8 @@
 -- All frames in one list of slots, the lowest first, cut at the frames' bases.
-use Rattle.std.specs.Prelude.{◌≡◌, ℕ, ◌+◌, ◌-◌, ◌≤◌, ◌<◌, ◌^◌, true, false, List, [], ◌∷◌, ◌++◌, length, take, drop, reverse, Option, Some, None, IfSome}
+use Rattle.std.specs.Prelude.{◌≡◌, ℕ, ◌+◌, ◌-◌, ◌≤◌, ◌<◌, ◌^◌, true, false, List, [], ◌∷◌, ◌++◌, length, take, drop, reverse, replicate, Option, Some, None, IfSome, nat_le, if◌then◌else◌}
 use Rattle.heap_objects.specs.declared.Value.{Value}
 use Rattle.frame_stack.specs.declared.entry.Entry.{Entry}
-use Rattle.frame_stack.specs.Widths.{is_long}
+use Rattle.frame_stack.specs.Widths.{is_long, height_of}
 use Rattle.frame_stack.specs.FrameLists.{PlacedFrame, FramesView}
 
 -- the operands that slots hold, the top first: nothing stands above a long
@@ -19,6 +19,16 @@ AreOperands (Some v ∷ slots) = (is_long v ≡ false) × AreOperands slots
 AreOperands (None ∷ []) = ⊥
 AreOperands (None ∷ Some v ∷ slots) = (is_long v ≡ true) × AreOperands slots
 AreOperands (None ∷ None ∷ slots) = ⊥
+
+-- where the operands below the topmost ones end, of the operands that stand from a slot on
+abbrev pub end_below : ℕ → ℕ → List (Option Value) → Option ℕ
+end_below low count slots =
+    let operands = operands_of (reverse (drop low slots)) in
+    if nat_le count (length operands) then Some (length slots - height_of (take count operands)) else None
+
+-- nothing stands behind the slots, up to so many
+abbrev pub filled_to : ℕ → List (Option Value) → List (Option Value)
+filled_to count slots = slots ++ replicate (count - length slots) None
 
 -- where the operands begin, and where they may end, in the slots of all frames
 abbrev pub floor : Entry → ℕ

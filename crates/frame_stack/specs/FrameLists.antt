@@ -73,6 +73,9 @@ abbrev pub with_operand : Value → List PlacedFrame → List PlacedFrame
 with_operand v [] = []
 with_operand v (f ∷ fs) = record f { operands = v ∷ f.operands } ∷ fs
 
+abbrev pub with_pushed : Value → FramesView → FramesView
+with_pushed v s = with_frames (with_operand v s.frames) s
+
 abbrev pub without_operand : List PlacedFrame → List PlacedFrame
 without_operand [] = []
 without_operand (f ∷ fs) = record f { operands = drop 1 f.operands } ∷ fs
@@ -107,6 +110,9 @@ with_value slot v locals =
 abbrev pub with_local : ℕ → Value → List PlacedFrame → List PlacedFrame
 with_local slot v [] = []
 with_local slot v (f ∷ fs) = record f { locals = with_value slot v (without_long_before slot f.locals) } ∷ fs
+
+abbrev pub with_written : ℕ → Value → FramesView → FramesView
+with_written slot v s = with_frames (with_local slot v s.frames) s
 
 -- ---- frames
 
@@ -151,6 +157,10 @@ without_frame s = rest_of s.frames s.room
 abbrev pub has_room : ℕ → Option ℕ → Bool
 has_room n None = false
 has_room n (Some m) = nat_le n m
+
+-- room was made for a frame of so many slots
+abbrev pub with_room : ℕ → FramesView → FramesView
+with_room n s = record s { room = Some n }
 
 -- one frame more, which took its arguments from the caller
 abbrev pub with_new_frame : ℕ → ℕ → ℕ → ℕ → ℕ → FramesView → FramesView

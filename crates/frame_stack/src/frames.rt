@@ -1,7 +1,12 @@
 //! The frames of a run, one for each live activation (JVM Specification 2.5.2, 2.6).
 
-ghost use Rattle.std.specs.Prelude.{◌≡◌, ◌≤◌, ◌+◌, ◌<◌, Some, length, slice_get, OnOk, OnErr, IsTrue, if◌then◌else◌};
-ghost use Rattle.frame_stack.specs.FrameLists.{AreSound, no_frames, with_frames, top_of, place_of, top_height, has_frame, with_place, top_operands, can_push, with_operand, without_operand, local_of, has_slot, with_local, without_frame, can_enter, with_new_frame, has_room, version_of};
+ghost use Rattle.std.specs.Prelude.{◌≡◌, ◌+◌, ◌<◌, length, slice_get, OnOk, OnErr, IsTrue};
+ghost use Rattle.heap_objects.specs.Changes.{changed_if};
+ghost use Rattle.frame_stack.specs.FrameLists.{AreSound, no_frames, with_frames, has_frame};
+ghost use Rattle.frame_stack.specs.FrameLists.{top_of, place_of, version_of, top_height, with_place};
+ghost use Rattle.frame_stack.specs.FrameLists.{top_operands, can_push, with_pushed, without_operand};
+ghost use Rattle.frame_stack.specs.FrameLists.{local_of, has_slot, with_written, without_frame};
+ghost use Rattle.frame_stack.specs.FrameLists.{has_room, with_room, can_enter, with_new_frame};
 
 use crate::entry::{Entry, floor_of, limit_of, put_below};
 use crate::slots::{end_below, fill, put, store, top_value};
@@ -90,8 +95,7 @@ impl Frames {
     /// in slots would pass max_stack (2.6.2).
     pub fn push(&mut self, value: Value) -> bool
         ensures answer { result ≡ can_push value self.old.frames }
-        ensures frames { self.new ≡ (if result then with_frames (with_operand value self.old.frames) self.old
-            else self.old) }
+        ensures frames { self.new ≡ changed_if result (with_pushed value) self.old }
     {
         let Some(entry) = self.top else {
             return false;
@@ -149,8 +153,7 @@ impl Frames {
     /// Writes a local, a long into two slots. False, with nothing changed, where the frame has not so many.
     pub fn set_local(&mut self, slot: u16, value: Value) -> bool
         ensures answer { result ≡ has_slot slot value self.old.frames }
-        ensures frames { self.new ≡ (if result then with_frames (with_local slot value self.old.frames) self.old
-            else self.old) }
+        ensures frames { self.new ≡ changed_if result (with_written slot value) self.old }
     {
         let Some(entry) = self.top else {
             return false;
@@ -182,7 +185,7 @@ impl Frames {
     /// Makes room for a frame of these limits on top of the top frame's limit. The room is there until a frame begins or ends.
     /// An Err says that memory ran out, and changes nothing.
     pub fn reserve(&mut self, max_locals: u16, max_stack: u16) -> Result<(), NoMemory>
-        ensures ok { OnOk result (self.new ≡ record self.old { room = Some (max_locals + max_stack) }) }
+        ensures ok { OnOk result (self.new ≡ with_room (max_locals + max_stack) self.old) }
         ensures err { OnErr result (self.new ≡ self.old) }
     {
         let start = limit_of(&self.top);
@@ -210,9 +213,8 @@ impl Frames {
         requires room { IsTrue (has_room (max_locals + max_stack) self.old.room) }
         requires few { length self.old.frames < 4294967295 }
         ensures answer { result ≡ can_enter max_locals args self.old.frames }
-        ensures frames { self.new ≡ (if result
-            then with_new_frame version method max_locals max_stack args self.old
-            else self.old) }
+        ensures frames { self.new ≡ changed_if result
+            (with_new_frame version method max_locals max_stack args) self.old }
     {
         let floor = floor_of(&self.top);
         let Some(base) = end_below(&self.slots, floor, args) else {

@@ -1,9 +1,9 @@
 //! The slots of all frames, the lowest first. A long stands in its first slot, with nothing in its second.
 
-ghost use Rattle.std.specs.Prelude.{◌≡◌, ◌≤◌, ◌+◌, ◌-◌, ◌++◌, length, take, drop, reverse, replicate, Some, None, nat_le, slice_get, if◌then◌else◌};
+ghost use Rattle.std.specs.Prelude.{◌≡◌, ◌≤◌, ◌+◌, ◌++◌, length, drop, reverse, slice_get};
 ghost use Rattle.std.specs.Vec.{vec_len, vec_capacity};
-ghost use Rattle.frame_stack.specs.Widths.{width, height_of, slots_of};
-ghost use Rattle.frame_stack.specs.Cuts.{operands_of, AreOperands};
+ghost use Rattle.frame_stack.specs.Widths.{width, slots_of};
+ghost use Rattle.frame_stack.specs.Cuts.{operands_of, AreOperands, end_below, filled_to};
 ghost use Rattle.frame_stack.specs.FrameLists.{without_long_before, with_value};
 
 use crate::width::{is_long, width};
@@ -41,9 +41,7 @@ pub fn top_value(slots: &[Option<Value>], low: usize) -> Option<Value>
 pub fn end_below(slots: &[Option<Value>], low: usize, count: u16) -> Option<usize>
     requires within { low ≤ length slots.now }
     requires operands { AreOperands (reverse (drop low slots.now)) }
-    ensures { let operands = operands_of (reverse (drop low slots.now)) in
-        result ≡ (if nat_le count (length operands)
-        then Some (length slots.now - height_of (take count operands)) else None) }
+    ensures { result ≡ end_below low count slots.now }
 {
     let mut end = slots.len();
     for _i in 0..count {
@@ -84,7 +82,7 @@ pub fn store(locals: &mut [Option<Value>], slot: usize, value: Value)
 pub fn fill(slots: &mut Vec<Option<Value>>, count: usize)
     requires more { vec_len slots.old ≤ count }
     requires room { count ≤ vec_capacity slots.old }
-    ensures items { slots.new.items ≡ slots.old.items ++ replicate (count - length slots.old.items) None }
+    ensures items { slots.new.items ≡ filled_to count slots.old.items }
     ensures room { vec_capacity slots.old ≤ vec_capacity slots.new }
 {
     let _ = slots.resize(count, None);

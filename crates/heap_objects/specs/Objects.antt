@@ -1,5 +1,6 @@
 -- Objects, and lists of them in order of allocation (JVM Specification 2.7).
-use Rattle.std.specs.Prelude.{ℕ, zero, suc, ◌+◌, ◌-◌, ◌==◌, ◌++◌, Bool, List, [], ◌∷◌, length, Option, Some, None, nat_lt, slice_get, slice_set, if◌then◌else◌}
+use Rattle.std.specs.Prelude.{ℕ, zero, suc, ◌+◌, ◌-◌, ◌==◌, ◌++◌, Bool, List, [], ◌∷◌, length, Option, Some, None, nat_lt, slice_get, slice_set, sum_by, unwrap_or, if◌then◌else◌}
+use Rattle.std.specs.Option.{option_map}
 use Rattle.heap_objects.specs.declared.datum.Datum.{Datum}
 use Rattle.heap_objects.specs.declared.object.Object.{Object}
 use Rattle.heap_objects.specs.declared.object.Object.TheVariants.{Instance, Array, Text}
@@ -70,3 +71,23 @@ abbrev pub changed_at : (Object → Object) → ℕ → List Object → List Obj
 changed_at f place [] = []
 changed_at f zero (o ∷ objects) = f o ∷ objects
 changed_at f (suc place) (o ∷ objects) = o ∷ changed_at f place objects
+
+-- a value was put into a slot of the object at a place
+abbrev pub with_slot_in : ℕ → ℕ → Datum → List Object → List Object
+with_slot_in place slot v objects = changed_at (with_slot slot v) place objects
+
+-- the text at a place has these units
+abbrev pub with_units_in : ℕ → List ℕ → List Object → List Object
+with_units_in place units objects = changed_at (with_units units) place objects
+
+-- units were added at the end of the text at a place
+abbrev pub with_more_units_in : ℕ → List ℕ → List Object → List Object
+with_more_units_in place units objects = changed_at (with_more_units units) place objects
+
+-- how many slots of the heap the objects take
+abbrev pub total_cost : List Object → ℕ
+total_cost objects = sum_by cost_of objects
+
+-- how many units more than the object at a place has these are
+abbrev pub growth_in : ℕ → List ℕ → List Object → ℕ
+growth_in place units objects = length units - unwrap_or (option_map length_of (slice_get objects place)) 0

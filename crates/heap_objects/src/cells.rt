@@ -1,8 +1,8 @@
 //! The values of an array, each as narrow as its elements.
 
-ghost use Rattle.std.specs.Prelude.{◌≡◌, ◌<◌, IfOk, IfSome, length, slice_get, slice_set, replicate};
+ghost use Rattle.std.specs.Prelude.{◌≡◌, ◌<◌, IfOk, IfSome, length, slice_get, replicate};
 ghost use Rattle.heap_objects.specs.Kept.{kept};
-ghost use Rattle.heap_objects.specs.Cells.{bit_datum, data_in, element_in};
+ghost use Rattle.heap_objects.specs.Cells.{bit_datum, data_in, data_with, element_in};
 
 use crate::datum::Datum;
 use crate::element::Element;
@@ -127,7 +127,7 @@ impl Cells {
     /// Puts a value into an element, which keeps what its sort keeps.
     pub fn put(&mut self, slot: usize, value: Datum)
         requires { slot < length (data_in self.old) }
-        ensures data { data_in self.new ≡ slice_set (data_in self.old) slot (kept (element_in self.old) value) }
+        ensures data { data_in self.new ≡ data_with slot value self.old }
         ensures element { element_in self.new ≡ element_in self.old }
     {
         match self {

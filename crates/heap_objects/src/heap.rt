@@ -1,6 +1,7 @@
 //! The heap of a run.
 
-ghost use Rattle.std.specs.Prelude.{◌≡◌, ◌<◌, ◌≤◌, ◌+◌, ◌-◌, ◌↔◌, ◌++◌, ◌∷◌, ◌^◌, [], Some, None, IfOk, IfSome, length, replicate, is_ok, nat_le, if◌then◌else◌};
+ghost use Rattle.std.specs.Prelude.{◌≡◌, ◌<◌, ◌≤◌, ◌+◌, ◌++◌, ◌∷◌, ◌^◌, [], Some, None, IfOk, IfSome};
+ghost use Rattle.std.specs.Prelude.{length, is_ok, nat_le, if◌then◌else◌};
 ghost use Rattle.std.specs.Option.{option_copied, option_map};
 ghost use Rattle.std.specs.Vec.{vec_len, vec_capacity};
 
@@ -67,12 +68,17 @@ fn put_last(objects: &mut Vec<Object>, object: Object)
 }
 
 impl Heap {
-    ghost use Rattle.heap_objects.specs.declared.object.Object.{Object};
-    ghost use Rattle.heap_objects.specs.Kinds.{element_of};
-    ghost use Rattle.heap_objects.specs.Kept.{kept};
-    ghost use Rattle.heap_objects.specs.Objects.{cost_of, length_of, kept_by, object_at};
+    ghost use Rattle.heap_objects.specs.Changes.{changed_if};
+    ghost use Rattle.heap_objects.specs.Objects.{cost_of, length_of, object_at};
     ghost use Rattle.heap_objects.specs.Interning.{number_of};
-    ghost use Rattle.heap_objects.specs.Heaps.{empty_heap, ExceedsLimit, slot_at, has_slot_at, kind_at, length_at, units_at, IsText, with_object, next_number, interned_number, with_interned, with_slot_at, growth_of, new_array, with_units_added, with_units_replaced, IsSound};
+    ghost use Rattle.heap_objects.specs.Heaps.{IsSound, empty_heap, ExceedsLimit, IsFullExactly};
+    ghost use Rattle.heap_objects.specs.Heaps.{slot_at, has_slot_at, kind_at, length_at, units_at};
+    ghost use Rattle.heap_objects.specs.Heaps.{IsKeptBy, IsText, with_slot_at};
+    ghost use Rattle.heap_objects.specs.Heaps.{next_number, with_object, with_instance};
+    ghost use Rattle.heap_objects.specs.Heaps.{with_array, with_text};
+    ghost use Rattle.heap_objects.specs.Heaps.{interned_number, with_interned, CannotIntern};
+    ghost use Rattle.heap_objects.specs.Heaps.{with_units_added, with_units_replaced};
+    ghost use Rattle.heap_objects.specs.Heaps.{GrowsPastLimit};
 
     /// A heap without objects, for so many slots. It takes no memory.
     pub fn new(alloc: Global, limit: u32) -> Heap
@@ -110,7 +116,7 @@ impl Heap {
     /// one that the slot keeps whole: that of an array is of its elements' sort and within their range.
     pub fn get(&self, object: u32, slot: u32) -> Option<Datum>
         ensures found { result ≡ slot_at object slot self.now }
-        ensures whole { IfSome result (λ v. IfSome (object_at object self.now.objects) (λ o. kept_by o v ≡ v)) }
+        ensures whole { IfSome result (λ v. IsKeptBy object self.now v) }
     {
         self.find(object)?.get(slot as usize)
     }
@@ -143,7 +149,7 @@ impl Heap {
         requires cost { used ≡ self.old.used + cost_of object }
         requires within { used ≤ self.old.limit }
         ensures number { IfOk result (λ n. n ≡ next_number self.old) }
-        ensures heap { self.new ≡ (if is_ok result then with_object object self.old else self.old) }
+        ensures heap { self.new ≡ changed_if (is_ok result) (with_object object) self.old }
     {
         let number = self.objects.len() as u32 + 1;
         self.objects.push(object)?;
@@ -153,10 +159,10 @@ impl Heap {
 
     /// Makes an instance with these fields, and gives its number. Its class is told by its kind. An Err changes nothing.
     pub fn instance(&mut self, kind: u32, fields: &[Datum]) -> Result<u32, HeapError>
-        ensures full { (result ≡ Err HeapError.HeapFull) ↔ ExceedsLimit (1 + length fields.now) self.old }
+        ensures full { IsFullExactly result (ExceedsLimit (1 + length fields.now) self.old) }
         ensures number { IfOk result (λ n. n ≡ next_number self.old) }
-        ensures heap { self.new ≡ (if is_ok result then with_object (Object.Instance kind fields.now) self.old
-            else self.old) }
+        ensures heap { self.new
+            ≡ changed_if (is_ok result) (with_instance kind fields.now) self.old }
     {
         let Some(used) = charged(self.limit, self.used, 1 + fields.len()) else {
             return Err(HeapError::HeapFull);
@@ -169,10 +175,9 @@ impl Heap {
     /// Makes an array of so many elements, each with what it keeps of `zero`, and gives its number. The zeros are written
     /// once. An Err changes nothing.
     pub fn array(&mut self, kind: u32, zero: Datum, len: u32) -> Result<u32, HeapError>
-        ensures full { (result ≡ Err HeapError.HeapFull) ↔ ExceedsLimit (1 + len) self.old }
+        ensures full { IsFullExactly result (ExceedsLimit (1 + len) self.old) }
         ensures number { IfOk result (λ n. n ≡ next_number self.old) }
-        ensures heap { self.new ≡ (if is_ok result then with_object (new_array kind zero len) self.old
-            else self.old) }
+        ensures heap { self.new ≡ changed_if (is_ok result) (with_array kind zero len) self.old }
     {
         let Some(used) = charged(self.limit, self.used, 1 + len as usize) else {
             return Err(HeapError::HeapFull);
@@ -184,10 +189,9 @@ impl Heap {
 
     /// Makes a text with these units, and gives its number. An Err changes nothing.
     pub fn text(&mut self, kind: u32, units: &[u16]) -> Result<u32, HeapError>
-        ensures full { (result ≡ Err HeapError.HeapFull) ↔ ExceedsLimit (1 + length units.now) self.old }
+        ensures full { IsFullExactly result (ExceedsLimit (1 + length units.now) self.old) }
         ensures number { IfOk result (λ n. n ≡ next_number self.old) }
-        ensures heap { self.new ≡ (if is_ok result then with_object (Object.Text kind units.now) self.old
-            else self.old) }
+        ensures heap { self.new ≡ changed_if (is_ok result) (with_text kind units.now) self.old }
     {
         let Some(used) = charged(self.limit, self.used, 1 + units.len()) else {
             return Err(HeapError::HeapFull);
@@ -201,9 +205,10 @@ impl Heap {
     #[tactic(auto, using(crate::proofs::HeapLemmas::length_within, crate::proofs::HeapLemmas::cost_more))]
     fn intern_new(&mut self, kind: u32, units: &[u16]) -> Result<u32, HeapError>
         requires { number_of units.now self.old.interned ≡ None }
-        ensures full { (result ≡ Err HeapError.HeapFull) ↔ ExceedsLimit (1 + length units.now) self.old }
+        ensures full { IsFullExactly result (ExceedsLimit (1 + length units.now) self.old) }
         ensures number { IfOk result (λ n. n ≡ next_number self.old) }
-        ensures heap { self.new ≡ (if is_ok result then with_interned kind units.now self.old else self.old) }
+        ensures heap { self.new
+            ≡ changed_if (is_ok result) (with_interned kind units.now) self.old }
     {
         let Some(used) = charged(self.limit, self.used, 1 + units.len()) else {
             return Err(HeapError::HeapFull);
@@ -220,11 +225,10 @@ impl Heap {
     /// The number of the text that was made for equal units, or of the one that is made for these now (JVM Specification 5.1,
     /// string literals). `kind` is that of the class String. An Err changes nothing.
     pub fn intern(&mut self, kind: u32, units: &[u16]) -> Result<u32, HeapError>
-        ensures full { (result ≡ Err HeapError.HeapFull)
-            ↔ ((number_of units.now self.old.interned ≡ None)
-            × ExceedsLimit (1 + length units.now) self.old) }
+        ensures full { IsFullExactly result (CannotIntern units.now self.old) }
         ensures number { IfOk result (λ n. n ≡ interned_number units.now self.old) }
-        ensures heap { self.new ≡ (if is_ok result then with_interned kind units.now self.old else self.old) }
+        ensures heap { self.new
+            ≡ changed_if (is_ok result) (with_interned kind units.now) self.old }
     {
         match self.interned.find(units) {
             Some(number) => Ok(number),
@@ -236,7 +240,7 @@ impl Heap {
     /// array keeps of the value what its elements keep: of a boolean the lowest bit, of a byte, char or short the low bits.
     pub fn put(&mut self, object: u32, slot: u32, value: Datum) -> bool
         ensures answer { result ≡ has_slot_at object slot self.old }
-        ensures heap { self.new ≡ (if result then with_slot_at object slot value self.old else self.old) }
+        ensures heap { self.new ≡ changed_if result (with_slot_at object slot value) self.old }
     {
         if object == 0 {
             return false;
@@ -247,9 +251,9 @@ impl Heap {
     /// Adds units at the end of a text, which takes a slot for each. An Err changes nothing.
     pub fn append(&mut self, object: u32, units: &[u16]) -> Result<(), HeapError>
         requires { IsText object self.old }
-        ensures full { (result ≡ Err HeapError.HeapFull) ↔ ExceedsLimit (length units.now) self.old }
-        ensures heap { self.new ≡ (if is_ok result then with_units_added object units.now self.old
-            else self.old) }
+        ensures full { IsFullExactly result (ExceedsLimit (length units.now) self.old) }
+        ensures heap { self.new
+            ≡ changed_if (is_ok result) (with_units_added object units.now) self.old }
     {
         let Some(used) = charged(self.limit, self.used, units.len()) else {
             return Err(HeapError::HeapFull);
@@ -262,10 +266,9 @@ impl Heap {
     /// Gives a text these units in place of its own. It takes as many slots as it gets longer. An Err changes nothing.
     pub fn replace(&mut self, object: u32, units: &[u16]) -> Result<(), HeapError>
         requires { IsText object self.old }
-        ensures full { (result ≡ Err HeapError.HeapFull)
-            ↔ ExceedsLimit (growth_of object units.now self.old) self.old }
-        ensures heap { self.new ≡ (if is_ok result then with_units_replaced object units.now self.old
-            else self.old) }
+        ensures full { IsFullExactly result (GrowsPastLimit object units.now self.old) }
+        ensures heap { self.new
+            ≡ changed_if (is_ok result) (with_units_replaced object units.now) self.old }
     {
         let before = self.len(object).unwrap_or(0) as usize;
         let grown = units.len().saturating_sub(before);

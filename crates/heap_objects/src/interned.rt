@@ -1,7 +1,8 @@
 //! The texts that were interned.
 
-ghost use Rattle.std.specs.Prelude.{◌≡◌, ◌++◌, ◌∷◌, [], None, is_ok, if◌then◌else◌};
-ghost use Rattle.heap_objects.specs.Interning.{number_of};
+ghost use Rattle.std.specs.Prelude.{◌≡◌, [], None, is_ok};
+ghost use Rattle.heap_objects.specs.Changes.{changed_if};
+ghost use Rattle.heap_objects.specs.Interning.{number_of, with_number};
 
 use indexmap::IndexMap;
 use jf_bytes::NoMemory;
@@ -43,7 +44,7 @@ impl Interned {
     /// Notes the object that is made for units. An Err changes nothing.
     pub fn add(&mut self, alloc: Global, units: &[u16], number: u32) -> Result<(), NoMemory>
         requires { number_of units.now self.old ≡ None }
-        ensures { self.new ≡ (if is_ok result then self.old ++ (units.now, number) ∷ [] else self.old) }
+        ensures { self.new ≡ changed_if (is_ok result) (with_number units.now number) self.old }
     {
         let key = Vec::from_slice(alloc, units)?;
         self.numbers.insert(key, number)?;

@@ -1,8 +1,10 @@
 //! Changes of one object of a list, by its place.
 
-ghost use Rattle.std.specs.Prelude.{◌≡◌, ◌<◌, ◌≤◌, ◌+◌, ◌-◌, false, length, slice_get, sum_by, unwrap_or, is_ok, if◌then◌else◌};
-ghost use Rattle.std.specs.Option.{option_copied, option_map, option_map_or};
-ghost use Rattle.heap_objects.specs.Objects.{cost_of, length_of, has_slot, with_slot, with_units, with_more_units, changed_at};
+ghost use Rattle.std.specs.Prelude.{◌≡◌, ◌<◌, ◌≤◌, ◌+◌, false, length, slice_get, is_ok};
+ghost use Rattle.std.specs.Option.{option_copied, option_map_or};
+ghost use Rattle.heap_objects.specs.Changes.{changed_if};
+ghost use Rattle.heap_objects.specs.Objects.{has_slot, total_cost, growth_in};
+ghost use Rattle.heap_objects.specs.Objects.{with_slot_in, with_units_in, with_more_units_in};
 
 use crate::datum::Datum;
 use crate::object::Object;
@@ -19,9 +21,8 @@ pub fn item_at(objects: &[Object], place: usize) -> Option<&Object>
 /// Puts a value into a slot of an object. False, with nothing changed, where there is no such object or slot.
 pub fn put_at(objects: &mut [Object], place: usize, slot: usize, value: Datum) -> bool
     ensures answer { result ≡ option_map_or (has_slot slot) (slice_get objects.old place) false }
-    ensures objects { objects.new ≡ (if result then changed_at (with_slot slot value) place objects.old
-        else objects.old) }
-    ensures cost { sum_by cost_of objects.new ≡ sum_by cost_of objects.old }
+    ensures objects { objects.new ≡ changed_if result (with_slot_in place slot value) objects.old }
+    ensures cost { total_cost objects.new ≡ total_cost objects.old }
 {
     if place >= objects.len() {
         return false;
@@ -32,9 +33,9 @@ pub fn put_at(objects: &mut [Object], place: usize, slot: usize, value: Datum) -
 /// Adds units at the end of a text. An Err changes nothing.
 pub fn append_at(objects: &mut [Object], place: usize, units: &[u16]) -> Result<(), NoMemory>
     requires { place < length objects.old }
-    ensures objects { objects.new ≡ (if is_ok result then changed_at (with_more_units units.now) place objects.old
-        else objects.old) }
-    ensures cost { sum_by cost_of objects.new ≤ sum_by cost_of objects.old + length units.now }
+    ensures objects { objects.new
+        ≡ changed_if (is_ok result) (with_more_units_in place units.now) objects.old }
+    ensures cost { total_cost objects.new ≤ total_cost objects.old + length units.now }
 {
     objects[place].append(units)?;
     Ok(())
@@ -48,10 +49,10 @@ pub fn replace_at(
     units: &[u16],
 ) -> Result<(), NoMemory>
     requires { place < length objects.old }
-    ensures objects { objects.new ≡ (if is_ok result then changed_at (with_units units.now) place objects.old
-        else objects.old) }
-    ensures cost { let before = unwrap_or (option_map length_of (slice_get objects.old place)) 0 in
-        sum_by cost_of objects.new ≤ sum_by cost_of objects.old + (length units.now - before) }
+    ensures objects { objects.new
+        ≡ changed_if (is_ok result) (with_units_in place units.now) objects.old }
+    ensures cost { total_cost objects.new
+        ≤ total_cost objects.old + growth_in place units.now objects.old }
 {
     objects[place].replace(alloc, units)?;
     Ok(())

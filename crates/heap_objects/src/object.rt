@@ -1,7 +1,8 @@
 //! Objects.
 
-ghost use Rattle.std.specs.Prelude.{◌≡◌, ◌<◌, ◌+◌, IfSome, length, slice_get, is_ok, nat_lt, if◌then◌else◌};
+ghost use Rattle.std.specs.Prelude.{◌≡◌, IfSome, slice_get, is_ok};
 ghost use Rattle.std.specs.Option.{option_map};
+ghost use Rattle.heap_objects.specs.Changes.{changed_if};
 
 use crate::array::ArrayObject;
 use crate::datum::Datum;
@@ -18,7 +19,8 @@ pub enum Object {
 }
 
 impl Object {
-    ghost use Rattle.heap_objects.specs.Objects.{kind_of, length_of, slots_of, units_of, kept_by, has_slot, with_slot, with_units, with_more_units};
+    ghost use Rattle.heap_objects.specs.Objects.{kind_of, length_of, slots_of, units_of, kept_by};
+    ghost use Rattle.heap_objects.specs.Objects.{has_slot, with_slot, with_units, with_more_units};
 
     /// The kind of its class, or of the array.
     pub fn kind(&self) -> u32
@@ -68,7 +70,7 @@ impl Object {
     /// Puts a value into a field or an element. False, with nothing changed, where there is none.
     pub fn put(&mut self, slot: usize, value: Datum) -> bool
         ensures answer { result ≡ has_slot slot self.old }
-        ensures object { self.new ≡ (if result then with_slot slot value self.old else self.old) }
+        ensures object { self.new ≡ changed_if result (with_slot slot value) self.old }
     {
         match self {
             Object::Instance(_, fields) => {
@@ -91,7 +93,7 @@ impl Object {
 
     /// Adds units at the end of a text. An Err changes nothing.
     pub fn append(&mut self, units: &[u16]) -> Result<(), AllocError>
-        ensures { self.new ≡ (if is_ok result then with_more_units units.now self.old else self.old) }
+        ensures { self.new ≡ changed_if (is_ok result) (with_more_units units.now) self.old }
     {
         match self {
             Object::Instance(_, _) => Ok(()),
@@ -102,7 +104,7 @@ impl Object {
 
     /// Gives a text other units. An Err changes nothing.
     pub fn replace(&mut self, alloc: Global, units: &[u16]) -> Result<(), AllocError>
-        ensures { self.new ≡ (if is_ok result then with_units units.now self.old else self.old) }
+        ensures { self.new ≡ changed_if (is_ok result) (with_units units.now) self.old }
     {
         match self {
             Object::Instance(_, _) => Ok(()),

@@ -90,21 +90,40 @@ fn what_objects_have(rt: HostRuntime) {
     assert_eq!(rt; heap.get(1, 2), Some(Datum::Ref(3)));
     assert_eq!(rt; heap.get(1, 3), None);
     assert!(rt; holds(&heap, 3, &[72, 105]));
-    assert!(rt; heap.units(1).is_none());
-    assert!(rt; heap.units(2).is_none());
+    for object in [0, 1, 2, 4] {
+        assert!(rt; heap.units(object).is_none(), "of {object}");
+    }
+}
+
+/// Makes an instance, an array, a text or an interned text, with so many fields, elements or units.
+fn make(heap: &mut Heap, sort: u8, fields: &[Datum], units: &[u16]) -> Result<u32, HeapError> {
+    match sort {
+        0 => heap.instance(CLASS, fields),
+        1 => heap.array(
+            INTS,
+            Datum::Int(0),
+            u32::try_from(fields.len()).unwrap_or(0),
+        ),
+        2 => heap.text(TEXT, units),
+        _ => heap.intern(TEXT, units),
+    }
 }
 
 #[test]
-fn a_heap_that_is_too_small(rt: HostRuntime) {
+fn a_limit_that_is_exact_and_one_slot_more(rt: HostRuntime) {
+    for sort in 0..4u8 {
+        let mut heap = Heap::new(rt.alloc(), 9);
+        let more = make(&mut heap, sort, &[Datum::Int(1); 9], &[1; 9]);
+        assert_eq!(rt; more, FULL, "of sort {sort}");
+        assert_eq!(rt; heap.used(), 0, "a refusal takes nothing");
+        let exact = make(&mut heap, sort, &[Datum::Int(1); 8], &[1; 8]);
+        assert_eq!(rt; exact, Ok(1), "nor a number, of sort {sort}");
+        assert_eq!(rt; heap.used(), 9);
+        assert_eq!(rt; make(&mut heap, sort, &[], &[]), FULL, "of sort {sort}");
+    }
     let mut heap = Heap::new(rt.alloc(), 9);
-    assert_eq!(rt; instance(&mut heap, &[Datum::Int(1); 9]), FULL);
-    assert_eq!(rt; array(&mut heap, INTS, Datum::Int(0), 9), FULL);
     assert_eq!(rt; array(&mut heap, INTS, Datum::Int(0), u32::MAX), FULL);
-    assert_eq!(rt; text(&mut heap, &[1; 9]), FULL);
-    assert_eq!(rt; intern(&mut heap, &[1; 9]), FULL);
-    assert_eq!(rt; heap.used(), 0, "a refusal takes nothing");
-    assert_eq!(rt; intern(&mut heap, &[1; 8]), Ok(1), "nor a number");
-    assert_eq!(rt; instance(&mut heap, &[]), FULL);
+    assert_eq!(rt; intern(&mut heap, &[1; 8]), Ok(1));
     assert_eq!(rt; intern(&mut heap, &[1; 8]), Ok(1), "it is there");
 }
 
@@ -133,6 +152,14 @@ fn a_text_that_grows(rt: HostRuntime) {
         "nothing was given back"
     );
     assert!(rt; holds(&heap, 1, &[8; 2]));
+    let mut heap = Heap::new(rt.alloc(), 7);
+    assert_eq!(rt; text(&mut heap, &[1, 2, 3]), Ok(1));
+    assert_eq!(rt;
+        append(&mut heap, 1, &[5; 3]),
+        Some(true),
+        "up to the limit"
+    );
+    assert_eq!(rt; append(&mut heap, 1, &[5]), Some(false));
 }
 
 #[test]
@@ -156,6 +183,7 @@ fn what_arrays_keep(rt: HostRuntime) {
         assert!(rt; put(&mut heap, number, 1, Datum::Int(0)));
         assert!(rt; put(&mut heap, number, 0, value));
         assert!(rt; !put(&mut heap, number, 3, value));
+        assert_eq!(rt; heap.get(number, 3), None);
         assert_eq!(rt; heap.get(number, 0), Some(held), "{value:?} put");
     }
 }

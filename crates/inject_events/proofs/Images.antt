@@ -6,21 +6,15 @@ use Rattle.const_pool.specs.declared.class.Member.{Member}
 use Rattle.const_pool.specs.declared.class.CodeAttribute.{CodeAttribute}
 use Rattle.code_model.specs.declared.instr.Code.{Code}
 use Rattle.code_model.specs.declared.laying.Homes.{Homes}
-use Rattle.code_model.specs.Instructions.{IsReading}
 use Rattle.jvm_model.specs.declared.event.Mark.{Mark}
 use Rattle.jvm_model.specs.declared.event.Mark.TheVariants.{Off, Plain, Root}
 use Rattle.jvm_model.specs.Methods.{code_of}
 use Rattle.jvm_model.specs.Images.{is_off, IsMarkedMember, IsMemberImage, AreMemberImages, next_number}
 use Rattle.inject_events.specs.declared.methods.MethodImage.{MethodImage}
-use Rattle.inject_events.specs.declared.probes.Probes.{Probes}
 use Rattle.inject_events.specs.Instrumentable.{HasRewritableCode}
-use Rattle.inject_events.specs.Probing.{probes_of, version_with, image_with}
+use Rattle.inject_events.specs.Probing.{probes_of, version_with, image_with, IsMadeWith}
 
 -- ---- one method
-
--- what a method becomes with these probes, whichever its code and the reading of it are
-abbrev pub IsMadeWith : Probes → Member → MethodImage → Type 0
-IsMadeWith probes m image = (old : CodeAttribute) (reading : Code) → code_of m ≡ Some old → IsReading old.code reading → image ≡ image_with (version_with probes old reading.instrs) m
 
 marked : (count number : ℕ) (mark : Mark) (m : Member) (image : MethodImage) → HasRewritableCode m → IsMadeWith (probes_of count number mark) m image
     → (moved : Homes) × IsMarkedMember count number mark m image.member moved × (image.homes ≡ Some moved)

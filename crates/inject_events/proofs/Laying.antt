@@ -1,13 +1,15 @@
 -- A short code of the built part can be laid out with its probes.
-use Rattle.std.proofs.Common.{◌≡◌, ℕ, ◌+◌, ◌*◌, ◌<◌, ◌≤◌, Bool, true, false, cond, List, [], ◌∷◌, length, Some, None, refl, sym, ap, subst, ◌∙◌, arith}
+use Rattle.std.proofs.Common.{◌≡◌, ℕ, ◌+◌, ◌*◌, ◌<◌, ◌≤◌, Bool, true, false, cond, List, [], ◌∷◌, length, Some, None, Err, refl, sym, ap, subst, ◌∙◌, arith}
 use Rattle.std.specs.Prelude.{map}
 use Rattle.std.specs.List.{AllByRecursion}
 use Rattle.std.proofs.lemmas.Option.{none-some}
 use Rattle.code_model.specs.declared.instr.Instr.{Instr}
 use Rattle.code_model.specs.declared.instr.Code.{Code}
+use Rattle.code_model.specs.declared.error.CodeError.{CodeError}
+use Rattle.code_model.specs.declared.error.CodeError.TheVariants as why
 use Rattle.code_model.specs.declared.laying.Group.{Group}
-use Rattle.code_model.specs.Instructions.{end_of, Reads, IsReading}
-use Rattle.code_model.specs.Groups.{instrs_of, IsShort, AreGroups}
+use Rattle.code_model.specs.Instructions.{end_of, Reads, IsReading, IsDecodedAs}
+use Rattle.code_model.specs.Groups.{instrs_of, IsShort, AreGroups, IsTooLong, IsTooFar}
 use Rattle.std.specs.Int.{Width}
 use Rattle.std.specs.List.Sorted.{IsStrictlyIncreasing}
 use Rattle.code_model.specs.declared.instr.Arg.{Arg}
@@ -15,12 +17,22 @@ use Rattle.code_model.specs.declared.instr.Arg.TheVariants.{Plain, Value, Pool, 
 use Rattle.code_model.specs.declared.laying.Homes.{Homes}
 use Rattle.code_model.specs.Layout.{width_of, place_of, group_end, end_from, homes_of, home_of, laid_of, fits_branch, first_far_from, first_far}
 use Rattle.code_model.specs.declared.laying.Laid.{Laid}
+use Rattle.code_model.specs.declared.laying.LayError.{LayError}
+use Rattle.code_model.specs.declared.laying.LayError.TheVariants.{TooLong, Far, NoMemory}
 use Rattle.code_model.proofs.Readings.{at-instruction_at, IsReading-unique}
 use Rattle.code_model.specs.Groups.{IsBytes, targets_of}
 use Rattle.code_model.proofs.Layouts.{starts-increasing}
 use Rattle.code_model.proofs.Lengths.{size_at-some, size_at-near}
 use Rattle.code_model.proofs.Walks.{length-laid_of}
 use Rattle.jvm_model.specs.Versions.{is_return_opcode, group_of}
+
+-- ---- a code that has a reading has no fault
+
+pub no_fault : (fault : CodeError) (code : Code) → IsDecodedAs (Err fault) code → fault ≡ why.NoMemory
+no_fault why.NoMemory code none = refl
+no_fault (why.BadOpcode at) code none = absurd none
+no_fault (why.Cut at) code none = absurd none
+no_fault (why.BadSwitch at) code none = absurd none
 
 -- ---- they are groups
 
@@ -74,9 +86,9 @@ length-laid_of-le front leave back bytes code reads short few six seven =
     let whole = length-laid_of front (map (group_of leave) code.instrs) back in
     omega arith
 
--- ---- so neither refusal comes
+-- ---- so only memory can be wanting
 
-pub never_too_long : (front leave back bytes : List ℕ) (code : Code) (groups : List Group) (len : ℕ) → IsReading bytes code → length bytes ≤ 9000 → length front ≤ 6 → length leave ≤ 6 → length back ≤ 7
+never_too_long : (front leave back bytes : List ℕ) (code : Code) (groups : List Group) (len : ℕ) → IsReading bytes code → length bytes ≤ 9000 → length front ≤ 6 → length leave ≤ 6 → length back ≤ 7
     → groups ≡ map (group_of leave) code.instrs → (len ≡ length (laid_of front groups back).code) × (65535 < len) → ⊥
 never_too_long front leave back bytes code groups len reads short few six seven is long =
     let bound = length-laid_of-le front leave back bytes code reads short few six seven in
@@ -102,10 +114,17 @@ none_far home at leave (i ∷ is) straight =
     let g : Group = group_of leave i in
     rw (straight_fits home (place_of at g) (width_of i) i.arg straight.0) (none_far home (group_end at g) leave is straight.1)
 
-pub never_far : (front leave : List ℕ) (instrs : List Instr) (groups : List Group) (at : ℕ) → AllByRecursion (λ (i : Instr). targets_of i.arg ≡ []) instrs → groups ≡ map (group_of leave) instrs → first_far front groups ≡ Some at → ⊥
+never_far : (front leave : List ℕ) (instrs : List Instr) (groups : List Group) (at : ℕ) → AllByRecursion (λ (i : Instr). targets_of i.arg ≡ []) instrs → groups ≡ map (group_of leave) instrs → first_far front groups ≡ Some at → ⊥
 never_far front leave instrs groups at straight is far =
     let none = none_far (home_of (homes_of front (map (group_of leave) instrs))) (length front) leave instrs straight in
     none-some at (sym none ∙ (ap (first_far front) (sym is) ∙ far))
+
+pub only_memory : (front leave back bytes : List ℕ) (code : Code) (groups : List Group) (error : LayError) → IsReading bytes code → length bytes ≤ 9000 → length front ≤ 6 → length leave ≤ 6 → length back ≤ 7
+    → AllByRecursion (λ (i : Instr). targets_of i.arg ≡ []) code.instrs → groups ≡ map (group_of leave) code.instrs
+    → ((len : ℕ) → error ≡ TooLong len → IsTooLong front groups back len) → ((at : ℕ) → error ≡ Far at → IsTooFar front groups back at) → error ≡ NoMemory
+only_memory front leave back bytes code groups (TooLong len) reads short few six seven straight is too_long far = absurd (never_too_long front leave back bytes code groups len reads short few six seven is (too_long len refl))
+only_memory front leave back bytes code groups (Far at) reads short few six seven straight is too_long far = absurd (never_far front leave code.instrs groups at straight is (far at refl).0)
+only_memory front leave back bytes code groups NoMemory reads short few six seven straight is too_long far = refl
 
 -- ---- the starts rise
 

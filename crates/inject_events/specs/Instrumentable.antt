@@ -10,11 +10,15 @@ use Rattle.code_model.specs.Groups.{targets_of}
 use Rattle.code_model.specs.Instructions.{IsReading}
 use Rattle.jvm_model.specs.Methods.{code_of}
 
+-- no instruction has a target
+abbrev pub AreStraight : List Instr → Type 0
+AreStraight instrs = AllByRecursion (λ (i : Instr). targets_of i.arg ≡ []) instrs
+
 -- the bytes are a code without branches
 pub record IsReadable (bytes : List ℕ) : Type 0 where
   pub reading : Code
   pub reads : IsReading bytes reading
-  pub straight : AllByRecursion (λ (i : Instr). targets_of i.arg ≡ []) reading.instrs
+  pub straight : AreStraight reading.instrs
 
 -- a method whose code can be rewritten
 pub record IsRewritable (code : CodeAttribute) : Type 0 where

@@ -1,7 +1,8 @@
 //! Why a class is not rewritten.
 
 ghost use Rattle.std.specs.Prelude.{◌≡◌};
-ghost use Rattle.inject_events.specs.declared.error.InjectError.TheVariants.{NoMemory as out_of_memory};
+ghost use Rattle.inject_events.specs.declared.error.InjectError.TheVariants as refusal;
+ghost use Rattle.inject_events.specs.declared.error.NoVersion.TheVariants as reason;
 
 use jf_bytes::NoMemory;
 use std::alloc::{AllocError, AllocFailed};
@@ -35,7 +36,7 @@ pub enum InjectError {
 }
 
 impl From<AllocError> for InjectError {
-    ghost from_gives = { λ _ e. e ≡ out_of_memory };
+    ghost from_gives = { λ _ e. e ≡ refusal.NoMemory };
 
     fn from(_error: AllocError) -> InjectError {
         InjectError::NoMemory
@@ -43,7 +44,7 @@ impl From<AllocError> for InjectError {
 }
 
 impl<T: Drop> From<AllocFailed<T>> for InjectError {
-    ghost from_gives = { λ _ e. e ≡ out_of_memory };
+    ghost from_gives = { λ _ e. e ≡ refusal.NoMemory };
 
     fn from(_error: AllocFailed<T>) -> InjectError {
         InjectError::NoMemory
@@ -51,9 +52,25 @@ impl<T: Drop> From<AllocFailed<T>> for InjectError {
 }
 
 impl From<NoMemory> for InjectError {
-    ghost from_gives = { λ _ e. e ≡ out_of_memory };
+    ghost from_gives = { λ _ e. e ≡ refusal.NoMemory };
 
     fn from(_error: NoMemory) -> InjectError {
         InjectError::NoMemory
+    }
+}
+
+/// Why a method gets no version.
+#[derive(Debug, Drop)]
+pub enum NoVersion {
+    /// It would pass this limit.
+    Limit(Cause),
+    NoMemory,
+}
+
+impl From<NoMemory> for NoVersion {
+    ghost from_gives = { λ _ e. e ≡ reason.NoMemory };
+
+    fn from(_error: NoMemory) -> NoVersion {
+        NoVersion::NoMemory
     }
 }

@@ -1,13 +1,14 @@
 //! The image of a class: its marked methods with their probes, and the pool tail that the probes name.
 
-ghost use Rattle.std.specs.Prelude.{◌≡◌, ◌≢◌, ◌≤◌, ℕ, List, length, map, None, Err, IfOk};
+ghost use Rattle.std.specs.Prelude.{◌≡◌, ◌≢◌, ◌≤◌, ℕ, length, map, None, Err, IfOk, IfErr};
 ghost use Rattle.inject_events.specs.declared.error.Cause.{Cause as TheCause};
 ghost use Rattle.jvm_model.specs.StandsFor.{IsBuilt};
 ghost use Rattle.jvm_model.specs.Images.{IsImage, IsOriginal, IsRewritten};
+ghost use Rattle.inject_events.specs.Probing.{first_marked};
 
 use crate::copying::{copy_attributes, copy_members};
 use crate::error::{Cause, InjectError};
-use crate::methods::{Methods, all_off, method_images};
+use crate::methods::{Methods, all_off, is_off, method_images};
 use code_model::Homes;
 use const_pool::{ClassFile, Member, Pool, TailError, append_tail, copy_pool};
 use jf_bytes::{NoMemory, Seq};
@@ -69,30 +70,45 @@ fn original(alloc: Global, class: &ClassFile) -> Result<Image, NoMemory>
     })
 }
 
-/// The class with its marked methods rewritten. A small class's pool has room for the tail.
+/// The position of the first marked method: so many are not, in front of it.
+fn first_marked(marks: &[Mark]) -> u16
+    requires { length marks.now ≤ 65535 }
+    ensures { result ≡ first_marked marks.now }
+{
+    for (method, mark) in marks.iter().enumerate() {
+        if !is_off(*mark) {
+            return method as u16;
+        }
+    }
+    marks.len() as u16
+}
+
+/// The class with its marked methods rewritten.
 fn rewritten(
     alloc: Global,
     class: &ClassFile,
     first: u32,
     marks: &[Mark],
-) -> Result<Image, NoMemory>
+) -> Result<Image, InjectError>
     requires class { IsBuilt class.now }
     requires first { first ≤ 2147418112 }
     requires marks { length marks.now ≡ length class.now.methods }
-    ensures { IfOk result (λ image. IsRewritten class.now first marks.now image.class image.homes) }
+    ensures image { IfOk result
+        (λ image. IsRewritten class.now first marks.now image.class image.homes) }
+    ensures profilable { IfErr result (λ error. error ≡ InjectError.NoMemory) }
 {
     let tail = match append_tail(alloc, &class.pool) {
         Ok(tail) => tail,
-        Err(TailError::NoMemory) => return Err(NoMemory),
-        Err(TailError::Full) => unreachable!(),
+        Err(TailError::NoMemory) => return Err(InjectError::NoMemory),
+        Err(TailError::Full) => {
+            return Err(InjectError::NotProfilable(first_marked(marks), Cause::Pool));
+        }
     };
-    let Methods { members, homes } = method_images(
-        alloc,
-        &tail,
-        first,
-        marks,
-        class.methods.as_slice(),
-    )?;
+    let methods = class.methods.as_slice();
+    let Methods { members, homes } = match method_images(alloc, &tail, first, marks, methods) {
+        Ok(images) => images,
+        Err(error) => return Err(error),
+    };
     Ok(Image {
         class: class_with(alloc, class, tail.pool, members)?,
         homes,
@@ -110,12 +126,14 @@ pub fn instrument(
     requires class { IsBuilt class.now }
     requires first { first ≤ 2147418112 }
     requires marks { length marks.now ≡ length class.now.methods }
-    ensures image { IfOk result (λ image. IsImage class.now first marks.now image.class image.homes) }
-    ensures profilable { (method : ℕ) (cause : TheCause) → result ≢ Err (InjectError.NotProfilable method cause) }
+    ensures image { IfOk result
+        (λ image. IsImage class.now first marks.now image.class image.homes) }
+    ensures profilable { (method : ℕ) (cause : TheCause)
+        → result ≢ Err (InjectError.NotProfilable method cause) }
 {
     if all_off(marks) {
         Ok(original(alloc, class)?)
     } else {
-        Ok(rewritten(alloc, class, first, marks)?)
+        rewritten(alloc, class, first, marks)
     }
 }

@@ -1,16 +1,14 @@
 //! The methods of a class in its image.
 
-ghost use Rattle.std.specs.Prelude.{◌≡◌, ◌<◌, ◌≤◌, ℕ, length, Some, IfOk};
+ghost use Rattle.std.specs.Prelude.{◌≡◌, ◌<◌, ◌≤◌, length, None, IfOk, IfErr};
 ghost use Rattle.std.specs.Option.{option_copied};
-ghost use Rattle.const_pool.specs.declared.class.CodeAttribute.{CodeAttribute as OldCode};
-ghost use Rattle.code_model.specs.declared.instr.Code.{Code as Reading};
-ghost use Rattle.code_model.specs.Instructions.{IsReading};
 ghost use Rattle.jvm_model.specs.Methods.{code_of};
-ghost use Rattle.jvm_model.specs.Images.{is_off, all_off, with_code_at, with_code, next_number, IsMemberImage, AreMemberImages};
+ghost use Rattle.jvm_model.specs.Images.{is_off, all_off, with_code_at, with_code, next_number};
 ghost use Rattle.inject_events.specs.Instrumentable.{HasRewritableCode, AreRewritable};
-ghost use Rattle.inject_events.specs.Probing.{IsTailBehind, version_with, image_with};
+ghost use Rattle.inject_events.specs.Probing.{refusal, IsMadeWith, IsImageBehind, AreImagesBehind};
 
 use crate::copying::{copy_code, copy_member, copy_raw};
+use crate::error::{InjectError, NoVersion};
 use crate::probes::{Probes, probes_of};
 use crate::versions::{Version, make_version};
 use code_model::Homes;
@@ -20,7 +18,7 @@ use jvm_model::Mark;
 use std::alloc::Global;
 
 /// Whether a method is the original.
-fn is_off(mark: Mark) -> bool
+pub fn is_off(mark: Mark) -> bool
     ensures { result ≡ is_off mark }
 {
     match mark {
@@ -97,15 +95,29 @@ pub struct MethodImage {
     pub homes: Option<Homes>,
 }
 
-/// A method with these probes.
-fn marked_image(alloc: Global, probes: &Probes, member: &Member) -> Result<MethodImage, NoMemory>
+/// The original method.
+fn original_image(alloc: Global, member: &Member) -> Result<MethodImage, NoMemory>
+    ensures { IfOk result (λ image. image ≡ record { member = member.now; homes = None }) }
+{
+    Ok(MethodImage {
+        member: copy_member(alloc, member)?,
+        homes: None,
+    })
+}
+
+/// A method with these probes. One without code would stay as it is.
+fn marked_image(alloc: Global, probes: &Probes, member: &Member) -> Result<MethodImage, NoVersion>
     requires { HasRewritableCode member.now }
-    ensures { IfOk result (λ image. (old : OldCode) (reading : Reading) → code_of member.now ≡ Some old → IsReading old.code reading → image ≡ image_with (version_with probes.now old reading.instrs) member.now) }
+    ensures made { IfOk result (IsMadeWith probes.now member.now) }
+    ensures fits { IfErr result (λ error. error ≡ NoVersion.NoMemory) }
 {
     let Some(old) = code_of(member) else {
-        unreachable!()
+        return Ok(original_image(alloc, member)?);
     };
-    let Version { code, homes } = make_version(alloc, probes, old)?;
+    let Version { code, homes } = match make_version(alloc, probes, old) {
+        Ok(version) => version,
+        Err(error) => return Err(error),
+    };
     Ok(MethodImage {
         member: with_code(alloc, &code, member)?,
         homes: Some(homes),
@@ -119,16 +131,24 @@ fn method_image(
     number: u32,
     mark: Mark,
     member: &Member,
-) -> Result<MethodImage, NoMemory>
+) -> Result<MethodImage, NoVersion>
     requires { HasRewritableCode member.now }
-    ensures { IfOk result (λ image. (count : ℕ) → IsTailBehind count tail.now → IsMemberImage count number mark member.now image.member image.homes) }
+    ensures image { IfOk result (IsImageBehind tail.now number mark member.now) }
+    ensures fits { IfErr result (λ error. error ≡ NoVersion.NoMemory) }
 {
     match mark {
-        Mark::Off => Ok(MethodImage {
-            member: copy_member(alloc, member)?,
-            homes: None,
-        }),
+        Mark::Off => Ok(original_image(alloc, member)?),
         Mark::Plain | Mark::Root => marked_image(alloc, &probes_of(tail, number, mark), member),
+    }
+}
+
+/// What is told where the method at this position gets no version.
+fn refusal(position: u16, reason: NoVersion) -> InjectError
+    ensures { result ≡ refusal position reason }
+{
+    match reason {
+        NoVersion::Limit(cause) => InjectError::NotProfilable(position, cause),
+        NoVersion::NoMemory => InjectError::NoMemory,
     }
 }
 
@@ -146,19 +166,23 @@ pub fn method_images(
     first: u32,
     marks: &[Mark],
     methods: &[Member],
-) -> Result<Methods, NoMemory>
+) -> Result<Methods, InjectError>
     requires rewritable { AreRewritable methods.now }
     requires few { length methods.now ≤ 65535 }
     requires first { first ≤ 2147418112 }
     requires marks { length marks.now ≡ length methods.now }
-    ensures { IfOk result (λ images. (count : ℕ) → IsTailBehind count tail.now → AreMemberImages count first marks.now methods.now images.members images.homes) }
+    ensures images { IfOk result (AreImagesBehind tail.now first marks.now methods.now) }
+    ensures profilable { IfErr result (λ error. error ≡ InjectError.NoMemory) }
 {
     let mut members = Seq::with_capacity(alloc, methods.len())?;
     let mut homes = Seq::with_capacity(alloc, methods.len())?;
     let mut number = first;
     for (position, member) in methods.iter().enumerate() {
         let mark = marks[position];
-        let image = method_image(alloc, tail, number, mark, member)?;
+        let image = match method_image(alloc, tail, number, mark, member) {
+            Ok(image) => image,
+            Err(reason) => return Err(refusal(position as u16, reason)),
+        };
         members.push(image.member)?;
         homes.push(image.homes)?;
         number = next_number(number, member);

@@ -1,16 +1,14 @@
 //! Versions: the code of a method with its probes.
 
-ghost use Rattle.std.specs.Prelude.{◌≡◌, ◌+◌, ◌<◌, ◌≤◌, [], ◌∷◌, ◌++◌, length, map, IfOk, if◌then◌else◌};
-ghost use Rattle.code_model.specs.declared.instr.Code.{Code as Reading};
+ghost use Rattle.std.specs.Prelude.{◌≡◌, ◌<◌, ◌≤◌, [], length, map, IfOk, IfErr, if◌then◌else◌};
 ghost use Rattle.code_model.specs.Instructions.{IsReading};
-ghost use Rattle.std.specs.List.{AllByRecursion};
 ghost use Rattle.std.specs.List.Sorted.{IsStrictlyIncreasing};
-ghost use Rattle.code_model.specs.Groups.{targets_of};
 ghost use Rattle.jvm_model.specs.Versions.{is_return_opcode, group_of, moved_handler, catch_all};
-ghost use Rattle.inject_events.specs.Probing.{laid_with, version_with};
-ghost use Rattle.inject_events.specs.Instrumentable.{IsReadable, IsRewritable};
+ghost use Rattle.inject_events.specs.Probing.{handlers_by, no_version, IsLaidWith, IsVersionWith};
+ghost use Rattle.inject_events.specs.Instrumentable.{AreStraight, IsReadable, IsRewritable};
 
 use crate::copying::copy_raws;
+use crate::error::{Cause, NoVersion};
 use crate::probes::Probes;
 use code_model::{Code, CodeError, Group, Homes, Instr, Laid, LayError, decode, lay_out};
 use const_pool::{CodeAttribute, Handler};
@@ -57,6 +55,13 @@ fn groups_of(alloc: Global, leave: &[u8], instrs: Seq<Instr>) -> Result<Seq<Grou
     Ok(groups)
 }
 
+/// The only fault that a code can have which is one.
+fn want_of_memory(_fault: CodeError) -> NoMemory
+    requires { _fault ≡ CodeError.NoMemory }
+{
+    NoMemory
+}
+
 /// The instructions of a code that is one.
 fn decode_readable(alloc: Global, code: &[u8]) -> Result<Code, NoMemory>
     requires some { 0 < length code.now }
@@ -64,33 +69,40 @@ fn decode_readable(alloc: Global, code: &[u8]) -> Result<Code, NoMemory>
     requires readable { IsReadable code.now }
     ensures found { IfOk result (λ decoded. IsReading code.now decoded) }
     ensures not_empty { IfOk result (λ decoded. 0 < length decoded.instrs) }
-    ensures straight { IfOk result (λ decoded. AllByRecursion (λ i. targets_of i.arg ≡ []) decoded.instrs) }
+    ensures straight { IfOk result (λ decoded. AreStraight decoded.instrs) }
 {
     match decode(alloc, code) {
         Ok(decoded) => Ok(decoded),
-        Err(CodeError::NoMemory) => Err(NoMemory),
-        Err(CodeError::BadOpcode(_)) => unreachable!(),
-        Err(CodeError::Cut(_)) => unreachable!(),
-        Err(CodeError::BadSwitch(_)) => unreachable!(),
+        Err(fault) => Err(want_of_memory(fault)),
     }
 }
 
 /// The code with its probes, and where its instructions come to stand. Short code without branches stays short with its
 /// probes, so that it can always be laid out.
-fn lay_version(alloc: Global, probes: &Probes, code: &[u8]) -> Result<Laid, NoMemory>
+fn lay_version(alloc: Global, probes: &Probes, code: &[u8]) -> Result<Laid, LayError>
     requires some { 0 < length code.now }
     requires short { length code.now ≤ 9000 }
     requires readable { IsReadable code.now }
-    ensures laid { IfOk result (λ laid. (reading : Reading) → IsReading code.now reading → laid ≡ laid_with probes.now reading.instrs) }
+    ensures laid { IfOk result (IsLaidWith probes.now code.now) }
     ensures rises { IfOk result (λ laid. IsStrictlyIncreasing laid.homes.from) }
+    ensures fits { IfErr result (λ error. error ≡ LayError.NoMemory) }
 {
     let decoded = decode_readable(alloc, code)?;
     let groups = groups_of(alloc, &probes.leave, decoded.instrs)?;
     match lay_out(alloc, &probes.entry, groups.as_slice(), &probes.unwind) {
         Ok(laid) => Ok(laid),
-        Err(LayError::NoMemory) => Err(NoMemory),
-        Err(LayError::TooLong(_)) => unreachable!(),
-        Err(LayError::Far(_)) => unreachable!(),
+        Err(error) => Err(error),
+    }
+}
+
+/// Why there is no version, where there is no layout.
+fn no_version(error: LayError) -> NoVersion
+    ensures { result ≡ no_version error }
+{
+    match error {
+        LayError::TooLong(_) => NoVersion::Limit(Cause::Length),
+        LayError::Far(_) => NoVersion::Limit(Cause::Branch),
+        LayError::NoMemory => NoVersion::NoMemory,
     }
 }
 
@@ -129,7 +141,7 @@ fn version_handlers(
     end: u16,
 ) -> Result<Seq<Handler>, NoMemory>
     requires { IsStrictlyIncreasing homes.now.from }
-    ensures { IfOk result (λ new. new ≡ map (moved_handler homes.now) handlers.now ++ catch_all homes.now end ∷ []) }
+    ensures { IfOk result (λ new. new ≡ handlers_by homes.now handlers.now end) }
 {
     let mut moved = Seq::new(alloc);
     for handler in handlers {
@@ -151,11 +163,15 @@ pub fn make_version(
     alloc: Global,
     probes: &Probes,
     old: &CodeAttribute,
-) -> Result<Version, NoMemory>
+) -> Result<Version, NoVersion>
     requires { IsRewritable old.now }
-    ensures { IfOk result (λ new. (reading : Reading) → IsReading old.now.code reading → new ≡ version_with probes.now old.now reading.instrs) }
+    ensures version { IfOk result (IsVersionWith probes.now old.now) }
+    ensures fits { IfErr result (λ error. error ≡ NoVersion.NoMemory) }
 {
-    let Laid { code, homes } = lay_version(alloc, probes, old.code.as_slice())?;
+    let Laid { code, homes } = match lay_version(alloc, probes, old.code.as_slice()) {
+        Ok(laid) => laid,
+        Err(error) => return Err(no_version(error)),
+    };
     let end = old.code.len() as u16;
     let handlers = version_handlers(alloc, &homes, old.handlers.as_slice(), end)?;
     let code = CodeAttribute {

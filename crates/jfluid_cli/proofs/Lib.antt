@@ -7,9 +7,11 @@ pub mod Chosen
 pub mod Steps
 pub mod Underway
 pub mod ToldFiles
-pub mod Refused
 pub mod Complete
 pub mod Programs
+pub mod Early
 pub mod Answered
-pub mod Refusable
+pub mod Carried
+pub mod Finished
 pub mod Reported
+pub mod Same

@@ -1,8 +1,12 @@
+pub mod Sinks
 pub mod Refusals
 pub mod Runs
 pub mod Words
 pub mod Top
+pub mod Causes
 pub mod Origins
 pub mod Selections
 pub mod Roots
 pub mod Views
+pub mod Calls
+pub mod Stages

@@ -5,17 +5,19 @@ use Rattle.const_pool.specs.declared.class.ClassFile.{ClassFile}
 use Rattle.class_reader.specs.declared.error.ReadError.{ReadError}
 use Rattle.class_reader.specs.Files.{IsFile, IsFirstFault}
 use Rattle.jfluid_cli.specs.declared.kept.Kept.{Kept}
+use Rattle.jfluid_cli.specs.Causes.{IsFine}
 use Rattle.jfluid_cli.specs.Roots.{IsChosen}
 use Rattle.jfluid_cli.specs.Selections.{IsSelected}
 use Rattle.jfluid_cli.specs.Words.{Command, command_of}
 use Rattle.jf_bytes.specs.Streams.{IsToldAs}
 use Rattle.jfluid_cli.specs.Top.{IsProgram}
 
--- The kept class file is what the files tell under the word, it is the program that the kept machine runs, in the versions
--- for the root that the words name, and the input is empty.
+-- The kept class file is what the files tell under the word, it is the program that the kept
+-- machine runs, in the versions for the root that the words name, and the input is empty.
 pub record HasOrigin (told : Option Told) (words : List (List ℕ)) (k : Kept) : Type 0 where
   pub command : Command
   pub commanded : command_of words ≡ Some command
+  pub fine : IsFine command
   pub bytes : List ℕ
   pub classes : k.classes ≡ bytes ∷ []
   pub told_as : IsToldAs told command.file bytes

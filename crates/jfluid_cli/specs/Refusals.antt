@@ -1,8 +1,6 @@
 -- The refusals of the program: their statuses, and the line that is put to the report.
-use Rattle.std.specs.Prelude.{◌≡◌, ℕ, ◌⊎◌, List, ◌++◌, Option, codes}
+use Rattle.std.specs.Prelude.{◌≡◌, ℕ, ◌⊎◌, List, ◌++◌, codes}
 use Rattle.std.specs.Fmt.{decimal}
-use Rattle.std.specs.Io.KnownBytes.{append_known}
-use Rattle.jf_bytes.specs.Streams.{PutsFront, Rose}
 use Rattle.class_reader.specs.declared.error.ReadError.{ReadError}
 use Rattle.class_reader.specs.declared.error.ReadError.TheVariants as fault
 use Rattle.jfluid_cli.specs.declared.refusal.Refusal.{Refusal}
@@ -18,6 +16,10 @@ status_of NoSuchRoot = 3
 status_of OutFailed = 6
 status_of NotFetched = 7
 status_of NoMemory = 9
+
+-- the statuses of refusals
+abbrev pub IsRefusalStatus : ℕ → Type 0
+IsRefusalStatus s = (s ≡ 2) ⊎ ((s ≡ 3) ⊎ ((s ≡ 6) ⊎ ((s ≡ 7) ⊎ (s ≡ 9))))
 
 -- what is told of a fault: its name and its number
 abbrev pub cause_of : ReadError → List ℕ
@@ -37,19 +39,11 @@ cause_of fault.NoMemory = codes "NoMemory"
 abbrev pub refusal_line : Refusal → List ℕ → List ℕ
 refusal_line Words file = codes "jfluid: words refused\n"
 refusal_line BadRoot file = codes "jfluid: plan: BadLine 0 Root\n"
-refusal_line (NotRead why) file = codes "jfluid: " ++ (file ++ (codes ": " ++ (cause_of why ++ codes "\n")))
+refusal_line (NotRead why) file =
+    codes "jfluid: " ++ (file ++ (codes ": " ++ (cause_of why ++ codes "\n")))
 refusal_line NotBuilt file = codes "jfluid: " ++ (file ++ codes ": NotBuilt\n")
 refusal_line NoMain file = codes "jfluid: NoMain\n"
 refusal_line NoSuchRoot file = codes "jfluid: NoSuchRoot 1\n"
 refusal_line OutFailed file = codes "jfluid: output failed\n"
 refusal_line NotFetched file = codes "jfluid: " ++ (file ++ codes ": fetch failed\n")
 refusal_line NoMemory file = codes "jfluid: no memory\n"
-
--- These bytes were put, or a front of them where the count of faults rose.
-pub record PutsOrRose (old new : Option (List ℕ)) (before after : ℕ) (bytes : List ℕ) : Type 0 where
-  pub front : PutsFront old new bytes
-  pub whole : (new ≡ append_known old bytes) ⊎ Rose before after
-
--- The line of this refusal was put, or a front of it where the report's count of faults rose.
-abbrev pub TellsRefusal : Option (List ℕ) → Option (List ℕ) → ℕ → ℕ → List ℕ → Refusal → Type 0
-TellsRefusal old new before after file refusal = PutsOrRose old new before after (refusal_line refusal file)

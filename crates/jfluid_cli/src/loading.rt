@@ -1,16 +1,18 @@
 //! Fetches, reads and admits the class file.
 
-ghost use Rattle.std.specs.Prelude.{◌≡◌, ◌≢◌, ◌<◌, ◌^◌, ◌⊎◌, length, Err, IfOk, IfErr, MatchResult};
-ghost use Rattle.std.specs.Option.{option_copied, option_map};
+ghost use Rattle.std.specs.Prelude.{◌≡◌, ◌≢◌, ◌<◌, ◌^◌, ◌⊎◌, length, Err, Some, IfOk, IfErr, IsOk};
+ghost use Rattle.std.specs.Option.{option_map};
 ghost use Rattle.const_pool.specs.declared.class.ClassFile.{ClassFile as Class};
 ghost use Rattle.class_reader.specs.declared.error.ReadError.{ReadError as Fault};
 ghost use Rattle.class_reader.specs.Files.{IsFile, IsFirstFault, most_bytes};
+ghost use Rattle.jf_bytes.specs.Streams.{HasTold, IsFetched, Rose};
+ghost use Rattle.jfluid_cli.specs.Causes.{Given, IsFine, Accepts};
 ghost use Rattle.jfluid_cli.specs.Refusals.{status_of};
-ghost use Rattle.jf_bytes.specs.Streams.{Rose, HasTold, IsFetched, IsToldAs};
-ghost use Rattle.jfluid_cli.specs.Roots.{IsSaid, IsChosen, IsBadRoot, HasChosen, LacksNamed};
-ghost use Rattle.jfluid_cli.specs.Views.{root_view};
-ghost use Rattle.jfluid_cli.specs.Top.{LacksRootMethod, IsProgram, IsOutside, LacksMain, HasNoProgram, HasNoRooted, IsFetchRefusal};
-ghost use Rattle.jfluid_cli.specs.Words.{slashed};
+ghost use Rattle.jfluid_cli.specs.Sinks.{files_view};
+ghost use Rattle.jfluid_cli.specs.Stages.{IsFetchedFor, IsLoaded, IsEarly, HasFetchCause};
+ghost use Rattle.jfluid_cli.specs.Roots.{IsSaid, IsChosen, HasChosen, LacksNamed};
+ghost use Rattle.jfluid_cli.specs.Views.{root_view, command_view};
+ghost use Rattle.jfluid_cli.specs.Top.{IsProgram, HasNoProgram, HasNoRooted, IsFetchRefusal};
 
 use crate::refusal::Refusal;
 use crate::roots::{Root, read_root, root_number};
@@ -32,17 +34,11 @@ pub struct Program {
 /// Reads and admits a class file.
 fn read_program(alloc: Global, bytes: &[u8], name: &Text16) -> Result<Program, Refusal>
     ensures ok { IfOk result (λ p. IsProgram bytes.now name.now p.class p.main) }
-    ensures not_read { (fault : Fault) → result ≡ Err (Refusal.NotRead fault) → IsFirstFault bytes.now fault }
-    ensures not_built { result ≡ Err Refusal.NotBuilt → IsOutside bytes.now }
-    ensures no_main { result ≡ Err Refusal.NoMain → LacksMain bytes.now name.now }
-    ensures not_words { result ≢ Err Refusal.Words }
-    ensures not_out { result ≢ Err Refusal.OutFailed }
-    ensures not_bad_root { result ≢ Err Refusal.BadRoot }
-    ensures not_root { result ≢ Err Refusal.NoSuchRoot }
-    ensures not_fetch { result ≢ Err Refusal.NotFetched }
     ensures one { IfOk result (λ p. (c : Class) → IsFile bytes.now c → c ≡ p.class) }
     ensures faultless { IfOk result (λ _. (fault : Fault) → IsFirstFault bytes.now fault → ⊥) }
     ensures refuses { IfErr result (λ e. status_of e ≡ 3 → HasNoProgram name.now bytes.now) }
+    ensures early { (g : Given) → IsFetchedFor g name.now bytes.now → IfErr result (IsEarly g) }
+    ensures calm { IfErr result (λ e. status_of e ≢ 7) }
 {
     let class = match read_class(alloc, bytes) {
         Ok(class) => class,
@@ -66,8 +62,10 @@ pub struct Loaded {
 
 /// Fetches a class file, or, of a longer one, enough to see that it is too long.
 fn fetch<F: Files>(alloc: Global, name: &str, files: &mut F) -> Result<Vec<u8>, Refusal>
-    ensures found { IfOk result (λ bytes. IsFetched (F.contents files.old) name.now most_bytes bytes.items) }
-    ensures failed { result ≡ Err Refusal.NotFetched → Rose (F.faults files.old) (F.faults files.new) }
+    ensures found { IfOk result (λ bytes.
+        IsFetched (F.contents files.old) name.now most_bytes bytes.items) }
+    ensures failed { result ≡ Err Refusal.NotFetched →
+        Rose (F.faults files.old) (F.faults files.new) }
     ensures name { result ≡ Err Refusal.NotFetched → F.last_failed files.new ≡ name.now }
     ensures calm { result ≢ Err Refusal.NotFetched → F.faults files.new ≡ F.faults files.old }
     ensures errors { IfErr result IsFetchRefusal }
@@ -81,21 +79,18 @@ fn fetch<F: Files>(alloc: Global, name: &str, files: &mut F) -> Result<Vec<u8>, 
 
 /// Fetches, reads and admits the class file of a command.
 fn load<F: Files>(alloc: Global, command: Command<'_>, files: &mut F) -> Result<Loaded, Refusal>
-    ensures told { IfOk result (λ l. IsToldAs (F.contents files.old) command.entry.file.now l.bytes.items) }
-    ensures program { IfOk result (λ l. IsProgram l.bytes.items (slashed command.entry.main.now) l.program.class l.program.main) }
-    ensures one { IfOk result (λ l. (c : Class) → IsFile l.bytes.items c → c ≡ l.program.class) }
-    ensures faultless { IfOk result (λ l. (fault : Fault) → IsFirstFault l.bytes.items fault → ⊥) }
-    ensures refuses { IfErr result (λ e. status_of e ≡ 3 → HasTold (F.contents files.old) command.entry.file.now (HasNoProgram (slashed command.entry.main.now))) }
-    ensures not_read { (fault : Fault) → result ≡ Err (Refusal.NotRead fault) → HasTold (F.contents files.old) command.entry.file.now (λ bytes. IsFirstFault bytes fault) }
-    ensures not_built { result ≡ Err Refusal.NotBuilt → HasTold (F.contents files.old) command.entry.file.now IsOutside }
-    ensures no_main { result ≡ Err Refusal.NoMain → HasTold (F.contents files.old) command.entry.file.now (λ bytes. LacksMain bytes (slashed command.entry.main.now)) }
-    ensures failed { result ≡ Err Refusal.NotFetched → Rose (F.faults files.old) (F.faults files.new) }
-    ensures name { result ≡ Err Refusal.NotFetched → F.last_failed files.new ≡ command.entry.file.now }
-    ensures calm { result ≢ Err Refusal.NotFetched → F.faults files.new ≡ F.faults files.old }
-    ensures not_words { result ≢ Err Refusal.Words }
-    ensures not_out { result ≢ Err Refusal.OutFailed }
-    ensures not_bad_root { result ≢ Err Refusal.BadRoot }
-    ensures not_root { result ≢ Err Refusal.NoSuchRoot }
+    ensures ok { let k = command_view command.entry in
+        IfOk result (λ l.
+        IsLoaded (F.contents files.old) k l.bytes.items l.program.class l.program.main) }
+    ensures refuses { let k = command_view command.entry in
+        IfErr result (λ e. status_of e ≡ 3 →
+        HasTold (F.contents files.old) k.file (HasNoProgram k.main)) }
+    ensures early { (g : Given) → Accepts g (command_view command.entry) →
+        g.told ≡ F.contents files.old → IfErr result (IsEarly g) }
+    ensures calm { IsOk result → F.faults files.new ≡ F.faults files.old }
+    ensures cause { let old = files_view (F.faults files.old) (F.last_failed files.old) in
+        let new = files_view (F.faults files.new) (F.last_failed files.new) in
+        IfErr result (λ e. HasFetchCause command.entry.file.now old new (status_of e)) }
 {
     let Ok(name) = class_name(alloc, command.main) else {
         return Err(Refusal::NoMemory);
@@ -114,13 +109,16 @@ pub struct Prepared {
     pub root: Option<u32>,
 }
 
-/// The root that the words name, if they name one.
-fn read_said(alloc: Global, word: Option<&str>) -> Result<Option<Root>, Refusal>
-    ensures said { IfOk result (λ root. IsSaid (option_copied word.entry) (option_map root_view root)) }
-    ensures bad { result ≡ Err Refusal.BadRoot → IsBadRoot (option_copied word.entry) }
-    ensures errors { IfErr result (λ e. (e ≡ Refusal.BadRoot) ⊎ (e ≡ Refusal.NoMemory)) }
+/// The root that a command names, if it names one and is carried out.
+fn accept(alloc: Global, command: Command<'_>) -> Result<Option<Root>, Refusal>
+    ensures said { let k = command_view command.entry in
+        IfOk result (λ root. IsSaid k.options.root (option_map root_view root)) }
+    ensures fine { IfOk result (λ _. IsFine (command_view command.entry)) }
+    ensures early { (g : Given) → g.asked ≡ Some (command_view command.entry) →
+        IfErr result (IsEarly g) }
+    ensures status { IfErr result (λ e. (status_of e ≡ 2) ⊎ (status_of e ≡ 9)) }
 {
-    let Some(word) = word else {
+    let Some(word) = command.options.root else {
         return Ok(None);
     };
     match read_root(alloc, word) {
@@ -134,7 +132,8 @@ fn read_said(alloc: Global, word: Option<&str>) -> Result<Option<Root>, Refusal>
 fn choose(class: &ClassFile, root: Option<Root>) -> Result<Option<u32>, Refusal>
     requires { length class.now.methods < 2 ^ 32 }
     ensures chosen { IfOk result (HasChosen class.now (option_map root_view root)) }
-    ensures lacks { result ≡ Err Refusal.NoSuchRoot → LacksNamed class.now (option_map root_view root) }
+    ensures lacks { result ≡ Err Refusal.NoSuchRoot →
+        LacksNamed class.now (option_map root_view root) }
     ensures errors { IfErr result (λ e. e ≡ Refusal.NoSuchRoot) }
 {
     let Some(root) = root else {
@@ -152,25 +151,23 @@ pub fn prepare<F: Files>(
     command: Command<'_>,
     files: &mut F,
 ) -> Result<Prepared, Refusal>
-    ensures told { IfOk result (λ p. IsToldAs (F.contents files.old) command.entry.file.now p.loaded.bytes.items) }
-    ensures program { IfOk result (λ p. IsProgram p.loaded.bytes.items (slashed command.entry.main.now) p.loaded.program.class p.loaded.program.main) }
-    ensures one { IfOk result (λ p. (c : Class) → IsFile p.loaded.bytes.items c → c ≡ p.loaded.program.class) }
-    ensures faultless { IfOk result (λ p. (fault : Fault) → IsFirstFault p.loaded.bytes.items fault → ⊥) }
-    ensures refuses { IfErr result (λ e. status_of e ≡ 3 → HasTold (F.contents files.old) command.entry.file.now (HasNoRooted (option_copied command.entry.options.root) (slashed command.entry.main.now))) }
-    ensures root { IfOk result (λ p. IsChosen (option_copied command.entry.options.root) p.loaded.program.class p.root) }
-    ensures not_read { (fault : Fault) → result ≡ Err (Refusal.NotRead fault) → HasTold (F.contents files.old) command.entry.file.now (λ bytes. IsFirstFault bytes fault) }
-    ensures not_built { result ≡ Err Refusal.NotBuilt → HasTold (F.contents files.old) command.entry.file.now IsOutside }
-    ensures no_main { result ≡ Err Refusal.NoMain → HasTold (F.contents files.old) command.entry.file.now (λ bytes. LacksMain bytes (slashed command.entry.main.now)) }
-    ensures no_root { result ≡ Err Refusal.NoSuchRoot → HasTold (F.contents files.old) command.entry.file.now (λ bytes. LacksRootMethod (option_copied command.entry.options.root) bytes (slashed command.entry.main.now)) }
-    ensures bad_root { result ≡ Err Refusal.BadRoot → IsBadRoot (option_copied command.entry.options.root) }
-    ensures bad_only { IsBadRoot (option_copied command.entry.options.root) → MatchResult result (λ _. ⊥) (λ e. (e ≡ Refusal.BadRoot) ⊎ (e ≡ Refusal.NoMemory)) }
-    ensures failed { result ≡ Err Refusal.NotFetched → Rose (F.faults files.old) (F.faults files.new) }
-    ensures name { result ≡ Err Refusal.NotFetched → F.last_failed files.new ≡ command.entry.file.now }
-    ensures calm { result ≢ Err Refusal.NotFetched → F.faults files.new ≡ F.faults files.old }
-    ensures not_words { result ≢ Err Refusal.Words }
-    ensures not_out { result ≢ Err Refusal.OutFailed }
+    ensures ok { let k = command_view command.entry in
+        IfOk result (λ p. let l = p.loaded in
+        IsLoaded (F.contents files.old) k l.bytes.items l.program.class l.program.main) }
+    ensures fine { IfOk result (λ _. IsFine (command_view command.entry)) }
+    ensures root { let k = command_view command.entry in
+        IfOk result (λ p. IsChosen k.options.root p.loaded.program.class p.root) }
+    ensures refuses { let k = command_view command.entry in
+        IfErr result (λ e. status_of e ≡ 3 →
+        HasTold (F.contents files.old) k.file (HasNoRooted k.options.root k.main)) }
+    ensures early { let k = command_view command.entry in
+        IfErr result (IsEarly (record { asked = Some k; told = F.contents files.old })) }
+    ensures calm { IsOk result → F.faults files.new ≡ F.faults files.old }
+    ensures cause { let old = files_view (F.faults files.old) (F.last_failed files.old) in
+        let new = files_view (F.faults files.new) (F.last_failed files.new) in
+        IfErr result (λ e. HasFetchCause command.entry.file.now old new (status_of e)) }
 {
-    let root = match read_said(alloc, command.options.root) {
+    let root = match accept(alloc, command) {
         Ok(root) => root,
         Err(refusal) => return Err(refusal),
     };

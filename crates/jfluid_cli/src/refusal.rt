@@ -2,9 +2,9 @@
 
 ghost use Rattle.std.specs.Prelude.{◌≡◌, ◌⊎◌, true, false, IfOk};
 ghost use Rattle.std.specs.String.{string_bytes};
-ghost use Rattle.std.specs.Io.KnownBytes.{append_known};
-ghost use Rattle.jf_bytes.specs.Streams.{Rose};
-ghost use Rattle.jfluid_cli.specs.Refusals.{status_of, cause_of, refusal_line, PutsOrRose};
+ghost use Rattle.jf_bytes.specs.Streams.{PutsAll, Rose};
+ghost use Rattle.jfluid_cli.specs.Refusals.{status_of, IsRefusalStatus, cause_of, refusal_line};
+ghost use Rattle.jfluid_cli.specs.Sinks.{PutsOrRose, sink_view};
 
 use class_reader::ReadError;
 use jf_bytes::Sink;
@@ -37,10 +37,7 @@ impl Refusal {
     /// The exit status.
     pub fn status(self) -> u8
         ensures value { result ≡ status_of self }
-        ensures words { result ≡ 2 → (self ≡ Refusal.Words) ⊎ (self ≡ Refusal.BadRoot) }
-        ensures stopped { result ≡ 6 → self ≡ Refusal.OutFailed }
-        ensures not_fetched { result ≡ 7 → self ≡ Refusal.NotFetched }
-        ensures memory { result ≡ 9 → self ≡ Refusal.NoMemory }
+        ensures known { IsRefusalStatus result }
     {
         match self {
             Refusal::Words | Refusal::BadRoot => 2,
@@ -73,7 +70,8 @@ fn cause(alloc: Global, fault: ReadError) -> Result<String, AllocError>
 
 /// The line of a file that is not read.
 fn fault_line(alloc: Global, fault: ReadError, file: &str) -> Result<String, AllocError>
-    ensures { IfOk result (λ line. string_bytes line ≡ refusal_line (Refusal.NotRead fault) file.now) }
+    ensures { IfOk result (λ line.
+        string_bytes line ≡ refusal_line (Refusal.NotRead fault) file.now) }
 {
     let cause = cause(alloc, fault)?;
     format!(in alloc; "jfluid: {file}: {cause}\n")
@@ -98,17 +96,23 @@ fn line(alloc: Global, refusal: Refusal, file: &str) -> Result<String, AllocErro
 
 /// Puts bytes to the report. A fault changes no status.
 pub fn put_bytes<P: Sink>(report: &mut P, bytes: &[u8]) -> bool
-    ensures put { PutsOrRose (P.taken report.old) (P.taken report.new) (P.faults report.old) (P.faults report.new) bytes.now }
-    ensures ok { result ≡ true → (P.taken report.new ≡ append_known (P.taken report.old) bytes.now) × (P.faults report.new ≡ P.faults report.old) }
+    ensures put { let old = sink_view (P.taken report.old) (P.faults report.old) in
+        let new = sink_view (P.taken report.new) (P.faults report.new) in
+        PutsOrRose old new bytes.now }
+    ensures whole { result ≡ true → PutsAll (P.taken report.old) (P.taken report.new) bytes.now }
+    ensures calm { result ≡ true → P.faults report.new ≡ P.faults report.old }
     ensures failed { result ≡ false → Rose (P.faults report.old) (P.faults report.new) }
 {
     report.put(bytes).is_ok()
 }
 
-/// Puts the line of a refusal, and answers which refusal it was in the end: where no memory is left for the line, that.
+/// Puts the line of a refusal, and answers which refusal it was in the end: where no memory is left
+/// for the line, that.
 pub fn tell<P: Sink>(alloc: Global, refusal: Refusal, file: &str, report: &mut P) -> Refusal
     ensures told { (result ≡ refusal) ⊎ (result ≡ Refusal.NoMemory) }
-    ensures line { PutsOrRose (P.taken report.old) (P.taken report.new) (P.faults report.old) (P.faults report.new) (refusal_line result file.now) }
+    ensures line { let old = sink_view (P.taken report.old) (P.faults report.old) in
+        let new = sink_view (P.taken report.new) (P.faults report.new) in
+        PutsOrRose old new (refusal_line result file.now) }
 {
     match line(alloc, refusal, file) {
         Ok(line) => {

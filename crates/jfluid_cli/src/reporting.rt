@@ -1,11 +1,11 @@
 //! The report of a run, and the status that goes with it.
 
-ghost use Rattle.std.specs.Prelude.{◌≡◌, ◌≢◌, ◌<◌, ℕ, true, false, IfOk, IfErr};
-ghost use Rattle.std.specs.Io.KnownBytes.{append_known};
-ghost use Rattle.jf_bytes.specs.Streams.{PutsFront, Rose};
-ghost use Rattle.jfluid_cli.specs.Runs.{IsGoing, IsTold, ending_at, is_ended_at};
+ghost use Rattle.std.specs.Prelude.{◌≡◌, ◌<◌, ℕ, true, false, IfOk, MatchResult};
+ghost use Rattle.jfluid_cli.specs.Runs.{IsGoing, IsTold, is_ended_at};
+ghost use Rattle.jfluid_cli.specs.Calls.{IsReported};
 ghost use Rattle.jfluid_cli.specs.Selections.{IsSelected, swaps_for};
-ghost use Rattle.jfluid_cli.specs.Top.{status_of_ending, is_run, report_of};
+ghost use Rattle.jfluid_cli.specs.Sinks.{IsUntold, sink_view};
+ghost use Rattle.jfluid_cli.specs.Top.{status_of_ending, is_run, is_status, report_of};
 
 use crate::refusal::{Refusal, put_bytes};
 use context_tree::Tree;
@@ -19,6 +19,7 @@ use std::alloc::Global;
 fn status_of_run(ending: Option<Ending>) -> u8
     ensures value { result ≡ status_of_ending ending }
     ensures run { is_run result ≡ true }
+    ensures known { is_status result ≡ true }
 {
     match ending {
         None => 4,
@@ -69,10 +70,11 @@ pub fn give_report<P: Sink>(
     requires told { IsTold tree.old vm.now }
     requires selected { IsSelected root vm.now }
     requires first { (m : ℕ) → m < vm.now.clock → is_ended_at vm.now m ≡ false }
-    ensures status { IfOk result (λ s. is_run s ≡ true) }
-    ensures whole { IfOk result (λ s. s ≢ 8 → (s ≡ status_of_ending (ending_at vm.now vm.now.clock)) × (P.taken out.new ≡ append_known (P.taken out.old) (report_of root vm.now)) × (P.faults out.new ≡ P.faults out.old)) }
-    ensures failed { IfOk result (λ s. s ≡ 8 → Rose (P.faults out.old) (P.faults out.new) × PutsFront (P.taken out.old) (P.taken out.new) (report_of root vm.now)) }
-    ensures memory { IfErr result (λ e. (e ≡ Refusal.NoMemory) × (P.taken out.new ≡ P.taken out.old) × (P.faults out.new ≡ P.faults out.old)) }
+    ensures reported { let old = sink_view (P.taken out.old) (P.faults out.old) in
+        let new = sink_view (P.taken out.new) (P.faults out.new) in
+        MatchResult result
+        (IsReported vm.now (report_of root vm.now) old new)
+        (λ e. (e ≡ Refusal.NoMemory) × IsUntold old new) }
 {
     let ending = vm.ending();
     let Ok(text) = text_of(alloc, vm, tree, root) else {

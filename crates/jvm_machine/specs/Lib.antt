@@ -1,10 +1,13 @@
 pub mod Prepared
+pub mod Before
 pub mod Operands
 pub mod Shapes
 pub mod TableEntries
 pub mod Probes
 pub mod Arguments
 pub mod Flows
+pub mod Applied
+pub mod Lookups
 pub mod Moves
 pub mod View
 pub mod Running

@@ -1,10 +1,10 @@
 -- How the parts of a machine move in one call of `step`.
-use Rattle.std.specs.Prelude.{ℕ, ◌+◌, ◌-◌, Bool, true, false, List, ◌∷◌, Option, Some, None, nat_le, ◌==◌, if◌then◌else◌}
+use Rattle.std.specs.Prelude.{◌≡◌, ℕ, ◌+◌, ◌-◌, Bool, true, false, List, ◌∷◌, Option, Some, None, nat_le, ◌==◌, if◌then◌else◌}
 use Rattle.const_pool.specs.declared.class.ClassFile.{ClassFile}
 use Rattle.jvm_model.specs.declared.state.Entry.{Entry}
 use Rattle.jvm_model.specs.declared.state.State.{State}
 use Rattle.jvm_model.specs.declared.state.Entry.TheVariants.{Active}
-use Rattle.jvm_model.specs.Data.{Turn}
+use Rattle.jvm_model.specs.Data.{Change, Turn}
 use Rattle.jvm_model.specs.Agreement.{is_entry_kind, is_leave_kind}
 use Rattle.jvm_machine.specs.declared.probes.Probe.{Probe}
 use Rattle.jvm_model.specs.Attempts.{attempt_placed, start_placed, has_begun}
@@ -47,6 +47,13 @@ entered_by probe s = record { state = s; told = told_by probe; probe = probe }
 abbrev pub entered : Installed → Turn → Move
 entered t turn = entered_by (if has_begun turn.changes then entry_here t.image turn.after.stack else None) turn.after
 
+abbrev pub move_with : Installed → State → List Change → Move
+move_with t s changes = entered t (record { after = s; changes = changes })
+
+-- it holds of all changes in which an activation began, or of all in which none did
+abbrev pub EachWith : Bool → (List Change → Type 0) → Type 0
+EachWith begun Holds = (changes : List Change) → begun ≡ has_begun changes → Holds changes
+
 -- the current frame stands there
 abbrev pub stack_at : ℕ → List Entry → List Entry
 stack_at place (Active f ∷ below) = Active (record f { place = place }) ∷ below
@@ -78,6 +85,9 @@ rest_of t s = rest_by t s (leave_passed t.image s.stack)
 
 abbrev pub moved_on : Installed → Bool → ℕ → State → Move
 moved_on t started told s = if told == 0 then begun_move t started s else record { state = rest_of t s; told = 0; probe = None }
+
+abbrev pub probe_on : Installed → Bool → ℕ → State → Option Probe
+probe_on t started told s = (moved_on t started told s).probe
 
 -- the clock rises where a step after the start begins
 abbrev pub clock_in : ℕ → Bool → ℕ → ℕ

@@ -1,5 +1,5 @@
 -- What the machine's tables say: at each number and offset or place, what the definitions look up there.
-use Rattle.std.specs.Prelude.{◌≡◌, ℕ, List, [], Option, slice_get}
+use Rattle.std.specs.Prelude.{◌≡◌, ℕ, List, [], Option, slice_get, unwrap_or}
 use Rattle.std.specs.Option.{option_and_then, option_flatten, option_map_or}
 use Rattle.const_pool.specs.declared.class.ClassFile.{ClassFile}
 use Rattle.code_model.specs.declared.laying.Homes.{Homes}
@@ -7,7 +7,9 @@ use Rattle.jvm_machine.specs.declared.probes.Probe.{Probe}
 use Rattle.jvm_machine.specs.declared.tables.Method.{Method}
 use Rattle.jvm_machine.specs.declared.tables.PreparedVersion.{PreparedVersion}
 use Rattle.jvm_machine.specs.Probes.{placed_probe_at}
+use Rattle.jvm_model.specs.declared.event.Mark.{Mark}
 use Rattle.jvm_model.specs.declared.operation.Line.{Line}
+use Rattle.jvm_model.specs.Installed.{Installed}
 use Rattle.jvm_model.specs.Methods.{method_params}
 use Rattle.jvm_model.specs.Programs.{world_of, max_stack_of, max_locals_of}
 use Rattle.jvm_model.specs.StandsFor.{version_line}
@@ -29,3 +31,22 @@ probe_in place v = option_flatten (slice_get v.probes place)
 pub record AreVersions (image : ClassFile) (homes : List (Option Homes)) (versions : List PreparedVersion) : Type 0 where
   pub lines : (k place : ℕ) → option_and_then (line_in place) (slice_get versions k) ≡ version_line image homes k place
   pub probes : (k place : ℕ) → option_and_then (probe_in place) (slice_get versions k) ≡ placed_probe_at image k place
+
+-- what tables are of: without an image, the class itself is run
+abbrev pub installed_by : ClassFile → ℕ → List ℕ → List Mark → Option ClassFile → List (Option Homes) → Installed
+installed_by class main input marks image homes = record {
+  class = class;
+  main = main;
+  input = input;
+  marks = marks;
+  image = unwrap_or image class;
+  homes = homes;
+}
+
+-- the tables' parts: what was prepared is of the class, and of the versions that are current
+abbrev pub AreReady : ClassFile → Option ClassFile → List (Option Homes) → List Method → List PreparedVersion → Type 0
+AreReady class image homes methods versions = ArePrepared class methods × AreVersions (unwrap_or image class) homes versions
+
+-- the versions of another image
+abbrev pub with_versions : List Mark → ClassFile → List (Option Homes) → Installed → Installed
+with_versions marks image homes t = record t { marks = marks; image = image; homes = homes }

@@ -64,3 +64,7 @@ pub record IsRunning (v : View) (state : State) : Type 0 where
   pub waits : v.broken ≡ false → v.done ≡ false → shown_of state ≡ shown_of (run (world v) (v.clock - 1))
   pub told : v.broken ≡ false → is_resting v ≡ false → v.told ≡ length (events_now v)
   pub early : v.started ≡ false → (v.clock ≡ 0) × (v.told ≡ 0)
+
+-- of the parts of a machine
+abbrev pub AreRunning : Installed → State → ℕ → Bool → Bool → ℕ → Type 0
+AreRunning t s told started broken clock = IsRunning (seen t s told started broken clock) s

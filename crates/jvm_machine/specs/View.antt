@@ -1,5 +1,5 @@
 -- What a clause sees of a machine: what it runs, in which versions, and how far it has come.
-use Rattle.std.specs.Prelude.{ℕ, ◌+◌, ◌-◌, Bool, true, false, List, map, Option, None, is_some, ◌==◌, if◌then◌else◌}
+use Rattle.std.specs.Prelude.{ℕ, ◌+◌, ◌-◌, ◌^◌, Bool, true, false, List, length, map, min, Option, None, is_some, ◌==◌, if◌then◌else◌}
 use Rattle.const_pool.specs.declared.class.ClassFile.{ClassFile}
 use Rattle.code_model.specs.declared.laying.Homes.{Homes}
 use Rattle.jvm_model.specs.declared.event.Event.{Event}
@@ -63,6 +63,14 @@ state_of v = if v.started then run (world v) v.clock else before (world v)
 -- to come, that of the step before.
 abbrev pub shown : View → State
 shown v = if v.done then state_of v else run (world v) (v.clock - 1)
+
+-- the live activations, as far as 32 bits tell
+abbrev pub live_of : View → ℕ
+live_of v = min (length (shown v).stack) (2 ^ 32 - 1)
+
+-- the versions of an image
+abbrev pub with_image : List Mark → ClassFile → List (Option Homes) → View → View
+with_image marks image homes v = record v { marks = marks; image = image; homes = homes }
 
 abbrev pub has_ended : View → Bool
 has_ended v = is_some (state_of v).ending

@@ -1,12 +1,10 @@
 //! What becomes of a state by what an instruction asked for: the state is without the current frame, which is given.
 
 ghost use Rattle.std.specs.Prelude.{◌≡◌, nat_le, OnOk, IfOk};
-ghost use Rattle.std.specs.Option.{option_map};
-ghost use Rattle.jvm_model.specs.Values.{as_value, width, depth, with_value};
-ghost use Rattle.jvm_model.specs.Applies.{with_frame, breaks, lands, goes, resumes, gives_back, breaks_or_ends, applies};
-ghost use Rattle.jvm_model.specs.Attempts.{has_begun};
-ghost use Rattle.jvm_machine.specs.Flows.{outcome_of};
-ghost use Rattle.jvm_model.specs.Installed.{world_in, placed, tabled};
+ghost use Rattle.jvm_model.specs.Values.{as_value, width, depth};
+ghost use Rattle.jvm_model.specs.Applies.{with_frame, breaks, lands, breaks_or_ends};
+ghost use Rattle.jvm_model.specs.Installed.{world_in};
+ghost use Rattle.jvm_machine.specs.Applied.{Becomes, TellsBegun, flows, goes_to, with_result, resumes_at, gives_back_in};
 
 use crate::flow::Flow;
 use crate::invoking::invoke;
@@ -79,7 +77,7 @@ fn go(
     own: u16,
     place: Option<u16>,
 ) -> Result<(), NoMemory>
-    ensures { OnOk result (state.new ≡ goes (world_in tables.now) state.old frame own frame.locals frame.operands place) }
+    ensures { OnOk result (state.new ≡ goes_to tables.now state.old frame own place) }
 {
     let Some(place) = place else {
         return break_off(state, frame, own);
@@ -101,7 +99,7 @@ fn value_of(datum: Datum) -> Value
 
 /// Puts the result of a method on top, where it has one.
 fn put_result(caller: &mut Frame, datum: Option<Datum>) -> Result<(), NoMemory>
-    ensures { OnOk result (caller.new ≡ record caller.old { operands = with_value (option_map as_value datum) caller.old.operands }) }
+    ensures { OnOk result (caller.new ≡ with_result datum caller.old) }
 {
     match datum {
         None => Ok(()),
@@ -119,7 +117,7 @@ fn resume(
     mut caller: Frame,
     datum: Option<Datum>,
 ) -> Result<(), NoMemory>
-    ensures { OnOk result (state.new ≡ resumes (world_in tables.now) state.old caller datum ((tabled tables.now).at caller.version caller.place)) }
+    ensures { OnOk result (state.new ≡ resumes_at tables.now state.old caller datum) }
 {
     let Some(line) = tables.line(caller.version, caller.place) else {
         return break_off(state, caller, 0);
@@ -134,7 +132,7 @@ fn resume(
 
 /// The current frame is off: what is below it goes on.
 fn give_back(tables: &Tables, state: &mut State, datum: Option<Datum>) -> Result<(), NoMemory>
-    ensures { OnOk result (state.new ≡ gives_back (world_in tables.now) (tabled tables.now) state.old datum state.old.stack) }
+    ensures { OnOk result (state.new ≡ gives_back_in tables.now state.old datum) }
 {
     match state.stack.pop() {
         None => Ok(()),
@@ -167,8 +165,8 @@ pub fn apply(
     line: Line,
     flow: Flow,
 ) -> Result<bool, NoMemory>
-    ensures state { OnOk result (state.new ≡ (applies (world_in tables.now) (tabled tables.now) (placed line) (outcome_of tables.now.class flow frame) state.old frame).after) }
-    ensures begun { IfOk result (λ b. b ≡ has_begun (applies (world_in tables.now) (tabled tables.now) (placed line) (outcome_of tables.now.class flow frame) state.old frame).changes) }
+    ensures state { Becomes result state.new (flows tables.now line flow state.old frame) }
+    ensures begun { TellsBegun result (flows tables.now line flow state.old frame) }
 {
     match flow {
         Flow::GoesOn => go(tables, state, frame, line.own, line.next)?,

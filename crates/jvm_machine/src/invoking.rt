@@ -1,14 +1,9 @@
 //! Invocation (JVM Specification 2.6, 2.6.1, 2.6.4).
 
-ghost use Rattle.std.specs.Prelude.{◌≡◌, ◌≤◌, ◌-◌, ◌++◌, [], ◌∷◌, length, replicate, None, Some, is_some, OnOk, IfOk};
-ghost use Rattle.std.specs.Option.{option_map_or};
-ghost use Rattle.jvm_model.specs.Methods.{method_params};
-ghost use Rattle.jvm_model.specs.Values.{datum_of, data_of, spread};
-ghost use Rattle.jvm_model.specs.Rules.{invokes_with};
-ghost use Rattle.jvm_model.specs.Applies.{with_frame, applies};
-ghost use Rattle.jvm_model.specs.Attempts.{has_begun};
-ghost use Rattle.jvm_model.specs.Installed.{world_in, placed, tabled};
-ghost use Rattle.jvm_machine.specs.Arguments.{spread_values, fitting_frame, callee_frame, without_arguments};
+ghost use Rattle.std.specs.Prelude.{◌≡◌, ◌≤◌, ◌++◌, [], ◌∷◌, length, is_some, OnOk, IfOk};
+ghost use Rattle.jvm_model.specs.Values.{datum_of, data_of};
+ghost use Rattle.jvm_machine.specs.Applied.{Becomes, TellsBegun, filled, invokes, param_count, with_callee};
+ghost use Rattle.jvm_machine.specs.Arguments.{spread_values, fitting_frame, callee_frame};
 
 use crate::applying::{break_off, put_frame};
 use crate::tables::Tables;
@@ -73,7 +68,7 @@ fn spread(alloc: Global, args: &[Value]) -> Result<Seq<Option<Value>>, NoMemory>
 /// Adds unwritten locals up to this number.
 fn fill(locals: &mut Seq<Option<Value>>, max_locals: usize) -> Result<(), NoMemory>
     requires { length locals.old ≤ max_locals }
-    ensures { OnOk result (locals.new ≡ locals.old ++ replicate (max_locals - length locals.old) None) }
+    ensures { OnOk result (locals.new ≡ filled max_locals locals.old) }
 {
     for _slot in locals.len()..max_locals {
         locals.push(None)?;
@@ -131,7 +126,7 @@ fn callee_of(
 
 /// How many arguments a method takes.
 fn count_of(tables: &Tables, method: u32) -> usize
-    ensures { result ≡ option_map_or length (method_params tables.now.class method) 0 }
+    ensures { result ≡ param_count tables.now method }
 {
     match tables.params(method) {
         Some(params) => params.len(),
@@ -147,8 +142,8 @@ fn put_callee(
     callee: Frame,
     method: u32,
 ) -> Result<(), NoMemory>
-    requires { option_map_or length (method_params tables.now.class method) 0 ≤ length caller.operands }
-    ensures { OnOk result (state.new ≡ with_frame (with_frame state.old (without_arguments tables.now method caller)) callee) }
+    requires { param_count tables.now method ≤ length caller.operands }
+    ensures { OnOk result (state.new ≡ with_callee tables.now state.old method caller callee) }
 {
     caller.operands.discard(count_of(tables, method));
     put_frame(state, caller)?;
@@ -164,8 +159,8 @@ pub fn invoke(
     method: u32,
     line: Line,
 ) -> Result<bool, NoMemory>
-    ensures state { OnOk result (state.new ≡ (applies (world_in tables.now) (tabled tables.now) (placed line) (invokes_with method (method_params tables.now.class method) frame.operands) state.old frame).after) }
-    ensures begun { IfOk result (λ b. b ≡ has_begun (applies (world_in tables.now) (tabled tables.now) (placed line) (invokes_with method (method_params tables.now.class method) frame.operands) state.old frame).changes) }
+    ensures state { Becomes result state.new (invokes tables.now line method state.old frame) }
+    ensures begun { TellsBegun result (invokes tables.now line method state.old frame) }
 {
     match callee_of(alloc, tables, &frame, method)? {
         None => {

@@ -2,14 +2,14 @@
 
 ghost use Rattle.std.specs.Prelude.{◌≡◌, ◌<◌, ◌^◌, length};
 ghost use Rattle.const_pool.specs.Members.{reference_view};
-ghost use Rattle.const_pool.specs.References.{named_field, named_method};
+ghost use Rattle.const_pool.specs.References.{name_type_of, named_field, named_method};
 ghost use Rattle.jvm_model.specs.Methods.{same_text_at, is_member, method_named};
 ghost use Rattle.std.specs.Option.{option_and_then, option_map};
 ghost use Rattle.jvm_model.specs.Rules.{is_reference, is_out, is_println};
-ghost use Rattle.jvm_model.specs.Lines.{getstatic_of, invokevirtual_of, plain_operation, pool_operation};
-ghost use Rattle.jvm_model.specs.Data.{Invokestatic};
+ghost use Rattle.jvm_model.specs.Lines.{plain_operation, pool_operation};
 ghost use Rattle.const_pool.specs.declared.class.ClassFile.{ClassFile as Class};
 ghost use Rattle.jvm_model.specs.Resolved.{own_method, resolved_in, resolved_of};
+ghost use Rattle.jvm_machine.specs.Lookups.{resolved_getstatic, resolved_invokevirtual, resolved_invokestatic};
 
 use code_model::{Arg, Instr};
 use const_pool::{ClassFile, Const, Member, MemberRef, Pool};
@@ -28,7 +28,7 @@ fn is_text_at(pool: &Pool, index: u16, text: &Text16) -> bool
 
 /// Whether a method has this name and this descriptor.
 fn is_member(pool: &Pool, name: &Text16, descriptor: &Text16, member: &Member) -> bool
-    ensures { result ≡ is_member pool.now (record { name = name.now; descriptor = descriptor.now }) member.now }
+    ensures { result ≡ is_member pool.now (name_type_of name.now descriptor.now) member.now }
 {
     is_text_at(pool, member.name, name) && is_text_at(pool, member.descriptor, descriptor)
 }
@@ -36,7 +36,7 @@ fn is_member(pool: &Pool, name: &Text16, descriptor: &Text16, member: &Member) -
 /// The number of the first method with this name and this descriptor (5.4.3.3).
 pub fn method_named(class: &ClassFile, name: &Text16, descriptor: &Text16) -> Option<u32>
     requires { length class.now.methods < 2 ^ 32 }
-    ensures { result ≡ method_named class.now (record { name = name.now; descriptor = descriptor.now }) }
+    ensures { result ≡ method_named class.now (name_type_of name.now descriptor.now) }
 {
     for (i, method) in class.methods.as_slice().iter().enumerate() {
         if is_member(&class.pool, name, descriptor, method) {
@@ -47,12 +47,12 @@ pub fn method_named(class: &ClassFile, name: &Text16, descriptor: &Text16) -> Op
 }
 
 /// Whether a member is the one with this class, this name and this descriptor.
-pub fn is_reference(reference: &MemberRef<'_>, class: &[u8], name: &[u8], descriptor: &[u8]) -> bool
-    ensures { result ≡ is_reference class.now name.now descriptor.now (reference_view reference.now) }
+pub fn is_reference(member: &MemberRef<'_>, class: &[u8], name: &[u8], descriptor: &[u8]) -> bool
+    ensures { result ≡ is_reference class.now name.now descriptor.now (reference_view member.now) }
 {
-    reference.class.is_bytes(class)
-        && reference.name.is_bytes(name)
-        && reference.descriptor.is_bytes(descriptor)
+    member.class.is_bytes(class)
+        && member.name.is_bytes(name)
+        && member.descriptor.is_bytes(descriptor)
 }
 
 /// Whether a field is System.out.
@@ -125,7 +125,7 @@ fn plain_operation(op: u8) -> Option<Resolved>
 
 /// getstatic: System.out alone.
 fn getstatic(pool: &Pool, index: u16) -> Option<Resolved>
-    ensures { (c : Class) → result ≡ option_and_then (resolved_in c) (option_and_then getstatic_of (named_field pool.now index)) }
+    ensures { (c : Class) → result ≡ resolved_getstatic c pool.now index }
 {
     let field = field_at(pool, index)?;
     if is_out(&field) {
@@ -137,7 +137,7 @@ fn getstatic(pool: &Pool, index: u16) -> Option<Resolved>
 
 /// invokevirtual: println(I)V alone.
 fn invokevirtual(pool: &Pool, index: u16) -> Option<Resolved>
-    ensures { (c : Class) → result ≡ option_and_then (resolved_in c) (option_and_then invokevirtual_of (named_method pool.now index)) }
+    ensures { (c : Class) → result ≡ resolved_invokevirtual c pool.now index }
 {
     let method = method_at(pool, index)?;
     if is_println(&method) {
@@ -150,7 +150,7 @@ fn invokevirtual(pool: &Pool, index: u16) -> Option<Resolved>
 /// invokestatic of a method of the class itself.
 fn invokestatic(class: &ClassFile, index: u16) -> Option<Resolved>
     requires { length class.now.methods < 2 ^ 32 }
-    ensures { result ≡ option_and_then (resolved_in class.now) (option_map Invokestatic (named_method class.now.pool index)) }
+    ensures { result ≡ resolved_invokestatic class.now index }
 {
     let method = method_at(&class.pool, index)?;
     let number = own_method(class, &method)?;

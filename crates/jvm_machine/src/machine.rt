@@ -1,11 +1,11 @@
 //! The machine: it runs a class in the versions of its methods, and tells what their probes tell.
 
-ghost use Rattle.std.specs.Prelude.{◌≡◌, ◌^◌, ◌-◌, ◌<◌, ◌&&◌, min, true, false, length, OnOk, OnErr, IfOk};
+ghost use Rattle.std.specs.Prelude.{◌≡◌, ◌^◌, ◌<◌, ◌&&◌, false, length, OnOk, OnErr, IfOk};
 ghost use Rattle.jvm_model.specs.Images.{IsImage};
 ghost use Rattle.jvm_model.specs.StandsFor.{IsBuilt};
 ghost use Rattle.jvm_machine.specs.Advances.{Advances, broken_in};
 ghost use Rattle.jvm_machine.specs.Turns.{Turns, IsGoingOn};
-ghost use Rattle.jvm_machine.specs.View.{made, shown, is_resting, has_ended};
+ghost use Rattle.jvm_machine.specs.View.{made, shown, live_of, with_image, is_resting, has_ended};
 
 use crate::probes::Probe;
 use crate::starting::state_before;
@@ -34,13 +34,13 @@ pub struct Vm {
 
 impl Model for Vm {
     ghost use Rattle.jvm_machine.specs.View.{View};
-    ghost use Rattle.jvm_machine.specs.Running.{IsRunning, seen};
+    ghost use Rattle.jvm_machine.specs.Running.{AreRunning, seen};
 
     ghost Value = { View };
 
     ghost view = { λ v. seen v.tables v.state v.told v.started v.broken v.clock };
 
-    ghost invariant = { λ v. IsRunning (seen v.tables v.state v.told v.started v.broken v.clock) v.state };
+    ghost invariant = { λ v. AreRunning v.tables v.state v.told v.started v.broken v.clock };
 }
 
 impl Vm {
@@ -77,7 +77,7 @@ impl Vm {
         requires whole { self.old.broken ≡ false }
         requires marks { length marks.now ≡ length self.old.class.methods }
         requires image { IsImage self.old.class 0 marks.now image homes.now }
-        ensures ok { OnOk result (self.new ≡ record self.old { marks = marks.now; image = image; homes = homes.now }) }
+        ensures ok { OnOk result (self.new ≡ with_image marks.now image homes.now self.old) }
         ensures err { OnErr result (self.new ≡ self.old) }
     {
         self.tables.install(self.alloc, image, marks, homes)
@@ -173,7 +173,7 @@ impl Vm {
 
     /// The number of live activations, with that of a return whose event was told and which is still to come, where it is below 2^32; a larger number is given as 2^32 - 1.
     pub fn live(&self) -> u32
-        ensures { self.now.broken ≡ false → result ≡ min (length (shown self.now).stack) (2 ^ 32 - 1) }
+        ensures { self.now.broken ≡ false → result ≡ live_of self.now }
     {
         u32::try_from(self.state.stack.len()).unwrap_or(u32::MAX)
     }

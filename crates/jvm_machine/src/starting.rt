@@ -1,9 +1,7 @@
 //! The state before the start.
 
-ghost use Rattle.std.specs.Prelude.{◌≡◌, ℕ, List, [], IfOk};
-ghost use Rattle.const_pool.specs.declared.class.ClassFile.{ClassFile};
-ghost use Rattle.jvm_model.specs.Programs.{world_of};
-ghost use Rattle.jvm_model.specs.Run.{before};
+ghost use Rattle.std.specs.Prelude.{◌≡◌, IfOk};
+ghost use Rattle.jvm_machine.specs.Before.{BeforeEach};
 
 use heap_objects::Datum;
 use jf_bytes::{NoMemory, Seq, Stack};
@@ -12,7 +10,7 @@ use std::alloc::Global;
 
 /// What is shared before the start: the class is fresh, and has no static fields.
 fn shared_before(alloc: Global) -> Result<Shared, NoMemory>
-    ensures { (c : ClassFile) (main : ℕ) (input : List ℕ) → c.fields ≡ [] → IfOk result (λ shared. shared ≡ (before (world_of c main input)).shared) }
+    ensures { BeforeEach (λ s. IfOk result (λ shared. shared ≡ s.shared)) }
 {
     let mut phases = Seq::new(alloc);
     phases.push(Phase::Fresh)?;
@@ -31,7 +29,7 @@ fn shared_before(alloc: Global) -> Result<Shared, NoMemory>
 
 /// The state before the start of a class without fields.
 pub fn state_before(alloc: Global) -> Result<State, NoMemory>
-    ensures { (c : ClassFile) (main : ℕ) (input : List ℕ) → c.fields ≡ [] → IfOk result (λ s. s ≡ before (world_of c main input)) }
+    ensures { BeforeEach (λ before. IfOk result (λ s. s ≡ before)) }
 {
     Ok(State {
         stack: Stack::new(alloc),

@@ -1,11 +1,12 @@
 //! One call of `step` over the parts of a machine: what it does to the state, and which probe is passed.
 
-ghost use Rattle.std.specs.Prelude.{◌≡◌, ◌^◌, ◌<◌, false, List, OnOk, IfOk};
-ghost use Rattle.jvm_model.specs.Data.{Change};
+ghost use Rattle.std.specs.Prelude.{◌≡◌, ◌^◌, ◌<◌, false, OnOk, IfOk};
 ghost use Rattle.jvm_model.specs.Run.{before};
-ghost use Rattle.jvm_model.specs.Attempts.{does_line, attempts, closed_state, attempt_placed, start_placed, ready, has_begun};
-ghost use Rattle.jvm_model.specs.Installed.{world_in, line_in};
-ghost use Rattle.jvm_machine.specs.Moves.{told_by, entered, stepped, begun_move, rest_of, moved_on, clock_in};
+ghost use Rattle.jvm_model.specs.Attempts.{closed_state, attempt_placed, start_placed, ready};
+ghost use Rattle.jvm_model.specs.Installed.{world_in};
+ghost use Rattle.jvm_machine.specs.Applied.{Becomes, TellsBegun, attempts_top, does_here};
+ghost use Rattle.jvm_machine.specs.Moves.{told_by, move_with, EachWith, stepped, begun_move, rest_of};
+ghost use Rattle.jvm_machine.specs.Moves.{moved_on, probe_on, clock_in};
 
 use crate::applying::{apply, break_off};
 use crate::invoking::frame_with;
@@ -44,8 +45,8 @@ fn make_ready(tables: &Tables, state: &mut State) -> Result<(), NoMemory>
 /// The start (5.2, 5.5): `main` begins with its argument array, if it has a local for it.
 fn begin(alloc: Global, tables: &Tables, state: &mut State) -> Result<bool, NoMemory>
     requires { state.old ≡ before (world_in tables.now) }
-    ensures state { OnOk result (state.new ≡ (start_placed tables.now).after) }
-    ensures begun { IfOk result (λ b. b ≡ has_begun (start_placed tables.now).changes) }
+    ensures state { Becomes result state.new (start_placed tables.now) }
+    ensures begun { TellsBegun result (start_placed tables.now) }
 {
     let main = tables.main();
     make_ready(tables, state)?;
@@ -65,8 +66,8 @@ fn attempt_frame(
     state: &mut State,
     mut frame: Frame,
 ) -> Result<bool, NoMemory>
-    ensures state { OnOk result (state.new ≡ (does_line tables.now state.old frame (line_in tables.now frame.version frame.place)).after) }
-    ensures begun { IfOk result (λ b. b ≡ has_begun (does_line tables.now state.old frame (line_in tables.now frame.version frame.place)).changes) }
+    ensures state { Becomes result state.new (does_here tables.now state.old frame) }
+    ensures begun { TellsBegun result (does_here tables.now state.old frame) }
 {
     let Some(line) = tables.line(frame.version, frame.place) else {
         break_off(state, frame, 0)?;
@@ -78,8 +79,8 @@ fn attempt_frame(
 
 /// One attempt of an instruction, up to what follows from it without another instruction.
 fn attempt_top(alloc: Global, tables: &Tables, state: &mut State) -> Result<bool, NoMemory>
-    ensures state { OnOk result (state.new ≡ (attempts tables.now state.old state.old.stack).after) }
-    ensures begun { IfOk result (λ b. b ≡ has_begun (attempts tables.now state.old state.old.stack).changes) }
+    ensures state { Becomes result state.new (attempts_top tables.now state.old) }
+    ensures begun { TellsBegun result (attempts_top tables.now state.old) }
 {
     match state.stack.pop() {
         None => Ok(false),
@@ -102,8 +103,8 @@ fn close(state: &mut State)
 
 /// One attempt of an instruction, and what follows from it; the answer is whether an activation began.
 fn attempt_one(alloc: Global, tables: &Tables, state: &mut State) -> Result<bool, NoMemory>
-    ensures state { OnOk result (state.new ≡ (attempt_placed tables.now state.old).after) }
-    ensures begun { IfOk result (λ b. b ≡ has_begun (attempt_placed tables.now state.old).changes) }
+    ensures state { Becomes result state.new (attempt_placed tables.now state.old) }
+    ensures begun { TellsBegun result (attempt_placed tables.now state.old) }
 {
     let begun = attempt_top(alloc, tables, state)?;
     close(state);
@@ -122,8 +123,8 @@ fn told_by(probe: &Option<Probe>) -> u32
 
 /// Behind an instruction: a method that began has passed its entry probe.
 fn enter(tables: &Tables, state: &State, begun: bool) -> Advance
-    ensures told { (changes : List Change) → begun ≡ has_begun changes → result.told ≡ (entered tables.now (record { after = state.now; changes = changes })).told }
-    ensures probe { (changes : List Change) → begun ≡ has_begun changes → result.probe ≡ (entered tables.now (record { after = state.now; changes = changes })).probe }
+    ensures told { EachWith begun (λ c. result.told ≡ (move_with tables.now state.now c).told) }
+    ensures probe { EachWith begun (λ c. result.probe ≡ (move_with tables.now state.now c).probe) }
 {
     let probe = if begun {
         entry_here(tables, state)
@@ -138,8 +139,8 @@ fn enter(tables: &Tables, state: &State, begun: bool) -> Advance
 fn make_start(alloc: Global, tables: &Tables, state: &mut State) -> Result<Advance, NoMemory>
     requires { state.old ≡ before (world_in tables.now) }
     ensures moved { OnOk result (state.new ≡ (begun_move tables.now false state.old).state) }
-    ensures told { IfOk result (λ advance. advance.told ≡ (begun_move tables.now false state.old).told) }
-    ensures probe { IfOk result (λ advance. advance.probe ≡ (begun_move tables.now false state.old).probe) }
+    ensures told { IfOk result (λ a. a.told ≡ (begun_move tables.now false state.old).told) }
+    ensures probe { IfOk result (λ a. a.probe ≡ (begun_move tables.now false state.old).probe) }
 {
     let begun = begin(alloc, tables, state)?;
     Ok(enter(tables, state, begun))
@@ -148,8 +149,8 @@ fn make_start(alloc: Global, tables: &Tables, state: &mut State) -> Result<Advan
 /// A step, up to the event that it tells first.
 fn make_step(alloc: Global, tables: &Tables, state: &mut State) -> Result<Advance, NoMemory>
     ensures moved { OnOk result (state.new ≡ (stepped tables.now state.old).state) }
-    ensures told { IfOk result (λ advance. advance.told ≡ (stepped tables.now state.old).told) }
-    ensures probe { IfOk result (λ advance. advance.probe ≡ (stepped tables.now state.old).probe) }
+    ensures told { IfOk result (λ a. a.told ≡ (stepped tables.now state.old).told) }
+    ensures probe { IfOk result (λ a. a.probe ≡ (stepped tables.now state.old).probe) }
 {
     let Some(probe) = leave_here(tables, state) else {
         let begun = attempt_one(alloc, tables, state)?;
@@ -171,8 +172,8 @@ fn begin_step(
 ) -> Result<Advance, NoMemory>
     requires { started ≡ false → state.old ≡ before (world_in tables.now) }
     ensures moved { OnOk result (state.new ≡ (begun_move tables.now started state.old).state) }
-    ensures told { IfOk result (λ advance. advance.told ≡ (begun_move tables.now started state.old).told) }
-    ensures probe { IfOk result (λ advance. advance.probe ≡ (begun_move tables.now started state.old).probe) }
+    ensures told { IfOk result (λ a. a.told ≡ (begun_move tables.now started state.old).told) }
+    ensures probe { IfOk result (λ a. a.probe ≡ (begun_move tables.now started state.old).probe) }
 {
     if started {
         make_step(alloc, tables, state)
@@ -201,8 +202,8 @@ pub fn move_on(
 ) -> Result<Advance, NoMemory>
     requires { started ≡ false → state.old ≡ before (world_in tables.now) }
     ensures moved { OnOk result (state.new ≡ (moved_on tables.now started told state.old).state) }
-    ensures told { IfOk result (λ advance. advance.told ≡ (moved_on tables.now started told state.old).told) }
-    ensures probe { IfOk result (λ advance. advance.probe ≡ (moved_on tables.now started told state.old).probe) }
+    ensures told { IfOk result (λ a. a.told ≡ (moved_on tables.now started told state.old).told) }
+    ensures probe { IfOk result (λ a. a.probe ≡ probe_on tables.now started told state.old) }
 {
     if told == 0 {
         return begin_step(alloc, tables, state, started);

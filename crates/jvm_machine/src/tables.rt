@@ -9,6 +9,7 @@ ghost use Rattle.jvm_model.specs.SmallClass.{IsSmallClass};
 ghost use Rattle.jvm_model.specs.StandsFor.{probe_at, version_line};
 ghost use Rattle.jvm_model.specs.Methods.{method_params};
 ghost use Rattle.jvm_model.specs.Installed.{all_originals, world_in, line_in};
+ghost use Rattle.jvm_machine.specs.Prepared.{with_versions};
 ghost use Rattle.jvm_machine.specs.Probes.{placed_probe_at};
 ghost use Rattle.jvm_machine.specs.TableEntries.{FitsTables, FitsVersions};
 
@@ -76,15 +77,14 @@ pub struct Tables {
 }
 
 impl Model for Tables {
-    ghost use Rattle.std.specs.Prelude.{unwrap_or};
     ghost use Rattle.jvm_model.specs.Installed.{Installed};
-    ghost use Rattle.jvm_machine.specs.Prepared.{ArePrepared, AreVersions};
+    ghost use Rattle.jvm_machine.specs.Prepared.{AreReady, installed_by};
 
     ghost Value = { Installed };
 
-    ghost view = { λ t. record { class = t.class; main = t.main; input = t.input; marks = t.marks; image = unwrap_or t.image t.class; homes = t.homes } };
+    ghost view = { λ t. installed_by t.class t.main t.input t.marks t.image t.homes };
 
-    ghost invariant = { λ t. ArePrepared t.class t.methods × AreVersions (unwrap_or t.image t.class) t.homes t.versions };
+    ghost invariant = { λ t. AreReady t.class t.image t.homes t.methods t.versions };
 }
 
 impl Tables {
@@ -124,7 +124,7 @@ impl Tables {
         homes: &[Option<Homes>],
     ) -> Result<(), NoMemory>
         requires { FitsVersions image homes.now }
-        ensures ok { OnOk result (self.new ≡ record self.old { marks = marks.now; image = image; homes = homes.now }) }
+        ensures ok { OnOk result (self.new ≡ with_versions marks.now image homes.now self.old) }
         ensures err { OnErr result (self.new ≡ self.old) }
     {
         let marks = Seq::from_slice(alloc, marks)?;

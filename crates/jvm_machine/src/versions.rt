@@ -160,7 +160,7 @@ pub fn prepare_versions(
     homes: &[Option<Homes>],
 ) -> Result<Seq<PreparedVersion>, NoMemory>
     requires { FitsVersions image.now homes.now }
-    ensures { IfOk result (λ versions. versions ≡ versions_of image.now homes.now image.now.methods) }
+    ensures { IfOk result (λ all. all ≡ versions_of image.now homes.now image.now.methods) }
 {
     let mut versions = Seq::with_capacity(alloc, homes.len())?;
     for (i, member) in image.methods.as_slice().iter().enumerate() {

@@ -17,7 +17,7 @@ use Rattle.code_model.specs.declared.laying.Group.{Group}
 use Rattle.code_model.specs.declared.laying.Homes.{Homes}
 use Rattle.code_model.specs.Groups.{instrs_of}
 use Rattle.code_model.specs.Instructions.{instruction_at, end_of, Reads, IsReading}
-use Rattle.code_model.specs.Layout.{u2, width_of, place_of, home_in, home_of, homes_of, groups_bytes, end_from}
+use Rattle.code_model.specs.Layout.{u2, width_of, place_of, home_in, home_of, homes_of, groups_bytes, end_from, home_by}
 use Rattle.code_model.proofs.Layouts.{Stands, groups_stand}
 use Rattle.code_model.proofs.Readings.{IsReading-unique}
 use Rattle.jvm_model.specs.declared.event.EventKind.TheVariants as kind
@@ -32,7 +32,7 @@ use Rattle.jvm_model.specs.Lines.{operation_of, ends, next_of, targets_of, instr
 use Rattle.jvm_model.specs.Resolved.{resolved_in, line_of}
 use Rattle.jvm_model.specs.Methods.{method_code}
 use Rattle.jvm_model.specs.SmallClass.{is_free_name}
-use Rattle.jvm_model.specs.StandsFor.{IsBuilt, ProbeCall, homes_at, home_by, home_at, probe_in, probe_at, code_line, line_at, placed_line, version_line, mark_at, invoked_probe}
+use Rattle.jvm_model.specs.StandsFor.{IsBuilt, ProbeCall, homes_at, home_at, probe_in, probe_at, code_line, line_at, placed_line, version_line, mark_at, invoked_probe}
 use Rattle.jvm_model.specs.Versions.{is_return_opcode, group_of, groups_of, probe_bytes, entry_probe, entry_index, leave_probe, unwind_code, laid_version}
 use Rattle.jvm_model.proofs.ImageMethods.{LooksAlike, operation_of-kept, resolved_in-kept}
 use Rattle.jvm_model.proofs.ImagePools.{named_class-more, root-named, enter-named, leave-named}

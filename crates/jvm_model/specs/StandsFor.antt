@@ -12,7 +12,7 @@ use Rattle.code_model.specs.declared.instr.Arg.{Arg}
 use Rattle.code_model.specs.declared.instr.Arg.TheVariants.{Value, Pool}
 use Rattle.code_model.specs.declared.laying.Homes.{Homes}
 use Rattle.code_model.specs.Instructions.{instruction_at}
-use Rattle.code_model.specs.Layout.{home_of, origin_in}
+use Rattle.code_model.specs.Layout.{home_by, origin_in}
 use Rattle.jvm_model.specs.declared.event.EventKind.{EventKind}
 use Rattle.jvm_model.specs.declared.event.EventKind.TheVariants.{Root, Enter, Leave, Unwind}
 use Rattle.jvm_model.specs.declared.event.Mark.{Mark}
@@ -37,10 +37,6 @@ pub record IsBuilt (class : ClassFile) : Type 0 where
 -- where each method's original offsets stand: where it has no homes it is the original
 abbrev pub homes_at : List (Option Homes) → ℕ → Option Homes
 homes_at homes method = unwrap_or (slice_get homes method) None
-
-abbrev pub home_by : Option Homes → ℕ → ℕ
-home_by None at = at
-home_by (Some moved) at = home_of moved at
 
 abbrev pub home_at : List (Option Homes) → ℕ → ℕ → ℕ
 home_at homes method at = home_by (homes_at homes method) at

@@ -3,7 +3,8 @@
 #![tactic(auto)]
 
 ghost use Rattle.std.specs.Prelude.{◌≡◌, ◌↔◌, ◌<◌, IsTrue, false, Some, slice_get};
-ghost use Rattle.op_table.specs.Opcodes.{row_of, wide_row_of, HasNoFixedSize, NeverGoesOn, IsReturn};
+ghost use Rattle.op_table.specs.Opcodes.{row_of, wide_row_of};
+ghost use Rattle.op_table.specs.Opcodes.{HasNoFixedSize, NeverGoesOn, IsReturn};
 
 mod tables;
 #[cfg(test)]

@@ -1,16 +1,23 @@
 -- The text of the report: the ending, the steps, the swaps and the tree.
-use Rattle.std.specs.Prelude.{ℕ, zero, suc, ◌+◌, ◌-◌, Bool, List, [], ◌∷◌, ◌++◌, length, replicate, filter, sum_by, Option, Some, None, codes, unwrap_or, slice_get, if◌then◌else◌}
+use Rattle.std.specs.Prelude.{◌≡◌, ℕ, ℤ, zero, suc, ◌+◌, ◌-◌, Bool, List, [], ◌∷◌, ◌++◌, length, replicate, filter, sum_by, Option, Some, None, codes, unwrap_or, slice_get, Result, OnOk, if◌then◌else◌}
 use Rattle.std.specs.Option.{option_map_or}
 use Rattle.std.specs.List.{flat_map}
 use Rattle.std.specs.Fmt.{decimal, signed_decimal}
 use Rattle.const_pool.specs.declared.class.ClassFile.{ClassFile}
 use Rattle.const_pool.specs.References.{named_text, named_class}
 use Rattle.const_pool.specs.BuiltIn.{built_in_names}
-use Rattle.context_tree.specs.Profiles.{is_child, last_method, total_of}
+use Rattle.context_tree.specs.Profiles.{Profile, is_child, last_method, total_of}
 use Rattle.jvm_model.specs.Paths.{Context}
 use Rattle.jvm_model.specs.declared.ending.Ending.{Ending}
 use Rattle.jvm_model.specs.declared.ending.Ending.TheVariants.{Returned, Exited, Uncaught, Unverifiable}
+use Rattle.profile_report.specs.declared.facts.Facts.{Facts}
 use Rattle.profile_report.specs.Shown.{shown}
+
+-- ---- what is written
+
+-- the text is put behind what was there
+abbrev pub Adds : {A E : Type 0} → Result A E → List ℕ → List ℕ → List ℕ → Type 0
+Adds result old new text = OnOk result (new ≡ old ++ text)
 
 -- ---- names
 
@@ -28,13 +35,28 @@ method_text c method =
 
 -- ---- the ending
 
+-- System.exit with its code
+abbrev pub exit_text : ℤ → List ℕ
+exit_text code = codes "exit " ++ signed_decimal code
+
+-- a throwable of this class, which nothing caught
+abbrev pub uncaught_text : ClassFile → ℕ → List ℕ
+uncaught_text c class = codes "uncaught " ++ class_text c class
+
+-- a place in the code: the method and the offset
+abbrev pub place_text : ClassFile → ℕ → ℕ → List ℕ
+place_text c method offset = method_text c method ++ (codes " " ++ decimal offset)
+
+abbrev pub unverifiable_text : ClassFile → ℕ → ℕ → List ℕ
+unverifiable_text c method offset = codes "unverifiable " ++ place_text c method offset
+
 -- how the run ended, or that the budget was spent
 abbrev pub ending_text : ClassFile → Option Ending → List ℕ
 ending_text c None = codes "budget"
 ending_text c (Some Returned) = codes "returned"
-ending_text c (Some (Exited code)) = codes "exit " ++ signed_decimal code
-ending_text c (Some (Uncaught class)) = codes "uncaught " ++ class_text c class
-ending_text c (Some (Unverifiable method offset)) = codes "unverifiable " ++ (method_text c method ++ (codes " " ++ decimal offset))
+ending_text c (Some (Exited code)) = exit_text code
+ending_text c (Some (Uncaught class)) = uncaught_text c class
+ending_text c (Some (Unverifiable method offset)) = unverifiable_text c method offset
 
 -- ---- the tree, depth first
 
@@ -47,6 +69,10 @@ below contexts path = filter (is_child path) contexts
 abbrev pub listed : ℕ → List Context → List ℕ → List Context
 listed zero contexts path = []
 listed (suc levels) contexts path = flat_map (λ (c : Context). c ∷ listed levels contexts c.path) (below contexts path)
+
+-- three counts, each with a space behind it
+abbrev pub counts_text : ℕ → ℕ → ℕ → List ℕ
+counts_text calls own total = decimal calls ++ (codes " " ++ (decimal own ++ (codes " " ++ (decimal total ++ codes " "))))
 
 -- two spaces for each level below the outermost, then CALLS OWN TOTAL METHOD
 abbrev pub line_text : ClassFile → ℕ → ℕ → ℕ → ℕ → ℕ → List ℕ
@@ -72,3 +98,13 @@ abbrev pub report_text : ClassFile → Option Ending → ℕ → ℕ → Bool �
 report_text class ending steps swaps summary contexts =
     codes "ending " ++ (ending_text class ending ++ (codes "\nsteps " ++ (decimal steps ++ (codes "\nswaps " ++ (decimal swaps ++ (codes "\n"
     ++ (if summary then summary_text contexts else tree_text class contexts)))))))
+
+-- the lines of the ending, of the steps and of the swaps
+abbrev pub facts_text : ClassFile → Facts → List ℕ
+facts_text class facts =
+    codes "ending " ++ (ending_text class facts.ending ++ (codes "\nsteps " ++ (decimal facts.steps
+    ++ (codes "\nswaps " ++ (decimal facts.swaps ++ codes "\n")))))
+
+-- the report of a tree
+abbrev pub report_of : ClassFile → Facts → Profile → List ℕ
+report_of class facts tree = report_text class facts.ending facts.steps facts.swaps facts.summary tree.contexts

@@ -1,8 +1,8 @@
 //! How a run ended.
 
-ghost use Rattle.std.specs.Prelude.{◌≡◌, ◌++◌, codes, OnOk};
-ghost use Rattle.std.specs.Fmt.{decimal, signed_decimal};
-ghost use Rattle.profile_report.specs.Reports.{class_text, ending_text, method_text};
+ghost use Rattle.std.specs.Prelude.{◌≡◌, ◌++◌, OnOk};
+ghost use Rattle.profile_report.specs.Reports.{ending_text, exit_text, place_text, uncaught_text};
+ghost use Rattle.profile_report.specs.Reports.{Adds, unverifiable_text};
 
 use crate::names::{push_class, push_method};
 use crate::numbers::{push_int, push_number};
@@ -13,7 +13,7 @@ use std::alloc::Global;
 
 /// Adds the exit code of System.exit.
 fn push_exit(out: &mut Vec<u8>, code: i32) -> Result<(), NoMemory>
-    ensures { OnOk result (out.new.items ≡ out.old.items ++ (codes "exit " ++ signed_decimal code)) }
+    ensures { OnOk result (out.new.items ≡ out.old.items ++ exit_text code) }
 {
     out.extend_from_slice(b"exit ")?;
     push_int(out, code)
@@ -26,7 +26,7 @@ fn push_uncaught(
     class: &ClassFile,
     number: u32,
 ) -> Result<(), NoMemory>
-    ensures { OnOk result (out.new.items ≡ out.old.items ++ (codes "uncaught " ++ class_text class.now number)) }
+    ensures { OnOk result (out.new.items ≡ out.old.items ++ uncaught_text class.now number) }
 {
     out.extend_from_slice(b"uncaught ")?;
     push_class(alloc, out, class, number)
@@ -40,7 +40,7 @@ fn push_place(
     method: u32,
     offset: u16,
 ) -> Result<(), NoMemory>
-    ensures { OnOk result (out.new.items ≡ out.old.items ++ (method_text class.now method ++ (codes " " ++ decimal offset))) }
+    ensures { OnOk result (out.new.items ≡ out.old.items ++ place_text class.now method offset) }
 {
     push_method(alloc, out, class, method)?;
     out.push(b' ')?;
@@ -56,7 +56,7 @@ fn push_unverifiable(
     method: u32,
     offset: u16,
 ) -> Result<(), NoMemory>
-    ensures { OnOk result (out.new.items ≡ out.old.items ++ (codes "unverifiable " ++ (method_text class.now method ++ (codes " " ++ decimal offset)))) }
+    ensures { Adds result out.old.items out.new.items (unverifiable_text class.now method offset) }
 {
     out.extend_from_slice(b"unverifiable ")?;
     push_place(alloc, out, class, method, offset)

@@ -1,10 +1,9 @@
 //! The tree's lines, depth first.
 
-ghost use Rattle.std.specs.Prelude.{◌≡◌, ◌<◌, ◌-◌, ◌+◌, ◌++◌, codes, length, replicate, OnOk, IfSome};
-ghost use Rattle.std.specs.Fmt.{decimal};
+ghost use Rattle.std.specs.Prelude.{◌≡◌, ◌<◌, ◌+◌, ◌++◌, length, replicate, OnOk, IfSome};
 ghost use Rattle.context_tree.specs.Profiles.{totals_of};
-ghost use Rattle.profile_report.specs.Nodes.{lines_below, node_line};
-ghost use Rattle.profile_report.specs.Reports.{line_text, tree_text};
+ghost use Rattle.profile_report.specs.Nodes.{node_text, tree_line, tree_lines};
+ghost use Rattle.profile_report.specs.Reports.{Adds, counts_text, tree_text};
 
 use crate::names::push_method;
 use crate::numbers::push_number;
@@ -25,7 +24,7 @@ fn push_indent(out: &mut Vec<u8>, level: usize) -> Result<(), NoMemory>
 
 /// Adds three counts, each with a space behind it.
 fn push_counts(out: &mut Vec<u8>, calls: u64, own: u64, total: u64) -> Result<(), NoMemory>
-    ensures { OnOk result (out.new.items ≡ out.old.items ++ (decimal calls ++ (codes " " ++ (decimal own ++ (codes " " ++ (decimal total ++ codes " ")))))) }
+    ensures { OnOk result (out.new.items ≡ out.old.items ++ counts_text calls own total) }
 {
     push_number(out, calls)?;
     out.push(b' ')?;
@@ -45,7 +44,7 @@ fn push_line(
     node: Node,
     total: u64,
 ) -> Result<(), NoMemory>
-    ensures { OnOk result (out.new.items ≡ out.old.items ++ line_text class.now level node.calls node.own total node.method) }
+    ensures { OnOk result (out.new.items ≡ out.old.items ++ node_text class.now level node total) }
 {
     push_indent(out, level)?;
     push_counts(out, node.calls, node.own, total)?;
@@ -66,7 +65,7 @@ fn push_node(
 ) -> Result<(), NoMemory>
     requires within { number < length tree.now.contexts }
     requires totals { totals.now ≡ totals_of tree.now }
-    ensures { OnOk result (out.new.items ≡ out.old.items ++ node_line class.now tree.now.contexts level number) }
+    ensures { Adds result out.old.items out.new.items (tree_line class.now tree.now level number) }
 {
     let node = tree.nodes()[number];
     push_line(alloc, out, class, level, node, totals[number])
@@ -84,7 +83,7 @@ fn push_below(
 ) -> Result<(), NoMemory>
     requires within { IfSome node (λ i. i < length tree.now.contexts) }
     requires totals { totals.now ≡ totals_of tree.now }
-    ensures { OnOk result (out.new.items ≡ out.old.items ++ lines_below class.now tree.now.contexts (length tree.now.contexts - level) level node) }
+    ensures { Adds result out.old.items out.new.items (tree_lines class.now tree.now level node) }
 {
     // No path is longer than there are nodes, and so no node is deeper.
     let count = tree.nodes().len();

@@ -1,8 +1,7 @@
 //! The whole report.
 
-ghost use Rattle.std.specs.Prelude.{◌≡◌, ◌++◌, codes, IfOk, OnOk};
-ghost use Rattle.std.specs.Fmt.{decimal};
-ghost use Rattle.profile_report.specs.Reports.{ending_text, report_text};
+ghost use Rattle.std.specs.Prelude.{◌≡◌, ◌++◌, IfOk, OnOk};
+ghost use Rattle.profile_report.specs.Reports.{facts_text, report_of};
 
 use crate::ending::push_ending;
 use crate::facts::Facts;
@@ -21,7 +20,7 @@ fn push_facts(
     facts: &Facts,
     class: &ClassFile,
 ) -> Result<(), NoMemory>
-    ensures { OnOk result (out.new.items ≡ out.old.items ++ (codes "ending " ++ (ending_text class.now facts.now.ending ++ (codes "\nsteps " ++ (decimal facts.now.steps ++ (codes "\nswaps " ++ (decimal facts.now.swaps ++ codes "\n"))))))) }
+    ensures { OnOk result (out.new.items ≡ out.old.items ++ facts_text class.now facts.now) }
 {
     out.extend_from_slice(b"ending ")?;
     push_ending(alloc, out, class, facts.ending)?;
@@ -42,7 +41,7 @@ pub fn report(
     tree: &Tree,
     class: &ClassFile,
 ) -> Result<Vec<u8>, NoMemory>
-    ensures { IfOk result (λ text. text.items ≡ report_text class.now facts.now.ending facts.now.steps facts.now.swaps facts.now.summary tree.now.contexts) }
+    ensures { IfOk result (λ text. text.items ≡ report_of class.now facts.now tree.now) }
 {
     let mut out = Vec::new(alloc);
     push_facts(alloc, &mut out, facts, class)?;

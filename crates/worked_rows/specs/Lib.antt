@@ -1,5 +1,6 @@
 pub mod Answers
 pub mod Calls
+pub mod Fetched
 pub mod Lists
 pub mod Rows
 pub mod Verdicts

@@ -1,6 +1,7 @@
 //! What must come of a row.
 
-ghost use Rattle.std.specs.Prelude.{◌≡◌, IfOk, IfSome};
+ghost use Rattle.std.specs.Prelude.{◌≡◌};
+ghost use Rattle.worked_rows.specs.Fetched.{Found};
 ghost use Rattle.worked_rows.specs.Rows.{HasExpected, HasReport};
 
 use crate::parts::{RowError, fetch_part};
@@ -31,7 +32,7 @@ fn read_report<F: Files>(
     row: &str,
     files: &mut F,
 ) -> Result<ExpectedReport, RowError>
-    ensures found { IfOk result (λ report. IfSome (F.contents files.old) (λ told. HasReport told row.now report)) }
+    ensures found { Found result (F.contents files.old) (λ r told. HasReport told row.now r) }
     ensures stay { F.contents files.new ≡ F.contents files.old }
 {
     match fetch_part(alloc, row, "report", files) {
@@ -50,7 +51,7 @@ pub fn read_expected<F: Files>(
     row: &str,
     files: &mut F,
 ) -> Result<Expected, RowError>
-    ensures found { IfOk result (λ expected. IfSome (F.contents files.old) (λ told. HasExpected told row.now expected)) }
+    ensures found { Found result (F.contents files.old) (λ e told. HasExpected told row.now e) }
     ensures stay { F.contents files.new ≡ F.contents files.old }
 {
     let status = fetch_part(alloc, row, "status", files)?;

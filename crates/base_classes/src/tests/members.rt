@@ -1,8 +1,8 @@
 //! The declarations of all built-in classes, a line for each, against a list that was made apart from this crate.
 
 use super::*;
+use code_model::{Arg, Instr, decode};
 use const_pool::{Attribute, ClassFile, CodeAttribute, Const, Member};
-use jf_bytes::{NoMemory, Text16, to_utf8};
 
 /// A class with its superclass and interfaces; then a line for each field and each method, with what it has for a body, the
 /// flags 1 public, 2 private, 4 protected and 8 static, the name and the descriptor. Behind a method with code come its
@@ -412,167 +412,126 @@ fn members() -> &'static str {
     MEMBERS
 }
 
-/// The text, or a hyphen where there is none.
-fn put_text(alloc: Global, out: &mut Vec<u8>, text: Option<&Text16>) -> Result<(), NoMemory> {
+/// Puts a word. One that there is no memory for is missed in the list.
+fn put(out: &mut Vec<u16>, word: &str) {
+    for byte in word.as_bytes() {
+        let _ = out.push(u16::from(*byte));
+    }
+}
+
+/// A text, or a hyphen where there is none.
+fn put_text(out: &mut Vec<u16>, text: Option<&Text16>) {
     match text {
-        Some(text) => out.extend_from_slice(&to_utf8(alloc, text)?)?,
-        None => out.push(b'-')?,
-    }
-    Ok(())
-}
-
-fn class_word(access: u16) -> &'static str {
-    if access & 0x0200 != 0 {
-        "interface "
-    } else if access & 0x0400 != 0 {
-        "abstract "
-    } else {
-        "class "
-    }
-}
-
-fn put_class(alloc: Global, out: &mut Vec<u8>, class: &ClassFile) -> Result<(), NoMemory> {
-    out.extend_from_slice(class_word(class.access).as_bytes())?;
-    put_text(alloc, out, class.pool.class_name(class.this_class).ok())?;
-    out.push(b' ')?;
-    put_text(alloc, out, class.pool.class_name(class.super_class).ok())?;
-    out.push(b' ')?;
-    for i in 0..class.interfaces.len() {
-        if i > 0 {
-            out.push(b' ')?;
+        Some(text) => {
+            let _ = out.extend_from_slice(text.units());
         }
-        let index = class.interfaces.at(i).unwrap_or(0);
-        put_text(alloc, out, class.pool.class_name(index).ok())?;
-    }
-    out.push(b'\n')?;
-    Ok(())
-}
-
-fn method_word(method: &Member) -> &'static str {
-    if method.access & 0x0100 != 0 {
-        "  native 000"
-    } else if method.access & 0x0400 != 0 {
-        "  abstract 000"
-    } else {
-        "  code 000"
+        None => put(out, "-"),
     }
 }
 
-fn put_member(
-    alloc: Global,
-    out: &mut Vec<u8>,
-    class: &ClassFile,
-    member: &Member,
-    word: &str,
-) -> Result<(), NoMemory> {
-    out.extend_from_slice(word.as_bytes())?;
-    out.push(b'0' + (member.access & 0x000F) as u8)?;
-    out.push(b' ')?;
-    put_text(alloc, out, class.pool.text(member.name).ok())?;
-    out.push(b' ')?;
-    put_text(alloc, out, class.pool.text(member.descriptor).ok())?;
-    out.push(b'\n')?;
-    Ok(())
+fn put_number(alloc: Global, out: &mut Vec<u16>, number: u16) {
+    if let Ok(digits) = number.to_string(alloc) {
+        put(out, &digits);
+    }
+}
+
+/// A class's or a member's word, by all of its flags. A member's has the lowest four bits behind it.
+fn word_of(access: u16, is_field: bool) -> &'static str {
+    match (access, is_field) {
+        (0x0021 | 0x0031, _) => "class ",
+        (0x0421, _) => "abstract ",
+        (0x0601, _) => "interface ",
+        (0x0002, true) => "  field 0002 ",
+        (0x0009, true) => "  field 0009 ",
+        (0x0001, false) => "  code 0001 ",
+        (0x0009, false) => "  code 0009 ",
+        (0x0101, false) => "  native 0001 ",
+        (0x0104, false) => "  native 0004 ",
+        (0x0109, false) => "  native 0009 ",
+        (0x0401, false) => "  abstract 0001 ",
+        _ => "other flags ",
+    }
 }
 
 /// The string or the member at the index.
-fn put_named(
-    alloc: Global,
-    out: &mut Vec<u8>,
-    class: &ClassFile,
-    index: u16,
-) -> Result<(), NoMemory> {
+fn put_named(out: &mut Vec<u16>, class: &ClassFile, index: u16) {
     if let Some(Const::Text(text)) = class.pool.get(index) {
-        return put_text(alloc, out, class.pool.text(*text).ok());
+        return put_text(out, class.pool.text(*text).ok());
     }
     if let Ok(member) = class.pool.member(index) {
-        put_text(alloc, out, Some(member.class))?;
-        out.push(b'.')?;
-        put_text(alloc, out, Some(member.name))?;
-        put_text(alloc, out, Some(member.descriptor))?;
+        put_text(out, Some(member.class));
+        put(out, ".");
+        put_text(out, Some(member.name));
+        put_text(out, Some(member.descriptor));
     }
-    Ok(())
 }
 
-/// A line with these numbers, and what stands at the index where one is given.
-fn put_numbers(
-    alloc: Global,
-    out: &mut Vec<u8>,
-    first: u16,
-    second: Option<u16>,
-) -> Result<(), NoMemory> {
-    out.extend_from_slice(b"    ")?;
-    out.extend_from_slice(first.to_string(alloc)?.as_bytes())?;
-    if let Some(second) = second {
-        out.push(b' ')?;
-        out.extend_from_slice(second.to_string(alloc)?.as_bytes())?;
+fn put_instruction(alloc: Global, out: &mut Vec<u16>, class: &ClassFile, instr: &Instr) {
+    put(out, "    ");
+    put_number(alloc, out, u16::from(instr.op));
+    match &instr.arg {
+        Arg::Plain => {}
+        Arg::Target(target) => {
+            put(out, " ");
+            put_number(alloc, out, target.saturating_sub(instr.at));
+        }
+        Arg::Pool(index) => {
+            put(out, " ");
+            put_named(out, class, *index);
+        }
+        _ => put(out, " another operand"),
     }
-    Ok(())
+    put(out, "\n");
 }
 
-/// The opcode at the offset with its operand, and how many bytes it has behind it.
-fn put_instruction(
-    alloc: Global,
-    out: &mut Vec<u8>,
-    class: &ClassFile,
-    code: &[u8],
-    at: usize,
-) -> Result<usize, NoMemory> {
-    let byte = |i: usize| code.get(at.saturating_add(i)).copied().unwrap_or(0);
-    let op = byte(0);
-    let short = u16::from_be_bytes([byte(1), byte(2)]);
-    let jump = if op == 199 { Some(short) } else { None };
-    put_numbers(alloc, out, u16::from(op), jump)?;
-    let operand = match op {
-        18 => 1,
-        178 | 182 | 184 | 199 => 2,
-        _ => 0,
-    };
-    if operand > 0 && op != 199 {
-        out.push(b' ')?;
-        put_named(
-            alloc,
-            out,
-            class,
-            if op == 18 { u16::from(byte(1)) } else { short },
-        )?;
-    }
-    out.push(b'\n')?;
-    Ok(operand)
-}
-
-fn put_code(
-    alloc: Global,
-    out: &mut Vec<u8>,
-    class: &ClassFile,
-    code: &CodeAttribute,
-) -> Result<(), NoMemory> {
-    put_numbers(alloc, out, code.max_stack, Some(code.max_locals))?;
-    out.push(b'\n')?;
+/// The limits of a code, and the instructions that its bytes are, one behind the other.
+fn put_code(alloc: Global, out: &mut Vec<u16>, class: &ClassFile, code: &CodeAttribute) {
+    put(out, "    ");
+    put_number(alloc, out, code.max_stack);
+    put(out, " ");
+    put_number(alloc, out, code.max_locals);
+    put(out, "\n");
     let bytes = code.code.as_slice();
-    let mut skip = 0;
-    for at in 0..bytes.len() {
-        if skip > 0 {
-            skip -= 1;
-        } else {
-            skip = put_instruction(alloc, out, class, bytes, at)?;
+    if bytes.is_empty() || bytes.len() > 65535 {
+        return;
+    }
+    if let Ok(decoded) = decode(alloc, bytes) {
+        for instr in decoded.instrs.as_slice() {
+            put_instruction(alloc, out, class, instr);
         }
     }
-    Ok(())
 }
 
-fn put_declaration(alloc: Global, out: &mut Vec<u8>, class: &ClassFile) -> Result<(), NoMemory> {
-    put_class(alloc, out, class)?;
-    for field in class.fields.as_slice() {
-        put_member(alloc, out, class, field, "  field 000")?;
+fn put_class(out: &mut Vec<u16>, class: &ClassFile) {
+    put(out, word_of(class.access, false));
+    put_text(out, class.pool.class_name(class.this_class).ok());
+    put(out, " ");
+    put_text(out, class.pool.class_name(class.super_class).ok());
+    put(out, if class.interfaces.is_empty() { " " } else { "" });
+    for index in class.interfaces.as_slice() {
+        put(out, " ");
+        put_text(out, class.pool.class_name(*index).ok());
     }
-    for method in class.methods.as_slice() {
-        put_member(alloc, out, class, method, method_word(method))?;
-        if let Some(Attribute::Code(_, code)) = method.attributes.get(0) {
-            put_code(alloc, out, class, code)?;
+    put(out, "\n");
+}
+
+fn put_members(
+    alloc: Global,
+    out: &mut Vec<u16>,
+    class: &ClassFile,
+    members: &[Member],
+    are_fields: bool,
+) {
+    for member in members {
+        put(out, word_of(member.access, are_fields));
+        put_text(out, class.pool.text(member.name).ok());
+        put(out, " ");
+        put_text(out, class.pool.text(member.descriptor).ok());
+        put(out, "\n");
+        if let Some(Attribute::Code(_, code)) = member.attributes.get(0) {
+            put_code(alloc, out, class, code);
         }
     }
-    Ok(())
 }
 
 #[test]
@@ -580,8 +539,10 @@ fn each_member_is_the_lists(rt: HostRuntime) -> Result<(), Fail> {
     let alloc = rt.alloc();
     let mut out = Vec::new(alloc);
     for class in built_in(alloc)?.as_slice() {
-        put_declaration(alloc, &mut out, class)?;
+        put_class(&mut out, class);
+        put_members(alloc, &mut out, class, class.fields.as_slice(), true);
+        put_members(alloc, &mut out, class, class.methods.as_slice(), false);
     }
-    assert!(rt; out.as_slice() == members().as_bytes());
+    assert!(rt; Text16::new(out).is_bytes(members().as_bytes()));
     Ok(())
 }

@@ -2,112 +2,91 @@
 
 use super::*;
 
-/// A class, a name and a descriptor, and the number of the native method.
-static NATIVES: [(&str, &str, &str, Option<u16>); 17] = [
-    ("java/lang/Object", "<init>", "()V", Some(0)),
-    ("java/lang/Object", "clone", "()Ljava/lang/Object;", Some(5)),
+/// A class, a name and a descriptor; the place of the class, and the number of the native method.
+static ROWS: [(&str, &str, &str, Option<usize>, Option<u16>); 14] = [
+    ("java/lang/Object", "<init>", "()V", Some(0), Some(0)),
     (
-        "java/lang/Class",
-        "getName",
-        "()Ljava/lang/String;",
-        Some(6),
+        "java/lang/Object",
+        "clone",
+        "()Ljava/lang/Object;",
+        Some(0),
+        Some(5),
+    ),
+    ("java/lang/Object", "clone", "()V", Some(0), None),
+    (
+        "java/lang/Comparable",
+        "compareTo",
+        "(Ljava/lang/Object;)I",
+        Some(3),
+        None,
     ),
     (
         "java/lang/String",
         "valueOf",
         "([C)Ljava/lang/String;",
+        Some(7),
         Some(31),
-    ),
-    ("java/io/PrintStream", "println", "(I)V", Some(72)),
-    ("java/io/PrintStream", "println", "()V", Some(76)),
-    (
-        "java/lang/System",
-        "arraycopy",
-        "(Ljava/lang/Object;ILjava/lang/Object;II)V",
-        Some(79),
-    ),
-    (
-        "java/lang/Integer",
-        "toHexString",
-        "(I)Ljava/lang/String;",
-        Some(85),
-    ),
-    ("java/lang/Math", "min", "(JJ)J", Some(121)),
-    (
-        "java/lang/Enum",
-        "<init>",
-        "(Ljava/lang/String;I)V",
-        Some(122),
-    ),
-    (
-        "java/lang/AssertionError",
-        "<init>",
-        "(Ljava/lang/Object;)V",
-        Some(212),
-    ),
-    (
-        "java/lang/StackOverflowError",
-        "<init>",
-        "(Ljava/lang/Throwable;)V",
-        Some(264),
     ),
     (
         "java/lang/String",
         "valueOf",
         "(Ljava/lang/Object;)Ljava/lang/String;",
+        Some(7),
         None,
     ),
+    ("java/io/PrintStream", "println", "(I)V", Some(11), Some(72)),
+    ("java/io/PrintStream", "println", "()V", Some(11), Some(76)),
     (
-        "java/lang/Comparable",
-        "compareTo",
-        "(Ljava/lang/Object;)I",
-        None,
+        "java/lang/System",
+        "arraycopy",
+        "(Ljava/lang/Object;ILjava/lang/Object;II)V",
+        Some(12),
+        Some(79),
     ),
-    ("java/lang/Object", "clone", "()V", None),
-    ("java/lang/Strings", "length", "()I", None),
+    ("java/lang/Math", "min", "(JJ)J", Some(18), Some(121)),
     (
-        "java/lang/Exception",
+        "java/io/IOException",
         "getMessage",
         "()Ljava/lang/String;",
+        Some(26),
         None,
     ),
+    (
+        "java/lang/StackOverflowError",
+        "<init>",
+        "(Ljava/lang/Throwable;)V",
+        Some(52),
+        Some(264),
+    ),
+    ("java/lang/object", "<init>", "()V", None, None),
+    ("", "length", "()I", None, None),
 ];
 
-/// A name, and the place of the class.
-static PLACES: [(&str, Option<usize>); 6] = [
-    ("java/lang/Object", Some(0)),
-    ("java/io/Serializable", Some(2)),
-    ("java/io/IOException", Some(26)),
-    ("java/lang/StackOverflowError", Some(52)),
-    ("java/lang/object", None),
-    ("", None),
-];
+fn rows() -> &'static [(
+    &'static str,
+    &'static str,
+    &'static str,
+    Option<usize>,
+    Option<u16>,
+)] {
+    &ROWS
+}
 
-fn natives() -> &'static [(&'static str, &'static str, &'static str, Option<u16>)] {
-    &NATIVES
+/// The text, or an empty one where there is no memory.
+fn text(alloc: Global, ascii: &str) -> Text16 {
+    from_utf8(alloc, ascii).unwrap_or(Text16::new(Vec::new(alloc)))
 }
 
 #[test]
-fn numbers_of_native_methods(rt: HostRuntime) -> Result<(), Fail> {
+fn places_and_numbers(rt: HostRuntime) {
     let alloc = rt.alloc();
-    for (class, name, descriptor, number) in natives() {
-        let class = from_utf8(alloc, class)?;
-        let name = from_utf8(alloc, name)?;
-        let descriptor = from_utf8(alloc, descriptor)?;
-        assert!(rt; native_of(&class, &name, &descriptor) == *number);
-    }
-    Ok(())
-}
-
-#[test]
-fn places_of_classes(rt: HostRuntime) -> Result<(), Fail> {
-    let alloc = rt.alloc();
-    for (name, place) in &PLACES {
-        let name = from_utf8(alloc, name)?;
-        assert!(rt; position_of(&name) == *place);
-        assert!(rt; is_built_in(&name) == place.is_some());
+    for (class, name, descriptor, place, number) in rows() {
+        let class = text(alloc, class);
+        assert!(rt; position_of(&class) == *place);
+        assert!(rt; is_built_in(&class) == place.is_some());
+        let found = native_of(&class, &text(alloc, name), &text(alloc, descriptor));
+        assert!(rt; found == *number);
     }
     assert!(rt; built_in_name(11) == Some("java/io/PrintStream"));
     assert!(rt; built_in_name(53).is_none());
-    Ok(())
 }

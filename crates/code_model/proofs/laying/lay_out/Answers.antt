@@ -1,12 +1,14 @@
-use Rattle.std.proofs.Common.{◌≡◌, ℕ, ◌+◌, List, ◌++◌, Option, Some, length, sym, ap, subst, ◌∙◌, arith}
+use Rattle.std.proofs.Common.{rules, ◌≡◌, ℕ, ◌+◌, List, ◌++◌, Option, Some, None, length, sym, ap, subst, ◌∙◌, arith}
 use Rattle.std.specs.List.Sorted.{IsStrictlyIncreasing}
 use Rattle.code_model.specs.declared.laying.Homes.{Homes}
+use Rattle.code_model.specs.declared.laying.Laid.{Laid}
 use Rattle.code_model.specs.Layout.{home_of, homes_of, groups_bytes, first_far_from, first_far, laid_of}
 use Rattle.code_model.specs.declared.laying.Group.{Group}
-use Rattle.code_model.specs.Groups.{AreGroups}
+use Rattle.code_model.specs.Groups.{AreGroups, AreLaidIn}
 use Rattle.code_model.proofs.Ready.{groups_fit, groups_within, groups_end, groups_read}
 use Rattle.code_model.proofs.Layouts.{starts-increasing}
 use Rattle.code_model.proofs.Walks.{length-laid_of}
+use Rattle.code_model.proofs.LaidReads.{all_laid}
 use Rattle.code_model.proofs.laying.lay_out.Goals as goal
 
 pub end_of_groups-end-requires : goal.end_of_groups-end-requires
@@ -63,3 +65,26 @@ returns-clause-short c =
     let laid = ap length code ∙ length-laid_of front groups back in
     let end = c.end_of_groups-end.ensures in
     omega arith
+
+near_is : (front : List ℕ) (gs : List Group) (homes : Homes) → homes ≡ homes_of front gs → first_far_from (home_of homes) (length front) gs ≡ None → first_far front gs ≡ None
+near_is front gs homes is near = ap (λ (h : Homes). first_far_from (home_of h) (length front) gs) (sym is) ∙ near
+
+laid_is : (front back code : List ℕ) (gs : List Group) (homes : Homes) → code ≡ (laid_of front gs back).code → homes ≡ homes_of front gs → record { code = code; homes = homes } ≡ laid_of front gs back
+laid_is front back code gs homes same is =
+    let with_code : List ℕ → Laid = λ bytes. record { code = bytes; homes = homes } in
+    let with_homes : Homes → Laid = λ h. record { code = (laid_of front gs back).code; homes = h } in
+    ap with_code same ∙ ap with_homes is
+
+pub returns-clause-moved : goal.returns-clause-moved
+returns-clause-moved c =
+    let front = c.args.front.now in
+    let groups = c.args.groups.now in
+    let back = c.args.back.now in
+    let homes = c.in_ok-homes.homes in
+    let code : c.in_ok-code.code ≡ (laid_of front groups back).code =
+    c.in_ok-code.ensures ∙ ap (λ (h : Homes). front ++ (groups_bytes (home_of h) (length front) groups ++ back)) c.in_ok-homes.ensures in
+    let laid = length-laid_of front groups back in
+    let end = c.end_of_groups-end.ensures in
+    let none : c.first_far.result ≡ None = search rules in
+    let near = near_is front groups homes c.in_ok-homes.ensures (sym c.first_far.ensures ∙ none) in
+    subst (λ (l : Laid). AreLaidIn l groups) (sym (laid_is front back c.in_ok-code.code groups homes code c.in_ok-homes.ensures)) (all_laid front back groups c.requires.groups near (omega arith))

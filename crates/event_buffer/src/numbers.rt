@@ -1,0 +1,60 @@
+//! Numbers in unsigned LEB128, in a ring of bytes.
+
+ghost use Rattle.std.specs.Prelude.{◌≡◌, ◌+◌, ◌++◌, ◌∷◌, [], ◌<◌, ◌≤◌, ◌^◌, length, drop};
+ghost use Rattle.circular_buffer.specs.Buffer.{buffer};
+ghost use Rattle.event_buffer.specs.Records.{leb128};
+ghost use Rattle.event_buffer.specs.Reading.{number_in, behind_number};
+
+use circular_buffer::HeapCircularBuffer;
+
+/// Appends a byte that there is room for.
+pub(crate) fn put_byte(bytes: &mut HeapCircularBuffer<u8>, byte: u8)
+    requires room { length bytes.old.items < bytes.old.capacity }
+    ensures { bytes.new ≡ buffer (bytes.old.items ++ byte ∷ []) bytes.old.capacity }
+{
+    bytes.push_back(byte);
+}
+
+/// How many bytes a number has.
+pub(crate) fn length_of_number(number: u64) -> usize
+    ensures length { result ≡ length (leb128 number) }
+    ensures short { result ≤ 10 }
+    ensures narrow { number < 2 ^ 32 → result ≤ 5 }
+{
+    if number < 128 {
+        1
+    } else {
+        1 + length_of_number(number / 128)
+    }
+}
+
+/// Appends a number that there is room for.
+pub(crate) fn put_number(bytes: &mut HeapCircularBuffer<u8>, number: u64)
+    requires room { length bytes.old.items + length (leb128 number) ≤ bytes.old.capacity }
+    ensures { bytes.new ≡ buffer (bytes.old.items ++ leb128 number) bytes.old.capacity }
+{
+    if number < 128 {
+        put_byte(bytes, number as u8);
+    } else {
+        put_byte(bytes, (number % 128 + 128) as u8);
+        put_number(bytes, number / 128);
+    }
+}
+
+/// Takes the number at the front.
+pub(crate) fn take_number(bytes: &mut HeapCircularBuffer<u8>) -> u64
+    requires { number_in bytes.old.items < 2 ^ 64 }
+    ensures value { result ≡ number_in bytes.old.items }
+    ensures rest { bytes.new ≡ buffer (behind_number bytes.old.items) bytes.old.capacity }
+{
+    match bytes.pop_front() {
+        None => 0,
+        Some(byte) => {
+            if byte < 128 {
+                byte as u64
+            } else {
+                (byte - 128) as u64 + 128 * take_number(bytes)
+            }
+        }
+    }
+}

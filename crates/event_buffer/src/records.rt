@@ -1,0 +1,54 @@
+//! Records of events, in a ring of bytes.
+
+ghost use Rattle.std.specs.Prelude.{◌≡◌, ◌+◌, ◌-◌, ◌++◌, ◌≤◌, ◌<◌, ◌^◌, length};
+ghost use Rattle.circular_buffer.specs.Buffer.{buffer};
+ghost use Rattle.event_buffer.specs.Records.{leb128, kind_number, record_of};
+ghost use Rattle.event_buffer.specs.Reading.{kind_numbered};
+ghost use Rattle.event_buffer.specs.Spelled.{IsNext};
+
+use crate::numbers::{length_of_number, put_byte, put_number};
+use circular_buffer::HeapCircularBuffer;
+use jvm_model::{Event, EventKind};
+
+fn number_of_kind(kind: EventKind) -> u8
+    ensures { result ≡ kind_number kind }
+{
+    match kind {
+        EventKind::Root => 0,
+        EventKind::Enter => 1,
+        EventKind::Leave => 2,
+        EventKind::Unwind => 3,
+    }
+}
+
+pub(crate) fn kind_of_number(number: u8) -> EventKind
+    ensures { result ≡ kind_numbered number }
+{
+    match number {
+        0 => EventKind::Root,
+        1 => EventKind::Enter,
+        2 => EventKind::Leave,
+        _ => EventKind::Unwind,
+    }
+}
+
+/// How many bytes the record of an event has, behind one of the clock `before`.
+pub(crate) fn length_of_record(before: u64, event: Event) -> usize
+    requires later { before ≤ event.clock }
+    ensures length { result ≡ length (record_of before event) }
+    ensures short { result ≤ 16 }
+    ensures next { IsNext before event }
+{
+    1 + length_of_number(event.method as u64) + length_of_number(event.clock - before)
+}
+
+/// Appends the record of an event that there is room for, behind one of the clock `before`.
+pub(crate) fn put_record(bytes: &mut HeapCircularBuffer<u8>, before: u64, event: Event)
+    requires later { before ≤ event.clock }
+    requires room { length bytes.old.items + length (record_of before event) ≤ bytes.old.capacity }
+    ensures { bytes.new ≡ buffer (bytes.old.items ++ record_of before event) bytes.old.capacity }
+{
+    put_byte(bytes, number_of_kind(event.kind));
+    put_number(bytes, event.method as u64);
+    put_number(bytes, event.clock - before);
+}

@@ -1,0 +1,269 @@
+-- What a call answers, from what it left: all but the line follows from the run or the refusal.
+use Rattle.std.proofs.Common.{◌≡◌, ℕ, true, false, List, [], ◌∷◌, Option, Some, None, sym, ap, subst, ◌∙◌, inl, inr}
+use Rattle.std.specs.Prelude.{◌⊎◌, Ok, Err, IfSome, IsSome, IsSomeAnd}
+use Rattle.std.proofs.lemmas.Bool.{cases_eq}
+use Rattle.std.proofs.lemmas.Option.{same_Some, none-some}
+use Rattle.jf_bytes.specs.Streams.{Told, IsToldAs, PutsAll, PutsFront, Rose, contents_at}
+use Rattle.const_pool.specs.declared.class.ClassFile.{ClassFile}
+use Rattle.class_reader.specs.Files.{IsFile}
+use Rattle.jvm_model.specs.Programs.{world_of}
+use Rattle.jvm_model.specs.Run.{ending_of}
+use Rattle.jvm_model.specs.SmallClass.{main_of}
+use Rattle.jfluid_cli.specs.declared.kept.Kept.{Kept}
+use Rattle.jfluid_cli.specs.declared.refusal.Refusal.{Refusal}
+use Rattle.jfluid_cli.specs.declared.refusal.Refusal.TheVariants.{NoMemory}
+use Rattle.jfluid_cli.specs.Calls.{Call, given_of, IsRun, IsTrueOf, IsRefused, IsAnswered, PutsLine, AllCalm}
+use Rattle.jfluid_cli.specs.Causes.{Accepts, AreAccepted, IsAccepted, IsFine, IsUnfit, OfWords}
+use Rattle.jfluid_cli.specs.Sinks.{SinkView, IsUntold, PutsOrRose}
+use Rattle.jfluid_cli.specs.Stages.{IsCarried}
+use Rattle.jfluid_cli.specs.Origins.{HasOrigin, IsOnlyProgram}
+use Rattle.jfluid_cli.specs.Refusals.{status_of, IsRefusalStatus, refusal_line}
+use Rattle.jfluid_cli.specs.Roots.{IsChosen}
+use Rattle.jfluid_cli.specs.Runs.{ending_at}
+use Rattle.jfluid_cli.specs.Top.{IsCalm, IsProgram, is_run, is_status, file_word, reported_of, status_of_ending}
+use Rattle.jfluid_cli.specs.Words.{Command, budget_of}
+use Rattle.jfluid_cli.proofs.Carried.{memory-refused}
+use Rattle.jfluid_cli.proofs.Complete.{calm_not_rose, ends_as, ending_of_same, file_of}
+
+not_both : false ≡ true → ⊥
+not_both e = cc
+
+-- ---- what is kept was accepted
+
+same-command : (o : Option Command) (a b : Command) → o ≡ Some a → o ≡ Some b → a ≡ b
+same-command o a b e f = same_Some a b (sym e ∙ f)
+
+origin-accepts : (c : Call) (k : Kept) (o : HasOrigin c.told c.words k)
+    → Accepts (given_of c) o.command
+origin-accepts c k o = record { asked = o.commanded; fine = o.fine }
+
+-- the bytes that the files tell for the same command are the kept ones
+same-bytes : (told : Option Told) (a b : Command) (files : Told) (kept bytes : List ℕ) → a ≡ b
+    → told ≡ Some files → IsToldAs told a.file kept → contents_at files b.file ≡ Some bytes
+    → kept ≡ bytes
+same-bytes told a b files kept bytes same telling as_told contents =
+    let here : IsToldAs (Some files) b.file kept =
+    subst (λ (t : Option Told). IsToldAs t b.file kept) telling
+    (subst (λ (x : Command). IsToldAs told x.file kept) same as_told) in
+    same_Some kept bytes (sym here ∙ contents)
+
+kept-fit : (c : Call) (k : Kept) → HasOrigin c.told c.words k → IsUnfit (given_of c) → ⊥
+kept-fit c k o u =
+    let same : o.command ≡ u.command =
+    same-command (given_of c).asked o.command u.command o.commanded u.accepts.asked in
+    let bytes : o.bytes ≡ u.bytes =
+    same-bytes c.told o.command u.command u.files o.bytes u.bytes same u.telling o.told_as
+    u.told_as in
+    u.none k.vm.class k.vm.main o.root
+    (subst (λ (bs : List ℕ). IsProgram bs u.command.main k.vm.class k.vm.main) bytes
+    (subst (λ (x : Command). IsProgram o.bytes x.main k.vm.class k.vm.main) same o.program))
+    (subst (λ (x : Command). IsChosen x.options.root k.vm.class o.root) same o.chosen)
+
+kept-ends : (c : Call) (k : Kept) (class : ClassFile) (main budget : ℕ) → HasOrigin c.told c.words k
+    → IsOnlyProgram k → IsAccepted (given_of c) class main
+    → ending_at k.vm budget ≡ ending_of (world_of class main []) budget
+kept-ends c k class main budget o alone a =
+    let same : o.command ≡ a.command =
+    same-command (given_of c).asked o.command a.command o.commanded a.accepts.asked in
+    let bytes : o.bytes ≡ a.bytes =
+    same-bytes c.told o.command a.command a.files o.bytes a.bytes same a.telling o.told_as
+    a.told_as in
+    let both : alone.bytes ∷ [] ≡ a.bytes ∷ [] = sym alone.classes
+    ∙ (o.classes ∙ ap (λ (bs : List ℕ). bs ∷ []) bytes) in
+    let held : a.bytes ≡ alone.bytes = cc in
+    let class_is : class ≡ k.vm.class =
+    alone.only class (subst (λ (bs : List ℕ). IsFile bs class) held
+    (file_of a.bytes class a.program.file)) in
+    let found : main_of k.vm.class a.command.main ≡ Some main =
+    ap (λ (x : ClassFile). main_of x a.command.main) (sym class_is) ∙ a.program.main_is in
+    let kept : main_of k.vm.class a.command.main ≡ Some k.vm.main =
+    ap (λ (x : Command). main_of k.vm.class x.main) (sym same) ∙ o.program.main_is in
+    ending_of_same k.vm.class class k.vm.main main k.vm.input [] budget (sym class_is)
+    (same_Some k.vm.main main (sym kept ∙ found)) o.no_input
+
+-- something is kept
+held : (o : Option Kept) (P Q : Kept → Type 0) → IsSome o → IfSome o P → IfSome o Q → (k : Kept)
+    × P k × Q k
+held None P Q some p q = absurd (not_both some)
+held (Some k) P Q some p q = (k, p, q)
+
+held-and : (o : Option Kept) (P Q R : Kept → Type 0) → IsSomeAnd o R → IfSome o P → IfSome o Q
+    → (k : Kept) × P k × Q k × R k
+held-and None P Q R some p q = absurd some
+held-and (Some k) P Q R some p q = (k, p, q, some)
+
+-- ---- what is accepted
+
+-- no command is accepted where the words are none
+no-command : (c : Call) → (given_of c).asked ≡ None → AreAccepted (given_of c) → ⊥
+no-command c none accepted = none-some accepted.0 (sym none ∙ accepted.1.asked)
+
+-- nor where they are one that is not carried out
+not-fine : (c : Call) → OfWords (given_of c) (λ k. IsFine k → ⊥) → AreAccepted (given_of c) → ⊥
+not-fine c words accepted =
+    let same : accepted.0 ≡ words.0 =
+    same-command (given_of c).asked accepted.0 words.0 accepted.1.asked words.1 in
+    words.2 (subst IsFine same accepted.1.fine)
+
+-- ---- a run
+
+run-complete : (c : Call) (status : ℕ) (k : Kept) (class : ClassFile) (main : ℕ)
+    → HasOrigin c.told c.words k → IsOnlyProgram k
+    → IsRun (budget_of c.words) (reported_of c.words) c.streams status k
+    → IsAccepted (given_of c) class main → AllCalm c
+    → status ≡ status_of_ending (ending_of (world_of class main []) (budget_of c.words))
+run-complete c status k class main o alone ran a calm = elim (cases_eq status 8) [
+  | inl eight ↦ absurd (calm_not_rose c.streams.report.faults c.streams.report_after.faults
+      calm.report (ran.report.not_reported eight))
+  | inr other ↦ ran.report.ending other
+      ∙ ap status_of_ending
+      (ends_as k.vm (budget_of c.words) c.streams.out.taken c.streams.out_after.taken ran.output
+      ∙ kept-ends c k class main (budget_of c.words) o alone a)
+]
+
+pub answered-run : (c : Call) (status : ℕ) → IsCarried c (Ok status) → IsAnswered c status
+answered-run c status carried =
+    let k = held-and c.kept (HasOrigin c.told c.words) IsOnlyProgram
+    (IsRun (budget_of c.words) (reported_of c.words) c.streams status) carried.ran.made
+    carried.always.origin carried.always.only in
+    record {
+      always = carried.always;
+      known = k.3.report.known;
+      ran = λ _. carried.ran;
+      refused = λ not_run. absurd (not_both (sym not_run ∙ k.3.report.is_one));
+      words_only = λ none. absurd (no-command c none (k.1.command, origin-accepts c k.0 k.1));
+      plan_only = λ words. absurd (not-fine c words (k.1.command, origin-accepts c k.0 k.1));
+      file_only = λ unfit calm. absurd (kept-fit c k.0 k.1 unfit);
+      complete = λ class main a calm. inl (run-complete c status k.0 class main k.1 k.2 k.3 a calm);
+    }
+
+-- ---- a refusal
+
+no-run : (s : ℕ) → IsRefusalStatus s → is_run s ≡ true → ⊥
+no-run s (inl e) run = not_both (sym (ap is_run e) ∙ run)
+no-run s (inr (inl e)) run = not_both (sym (ap is_run e) ∙ run)
+no-run s (inr (inr (inl e))) run = not_both (sym (ap is_run e) ∙ run)
+no-run s (inr (inr (inr (inl e)))) run = not_both (sym (ap is_run e) ∙ run)
+no-run s (inr (inr (inr (inr e)))) run = not_both (sym (ap is_run e) ∙ run)
+
+one-status : (s : ℕ) → IsRefusalStatus s → is_status s ≡ true
+one-status s (inl e) = ap is_status e
+one-status s (inr (inl e)) = ap is_status e
+one-status s (inr (inr (inl e))) = ap is_status e
+one-status s (inr (inr (inr (inl e)))) = ap is_status e
+one-status s (inr (inr (inr (inr e)))) = ap is_status e
+
+-- whatever is not 2, 3, 6 or 7 is 9
+else-memory : (s : ℕ) → IsRefusalStatus s → (s ≡ 2 → ⊥) → (s ≡ 6 → ⊥) → (s ≡ 7 → ⊥) → (s ≡ 3)
+    ⊎ (s ≡ 9)
+else-memory s (inl e) two six seven = absurd (two e)
+else-memory s (inr (inl e)) two six seven = inl e
+else-memory s (inr (inr (inl e))) two six seven = absurd (six e)
+else-memory s (inr (inr (inr (inl e)))) two six seven = absurd (seven e)
+else-memory s (inr (inr (inr (inr e)))) two six seven = inr e
+
+-- it is 2 or 9 where no words are accepted
+none-accepted : (c : Call) (r : Refusal) → IsRefused c r → (AreAccepted (given_of c) → ⊥)
+    → (status_of r ≡ 2) ⊎ (status_of r ≡ 9)
+none-accepted c r refused none = elim refused.due.command [
+  | inl two ↦ inl two
+  | inr later ↦ elim later [
+    | inl nine ↦ inr nine
+    | inr accepted ↦ absurd (none accepted)
+  ]
+]
+
+file-only : (c : Call) (r : Refusal) → IsRefusalStatus (status_of r) → IsTrueOf c → IsRefused c r
+    → IsUnfit (given_of c) → IsCalm c.files.faults c.files_after.faults → (status_of r ≡ 3)
+    ⊎ (status_of r ≡ 9)
+file-only c r known always refused unfit calm =
+    else-memory (status_of r) known
+    (λ two. refused.due.words two unfit.command unfit.accepts)
+    (λ six. let k = held c.kept (HasOrigin c.told c.words) IsOnlyProgram
+    (refused.made six) always.origin always.only in kept-fit c k.0 k.1 unfit)
+    (λ seven. calm_not_rose c.files.faults c.files_after.faults calm (refused.not_fetched seven))
+
+refused-complete : (c : Call) (r : Refusal) (class : ClassFile) (main : ℕ)
+    → IsRefusalStatus (status_of r) → IsRefused c r → IsAccepted (given_of c) class main → AllCalm c
+    → status_of r ≡ 9
+refused-complete c r class main known refused a calm =
+    elim (else-memory (status_of r) known
+    (λ two. refused.due.words two a.command a.accepts)
+    (λ six. calm_not_rose c.streams.out.faults c.streams.out_after.faults calm.out
+    (refused.stopped six))
+    (λ seven. calm_not_rose c.files.faults c.files_after.faults calm.files
+    (refused.not_fetched seven))) [
+      | inl three ↦ absurd (refused.file three class main a)
+      | inr nine ↦ nine
+    ]
+
+answered-refusal : (c : Call) (r : Refusal) (status : ℕ) → status ≡ status_of r
+    → IsRefusalStatus status → IsTrueOf c → IsRefused c r → PutsLine c r → IsAnswered c status
+answered-refusal c r status is known always refused line =
+    let here : IsRefusalStatus (status_of r) = subst IsRefusalStatus is known in
+    record {
+      always = always;
+      known = one-status status known;
+      ran = λ run. absurd (no-run status known run);
+      refused = λ _. (r, is, refused, line);
+      words_only = λ none. subst (λ (s : ℕ). (s ≡ 2) ⊎ (s ≡ 9)) (sym is)
+          (none-accepted c r refused (no-command c none));
+      plan_only = λ words. subst (λ (s : ℕ). (s ≡ 2) ⊎ (s ≡ 9)) (sym is)
+          (none-accepted c r refused (not-fine c words));
+      file_only = λ unfit calm. subst (λ (s : ℕ). (s ≡ 3) ⊎ (s ≡ 9)) (sym is)
+          (file-only c r here always refused unfit calm);
+      complete = λ class main a calm. inr
+          (is ∙ refused-complete c r class main here refused a calm);
+    }
+
+-- the call once the line was put
+abbrev pub told-after : Call → SinkView → Call
+told-after c after = record c { streams = record c.streams { report_after = after } }
+
+put-line : (old mid new : SinkView) (told : Refusal) (word file : List ℕ) → IsUntold old mid
+    → word ≡ file → PutsOrRose mid new (refusal_line told word)
+    → PutsOrRose old new (refusal_line told file)
+put-line old mid new told word file untold is puts =
+    let here : PutsOrRose old new (refusal_line told word) = record {
+      front = subst (λ (o : Option (List ℕ)). PutsFront o new.taken (refusal_line told word))
+          untold.taken puts.front;
+      whole = elim puts.whole [
+        | inl all ↦ inl (subst
+            (λ (o : Option (List ℕ)). PutsAll o new.taken (refusal_line told word)) untold.taken
+            all)
+        | inr rose ↦ inr (subst (λ (n : ℕ). Rose n new.faults) untold.faults rose)
+      ];
+    } in
+    subst (λ (w : List ℕ). PutsOrRose old new (refusal_line told w)) is here
+
+pub answered-told : (c : Call) (after : SinkView) (r told : Refusal) (status : ℕ) (word : List ℕ)
+    → IsCarried c (Err r) → (told ≡ r) ⊎ (told ≡ NoMemory) → status ≡ status_of told
+    → IsRefusalStatus status → word ≡ file_word c.words
+    → PutsOrRose c.streams.report_after after (refusal_line told word)
+    → IsAnswered (told-after c after) status
+answered-told c after r told status word carried was is known named puts =
+    let d : Call = told-after c after in
+    let first : IsRefused d r = record {
+      due = carried.refused.due;
+      file = carried.refused.file;
+      refused = carried.refused.refused;
+      made = carried.refused.made;
+      stopped = carried.refused.stopped;
+      not_fetched = carried.refused.not_fetched;
+      name = carried.refused.name;
+      calm = carried.refused.calm;
+    } in
+    answered-refusal d told status is known
+    (record {
+      origin = carried.always.origin;
+      only = carried.always.only;
+      front = carried.always.front;
+      nothing = carried.always.nothing;
+    })
+    (elim was [
+      | inl same ↦ subst (IsRefused d) (sym same) first
+      | inr memory ↦
+          subst (IsRefused d) (sym memory) (memory-refused d)
+    ])
+    (put-line c.streams.report c.streams.report_after after told word
+    (file_word c.words) carried.untold named puts)

@@ -1,0 +1,40 @@
+-- What clauses see of a call's sinks and files, before and after.
+use Rattle.std.specs.Prelude.{◌≡◌, ℕ, ◌⊎◌, List, Option}
+use Rattle.jf_bytes.specs.Streams.{PutsAll, PutsFront, Rose}
+
+-- ---- a sink
+
+-- what was put to a sink, where it tells it, and its count of faults
+pub record SinkView : Type 0 where
+  pub taken : Option (List ℕ)
+  pub faults : ℕ
+
+abbrev pub sink_view : Option (List ℕ) → ℕ → SinkView
+sink_view bytes n = record { taken = bytes; faults = n }
+
+-- Nothing was put, and no put failed.
+pub record IsUntold (old new : SinkView) : Type 0 where
+  pub taken : new.taken ≡ old.taken
+  pub faults : new.faults ≡ old.faults
+
+-- These bytes were put, or a front of them where the count of faults rose.
+pub record PutsOrRose (old new : SinkView) (bytes : List ℕ) : Type 0 where
+  pub front : PutsFront old.taken new.taken bytes
+  pub whole : PutsAll old.taken new.taken bytes ⊎ Rose old.faults new.faults
+
+-- out and report, before and after
+pub record Streams : Type 0 where
+  pub out : SinkView
+  pub out_after : SinkView
+  pub report : SinkView
+  pub report_after : SinkView
+
+-- ---- the files
+
+-- the files' count of faults, and the name of the last fetch that failed
+pub record FilesView : Type 0 where
+  pub faults : ℕ
+  pub last_failed : List ℕ
+
+abbrev pub files_view : ℕ → List ℕ → FilesView
+files_view n name = record { faults = n; last_failed = name }

@@ -1,0 +1,19 @@
+-- What the operands of getstatic, invokevirtual and invokestatic name, with the names looked up in the class (5.4.3).
+use Rattle.std.specs.Prelude.{ℕ, List, Option}
+use Rattle.std.specs.Option.{option_and_then, option_map}
+use Rattle.const_pool.specs.declared.class.ClassFile.{ClassFile}
+use Rattle.const_pool.specs.declared.pool.Const.{Const}
+use Rattle.const_pool.specs.References.{named_field, named_method}
+use Rattle.jvm_model.specs.declared.operation.Resolved.{Resolved}
+use Rattle.jvm_model.specs.Data.{Invokestatic}
+use Rattle.jvm_model.specs.Lines.{getstatic_of, invokevirtual_of}
+use Rattle.jvm_model.specs.Resolved.{resolved_in}
+
+abbrev pub resolved_getstatic : ClassFile → List Const → ℕ → Option Resolved
+resolved_getstatic c pool index = option_and_then (resolved_in c) (option_and_then getstatic_of (named_field pool index))
+
+abbrev pub resolved_invokevirtual : ClassFile → List Const → ℕ → Option Resolved
+resolved_invokevirtual c pool index = option_and_then (resolved_in c) (option_and_then invokevirtual_of (named_method pool index))
+
+abbrev pub resolved_invokestatic : ClassFile → ℕ → Option Resolved
+resolved_invokestatic c index = option_and_then (resolved_in c) (option_map Invokestatic (named_method c.pool index))

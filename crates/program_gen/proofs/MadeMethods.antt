@@ -1,0 +1,187 @@
+-- The methods of a class, and the pool behind them.
+use Rattle.std.proofs.Common.{◌≡◌, ℕ, zero, suc, ◌+◌, ◌*◌, ◌<◌, ◌≤◌, ◌^◌, List, [], ◌∷◌, ◌++◌, length, Option, Some, None, slice_get, refl, ap, sym, ◌∙◌, subst, length-append, arith, lit<}
+use Rattle.std.specs.Prelude.{codes}
+use Rattle.std.specs.Option.{option_and_then, ok_or}
+use Rattle.std.specs.Result.{result_ok}
+use Rattle.std.specs.List.{AllByRecursion}
+use Rattle.const_pool.specs.declared.pool.Const.{Const}
+use Rattle.const_pool.specs.declared.pool.Const.TheVariants.{Utf8}
+use Rattle.const_pool.specs.declared.pool.PoolError.TheVariants.{BadIndex}
+use Rattle.const_pool.specs.declared.class.Member.{Member}
+use Rattle.const_pool.specs.declared.class.CodeAttribute.{CodeAttribute}
+use Rattle.const_pool.specs.declared.class.Attribute.{Attribute}
+use Rattle.const_pool.specs.declared.class.Attribute.TheVariants.{Code}
+use Rattle.const_pool.specs.Pool.{Names, is_utf8, entry_of}
+use Rattle.const_pool.specs.References.{named_text, text_entry, ◌>>=◌}
+use Rattle.const_pool.specs.ClassFile.{IsByte, IsCode, IsMember, IsMethodAttribute, code_bytes, code_name}
+use Rattle.program_gen.specs.declared.rows.MethodRow.{MethodRow}
+use Rattle.program_gen.specs.Names.{member_text, member_descriptor}
+use Rattle.program_gen.specs.Making.{shared, code_from, MethodMade, method_added, MethodsMade, methods_from}
+use Rattle.program_gen.specs.Fits.{FitsMethod}
+use Rattle.program_gen.proofs.Pools.{front, each-push, each-by, names-at, IsGood}
+use Rattle.program_gen.proofs.SharedNames.{Grows, then-grows, at-grown, text-added, member_text-fit, member_descriptor-fit, code-fit}
+use Rattle.program_gen.proofs.MadeCode.{grows-none, grows-wider, code-grows}
+
+-- the code of a method as it is made
+abbrev code_of : ℕ → ℕ → List ℕ → CodeAttribute
+code_of stack locals bytes = record { max_stack = stack; max_locals = locals; code = bytes; handlers = []; attributes = [] }
+
+-- a method whose indices name its texts, with one code
+pub record IsMade (pool : List Const) (m : Member) : Type 0 where
+  pub access_fits : m.access < 2 ^ 16
+  pub text : List ℕ
+  pub named : slice_get pool m.name ≡ Some (Utf8 text)
+  pub name_small : m.name < 2 ^ 16
+  pub form : List ℕ
+  pub described : slice_get pool m.descriptor ≡ Some (Utf8 form)
+  pub descriptor_small : m.descriptor < 2 ^ 16
+  pub attribute : ℕ
+  pub attribute_small : attribute < 2 ^ 16
+  pub attribute_at : slice_get pool attribute ≡ Some (Utf8 code_name)
+  pub stack : ℕ
+  pub locals : ℕ
+  pub bytes : List ℕ
+  pub is : m.attributes ≡ Code attribute (code_of stack locals bytes) ∷ []
+  pub stack_small : stack < 2 ^ 16
+  pub locals_small : locals < 2 ^ 16
+  pub each : AllByRecursion IsByte bytes
+  pub some : 0 < length bytes
+  pub few : length bytes ≤ 78
+
+made-more : (n a : ℕ) (p q : List Const) → Grows n a p q → (m : Member) → IsMade p m → IsMade q m
+made-more n a p q g m h = record {
+  access_fits = h.access_fits;
+  text = h.text;
+  named = at-grown n a p q m.name _ g h.named;
+  name_small = h.name_small;
+  form = h.form;
+  described = at-grown n a p q m.descriptor _ g h.described;
+  descriptor_small = h.descriptor_small;
+  attribute = h.attribute;
+  attribute_small = h.attribute_small;
+  attribute_at = at-grown n a p q h.attribute _ g h.attribute_at;
+  stack = h.stack;
+  locals = h.locals;
+  bytes = h.bytes;
+  is = h.is;
+  stack_small = h.stack_small;
+  locals_small = h.locals_small;
+  each = h.each;
+  some = h.some;
+  few = h.few;
+}
+
+-- ---- as a member of a class file
+
+length-code_bytes : (stack locals : ℕ) (bytes : List ℕ) → length (code_bytes (code_of stack locals bytes)) ≡ 12 + length bytes
+length-code_bytes stack locals bytes = let same = length-append bytes (0 ∷ 0 ∷ 0 ∷ 0 ∷ []) in omega (arith, same)
+
+is-code : (pool : List Const) (stack locals : ℕ) (bytes : List ℕ) → stack < 2 ^ 16 → locals < 2 ^ 16 → AllByRecursion IsByte bytes → 0 < length bytes → length bytes ≤ 78
+    → IsCode pool (code_of stack locals bytes)
+is-code pool stack locals bytes s l each some few =
+    let whole = length-code_bytes stack locals bytes in
+    record {
+      max_stack = s;
+      max_locals = l;
+      some = some;
+      short = omega (arith, few);
+      code = each;
+      handler_count = lit< tt;
+      handlers = tt;
+      attribute_count = lit< tt;
+      attributes = tt;
+      whole = omega (arith, whole, few);
+    }
+
+named-text : (pool : List Const) (i : ℕ) (t : List ℕ) → slice_get pool i ≡ Some (Utf8 t) → named_text pool i ≡ Some t
+named-text pool i t h = ap (λ (o : Option Const). result_ok (ok_or (option_and_then entry_of o) BadIndex >>= text_entry)) h
+
+pub is-member : (pool : List Const) (m : Member) → IsMade pool m → IsMember IsMethodAttribute pool m
+is-member pool m h = record {
+  access = h.access_fits;
+  name = h.name_small;
+  named = names-at is_utf8 pool m.name _ h.named refl;
+  descriptor = h.descriptor_small;
+  described = names-at is_utf8 pool m.descriptor _ h.described refl;
+  count = rw h.is (lit< tt);
+  attributes = rw h.is ((h.attribute_small, named-text pool h.attribute code_name h.attribute_at, is-code pool h.stack h.locals h.bytes h.stack_small h.locals_small h.each h.some h.few), tt);
+}
+
+-- ---- making it
+
+pub record MethodGrows (n : ℕ) (pool : List Const) (made : MethodMade) : Type 0 where
+  pub grows : Grows n 159 pool made.pool
+  pub is : IsMade made.pool made.member
+
+pub method-grows : (n : ℕ) (pool : List Const) (row : MethodRow) → IsGood n pool → n < 60000 → FitsMethod row → MethodGrows n pool (method_added pool row)
+unfolding method_added
+method-grows n pool row g h fits =
+    let few = fits.few in
+    let a = text-added n pool (member_text row.name) g (omega arith) (member_text-fit row.name) in
+    let name = shared pool (Utf8 (member_text row.name)) in
+    let b = text-added (n + 1) name.pool (member_descriptor row.name) a.grows.good (omega arith) (member_descriptor-fit row.name) in
+    let descriptor = shared name.pool (Utf8 (member_descriptor row.name)) in
+    let c = text-added ((n + 1) + 1) descriptor.pool (codes "Code") b.grows.good (omega arith) code-fit in
+    let attribute = shared descriptor.pool (Utf8 (codes "Code")) in
+    let d = code-grows row.code (((n + 1) + 1) + 1) attribute.pool [] c.grows.good (omega (arith, few)) tt fits.each in
+    let size = 6 * length row.code in
+    let made = code_from attribute.pool [] row.code in
+    let last_two = then-grows ((n + 1) + 1) 1 size _ _ _ c.grows d.grows in
+    let last_three = then-grows (n + 1) 1 (1 + size) _ _ _ b.grows last_two in
+    let all = then-grows n 1 (1 + (1 + size)) _ _ _ a.grows last_three in
+    let some = fits.some in
+    let longer = d.longer in
+    let shorter = d.shorter in
+    record {
+      grows = grows-wider n (1 + (1 + (1 + size))) 159 pool made.pool (omega (arith, few)) all;
+      is = record {
+        access_fits = fits.access_fits;
+        text = member_text row.name;
+        named = at-grown (n + 1) (1 + (1 + size)) _ _ name.index _ last_three a.at;
+        name_small = a.small;
+        form = member_descriptor row.name;
+        described = at-grown ((n + 1) + 1) (1 + size) _ _ descriptor.index _ last_two b.at;
+        descriptor_small = b.small;
+        attribute = attribute.index;
+        attribute_small = c.small;
+        attribute_at = at-grown (((n + 1) + 1) + 1) size _ _ attribute.index _ d.grows c.at;
+        stack = row.max_stack;
+        locals = row.max_locals;
+        bytes = made.bytes;
+        is = refl;
+        stack_small = fits.stack;
+        locals_small = fits.locals;
+        each = d.each;
+        some = omega (arith, some, longer);
+        few = omega (arith, few, shorter);
+      };
+    }
+
+pub record MethodsGrow (n added : ℕ) (pool : List Const) (made : MethodsMade) : Type 0 where
+  pub grows : Grows n added pool made.pool
+  pub each : AllByRecursion (IsMade made.pool) made.members
+
+pub methods-grow : (rows : List MethodRow) (n : ℕ) (pool : List Const) (done : List Member) → IsGood n pool → n + 159 * length rows < 60000
+    → AllByRecursion (IsMade pool) done → AllByRecursion FitsMethod rows → MethodsGrow n (159 * length rows) pool (methods_from pool done rows)
+unfolding methods_from
+methods-grow [] n pool done g h each fits = record { grows = grows-none n pool g; each = each }
+methods-grow (row ∷ rest) n pool done g h each fits =
+    let first = method-grows n pool row g (omega arith) fits.0 in
+    let made = method_added pool row in
+    let so_far = each-push (IsMade made.pool) done made.member (each-by (IsMade pool) (IsMade made.pool) (made-more n 159 pool made.pool first.grows) done each) first.is in
+    let later = methods-grow rest (n + 159) made.pool (done ++ made.member ∷ []) first.grows.good (omega arith) so_far fits.1 in
+    let all : 159 + 159 * length rest ≡ 159 * length (row ∷ rest) = omega arith in
+    record {
+      grows = subst (λ k. Grows n k pool (methods_from made.pool (done ++ made.member ∷ []) rest).pool) all (then-grows n 159 (159 * length rest) _ _ _ first.grows later.grows);
+      each = later.each;
+    }
+
+-- how many there are
+pub length-methods_from : (rows : List MethodRow) (pool : List Const) (done : List Member) → length (methods_from pool done rows).members ≡ length done + length rows
+unfolding methods_from
+length-methods_from [] pool done = omega arith
+length-methods_from (row ∷ rest) pool done =
+    let made = method_added pool row in
+    let later = length-methods_from rest made.pool (done ++ made.member ∷ []) in
+    let one = length-append done (made.member ∷ []) in
+    omega (arith, later, one)

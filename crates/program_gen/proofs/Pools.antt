@@ -1,0 +1,139 @@
+-- A pool of a gap and entries that take one index each.
+use Rattle.std.proofs.Common.{◌≡◌, ℕ, zero, suc, ◌+◌, ◌<◌, ◌≤◌, ◌^◌, Bool, true, false, List, [], ◌∷◌, ◌++◌, length, Option, Some, None, slice_get, refl, ap, sym, ◌∙◌, subst, arith}
+use Rattle.std.specs.Prelude.{IsTrue, ◌&&◌}
+use Rattle.std.specs.Option.{option_map_or, option_and_then, ok_or}
+use Rattle.std.specs.Result.{result_ok}
+use Rattle.std.specs.List.{AllByRecursion}
+use Rattle.const_pool.specs.declared.pool.Const.{Const}
+use Rattle.const_pool.specs.declared.pool.Const.TheVariants.{Gap, Utf8, Integer, Float, Long, Double, Class, Text, Field, Method, InterfaceMethod, NameType}
+use Rattle.const_pool.specs.Pool.{IsPool, IsEntry, AreEntries, Names, has_gaps, gaps_due, is_wide}
+
+pub front : {A : Type 0} (xs ys : List A) (k : ℕ) (x : A) → slice_get xs k ≡ Some x → slice_get (xs ++ ys) k ≡ Some x
+front [] ys k x h = absurd cc
+front (y ∷ xs) ys zero x h = h
+front (y ∷ xs) ys (suc k) x h = front xs ys k x h
+
+pub seam : {A : Type 0} (xs : List A) (x : A) → slice_get (xs ++ x ∷ []) (length xs) ≡ Some x
+seam [] x = refl
+seam (y ∷ xs) x = seam xs x
+
+pub each-push : {A : Type 0} (P : A → Type 0) (xs : List A) (x : A) → AllByRecursion P xs → P x → AllByRecursion P (xs ++ x ∷ [])
+each-push P [] x h p = (p, tt)
+each-push P (y ∷ xs) x h p = (h.0, each-push P xs x h.1 p)
+
+pub each-append : {A : Type 0} (P : A → Type 0) (xs ys : List A) → AllByRecursion P xs → AllByRecursion P ys → AllByRecursion P (xs ++ ys)
+each-append P [] ys h p = p
+each-append P (y ∷ xs) ys h p = (h.0, each-append P xs ys h.1 p)
+
+pub each-by : {A : Type 0} (P Q : A → Type 0) → ((x : A) → P x → Q x) → (xs : List A) → AllByRecursion P xs → AllByRecursion Q xs
+each-by P Q f [] h = tt
+each-by P Q f (x ∷ xs) h = (f x h.0, each-by P Q f xs h.1)
+
+-- ---- what an index names, in a longer pool
+
+pub names-at : (kind : Const → Bool) (pool : List Const) (i : ℕ) (c : Const) → slice_get pool i ≡ Some c → kind c ≡ true → Names kind pool i
+names-at kind pool i c h k = ap (λ (o : Option Const). option_map_or kind o false) h ∙ k
+
+names-more : (kind : Const → Bool) (pool more : List Const) (i : ℕ) → Names kind pool i → Names kind (pool ++ more) i
+names-more kind pool more i h = by (slice_get pool i) refl
+  where
+    by : (o : Option Const) → slice_get pool i ≡ o → Names kind (pool ++ more) i
+    by (Some c) e = ap (λ (o : Option Const). option_map_or kind o false) (front pool more i c e) ∙ sym (ap (λ (o : Option Const). option_map_or kind o false) e) ∙ h
+    by None e = let no = sym (ap (λ (o : Option Const). option_map_or kind o false) e) ∙ h in absurd cc
+
+entry-more : (pool more : List Const) (c : Const) → IsEntry pool c → IsEntry (pool ++ more) c
+entry-more pool more Gap h = h
+entry-more pool more (Utf8 t) h = h
+entry-more pool more (Integer n) h = h
+entry-more pool more (Float n) h = h
+entry-more pool more (Long n) h = h
+entry-more pool more (Double n) h = h
+entry-more pool more (Class i) h = (h.0, names-more _ pool more i h.1)
+entry-more pool more (Text i) h = (h.0, names-more _ pool more i h.1)
+entry-more pool more (Field c n) h = (h.0, h.1, names-more _ pool more c h.2, names-more _ pool more n h.3)
+entry-more pool more (Method c n) h = (h.0, h.1, names-more _ pool more c h.2, names-more _ pool more n h.3)
+entry-more pool more (InterfaceMethod c n) h = (h.0, h.1, names-more _ pool more c h.2, names-more _ pool more n h.3)
+entry-more pool more (NameType n d) h = (h.0, h.1, names-more _ pool more n h.2, names-more _ pool more d h.3)
+
+-- ---- the pools that are made here
+
+pub record IsNarrow (pool : List Const) (c : Const) : Type 0 where
+  pub entry : IsEntry pool c
+  pub narrow : is_wide c ≡ false
+
+pub record IsGood (n : ℕ) (pool : List Const) : Type 0 where
+  pub entries : List Const
+  pub is : pool ≡ Gap ∷ entries
+  pub each : AllByRecursion (IsNarrow pool) entries
+  pub count : length pool ≤ n
+
+narrow-more : (pool more : List Const) (c : Const) → IsNarrow pool c → IsNarrow (pool ++ more) c
+narrow-more pool more c h = record { entry = entry-more pool more c h.entry; narrow = h.narrow }
+
+pub good-push : (n : ℕ) (pool : List Const) (c : Const) → IsGood n pool → IsNarrow pool c → IsGood (suc n) (pool ++ c ∷ [])
+good-push n pool c g h =
+    let longer : length (pool ++ c ∷ []) ≤ suc n = push-count pool c n g.count in
+    record {
+      entries = g.entries ++ c ∷ [];
+      is = ap (λ (p : List Const). p ++ c ∷ []) g.is;
+      each = each-push (IsNarrow (pool ++ c ∷ [])) g.entries c
+          (each-by (IsNarrow pool) (IsNarrow (pool ++ c ∷ [])) (narrow-more pool (c ∷ [])) g.entries g.each)
+          (narrow-more pool (c ∷ []) c h);
+      count = longer;
+    }
+  where
+    push-count : (pool : List Const) (c : Const) (n : ℕ) → length pool ≤ n → length (pool ++ c ∷ []) ≤ suc n
+    push-count [] c n h = omega arith
+    push-count (x ∷ pool) c zero h = absurd (omega arith)
+    push-count (x ∷ pool) c (suc n) h = let rest = push-count pool c n (omega arith) in omega (arith, rest)
+
+pub good-wider : (n m : ℕ) (pool : List Const) → n ≤ m → IsGood n pool → IsGood m pool
+good-wider n m pool h g = record { entries = g.entries; is = g.is; each = g.each; count = let c = g.count in omega (arith, c) }
+
+-- ---- they are pools
+
+narrow-gaps : (pool xs : List Const) → AllByRecursion (IsNarrow pool) xs → gaps_due false xs ≡ true
+narrow-gaps pool [] h = refl
+narrow-gaps pool (Utf8 t ∷ xs) h = narrow-gaps pool xs h.1
+narrow-gaps pool (Integer n ∷ xs) h = narrow-gaps pool xs h.1
+narrow-gaps pool (Float n ∷ xs) h = narrow-gaps pool xs h.1
+narrow-gaps pool (Class i ∷ xs) h = narrow-gaps pool xs h.1
+narrow-gaps pool (Text i ∷ xs) h = narrow-gaps pool xs h.1
+narrow-gaps pool (Field c n ∷ xs) h = narrow-gaps pool xs h.1
+narrow-gaps pool (Method c n ∷ xs) h = narrow-gaps pool xs h.1
+narrow-gaps pool (InterfaceMethod c n ∷ xs) h = narrow-gaps pool xs h.1
+narrow-gaps pool (NameType n d ∷ xs) h = narrow-gaps pool xs h.1
+narrow-gaps pool (Long n ∷ xs) h = let no = h.0.narrow in absurd cc
+narrow-gaps pool (Double n ∷ xs) h = let no = h.0.narrow in absurd cc
+narrow-gaps pool (Gap ∷ xs) h = absurd h.0.entry
+
+narrow-entries : (pool xs : List Const) → AllByRecursion (IsNarrow pool) xs → AreEntries pool xs
+narrow-entries pool [] h = tt
+narrow-entries pool (Utf8 t ∷ xs) h = (h.0.entry, narrow-entries pool xs h.1)
+narrow-entries pool (Integer n ∷ xs) h = (h.0.entry, narrow-entries pool xs h.1)
+narrow-entries pool (Float n ∷ xs) h = (h.0.entry, narrow-entries pool xs h.1)
+narrow-entries pool (Class i ∷ xs) h = (h.0.entry, narrow-entries pool xs h.1)
+narrow-entries pool (Text i ∷ xs) h = (h.0.entry, narrow-entries pool xs h.1)
+narrow-entries pool (Field c n ∷ xs) h = (h.0.entry, narrow-entries pool xs h.1)
+narrow-entries pool (Method c n ∷ xs) h = (h.0.entry, narrow-entries pool xs h.1)
+narrow-entries pool (InterfaceMethod c n ∷ xs) h = (h.0.entry, narrow-entries pool xs h.1)
+narrow-entries pool (NameType n d ∷ xs) h = (h.0.entry, narrow-entries pool xs h.1)
+narrow-entries pool (Long n ∷ xs) h = let no = h.0.narrow in absurd cc
+narrow-entries pool (Double n ∷ xs) h = let no = h.0.narrow in absurd cc
+narrow-entries pool (Gap ∷ xs) h = absurd h.0.entry
+
+pub good-gaps : (n : ℕ) (pool : List Const) → IsGood n pool → has_gaps pool ≡ true
+good-gaps n pool g = ap has_gaps g.is ∙ narrow-gaps pool g.entries g.each
+
+pub good-pool : (n : ℕ) (pool : List Const) → n < 2 ^ 16 → IsGood n pool → IsPool pool
+good-pool n pool h g = record {
+  count = let c = g.count in omega (arith, c);
+  first = ap (λ (p : List Const). slice_get p 0) g.is;
+  entries = λ rest e. subst (AreEntries pool) (tail-is g.entries rest (sym g.is ∙ e)) (narrow-entries pool g.entries g.each);
+}
+  where
+    tail-is : (xs ys : List Const) → Gap ∷ xs ≡ Gap ∷ ys → xs ≡ ys
+    tail-is xs ys e = cc
+
+pub good-start : IsGood 1 (Gap ∷ [])
+good-start = record { entries = []; is = refl; each = tt; count = omega arith }

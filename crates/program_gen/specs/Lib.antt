@@ -1,0 +1,7 @@
+pub mod Draws
+pub mod Names
+pub mod Programs
+pub mod Chains
+pub mod Making
+pub mod Fits
+pub mod Generated

@@ -1,0 +1,56 @@
+//! The texts of names.
+
+ghost use Rattle.std.specs.Prelude.{◌≡◌, IfOk};
+ghost use Rattle.program_gen.specs.Names.{class_text, member_text, member_descriptor};
+
+use crate::rows::{ClassName, MemberName};
+use jf_bytes::{NoMemory, Text16};
+use std::alloc::Global;
+
+/// The text of an ASCII string, whose bytes are the units.
+pub(crate) fn text_of(alloc: Global, text: &str) -> Result<Text16, NoMemory>
+    ensures { IfOk result (λ units. units ≡ text.now) }
+{
+    let mut units = Vec::with_capacity(alloc, text.len())?;
+    for byte in text.as_bytes() {
+        units.push(u16::from(*byte))?;
+    }
+    Ok(Text16::new(units))
+}
+
+/// The name of a class, with slashes.
+pub(crate) fn class_text(alloc: Global, name: ClassName) -> Result<Text16, NoMemory>
+    ensures { IfOk result (λ text. text ≡ class_text name) }
+{
+    match name {
+        ClassName::Object => text_of(alloc, "java/lang/Object"),
+        ClassName::System => text_of(alloc, "java/lang/System"),
+        ClassName::PrintStream => text_of(alloc, "java/io/PrintStream"),
+        ClassName::Main => text_of(alloc, "GenMain"),
+        ClassName::Numbered(number) => text_of(alloc, &format!(in alloc; "Gen{number}")?),
+    }
+}
+
+pub(crate) fn member_text(name: MemberName) -> &'static str
+    ensures { result.now ≡ member_text name }
+{
+    match name {
+        MemberName::Initializer => "<init>",
+        MemberName::Entry => "main",
+        MemberName::Run => "run",
+        MemberName::Out => "out",
+        MemberName::Println => "println",
+    }
+}
+
+pub(crate) fn member_descriptor(name: MemberName) -> &'static str
+    ensures { result.now ≡ member_descriptor name }
+{
+    match name {
+        MemberName::Initializer => "()V",
+        MemberName::Entry => "([Ljava/lang/String;)V",
+        MemberName::Run => "(II)I",
+        MemberName::Out => "Ljava/io/PrintStream;",
+        MemberName::Println => "(I)V",
+    }
+}

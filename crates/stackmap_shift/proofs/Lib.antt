@@ -1,0 +1,6 @@
+mod Many
+mod Starts
+mod Rows
+mod Again
+pub mod Rising
+pub mod Laid
