@@ -61,10 +61,10 @@ abbrev pub acts_from : Program → ℕ → List Action → Result (List Act) Adm
 acts_from p at [] = Ok []
 acts_from p at (a ∷ rest) = act_with (act_of p a) at (acts_from p (at + 1) rest)
   where
-  act_with : Option Act → ℕ → Result (List Act) AdmitError → Result (List Act) AdmitError
-  act_with None n more = Err (NoSuchRoot n)
-  act_with (Some act) n (Ok acts) = Ok (act ∷ acts)
-  act_with (Some act) n (Err fault) = Err fault
+    act_with : Option Act → ℕ → Result (List Act) AdmitError → Result (List Act) AdmitError
+    act_with None n more = Err (NoSuchRoot n)
+    act_with (Some act) n (Ok acts) = Ok (act ∷ acts)
+    act_with (Some act) n (Err fault) = Err fault
 
 -- ---- the answer
 

@@ -3,6 +3,7 @@
 
 mod codes;
 mod error;
+mod floating;
 mod shapes;
 mod texts;
 mod uses;
