@@ -1,8 +1,10 @@
 -- What is admitted: a program's classes, or its first fault.
-use Rattle.std.specs.Prelude.{◌≡◌, ◌≢◌, ℕ, ◌+◌, Bool, true, false, List, [], ◌∷◌, ◌++◌, length, map, Option, Some, None, is_none, is_some, Result, Ok, Err, unwrap_or, nat_lt, ◌&&◌, ◌||◌, if◌then◌else◌}
+use Rattle.std.specs.Prelude.{◌≡◌, ◌≢◌, ℕ, ◌+◌, ◌<◌, ◌^◌, Bool, true, false, List, [], ◌∷◌, ◌++◌, length, map, Option, Some, None, is_none, is_some, Result, Ok, Err, unwrap_or, nat_lt, ◌&&◌, ◌||◌, if◌then◌else◌}
 use Rattle.std.specs.Option.{option_and_then, option_map, option_map_or, option_or}
+use Rattle.std.specs.List.{AllByRecursion}
 use Rattle.const_pool.specs.declared.class.ClassFile.{ClassFile}
-use Rattle.const_pool.specs.References.{Reference, NameAndType}
+use Rattle.const_pool.specs.ClassFile.{IsClassFile}
+use Rattle.const_pool.specs.References.{name_type_of}
 use Rattle.plan_text.specs.declared.plan.Action.{Action}
 use Rattle.plan_text.specs.declared.plan.Plan.{Plan}
 use Rattle.plan_text.specs.declared.plan.RootName.{RootName}
@@ -44,14 +46,26 @@ program_with classes built_in main acts plan = record {
 abbrev pub count_fault : Program → Option AdmitError
 count_fault p = fault_if (nat_lt 32768 (length p.methods)) (TooManyMethods (length p.methods))
 
--- the number of the public static `main` of the class of this name among the given ones
+-- ---- its main method
+
+-- the position of a class's public static `main`
+abbrev pub declared_main : ClassFile → Option ℕ
+declared_main c = option_and_then (public_static c) (method_named c main_member)
+
+-- the number of the one with Code in the class at this position
+abbrev pub main_of_class : Program → ℕ → Option ℕ
+main_of_class p class = option_and_then (λ c. option_and_then (number_of_method p class) (declared_main c)) (class_at p class)
+
+-- the number of the main method, in the class of this name, which is one of the given
 abbrev pub main_in : Program → ℕ → List ℕ → Option ℕ
 main_in p given name =
-    option_and_then (λ class. if nat_lt class given then option_and_then (λ c. option_and_then (number_of_method p class) (option_and_then (public_static c) (method_named c main_member))) (class_at p class) else None) (class_named p name)
+    option_and_then (λ class. if nat_lt class given then main_of_class p class else None) (class_named p name)
+
+-- ---- what the plan asks for
 
 -- the number of the method that a root names
 abbrev pub root_in : Program → RootName → Option ℕ
-root_in p r = option_and_then (declared_method p (record { name = r.name; descriptor = r.descriptor })) (class_named p r.class)
+root_in p r = option_and_then (declared_method p (name_type_of r.name r.descriptor)) (class_named p r.class)
 
 abbrev pub act_of : Program → Action → Option Act
 act_of p a = option_map (λ method. record { moment = a.moment; select = a.select; method = method }) (root_in p a.root)
@@ -65,6 +79,12 @@ acts_from p at (a ∷ rest) = act_with (act_of p a) at (acts_from p (at + 1) res
     act_with None n more = Err (NoSuchRoot n)
     act_with (Some act) n (Ok acts) = Ok (act ∷ acts)
     act_with (Some act) n (Err fault) = Err fault
+
+-- Its classes are class files, and they and its methods are few enough for their numbers.
+pub record HasNumbers (p : Program) : Type 0 where
+  pub formed : AllByRecursion IsClassFile p.classes
+  pub classes : length p.classes < 2 ^ 32
+  pub methods : length p.methods < 2 ^ 32
 
 -- ---- the answer
 

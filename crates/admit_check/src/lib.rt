@@ -4,6 +4,7 @@
 mod codes;
 mod error;
 mod floating;
+mod program;
 mod shapes;
 mod texts;
 mod uses;
