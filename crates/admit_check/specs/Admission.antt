@@ -1,26 +1,34 @@
 -- What is admitted: a program's classes, or its first fault.
-use Rattle.std.specs.Prelude.{◌≡◌, ◌≢◌, ℕ, ◌+◌, ◌<◌, ◌^◌, Bool, true, false, List, [], ◌∷◌, ◌++◌, length, map, Option, Some, None, is_none, is_some, Result, Ok, Err, unwrap_or, nat_lt, ◌&&◌, ◌||◌, if◌then◌else◌}
+use Rattle.std.specs.Prelude.{◌⊎◌, IsTrue, ◌≡◌, ◌≢◌, ℕ, ◌+◌, ◌<◌, ◌^◌, Bool, true, false, List, [], ◌∷◌, ◌++◌, length, map, Option, Some, None, is_none, is_some, filter_map, Result, Ok, Err, unwrap_or, nat_lt, ◌&&◌, ◌||◌, if◌then◌else◌}
 use Rattle.std.specs.Option.{option_and_then, option_map, option_map_or, option_or}
-use Rattle.std.specs.List.{AllByRecursion}
+use Rattle.std.specs.List.{AllByRecursion, list_any}
 use Rattle.const_pool.specs.declared.class.ClassFile.{ClassFile}
 use Rattle.const_pool.specs.ClassFile.{IsClassFile}
 use Rattle.const_pool.specs.References.{name_type_of}
+use Rattle.base_classes.specs.BuiltInClasses.{IsBare, built_in_classes}
+use Rattle.base_classes.specs.Shown.{declaration_of}
+use Rattle.base_classes.specs.Soundness.{IsSound, in_order}
 use Rattle.plan_text.specs.declared.plan.Action.{Action}
 use Rattle.plan_text.specs.declared.plan.Plan.{Plan}
 use Rattle.plan_text.specs.declared.plan.RootName.{RootName}
 use Rattle.jvm_model.specs.declared.event.Act.{Act}
 use Rattle.jvm_model.specs.declared.program.Program.{Program}
-use Rattle.jvm_model.specs.Methods.{method_code, method_named}
+use Rattle.jvm_model.specs.Descriptors.{same_text}
+use Rattle.jvm_model.specs.Methods.{method_named}
 use Rattle.jvm_model.specs.Programs.{class_at, class_named, declared_method, number_of_method, numbered}
 use Rattle.jvm_model.specs.SmallClass.{main_member, public_static}
 use Rattle.admit_check.specs.declared.error.AdmitError.{AdmitError}
-use Rattle.admit_check.specs.declared.error.AdmitError.TheVariants.{TooManyMethods, NoMain, NoSuchRoot, NoMemory}
+use Rattle.admit_check.specs.declared.error.AdmitError.TheVariants.{ReservedName, Duplicate, TooManyMethods, NoMain, NoSuchRoot, NoMemory}
 use Rattle.admit_check.specs.Checks.{fault_if, first_of, first_from}
-use Rattle.admit_check.specs.Shapes.{name_fault, shape_fault}
+use Rattle.admit_check.specs.Shapes.{is_reserved, name_fault, own_name, shape_fault}
 use Rattle.admit_check.specs.Codes.{codes_fault}
 use Rattle.admit_check.specs.Floating.{floating_fault}
 
 -- ---- the classes, in order
+
+-- its codes, of which floats and doubles are sought last
+abbrev pub code_fault_of : ℕ → ClassFile → Option AdmitError
+code_fault_of k c = first_of (codes_fault k c ∷ floating_fault k c ∷ [])
 
 abbrev pub class_fault : List ClassFile → ℕ → ClassFile → Option AdmitError
 class_fault earlier k c = first_of (name_fault earlier k c ∷ shape_fault k c ∷ codes_fault k c ∷ floating_fault k c ∷ [])
@@ -29,15 +37,37 @@ abbrev pub classes_fault : List ClassFile → List ClassFile → Option AdmitErr
 classes_fault earlier [] = None
 classes_fault earlier (c ∷ rest) = option_or (class_fault earlier (length earlier) c) (classes_fault (earlier ++ c ∷ []) rest)
 
+-- ---- the same by the names of the classes before
+
+-- the names of classes, in order
+abbrev pub names_of : List ClassFile → List (List ℕ)
+names_of classes = filter_map own_name classes
+
+abbrev pub has_name_among : List (List ℕ) → ClassFile → Bool
+has_name_among names c = option_map_or (λ name. list_any (same_text name) names) (own_name c) false
+
+abbrev pub name_fault_among : List (List ℕ) → ℕ → ClassFile → Option AdmitError
+name_fault_among names k c =
+    first_of (fault_if (is_reserved c) (ReservedName k) ∷ fault_if (has_name_among names c) (Duplicate k) ∷ [])
+
+abbrev pub class_fault_among : List (List ℕ) → ℕ → ClassFile → Option AdmitError
+class_fault_among names k c =
+    first_of (name_fault_among names k c ∷ shape_fault k c ∷ codes_fault k c ∷ floating_fault k c ∷ [])
+
+abbrev pub classes_fault_among : List (List ℕ) → ℕ → List ClassFile → Option AdmitError
+classes_fault_among names k [] = None
+classes_fault_among names k (c ∷ rest) =
+    option_or (class_fault_among names k c) (classes_fault_among (names ++ names_of (c ∷ [])) (k + 1) rest)
+
 -- ---- the program of classes that have no fault
 
--- the classes, and the built-in ones behind them; main is found later
-abbrev pub program_with : List ClassFile → List ClassFile → ℕ → List Act → Plan → Program
-program_with classes built_in main acts plan = record {
+-- the classes, and the built-in ones behind them; main and the acts are found in it
+abbrev pub program_with : List ClassFile → List ClassFile → Plan → Program
+program_with classes built_in plan = record {
   classes = classes ++ built_in;
   methods = numbered (classes ++ built_in);
-  main = main;
-  acts = acts;
+  main = 0;
+  acts = [];
   args = plan.args;
   heap = unwrap_or plan.heap 4194304;
 }
@@ -88,24 +118,47 @@ pub record HasNumbers (p : Program) : Type 0 where
 
 -- ---- the answer
 
-abbrev pub with_acts : List ClassFile → List ClassFile → ℕ → Plan → Result (List Act) AdmitError → Result Program AdmitError
-with_acts classes built_in main plan (Ok acts) = Ok (program_with classes built_in main acts plan)
-with_acts classes built_in main plan (Err fault) = Err fault
+-- the program with these acts
+abbrev pub with_acts : Program → ℕ → Result (List Act) AdmitError → Result Program AdmitError
+with_acts p main (Ok acts) = Ok (record p { main = main; acts = acts })
+with_acts p main (Err fault) = Err fault
 
-abbrev pub with_main : List ClassFile → List ClassFile → Plan → Option ℕ → Result Program AdmitError
-with_main classes built_in plan None = Err NoMain
-with_main classes built_in plan (Some main) = with_acts classes built_in main plan (acts_from (program_with classes built_in main [] plan) 1 plan.actions)
+abbrev pub with_main : Program → Plan → Option ℕ → Result Program AdmitError
+with_main p plan None = Err NoMain
+with_main p plan (Some main) = with_acts p main (acts_from p 1 plan.actions)
 
 abbrev pub unless_fault : {A : Type 0} → Option AdmitError → Result A AdmitError → Result A AdmitError
 unless_fault (Some fault) answer = Err fault
 unless_fault None answer = answer
 
+-- behind the last class: the first of so many classes are given
+abbrev pub completed : Program → ℕ → List ℕ → Plan → Result Program AdmitError
+completed p given main plan = unless_fault (count_fault p) (with_main p plan (main_in p given main))
+
 abbrev pub admission : List ClassFile → List ClassFile → List ℕ → Plan → Result Program AdmitError
 admission classes built_in main plan =
-    let p = program_with classes built_in 0 [] plan in
-    unless_fault (classes_fault [] classes) (unless_fault (count_fault p) (with_main classes built_in plan (main_in p (length classes) main)))
+    unless_fault (classes_fault [] classes) (completed (program_with classes built_in plan) (length classes) main plan)
+
+-- a call passes where there is no fault, and else tells it, unless memory ran out
+abbrev pub Passes : {A : Type 0} → Result A AdmitError → Option AdmitError → Type 0
+Passes (Ok x) fault = fault ≡ None
+Passes (Err error) fault = error ≢ NoMemory → fault ≡ Some error
 
 -- a call answers that, unless memory ran out
 abbrev pub Answers : {A : Type 0} → Result A AdmitError → Result A AdmitError → Type 0
 Answers (Ok x) answer = answer ≡ Ok x
 Answers (Err fault) answer = fault ≢ NoMemory → answer ≡ Err fault
+
+-- ---- the classes that a program finds beside its own
+
+pub record AreBuiltIn (classes : List ClassFile) : Type 0 where
+  pub declared : map declaration_of classes ≡ built_in_classes
+  pub formed : AllByRecursion IsClassFile classes
+  pub bare : AllByRecursion IsBare classes
+  pub sound : AllByRecursion IsSound (map declaration_of classes)
+  pub ordered : IsTrue (in_order [] (map declaration_of classes))
+
+-- A call answers the admission over the built-in classes, or that memory ran out.
+abbrev pub IsAdmission : Result Program AdmitError → List ClassFile → List ℕ → Plan → Type 0
+IsAdmission result classes main plan =
+    (result ≡ Err NoMemory) ⊎ ((built_in : List ClassFile) × AreBuiltIn built_in × (result ≡ admission classes built_in main plan))

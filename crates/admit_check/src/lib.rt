@@ -1,12 +1,15 @@
 //! Admission: whether a program's classes can be run, and the first reason why not.
 #![tactic(auto)]
 
+mod admission;
 mod codes;
 mod error;
 mod floating;
 mod program;
 mod shapes;
+mod stubs;
 mod texts;
 mod uses;
 
+pub use admission::admit;
 pub use error::{AdmitError, CodeCause, Place, ShapeCause};
