@@ -1,2 +1,5 @@
 pub mod Acts
+pub mod Completed
 pub mod Grammar
+pub mod Numbers
+pub mod Walks
