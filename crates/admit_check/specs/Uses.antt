@@ -1,7 +1,7 @@
 -- What an instruction names: a constant, locals, targets, a type (JVM Specification 4.9.1, 6.5). One row an opcode or a group of them.
-use Rattle.std.specs.Prelude.{ℕ, ◌+◌, ◌-◌, ◌%◌, Bool, true, false, not, List, ◌∷◌, Option, Some, None, codes, nat_le, ◌==◌, ◌&&◌, ◌||◌, if◌then◌else◌}
+use Rattle.std.specs.Prelude.{◌≡◌, ℕ, ◌<◌, ◌+◌, ◌-◌, ◌%◌, Bool, true, false, not, List, ◌∷◌, Option, Some, None, unwrap_or, slice_get, codes, nat_le, ◌==◌, ◌&&◌, ◌||◌, if◌then◌else◌}
 use Rattle.std.specs.Int.{is_in_range}
-use Rattle.std.specs.List.{list_all, list_any}
+use Rattle.std.specs.List.{AllByRecursion, list_all, list_any}
 use Rattle.std.specs.Option.{option_map_or}
 use Rattle.const_pool.specs.declared.pool.Const.{Const}
 use Rattle.const_pool.specs.declared.pool.Const.TheVariants.{Integer, Float, Long, Double, Class, Text, InterfaceMethod}
@@ -110,6 +110,14 @@ fits_locals max_locals i = option_map_or (λ (s : Slots). nat_le (s.first + s.co
 
 abbrev pub is_start : List Instr → ℕ → Bool
 is_start instrs at = list_any (λ (i : Instr). i.at == at) instrs
+
+-- a table, by offset, that tells where these instructions start
+abbrev pub TellsStarts : List Instr → List Bool → Type 0
+TellsStarts instrs starts = (at : ℕ) → unwrap_or (slice_get starts at) false ≡ is_start instrs at
+
+-- each stands within so many bytes
+abbrev pub AreWithin : ℕ → List Instr → Type 0
+AreWithin len instrs = AllByRecursion (λ (i : Instr). i.at < len) instrs
 
 abbrev pub fits_targets : List Instr → Instr → Bool
 fits_targets instrs i = list_all (is_start instrs) (targets_of i.arg)

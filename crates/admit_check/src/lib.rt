@@ -4,6 +4,7 @@
 mod codes;
 mod error;
 mod shapes;
+mod starts;
 mod texts;
 mod uses;
 
