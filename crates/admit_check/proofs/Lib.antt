@@ -1,3 +1,4 @@
 pub mod Grammar
 pub mod Tables
 pub mod Decoded
+pub mod CodeLengths
