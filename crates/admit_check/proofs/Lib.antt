@@ -1,6 +1,9 @@
 pub mod Acts
+pub mod CodeLengths
 pub mod Completed
+pub mod Decoded
 pub mod Entries
 pub mod Grammar
 pub mod Numbers
+pub mod Tables
 pub mod Walks

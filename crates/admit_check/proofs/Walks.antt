@@ -57,9 +57,9 @@ faults_among earlier [] = refl
 faults_among earlier (c ∷ rest) =
     let names = names_of earlier ++ names_of (c ∷ []) in
     let more : classes_fault (earlier ++ c ∷ []) rest ≡ classes_fault_among names (length earlier + 1) rest =
-        faults_among (earlier ++ c ∷ []) rest
-        ∙ (ap (λ (names : List (List ℕ)). classes_fault_among names (length (earlier ++ c ∷ [])) rest) (names_behind earlier c)
-        ∙ ap (λ (k : ℕ). classes_fault_among names k rest) (length-append earlier (c ∷ []))) in
+    faults_among (earlier ++ c ∷ []) rest
+    ∙ (ap (λ (names : List (List ℕ)). classes_fault_among names (length (earlier ++ c ∷ [])) rest) (names_behind earlier c)
+    ∙ ap (λ (k : ℕ). classes_fault_among names k rest) (length-append earlier (c ∷ []))) in
     ap (λ (f : Option AdmitError). option_or f (classes_fault (earlier ++ c ∷ []) rest)) (fault_among earlier (length earlier) c)
     ∙ ap (option_or (class_fault_among (names_of earlier) (length earlier) c)) more
 

@@ -1,25 +1,23 @@
 -- Floats and doubles (JVM Specification 2.3.2), which no admitted class uses; entries of the pool that nothing names are free.
-use Rattle.std.specs.Prelude.{ℕ, Bool, true, false, List, [], ◌∷◌, Option, Some, None, map, ◌==◌, ◌&&◌, ◌||◌, if◌then◌else◌}
+use Rattle.std.specs.Prelude.{ℕ, Bool, true, false, List, [], ◌∷◌, Option, Some, None, Result, Ok, Err, ◌==◌, ◌&&◌, ◌||◌, if◌then◌else◌}
 use Rattle.std.specs.Option.{option_and_then, option_map, option_map_or}
-use Rattle.std.specs.Result.{result_ok}
 use Rattle.const_pool.specs.declared.pool.Const.{Const}
 use Rattle.const_pool.specs.declared.pool.Const.TheVariants.{Float, Double, Class}
 use Rattle.const_pool.specs.declared.class.ClassFile.{ClassFile}
 use Rattle.const_pool.specs.declared.class.Member.{Member}
 use Rattle.const_pool.specs.Pool.{entry_at}
 use Rattle.const_pool.specs.References.{Reference, named_class, named_member, named_text}
+use Rattle.code_model.specs.declared.error.CodeError.{CodeError}
 use Rattle.code_model.specs.declared.instr.Arg.{Arg}
 use Rattle.code_model.specs.declared.instr.Arg.TheVariants as arg
-use Rattle.code_model.specs.declared.instr.Code.{Code}
 use Rattle.code_model.specs.declared.instr.Instr.{Instr}
 use Rattle.op_table.specs.Opcodes.{row_of}
 use Rattle.base_classes.specs.Soundness.{has_float}
-use Rattle.jvm_model.specs.Methods.{code_of}
 use Rattle.admit_check.specs.declared.error.AdmitError.{AdmitError}
 use Rattle.admit_check.specs.declared.error.AdmitError.TheVariants.{FloatingPoint}
 use Rattle.admit_check.specs.declared.error.Place.TheVariants as place
 use Rattle.admit_check.specs.Checks.{fault_if, first_of, first_in, first_from}
-use Rattle.admit_check.specs.Codes.{instructions_of}
+use Rattle.admit_check.specs.Codes.{readings_of}
 use Rattle.admit_check.specs.Texts.{is_array_name}
 
 -- ---- descriptors
@@ -69,16 +67,13 @@ abbrev pub is_floating_instr : List Const → Instr → Bool
 is_floating_instr pool i = (row_of i.op).floating || is_floating_operand pool i.arg
 
 -- the offset of the first
-abbrev pub floating_offset : List Const → List Instr → Option ℕ
-floating_offset pool instrs = first_in (λ (i : Instr). fault_if (is_floating_instr pool i) i.at) instrs
+abbrev pub first_floating : List Const → List Instr → Option ℕ
+first_floating pool instrs = first_in (λ (i : Instr). fault_if (is_floating_instr pool i) i.at) instrs
 
--- what was read of a code
-abbrev pub instrs_of : Option Code → Option (List Instr)
-instrs_of read = option_map (λ (code : Code). code.instrs) read
-
--- a method's instructions, where its code is some
-abbrev pub instructions_in : Member → Option (List Instr)
-instructions_in m = option_and_then (λ code. result_ok (instructions_of code.code)) (code_of m)
+-- the same of a code, as it was read
+abbrev pub floating_offset : List Const → Result (List Instr) CodeError → Option ℕ
+floating_offset pool (Ok instrs) = first_floating pool instrs
+floating_offset pool (Err error) = None
 
 -- ---- a class
 
@@ -88,12 +83,12 @@ floating_field k pool at m = fault_if (describes_floats pool m) (FloatingPoint k
 abbrev pub floating_method : ℕ → List Const → ℕ → Member → Option AdmitError
 floating_method k pool at m = fault_if (describes_floats pool m) (FloatingPoint k (place.Method at))
 
-abbrev pub floating_body : ℕ → List Const → ℕ → Option (List Instr) → Option AdmitError
+abbrev pub floating_body : ℕ → List Const → ℕ → Option (Result (List Instr) CodeError) → Option AdmitError
 floating_body k pool at read = option_map (λ offset. FloatingPoint k (place.Code at offset)) (option_and_then (floating_offset pool) read)
 
 abbrev pub floating_fault : ℕ → ClassFile → Option AdmitError
 floating_fault k c = first_of (
     first_from (floating_field k c.pool) 0 c.fields
     ∷ first_from (floating_method k c.pool) 0 c.methods
-    ∷ first_from (floating_body k c.pool) 0 (map instructions_in c.methods)
+    ∷ first_from (floating_body k c.pool) 0 (readings_of c)
     ∷ [])

@@ -1,7 +1,7 @@
 -- What an instruction names: a constant, locals, targets, a type (JVM Specification 4.9.1, 6.5). One row an opcode or a group of them.
-use Rattle.std.specs.Prelude.{ℕ, ◌+◌, ◌-◌, Bool, true, false, not, List, ◌∷◌, Option, Some, None, codes, nat_le, nat_lt, ◌==◌, ◌&&◌, ◌||◌, if◌then◌else◌}
+use Rattle.std.specs.Prelude.{◌≡◌, ℕ, ◌<◌, ◌+◌, ◌-◌, ◌%◌, Bool, true, false, not, List, ◌∷◌, Option, Some, None, unwrap_or, slice_get, codes, nat_le, ◌==◌, ◌&&◌, ◌||◌, if◌then◌else◌}
 use Rattle.std.specs.Int.{is_in_range}
-use Rattle.std.specs.List.{list_all, list_any}
+use Rattle.std.specs.List.{AllByRecursion, list_all, list_any}
 use Rattle.std.specs.Option.{option_map_or}
 use Rattle.const_pool.specs.declared.pool.Const.{Const}
 use Rattle.const_pool.specs.declared.pool.Const.TheVariants.{Integer, Float, Long, Double, Class, Text, InterfaceMethod}
@@ -81,9 +81,10 @@ fits_pool pool i = option_map_or (λ index. fits_use pool i.op index (pool_use i
 abbrev pub slots_from : ℕ → ℕ → Slots
 slots_from first count = record { first = first; count = count }
 
--- the locals of an instruction whose opcode has the number in it, from `first` on: four of int, long, float, double and reference
+-- the local of an instruction whose opcode has the number in it, from `first` on: numbers 0 to 3, each of int, long, float, double
+-- and reference
 abbrev pub short_slots : ℕ → ℕ → Slots
-short_slots first op = slots_from (op - first - (if nat_lt op (first + 4) then 0 else if nat_lt op (first + 8) then 4 else if nat_lt op (first + 12) then 8 else if nat_lt op (first + 16) then 12 else 16)) (if is_in_range (first + 4) (first + 7) op then 2 else 1)
+short_slots first op = slots_from ((op - first) % 4) (if is_in_range (first + 4) (first + 7) op then 2 else 1)
 
 abbrev pub plain_slots : ℕ → Option Slots
 plain_slots op =
@@ -91,10 +92,14 @@ plain_slots op =
     else if is_in_range 59 78 op then Some (short_slots 59 op)
     else None
 
--- the locals that an instruction uses: one of kind long (lload, lstore) uses its slot and the next
+-- lload and lstore use their slot and the next
+abbrev pub slot_count : ℕ → ℕ
+slot_count op = if op == 22 || op == 55 then 2 else 1
+
+-- the locals that an instruction uses
 abbrev pub slots_of : ℕ → Arg → Option Slots
 slots_of op arg.Plain = plain_slots op
-slots_of op (arg.Local slot) = Some (slots_from slot (if op == 22 || op == 55 then 2 else 1))
+slots_of op (arg.Local slot) = Some (slots_from slot (slot_count op))
 slots_of op (arg.Inc slot n) = Some (slots_from slot 1)
 slots_of op _ = None
 
@@ -105,6 +110,14 @@ fits_locals max_locals i = option_map_or (λ (s : Slots). nat_le (s.first + s.co
 
 abbrev pub is_start : List Instr → ℕ → Bool
 is_start instrs at = list_any (λ (i : Instr). i.at == at) instrs
+
+-- a table, by offset, that tells where these instructions start
+abbrev pub TellsStarts : List Instr → List Bool → Type 0
+TellsStarts instrs starts = (at : ℕ) → unwrap_or (slice_get starts at) false ≡ is_start instrs at
+
+-- each stands within so many bytes
+abbrev pub AreWithin : ℕ → List Instr → Type 0
+AreWithin len instrs = AllByRecursion (λ (i : Instr). i.at < len) instrs
 
 abbrev pub fits_targets : List Instr → Instr → Bool
 fits_targets instrs i = list_all (is_start instrs) (targets_of i.arg)

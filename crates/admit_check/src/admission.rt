@@ -7,10 +7,11 @@ ghost use Rattle.admit_check.specs.Admission.{Answers, HasNumbers, Passes, AreBu
 ghost use Rattle.admit_check.specs.Admission.{code_fault_of, class_fault_among, names_of, classes_fault};
 ghost use Rattle.admit_check.specs.Admission.{program_with, completed, admission};
 
+use crate::codes::check_codes;
 use crate::error::AdmitError;
 use crate::floating::floating_fault;
 use crate::program::{acts_of, main_in, numbered};
-use crate::stubs::{NameSet, check_codes, name_fault, shape_fault};
+use crate::stubs::{NameSet, name_fault, shape_fault};
 use base_classes::built_in;
 use const_pool::ClassFile;
 use jf_bytes::{NoMemory, Seq, Text16};

@@ -10,8 +10,9 @@ ghost use Rattle.admit_check.specs.Floating.{has_floats, describes_floats, is_fl
 ghost use Rattle.admit_check.specs.Floating.{names_floats, is_floating_entry, is_floating_index};
 ghost use Rattle.admit_check.specs.Floating.{is_floats_class, is_floats_member};
 ghost use Rattle.admit_check.specs.Floating.{is_floating_operand, is_floating_instr};
-ghost use Rattle.admit_check.specs.Floating.{floating_offset, floating_field, floating_method};
-ghost use Rattle.admit_check.specs.Floating.{floating_body, floating_fault, instrs_of, instructions_in};
+ghost use Rattle.admit_check.specs.Floating.{first_floating, floating_offset, floating_field, floating_method};
+ghost use Rattle.admit_check.specs.Floating.{floating_body, floating_fault};
+ghost use Rattle.admit_check.specs.Codes.{read_as, readings_of};
 
 use crate::error::{AdmitError, Place};
 use crate::texts::is_array_name;
@@ -139,8 +140,8 @@ fn is_floating_instr(pool: &Pool, instr: &Instr) -> bool
 }
 
 /// The offset of the first instruction that does.
-fn floating_offset(pool: &Pool, instrs: &[Instr]) -> Option<u16>
-    ensures { result ≡ floating_offset pool.now instrs.now }
+fn first_floating(pool: &Pool, instrs: &[Instr]) -> Option<u16>
+    ensures { result ≡ first_floating pool.now instrs.now }
 {
     for instr in instrs {
         if is_floating_instr(pool, instr) {
@@ -151,11 +152,11 @@ fn floating_offset(pool: &Pool, instrs: &[Instr]) -> Option<u16>
 }
 
 /// The same of a code, where there is one.
-fn offset_in(pool: &Pool, code: &Option<Code>) -> Option<u16>
-    ensures { result ≡ option_and_then (floating_offset pool.now) (instrs_of code.now) }
+fn floating_offset(pool: &Pool, code: &Option<Code>) -> Option<u16>
+    ensures { result ≡ option_and_then (floating_offset pool.now) (read_as code.now) }
 {
     let code = code.as_ref()?;
-    floating_offset(pool, code.instrs.as_slice())
+    first_floating(pool, code.instrs.as_slice())
 }
 
 /// The fault of the first field with a float or a double.
@@ -187,10 +188,10 @@ fn method_fault(number: u32, pool: &Pool, methods: &[Member]) -> Option<AdmitErr
 /// The fault of the first instruction that uses floats or doubles.
 fn body_fault(number: u32, pool: &Pool, codes: &[Option<Code>]) -> Option<AdmitError>
     requires { length codes.now < 2 ^ 16 }
-    ensures { result ≡ first_from (floating_body number pool.now) 0 (map instrs_of codes.now) }
+    ensures { result ≡ first_from (floating_body number pool.now) 0 (map read_as codes.now) }
 {
     for (at, code) in codes.iter().enumerate() {
-        if let Some(offset) = offset_in(pool, code) {
+        if let Some(offset) = floating_offset(pool, code) {
             return Some(AdmitError::FloatingPoint(number, Place::Code(at as u16, offset)));
         }
     }
@@ -201,7 +202,7 @@ fn body_fault(number: u32, pool: &Pool, codes: &[Option<Code>]) -> Option<AdmitE
 /// were read as.
 pub fn floating_fault(number: u32, class: &ClassFile, codes: &[Option<Code>]) -> Option<AdmitError>
     requires formed { IsClassFile class.now }
-    requires read { map instrs_of codes.now ≡ map instructions_in class.now.methods }
+    requires read { map read_as codes.now ≡ readings_of class.now }
     ensures { result ≡ floating_fault number class.now }
 {
     field_fault(number, &class.pool, class.fields.as_slice())

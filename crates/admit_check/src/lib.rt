@@ -7,6 +7,7 @@ mod error;
 mod floating;
 mod program;
 mod shapes;
+mod starts;
 mod stubs;
 mod texts;
 mod uses;

@@ -1,18 +1,14 @@
-//! STUBS, none of them done: what parts A and B give in their own files, with the clauses that admission.rt takes. They go
-//! when those files are there.
+//! STUBS, none of them done: what part A gives in its own files, with the clauses that admission.rt takes. They go
+//! when those are there.
 
-ghost use Rattle.std.specs.Prelude.{◌≡◌, ◌++◌, ◌∷◌, [], IfOk, OnOk, map};
+ghost use Rattle.std.specs.Prelude.{◌≡◌, ◌++◌, ◌∷◌, [], IfOk, OnOk};
 ghost use Rattle.std.specs.List.{list_any};
 ghost use Rattle.jvm_model.specs.Descriptors.{same_text};
-ghost use Rattle.const_pool.specs.ClassFile.{IsClassFile};
-ghost use Rattle.admit_check.specs.Admission.{Passes, name_fault_among};
-ghost use Rattle.admit_check.specs.Codes.{codes_fault};
-ghost use Rattle.admit_check.specs.Floating.{instrs_of, instructions_in};
+ghost use Rattle.admit_check.specs.Admission.{name_fault_among};
 ghost use Rattle.admit_check.specs.Shapes.{shape_fault};
 
 use crate::error::AdmitError;
 use crate::shapes::is_reserved;
-use code_model::Code;
 use const_pool::ClassFile;
 use jf_bytes::{NoMemory, Seq, Text16};
 use std::alloc::Global;
@@ -75,17 +71,4 @@ pub fn shape_fault(
     ensures { IfOk result (λ fault. fault ≡ shape_fault number class.now) }
 {
     Err(NoMemory)
-}
-
-pub fn check_codes(
-    _alloc: Global,
-    number: u32,
-    class: &ClassFile,
-) -> Result<Seq<Option<Code>>, AdmitError>
-    requires { IsClassFile class.now }
-    ensures fault { Passes result (codes_fault number class.now) }
-    ensures read { IfOk result (λ codes.
-        map instrs_of codes ≡ map instructions_in class.now.methods) }
-{
-    Err(AdmitError::NoMemory)
 }
