@@ -12,7 +12,8 @@ use Rattle.admit_check.specs.Checks.{fault_if, first_of}
 use Rattle.admit_check.specs.Shapes.{has_same_name, is_reserved, own_name, same_named, shape_fault}
 use Rattle.admit_check.specs.Codes.{codes_fault}
 use Rattle.admit_check.specs.Floating.{floating_fault}
-use Rattle.admit_check.specs.Admission.{class_fault, classes_fault, names_of, has_name_among, class_fault_among, classes_fault_among}
+use Rattle.admit_check.specs.Admission.{class_fault, classes_fault}
+use Rattle.admit_check.specs.Stages.{names_of, has_name_among, class_fault_among, classes_fault_among}
 
 -- ---- an earlier class has the name
 

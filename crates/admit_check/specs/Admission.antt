@@ -1,7 +1,7 @@
 -- What is admitted: a program's classes, or its first fault.
-use Rattle.std.specs.Prelude.{◌⊎◌, IsTrue, ◌≡◌, ◌≢◌, ℕ, ◌+◌, ◌<◌, ◌^◌, Bool, true, false, List, [], ◌∷◌, ◌++◌, length, map, Option, Some, None, is_none, is_some, filter_map, Result, Ok, Err, unwrap_or, nat_lt, ◌&&◌, ◌||◌, if◌then◌else◌}
-use Rattle.std.specs.Option.{option_and_then, option_map, option_map_or, option_or}
-use Rattle.std.specs.List.{AllByRecursion, list_any}
+use Rattle.std.specs.Prelude.{◌⊎◌, IsTrue, ◌≡◌, ℕ, ◌+◌, List, [], ◌∷◌, ◌++◌, length, map, Option, Some, None, Result, Ok, Err, unwrap_or, nat_lt, if◌then◌else◌}
+use Rattle.std.specs.Option.{option_and_then, option_map, option_or}
+use Rattle.std.specs.List.{AllByRecursion}
 use Rattle.const_pool.specs.declared.class.ClassFile.{ClassFile}
 use Rattle.const_pool.specs.ClassFile.{IsClassFile}
 use Rattle.const_pool.specs.References.{name_type_of}
@@ -13,22 +13,17 @@ use Rattle.plan_text.specs.declared.plan.Plan.{Plan}
 use Rattle.plan_text.specs.declared.plan.RootName.{RootName}
 use Rattle.jvm_model.specs.declared.event.Act.{Act}
 use Rattle.jvm_model.specs.declared.program.Program.{Program}
-use Rattle.jvm_model.specs.Descriptors.{same_text}
 use Rattle.jvm_model.specs.Methods.{method_named}
 use Rattle.jvm_model.specs.Programs.{class_at, class_named, declared_method, number_of_method, numbered}
 use Rattle.jvm_model.specs.SmallClass.{main_member, public_static}
 use Rattle.admit_check.specs.declared.error.AdmitError.{AdmitError}
-use Rattle.admit_check.specs.declared.error.AdmitError.TheVariants.{ReservedName, Duplicate, TooManyMethods, NoMain, NoSuchRoot, NoMemory}
-use Rattle.admit_check.specs.Checks.{fault_if, first_of, first_from}
-use Rattle.admit_check.specs.Shapes.{is_reserved, name_fault, own_name, shape_fault}
+use Rattle.admit_check.specs.declared.error.AdmitError.TheVariants.{TooManyMethods, NoMain, NoSuchRoot, NoMemory}
+use Rattle.admit_check.specs.Checks.{fault_if, first_of}
+use Rattle.admit_check.specs.Shapes.{name_fault, shape_fault}
 use Rattle.admit_check.specs.Codes.{codes_fault}
 use Rattle.admit_check.specs.Floating.{floating_fault}
 
 -- ---- the classes, in order
-
--- its codes, of which floats and doubles are sought last
-abbrev pub code_fault_of : ℕ → ClassFile → Option AdmitError
-code_fault_of k c = first_of (codes_fault k c ∷ floating_fault k c ∷ [])
 
 abbrev pub class_fault : List ClassFile → ℕ → ClassFile → Option AdmitError
 class_fault earlier k c = first_of (name_fault earlier k c ∷ shape_fault k c ∷ codes_fault k c ∷ floating_fault k c ∷ [])
@@ -36,28 +31,6 @@ class_fault earlier k c = first_of (name_fault earlier k c ∷ shape_fault k c �
 abbrev pub classes_fault : List ClassFile → List ClassFile → Option AdmitError
 classes_fault earlier [] = None
 classes_fault earlier (c ∷ rest) = option_or (class_fault earlier (length earlier) c) (classes_fault (earlier ++ c ∷ []) rest)
-
--- ---- the same by the names of the classes before
-
--- the names of classes, in order
-abbrev pub names_of : List ClassFile → List (List ℕ)
-names_of classes = filter_map own_name classes
-
-abbrev pub has_name_among : List (List ℕ) → ClassFile → Bool
-has_name_among names c = option_map_or (λ name. list_any (same_text name) names) (own_name c) false
-
-abbrev pub name_fault_among : List (List ℕ) → ℕ → ClassFile → Option AdmitError
-name_fault_among names k c =
-    first_of (fault_if (is_reserved c) (ReservedName k) ∷ fault_if (has_name_among names c) (Duplicate k) ∷ [])
-
-abbrev pub class_fault_among : List (List ℕ) → ℕ → ClassFile → Option AdmitError
-class_fault_among names k c =
-    first_of (name_fault_among names k c ∷ shape_fault k c ∷ codes_fault k c ∷ floating_fault k c ∷ [])
-
-abbrev pub classes_fault_among : List (List ℕ) → ℕ → List ClassFile → Option AdmitError
-classes_fault_among names k [] = None
-classes_fault_among names k (c ∷ rest) =
-    option_or (class_fault_among names k c) (classes_fault_among (names ++ names_of (c ∷ [])) (k + 1) rest)
 
 -- ---- the program of classes that have no fault
 
@@ -110,12 +83,6 @@ acts_from p at (a ∷ rest) = act_with (act_of p a) at (acts_from p (at + 1) res
     act_with (Some act) n (Ok acts) = Ok (act ∷ acts)
     act_with (Some act) n (Err fault) = Err fault
 
--- Its classes are class files, and they and its methods are few enough for their numbers.
-pub record HasNumbers (p : Program) : Type 0 where
-  pub formed : AllByRecursion IsClassFile p.classes
-  pub classes : length p.classes < 2 ^ 32
-  pub methods : length p.methods < 2 ^ 32
-
 -- ---- the answer
 
 -- the program with these acts
@@ -138,16 +105,6 @@ completed p given main plan = unless_fault (count_fault p) (with_main p plan (ma
 abbrev pub admission : List ClassFile → List ClassFile → List ℕ → Plan → Result Program AdmitError
 admission classes built_in main plan =
     unless_fault (classes_fault [] classes) (completed (program_with classes built_in plan) (length classes) main plan)
-
--- a call passes where there is no fault, and else tells it, unless memory ran out
-abbrev pub Passes : {A : Type 0} → Result A AdmitError → Option AdmitError → Type 0
-Passes (Ok x) fault = fault ≡ None
-Passes (Err error) fault = error ≢ NoMemory → fault ≡ Some error
-
--- a call answers that, unless memory ran out
-abbrev pub Answers : {A : Type 0} → Result A AdmitError → Result A AdmitError → Type 0
-Answers (Ok x) answer = answer ≡ Ok x
-Answers (Err fault) answer = fault ≢ NoMemory → answer ≡ Err fault
 
 -- ---- the classes that a program finds beside its own
 

@@ -3,8 +3,10 @@
 ghost use Rattle.std.specs.Prelude.{◌≡◌, ◌++◌, ◌∷◌, [], ◌<◌, ◌≤◌, ◌^◌, length, IfOk, OnOk};
 ghost use Rattle.std.specs.List.{AllByRecursion};
 ghost use Rattle.const_pool.specs.ClassFile.{IsClassFile};
-ghost use Rattle.admit_check.specs.Admission.{Answers, HasNumbers, Passes, AreBuiltIn, IsAdmission};
-ghost use Rattle.admit_check.specs.Admission.{code_fault_of, class_fault_among, names_of, classes_fault};
+ghost use Rattle.admit_check.specs.Admission.{AreBuiltIn, IsAdmission};
+ghost use Rattle.admit_check.specs.Stages.{Answers, HasNumbers, Passes};
+ghost use Rattle.admit_check.specs.Admission.{classes_fault};
+ghost use Rattle.admit_check.specs.Stages.{code_fault_of, class_fault_among, names_of};
 ghost use Rattle.admit_check.specs.Admission.{program_with, completed, admission};
 
 use crate::codes::check_codes;

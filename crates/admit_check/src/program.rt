@@ -10,7 +10,8 @@ ghost use Rattle.jvm_model.specs.Methods.{code_of, is_member, method_named, same
 ghost use Rattle.jvm_model.specs.Programs.{coded_from, declared_method, has_name, number_from};
 ghost use Rattle.jvm_model.specs.Programs.{class_at, number_of_method, numbered, same_place};
 ghost use Rattle.jvm_model.specs.SmallClass.{has_flag, is_public_static, main_member, public_static};
-ghost use Rattle.admit_check.specs.Admission.{Answers, HasNumbers, act_of, acts_from};
+ghost use Rattle.admit_check.specs.Admission.{act_of, acts_from};
+ghost use Rattle.admit_check.specs.Stages.{Answers, HasNumbers};
 ghost use Rattle.admit_check.specs.Admission.{declared_main, main_in, main_of_class, root_in};
 
 use crate::error::AdmitError;

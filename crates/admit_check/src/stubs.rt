@@ -4,7 +4,7 @@
 ghost use Rattle.std.specs.Prelude.{◌≡◌, ◌++◌, ◌∷◌, [], IfOk, OnOk};
 ghost use Rattle.std.specs.List.{list_any};
 ghost use Rattle.jvm_model.specs.Descriptors.{same_text};
-ghost use Rattle.admit_check.specs.Admission.{name_fault_among};
+ghost use Rattle.admit_check.specs.Stages.{name_fault_among};
 ghost use Rattle.admit_check.specs.Shapes.{shape_fault};
 
 use crate::error::AdmitError;

@@ -1,5 +1,5 @@
 use Rattle.std.proofs.Common.{sym, subst}
-use Rattle.admit_check.specs.Admission.{HasNumbers}
+use Rattle.admit_check.specs.Stages.{HasNumbers}
 use Rattle.admit_check.proofs.Numbers.{few_classes, has_numbers}
 use Rattle.admit_check.proofs.admission.admit_over.Goals as goal
 

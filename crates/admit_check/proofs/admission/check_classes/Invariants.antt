@@ -1,7 +1,7 @@
 -- what is left of the classes, with the names before them, decides
 use Rattle.std.proofs.Common.{◌≡◌, drop}
 use Rattle.std.specs.Prelude.{[]}
-use Rattle.admit_check.specs.Admission.{classes_fault_among}
+use Rattle.admit_check.specs.Stages.{classes_fault_among}
 use Rattle.admit_check.proofs.admission.check_classes.Given as goal
 
 abbrev pub invariant-loop-number : goal.invariant-loop-number
