@@ -223,3 +223,6 @@ pub fn admit(
         Err(NoMemory) => Err(AdmitError::NoMemory),
     }
 }
+
+#[cfg(test)]
+mod tests;
