@@ -59,5 +59,9 @@ pub field_answered : (text : List ℕ) (result : Result Kind DescriptorError) �
 field_answered text (Ok kind) found only = sym (field_kind_only text kind found)
 field_answered text (Err error) found only = none_of (field_kind text) (λ kind e. cc (only kind (field_kind_found text kind e)))
 
-pub method_refused : (text : List ℕ) → ((shape : Shape) → IsMethod text shape → ⊥) → None ≡ method_kinds text
-method_refused text no_shape = none_of (method_kinds text) (λ shape e. no_shape shape (method_kinds_found text shape e))
+not_read : (error : DescriptorError) (at : ℕ) (shape : Shape) → error ≡ BadDescriptor at → IsReadAs (Err error) shape → ⊥
+not_read (BadDescriptor n) at shape e read = read
+not_read NoMemory at shape e read = cc e
+
+pub method_refused : (text : List ℕ) (error : DescriptorError) (at : ℕ) → error ≡ BadDescriptor at → ((shape : Shape) → IsMethod text shape → IsReadAs (Err error) shape) → None ≡ method_kinds text
+method_refused text error at is only = none_of (method_kinds text) (λ shape e. not_read error at shape is (only shape (method_kinds_found text shape e)))

@@ -1,3 +1,4 @@
+pub mod Entries
 pub mod Grammar
 pub mod Tables
 pub mod Decoded

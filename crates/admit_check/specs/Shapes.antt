@@ -1,5 +1,5 @@
 -- What is asked of a class before its code is read: its name, and its shape (JVM Specification 4.1, 4.5, 4.6, 4.7.2, 4.7.3).
-use Rattle.std.specs.Prelude.{ℕ, ◌+◌, Bool, true, false, not, List, [], ◌∷◌, length, Option, Some, None, codes, nat_lt, ◌==◌, ◌&&◌, ◌||◌, if◌then◌else◌}
+use Rattle.std.specs.Prelude.{ℕ, ◌+◌, Bool, true, false, not, List, [], ◌∷◌, length, Option, Some, None, codes, count_by, nat_lt, ◌==◌, ◌&&◌, ◌||◌, if◌then◌else◌}
 use Rattle.std.specs.Option.{option_map_or}
 use Rattle.std.specs.List.{list_any}
 use Rattle.const_pool.specs.declared.pool.Const.{Const}
@@ -87,10 +87,12 @@ has_member_twice c = has_twins c.pool c.fields || has_twins c.pool c.methods
 abbrev pub has_no_body : Member → Bool
 has_no_body m = has_flag 256 m.access || has_flag 1024 m.access
 
+abbrev pub is_code : Attribute → Bool
+is_code (Code name code) = true
+is_code _ = false
+
 abbrev pub code_count : List Attribute → ℕ
-code_count [] = 0
-code_count (Code name code ∷ rest) = 1 + code_count rest
-code_count (_ ∷ rest) = code_count rest
+code_count attributes = count_by is_code attributes
 
 abbrev pub has_wrong_code_count : Member → Bool
 has_wrong_code_count m = if has_no_body m then nat_lt 0 (code_count m.attributes) else not (code_count m.attributes == 1)

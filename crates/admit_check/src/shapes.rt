@@ -8,14 +8,15 @@ ghost use Rattle.jvm_model.specs.SmallClass.{has_flag};
 ghost use Rattle.admit_check.specs.Texts.{is_field_text, is_method_text};
 ghost use Rattle.admit_check.specs.Shapes.{is_taken_name, is_probe_entry, is_reserved, has_wrong_name};
 ghost use Rattle.admit_check.specs.Shapes.{final_names, is_no_super_name, has_wrong_super, has_no_body};
-ghost use Rattle.admit_check.specs.Shapes.{has_wrong_text, has_wrong_descriptor, code_count};
+ghost use Rattle.admit_check.specs.Shapes.{has_wrong_text, has_wrong_descriptor, is_code, code_count};
 ghost use Rattle.admit_check.specs.Shapes.{has_wrong_code_count, fits_kind, takes_kind, fits_descriptor};
-ghost use Rattle.admit_check.specs.Shapes.{fits_constant};
+ghost use Rattle.admit_check.specs.Shapes.{constants_of, fits_constant, has_right_constants};
+ghost use Rattle.admit_check.specs.Shapes.{has_wrong_constant};
 
 use crate::texts::{field_kind, is_array_name, is_field_text, method_kinds};
 use base_classes::is_built_in;
 use const_pool::{Attribute, ClassFile, Const, Kind, Member, Pool};
-use jf_bytes::{NoMemory, Text16};
+use jf_bytes::{NoMemory, Seq, Text16};
 use std::alloc::Global;
 
 /// ACC_STATIC.
@@ -159,12 +160,18 @@ fn has_wrong_method(alloc: Global, pool: &Pool, methods: &[Member]) -> Result<bo
     Ok(false)
 }
 
+/// Whether a field among these has a descriptor that is none.
+fn has_wrong_field(pool: &Pool, fields: &[Member]) -> bool
+    ensures { result ≡ list_any (has_wrong_text is_field_text pool.now) fields.now }
+{
+    fields.iter().any(|field| has_wrong_field_text(pool, field))
+}
+
 /// Whether a member has a descriptor that is none.
 pub fn has_wrong_descriptor(alloc: Global, class: &ClassFile) -> Result<bool, NoMemory>
     ensures { IfOk result (λ wrong. wrong ≡ has_wrong_descriptor class.now) }
 {
-    let fields = class.fields.as_slice();
-    if fields.iter().any(|field| has_wrong_field_text(&class.pool, field)) {
+    if has_wrong_field(&class.pool, class.fields.as_slice()) {
         return Ok(true);
     }
     has_wrong_method(alloc, &class.pool, class.methods.as_slice())
@@ -177,17 +184,21 @@ fn has_no_body(method: &Member) -> bool
     has_flag(NATIVE, method.access) || has_flag(ABSTRACT, method.access)
 }
 
+/// Whether an attribute is a Code.
+fn is_code(attribute: &Attribute) -> bool
+    ensures { result ≡ is_code attribute.now }
+{
+    matches!(attribute, Attribute::Code(..))
+}
+
 /// How many Codes stand among the attributes.
 fn code_count(attributes: &[Attribute]) -> usize
     ensures { result ≡ code_count attributes.now }
 {
-    let mut count = 0;
-    for attribute in attributes {
-        if let Attribute::Code(..) = attribute {
-            count += 1;
-        }
-    }
-    count
+    attributes
+        .iter()
+        .filter(|attribute| is_code(attribute))
+        .count()
 }
 
 /// Whether a method has a Code too many or too few.
@@ -254,4 +265,51 @@ fn fits_constant(pool: &Pool, field: &Member, index: u16) -> bool
         Ok(descriptor) => fits_descriptor(entry, descriptor),
         Err(_) => false,
     }
+}
+
+/// The indices of the constants among a field's attributes.
+fn constants_of(alloc: Global, attributes: &[Attribute]) -> Result<Seq<u16>, NoMemory>
+    ensures { IfOk result (λ indices. indices ≡ constants_of attributes.now) }
+{
+    let mut indices = Seq::new(alloc);
+    for attribute in attributes {
+        if let Attribute::ConstantValue(_, index) = attribute {
+            indices.push(*index)?;
+        }
+    }
+    Ok(indices)
+}
+
+/// Whether a field has no constant, or one that fits.
+fn has_right_constants(pool: &Pool, field: &Member, indices: &[u16]) -> bool
+    ensures { result ≡ has_right_constants pool.now field.now indices.now }
+{
+    match indices {
+        [] => true,
+        [index] => fits_constant(pool, field, *index),
+        _ => false,
+    }
+}
+
+/// Whether a static field has a constant that does not fit, or several.
+fn has_wrong_constant(alloc: Global, pool: &Pool, field: &Member) -> Result<bool, NoMemory>
+    ensures { IfOk result (λ wrong. wrong ≡ has_wrong_constant pool.now field.now) }
+{
+    if !has_flag(STATIC, field.access) {
+        return Ok(false);
+    }
+    let indices = constants_of(alloc, field.attributes.as_slice())?;
+    Ok(!has_right_constants(pool, field, indices.as_slice()))
+}
+
+/// Whether a field among these has.
+pub fn has_constant_fault(alloc: Global, pool: &Pool, fields: &[Member]) -> Result<bool, NoMemory>
+    ensures { IfOk result (λ wrong. wrong ≡ list_any (has_wrong_constant pool.now) fields.now) }
+{
+    for field in fields {
+        if has_wrong_constant(alloc, pool, field)? {
+            return Ok(true);
+        }
+    }
+    Ok(false)
 }
