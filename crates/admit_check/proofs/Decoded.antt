@@ -142,18 +142,18 @@ found_from bytes (suc most) at is within enough e =
       | inr past ↦ subst (Reads bytes at) (same_ok [] is (ap (instructions_from (suc most) at) (sym (drop_all at bytes past)) ∙ e)) (omega arith)
     ]
   where
-  by_case : at < length bytes → (read : Read Instr) → read_instruction at (drop at bytes) ≡ read
-      → ((i : Instr) → instruction_at bytes at ≡ Some i → (others : List Instr) → end_of i ≤ length bytes → length bytes ≤ end_of i + most
-          → instructions_from most (end_of i) (drop (end_of i) bytes) ≡ Ok others → Reads bytes (end_of i) others)
-      → Reads bytes at is
-  by_case more (Ok read) is_read later =
-      let here = instruction_at-read bytes at read.0 read.1 is_read in
-      let ends = end_of-within bytes at read.0 here in
-      let further = ends_later bytes at read.0 here in
-      read_on bytes at most read.0 is (instructions_from most (end_of read.0) (drop (end_of read.0) bytes)) here
-      (λ others found. later read.0 here others ends (omega arith) found) (sym (stands_first bytes most at read.0 here) ∙ e)
-  by_case more (Err fault) is_read later =
-      absurd (err_ok fault is (sym (one_fault most at (drop at bytes) fault (omega (arith, length-drop at bytes)) is_read) ∙ e))
+    by_case : at < length bytes → (read : Read Instr) → read_instruction at (drop at bytes) ≡ read
+        → ((i : Instr) → instruction_at bytes at ≡ Some i → (others : List Instr) → end_of i ≤ length bytes → length bytes ≤ end_of i + most
+        → instructions_from most (end_of i) (drop (end_of i) bytes) ≡ Ok others → Reads bytes (end_of i) others)
+        → Reads bytes at is
+    by_case more (Ok read) is_read later =
+        let here = instruction_at-read bytes at read.0 read.1 is_read in
+        let ends = end_of-within bytes at read.0 here in
+        let further = ends_later bytes at read.0 here in
+        read_on bytes at most read.0 is (instructions_from most (end_of read.0) (drop (end_of read.0) bytes)) here
+        (λ others found. later read.0 here others ends (omega arith) found) (sym (stands_first bytes most at read.0 here) ∙ e)
+    by_case more (Err fault) is_read later =
+        absurd (err_ok fault is (sym (one_fault most at (drop at bytes) fault (omega (arith, length-drop at bytes)) is_read) ∙ e))
 
 pub reading_found : (bytes : List ℕ) (is : List Instr) → instructions_of bytes ≡ Ok is → IsReading bytes (record { instrs = is; len = length bytes })
 unfolding instructions_of
@@ -185,17 +185,17 @@ stops_at bytes (suc most) at fault enough e =
       | inr past ↦ absurd (err_ok fault [] (sym (ap (instructions_from (suc most) at) (sym (drop_all at bytes past)) ∙ e)))
     ]
   where
-  by_case : at < length bytes → (read : Read Instr) → read_instruction at (drop at bytes) ≡ read
-      → ((i : Instr) → length bytes ≤ end_of i + most → instructions_from most (end_of i) (drop (end_of i) bytes) ≡ Err fault → Stops bytes (end_of i) fault)
-      → Stops bytes at fault
-  by_case more (Ok read) is_read later =
-      let here = instruction_at-read bytes at read.0 read.1 is_read in
-      let further = ends_later bytes at read.0 here in
-      stop_on bytes at read.0 fault (instructions_from most (end_of read.0) (drop (end_of read.0) bytes)) here
-      (λ found. later read.0 (omega arith) found) (sym (stands_first bytes most at read.0 here) ∙ e)
-  by_case more (Err f) is_read later =
-      let found = sym (one_fault most at (drop at bytes) f (omega (arith, length-drop at bytes)) is_read) ∙ e in
-      record { before = []; stop = at; reads = refl; more = more; read = is_read ∙ found_err f fault found }
+    by_case : at < length bytes → (read : Read Instr) → read_instruction at (drop at bytes) ≡ read
+        → ((i : Instr) → length bytes ≤ end_of i + most → instructions_from most (end_of i) (drop (end_of i) bytes) ≡ Err fault → Stops bytes (end_of i) fault)
+        → Stops bytes at fault
+    by_case more (Ok read) is_read later =
+        let here = instruction_at-read bytes at read.0 read.1 is_read in
+        let further = ends_later bytes at read.0 here in
+        stop_on bytes at read.0 fault (instructions_from most (end_of read.0) (drop (end_of read.0) bytes)) here
+        (λ found. later read.0 (omega arith) found) (sym (stands_first bytes most at read.0 here) ∙ e)
+    by_case more (Err f) is_read later =
+        let found = sym (one_fault most at (drop at bytes) f (omega (arith, length-drop at bytes)) is_read) ∙ e in
+        record { before = []; stop = at; reads = refl; more = more; read = is_read ∙ found_err f fault found }
 
 pub fault_found : (bytes : List ℕ) (fault : CodeError) → instructions_of bytes ≡ Err fault → IsFirstFault bytes fault
 unfolding instructions_of

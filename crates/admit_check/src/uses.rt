@@ -208,7 +208,13 @@ fn fits_class(pool: &Pool, index: u16) -> bool
 }
 
 /// Whether an instruction of this opcode may take the entry at an index.
-fn fits_use(alloc: Global, pool: &Pool, op: u8, index: u16, takes: PoolUse) -> Result<bool, NoMemory>
+fn fits_use(
+    alloc: Global,
+    pool: &Pool,
+    op: u8,
+    index: u16,
+    takes: PoolUse,
+) -> Result<bool, NoMemory>
     ensures { IfOk result (λ fits. fits ≡ fits_use pool.now op index takes) }
 {
     match takes {
