@@ -31,9 +31,9 @@ set_elsewhere (b ∷ starts) (suc i) (suc at) other = set_elsewhere starts i at 
 set_marks : (starts : List Bool) (i at : ℕ) → i < length starts → is_marked (slice_set starts i true) at ≡ (i == at || is_marked starts at)
 set_marks starts i at within = by_case (i == at) refl
   where
-  by_case : (b : Bool) → (i == at) ≡ b → is_marked (slice_set starts i true) at ≡ (b || is_marked starts at)
-  by_case true e = ap (is_marked (slice_set starts i true)) (sym (eqb-true i at e)) ∙ set_here starts i within
-  by_case false e = set_elsewhere starts i at (eqb-false i at e)
+    by_case : (b : Bool) → (i == at) ≡ b → is_marked (slice_set starts i true) at ≡ (b || is_marked starts at)
+    by_case true e = ap (is_marked (slice_set starts i true)) (sym (eqb-true i at e)) ∙ set_here starts i within
+    by_case false e = set_elsewhere starts i at (eqb-false i at e)
 
 exchanged : (a b c : Bool) → ((a || b) || c) ≡ (b || (a || c))
 exchanged true true c = refl

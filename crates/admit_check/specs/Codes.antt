@@ -29,7 +29,7 @@ use Rattle.admit_check.specs.Uses.{fits_pool, fits_locals, fits_targets, fits_re
 
 -- ---- the instructions
 
--- The instructions that the bytes from this offset on are, or their first fault (proofs/Readings: exactly what code_model's
+-- The instructions that the bytes from this offset on are, or their first fault (proofs/Decoded: exactly what code_model's
 -- `IsReading` and `IsFirstFault` say). No code has more instructions than bytes.
 abbrev pub instructions_from : ℕ → ℕ → List ℕ → Result (List Instr) CodeError
 instructions_from zero at bytes = Ok []

@@ -65,12 +65,16 @@ may_name op name = not (same_text name (codes "<clinit>")) && (op == 183 || not 
 abbrev pub is_member_name : (List ℕ → Bool) → ℕ → Reference → Bool
 is_member_name is_descriptor op r = is_class_name r.class && (is_descriptor r.member.descriptor && may_name op r.member.name)
 
+-- a member is named, and one that may be
+abbrev pub fits_member : (List ℕ → Bool) → ℕ → Option Reference → Bool
+fits_member is_descriptor op found = option_map_or (is_member_name is_descriptor op) found false
+
 abbrev pub fits_use : List Const → ℕ → ℕ → PoolUse → Bool
 fits_use pool op index use_of.Loadable = option_map_or (is_loadable pool) (entry_at pool index) false
 fits_use pool op index use_of.Wide = option_map_or is_wide_constant (entry_at pool index) false
-fits_use pool op index use_of.Field = option_map_or (is_member_name is_field_text op) (named_field pool index) false
-fits_use pool op index use_of.Method = option_map_or (is_member_name is_method_text op) (named_method pool index) false
-fits_use pool op index use_of.InterfaceMethod = option_map_or (is_member_name is_method_text op) (named_interface_method pool index) false
+fits_use pool op index use_of.Field = fits_member is_field_text op (named_field pool index)
+fits_use pool op index use_of.Method = fits_member is_method_text op (named_method pool index)
+fits_use pool op index use_of.InterfaceMethod = fits_member is_method_text op (named_interface_method pool index)
 fits_use pool op index use_of.Class = option_map_or is_class_name (named_class pool index) false
 
 abbrev pub fits_pool : List Const → Instr → Bool

@@ -1,10 +1,10 @@
 //! The first fault of a code (JVM Specification 4.9.1).
 
-ghost use Rattle.std.specs.Prelude.{◌≡◌, ◌≢◌, ◌<◌, ◌^◌, None, Some, Ok, length, map, take, IfOk, IfErr, IfSome, OnOk};
-ghost use Rattle.std.specs.Option.{option_copied, option_and_then};
+ghost use Rattle.std.specs.Prelude.{◌≡◌, None, Ok, map, IfOk, IfErr, IfSome, OnOk};
+ghost use Rattle.std.specs.Option.{option_copied};
 ghost use Rattle.const_pool.specs.ClassFile.{IsClassFile};
 ghost use Rattle.jvm_model.specs.Methods.{code_of};
-ghost use Rattle.admit_check.specs.Checks.{first_in, first_from};
+ghost use Rattle.admit_check.specs.Checks.{first_in};
 ghost use Rattle.admit_check.specs.Codes.{method_with, cause_of, instr_fault, falls, fits_handler};
 ghost use Rattle.admit_check.specs.Codes.{handler_fault, read_fault, reading_fault, code_fault};
 ghost use Rattle.admit_check.specs.Codes.{instructions_of, result_of, method_fault, codes_fault};
@@ -12,6 +12,9 @@ ghost use Rattle.admit_check.specs.Codes.{reading_of, read_as, readings_of, HasC
 ghost use Rattle.admit_check.specs.Codes.{IsCodeRefusal, IsRefusal};
 ghost use Rattle.admit_check.specs.Uses.{AreWithin};
 ghost use Rattle.code_model.specs.Reading.{Gives};
+
+#[cfg(test)]
+mod tests;
 
 use crate::error::{AdmitError, CodeCause};
 use crate::starts::Body;

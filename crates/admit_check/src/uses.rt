@@ -9,8 +9,9 @@ ghost use Rattle.const_pool.specs.Members.{reference_view};
 ghost use Rattle.admit_check.specs.Texts.{is_class_name, is_field_text, is_method_text};
 ghost use Rattle.admit_check.specs.Uses.{pool_use, index_of, is_loadable, is_wide_constant};
 ghost use Rattle.admit_check.specs.Uses.{named_interface_method, may_name};
-ghost use Rattle.admit_check.specs.Uses.{is_member_name, fits_use, fits_pool};
-ghost use Rattle.admit_check.specs.Uses.{slots_from, short_slots, plain_slots, slot_count, slots_of, fits_locals};
+ghost use Rattle.admit_check.specs.Uses.{is_member_name, fits_member, fits_use, fits_pool};
+ghost use Rattle.admit_check.specs.Uses.{slots_from, short_slots, plain_slots, slot_count};
+ghost use Rattle.admit_check.specs.Uses.{slots_of, fits_locals};
 ghost use Rattle.admit_check.specs.Uses.{is_int_kind, is_long_kind, is_float_kind, is_double_kind};
 ghost use Rattle.admit_check.specs.Uses.{is_reference_kind, fits_return};
 ghost use Rattle.admit_check.specs.Uses.{named_dimensions, fits_type};
@@ -118,7 +119,8 @@ fn is_field_name(op: u8, field: MemberRef<'_>) -> bool
 
 /// Whether an instruction of this opcode may name the method.
 fn is_method_name(alloc: Global, op: u8, method: MemberRef<'_>) -> Result<bool, NoMemory>
-    ensures { IfOk result (λ right. right ≡ is_member_name is_method_text op (reference_view method.entry)) }
+    ensures { IfOk result (λ right.
+        right ≡ is_member_name is_method_text op (reference_view method.entry)) }
 {
     if !is_class_name(method.class) {
         return Ok(false);
@@ -159,7 +161,7 @@ fn named_interface_method(pool: &Pool, index: u16) -> Option<MemberRef<'_>>
 
 /// Whether an instruction of this opcode may name the field.
 fn fits_field(op: u8, field: Option<MemberRef<'_>>) -> bool
-    ensures { result ≡ option_map_or (is_member_name is_field_text op) (option_map reference_view field.entry) false }
+    ensures { result ≡ fits_member is_field_text op (option_map reference_view field.entry) }
 {
     match field {
         Some(field) => is_field_name(op, field),
@@ -169,7 +171,8 @@ fn fits_field(op: u8, field: Option<MemberRef<'_>>) -> bool
 
 /// Whether an instruction of this opcode may name the method.
 fn fits_method(alloc: Global, op: u8, method: Option<MemberRef<'_>>) -> Result<bool, NoMemory>
-    ensures { IfOk result (λ fits. fits ≡ option_map_or (is_member_name is_method_text op) (option_map reference_view method.entry) false) }
+    ensures { IfOk result (λ fits.
+        fits ≡ fits_member is_method_text op (option_map reference_view method.entry)) }
 {
     match method {
         Some(method) => is_method_name(alloc, op, method),
@@ -208,7 +211,13 @@ fn fits_class(pool: &Pool, index: u16) -> bool
 }
 
 /// Whether an instruction of this opcode may take the entry at an index.
-fn fits_use(alloc: Global, pool: &Pool, op: u8, index: u16, takes: PoolUse) -> Result<bool, NoMemory>
+fn fits_use(
+    alloc: Global,
+    pool: &Pool,
+    op: u8,
+    index: u16,
+    takes: PoolUse,
+) -> Result<bool, NoMemory>
     ensures { IfOk result (λ fits. fits ≡ fits_use pool.now op index takes) }
 {
     match takes {
