@@ -1,5 +1,5 @@
 -- The acts of a plan, one after the other.
-use Rattle.std.proofs.Common.{◌≡◌, List, ◌++◌, Result, Ok, Err}
+use Rattle.std.proofs.Common.{List, ◌++◌, Result, Ok, Err}
 use Rattle.jvm_model.specs.declared.event.Act.{Act}
 use Rattle.admit_check.specs.declared.error.AdmitError.{AdmitError}
 

@@ -1,10 +1,9 @@
 -- What stands behind the last class.
-use Rattle.std.proofs.Common.{◌≡◌, ℕ, ◌≤◌, Bool, true, false, List, length, Option, Some, Result, Ok, refl, sym, ap, ◌∙◌, arith}
+use Rattle.std.proofs.Common.{◌≡◌, ℕ, Bool, false, List, length, Some, Ok, sym, ap, ◌∙◌}
 use Rattle.std.specs.Prelude.{nat_lt}
 use Rattle.jvm_model.specs.declared.event.Act.{Act}
 use Rattle.jvm_model.specs.declared.program.Program.{Program}
 use Rattle.plan_text.specs.declared.plan.Plan.{Plan}
-use Rattle.admit_check.specs.declared.error.AdmitError.{AdmitError}
 use Rattle.admit_check.specs.declared.error.AdmitError.TheVariants.{TooManyMethods}
 use Rattle.admit_check.specs.Checks.{fault_if}
 use Rattle.admit_check.specs.Admission.{acts_from, completed, main_in, unless_fault, with_acts, with_main}

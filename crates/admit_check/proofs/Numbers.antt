@@ -1,6 +1,6 @@
 -- How many methods the classes of a program have, and that their numbers fit.
-use Rattle.std.proofs.Common.{◌≡◌, ℕ, suc, ◌+◌, ◌*◌, ◌<◌, ◌≤◌, ◌^◌, Bool, true, false, List, [], ◌∷◌, ◌++◌, length, refl, sym, ap, ◌∙◌, subst, arith}
-use Rattle.std.specs.Prelude.{map, is_some, if◌then◌else◌}
+use Rattle.std.proofs.Common.{◌≡◌, ℕ, suc, ◌+◌, ◌*◌, ◌<◌, ◌≤◌, ◌^◌, Bool, true, false, List, [], ◌∷◌, ◌++◌, length, refl, sym, ap, ◌∙◌, arith}
+use Rattle.std.specs.Prelude.{is_some, if◌then◌else◌}
 use Rattle.std.specs.List.{AllByRecursion}
 use Rattle.std.proofs.lemmas.List.{length-append, length-map}
 use Rattle.const_pool.specs.declared.class.ClassFile.{ClassFile}
@@ -8,7 +8,7 @@ use Rattle.const_pool.specs.declared.class.Member.{Member}
 use Rattle.const_pool.specs.ClassFile.{IsClassFile}
 use Rattle.jvm_model.specs.declared.program.MethodPlace.{MethodPlace}
 use Rattle.jvm_model.specs.Methods.{code_of}
-use Rattle.jvm_model.specs.Programs.{coded_from, numbered, numbered_from}
+use Rattle.jvm_model.specs.Programs.{coded_from, numbered_from}
 use Rattle.plan_text.specs.declared.plan.Plan.{Plan}
 use Rattle.base_classes.specs.BuiltInClasses.{built_in_classes}
 use Rattle.base_classes.specs.ObjectClasses.{object_classes}

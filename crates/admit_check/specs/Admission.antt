@@ -85,7 +85,7 @@ acts_from p at (a ∷ rest) = act_with (act_of p a) at (acts_from p (at + 1) res
 
 -- ---- the answer
 
--- the program with these acts
+-- the program with its main method and its acts
 abbrev pub with_acts : Program → ℕ → Result (List Act) AdmitError → Result Program AdmitError
 with_acts p main (Ok acts) = Ok (record p { main = main; acts = acts })
 with_acts p main (Err fault) = Err fault
@@ -94,11 +94,12 @@ abbrev pub with_main : Program → Plan → Option ℕ → Result Program AdmitE
 with_main p plan None = Err NoMain
 with_main p plan (Some main) = with_acts p main (acts_from p 1 plan.actions)
 
+-- the fault, or else what is answered without one
 abbrev pub unless_fault : {A : Type 0} → Option AdmitError → Result A AdmitError → Result A AdmitError
 unless_fault (Some fault) answer = Err fault
 unless_fault None answer = answer
 
--- behind the last class: the first of so many classes are given
+-- what is answered behind the last class, where so many classes are given
 abbrev pub completed : Program → ℕ → List ℕ → Plan → Result Program AdmitError
 completed p given main plan = unless_fault (count_fault p) (with_main p plan (main_in p given main))
 
@@ -106,8 +107,9 @@ abbrev pub admission : List ClassFile → List ClassFile → List ℕ → Plan �
 admission classes built_in main plan =
     unless_fault (classes_fault [] classes) (completed (program_with classes built_in plan) (length classes) main plan)
 
--- ---- the classes that a program finds beside its own
+-- ---- over the classes that a program finds beside its own
 
+-- the class files that base_classes gives: the order of their pools' entries is its own
 pub record AreBuiltIn (classes : List ClassFile) : Type 0 where
   pub declared : map declaration_of classes ≡ built_in_classes
   pub formed : AllByRecursion IsClassFile classes

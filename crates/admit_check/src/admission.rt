@@ -203,10 +203,10 @@ fn admit_over(
     }
 }
 
-/// The program of these classes, with the built-in ones behind them, or its first fault: the classes are taken in order, and
-/// of each its name, its shape, its codes and then its floating point; behind the last class the number of methods, the main
-/// method in the class named `main`, which has slashes, and the roots of the plan's actions. Neither the plan's main class nor
-/// its budget is looked at.
+/// The program of these classes, with the built-in ones behind them, or its first fault. The classes are taken in order, and
+/// of each its name, its shape, its codes and then its floating point; behind the last class come the number of methods, the
+/// main method in the class named `main`, with slashes, and the roots of the plan's actions. Each class is read once; each
+/// action looks through the classes and the methods. Neither the plan's main class nor its budget is looked at.
 pub fn admit(
     alloc: Global,
     classes: Seq<ClassFile>,

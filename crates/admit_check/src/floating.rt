@@ -2,7 +2,6 @@
 
 ghost use Rattle.std.specs.Prelude.{◌≡◌, ◌<◌, ◌^◌, length, map};
 ghost use Rattle.std.specs.Option.{option_and_then};
-ghost use Rattle.base_classes.specs.Soundness.{has_float};
 ghost use Rattle.const_pool.specs.ClassFile.{IsClassFile};
 ghost use Rattle.const_pool.specs.Members.{reference_view};
 ghost use Rattle.admit_check.specs.Checks.{first_from};

@@ -2,14 +2,13 @@
 //! Specification 5.4.3.3, 12.1.4 of the Java language).
 
 ghost use Rattle.std.specs.Prelude.{◌≡◌, ◌++◌, ◌<◌, ◌^◌, length, position, is_some, IfOk, OnOk};
-ghost use Rattle.std.specs.Option.{option_map_or};
 ghost use Rattle.std.specs.List.{AllByRecursion};
 ghost use Rattle.const_pool.specs.ClassFile.{IsClassFile};
 ghost use Rattle.const_pool.specs.References.{name_type_of};
 ghost use Rattle.jvm_model.specs.Methods.{code_of, is_member, method_named, same_text_at};
 ghost use Rattle.jvm_model.specs.Programs.{coded_from, declared_method, has_name, number_from};
-ghost use Rattle.jvm_model.specs.Programs.{class_at, number_of_method, numbered, same_place};
-ghost use Rattle.jvm_model.specs.SmallClass.{has_flag, is_public_static, main_member, public_static};
+ghost use Rattle.jvm_model.specs.Programs.{numbered, same_place};
+ghost use Rattle.jvm_model.specs.SmallClass.{is_public_static, main_member, public_static};
 ghost use Rattle.admit_check.specs.Admission.{act_of, acts_from};
 ghost use Rattle.admit_check.specs.Stages.{Answers, HasNumbers};
 ghost use Rattle.admit_check.specs.Admission.{declared_main, main_in, main_of_class, root_in};
