@@ -4,6 +4,7 @@ pub mod Completed
 pub mod Decoded
 pub mod Entries
 pub mod Grammar
+pub mod NamesSeen
 pub mod Numbers
 pub mod Tables
 pub mod Walks

@@ -1,5 +1,5 @@
 -- What the functions of admission owe one another.
-use Rattle.std.specs.Prelude.{◌≡◌, ◌≢◌, ℕ, ◌+◌, ◌<◌, ◌^◌, Bool, false, List, [], ◌∷◌, ◌++◌, length, filter_map, Option, None, Result, Ok, Err}
+use Rattle.std.specs.Prelude.{◌≡◌, ◌≢◌, ℕ, ◌+◌, ◌<◌, ◌^◌, Bool, false, List, [], ◌∷◌, ◌++◌, length, filter_map, Option, None, Result, Ok, Err, if◌then◌else◌}
 use Rattle.std.specs.List.{AllByRecursion, list_any}
 use Rattle.std.specs.Option.{option_map_or, option_or}
 use Rattle.const_pool.specs.declared.class.ClassFile.{ClassFile}
@@ -46,10 +46,17 @@ abbrev pub class_fault_among : List (List ℕ) → ℕ → ClassFile → Option 
 class_fault_among names k c =
     first_of (name_fault_among names k c ∷ shape_fault k c ∷ codes_fault k c ∷ floating_fault k c ∷ [])
 
+-- a name more, if it is none of them
+abbrev pub with_name : List (List ℕ) → List ℕ → List (List ℕ)
+with_name names name = if list_any (same_text name) names then names else names ++ name ∷ []
+
+abbrev pub with_name_of : List (List ℕ) → ClassFile → List (List ℕ)
+with_name_of names c = option_map_or (with_name names) (own_name c) names
+
 abbrev pub classes_fault_among : List (List ℕ) → ℕ → List ClassFile → Option AdmitError
 classes_fault_among names k [] = None
 classes_fault_among names k (c ∷ rest) =
-    option_or (class_fault_among names k c) (classes_fault_among (names ++ names_of (c ∷ [])) (k + 1) rest)
+    option_or (class_fault_among names k c) (classes_fault_among (with_name_of names c) (k + 1) rest)
 
 -- ---- numbers
 

@@ -6,14 +6,15 @@ ghost use Rattle.const_pool.specs.ClassFile.{IsClassFile};
 ghost use Rattle.admit_check.specs.Admission.{AreBuiltIn, IsAdmission};
 ghost use Rattle.admit_check.specs.Stages.{Answers, HasNumbers, Passes};
 ghost use Rattle.admit_check.specs.Admission.{classes_fault};
-ghost use Rattle.admit_check.specs.Stages.{code_fault_of, class_fault_among, names_of};
+ghost use Rattle.admit_check.specs.Stages.{code_fault_of, class_fault_among, with_name_of};
 ghost use Rattle.admit_check.specs.Admission.{program_with, completed, admission};
 
 use crate::codes::check_codes;
 use crate::error::AdmitError;
 use crate::floating::floating_fault;
+use crate::name_set::NameSet;
 use crate::program::{acts_of, main_in, numbered};
-use crate::stubs::{NameSet, name_fault, shape_fault};
+use crate::stubs::{name_fault, shape_fault};
 use base_classes::built_in;
 use const_pool::ClassFile;
 use jf_bytes::{NoMemory, Seq, Text16};
@@ -70,11 +71,11 @@ fn check_class(
 }
 
 /// Adds the class's name.
-fn add_name(names: &mut NameSet, class: &ClassFile) -> Result<(), NoMemory>
-    ensures { OnOk result (names.new ≡ names.old ++ names_of (class.now ∷ [])) }
+fn add_name(alloc: Global, names: &mut NameSet, class: &ClassFile) -> Result<(), NoMemory>
+    ensures { OnOk result (names.new ≡ with_name_of names.old class.now) }
 {
     match class.pool.class_name(class.this_class) {
-        Ok(name) => names.add(name),
+        Ok(name) => names.add(alloc, name),
         Err(_) => Ok(()),
     }
 }
@@ -88,7 +89,7 @@ fn check_classes(alloc: Global, classes: &[ClassFile]) -> Result<(), AdmitError>
     let mut names = NameSet::new(alloc);
     for (number, class) in classes.iter().enumerate() {
         match check_class(alloc, number as u32, class, &names) {
-            Ok(()) => add_name(&mut names, class)?,
+            Ok(()) => add_name(alloc, &mut names, class)?,
             Err(fault) => return Err(fault),
         }
     }

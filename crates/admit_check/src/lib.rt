@@ -5,6 +5,7 @@ mod admission;
 mod codes;
 mod error;
 mod floating;
+mod name_set;
 mod program;
 mod shapes;
 mod starts;

@@ -1,53 +1,16 @@
 //! STUBS, none of them done: what part A gives in its own files, with the clauses that admission.rt takes. They go
 //! when those are there.
 
-ghost use Rattle.std.specs.Prelude.{◌≡◌, ◌++◌, ◌∷◌, [], IfOk, OnOk};
-ghost use Rattle.std.specs.List.{list_any};
-ghost use Rattle.jvm_model.specs.Descriptors.{same_text};
+ghost use Rattle.std.specs.Prelude.{◌≡◌, IfOk};
 ghost use Rattle.admit_check.specs.Stages.{name_fault_among};
 ghost use Rattle.admit_check.specs.Shapes.{shape_fault};
 
 use crate::error::AdmitError;
+use crate::name_set::NameSet;
 use crate::shapes::is_reserved;
 use const_pool::ClassFile;
-use jf_bytes::{NoMemory, Seq, Text16};
+use jf_bytes::NoMemory;
 use std::alloc::Global;
-use std::marker::Model;
-
-#[derive(Debug, Drop)]
-pub struct NameSet {
-    names: Seq<Text16>,
-}
-
-impl Model for NameSet {
-    ghost use Rattle.std.specs.Prelude.{List, ℕ};
-
-    ghost Value = { List (List ℕ) };
-
-    ghost view = { λ s. s.names };
-}
-
-impl NameSet {
-    pub fn new(alloc: Global) -> NameSet
-        ensures { result ≡ [] }
-    {
-        NameSet {
-            names: Seq::new(alloc),
-        }
-    }
-
-    pub fn has(&self, name: &Text16) -> bool
-        ensures { result ≡ list_any (same_text name.now) self.now }
-    {
-        self.names.as_slice().iter().any(|other| name.same(other))
-    }
-
-    pub fn add(&mut self, _name: &Text16) -> Result<(), NoMemory>
-        ensures { OnOk result (self.new ≡ self.old ++ _name.now ∷ []) }
-    {
-        Err(NoMemory)
-    }
-}
 
 pub fn name_fault(number: u32, class: &ClassFile, names: &NameSet) -> Option<AdmitError>
     ensures { result ≡ name_fault_among names.now number class.now }
