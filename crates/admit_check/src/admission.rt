@@ -12,9 +12,9 @@ ghost use Rattle.admit_check.specs.Admission.{program_with, completed, admission
 use crate::codes::check_codes;
 use crate::error::AdmitError;
 use crate::floating::floating_fault;
-use crate::name_set::NameSet;
+use crate::name_set::{NameSet, name_fault};
 use crate::program::{acts_of, main_in, numbered};
-use crate::stubs::{name_fault, shape_fault};
+use crate::stubs::shape_fault;
 use base_classes::built_in;
 use const_pool::ClassFile;
 use jf_bytes::{NoMemory, Seq, Text16};

@@ -3,8 +3,11 @@
 ghost use Rattle.std.specs.Prelude.{◌≡◌, [], OnOk};
 ghost use Rattle.std.specs.List.{list_any};
 ghost use Rattle.jvm_model.specs.Descriptors.{same_text};
-ghost use Rattle.admit_check.specs.Stages.{with_name};
+ghost use Rattle.admit_check.specs.Stages.{name_fault_among, with_name};
 
+use crate::error::AdmitError;
+use crate::shapes::is_reserved;
+use const_pool::ClassFile;
 use indexmap::IndexSet;
 use jf_bytes::{NoMemory, Text16};
 use std::alloc::Global;
@@ -48,5 +51,20 @@ impl NameSet {
         let units = Vec::from_slice(alloc, name.units())?;
         self.names.insert(units)?;
         Ok(())
+    }
+}
+
+/// The fault of a class's name, with these names before it.
+pub fn name_fault(number: u32, class: &ClassFile, names: &NameSet) -> Option<AdmitError>
+    ensures { result ≡ name_fault_among names.now number class.now }
+{
+    if is_reserved(class) {
+        return Some(AdmitError::ReservedName(number));
+    }
+    let name = class.pool.class_name(class.this_class).ok()?;
+    if names.has(name) {
+        Some(AdmitError::Duplicate(number))
+    } else {
+        None
     }
 }
