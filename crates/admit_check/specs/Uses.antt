@@ -1,5 +1,5 @@
 -- What an instruction names: a constant, locals, targets, a type (JVM Specification 4.9.1, 6.5). One row an opcode or a group of them.
-use Rattle.std.specs.Prelude.{◌≡◌, ℕ, ◌<◌, ◌+◌, ◌-◌, ◌%◌, Bool, true, false, not, List, ◌∷◌, Option, Some, None, unwrap_or, slice_get, codes, nat_le, ◌==◌, ◌&&◌, ◌||◌, if◌then◌else◌}
+use Rattle.std.specs.Prelude.{◌≡◌, ℕ, ◌<◌, ◌+◌, ◌-◌, ◌%◌, Bool, true, false, not, List, Option, Some, None, unwrap_or, slice_get, codes, nat_le, ◌==◌, ◌&&◌, ◌||◌, if◌then◌else◌}
 use Rattle.std.specs.Int.{is_in_range}
 use Rattle.std.specs.List.{AllByRecursion, list_all, list_any}
 use Rattle.std.specs.Option.{option_map_or}
@@ -8,7 +8,7 @@ use Rattle.const_pool.specs.declared.pool.Const.TheVariants.{Integer, Float, Lon
 use Rattle.const_pool.specs.declared.descriptor.Kind.{Kind}
 use Rattle.const_pool.specs.declared.descriptor.Kind.TheVariants as kind
 use Rattle.const_pool.specs.Pool.{entry_at}
-use Rattle.const_pool.specs.References.{Reference, NameAndType, named_class, named_text, named_member, named_field, named_method}
+use Rattle.const_pool.specs.References.{Reference, named_class, named_text, named_member, named_field, named_method}
 use Rattle.code_model.specs.declared.instr.Arg.{Arg}
 use Rattle.code_model.specs.declared.instr.Arg.TheVariants as arg
 use Rattle.code_model.specs.declared.instr.Instr.{Instr}
@@ -17,7 +17,7 @@ use Rattle.jvm_model.specs.Descriptors.{same_text}
 use Rattle.admit_check.specs.declared.uses.PoolUse.{PoolUse}
 use Rattle.admit_check.specs.declared.uses.PoolUse.TheVariants as use_of
 use Rattle.admit_check.specs.declared.uses.Slots.{Slots}
-use Rattle.admit_check.specs.Texts.{dimensions_of, is_array_name, is_class_name, is_field_text, is_method_text}
+use Rattle.admit_check.specs.Texts.{dimensions_of, is_class_name, is_field_text, is_method_text}
 
 -- ---- constants
 

@@ -1,4 +1,3 @@
-use Rattle.std.proofs.Common.{subst}
 use Rattle.admit_check.proofs.Tables.{marks}
 use Rattle.admit_check.proofs.starts.starts_of.Goals as goal
 
