@@ -1,4 +1,5 @@
 pub mod Acts
+pub mod Admitted
 pub mod CodeLengths
 pub mod Completed
 pub mod Decoded
