@@ -1,13 +1,16 @@
 //! Each cause, with its numbers: the method at position 2 of the class at position 3 has one local and gives nothing.
 
 ghost use Rattle.std.specs.Prelude.{◌≡◌, ◌<◌, ◌≤◌, ◌++◌, ◌∷◌, [], replicate, length, IfOk, IfSome};
+ghost use Rattle.std.specs.List.{AllByRecursion};
 ghost use Rattle.const_pool.specs.declared.pool.Const.TheVariants.{Utf8};
+ghost use Rattle.const_pool.specs.ClassFile.{IsClassFile};
 ghost use Rattle.jvm_model.specs.Methods.{code_of};
 ghost use Rattle.admit_check.specs.Codes.{HasCodeLength};
 
-use super::check_method;
+use super::{check_codes, check_method};
 use crate::error::{AdmitError, CodeCause};
-use const_pool::{Attribute, CodeAttribute, Const, Handler, Member, Pool};
+use base_classes::built_in;
+use const_pool::{Attribute, ClassFile, CodeAttribute, Const, Handler, Member, Pool};
 use jf_bytes::{NoMemory, Seq, Text16};
 use std::alloc::Global;
 use std::test::*;
@@ -288,5 +291,24 @@ fn tells_the_first(rt: HostRuntime) -> Result<(), Fail> {
     // Control falls off the code's end.
     let falls = told(alloc, &pool, &[0x10, 5, 0], &[WRONG_HANDLER])?;
     assert!(rt; falls == Some((2, CodeCause::Falls)));
+    Ok(())
+}
+
+/// Whether no code of these classes has a fault.
+fn have_right_codes(alloc: Global, classes: &[ClassFile]) -> bool
+    requires { AllByRecursion IsClassFile classes.now }
+{
+    for class in classes {
+        if check_codes(alloc, 0, class).is_err() {
+            return false;
+        }
+    }
+    true
+}
+
+#[test]
+fn tells_nothing_of_built_in_classes(rt: HostRuntime) -> Result<(), Fail> {
+    let classes = built_in(rt.alloc()).ok().ok_or("no memory")?;
+    assert!(rt; have_right_codes(rt.alloc(), classes.as_slice()));
     Ok(())
 }
