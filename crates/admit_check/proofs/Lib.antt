@@ -8,4 +8,5 @@ pub mod Grammar
 pub mod NamesSeen
 pub mod Numbers
 pub mod Tables
+pub mod Keys
 pub mod Walks

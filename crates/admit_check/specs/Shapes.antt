@@ -1,5 +1,5 @@
 -- What is asked of a class before its code is read: its name, and its shape (JVM Specification 4.1, 4.5, 4.6, 4.7.2, 4.7.3).
-use Rattle.std.specs.Prelude.{ℕ, ◌+◌, Bool, true, false, not, List, [], ◌∷◌, length, Option, Some, None, codes, count_by, nat_lt, ◌==◌, ◌&&◌, ◌||◌, if◌then◌else◌}
+use Rattle.std.specs.Prelude.{ℕ, ◌+◌, Bool, true, false, not, List, [], ◌∷◌, ◌++◌, length, Option, Some, None, codes, count_by, nat_lt, ◌==◌, ◌&&◌, ◌||◌, if◌then◌else◌}
 use Rattle.std.specs.Option.{option_map_or}
 use Rattle.std.specs.List.{list_any}
 use Rattle.const_pool.specs.declared.pool.Const.{Const}
@@ -75,9 +75,13 @@ abbrev pub is_same_member : List Const → Member → Member → Bool
 is_same_member pool a b =
     same_named (named_text pool a.name) (named_text pool b.name) && same_named (named_text pool a.descriptor) (named_text pool b.descriptor)
 
+-- a member agrees with one before it
+abbrev pub has_twin_behind : List Const → List Member → List Member → Bool
+has_twin_behind pool before [] = false
+has_twin_behind pool before (m ∷ rest) = list_any (is_same_member pool m) before || has_twin_behind pool (before ++ m ∷ []) rest
+
 abbrev pub has_twins : List Const → List Member → Bool
-has_twins pool [] = false
-has_twins pool (m ∷ rest) = list_any (is_same_member pool m) rest || has_twins pool rest
+has_twins pool members = has_twin_behind pool [] members
 
 abbrev pub has_member_twice : ClassFile → Bool
 has_member_twice c = has_twins c.pool c.fields || has_twins c.pool c.methods

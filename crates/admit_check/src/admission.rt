@@ -14,7 +14,7 @@ use crate::error::AdmitError;
 use crate::floating::floating_fault;
 use crate::name_set::{NameSet, name_fault};
 use crate::program::{acts_of, main_in, numbered};
-use crate::stubs::shape_fault;
+use crate::shapes::shape_fault;
 use base_classes::built_in;
 use const_pool::ClassFile;
 use jf_bytes::{NoMemory, Seq, Text16};

@@ -9,8 +9,8 @@ mod name_set;
 mod program;
 mod shapes;
 mod starts;
-mod stubs;
 mod texts;
+mod twins;
 mod uses;
 
 pub use admission::admit;

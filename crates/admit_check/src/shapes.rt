@@ -11,9 +11,11 @@ ghost use Rattle.admit_check.specs.Shapes.{final_names, is_no_super_name, has_wr
 ghost use Rattle.admit_check.specs.Shapes.{has_wrong_text, has_wrong_descriptor, is_code, code_count};
 ghost use Rattle.admit_check.specs.Shapes.{has_wrong_code_count, fits_kind, takes_kind, fits_descriptor};
 ghost use Rattle.admit_check.specs.Shapes.{constants_of, fits_constant, has_right_constants};
-ghost use Rattle.admit_check.specs.Shapes.{has_wrong_constant};
+ghost use Rattle.admit_check.specs.Shapes.{has_wrong_constant, shape_fault};
 
+use crate::error::{AdmitError, ShapeCause};
 use crate::texts::{field_kind, is_array_name, is_field_text, method_kinds};
+use crate::twins::has_member_twice;
 use base_classes::is_built_in;
 use const_pool::{Attribute, ClassFile, Const, Kind, Member, Pool};
 use jf_bytes::{NoMemory, Seq, Text16};
@@ -312,4 +314,33 @@ pub fn has_constant_fault(alloc: Global, pool: &Pool, fields: &[Member]) -> Resu
         }
     }
     Ok(false)
+}
+
+/// The first fault of a class's shape, in the order of `ShapeCause`.
+pub fn shape_fault(
+    alloc: Global,
+    number: u32,
+    class: &ClassFile,
+) -> Result<Option<AdmitError>, NoMemory>
+    ensures { IfOk result (λ fault. fault ≡ shape_fault number class.now) }
+{
+    if has_wrong_name(class) {
+        return Ok(Some(AdmitError::BadShape(number, ShapeCause::Name)));
+    }
+    if has_wrong_super(class) {
+        return Ok(Some(AdmitError::BadShape(number, ShapeCause::Super)));
+    }
+    if has_wrong_descriptor(alloc, class)? {
+        return Ok(Some(AdmitError::BadShape(number, ShapeCause::Descriptor)));
+    }
+    if has_member_twice(alloc, class)? {
+        return Ok(Some(AdmitError::BadShape(number, ShapeCause::Twice)));
+    }
+    if has_wrong_code(class.methods.as_slice()) {
+        return Ok(Some(AdmitError::BadShape(number, ShapeCause::Code)));
+    }
+    if has_constant_fault(alloc, &class.pool, class.fields.as_slice())? {
+        return Ok(Some(AdmitError::BadShape(number, ShapeCause::Constant)));
+    }
+    Ok(None)
 }
