@@ -1,0 +1,12 @@
+pub mod Acts
+pub mod Admitted
+pub mod CodeLengths
+pub mod Completed
+pub mod Decoded
+pub mod Entries
+pub mod Grammar
+pub mod NamesSeen
+pub mod Numbers
+pub mod Tables
+pub mod Keys
+pub mod Walks

@@ -1,0 +1,123 @@
+-- What is admitted: a program's classes, or its first fault.
+use Rattle.std.specs.Prelude.{◌⊎◌, IsTrue, ◌≡◌, ℕ, ◌+◌, List, [], ◌∷◌, ◌++◌, length, map, Option, Some, None, Result, Ok, Err, unwrap_or, nat_lt, if◌then◌else◌}
+use Rattle.std.specs.Option.{option_and_then, option_map, option_or}
+use Rattle.std.specs.List.{AllByRecursion}
+use Rattle.const_pool.specs.declared.class.ClassFile.{ClassFile}
+use Rattle.const_pool.specs.ClassFile.{IsClassFile}
+use Rattle.const_pool.specs.References.{name_type_of}
+use Rattle.base_classes.specs.BuiltInClasses.{IsBare, built_in_classes}
+use Rattle.base_classes.specs.Shown.{declaration_of}
+use Rattle.base_classes.specs.Soundness.{IsSound, in_order}
+use Rattle.plan_text.specs.declared.plan.Action.{Action}
+use Rattle.plan_text.specs.declared.plan.Plan.{Plan}
+use Rattle.plan_text.specs.declared.plan.RootName.{RootName}
+use Rattle.jvm_model.specs.declared.event.Act.{Act}
+use Rattle.jvm_model.specs.declared.program.Program.{Program}
+use Rattle.jvm_model.specs.Methods.{method_named}
+use Rattle.jvm_model.specs.Programs.{class_at, class_named, declared_method, number_of_method, numbered}
+use Rattle.jvm_model.specs.SmallClass.{main_member, public_static}
+use Rattle.admit_check.specs.declared.error.AdmitError.{AdmitError}
+use Rattle.admit_check.specs.declared.error.AdmitError.TheVariants.{TooManyMethods, NoMain, NoSuchRoot, NoMemory}
+use Rattle.admit_check.specs.Checks.{fault_if, first_of}
+use Rattle.admit_check.specs.Shapes.{name_fault, shape_fault}
+use Rattle.admit_check.specs.Codes.{codes_fault}
+use Rattle.admit_check.specs.Floating.{floating_fault}
+
+-- ---- the classes, in order
+
+abbrev pub class_fault : List ClassFile → ℕ → ClassFile → Option AdmitError
+class_fault earlier k c = first_of (name_fault earlier k c ∷ shape_fault k c ∷ codes_fault k c ∷ floating_fault k c ∷ [])
+
+abbrev pub classes_fault : List ClassFile → List ClassFile → Option AdmitError
+classes_fault earlier [] = None
+classes_fault earlier (c ∷ rest) = option_or (class_fault earlier (length earlier) c) (classes_fault (earlier ++ c ∷ []) rest)
+
+-- ---- the program of classes that have no fault
+
+-- the classes, and the built-in ones behind them; main and the acts are found in it
+abbrev pub program_with : List ClassFile → List ClassFile → Plan → Program
+program_with classes built_in plan = record {
+  classes = classes ++ built_in;
+  methods = numbered (classes ++ built_in);
+  main = 0;
+  acts = [];
+  args = plan.args;
+  heap = unwrap_or plan.heap 4194304;
+}
+
+-- at most 32,768 methods have Code
+abbrev pub count_fault : Program → Option AdmitError
+count_fault p = fault_if (nat_lt 32768 (length p.methods)) (TooManyMethods (length p.methods))
+
+-- ---- its main method
+
+-- the position of a class's public static `main`
+abbrev pub declared_main : ClassFile → Option ℕ
+declared_main c = option_and_then (public_static c) (method_named c main_member)
+
+-- the number of the one with Code in the class at this position
+abbrev pub main_of_class : Program → ℕ → Option ℕ
+main_of_class p class = option_and_then (λ c. option_and_then (number_of_method p class) (declared_main c)) (class_at p class)
+
+-- the number of the main method, in the class of this name, which is one of the given
+abbrev pub main_in : Program → ℕ → List ℕ → Option ℕ
+main_in p given name =
+    option_and_then (λ class. if nat_lt class given then main_of_class p class else None) (class_named p name)
+
+-- ---- what the plan asks for
+
+-- the number of the method that a root names
+abbrev pub root_in : Program → RootName → Option ℕ
+root_in p r = option_and_then (declared_method p (name_type_of r.name r.descriptor)) (class_named p r.class)
+
+abbrev pub act_of : Program → Action → Option Act
+act_of p a = option_map (λ method. record { moment = a.moment; select = a.select; method = method }) (root_in p a.root)
+
+-- the acts, or the place of the first whose root is no method, counted from this number
+abbrev pub acts_from : Program → ℕ → List Action → Result (List Act) AdmitError
+acts_from p at [] = Ok []
+acts_from p at (a ∷ rest) = act_with (act_of p a) at (acts_from p (at + 1) rest)
+  where
+    act_with : Option Act → ℕ → Result (List Act) AdmitError → Result (List Act) AdmitError
+    act_with None n more = Err (NoSuchRoot n)
+    act_with (Some act) n (Ok acts) = Ok (act ∷ acts)
+    act_with (Some act) n (Err fault) = Err fault
+
+-- ---- the answer
+
+-- the program with its main method and its acts
+abbrev pub with_acts : Program → ℕ → Result (List Act) AdmitError → Result Program AdmitError
+with_acts p main (Ok acts) = Ok (record p { main = main; acts = acts })
+with_acts p main (Err fault) = Err fault
+
+abbrev pub with_main : Program → Plan → Option ℕ → Result Program AdmitError
+with_main p plan None = Err NoMain
+with_main p plan (Some main) = with_acts p main (acts_from p 1 plan.actions)
+
+-- the fault, or else what is answered without one
+abbrev pub unless_fault : {A : Type 0} → Option AdmitError → Result A AdmitError → Result A AdmitError
+unless_fault (Some fault) answer = Err fault
+unless_fault None answer = answer
+
+-- what is answered behind the last class, where so many classes are given
+abbrev pub completed : Program → ℕ → List ℕ → Plan → Result Program AdmitError
+completed p given main plan = unless_fault (count_fault p) (with_main p plan (main_in p given main))
+
+abbrev pub admission : List ClassFile → List ClassFile → List ℕ → Plan → Result Program AdmitError
+admission classes built_in main plan =
+    unless_fault (classes_fault [] classes) (completed (program_with classes built_in plan) (length classes) main plan)
+
+-- ---- over the classes that a program finds beside its own
+
+-- the class files that base_classes gives: the order of their pools' entries is its own
+pub record AreBuiltIn (classes : List ClassFile) : Type 0 where
+  pub declared : map declaration_of classes ≡ built_in_classes
+  pub formed : AllByRecursion IsClassFile classes
+  pub bare : AllByRecursion IsBare classes
+  pub sound : AllByRecursion IsSound (map declaration_of classes)
+  pub ordered : IsTrue (in_order [] (map declaration_of classes))
+
+-- A call answers the admission over the built-in classes, or that memory ran out.
+abbrev pub IsAdmission : Result Program AdmitError → List ClassFile → List ℕ → Plan → Type 0
+IsAdmission result classes main plan =
+    (result ≡ Err NoMemory) ⊎ ((built_in : List ClassFile) × AreBuiltIn built_in × (result ≡ admission classes built_in main plan))

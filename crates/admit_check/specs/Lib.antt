@@ -1,0 +1,9 @@
+pub mod Checks
+pub mod Texts
+pub mod Shapes
+pub mod Stages
+pub mod Twins
+pub mod Uses
+pub mod Codes
+pub mod Floating
+pub mod Admission
