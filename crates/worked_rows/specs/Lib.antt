@@ -1,6 +1,5 @@
 pub mod Answers
 pub mod Calls
-pub mod Fetched
 pub mod Lists
 pub mod Rows
 pub mod Verdicts

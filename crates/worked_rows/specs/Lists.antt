@@ -1,12 +1,7 @@
 -- What a list of rows says.
 use Rattle.std.specs.Prelude.{◌==◌, ℕ, Bool, false, not, List, [], ◌∷◌, map, filter}
-use Rattle.std.specs.Borrow.{Bor}
 use Rattle.std.specs.List.{before_first}
 use Rattle.std.specs.Str.Lines.{lines}
-
--- the texts behind references
-abbrev pub texts_of : List (Bor (List ℕ)) → List (List ℕ)
-texts_of texts = map (λ text. text.now) texts
 
 -- a line with something on it that does not begin with #
 abbrev pub is_row : List ℕ → Bool

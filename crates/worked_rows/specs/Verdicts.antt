@@ -1,11 +1,10 @@
 -- When a row has passed, and what is told of the rows of a list.
-use Rattle.std.specs.Prelude.{◌≡◌, ℕ, List, map, Option, None, All, IfSome}
+use Rattle.std.specs.Prelude.{◌≡◌, ℕ, List, None, All}
 use Rattle.std.specs.String.{string_bytes}
 use Rattle.jf_bytes.specs.Streams.{Told}
 use Rattle.worked_rows.specs.Answers.{Agrees}
 use Rattle.worked_rows.specs.Calls.{IsAnswerTo}
-use Rattle.worked_rows.specs.Lists.{row_names}
-use Rattle.worked_rows.specs.Rows.{HasExpected, HasWords, file_at}
+use Rattle.worked_rows.specs.Rows.{HasExpected, HasWords}
 use Rattle.worked_rows.specs.declared.comparing.Answer.{Answer}
 use Rattle.worked_rows.specs.declared.expected.Expected.{Expected}
 use Rattle.worked_rows.specs.declared.judging.Verdict.{Verdict}
@@ -20,10 +19,6 @@ pub record HasPassed (told : Told) (row : List ℕ) : Type 0 where
   pub answered : IsAnswerTo words answer.status
   pub agrees : Agrees expected answer
 
--- the same, where the files tell their contents
-abbrev pub Passes : Option Told → List ℕ → Type 0
-Passes contents row = IfSome contents (λ told. HasPassed told row)
-
 -- the row that a verdict is on
 abbrev pub name_of : Verdict → List ℕ
 name_of verdict = string_bytes verdict.name
@@ -35,7 +30,3 @@ IsTrueOf told verdict = verdict.fault ≡ None → HasPassed told (name_of verdi
 -- so for each verdict
 abbrev pub AreTrueOf : Told → List Verdict → Type 0
 AreTrueOf told verdicts = All (IsTrueOf told) verdicts
-
--- the verdicts are on all rows of the list, in its order
-abbrev pub AreOnAll : Told → List ℕ → List Verdict → Type 0
-AreOnAll told list verdicts = IfSome (file_at told list) (λ text. map name_of verdicts ≡ row_names text)

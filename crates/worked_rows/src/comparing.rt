@@ -1,9 +1,8 @@
 //! What came of a row beside what must come.
 
-ghost use Rattle.std.specs.Prelude.{◌≡◌, ◌≤◌, None, Ok, length, bytes_eq, IfOk, IfSome};
-ghost use Rattle.worked_rows.specs.Answers.{IsFirstDifference, found_lines, line_number, pieces_of, HasLines};
-ghost use Rattle.worked_rows.specs.Answers.{TextDiffers, LinesDiffer, ReportAgrees, ReportDiffers, Agrees, Differs};
-ghost use Rattle.worked_rows.specs.Lists.{texts_of};
+ghost use Rattle.std.specs.Prelude.{◌≡◌, ◌==◌, ◌≤◌, None, Ok, map, length, bytes_eq, IfOk, IfSome};
+ghost use Rattle.std.specs.List.{slice_split};
+ghost use Rattle.worked_rows.specs.Answers.{IsFirstDifference, found_lines, line_number, TextDiffers, HasLines, LinesDiffer, ReportAgrees, ReportDiffers, Agrees, Differs};
 
 use crate::expected::{Expected, ExpectedReport};
 use std::alloc::{AllocError, Global};
@@ -52,7 +51,7 @@ fn first_difference(wanted: &[u8], came: &[u8]) -> Option<usize>
 
 /// The lines of a text, where each line feed parts two.
 fn pieces_of<'a>(alloc: Global, text: &'a [u8]) -> Result<Vec<&'a [u8]>, AllocError>
-    ensures { IfOk result (λ pieces. texts_of pieces.items ≡ pieces_of text.now) }
+    ensures { IfOk result (λ pieces. map (λ piece. piece.now) pieces.items ≡ slice_split (λ byte. byte == 10) text.now) }
 {
     text.split(|byte| *byte == b'\n').collect(alloc)
 }
@@ -65,7 +64,7 @@ fn same_bytes(wanted: &[u8], came: &[u8]) -> bool
 
 /// How many of the wanted lines came, each behind the ones before it.
 fn found_lines(wanted: &[&[u8]], came: &[&[u8]]) -> usize
-    ensures { result ≡ found_lines (texts_of wanted.now) (texts_of came.now) }
+    ensures { result ≡ found_lines (map (λ line. line.now) wanted.now) (map (λ line. line.now) came.now) }
 {
     let mut found = 0usize;
     for line in came {
@@ -104,7 +103,7 @@ fn lines_difference(
     came: &[u8],
 ) -> Result<Option<Difference>, AllocError>
     ensures same { result ≡ Ok None → HasLines wanted.now came.now }
-    ensures place { IfOk result (λ found. IfSome found (LinesDiffer wanted.now came.now)) }
+    ensures place { IfOk result (λ found. IfSome found (λ difference. LinesDiffer wanted.now came.now difference)) }
 {
     let wanted = pieces_of(alloc, wanted)?;
     let found = found_lines(&wanted, &pieces_of(alloc, came)?);

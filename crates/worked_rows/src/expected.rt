@@ -1,7 +1,6 @@
 //! What must come of a row.
 
-ghost use Rattle.std.specs.Prelude.{◌≡◌};
-ghost use Rattle.worked_rows.specs.Fetched.{Found};
+ghost use Rattle.std.specs.Prelude.{◌≡◌, IfOk, IfSome};
 ghost use Rattle.worked_rows.specs.Rows.{HasExpected, HasReport};
 
 use crate::parts::{RowError, fetch_part};
@@ -32,7 +31,7 @@ fn read_report<F: Files>(
     row: &str,
     files: &mut F,
 ) -> Result<ExpectedReport, RowError>
-    ensures found { Found result (F.contents files.old) (λ r told. HasReport told row.now r) }
+    ensures found { IfOk result (λ report. IfSome (F.contents files.old) (λ told. HasReport told row.now report)) }
     ensures stay { F.contents files.new ≡ F.contents files.old }
 {
     match fetch_part(alloc, row, "report", files) {
@@ -51,7 +50,7 @@ pub fn read_expected<F: Files>(
     row: &str,
     files: &mut F,
 ) -> Result<Expected, RowError>
-    ensures found { Found result (F.contents files.old) (λ e told. HasExpected told row.now e) }
+    ensures found { IfOk result (λ expected. IfSome (F.contents files.old) (λ told. HasExpected told row.now expected)) }
     ensures stay { F.contents files.new ≡ F.contents files.old }
 {
     let status = fetch_part(alloc, row, "status", files)?;

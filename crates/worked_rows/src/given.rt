@@ -1,9 +1,9 @@
 //! What a row gives to the top call.
 
-ghost use Rattle.std.specs.Prelude.{◌≡◌, ◌∷◌, map, codes, IfOk};
+ghost use Rattle.std.specs.Prelude.{◌≡◌, ◌∷◌, Some, map, codes, IfOk, IfSome};
 ghost use Rattle.std.specs.Str.Lines.{lines};
 ghost use Rattle.std.specs.String.{string_bytes};
-ghost use Rattle.worked_rows.specs.Fetched.{Found, HasStrings, IsTextPart};
+ghost use Rattle.worked_rows.specs.Rows.{HasWords, part_at};
 
 use crate::lists::lines_of;
 use crate::parts::{RowError, fetch_file, fetch_part};
@@ -134,7 +134,7 @@ fn take_line<F: Files>(
 
 /// The words that the lines say, behind the program's name.
 fn words_of(alloc: Global, text: &str) -> Result<Vec<String>, AllocError>
-    ensures { IfOk result (λ w. map string_bytes w.items ≡ codes "jfluid" ∷ lines text.now) }
+    ensures { IfOk result (λ words. map string_bytes words.items ≡ codes "jfluid" ∷ lines text.now) }
 {
     let mut words = Vec::new(alloc);
     words.push(String::from_str(alloc, "jfluid")?)?;
@@ -152,7 +152,7 @@ fn text_part<F: Files>(
     part: &str,
     files: &mut F,
 ) -> Result<String, RowError>
-    ensures found { Found result (F.contents files.old) (λ t. IsTextPart row.now part.now t) }
+    ensures found { IfOk result (λ text. IfSome (F.contents files.old) (λ told. part_at told row.now part.now ≡ Some (string_bytes text))) }
     ensures stay { F.contents files.new ≡ F.contents files.old }
 {
     let bytes = fetch_part(alloc, row, part, files)?;
@@ -164,7 +164,7 @@ fn text_part<F: Files>(
 
 /// What a row gives: the files `args` and `given` of its folder.
 pub fn read_given<F: Files>(alloc: Global, row: &str, files: &mut F) -> Result<Given, RowError>
-    ensures words { Found result (F.contents files.old) (λ g. HasStrings row.now g.words.items) }
+    ensures words { IfOk result (λ given. IfSome (F.contents files.old) (λ told. HasWords told row.now (map string_bytes given.words.items))) }
     ensures stay { F.contents files.new ≡ F.contents files.old }
 {
     let args = text_part(alloc, row, "args", files)?;

@@ -1,11 +1,11 @@
 //! The verdict on each row of a list.
 
-ghost use Rattle.std.specs.Prelude.{◌≡◌, ◌↔◌, None, Ok, Err, IfOk, IsTrue};
+ghost use Rattle.std.specs.Prelude.{◌≡◌, ◌↔◌, Some, None, Ok, Err, map, IfOk, IfSome, IsTrue};
 ghost use Rattle.std.specs.String.{string_bytes};
 ghost use Rattle.jf_bytes.specs.Streams.{Rose};
-ghost use Rattle.worked_rows.specs.Fetched.{Found, IsTextFile};
-ghost use Rattle.worked_rows.specs.Verdicts.{Passes, AreOnAll, AreTrueOf};
-ghost use Rattle.worked_rows.specs.declared.judging.ListError.TheVariants.{NotFetched};
+ghost use Rattle.worked_rows.specs.Lists.{row_names};
+ghost use Rattle.worked_rows.specs.Rows.{file_at};
+ghost use Rattle.worked_rows.specs.Verdicts.{HasPassed, AreTrueOf, name_of};
 
 use crate::calling::answer_to;
 use crate::comparing::{Difference, compare};
@@ -83,7 +83,7 @@ fn run_row<F: Files>(
     row: &str,
     files: &mut F,
 ) -> Result<Option<Difference>, RowError>
-    ensures passed { result ≡ Ok None → Passes (F.contents files.old) row.now }
+    ensures passed { result ≡ Ok None → IfSome (F.contents files.old) (λ told. HasPassed told row.now) }
     ensures stay { F.contents files.new ≡ F.contents files.old }
 {
     let expected = read_expected(alloc, row, files)?;
@@ -95,7 +95,7 @@ fn run_row<F: Files>(
 /// The verdict on the row of this name.
 fn judge<F: Files>(alloc: Global, row: &str, files: &mut F) -> Result<Verdict, ListError>
     ensures name { IfOk result (λ verdict. string_bytes verdict.name ≡ row.now) }
-    ensures passed { IfOk result (λ v. v.fault ≡ None → Passes (F.contents files.old) row.now) }
+    ensures passed { IfOk result (λ verdict. verdict.fault ≡ None → IfSome (F.contents files.old) (λ told. HasPassed told row.now)) }
     ensures stay { F.contents files.new ≡ F.contents files.old }
 {
     let name = String::from_str(alloc, row)?;
@@ -111,9 +111,9 @@ fn judge<F: Files>(alloc: Global, row: &str, files: &mut F) -> Result<Verdict, L
 /// The text of a list.
 #[tactic(auto, unfolding(crate::specs::Rows::file_at))]
 fn fetch_list<F: Files>(alloc: Global, list: &str, files: &mut F) -> Result<String, ListError>
-    ensures found { Found result (F.contents files.old) (λ t. IsTextFile list.now t) }
+    ensures found { IfOk result (λ text. IfSome (F.contents files.old) (λ told. file_at told list.now ≡ Some (string_bytes text))) }
     ensures stay { F.contents files.new ≡ F.contents files.old }
-    ensures not_fetched { result ≡ Err NotFetched → Rose (F.faults files.old) (F.faults files.new) }
+    ensures not_fetched { result ≡ Err ListError.NotFetched → Rose (F.faults files.old) (F.faults files.new) }
 {
     let bytes = match files.fetch(alloc, list, MOST) {
         Ok(bytes) => bytes,
@@ -132,8 +132,8 @@ pub fn judge_list<F: Files>(
     list: &str,
     files: &mut F,
 ) -> Result<Vec<Verdict>, ListError>
-    ensures all { Found result (F.contents files.old) (λ v told. AreOnAll told list.now v.items) }
-    ensures passed { Found result (F.contents files.old) (λ v told. AreTrueOf told v.items) }
+    ensures all { IfOk result (λ verdicts. IfSome (F.contents files.old) (λ told. IfSome (file_at told list.now) (λ text. map name_of verdicts.items ≡ row_names text))) }
+    ensures passed { IfOk result (λ verdicts. IfSome (F.contents files.old) (λ told. AreTrueOf told verdicts.items)) }
 {
     let text = fetch_list(alloc, list, files)?;
     let names = row_names(alloc, text.as_str())?;

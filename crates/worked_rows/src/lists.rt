@@ -1,8 +1,8 @@
 //! Lists of rows.
 
-ghost use Rattle.std.specs.Prelude.{◌≡◌, IfOk};
+ghost use Rattle.std.specs.Prelude.{◌≡◌, map, IfOk};
 ghost use Rattle.std.specs.Str.Lines.{lines};
-ghost use Rattle.worked_rows.specs.Lists.{is_row, name_of, names_in, row_names, texts_of};
+ghost use Rattle.worked_rows.specs.Lists.{is_row, name_of, names_in, row_names};
 
 use std::alloc::{AllocError, Global};
 
@@ -28,14 +28,14 @@ fn name_of(line: &str) -> &str
 
 /// The lines of a text.
 pub fn lines_of<'a>(alloc: Global, text: &'a str) -> Result<Vec<&'a str>, AllocError>
-    ensures { IfOk result (λ all. texts_of all.items ≡ lines text.now) }
+    ensures { IfOk result (λ all. map (λ line. line.now) all.items ≡ lines text.now) }
 {
     text.lines().collect(alloc)
 }
 
 /// The names on those of the lines that are rows.
 fn names_in<'a>(alloc: Global, lines: &[&'a str]) -> Result<Vec<&'a str>, AllocError>
-    ensures { IfOk result (λ names. texts_of names.items ≡ names_in (texts_of lines.now)) }
+    ensures { IfOk result (λ names. map (λ name. name.now) names.items ≡ names_in (map (λ line. line.now) lines.now)) }
 {
     let mut names = Vec::new(alloc);
     for line in lines {
@@ -49,7 +49,7 @@ fn names_in<'a>(alloc: Global, lines: &[&'a str]) -> Result<Vec<&'a str>, AllocE
 /// The names of the rows of a list, in its order. A line is a row's name, a colon and what the row shows; an empty line and
 /// one that begins with `#` is none.
 pub fn row_names<'a>(alloc: Global, text: &'a str) -> Result<Vec<&'a str>, AllocError>
-    ensures { IfOk result (λ names. texts_of names.items ≡ row_names text.now) }
+    ensures { IfOk result (λ names. map (λ name. name.now) names.items ≡ row_names text.now) }
 {
     let lines = lines_of(alloc, text)?;
     names_in(alloc, &lines)

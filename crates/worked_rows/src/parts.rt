@@ -1,7 +1,7 @@
 //! The files of a row.
 
-ghost use Rattle.std.specs.Prelude.{◌≡◌};
-ghost use Rattle.worked_rows.specs.Fetched.{Found, IsFile, IsPart};
+ghost use Rattle.std.specs.Prelude.{◌≡◌, Some, IfOk, IfSome};
+ghost use Rattle.worked_rows.specs.Rows.{file_at, part_at};
 
 use jf_bytes::{FetchError, Files, NoMemory};
 use std::alloc::{AllocError, AllocFailed, Global};
@@ -47,7 +47,7 @@ impl From<NoMemory> for RowError {
 /// The contents of a file by its path.
 #[tactic(auto, unfolding(crate::specs::Rows::file_at))]
 pub fn fetch_file<F: Files>(alloc: Global, path: &str, files: &mut F) -> Result<Vec<u8>, RowError>
-    ensures found { Found result (F.contents files.old) (λ b. IsFile path.now b.items) }
+    ensures found { IfOk result (λ bytes. IfSome (F.contents files.old) (λ told. file_at told path.now ≡ Some bytes.items)) }
     ensures stay { F.contents files.new ≡ F.contents files.old }
 {
     match files.fetch(alloc, path, MOST) {
@@ -64,7 +64,7 @@ pub fn fetch_part<F: Files>(
     part: &str,
     files: &mut F,
 ) -> Result<Vec<u8>, RowError>
-    ensures found { Found result (F.contents files.old) (λ b. IsPart row.now part.now b.items) }
+    ensures found { IfOk result (λ bytes. IfSome (F.contents files.old) (λ told. part_at told row.now part.now ≡ Some bytes.items)) }
     ensures stay { F.contents files.new ≡ F.contents files.old }
 {
     let path = format!(in alloc; "{row}/{part}")?;
