@@ -152,7 +152,7 @@ fn has_wrong_method_text(alloc: Global, pool: &Pool, method: &Member) -> Result<
 
 /// Whether a method among these has a descriptor that is none.
 fn has_wrong_method(alloc: Global, pool: &Pool, methods: &[Member]) -> Result<bool, NoMemory>
-    ensures { IfOk result (λ w. w ≡ list_any (has_wrong_text is_method_text pool.now) methods.now) }
+    ensures { IfOk result (λ wrong. wrong ≡ list_any (has_wrong_text is_method_text pool.now) methods.now) }
 {
     for method in methods {
         if has_wrong_method_text(alloc, pool, method)? {
