@@ -4,7 +4,6 @@ pub mod References
 pub mod Members
 pub mod BuiltIn
 pub mod Tail
-pub mod Plain
 pub mod Fronts
 pub mod Descriptors
 pub mod Stages

@@ -1,6 +1,6 @@
 -- Each method of a small class can be rewritten.
 use Rattle.std.proofs.Common.{◌≡◌, ℕ, zero, suc, ◌<◌, true, List, [], ◌∷◌, length, Some, subst}
-use Rattle.std.specs.Prelude.{slice_get}
+use Rattle.std.specs.Prelude.{slice_get, IfSome}
 use Rattle.std.specs.List.{AllByRecursion}
 use Rattle.std.proofs.lemmas.Option.{same_Some, none-some, option_and_then_some}
 use Rattle.const_pool.specs.declared.pool.Const.{Const}
@@ -10,7 +10,7 @@ use Rattle.const_pool.specs.declared.class.CodeAttribute.{CodeAttribute}
 use Rattle.const_pool.specs.declared.class.Attribute.{Attribute}
 use Rattle.const_pool.specs.declared.class.Attribute.TheVariants.{ConstantValue, Code, Other}
 use Rattle.const_pool.specs.ClassFile.{IsMember, IsMethodAttribute}
-use Rattle.const_pool.specs.Plain.{IsPlainCode, IsLoneCode}
+use Rattle.jvm_model.specs.PlainShape.{IsPlainCode, HasPlainCode}
 use Rattle.std.specs.List.{list_all}
 use Rattle.std.proofs.lemmas.Bool.{and_parts}
 use Rattle.const_pool.specs.declared.descriptor.Shape.{Shape}
@@ -30,13 +30,12 @@ holds_at P [] k x all at = absurd (none-some x at)
 holds_at P (y ∷ ys) zero x all at = subst P (same_Some y x at) all.0
 holds_at P (y ∷ ys) (suc k) x all at = holds_at P ys k x all.1 at
 
--- a code that stands alone is plain, and has a byte
-lone : (pool : List Const) (attributes : List Attribute) (code : CodeAttribute) → IsLoneCode attributes → AllByRecursion (IsMethodAttribute pool) attributes → code_among attributes ≡ Some code → IsPlainCode code × (0 < length code.code)
-lone pool (Code name old ∷ []) code plain formed coded = subst (λ (c : CodeAttribute). IsPlainCode c × (0 < length c.code)) (same_Some old code coded) (plain, formed.0.2.some)
-lone pool [] code plain formed coded = absurd plain
-lone pool (ConstantValue name index ∷ rest) code plain formed coded = absurd plain
-lone pool (Other raw ∷ rest) code plain formed coded = absurd plain
-lone pool (Code name old ∷ next ∷ rest) code plain formed coded = absurd plain
+-- a method's code has a byte
+not_empty : (pool : List Const) (attributes : List Attribute) (code : CodeAttribute) → AllByRecursion (IsMethodAttribute pool) attributes → code_among attributes ≡ Some code → 0 < length code.code
+not_empty pool [] code formed coded = absurd (none-some code coded)
+not_empty pool (ConstantValue name index ∷ rest) code formed coded = not_empty pool rest code formed.1 coded
+not_empty pool (Other raw ∷ rest) code formed coded = not_empty pool rest code formed.1 coded
+not_empty pool (Code name old ∷ rest) code formed coded = subst (λ (c : CodeAttribute). 0 < length c.code) (same_Some old code coded) formed.0.2.some
 
 -- small instructions have no targets
 all_straight : (c : ClassFile) (k most : ℕ) (shape : Shape) (is : List Instr) → list_all (is_small_instr c k most shape) is ≡ true → AllByRecursion (λ (i : Instr). targets_of i.arg ≡ []) is
@@ -51,11 +50,11 @@ all_straight c k most shape (i ∷ is) small =
 pub AreRewritable-methods : (c : ClassFile) → IsBuilt c → AreRewritable c.methods
 AreRewritable-methods c is k m at =
     let method = is.small.methods k m at in
-    let shape = holds_at (λ (m : Member). IsLoneCode m.attributes) c.methods k m is.plain.methods at in
+    let plain = subst (λ o. IfSome o IsPlainCode) method.coded (holds_at HasPlainCode c.methods k m is.plain.methods at) in
     let formed = holds_at (IsMember IsMethodAttribute c.pool) c.methods k m is.formed.methods at in
-    let code = lone c.pool m.attributes method.code shape formed.attributes method.coded in
+    let some = not_empty c.pool m.attributes method.code formed.attributes method.coded in
     record {
       code = method.code;
       coded = method.coded;
-      rewritable = record { some = code.1; plain = code.0; readable = record { reading = method.small.reading; reads = method.small.reads; straight = all_straight c k method.code.max_locals method.shape method.small.reading.instrs method.small.small } };
+      rewritable = record { some = some; plain = plain; readable = record { reading = method.small.reading; reads = method.small.reads; straight = all_straight c k method.code.max_locals method.shape method.small.reading.instrs method.small.small } };
     }

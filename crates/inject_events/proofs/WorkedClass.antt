@@ -12,7 +12,7 @@ use Rattle.const_pool.specs.declared.descriptor.Kind.TheVariants.{Int, Ref}
 use Rattle.const_pool.specs.declared.class.Member.{Member}
 use Rattle.const_pool.specs.Pool.{is_utf8, is_class, is_name_type, Names, IsEntry, AreEntries}
 use Rattle.const_pool.specs.ClassFile.{code_bytes, IsByte, IsCode, IsMember, IsMethodAttribute, IsClassFile}
-use Rattle.const_pool.specs.Plain.{IsPlainEntry, IsPlainCode, HasPlainShape}
+use Rattle.jvm_model.specs.PlainShape.{IsPlainCode, HasPlainShape}
 use Rattle.code_model.specs.declared.instr.Arg.TheVariants.{Plain as no_operand, Value, Pool as index}
 use Rattle.code_model.specs.declared.instr.Code.{Code}
 use Rattle.op_table.specs.Opcodes.{row_of, groups}
@@ -90,54 +90,16 @@ p1_entries rest e = let is : drop 1 p1_pool ≡ rest = ap (drop 1) e in subst (A
 
 -- ---- the plain shape
 
-abbrev is_plain_unit : ℕ → Bool
-is_plain_unit x = nat_lt 0 x && nat_lt x 128
-
-all_plain : (t : List ℕ) → list_all is_plain_unit t ≡ true → AllByRecursion (λ unit. (0 < unit) × (unit < 128)) t
-all_plain [] e = tt
-all_plain (x ∷ xs) e =
-    let both = and_parts (is_plain_unit x) (list_all is_plain_unit xs) e in
-    let unit = and_parts (nat_lt 0 x) (nat_lt x 128) both.0 in
-    ((ltb-true 0 x unit.0, ltb-true x 128 unit.1), all_plain xs both.1)
-
-abbrev is_plain_entry : Const → Bool
-is_plain_entry (Utf8 t) = list_all is_plain_unit t
-is_plain_entry (Class i) = true
-is_plain_entry (Field c n) = true
-is_plain_entry (Method c n) = true
-is_plain_entry (NameType n d) = true
-is_plain_entry _ = false
-
-IsPlainEntry-test : (c : Const) → is_plain_entry c ≡ true → IsPlainEntry c
-IsPlainEntry-test (Utf8 t) e = all_plain t e
-IsPlainEntry-test (Class i) e = tt
-IsPlainEntry-test (Field c n) e = tt
-IsPlainEntry-test (Method c n) e = tt
-IsPlainEntry-test (NameType n d) e = tt
-IsPlainEntry-test Gap e = absurd (false≢true e)
-IsPlainEntry-test (Integer n) e = absurd (false≢true e)
-IsPlainEntry-test (Float n) e = absurd (false≢true e)
-IsPlainEntry-test (Long n) e = absurd (false≢true e)
-IsPlainEntry-test (Double n) e = absurd (false≢true e)
-IsPlainEntry-test (Text i) e = absurd (false≢true e)
-IsPlainEntry-test (InterfaceMethod c n) e = absurd (false≢true e)
-
-all_plain_entries : (entries : List Const) → list_all is_plain_entry entries ≡ true → AllByRecursion IsPlainEntry entries
-all_plain_entries [] e = tt
-all_plain_entries (c ∷ rest) e = let both = and_parts (is_plain_entry c) (list_all is_plain_entry rest) e in (IsPlainEntry-test c both.0, all_plain_entries rest both.1)
-
 plain_code : (bytes : List ℕ) → length bytes ≤ 9000 → IsPlainCode (code_with bytes)
-plain_code bytes short = record { stack = omega arith; short = short; handlers = refl; attributes = refl }
+plain_code bytes short = record { stack = omega arith; short = short; handlers = refl }
 
 p1_plain : HasPlainShape p1
 p1_plain = record {
   count = omega arith;
-  entries = all_plain_entries (drop 1 p1_pool) refl;
   interfaces = refl;
   fields = refl;
   few = omega arith;
   methods = (plain_code f_bytes (omega arith), (plain_code main_bytes (omega arith), tt));
-  attributes = refl;
 }
 
 -- ---- the format

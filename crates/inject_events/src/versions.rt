@@ -179,7 +179,7 @@ pub fn make_version(
         max_locals: old.max_locals,
         code,
         handlers,
-        attributes: copy_raws(alloc, old.attributes.as_slice())?,
+        attributes: Seq::new(alloc),
     };
     Ok(Version { code, homes })
 }

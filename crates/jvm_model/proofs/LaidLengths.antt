@@ -8,7 +8,7 @@ use Rattle.const_pool.specs.declared.class.Member.{Member}
 use Rattle.const_pool.specs.declared.class.CodeAttribute.{CodeAttribute}
 use Rattle.const_pool.specs.declared.class.Attribute.{Attribute}
 use Rattle.const_pool.specs.declared.class.Attribute.TheVariants.{ConstantValue, Code, Other}
-use Rattle.const_pool.specs.Plain.{IsLoneCode}
+use Rattle.jvm_model.specs.PlainShape.{IsPlainCode, HasPlainCode}
 use Rattle.code_model.specs.declared.instr.Instr.{Instr}
 use Rattle.code_model.specs.declared.instr.Code.{Code as Reading}
 use Rattle.code_model.specs.declared.laying.Group.{Group}
@@ -55,38 +55,28 @@ length-laid_of-le front leave back bytes code reads short few six seven =
 abbrev pub IsMeasured : Member → Type 0
 IsMeasured m = IfSome (code_of m) (λ code. length code.code < 2 ^ 16)
 
--- a code of a plain class
-abbrev IsPlainMember : Member → Type 0
-IsPlainMember m = IsLoneCode m.attributes
-
-plain-short : (attributes : List Attribute) (m : Member) (code : CodeAttribute) → m.attributes ≡ attributes → IsLoneCode attributes → code_of m ≡ Some code → length code.code ≤ 9000
-plain-short (Code name here ∷ []) m code same lone e =
-    let is : here ≡ code = same_Some here code (sym (ap code_among same) ∙ e) in
-    subst (λ (k : CodeAttribute). length k.code ≤ 9000) is lone.short
-plain-short [] m code same lone e = absurd lone
-plain-short (ConstantValue name index ∷ rest) m code same lone e = absurd lone
-plain-short (Other raw ∷ rest) m code same lone e = absurd lone
-plain-short (Code name here ∷ next ∷ rest) m code same lone e = absurd lone
+plain-short : (m : Member) (code : CodeAttribute) → HasPlainCode m → code_of m ≡ Some code → length code.code ≤ 9000
+plain-short m code plain e = (subst (λ o. IfSome o IsPlainCode) e plain).short
 
 some-measured : (m : Member) (code : CodeAttribute) → code_of m ≡ Some code → length code.code < 2 ^ 16 → IsMeasured m
 some-measured m code e short = subst (λ o. IfSome o (λ k. length k.code < 2 ^ 16)) (sym e) short
 
-original-measured : (m : Member) → IsPlainMember m → IsMeasured m
+original-measured : (m : Member) → HasPlainCode m → IsMeasured m
 original-measured m plain = by_code (code_of m) refl
   where
     by_code : (o : Option CodeAttribute) → code_of m ≡ o → IsMeasured m
     by_code None e = subst (λ x. IfSome x (λ (k : CodeAttribute). length k.code < 2 ^ 16)) (sym e) tt
-    by_code (Some code) e = let short = plain-short m.attributes m code refl plain e in some-measured m code e (omega arith)
+    by_code (Some code) e = let short = plain-short m code plain e in some-measured m code e (omega arith)
 
-marked-measured : (count number : ℕ) (mark : Mark) (old new : Member) (homes : Homes) → IsPlainMember old → IsMarkedMember count number mark old new homes → IsMeasured new
+marked-measured : (count number : ℕ) (mark : Mark) (old new : Member) (homes : Homes) → HasPlainCode old → IsMarkedMember count number mark old new homes → IsMeasured new
 marked-measured count number mark old new homes plain is =
-    let short = plain-short old.attributes old is.before refl plain is.coded in
+    let short = plain-short old is.before plain is.coded in
     let version = is.version in
     let laid = length-laid_of-le (entry_probe count number mark) (leave_probe count number) (unwind_code count number) is.before.code version.reading version.reads short (omega arith) (omega arith) (omega arith) in
     let same = ap (λ (k : CodeAttribute). length k.code) version.code in
     some-measured new is.after (code_of-marked count number mark old new homes is) (omega arith)
 
-member-measured : (count number : ℕ) (mark : Mark) (old new : Member) (home : Option Homes) → IsPlainMember old → IsMemberImage count number mark old new home → IsMeasured new
+member-measured : (count number : ℕ) (mark : Mark) (old new : Member) (home : Option Homes) → HasPlainCode old → IsMemberImage count number mark old new home → IsMeasured new
 member-measured count number Off old new home plain is = subst IsMeasured (sym is.0) (original-measured old plain)
 member-measured count number Plain old new home plain is = marked-measured count number Plain old new is.0 plain is.1
 member-measured count number Root old new home plain is = marked-measured count number Root old new is.0 plain is.1
@@ -97,7 +87,7 @@ pub record IsMeasuredImage (olds news : List Member) (homes : List (Option Homes
   pub methods : length news ≡ length olds
   pub housed : length homes ≡ length olds
 
-members-measured : (count number : ℕ) (marks : List Mark) (olds news : List Member) (homes : List (Option Homes)) → AllByRecursion IsPlainMember olds → AreMemberImages count number marks olds news homes → IsMeasuredImage olds news homes
+members-measured : (count number : ℕ) (marks : List Mark) (olds news : List Member) (homes : List (Option Homes)) → AllByRecursion HasPlainCode olds → AreMemberImages count number marks olds news homes → IsMeasuredImage olds news homes
 members-measured count number [] [] [] [] plain are = record { codes = tt; methods = refl; housed = refl }
 members-measured count number (mark ∷ marks) (o ∷ olds) (n ∷ news) (h ∷ homes) plain are =
     let rest = members-measured count (next_number number o) marks olds news homes plain.1 are.1 in
@@ -109,7 +99,7 @@ members-measured count number (mark ∷ marks) [] news homes plain are = absurd 
 members-measured count number [] [] (n ∷ news) homes plain are = absurd are
 members-measured count number [] [] [] (h ∷ homes) plain are = absurd are
 
-each-measured : (olds : List Member) → AllByRecursion IsPlainMember olds → AllByRecursion IsMeasured olds
+each-measured : (olds : List Member) → AllByRecursion HasPlainCode olds → AllByRecursion IsMeasured olds
 each-measured [] plain = tt
 each-measured (o ∷ olds) plain = (original-measured o plain.0, each-measured olds plain.1)
 

@@ -11,7 +11,7 @@ use Rattle.const_pool.specs.declared.class.Member.{Member}
 use Rattle.const_pool.specs.declared.class.CodeAttribute.{CodeAttribute}
 use Rattle.const_pool.specs.declared.class.Attribute.{Attribute}
 use Rattle.const_pool.specs.declared.class.Attribute.TheVariants.{ConstantValue, Code, Other}
-use Rattle.const_pool.specs.Plain.{IsLoneCode}
+use Rattle.jvm_model.specs.PlainShape.{IsPlainCode, HasPlainCode}
 use Rattle.code_model.specs.declared.instr.Arg.{Arg}
 use Rattle.code_model.specs.declared.instr.Arg.TheVariants as arg
 use Rattle.code_model.specs.declared.instr.Instr.{Instr}
@@ -118,19 +118,15 @@ at-original c main v at built =
       by_member None e = rw (e) refl
       by_member (Some m) e = refl
 
-lone-handlers : (c : ClassFile) (attributes : List Attribute) (code : CodeAttribute) → IsLoneCode attributes → code_among attributes ≡ Some code → code.handlers ≡ []
-lone-handlers c (Code name k ∷ []) code lone e = ap (λ (x : CodeAttribute). x.handlers) (sym (same_Some k code e)) ∙ lone.handlers
-lone-handlers c (Code name k ∷ a ∷ more) code lone e = absurd lone
-lone-handlers c (ConstantValue name index ∷ more) code lone e = absurd lone
-lone-handlers c (Other raw ∷ more) code lone e = absurd lone
-lone-handlers c [] code lone e = absurd lone
+plain-handlers : (m : Member) (code : CodeAttribute) → HasPlainCode m → code_of m ≡ Some code → code.handlers ≡ []
+plain-handlers m code plain e = (subst (λ o. IfSome o IsPlainCode) e plain).handlers
 
 pub handlers-original : (c : ClassFile) (main v : ℕ) → IsBuilt c → (original (alone c main)).handlers v ≡ []
 handlers-original c main v built =
     ap (λ o. unwrap_or o []) (by_number-alone c main method_handlers v built.small) ∙ by_member (slice_get c.methods v) refl where
       by_code : (m : Member) (code : Option CodeAttribute) → slice_get c.methods v ≡ Some m → code_of m ≡ code → unwrap_or (option_map (λ (k : CodeAttribute). map (catcher_of c) k.handlers) code) [] ≡ []
       by_code m None e is = refl
-      by_code m (Some code) e is = ap (map (catcher_of c)) (lone-handlers c m.attributes code (nth-each (λ (x : Member). IsLoneCode x.attributes) c.methods v m built.plain.methods e) is)
+      by_code m (Some code) e is = ap (map (catcher_of c)) (plain-handlers m code (nth-each HasPlainCode c.methods v m built.plain.methods e) is)
 
       by_member : (m : Option Member) → slice_get c.methods v ≡ m → unwrap_or (option_and_then (λ x. method_handlers c v) m) [] ≡ []
       by_member None e = refl

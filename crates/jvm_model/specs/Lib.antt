@@ -15,6 +15,7 @@ pub mod Originals
 pub mod Run
 pub mod Resolved
 pub mod SmallClass
+pub mod PlainShape
 pub mod Growth
 pub mod Changes
 pub mod Moved

@@ -5,7 +5,6 @@ use Rattle.std.specs.Option.{option_and_then, option_map}
 use Rattle.std.specs.Int.{w16, cast_unsigned}
 use Rattle.const_pool.specs.declared.class.ClassFile.{ClassFile}
 use Rattle.const_pool.specs.ClassFile.{IsClassFile}
-use Rattle.const_pool.specs.Plain.{HasPlainShape}
 use Rattle.const_pool.specs.References.{Reference, named_method}
 use Rattle.code_model.specs.declared.instr.Instr.{Instr}
 use Rattle.code_model.specs.declared.instr.Arg.{Arg}
@@ -25,6 +24,7 @@ use Rattle.jvm_model.specs.Resolved.{line_of}
 use Rattle.jvm_model.specs.Rules.{is_reference}
 use Rattle.jvm_model.specs.Methods.{method_code}
 use Rattle.jvm_model.specs.SmallClass.{IsSmallClass}
+use Rattle.jvm_model.specs.PlainShape.{HasPlainShape}
 
 -- A class of the part of the language that is built so far.
 pub record IsBuilt (class : ClassFile) : Type 0 where

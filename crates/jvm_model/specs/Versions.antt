@@ -57,12 +57,13 @@ moved_handler homes h = record h { start = home_of homes h.start; end = home_of 
 abbrev pub catch_all : Homes → ℕ → Handler
 catch_all homes end = record { start = home_of homes 0; end = home_of homes end; handler = home_of homes end; catch_class = 0 }
 
--- the Code attribute of a version, of the code that was laid out
+-- the Code attribute of a version, of the code that was laid out; frames and debug tables are left out
 abbrev pub code_with : CodeAttribute → Laid → CodeAttribute
 code_with old laid = record old {
   max_stack = max (old.max_stack + 1) 2;
   code = laid.code;
   handlers = map (moved_handler laid.homes) old.handlers ++ catch_all laid.homes (length old.code) ∷ [];
+  attributes = [];
 }
 
 -- The version of a method with this number, for a mark other than Off. A code has at most one reading.
