@@ -10,3 +10,4 @@ pub mod Numbers
 pub mod Tables
 pub mod Keys
 pub mod Walks
+pub mod Sound

@@ -17,8 +17,8 @@ use Rattle.base_classes.specs.StreamClasses.{stream_classes}
 use Rattle.base_classes.specs.ValueClasses.{value_classes}
 use Rattle.base_classes.specs.ThrowableClasses.{throwable_classes}
 use Rattle.base_classes.specs.Shown.{declaration_of}
-use Rattle.admit_check.specs.Admission.{AreBuiltIn, program_with}
-use Rattle.admit_check.specs.Stages.{HasNumbers}
+use Rattle.admit_check.specs.Admission.{program_with}
+use Rattle.admit_check.specs.Stages.{AreBuiltIn, HasNumbers}
 
 -- ---- the classes
 

@@ -1,13 +1,10 @@
 -- What is admitted: a program's classes, or its first fault.
-use Rattle.std.specs.Prelude.{◌⊎◌, IsTrue, ◌≡◌, ℕ, ◌+◌, List, [], ◌∷◌, ◌++◌, length, map, Option, Some, None, Result, Ok, Err, unwrap_or, nat_lt, if◌then◌else◌}
+use Rattle.std.specs.Prelude.{◌≡◌, ℕ, ◌+◌, ◌<◌, ◌≤◌, List, [], ◌∷◌, ◌++◌, length, Option, Some, None, Result, Ok, Err, unwrap_or, nat_lt, if◌then◌else◌}
 use Rattle.std.specs.Option.{option_and_then, option_map, option_or}
 use Rattle.std.specs.List.{AllByRecursion}
 use Rattle.const_pool.specs.declared.class.ClassFile.{ClassFile}
-use Rattle.const_pool.specs.ClassFile.{IsClassFile}
 use Rattle.const_pool.specs.References.{name_type_of}
-use Rattle.base_classes.specs.BuiltInClasses.{IsBare, built_in_classes}
-use Rattle.base_classes.specs.Shown.{declaration_of}
-use Rattle.base_classes.specs.Soundness.{IsSound, in_order}
+use Rattle.base_classes.specs.BuiltInFiles.{built_in_files}
 use Rattle.plan_text.specs.declared.plan.Action.{Action}
 use Rattle.plan_text.specs.declared.plan.Plan.{Plan}
 use Rattle.plan_text.specs.declared.plan.RootName.{RootName}
@@ -17,7 +14,7 @@ use Rattle.jvm_model.specs.Methods.{method_named}
 use Rattle.jvm_model.specs.Programs.{class_at, class_named, declared_method, number_of_method, numbered}
 use Rattle.jvm_model.specs.SmallClass.{main_member, public_static}
 use Rattle.admit_check.specs.declared.error.AdmitError.{AdmitError}
-use Rattle.admit_check.specs.declared.error.AdmitError.TheVariants.{TooManyMethods, NoMain, NoSuchRoot, NoMemory}
+use Rattle.admit_check.specs.declared.error.AdmitError.TheVariants.{TooManyMethods, NoMain, NoSuchRoot}
 use Rattle.admit_check.specs.Checks.{fault_if, first_of}
 use Rattle.admit_check.specs.Shapes.{name_fault, shape_fault}
 use Rattle.admit_check.specs.Codes.{codes_fault}
@@ -73,15 +70,16 @@ root_in p r = option_and_then (declared_method p (name_type_of r.name r.descript
 abbrev pub act_of : Program → Action → Option Act
 act_of p a = option_map (λ method. record { moment = a.moment; select = a.select; method = method }) (root_in p a.root)
 
+-- an act before others, or the fault of an action at this place that names no method
+abbrev pub act_with : Option Act → ℕ → Result (List Act) AdmitError → Result (List Act) AdmitError
+act_with None at more = Err (NoSuchRoot at)
+act_with (Some act) at (Ok acts) = Ok (act ∷ acts)
+act_with (Some act) at (Err fault) = Err fault
+
 -- the acts, or the place of the first whose root is no method, counted from this number
 abbrev pub acts_from : Program → ℕ → List Action → Result (List Act) AdmitError
 acts_from p at [] = Ok []
 acts_from p at (a ∷ rest) = act_with (act_of p a) at (acts_from p (at + 1) rest)
-  where
-    act_with : Option Act → ℕ → Result (List Act) AdmitError → Result (List Act) AdmitError
-    act_with None n more = Err (NoSuchRoot n)
-    act_with (Some act) n (Ok acts) = Ok (act ∷ acts)
-    act_with (Some act) n (Err fault) = Err fault
 
 -- ---- the answer
 
@@ -109,15 +107,16 @@ admission classes built_in main plan =
 
 -- ---- over the classes that a program finds beside its own
 
--- the class files that base_classes gives: the order of their pools' entries is its own
-pub record AreBuiltIn (classes : List ClassFile) : Type 0 where
-  pub declared : map declaration_of classes ≡ built_in_classes
-  pub formed : AllByRecursion IsClassFile classes
-  pub bare : AllByRecursion IsBare classes
-  pub sound : AllByRecursion IsSound (map declaration_of classes)
-  pub ordered : IsTrue (in_order [] (map declaration_of classes))
+unfoldable pub admission_of : List ClassFile → List ℕ → Plan → Result Program AdmitError
+admission_of classes main plan = admission classes built_in_files main plan
 
--- A call answers the admission over the built-in classes, or that memory ran out.
-abbrev pub IsAdmission : Result Program AdmitError → List ClassFile → List ℕ → Plan → Type 0
-IsAdmission result classes main plan =
-    (result ≡ Err NoMemory) ⊎ ((built_in : List ClassFile) × AreBuiltIn built_in × (result ≡ admission classes built_in main plan))
+-- A sound program of these classes, which have no fault: the built-in ones stand behind them, its methods are those that have
+-- Code, not too many, its main method is the one of the class of this name, and its acts name methods of it.
+pub record IsSoundProgram (classes : List ClassFile) (name : List ℕ) (p : Program) : Type 0 where
+  pub fine : classes_fault [] classes ≡ None
+  pub classes_are : p.classes ≡ classes ++ built_in_files
+  pub methods : p.methods ≡ numbered p.classes
+  pub few : length p.methods ≤ 32768
+  pub main_is : main_in p (length classes) name ≡ Some p.main
+  pub main : p.main < length p.methods
+  pub acts : AllByRecursion (λ (act : Act). act.method < length p.methods) p.acts

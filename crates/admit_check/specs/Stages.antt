@@ -1,9 +1,11 @@
 -- What the functions of admission owe one another.
-use Rattle.std.specs.Prelude.{◌≡◌, ◌≢◌, ℕ, ◌+◌, ◌<◌, ◌^◌, Bool, false, List, [], ◌∷◌, ◌++◌, length, filter_map, Option, None, Result, Ok, Err, if◌then◌else◌}
+use Rattle.std.specs.Prelude.{◌≡◌, ◌≢◌, ℕ, ◌+◌, ◌<◌, ◌^◌, Bool, false, List, [], ◌∷◌, ◌++◌, length, map, filter_map, Option, None, Result, Ok, Err, if◌then◌else◌}
 use Rattle.std.specs.List.{AllByRecursion, list_any}
 use Rattle.std.specs.Option.{option_map_or, option_or}
 use Rattle.const_pool.specs.declared.class.ClassFile.{ClassFile}
 use Rattle.const_pool.specs.ClassFile.{IsClassFile}
+use Rattle.base_classes.specs.BuiltInClasses.{built_in_classes}
+use Rattle.base_classes.specs.Shown.{declaration_of}
 use Rattle.jvm_model.specs.declared.program.Program.{Program}
 use Rattle.jvm_model.specs.Descriptors.{same_text}
 use Rattle.admit_check.specs.declared.error.AdmitError.{AdmitError}
@@ -57,6 +59,13 @@ abbrev pub classes_fault_among : List (List ℕ) → ℕ → List ClassFile → 
 classes_fault_among names k [] = None
 classes_fault_among names k (c ∷ rest) =
     option_or (class_fault_among names k c) (classes_fault_among (with_name_of names c) (k + 1) rest)
+
+-- ---- the built-in classes
+
+-- what is known of the class files that base_classes gives
+pub record AreBuiltIn (classes : List ClassFile) : Type 0 where
+  pub declared : map declaration_of classes ≡ built_in_classes
+  pub formed : AllByRecursion IsClassFile classes
 
 -- ---- numbers
 

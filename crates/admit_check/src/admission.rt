@@ -3,8 +3,8 @@
 ghost use Rattle.std.specs.Prelude.{◌≡◌, ◌++◌, [], ◌<◌, ◌≤◌, ◌^◌, length, IfOk, OnOk};
 ghost use Rattle.std.specs.List.{AllByRecursion};
 ghost use Rattle.const_pool.specs.ClassFile.{IsClassFile};
-ghost use Rattle.admit_check.specs.Admission.{AreBuiltIn, IsAdmission};
-ghost use Rattle.admit_check.specs.Stages.{Answers, HasNumbers, Passes};
+ghost use Rattle.admit_check.specs.Admission.{admission_of, IsSoundProgram};
+ghost use Rattle.admit_check.specs.Stages.{Answers, AreBuiltIn, HasNumbers, Passes};
 ghost use Rattle.admit_check.specs.Admission.{classes_fault};
 ghost use Rattle.admit_check.specs.Stages.{code_fault_of, class_fault_among, with_name_of};
 ghost use Rattle.admit_check.specs.Admission.{program_with, completed, admission};
@@ -217,7 +217,8 @@ pub fn admit(
     requires formed { AllByRecursion IsClassFile classes }
     requires count { length classes ≤ 4096 }
     requires actions { length plan.now.actions < 2 ^ 32 }
-    ensures { IsAdmission result classes main.now plan.now }
+    ensures admitted { Answers result (admission_of classes main.now plan.now) }
+    ensures sound { IfOk result (IsSoundProgram classes main.now) }
 {
     match built_in(alloc) {
         Ok(built_in) => admit_over(alloc, classes, built_in, main, plan),

@@ -44,7 +44,7 @@ pub enum CodeCause {
 
 /// Why a program is not admitted: its first fault. The first number is the position of the class among those given; the numbers
 /// of `BadCode` behind it are the position of the method and an offset in its code.
-#[derive(Debug, Drop, Error)]
+#[derive(Clone, Copy, Debug, PartialEq, Eq, Error)]
 pub enum AdmitError {
     /// The class has the name of a built-in class or of the probes, or names the class of the probes.
     #[error("a reserved name")]

@@ -12,3 +12,4 @@ pub mod Making
 pub mod Hashes
 pub mod Natives
 pub mod Soundness
+pub mod BuiltInFiles

@@ -6,6 +6,7 @@ ghost use Rattle.std.specs.Prelude.{◌≡◌, ◌++◌, [], IfOk, IsTrue, OnOk,
 ghost use Rattle.std.specs.List.{list_all, AllByRecursion};
 ghost use Rattle.const_pool.specs.ClassFile.{IsClassFile};
 ghost use Rattle.base_classes.specs.BuiltInClasses.{built_in_classes, IsBare};
+ghost use Rattle.base_classes.specs.BuiltInFiles.{built_in_files};
 ghost use Rattle.base_classes.specs.Making.{class_file_of, has_pool};
 ghost use Rattle.base_classes.specs.RowViews.{class_view};
 ghost use Rattle.base_classes.specs.Shown.{declaration_of};
@@ -48,7 +49,7 @@ fn add_classes(
 
 /// The class files of the whole table.
 fn make_all(alloc: Global) -> Result<Vec<ClassFile>, NoMemory>
-    ensures { IfOk result (λ classes. classes.items ≡ map class_file_of built_in_classes) }
+    ensures { IfOk result (λ classes. classes.items ≡ built_in_files) }
 {
     let mut classes = Vec::new(alloc);
     for group in groups() {
@@ -60,6 +61,7 @@ fn make_all(alloc: Global) -> Result<Vec<ClassFile>, NoMemory>
 /// The built-in classes in their order, as class files of version 49.0. The order of their pools' entries is this crate's
 /// own. What admits a program calls it, and puts them behind the program's classes.
 pub fn built_in(alloc: Global) -> Result<Vec<ClassFile>, NoMemory>
+    ensures made { IfOk result (λ classes. classes.items ≡ built_in_files) }
     ensures declared { IfOk result (λ classes.
         map declaration_of classes.items ≡ built_in_classes) }
     ensures formed { IfOk result (λ classes. AllByRecursion IsClassFile classes.items) }

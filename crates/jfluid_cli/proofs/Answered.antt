@@ -15,13 +15,13 @@ use Rattle.jfluid_cli.specs.declared.running.Stop.TheVariants as stop
 use Rattle.jfluid_cli.specs.Calls.{IsReported, IsRun}
 use Rattle.jfluid_cli.specs.Sinks.{Streams, IsUntold}
 use Rattle.jfluid_cli.specs.Stages.{IsStopped}
-use Rattle.jfluid_cli.specs.Roots.{IsChosen, root_said}
+use Rattle.small_program.specs.Admission.{Runs}
+use Rattle.jfluid_cli.specs.Asking.{asked_by}
 use Rattle.jfluid_cli.specs.Runs.{IsCarriedOut, SameProgram, StopCause, is_ended_at}
 use Rattle.jvm_model.specs.StandsFor.{IsBuilt}
 use Rattle.jfluid_cli.specs.Selections.{IsSelected, marks_for}
-use Rattle.jfluid_cli.specs.Top.{report_of, reported_of, root_of}
+use Rattle.jfluid_cli.specs.Top.{answer_for, report_of, reported_of, root_of, root_of_answer}
 use Rattle.jfluid_cli.specs.Words.{Command, command_of}
-use Rattle.jfluid_cli.proofs.Complete.{chosen-said}
 
 -- the run had not ended before the step where it stopped
 not-before : (v : View) (budget : ℕ) (old new : Option (List ℕ)) → IsCarriedOut v budget old new
@@ -64,15 +64,17 @@ run-answer (Err r) outcome s budget text k ok untold why carried cause =
 
 -- ---- the root of the words
 
--- what is reported for the chosen root is what is reported of the words
-pub root-reported : (words : List (List ℕ)) (command : Command) (root : Option ℕ) (from v : View)
-    → command_of words ≡ Some command → IsChosen command.options.root from.class root
-    → v.class ≡ from.class → report_of root v ≡ reported_of words v
-root-reported words command root from v commanded chosen same =
+-- what is reported for the root of an admitted program is what is reported of the words
+pub root-reported : (words : List (List ℕ)) (command : Command) (main : ℕ) (root : Option ℕ)
+    (class : ClassFile) (v : View) → command_of words ≡ Some command
+    → Runs (answer_for (asked_by command) class) class main root → v.class ≡ class
+    → report_of root v ≡ reported_of words v
+root-reported words command main root class v commanded runs same =
     let is : root_of words v.class ≡ root =
-    ap (option_and_then (λ (k : Command). root_said k.options.root v.class)) commanded
-    ∙ (ap (root_said command.options.root) same
-    ∙ chosen-said command.options.root from.class root chosen) in
+    ap (option_and_then (λ (k : Command). root_of_answer (answer_for (asked_by k) v.class)))
+    commanded
+    ∙ (ap (λ (c : ClassFile). root_of_answer (answer_for (asked_by command) c)) same
+    ∙ (ap root_of_answer runs.admitted ∙ runs.root_is)) in
     ap (λ (o : Option ℕ). report_of o v) (sym is)
 
 -- the machine goes on in the versions that it was made with

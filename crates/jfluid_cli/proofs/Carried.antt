@@ -3,6 +3,8 @@ use Rattle.std.proofs.Common.{◌≡◌, ℕ, true, false, List, [], ◌∷◌, 
 use Rattle.std.specs.Prelude.{Result, Ok, Err, IfSome, IsSome, IsSomeAnd, MatchResult, cond}
 use Rattle.std.specs.Option.{option_map, option_map_or}
 use Rattle.jf_bytes.specs.Streams.{Told, HasTold, PutsFront}
+use Rattle.jf_bytes.specs.Unicode.{utf16_of}
+use Rattle.plan_text.specs.Roots.{slashed}
 use Rattle.const_pool.specs.declared.class.ClassFile.{ClassFile}
 use Rattle.jvm_model.specs.Programs.{world_of}
 use Rattle.jvm_model.specs.Run.{output_of}
@@ -11,16 +13,16 @@ use Rattle.jfluid_cli.specs.declared.kept.Kept.{Kept}
 use Rattle.jfluid_cli.specs.declared.refusal.Refusal.{Refusal}
 use Rattle.jfluid_cli.specs.declared.refusal.Refusal.TheVariants.{NoMemory}
 use Rattle.jfluid_cli.specs.Calls.{Call, given_of, IsReported, IsRun, IsTrueOf, IsRefused}
-use Rattle.jfluid_cli.specs.Causes.{IsFine, Given, Accepts, IsAccepted, IsDue}
+use Rattle.jfluid_cli.specs.Asking.{asked_by, IsFine}
+use Rattle.jfluid_cli.specs.Causes.{Given, Accepts, IsAccepted, IsDue}
 use Rattle.jfluid_cli.specs.Sinks.{IsUntold}
 use Rattle.jfluid_cli.specs.Stages.{IsEarly, IsLoaded, HasFetchCause, is_early, IsStopped, IsSameRun, IsCarried}
 use Rattle.jfluid_cli.specs.Origins.{HasOrigin, IsOnlyProgram}
 use Rattle.jfluid_cli.specs.Refusals.{status_of}
-use Rattle.jfluid_cli.specs.Roots.{IsChosen}
 use Rattle.jfluid_cli.specs.Runs.{PutsAtMost, SameProgram, IsCarriedOut, output_at}
 use Rattle.jfluid_cli.specs.Selections.{IsSelected, RunsProgram}
-use Rattle.jfluid_cli.specs.Top.{HasNoRooted, IsProgram, file_word, report_of, reported_of}
-use Rattle.jfluid_cli.specs.Words.{Command, Options, command_of, options_of, budget_of, is_class_file, slashed}
+use Rattle.jfluid_cli.specs.Top.{HasNoProgram, IsProgram, file_word, report_of, reported_of}
+use Rattle.jfluid_cli.specs.Words.{Command, Options, command_of, options_of, budget_of, is_class_file}
 use Rattle.jfluid_cli.proofs.Answered.{root-reported, selected-later}
 
 not_both : false ≡ true → ⊥
@@ -75,25 +77,23 @@ file-word [] k e = absurd cc
 file-word (program ∷ []) k e = absurd cc
 file-word (program ∷ main ∷ []) k e = absurd cc
 file-word (program ∷ main ∷ file ∷ more) k e =
-    named file (is_class_file file) (options_of more) (slashed main) k e
+    named file (is_class_file file) (options_of more) (slashed (utf16_of main)) k e
 
 -- what is accepted is no file without a program
 pub not-accepted : (g : Given) (k : Command) → g.asked ≡ Some k
-    → HasTold g.told k.file (HasNoRooted k.options.root k.main) → (class : ClassFile) (main : ℕ)
+    → HasTold g.told k.file (HasNoProgram (asked_by k)) → (class : ClassFile) (main : ℕ)
     → IsAccepted g class main → ⊥
 not-accepted g k asked none class main a =
     let both : (let o : Option Command = Some k in o ≡ Some a.command) = sym asked
     ∙ a.accepts.asked in
     let same : k ≡ a.command = cc in
-    let has : HasTold g.told a.command.file (HasNoRooted a.command.options.root a.command.main) =
-    subst (λ (x : Command). HasTold g.told x.file (HasNoRooted x.options.root x.main)) same
-    none in
-    let files : HasTold (Some a.files) a.command.file
-    (HasNoRooted a.command.options.root a.command.main) =
+    let has : HasTold g.told a.command.file (HasNoProgram (asked_by a.command)) =
+    subst (λ (x : Command). HasTold g.told x.file (HasNoProgram (asked_by x))) same none in
+    let files : HasTold (Some a.files) a.command.file (HasNoProgram (asked_by a.command)) =
     subst (λ (t : Option Told). HasTold t a.command.file
-    (HasNoRooted a.command.options.root a.command.main)) a.telling has in
-    subst (λ (o : Option (List ℕ)). IsSomeAnd o (HasNoRooted a.command.options.root a.command.main))
-    a.told_as files class main a.root a.program a.chosen
+    (HasNoProgram (asked_by a.command))) a.telling has in
+    subst (λ (o : Option (List ℕ)). IsSomeAnd o (HasNoProgram (asked_by a.command)))
+    a.told_as files class main a.root a.program
 
 -- ---- want of memory
 
@@ -132,8 +132,7 @@ pub record IsMade (c : Call) (command : Command) (root : Option ℕ) (made : Kep
   pub bytes : List ℕ
   pub class : ClassFile
   pub main : ℕ
-  pub loaded : IsLoaded c.told command bytes class main
-  pub chosen : IsChosen command.options.root class root
+  pub loaded : IsLoaded c.told command bytes class main root
   pub runs : RunsProgram class main made.vm
   pub classes : made.classes ≡ bytes ∷ []
   pub input : made.input ≡ []
@@ -156,11 +155,11 @@ made-origin c command root made k is same =
       bytes = is.bytes;
       classes = same.classes ∙ is.classes;
       told_as = is.loaded.told_as;
-      program = subst (λ (n : ℕ). IsProgram is.bytes command.main k.vm.class n) main_is
-          (subst (λ (x : ClassFile). IsProgram is.bytes command.main x is.main) class_is
-          is.loaded.program);
       root = root;
-      chosen = subst (λ (x : ClassFile). IsChosen command.options.root x root) class_is is.chosen;
+      program =
+          subst (λ (n : ℕ). IsProgram (asked_by command) is.bytes k.vm.class n root) main_is
+          (subst (λ (x : ClassFile). IsProgram (asked_by command) is.bytes x is.main root)
+          class_is is.loaded.program);
       selected = selected-later root made.vm k.vm same.program is.selected;
       input = same.input ∙ is.input;
       no_input = same.program.input ∙ is.runs.input_is;
@@ -204,9 +203,8 @@ made-run c command root made k status is same ran = record {
   calm = ran.calm;
   report = subst (λ (text : List ℕ). IsReported k.vm text c.streams.report c.streams.report_after
       status)
-      (root-reported c.words command root made.vm k.vm is.commanded
-      (subst (λ (x : ClassFile). IsChosen command.options.root x root)
-      (sym is.runs.class_is) is.chosen) same.program.class) ran.report;
+      (root-reported c.words command is.main root is.class k.vm is.commanded
+      is.loaded.program.runs (same.program.class ∙ is.runs.class_is)) ran.report;
 }
 
 stopped-refused : (c : Call) (command : Command) (k : Kept) (r : Refusal)
@@ -269,7 +267,7 @@ pub carried-refused : (c : Call) (k : Command) (r : Refusal) → command_of c.wo
     → IsUntold c.streams.report c.streams.report_after
     → (let g : Given = record { asked = Some k; told = c.told } in IsEarly g r)
     → HasFetchCause k.file c.files c.files_after (status_of r)
-    → (status_of r ≡ 3 → HasTold c.told k.file (HasNoRooted k.options.root k.main))
+    → (status_of r ≡ 3 → HasTold c.told k.file (HasNoProgram (asked_by k)))
     → IsCarried c (Err r)
 carried-refused c k r commanded none out report early fetch refuses =
     carried-early c r none out report

@@ -1,20 +1,17 @@
--- What is accepted and calm: the ending at the budget, and the root that the words name.
+-- What is accepted and calm: the ending at the budget, of the one program.
 use Rattle.std.proofs.Common.{◌≡◌, ℕ, ◌+◌, ◌<◌, ◌≤◌, List, Option, Some, None, sym, ap, ◌∙◌, arith, inl, inr}
-use Rattle.std.specs.Prelude.{min}
-use Rattle.std.specs.Option.{option_and_then}
-use Rattle.std.proofs.lemmas.Option.{same_Some, none-some}
+use Rattle.std.specs.Prelude.{min, Result, Ok}
 use Rattle.jf_bytes.specs.Streams.{Rose, greatest}
 use Rattle.const_pool.specs.declared.class.ClassFile.{ClassFile}
-use Rattle.const_pool.specs.References.{Reference}
-use Rattle.class_reader.specs.Files.{IsFile}
+use Rattle.jvm_model.specs.declared.program.Program.{Program}
 use Rattle.jvm_model.specs.declared.state.State.{State}
+use Rattle.admit_check.specs.declared.error.AdmitError.{AdmitError}
+use Rattle.small_program.specs.Admission.{Runs}
 use Rattle.jvm_model.specs.Originals.{original}
 use Rattle.jvm_model.specs.Programs.{world_of}
 use Rattle.jvm_model.specs.Run.{ending_of}
 use Rattle.jvm_model.proofs.Growth.{run-stays}
 use Rattle.jvm_machine.specs.View.{View, world}
-use Rattle.small_program.specs.PlainFiles.{IsPlainFile}
-use Rattle.jfluid_cli.specs.Roots.{IsRoot, IsChosen, IsBadRoot, LacksRoot, root_said, root_method}
 use Rattle.jfluid_cli.specs.Runs.{ending_at, IsCarriedOut}
 use Rattle.jfluid_cli.specs.Top.{IsCalm}
 
@@ -37,36 +34,18 @@ ends_as v budget old new carried =
           (original (world v).program) v.clock budget carried.within ended.ended))
     ]
 
--- ---- roots
+-- ---- the program
 
--- a word names one method at most
-one-root : (word : List ℕ) (r s : Reference) → IsRoot word r → IsRoot word s → r ≡ s
-one-root word r s p q = same_Some r s (sym p.parts ∙ q.parts)
+same_program : (x y : Program) → (let r : Result Program AdmitError = Ok x in r ≡ Ok y) → x ≡ y
+same_program x y e = cc e
 
--- what is chosen is no word outside the grammar
-pub chosen-fine : (word : Option (List ℕ)) (c : ClassFile) (root : Option ℕ) → IsChosen word c root
-    → IsBadRoot word → ⊥
-chosen-fine None c root chosen bad = bad
-chosen-fine (Some word) c root chosen bad = bad chosen.0 chosen.2
-
--- and the class has it
-pub chosen-known : (word : Option (List ℕ)) (c : ClassFile) (root : Option ℕ) → IsChosen word c root
-    → LacksRoot word c → ⊥
-chosen-known None c root chosen lacks = lacks
-chosen-known (Some word) c root chosen lacks =
-    let same : chosen.0 ≡ lacks.0 = one-root word chosen.0 lacks.0 chosen.2 lacks.1 in
-    none-some chosen.1 (sym lacks.2 ∙ (ap (root_method c) (sym same) ∙ chosen.3))
-
--- it is the one that the function of the words gives
-pub chosen-said : (word : Option (List ℕ)) (c : ClassFile) (root : Option ℕ) → IsChosen word c root
-    → root_said word c ≡ root
-chosen-said None c root chosen = sym chosen
-chosen-said (Some word) c root chosen = ap (option_and_then (root_method c)) chosen.2.parts
-    ∙ (chosen.3 ∙ sym chosen.4)
-
--- a file of the built part is a file
-pub file_of : (bytes : List ℕ) (c : ClassFile) → IsPlainFile bytes c → IsFile bytes c
-file_of bytes c plain = record { short = plain.short; spells = plain.spells }
+-- an answer has one main method
+pub one-main : (answer : Result Program AdmitError) (c d : ClassFile) (m n : ℕ) (r s : Option ℕ)
+    → Runs answer c m r → Runs answer d n s → m ≡ n
+one-main answer c d m n r s left right =
+    let same : left.program ≡ right.program =
+    same_program left.program right.program (sym left.admitted ∙ right.admitted) in
+    sym left.main_is ∙ (ap (λ (p : Program). p.main) same ∙ right.main_is)
 
 pub ending_of_same : (c d : ClassFile) (m n : ℕ) (x y : List ℕ) (budget : ℕ) → c ≡ d → m ≡ n → x ≡ y
     → ending_of (world_of c m x) budget ≡ ending_of (world_of d n y) budget

@@ -6,18 +6,20 @@ use Rattle.jf_bytes.specs.Streams.{Told, HasTold, IsFetched}
 use Rattle.class_reader.specs.declared.error.ReadError.{ReadError}
 use Rattle.const_pool.specs.declared.class.ClassFile.{ClassFile}
 use Rattle.class_reader.specs.Files.{IsFile, IsFirstFault, most_bytes}
+use Rattle.admit_check.specs.declared.error.AdmitError.{AdmitError}
+use Rattle.small_program.specs.declared.admission.Refused.{Refused}
+use Rattle.small_program.specs.declared.admission.Refused.TheVariants as refused
+use Rattle.jfluid_cli.specs.declared.asking.Asked.{Asked}
 use Rattle.jfluid_cli.specs.declared.refusal.Refusal.{Refusal}
-use Rattle.jfluid_cli.specs.declared.refusal.Refusal.TheVariants.{Words, BadRoot, NotRead, NotBuilt, NoMain, NoSuchRoot, NotFetched, NoMemory}
+use Rattle.jfluid_cli.specs.declared.refusal.Refusal.TheVariants.{Words, BadRoot, NotRead, NotAdmitted, NotBuilt, NotBuiltPlan, NotFetched, NoMemory}
 use Rattle.jfluid_cli.specs.Refusals.{status_of}
-use Rattle.jfluid_cli.specs.Roots.{IsBadRoot, IsSaid, LacksNamed}
-use Rattle.jfluid_cli.specs.Causes.{IsFine, Given, Accepts, Because}
+use Rattle.jfluid_cli.specs.Asking.{asked_by, IsBadRoot}
+use Rattle.jfluid_cli.specs.Causes.{Given, Accepts, Because, OfClass}
 use Rattle.jfluid_cli.specs.Sinks.{FilesView}
 use Rattle.jfluid_cli.specs.Stages.{HasFetchCause, IsFetchedFor, IsEarly, IsLoaded, is_early}
-use Rattle.jfluid_cli.specs.Top.{IsProgram, IsOutside, LacksMain, LacksRootMethod}
+use Rattle.jfluid_cli.specs.Top.{IsProgram, HasRefused}
 use Rattle.jfluid_cli.specs.Words.{Command}
-use Rattle.const_pool.specs.References.{Reference}
-use Rattle.jfluid_cli.proofs.Programs.{lacks-root}
-use Rattle.jfluid_cli.proofs.ToldFiles.{has_told, told_whole, told_fault, told_outside, told_lacking}
+use Rattle.jfluid_cli.proofs.ToldFiles.{told_whole, told_fault, told_refused}
 
 -- where the words are accepted, a refusal with another status than 2 is due for its cause
 pub due : (g : Given) (k : Command) (r : Refusal) → Accepts g k → (status_of r ≡ 2 → ⊥)
@@ -44,32 +46,40 @@ due-fetch g k r accepts (inl failed) =
     subst (IsEarly g) (sym failed) (due g k NotFetched accepts (λ two. cc) refl (k, accepts))
 due-fetch g k r accepts (inr memory) = subst (IsEarly g) (sym memory) (due-memory g)
 
-pub due-unread : (g : Given) (main bytes : List ℕ) (fault : ReadError) → IsFetchedFor g main bytes
-    → IsFirstFault bytes fault → IsEarly g (NotRead fault)
-due-unread g main bytes fault f first =
+pub due-unread : (g : Given) (asked : Asked) (bytes : List ℕ) (fault : ReadError)
+    → IsFetchedFor g asked bytes → IsFirstFault bytes fault → IsEarly g (NotRead fault)
+due-unread g asked bytes fault f first =
     due g f.command (NotRead fault) f.accepts (λ two. cc) refl
     (f.command, f.accepts, told_fault g.told f.command.file bytes fault f.front first)
 
-pub due-outside : (g : Given) (main bytes : List ℕ) → IsFetchedFor g main bytes → IsOutside bytes
-    → IsEarly g NotBuilt
-due-outside g main bytes f outside =
+-- a class that was fetched is refused
+of-class : (g : Given) (asked : Asked) (bytes : List ℕ) (why : Refused)
+    → IsFetchedFor g asked bytes → HasRefused asked why bytes → OfClass g why
+of-class g asked bytes why f has = (
+  f.command,
+  f.accepts,
+  told_refused (asked_by f.command) why g.told f.command.file bytes f.front
+      (subst (λ (a : Asked). HasRefused a why bytes) (sym f.asked_is) has),
+)
+
+pub due-fault : (g : Given) (asked : Asked) (bytes : List ℕ) (fault : AdmitError)
+    → IsFetchedFor g asked bytes → HasRefused asked (refused.Fault fault) bytes
+    → IsEarly g (NotAdmitted fault)
+due-fault g asked bytes fault f has =
+    due g f.command (NotAdmitted fault) f.accepts (λ two. cc) refl
+    (of-class g asked bytes (refused.Fault fault) f has)
+
+pub due-outside : (g : Given) (asked : Asked) (bytes : List ℕ) → IsFetchedFor g asked bytes
+    → HasRefused asked refused.NotBuilt bytes → IsEarly g NotBuilt
+due-outside g asked bytes f has =
     due g f.command NotBuilt f.accepts (λ two. cc) refl
-    (f.command, f.accepts, told_outside g.told f.command.file bytes f.front outside)
+    (of-class g asked bytes refused.NotBuilt f has)
 
-pub due-lacking : (g : Given) (main bytes : List ℕ) → IsFetchedFor g main bytes
-    → LacksMain bytes main → IsEarly g NoMain
-due-lacking g main bytes f lacks =
-    due g f.command NoMain f.accepts (λ two. cc) refl (
-      f.command,
-      f.accepts,
-      told_lacking g.told f.command.file bytes f.command.main f.front
-          (subst (LacksMain bytes) (sym f.main_is) lacks),
-    )
-
-pub due-rootless : (g : Given) (k : Command) → Accepts g k
-    → HasTold g.told k.file (λ bytes. LacksRootMethod k.options.root bytes k.main)
-    → IsEarly g NoSuchRoot
-due-rootless g k accepts lacks = due g k NoSuchRoot accepts (λ two. cc) refl (k, accepts, lacks)
+pub due-foreign : (g : Given) (asked : Asked) (bytes : List ℕ) → IsFetchedFor g asked bytes
+    → HasRefused asked refused.NotBuiltPlan bytes → IsEarly g NotBuiltPlan
+due-foreign g asked bytes f has =
+    due g f.command NotBuiltPlan f.accepts (λ two. cc) refl
+    (of-class g asked bytes refused.NotBuiltPlan f has)
 
 -- words that are no command, or whose root is outside the grammar, are accepted as no command
 pub due-words : (told : Option Told)
@@ -100,27 +110,28 @@ due-root g k asked bad =
         (subst (λ (c : Command). IsBadRoot c.options.root)
         (same_Some k l (sym asked ∙ accepts.asked)) bad)
 
--- what was fetched for a command, and its main class's name
-pub fetched : (g : Given) (k : Command) (told : Option Told) (main bytes deref : List ℕ)
-    → Accepts g k → g.told ≡ told → k.main ≡ main → IsFetched told k.file most_bytes bytes
-    → bytes ≡ deref → IsFetchedFor g main deref
-fetched g k told main bytes deref accepts same named front is = record {
+-- what was fetched for a command, and what it asks for
+pub fetched : (g : Given) (k : Command) (told : Option Told) (asked : Asked)
+    (bytes deref : List ℕ) → Accepts g k → g.told ≡ told → asked_by k ≡ asked
+    → IsFetched told k.file most_bytes bytes → bytes ≡ deref → IsFetchedFor g asked deref
+fetched g k told asked bytes deref accepts same asks front is = record {
   command = k;
   accepts = accepts;
-  main_is = named;
+  asked_is = asks;
   front = subst (λ (t : Option Told). IsFetched t k.file most_bytes deref) (sym same)
       (subst (IsFetched told k.file most_bytes) is front);
 }
 
 -- what was fetched and read is what the files tell
-pub loaded : (told : Option Told) (k : Command) (main bytes deref : List ℕ) (class : ClassFile)
-    (number : ℕ) → IsFetched told k.file most_bytes bytes → bytes ≡ deref → k.main ≡ main
-    → IsProgram deref main class number → ((c : ClassFile) → IsFile deref c → c ≡ class)
-    → ((fault : ReadError) → IsFirstFault deref fault → ⊥) → IsLoaded told k bytes class number
-loaded told k main bytes deref class number front is named program one faultless =
-    let program_is : IsProgram bytes k.main class number =
-    subst (λ (bs : List ℕ). IsProgram bs k.main class number) (sym is)
-    (subst (λ (m : List ℕ). IsProgram deref m class number) (sym named) program) in
+pub loaded : (told : Option Told) (k : Command) (asked : Asked) (bytes deref : List ℕ)
+    (class : ClassFile) (main : ℕ) (root : Option ℕ) → IsFetched told k.file most_bytes bytes
+    → bytes ≡ deref → asked_by k ≡ asked → IsProgram asked deref class main root
+    → ((c : ClassFile) → IsFile deref c → c ≡ class)
+    → ((fault : ReadError) → IsFirstFault deref fault → ⊥) → IsLoaded told k bytes class main root
+loaded told k asked bytes deref class main root front is asks program one faultless =
+    let program_is : IsProgram (asked_by k) bytes class main root =
+    subst (λ (bs : List ℕ). IsProgram (asked_by k) bs class main root) (sym is)
+    (subst (λ (a : Asked). IsProgram a deref class main root) (sym asks) program) in
     record {
       told_as = told_whole told k.file bytes front program_is.file.short;
       program = program_is;
@@ -128,18 +139,6 @@ loaded told k main bytes deref class number front is named program one faultless
       faultless = λ fault first. faultless fault
           (subst (λ (bs : List ℕ). IsFirstFault bs fault) is first);
     }
-
--- what was loaded lacks the root
-pub due-choice : (k : Command) (told : Option Told) (bytes : List ℕ) (class : ClassFile) (main : ℕ)
-    (said : Option Reference) (r : Refusal) → IsLoaded told k bytes class main → IsFine k
-    → IsSaid k.options.root said → LacksNamed class said → r ≡ NoSuchRoot
-    → (let g : Given = record { asked = Some k; told = told } in IsEarly g r)
-due-choice k told bytes class main said r is fine root lacks same =
-    let g : Given = record { asked = Some k; told = told } in
-    subst (IsEarly g) (sym same)
-    (due-rootless g k (record { asked = refl; fine = fine })
-    (has_told (λ bs. LacksRootMethod k.options.root bs k.main) told k.file bytes is.told_as
-    (class, main, is.program, lacks-root k.options.root class said root lacks)))
 
 -- nothing was fetched, or all was
 pub no-fault : (name : List ℕ) (old new : FilesView) (r s : Refusal) → new.faults ≡ old.faults

@@ -8,22 +8,22 @@ use Rattle.const_pool.specs.declared.class.ClassFile.{ClassFile}
 use Rattle.class_reader.specs.Files.{IsFile}
 use Rattle.jvm_model.specs.Programs.{world_of}
 use Rattle.jvm_model.specs.Run.{ending_of}
-use Rattle.jvm_model.specs.SmallClass.{main_of}
+use Rattle.small_program.specs.Admission.{Runs}
 use Rattle.jfluid_cli.specs.declared.kept.Kept.{Kept}
 use Rattle.jfluid_cli.specs.declared.refusal.Refusal.{Refusal}
 use Rattle.jfluid_cli.specs.declared.refusal.Refusal.TheVariants.{NoMemory}
 use Rattle.jfluid_cli.specs.Calls.{Call, given_of, IsRun, IsTrueOf, IsRefused, IsAnswered, PutsLine, AllCalm}
-use Rattle.jfluid_cli.specs.Causes.{Accepts, AreAccepted, IsAccepted, IsFine, IsUnfit, OfWords}
+use Rattle.jfluid_cli.specs.Asking.{asked_by, IsFine}
+use Rattle.jfluid_cli.specs.Causes.{Accepts, AreAccepted, IsAccepted, IsUnfit, OfWords}
 use Rattle.jfluid_cli.specs.Sinks.{SinkView, IsUntold, PutsOrRose}
 use Rattle.jfluid_cli.specs.Stages.{IsCarried}
 use Rattle.jfluid_cli.specs.Origins.{HasOrigin, IsOnlyProgram}
 use Rattle.jfluid_cli.specs.Refusals.{status_of, IsRefusalStatus, refusal_line}
-use Rattle.jfluid_cli.specs.Roots.{IsChosen}
 use Rattle.jfluid_cli.specs.Runs.{ending_at}
-use Rattle.jfluid_cli.specs.Top.{IsCalm, IsProgram, is_run, is_status, file_word, reported_of, status_of_ending}
+use Rattle.jfluid_cli.specs.Top.{IsCalm, IsProgram, answer_for, is_run, is_status, file_word, reported_of, status_of_ending}
 use Rattle.jfluid_cli.specs.Words.{Command, budget_of}
 use Rattle.jfluid_cli.proofs.Carried.{memory-refused}
-use Rattle.jfluid_cli.proofs.Complete.{calm_not_rose, ends_as, ending_of_same, file_of}
+use Rattle.jfluid_cli.proofs.Complete.{calm_not_rose, ends_as, ending_of_same, one-main}
 
 not_both : false ≡ true → ⊥
 not_both e = cc
@@ -55,9 +55,9 @@ kept-fit c k o u =
     same-bytes c.told o.command u.command u.files o.bytes u.bytes same u.telling o.told_as
     u.told_as in
     u.none k.vm.class k.vm.main o.root
-    (subst (λ (bs : List ℕ). IsProgram bs u.command.main k.vm.class k.vm.main) bytes
-    (subst (λ (x : Command). IsProgram o.bytes x.main k.vm.class k.vm.main) same o.program))
-    (subst (λ (x : Command). IsChosen x.options.root k.vm.class o.root) same o.chosen)
+    (subst (λ (bs : List ℕ). IsProgram (asked_by u.command) bs k.vm.class k.vm.main o.root) bytes
+    (subst (λ (x : Command). IsProgram (asked_by x) o.bytes k.vm.class k.vm.main o.root) same
+    o.program))
 
 kept-ends : (c : Call) (k : Kept) (class : ClassFile) (main budget : ℕ) → HasOrigin c.told c.words k
     → IsOnlyProgram k → IsAccepted (given_of c) class main
@@ -72,14 +72,15 @@ kept-ends c k class main budget o alone a =
     ∙ (o.classes ∙ ap (λ (bs : List ℕ). bs ∷ []) bytes) in
     let held : a.bytes ≡ alone.bytes = cc in
     let class_is : class ≡ k.vm.class =
-    alone.only class (subst (λ (bs : List ℕ). IsFile bs class) held
-    (file_of a.bytes class a.program.file)) in
-    let found : main_of k.vm.class a.command.main ≡ Some main =
-    ap (λ (x : ClassFile). main_of x a.command.main) (sym class_is) ∙ a.program.main_is in
-    let kept : main_of k.vm.class a.command.main ≡ Some k.vm.main =
-    ap (λ (x : Command). main_of k.vm.class x.main) (sym same) ∙ o.program.main_is in
+    alone.only class (subst (λ (bs : List ℕ). IsFile bs class) held a.program.file) in
+    let runs : Runs (answer_for (asked_by a.command) class) k.vm.class k.vm.main o.root =
+    subst (λ (x : ClassFile). Runs (answer_for (asked_by a.command) x) k.vm.class k.vm.main o.root)
+    (sym class_is)
+    (subst (λ (x : Command). Runs (answer_for (asked_by x) k.vm.class) k.vm.class k.vm.main o.root)
+    same o.program.runs) in
     ending_of_same k.vm.class class k.vm.main main k.vm.input [] budget (sym class_is)
-    (same_Some k.vm.main main (sym kept ∙ found)) o.no_input
+    (one-main (answer_for (asked_by a.command) class) k.vm.class class k.vm.main main o.root a.root
+    runs a.program.runs) o.no_input
 
 -- something is kept
 held : (o : Option Kept) (P Q : Kept → Type 0) → IsSome o → IfSome o P → IfSome o Q → (k : Kept)

@@ -2,16 +2,12 @@ pub mod Numbers
 pub mod Outputs
 pub mod Telling
 pub mod Selected
-pub mod Dots
-pub mod Chosen
 pub mod Steps
 pub mod Underway
 pub mod ToldFiles
 pub mod Complete
-pub mod Programs
 pub mod Early
 pub mod Answered
 pub mod Carried
 pub mod Finished
 pub mod Reported
-pub mod Same

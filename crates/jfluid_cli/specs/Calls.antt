@@ -7,7 +7,8 @@ use Rattle.jvm_model.specs.Run.{ending_of}
 use Rattle.jvm_machine.specs.View.{View}
 use Rattle.jfluid_cli.specs.declared.kept.Kept.{Kept}
 use Rattle.jfluid_cli.specs.declared.refusal.Refusal.{Refusal}
-use Rattle.jfluid_cli.specs.Causes.{Given, IsAccepted, IsUnfit, IsFine, IsDue, OfWords}
+use Rattle.jfluid_cli.specs.Asking.{IsFine}
+use Rattle.jfluid_cli.specs.Causes.{Given, IsAccepted, IsUnfit, IsDue, OfWords}
 use Rattle.jfluid_cli.specs.Origins.{HasOrigin, IsOnlyProgram}
 use Rattle.jfluid_cli.specs.Refusals.{status_of, refusal_line}
 use Rattle.jfluid_cli.specs.Runs.{IsCarriedOut, PutsAtMost, ending_at}

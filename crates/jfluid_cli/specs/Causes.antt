@@ -6,8 +6,10 @@ use Rattle.class_reader.specs.Files.{IsFirstFault}
 use Rattle.jfluid_cli.specs.declared.refusal.Refusal.{Refusal}
 use Rattle.jfluid_cli.specs.declared.refusal.Refusal.TheVariants as refusal
 use Rattle.jfluid_cli.specs.Refusals.{status_of}
-use Rattle.jfluid_cli.specs.Roots.{IsChosen, IsBadRoot}
-use Rattle.jfluid_cli.specs.Top.{IsProgram, IsOutside, LacksMain, LacksRootMethod, HasNoRooted}
+use Rattle.small_program.specs.declared.admission.Refused.{Refused}
+use Rattle.small_program.specs.declared.admission.Refused.TheVariants as refused
+use Rattle.jfluid_cli.specs.Asking.{asked_by, IsBadRoot, IsFine}
+use Rattle.jfluid_cli.specs.Top.{IsProgram, HasRefused, HasNoProgram}
 use Rattle.jfluid_cli.specs.Words.{Command}
 
 -- the command that the words are, where they are one, and what the files tell
@@ -17,16 +19,12 @@ pub record Given : Type 0 where
 
 -- ---- what is accepted
 
--- A command that is carried out: its root, where it names one, is in the grammar.
-pub record IsFine (k : Command) : Type 0 where
-  pub rooted : IsBadRoot k.options.root → ⊥
-
 -- The words are this command, and it is carried out.
 pub record Accepts (g : Given) (k : Command) : Type 0 where
   pub asked : g.asked ≡ Some k
   pub fine : IsFine k
 
--- The words are accepted, and the files tell this program for them, which has the root.
+-- The words are accepted, and the files tell this program for them.
 pub record IsAccepted (g : Given) (class : ClassFile) (main : ℕ) : Type 0 where
   pub command : Command
   pub accepts : Accepts g command
@@ -34,11 +32,10 @@ pub record IsAccepted (g : Given) (class : ClassFile) (main : ℕ) : Type 0 wher
   pub telling : g.told ≡ Some files
   pub bytes : List ℕ
   pub told_as : contents_at files command.file ≡ Some bytes
-  pub program : IsProgram bytes command.main class main
   pub root : Option ℕ
-  pub chosen : IsChosen command.options.root class root
+  pub program : IsProgram (asked_by command) bytes class main root
 
--- The words are accepted, and what the files tell for them is no program that has the root.
+-- The words are accepted, and what the files tell for them is no program.
 pub record IsUnfit (g : Given) : Type 0 where
   pub command : Command
   pub accepts : Accepts g command
@@ -46,7 +43,7 @@ pub record IsUnfit (g : Given) : Type 0 where
   pub telling : g.told ≡ Some files
   pub bytes : List ℕ
   pub told_as : contents_at files command.file ≡ Some bytes
-  pub none : HasNoRooted command.options.root command.main bytes
+  pub none : HasNoProgram (asked_by command) bytes
 
 -- ---- what is refused
 
@@ -62,14 +59,18 @@ AreAccepted g = (k : Command) × Accepts g k
 abbrev pub OfFile : Given → (Command → List ℕ → Type 0) → Type 0
 OfFile g P = (k : Command) × Accepts g k × HasTold g.told k.file (P k)
 
+-- a class is told that is refused so
+abbrev pub OfClass : Given → Refused → Type 0
+OfClass g refused = OfFile g (λ k. HasRefused (asked_by k) refused)
+
 -- The cause of each refusal in what is given; that of a fault is a count beside.
 abbrev pub Because : Given → Refusal → Type 0
 Because g refusal.Words = g.asked ≡ None
 Because g refusal.BadRoot = OfWords g (λ k. IsBadRoot k.options.root)
 Because g (refusal.NotRead fault) = OfFile g (λ k bytes. IsFirstFault bytes fault)
-Because g refusal.NotBuilt = OfFile g (λ k bytes. IsOutside bytes)
-Because g refusal.NoMain = OfFile g (λ k bytes. LacksMain bytes k.main)
-Because g refusal.NoSuchRoot = OfFile g (λ k bytes. LacksRootMethod k.options.root bytes k.main)
+Because g (refusal.NotAdmitted fault) = OfClass g (refused.Fault fault)
+Because g refusal.NotBuilt = OfClass g refused.NotBuilt
+Because g refusal.NotBuiltPlan = OfClass g refused.NotBuiltPlan
 Because g refusal.OutFailed = AreAccepted g
 Because g refusal.NotFetched = AreAccepted g
 Because g refusal.NoMemory = Unit {0}

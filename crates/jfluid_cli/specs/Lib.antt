@@ -6,7 +6,7 @@ pub mod Top
 pub mod Causes
 pub mod Origins
 pub mod Selections
-pub mod Roots
+pub mod Asking
 pub mod Views
 pub mod Calls
 pub mod Stages

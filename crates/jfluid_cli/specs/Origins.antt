@@ -5,8 +5,7 @@ use Rattle.const_pool.specs.declared.class.ClassFile.{ClassFile}
 use Rattle.class_reader.specs.declared.error.ReadError.{ReadError}
 use Rattle.class_reader.specs.Files.{IsFile, IsFirstFault}
 use Rattle.jfluid_cli.specs.declared.kept.Kept.{Kept}
-use Rattle.jfluid_cli.specs.Causes.{IsFine}
-use Rattle.jfluid_cli.specs.Roots.{IsChosen}
+use Rattle.jfluid_cli.specs.Asking.{asked_by, IsFine}
 use Rattle.jfluid_cli.specs.Selections.{IsSelected}
 use Rattle.jfluid_cli.specs.Words.{Command, command_of}
 use Rattle.jf_bytes.specs.Streams.{IsToldAs}
@@ -21,9 +20,8 @@ pub record HasOrigin (told : Option Told) (words : List (List ℕ)) (k : Kept) :
   pub bytes : List ℕ
   pub classes : k.classes ≡ bytes ∷ []
   pub told_as : IsToldAs told command.file bytes
-  pub program : IsProgram bytes command.main k.vm.class k.vm.main
   pub root : Option ℕ
-  pub chosen : IsChosen command.options.root k.vm.class root
+  pub program : IsProgram (asked_by command) bytes k.vm.class k.vm.main root
   pub selected : IsSelected root k.vm
   pub input : k.input ≡ []
   pub no_input : k.vm.input ≡ []

@@ -1,18 +1,27 @@
 -- The refusals of the program: their statuses, and the line that is put to the report.
-use Rattle.std.specs.Prelude.{◌≡◌, ℕ, ◌⊎◌, List, ◌++◌, codes}
+use Rattle.std.specs.Prelude.{◌≡◌, ℕ, ◌⊎◌, Bool, List, ◌++◌, codes, if◌then◌else◌}
 use Rattle.std.specs.Fmt.{decimal}
 use Rattle.class_reader.specs.declared.error.ReadError.{ReadError}
 use Rattle.class_reader.specs.declared.error.ReadError.TheVariants as fault
+use Rattle.admit_check.specs.declared.error.AdmitError.{AdmitError}
+use Rattle.admit_check.specs.declared.error.AdmitError.TheVariants as admit
+use Rattle.admit_check.specs.declared.error.CodeCause.{CodeCause}
+use Rattle.admit_check.specs.declared.error.CodeCause.TheVariants as code
+use Rattle.admit_check.specs.declared.error.Place.{Place}
+use Rattle.admit_check.specs.declared.error.Place.TheVariants as place
+use Rattle.admit_check.specs.declared.error.ShapeCause.{ShapeCause}
+use Rattle.admit_check.specs.declared.error.ShapeCause.TheVariants as shape
+use Rattle.small_program.specs.Admission.{is_of_class}
 use Rattle.jfluid_cli.specs.declared.refusal.Refusal.{Refusal}
-use Rattle.jfluid_cli.specs.declared.refusal.Refusal.TheVariants.{Words, BadRoot, NotRead, NotBuilt, NoMain, NoSuchRoot, NotFetched, OutFailed, NoMemory}
+use Rattle.jfluid_cli.specs.declared.refusal.Refusal.TheVariants.{Words, BadRoot, NotRead, NotAdmitted, NotBuilt, NotBuiltPlan, NotFetched, OutFailed, NoMemory}
 
 abbrev pub status_of : Refusal → ℕ
 status_of Words = 2
 status_of BadRoot = 2
 status_of (NotRead why) = 3
+status_of (NotAdmitted why) = 3
 status_of NotBuilt = 3
-status_of NoMain = 3
-status_of NoSuchRoot = 3
+status_of NotBuiltPlan = 3
 status_of OutFailed = 6
 status_of NotFetched = 7
 status_of NoMemory = 9
@@ -35,15 +44,59 @@ cause_of (fault.BadLength at) = codes "BadLength " ++ decimal at
 cause_of (fault.Trailing at) = codes "Trailing " ++ decimal at
 cause_of fault.NoMemory = codes "NoMemory"
 
+-- what is told of what is not admitted: the name of the fault, and its numbers behind the class's
+abbrev pub shape_word : ShapeCause → List ℕ
+shape_word shape.Name = codes "Name"
+shape_word shape.Super = codes "Super"
+shape_word shape.Descriptor = codes "Descriptor"
+shape_word shape.Twice = codes "Twice"
+shape_word shape.Code = codes "Code"
+shape_word shape.Constant = codes "Constant"
+
+abbrev pub code_word : CodeCause → List ℕ
+code_word code.Opcode = codes "Opcode"
+code_word code.Cut = codes "Cut"
+code_word code.Switch = codes "Switch"
+code_word code.Pool = codes "Pool"
+code_word code.Local = codes "Local"
+code_word code.Target = codes "Target"
+code_word code.Return = codes "Return"
+code_word code.Operand = codes "Operand"
+code_word code.Falls = codes "Falls"
+code_word code.Handler = codes "Handler"
+
+abbrev pub place_text : Place → List ℕ
+place_text (place.Field n) = codes "Field " ++ decimal n
+place_text (place.Method n) = codes "Method " ++ decimal n
+place_text (place.Code n at) = codes "Code " ++ (decimal n ++ (codes " " ++ decimal at))
+
+abbrev pub admission_cause : AdmitError → List ℕ
+admission_cause (admit.ReservedName class) = codes "ReservedName"
+admission_cause (admit.Duplicate class) = codes "Duplicate"
+admission_cause (admit.BadShape class why) = codes "BadShape " ++ shape_word why
+admission_cause (admit.BadCode class method at why) =
+    codes "BadCode " ++ (decimal method ++ (codes " " ++ (decimal at ++ (codes " " ++ code_word why))))
+admission_cause (admit.FloatingPoint class at) = codes "FloatingPoint " ++ place_text at
+admission_cause (admit.TooManyMethods count) = codes "TooManyMethods " ++ decimal count
+admission_cause admit.NoMain = codes "NoMain"
+admission_cause (admit.NoSuchRoot action) = codes "NoSuchRoot " ++ decimal action
+admission_cause admit.NoMemory = codes "NoMemory"
+
+-- a fault of a class is told of its file, which is called by its word
+abbrev pub told_of : Bool → List ℕ → List ℕ → List ℕ
+told_of named file cause =
+    if named then codes "jfluid: " ++ (file ++ (codes ": " ++ (cause ++ codes "\n")))
+    else codes "jfluid: " ++ (cause ++ codes "\n")
+
 -- the line, with its end; a file is called by its word
 abbrev pub refusal_line : Refusal → List ℕ → List ℕ
 refusal_line Words file = codes "jfluid: words refused\n"
 refusal_line BadRoot file = codes "jfluid: plan: BadLine 0 Root\n"
 refusal_line (NotRead why) file =
     codes "jfluid: " ++ (file ++ (codes ": " ++ (cause_of why ++ codes "\n")))
+refusal_line (NotAdmitted why) file = told_of (is_of_class why) file (admission_cause why)
 refusal_line NotBuilt file = codes "jfluid: " ++ (file ++ codes ": NotBuilt\n")
-refusal_line NoMain file = codes "jfluid: NoMain\n"
-refusal_line NoSuchRoot file = codes "jfluid: NoSuchRoot 1\n"
+refusal_line NotBuiltPlan file = codes "jfluid: NotBuiltPlan\n"
 refusal_line OutFailed file = codes "jfluid: output failed\n"
 refusal_line NotFetched file = codes "jfluid: " ++ (file ++ codes ": fetch failed\n")
 refusal_line NoMemory file = codes "jfluid: no memory\n"

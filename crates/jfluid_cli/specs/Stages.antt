@@ -4,9 +4,11 @@ use Rattle.jf_bytes.specs.Streams.{Told, Rose, IsFetched, IsToldAs}
 use Rattle.const_pool.specs.declared.class.ClassFile.{ClassFile}
 use Rattle.class_reader.specs.Files.{IsFile, IsFirstFault, most_bytes}
 use Rattle.class_reader.specs.declared.error.ReadError.{ReadError}
+use Rattle.jfluid_cli.specs.declared.asking.Asked.{Asked}
 use Rattle.jfluid_cli.specs.declared.kept.Kept.{Kept}
 use Rattle.jfluid_cli.specs.declared.refusal.Refusal.{Refusal}
 use Rattle.jfluid_cli.specs.declared.refusal.Refusal.TheVariants.{OutFailed, NoMemory}
+use Rattle.jfluid_cli.specs.Asking.{asked_by}
 use Rattle.jfluid_cli.specs.Calls.{Call, IsTrueOf, IsRunOf, IsRefused}
 use Rattle.jfluid_cli.specs.Causes.{Given, Accepts, IsDue}
 use Rattle.jfluid_cli.specs.Refusals.{status_of}
@@ -26,19 +28,19 @@ pub record IsEarly (g : Given) (r : Refusal) : Type 0 where
   pub due : IsDue g r
   pub early : is_early (status_of r) ≡ true
 
--- What was fetched for a command with this main class: its file's bytes, or of a longer one a front
+-- What was fetched for a command that asks for this: its file's bytes, or of a longer one a front
 -- that shows it.
-pub record IsFetchedFor (g : Given) (main bytes : List ℕ) : Type 0 where
+pub record IsFetchedFor (g : Given) (asked : Asked) (bytes : List ℕ) : Type 0 where
   pub command : Command
   pub accepts : Accepts g command
-  pub main_is : command.main ≡ main
+  pub asked_is : asked_by command ≡ asked
   pub front : IsFetched g.told command.file most_bytes bytes
 
 -- What was loaded for a command: the bytes that the files tell, which spell this program alone.
 pub record IsLoaded (told : Option Told) (k : Command) (bytes : List ℕ) (class : ClassFile)
-    (main : ℕ) : Type 0 where
+    (main : ℕ) (root : Option ℕ) : Type 0 where
   pub told_as : IsToldAs told k.file bytes
-  pub program : IsProgram bytes k.main class main
+  pub program : IsProgram (asked_by k) bytes class main root
   pub one : (c : ClassFile) → IsFile bytes c → c ≡ class
   pub faultless : (fault : ReadError) → IsFirstFault bytes fault → ⊥
 

@@ -1,20 +1,23 @@
 -- What the status of a call means, which bytes are a program, and what is reported of a run.
-use Rattle.std.specs.Prelude.{◌≡◌, ℕ, ◌<◌, ◌⊎◌, Bool, false, List, [], ◌∷◌, Option, Some, None, slice_get, unwrap_or, ◌==◌}
+use Rattle.std.specs.Prelude.{◌≡◌, ℕ, ◌<◌, ◌⊎◌, Bool, false, List, [], ◌∷◌, Option, Some, None, Result, Ok, Err, slice_get, unwrap_or, ◌==◌}
 use Rattle.std.specs.Option.{option_and_then}
 use Rattle.std.specs.List.{list_any}
 use Rattle.jf_bytes.specs.Streams.{greatest}
 use Rattle.const_pool.specs.declared.class.ClassFile.{ClassFile}
-use Rattle.const_pool.specs.Plain.{HasPlainShape}
 use Rattle.class_reader.specs.Files.{IsFile}
 use Rattle.jvm_model.specs.declared.ending.Ending.{Ending}
 use Rattle.jvm_model.specs.declared.ending.Ending.TheVariants.{Returned, Exited, Uncaught, Unverifiable}
-use Rattle.jvm_model.specs.SmallClass.{IsSmallClass, main_of}
+use Rattle.jvm_model.specs.declared.program.Program.{Program}
+use Rattle.admit_check.specs.declared.error.AdmitError.{AdmitError}
+use Rattle.admit_check.specs.Admission.{admission_of}
+use Rattle.small_program.specs.declared.admission.Refused.{Refused}
+use Rattle.small_program.specs.Admission.{selected, Runs, IsRefusedFor}
+use Rattle.jfluid_cli.specs.declared.asking.Asked.{Asked}
+use Rattle.jfluid_cli.specs.Asking.{asked_by}
 use Rattle.jvm_machine.specs.View.{View, world}
 use Rattle.jfluid_cli.specs.declared.refusal.Refusal.{Refusal}
 use Rattle.jfluid_cli.specs.declared.refusal.Refusal.TheVariants.{NotFetched, NoMemory}
-use Rattle.small_program.specs.PlainFiles.{IsPlainFile}
 use Rattle.jfluid_cli.specs.Words.{command_of}
-use Rattle.jfluid_cli.specs.Roots.{IsChosen, LacksRoot, root_said}
 use Rattle.jfluid_cli.specs.Runs.{ending_at}
 use Rattle.profile_report.specs.Reports.{report_text}
 use Rattle.jvm_model.specs.Projection.{projection}
@@ -47,35 +50,25 @@ is_status = is_among (0 ∷ 1 ∷ 2 ∷ 3 ∷ 4 ∷ 6 ∷ 7 ∷ 8 ∷ 9 ∷ 10 �
 
 -- ---- the program
 
--- The bytes are a file of a small class whose main method has this number, in a class of this name.
-pub record IsProgram (bytes name : List ℕ) (class : ClassFile) (main : ℕ) : Type 0 where
-  pub file : IsPlainFile bytes class
-  pub small : IsSmallClass class
-  pub main_is : main_of class name ≡ Some main
+-- what admission answers for a class
+abbrev pub answer_for : Asked → ClassFile → Result Program AdmitError
+answer_for a c = admission_of (c ∷ []) a.main a.plan
 
--- a class is spelled, but it is no small class
-abbrev pub IsOutside : List ℕ → Type 0
-IsOutside bytes = (c : ClassFile) × IsFile bytes c × (HasPlainShape c → IsSmallClass c → ⊥)
+-- The bytes are a file of a class that runs so far, with this main method and this root.
+pub record IsProgram (a : Asked) (bytes : List ℕ) (class : ClassFile) (main : ℕ) (root : Option ℕ)
+    : Type 0 where
+  pub file : IsFile bytes class
+  pub runs : Runs (answer_for a class) class main root
 
--- a small class is spelled, but it has another name or no public static main
-abbrev pub LacksMain : List ℕ → List ℕ → Type 0
-LacksMain bytes name =
-    (c : ClassFile) × IsPlainFile bytes c × IsSmallClass c × (main_of c name ≡ None)
+-- a class is spelled that is refused so
+abbrev pub HasRefused : Asked → Refused → List ℕ → Type 0
+HasRefused a refused bytes =
+    (c : ClassFile) × IsFile bytes c × IsRefusedFor (answer_for a c) c refused
 
--- a small class with its main method is spelled, but the root names no method of it
-abbrev pub LacksRootMethod : Option (List ℕ) → List ℕ → List ℕ → Type 0
-LacksRootMethod root bytes name =
-    (c : ClassFile) × (main : ℕ) × IsProgram bytes name c main × LacksRoot root c
-
--- no program is spelled for a main class of this name
-abbrev pub HasNoProgram : List ℕ → List ℕ → Type 0
-HasNoProgram name bytes = (c : ClassFile) (main : ℕ) → IsProgram bytes name c main → ⊥
-
--- nor one that has the root's method
-abbrev pub HasNoRooted : Option (List ℕ) → List ℕ → List ℕ → Type 0
-HasNoRooted word name bytes =
-    (c : ClassFile) (main : ℕ) (root : Option ℕ) → IsProgram bytes name c main →
-    IsChosen word c root → ⊥
+-- no program is spelled
+abbrev pub HasNoProgram : Asked → List ℕ → Type 0
+HasNoProgram a bytes =
+    (c : ClassFile) (main : ℕ) (root : Option ℕ) → IsProgram a bytes c main root → ⊥
 
 -- what a fetch refuses
 abbrev pub IsFetchRefusal : Refusal → Type 0
@@ -90,9 +83,15 @@ report_of root v =
     let contexts = projection (acts_for root) (world v) v.clock in
     report_text v.class (ending_at v v.clock) v.clock (swaps_for root) false contexts
 
+-- the root of an admitted program
+abbrev pub root_of_answer : Result Program AdmitError → Option ℕ
+root_of_answer (Ok program) = selected program.acts
+root_of_answer (Err fault) = None
+
 -- the root that the words name in a class
 abbrev pub root_of : List (List ℕ) → ClassFile → Option ℕ
-root_of words c = option_and_then (λ command. root_said command.options.root c) (command_of words)
+root_of words c =
+    option_and_then (λ command. root_of_answer (answer_for (asked_by command) c)) (command_of words)
 
 -- what is reported of the run of these words
 abbrev pub reported_of : List (List ℕ) → View → List ℕ

@@ -1,12 +1,13 @@
 //! The command jfluid: from its words to a status, over any files and streams.
 #![tactic(auto)]
 
+mod asking;
+mod causes;
 mod kept;
 mod loading;
 mod making;
 mod refusal;
 mod reporting;
-mod roots;
 mod running;
 mod top;
 mod words;

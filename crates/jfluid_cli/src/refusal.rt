@@ -6,8 +6,11 @@ ghost use Rattle.jf_bytes.specs.Streams.{PutsAll, Rose};
 ghost use Rattle.jfluid_cli.specs.Refusals.{status_of, IsRefusalStatus, cause_of, refusal_line};
 ghost use Rattle.jfluid_cli.specs.Sinks.{PutsOrRose, sink_view};
 
+use crate::causes::admission_cause;
+use admit_check::AdmitError;
 use class_reader::ReadError;
 use jf_bytes::Sink;
+use small_program::is_of_class;
 use std::alloc::{AllocError, Global};
 
 /// Why the program gives no report. Each has a status, and a line that is put to the report.
@@ -19,12 +22,12 @@ pub enum Refusal {
     BadRoot,
     /// The file is no class file, and this is its first fault: status 3.
     NotRead(ReadError),
-    /// The class is not of the part of the language that is built so far: status 3.
+    /// The program is not admitted, and this is its first fault: status 3.
+    NotAdmitted(AdmitError),
+    /// The class is outside the part of the language that runs so far: status 3.
     NotBuilt,
-    /// The class has another name, or no public static main: status 3.
-    NoMain,
-    /// The class has no method as the word for the root names one: status 3.
-    NoSuchRoot,
+    /// The root is a method of a built-in class, which is not rewritten so far: status 3.
+    NotBuiltPlan,
     /// A put of the program's output failed: status 6.
     OutFailed,
     /// The file could not be fetched: status 7.
@@ -41,7 +44,10 @@ impl Refusal {
     {
         match self {
             Refusal::Words | Refusal::BadRoot => 2,
-            Refusal::NotRead(_) | Refusal::NotBuilt | Refusal::NoMain | Refusal::NoSuchRoot => 3,
+            Refusal::NotRead(_)
+            | Refusal::NotAdmitted(_)
+            | Refusal::NotBuilt
+            | Refusal::NotBuiltPlan => 3,
             Refusal::OutFailed => 6,
             Refusal::NotFetched => 7,
             Refusal::NoMemory => 9,
@@ -77,6 +83,19 @@ fn fault_line(alloc: Global, fault: ReadError, file: &str) -> Result<String, All
     format!(in alloc; "jfluid: {file}: {cause}\n")
 }
 
+/// The line of a program that is not admitted.
+fn admission_line(alloc: Global, fault: AdmitError, file: &str) -> Result<String, AllocError>
+    ensures { IfOk result (λ line.
+        string_bytes line ≡ refusal_line (Refusal.NotAdmitted fault) file.now) }
+{
+    let cause = admission_cause(alloc, fault)?;
+    if is_of_class(fault) {
+        format!(in alloc; "jfluid: {file}: {cause}\n")
+    } else {
+        format!(in alloc; "jfluid: {cause}\n")
+    }
+}
+
 /// The line of a refusal; a file is called by its word.
 fn line(alloc: Global, refusal: Refusal, file: &str) -> Result<String, AllocError>
     ensures { IfOk result (λ line. string_bytes line ≡ refusal_line refusal file.now) }
@@ -85,9 +104,9 @@ fn line(alloc: Global, refusal: Refusal, file: &str) -> Result<String, AllocErro
         Refusal::Words => String::from_str(alloc, "jfluid: words refused\n"),
         Refusal::BadRoot => String::from_str(alloc, "jfluid: plan: BadLine 0 Root\n"),
         Refusal::NotRead(fault) => fault_line(alloc, fault, file),
+        Refusal::NotAdmitted(fault) => admission_line(alloc, fault, file),
         Refusal::NotBuilt => format!(in alloc; "jfluid: {file}: NotBuilt\n"),
-        Refusal::NoMain => String::from_str(alloc, "jfluid: NoMain\n"),
-        Refusal::NoSuchRoot => String::from_str(alloc, "jfluid: NoSuchRoot 1\n"),
+        Refusal::NotBuiltPlan => String::from_str(alloc, "jfluid: NotBuiltPlan\n"),
         Refusal::OutFailed => String::from_str(alloc, "jfluid: output failed\n"),
         Refusal::NotFetched => format!(in alloc; "jfluid: {file}: fetch failed\n"),
         Refusal::NoMemory => String::from_str(alloc, "jfluid: no memory\n"),

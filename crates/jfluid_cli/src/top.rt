@@ -11,7 +11,7 @@ ghost use Rattle.jfluid_cli.specs.Top.{report_of, file_word};
 ghost use Rattle.jfluid_cli.specs.Words.{greatest_budget};
 
 use crate::kept::Kept;
-use crate::loading::{Prepared, prepare};
+use crate::loading::prepare;
 use crate::making::make;
 use crate::refusal::{Refusal, tell};
 use crate::reporting::give_report;
@@ -112,12 +112,12 @@ fn carry_out<F: Files, O: Sink, P: Sink>(
     let Some(command) = read_words(words) else {
         return Err(Refusal::Words);
     };
-    let prepared = match prepare(alloc, command, files) {
-        Ok(prepared) => prepared,
+    let loaded = match prepare(alloc, command, files) {
+        Ok(loaded) => loaded,
         Err(refusal) => return Err(refusal),
     };
-    let Prepared { loaded, root } = prepared;
-    let Ok(made_of) = make(alloc, loaded, root) else {
+    let root = loaded.program.root;
+    let Ok(made_of) = make(alloc, loaded) else {
         return Err(Refusal::NoMemory);
     };
     let budget = command.options.budget;
@@ -144,8 +144,8 @@ fn third_word(words: &[String]) -> &str
 /// left in `kept`.
 ///
 /// The statuses are 0, the run returned, with the budget's last step at the latest; 2, the words
-/// are refused; 3, the file is no class file, the class is refused, or the root names no method of
-/// it; 4, the budget was spent before the run ended; 6, a put of output failed; 7, the file could
+/// are refused; 3, the file is no class file, its program is not admitted, or it is outside the
+/// part of the language that runs so far; 4, the budget was spent before the run ended; 6, a put of output failed; 7, the file could
 /// not be fetched; 8, a put of the report failed; 9, no memory was left; 10, the code is
 /// unverifiable. With 2, 3, 6, 7 and 9 a line on `report` says it.
 pub fn jfluid<F: Files, I: Source, O: Sink, P: Sink, G: Sink>(

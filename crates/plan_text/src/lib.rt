@@ -7,3 +7,4 @@ mod roots;
 mod tests;
 
 pub use plan::{Action, LineCause, Plan, PlanError, RootName, plan_of_root};
+pub use roots::slashed;

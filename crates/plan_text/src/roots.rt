@@ -30,8 +30,8 @@ fn last_dot(units: &[u16]) -> Option<usize>
     last
 }
 
-/// The units with slashes for dots.
-fn slashed(alloc: Global, units: &[u16]) -> Result<Text16, NoMemory>
+/// A class name in its internal form, with slashes for dots (JVM Specification 4.2.1).
+pub fn slashed(alloc: Global, units: &[u16]) -> Result<Text16, NoMemory>
     ensures { IfOk result (λ text. text ≡ with_slashes units.now) }
 {
     let slashed = units

@@ -1,5 +1,5 @@
-//! The classes that the program runs so far: the test of a plain shape and of a small class, and the search for `main`. It takes
-//! the place of the linker's admission until that is there.
+//! The part of what is admitted that runs so far: a class of a plain shape that is small, and a root of it. It goes when the
+//! machine runs whatever is admitted.
 #![tactic(auto)]
 
 mod admission;
@@ -8,4 +8,4 @@ mod plain_shape;
 mod small_class;
 mod small_code;
 
-pub use admission::{AdmitError, admit};
+pub use admission::{Admitted, Refused, admit, is_of_class};

@@ -1,13 +1,7 @@
 use Rattle.std.proofs.Common.{refl, sym}
 use Rattle.jfluid_cli.specs.Views.{command_view}
-use Rattle.jfluid_cli.proofs.Chosen.{chosen-within}
 use Rattle.jfluid_cli.proofs.Carried.{carried-refused, carried-run}
 use Rattle.jfluid_cli.proofs.top.carry_out.Goals as goal
-
-pub make-requires-clause-known : goal.make-requires-clause-known
-make-requires-clause-known g c =
-    chosen-within (command_view c.in-Some.command).options.root
-    c.in-Ok.prepared.loaded.program.class c.in-Ok.prepared.root c.in-Ok.ensures.root
 
 pub returns-in-Err : goal.returns-in-Err
 returns-in-Err g c = record {
@@ -19,10 +13,10 @@ returns-in-Err g c = record {
 
 pub returns : goal.returns
 returns g c =
-    let l = c.in-Ok.prepared.loaded in
+    let l = c.in-Ok.loaded in
     record {
       carried = carried-run _
-          (command_view c.in-Some.command) c.in-Ok.prepared.root c.in-Ok-make.made_of
+          (command_view c.in-Some.command) l.program.root c.in-Ok-make.made_of
           c.run_made.result
           (record {
             commanded = sym c.in-Some.ensures.command;
@@ -31,7 +25,6 @@ returns g c =
             class = l.program.class;
             main = l.program.main;
             loaded = c.in-Ok.ensures.ok;
-            chosen = c.in-Ok.ensures.root;
             runs = c.in-Ok-make.ensures.runs;
             classes = c.in-Ok-make.ensures.classes;
             input = c.in-Ok-make.ensures.input;

@@ -1,0 +1,107 @@
+-- What is admitted is a sound program.
+use Rattle.std.proofs.Common.{◌≡◌, ℕ, ◌+◌, ◌<◌, Bool, true, false, cond, List, [], ◌∷◌, length, Option, Some, None, Result, Ok, Err, refl, sym, subst, arith}
+use Rattle.std.specs.Prelude.{nat_lt, IfOk}
+use Rattle.std.specs.Option.{option_and_then, option_map}
+use Rattle.std.specs.List.{AllByRecursion}
+use Rattle.std.proofs.lemmas.Option.{same_Some, none-some, option_and_then_some}
+use Rattle.const_pool.specs.declared.class.ClassFile.{ClassFile}
+use Rattle.const_pool.specs.References.{name_type_of}
+use Rattle.base_classes.specs.BuiltInFiles.{built_in_files}
+use Rattle.jvm_model.specs.declared.event.Act.{Act}
+use Rattle.jvm_model.specs.declared.program.MethodPlace.{MethodPlace}
+use Rattle.jvm_model.specs.declared.program.Program.{Program}
+use Rattle.jvm_model.specs.Methods.{method_named}
+use Rattle.jvm_model.specs.Programs.{class_at, class_named, declared_method, number_from, number_of_method, same_place}
+use Rattle.plan_text.specs.declared.plan.Action.{Action}
+use Rattle.plan_text.specs.declared.plan.Plan.{Plan}
+use Rattle.admit_check.specs.declared.error.AdmitError.{AdmitError}
+use Rattle.admit_check.specs.Admission.{act_of, act_with, acts_from, admission, admission_of, declared_main, main_in, main_of_class, program_with, root_in, IsSoundProgram}
+use Rattle.admit_check.specs.Stages.{Answers}
+use Rattle.admit_check.proofs.Admitted.{admitted}
+
+-- ---- numbers of methods
+
+one_more : (n behind k : ℕ) (test : Bool) (rest : Option ℕ) → (rest ≡ Some k → k < n + 1 + behind) → cond test (Some n) rest ≡ Some k → k < n + suc behind
+one_more n behind k true rest later e = let same : n ≡ k = same_Some n k e in omega arith
+one_more n behind k false rest later e = let found = later e in omega arith
+
+number_below : (n class at : ℕ) (places : List MethodPlace) (k : ℕ) → number_from n class at places ≡ Some k → k < n + length places
+number_below n class at [] k e = absurd (none-some k e)
+number_below n class at (place ∷ rest) k e =
+    one_more n (length rest) k (same_place class at place) (number_from (n + 1) class at rest) (λ later. number_below (n + 1) class at rest k later) e
+
+main_below : (p : Program) (class k : ℕ) → main_of_class p class ≡ Some k → k < length p.methods
+main_below p class k e =
+    option_and_then_some (λ c. option_and_then (number_of_method p class) (declared_main c)) (class_at p class) k e
+    (λ c is rest. option_and_then_some (number_of_method p class) (declared_main c) k rest (λ at is found. number_below 0 class at p.methods k found))
+
+main_in-below : (p : Program) (given : ℕ) (name : List ℕ) (k : ℕ) → main_in p given name ≡ Some k → k < length p.methods
+main_in-below p given name k e =
+    option_and_then_some (λ class. cond (nat_lt class given) (main_of_class p class) None) (class_named p name) k e
+    (λ class is rest. by_test class (nat_lt class given) rest)
+  where
+    by_test : (class : ℕ) (b : Bool) → cond b (main_of_class p class) None ≡ Some k → k < length p.methods
+    by_test class true found = main_below p class k found
+    by_test class false found = absurd (none-some k found)
+
+-- ---- acts
+
+abbrev IsBelow : Program → Act → Type 0
+IsBelow p act = act.method < length p.methods
+
+root_below : (p : Program) (a : Action) (k : ℕ) → root_in p a.root ≡ Some k → k < length p.methods
+root_below p a k e =
+    let wanted = name_type_of a.root.name a.root.descriptor in
+    option_and_then_some (declared_method p wanted) (class_named p a.root.class) k e
+    (λ class is rest. option_and_then_some (λ c. option_and_then (number_of_method p class) (method_named c wanted)) (class_at p class) k rest
+    (λ c at found. option_and_then_some (number_of_method p class) (method_named c wanted) k found (λ at is number. number_below 0 class at p.methods k number)))
+
+act_below : (p : Program) (a : Action) (act : Act) → act_of p a ≡ Some act → IsBelow p act
+act_below p a act e = by_root (root_in p a.root) (λ k is. root_below p a k is) e where
+  by_root : (o : Option ℕ) → ((k : ℕ) → o ≡ Some k → k < length p.methods)
+      → option_map (λ (method : ℕ). let x : Act = record { moment = a.moment; select = a.select; method = method } in x) o ≡ Some act → IsBelow p act
+  by_root None below is = absurd (none-some act is)
+  by_root (Some k) below is = subst (IsBelow p) (same_Some _ act is) (below k refl)
+
+same_acts : (xs ys : List Act) → (let x : Result (List Act) AdmitError = Ok xs in x ≡ Ok ys) → xs ≡ ys
+same_acts xs ys e = cc e
+
+acts_below : (p : Program) (at : ℕ) (actions : List Action) (acts : List Act) → acts_from p at actions ≡ Ok acts → AllByRecursion (IsBelow p) acts
+acts_below p at [] acts e = subst (AllByRecursion (IsBelow p)) (same_acts [] acts e) tt
+acts_below p at (a ∷ rest) acts e =
+    by_parts (act_of p a) (acts_from p (at + 1) rest) (λ act is. act_below p a act is) (λ more is. acts_below p (at + 1) rest more is) e
+  where
+    by_parts : (o : Option Act) (told : Result (List Act) AdmitError) → ((act : Act) → o ≡ Some act → IsBelow p act)
+        → ((more : List Act) → told ≡ Ok more → AllByRecursion (IsBelow p) more) → act_with o at told ≡ Ok acts → AllByRecursion (IsBelow p) acts
+    by_parts None told one all is = absurd cc
+    by_parts (Some act) (Err fault) one all is = absurd cc
+    by_parts (Some act) (Ok more) one all is = subst (AllByRecursion (IsBelow p)) (same_acts (act ∷ more) acts is) (one act refl, all more refl)
+
+-- ---- the program
+
+sound : (classes : List ClassFile) (name : List ℕ) (plan : Plan) (p : Program) → admission classes built_in_files name plan ≡ Ok p → IsSoundProgram classes name p
+sound classes name plan p e =
+    let is = admitted classes built_in_files name plan p e in
+    let whole = is.completion in
+    subst (IsSoundProgram classes name) whole.is (record {
+      fine = is.fine;
+      classes_are = refl;
+      methods = refl;
+      few = whole.few;
+      main_is = whole.found;
+      main = main_in-below (program_with classes built_in_files plan) (length classes) name whole.main whole.found;
+      acts = acts_below (program_with classes built_in_files plan) 1 plan.actions whole.acts whole.told;
+    })
+
+-- ---- what is answered
+
+pub answers-given : (r : Result Program AdmitError) (classes files : List ClassFile) (name : List ℕ) (plan : Plan) → files ≡ built_in_files
+    → Answers r (admission classes files name plan) → Answers r (admission_of classes name plan)
+unfolding admission_of
+answers-given r classes files name plan same answers = subst (λ (fs : List ClassFile). Answers r (admission classes fs name plan)) same answers
+
+pub sound-answers : (r : Result Program AdmitError) (classes : List ClassFile) (name : List ℕ) (plan : Plan) → Answers r (admission_of classes name plan)
+    → IfOk r (IsSoundProgram classes name)
+unfolding admission_of
+sound-answers (Ok p) classes name plan answers = sound classes name plan p answers
+sound-answers (Err fault) classes name plan answers = tt

@@ -1,0 +1,78 @@
+//! What is told of a fault for which a program is not admitted.
+
+ghost use Rattle.std.specs.Prelude.{◌≡◌, IfOk};
+ghost use Rattle.std.specs.String.{string_bytes};
+ghost use Rattle.jfluid_cli.specs.Refusals.{admission_cause as cause_told, code_word as code_told};
+ghost use Rattle.jfluid_cli.specs.Refusals.{place_text as place_told, shape_word as shape_told};
+
+use admit_check::{AdmitError, CodeCause, Place, ShapeCause};
+use std::alloc::{AllocError, Global};
+
+/// The name of what is wrong with a class's shape.
+fn shape_word(cause: ShapeCause) -> &'static str
+    ensures { result.now ≡ shape_told cause }
+{
+    match cause {
+        ShapeCause::Name => "Name",
+        ShapeCause::Super => "Super",
+        ShapeCause::Descriptor => "Descriptor",
+        ShapeCause::Twice => "Twice",
+        ShapeCause::Code => "Code",
+        ShapeCause::Constant => "Constant",
+    }
+}
+
+/// The name of what is wrong with a code.
+fn code_word(cause: CodeCause) -> &'static str
+    ensures { result.now ≡ code_told cause }
+{
+    match cause {
+        CodeCause::Opcode => "Opcode",
+        CodeCause::Cut => "Cut",
+        CodeCause::Switch => "Switch",
+        CodeCause::Pool => "Pool",
+        CodeCause::Local => "Local",
+        CodeCause::Target => "Target",
+        CodeCause::Return => "Return",
+        CodeCause::Operand => "Operand",
+        CodeCause::Falls => "Falls",
+        CodeCause::Handler => "Handler",
+    }
+}
+
+/// A place, with its numbers.
+fn place_text(alloc: Global, place: Place) -> Result<String, AllocError>
+    ensures { IfOk result (λ text. string_bytes text ≡ place_told place) }
+{
+    match place {
+        Place::Field(field) => format!(in alloc; "Field {field}"),
+        Place::Method(method) => format!(in alloc; "Method {method}"),
+        Place::Code(method, at) => format!(in alloc; "Code {method} {at}"),
+    }
+}
+
+/// The fault's name and its numbers, but for the class's.
+pub fn admission_cause(alloc: Global, fault: AdmitError) -> Result<String, AllocError>
+    ensures { IfOk result (λ cause. string_bytes cause ≡ cause_told fault) }
+{
+    match fault {
+        AdmitError::ReservedName(_) => String::from_str(alloc, "ReservedName"),
+        AdmitError::Duplicate(_) => String::from_str(alloc, "Duplicate"),
+        AdmitError::BadShape(_, cause) => {
+            let word = shape_word(cause);
+            format!(in alloc; "BadShape {word}")
+        }
+        AdmitError::BadCode(_, method, at, cause) => {
+            let word = code_word(cause);
+            format!(in alloc; "BadCode {method} {at} {word}")
+        }
+        AdmitError::FloatingPoint(_, place) => {
+            let place = place_text(alloc, place)?;
+            format!(in alloc; "FloatingPoint {place}")
+        }
+        AdmitError::TooManyMethods(count) => format!(in alloc; "TooManyMethods {count}"),
+        AdmitError::NoMain => String::from_str(alloc, "NoMain"),
+        AdmitError::NoSuchRoot(action) => format!(in alloc; "NoSuchRoot {action}"),
+        AdmitError::NoMemory => String::from_str(alloc, "NoMemory"),
+    }
+}

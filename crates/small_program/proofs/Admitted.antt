@@ -1,0 +1,46 @@
+-- What is answered for one class.
+use Rattle.std.proofs.Common.{◌≡◌, ℕ, ◌+◌, ◌<◌, ◌^◌, Bool, true, false, List, [], ◌∷◌, ◌++◌, length, Option, Result, Ok, Err, refl, sym, ap, subst, ◌∙◌, inl, inr, arith}
+use Rattle.std.specs.Prelude.{◌≢◌, ◌⊎◌, ◌↔◌, IsTrue, cond, ◌||◌}
+use Rattle.const_pool.specs.declared.class.ClassFile.{ClassFile}
+use Rattle.base_classes.specs.BuiltInFiles.{built_in_files}
+use Rattle.jvm_model.specs.declared.program.Program.{Program}
+use Rattle.admit_check.specs.declared.error.AdmitError.{AdmitError}
+use Rattle.admit_check.specs.declared.error.AdmitError.TheVariants as fault
+use Rattle.admit_check.specs.Admission.{IsSoundProgram}
+use Rattle.small_program.specs.declared.admission.Refused.{Refused}
+use Rattle.small_program.specs.declared.admission.Refused.TheVariants as refused
+use Rattle.small_program.specs.Admission.{is_memory, is_of_class, passes_class, refusal_for, IsSmall, IsRefusedFor}
+
+false_true : {A : Type 0} → false ≡ true → A
+false_true e = absurd cc
+
+no_memory : (f : AdmitError) → is_memory f ≡ false → f ≢ fault.NoMemory
+no_memory f e is = false_true (sym e ∙ ap is_memory is)
+
+-- a fault that is told
+pub refuses : (f : AdmitError) (small : Bool) (answer : Result Program AdmitError) (c : ClassFile) → (f ≢ fault.NoMemory → answer ≡ Err f)
+    → IsTrue small ↔ IsSmall c → IsRefusedFor answer c (refusal_for f small)
+refuses f small answer c told decided = by_memory (is_memory f) refl where
+  by_class : (s own : Bool) → small ≡ s → is_of_class f ≡ own → answer ≡ Err f
+      → IsRefusedFor answer c (cond (s || own) (refused.Fault f) refused.NotBuilt)
+  by_class true own is of e = (e, inr (decided.0 is))
+  by_class false true is of e = (e, inl of)
+  by_class false false is of e = (ap passes_class e ∙ ap (λ (b : Bool). cond b false true) of, λ s. false_true (sym is ∙ decided.1 s))
+
+  by_memory : (b : Bool) → is_memory f ≡ b
+      → IsRefusedFor answer c (cond b refused.NoMemory (cond (small || is_of_class f) (refused.Fault f) refused.NotBuilt))
+  by_memory true e = tt
+  by_memory false e = by_class small (is_of_class f) refl refl (told (no_memory f e))
+
+-- what is admitted but not small
+pub outside : (p : Program) (small : Bool) (answer : Result Program AdmitError) (c : ClassFile) → answer ≡ Ok p → small ≡ false → IsTrue small ↔ IsSmall c
+    → IsRefusedFor answer c refused.NotBuilt
+outside p small answer c e no decided = (ap passes_class e, λ s. false_true (sym no ∙ decided.1 s))
+
+-- ---- the program of one class
+
+pub has_first : (c : ClassFile) (name : List ℕ) (p : Program) → IsSoundProgram (c ∷ []) name p → 0 < length p.classes
+has_first c name p sound = let e : length p.classes ≡ suc (length built_in_files) = ap length sound.classes_are in omega arith
+
+pub main_small : (classes : List ClassFile) (name : List ℕ) (p : Program) → IsSoundProgram classes name p → p.main < 2 ^ 16
+main_small classes name p sound = let below = sound.main in let few = sound.few in omega arith
