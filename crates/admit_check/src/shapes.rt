@@ -152,7 +152,8 @@ fn has_wrong_method_text(alloc: Global, pool: &Pool, method: &Member) -> Result<
 
 /// Whether a method among these has a descriptor that is none.
 fn has_wrong_method(alloc: Global, pool: &Pool, methods: &[Member]) -> Result<bool, NoMemory>
-    ensures { IfOk result (λ wrong. wrong ≡ list_any (has_wrong_text is_method_text pool.now) methods.now) }
+    ensures { let wrong = has_wrong_text is_method_text pool.now in
+        IfOk result (λ any. any ≡ list_any wrong methods.now) }
 {
     for method in methods {
         if has_wrong_method_text(alloc, pool, method)? {

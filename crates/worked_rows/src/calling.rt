@@ -90,7 +90,7 @@ fn call(
 
 /// What the top call makes of its objects.
 fn answer_of(alloc: Global, objects: Objects) -> Result<Answer, NoMemory>
-    ensures { IfOk result (λ answer. IsAnswerTo (map string_bytes objects.words.items) answer.status) }
+    ensures { IfOk result (λ a. IsAnswerTo (map string_bytes objects.words.items) a.status) }
 {
     let Objects {
         words,
@@ -120,7 +120,7 @@ fn answer_of(alloc: Global, objects: Objects) -> Result<Answer, NoMemory>
 
 /// What comes of what a row gives.
 pub fn answer_to(alloc: Global, given: Given) -> Result<Answer, NoMemory>
-    ensures { IfOk result (λ answer. IsAnswerTo (map string_bytes given.words.items) answer.status) }
+    ensures { IfOk result (λ a. IsAnswerTo (map string_bytes given.words.items) a.status) }
 {
     let objects = objects_of(alloc, given)?;
     answer_of(alloc, objects)

@@ -2,7 +2,7 @@
 
 ghost use Rattle.std.specs.Prelude.{◌≡◌, ◌==◌, ◌≤◌, None, Ok, map, length, bytes_eq, IfOk, IfSome};
 ghost use Rattle.std.specs.List.{slice_split};
-ghost use Rattle.worked_rows.specs.Answers.{IsFirstDifference, found_lines, line_number, TextDiffers, HasLines, LinesDiffer, ReportAgrees, ReportDiffers, Agrees, Differs};
+ghost use Rattle.worked_rows.specs.Answers.{IsFirstDifference, found_lines, line_number, TextDiffers, HasLines, LinesDiffer, ReportAgrees, ReportDiffers, Agrees, Differs, pieces_of as lines_of};
 
 use crate::expected::{Expected, ExpectedReport};
 use std::alloc::{AllocError, Global};
@@ -51,7 +51,7 @@ fn first_difference(wanted: &[u8], came: &[u8]) -> Option<usize>
 
 /// The lines of a text, where each line feed parts two.
 fn pieces_of<'a>(alloc: Global, text: &'a [u8]) -> Result<Vec<&'a [u8]>, AllocError>
-    ensures { IfOk result (λ pieces. map (λ piece. piece.now) pieces.items ≡ slice_split (λ byte. byte == 10) text.now) }
+    ensures { IfOk result (λ pieces. map (λ p. p.now) pieces.items ≡ lines_of text.now) }
 {
     text.split(|byte| *byte == b'\n').collect(alloc)
 }
@@ -64,7 +64,7 @@ fn same_bytes(wanted: &[u8], came: &[u8]) -> bool
 
 /// How many of the wanted lines came, each behind the ones before it.
 fn found_lines(wanted: &[&[u8]], came: &[&[u8]]) -> usize
-    ensures { result ≡ found_lines (map (λ line. line.now) wanted.now) (map (λ line. line.now) came.now) }
+    ensures { result ≡ found_lines (map (λ l. l.now) wanted.now) (map (λ l. l.now) came.now) }
 {
     let mut found = 0usize;
     for line in came {
@@ -103,7 +103,7 @@ fn lines_difference(
     came: &[u8],
 ) -> Result<Option<Difference>, AllocError>
     ensures same { result ≡ Ok None → HasLines wanted.now came.now }
-    ensures place { IfOk result (λ found. IfSome found (λ difference. LinesDiffer wanted.now came.now difference)) }
+    ensures place { IfOk result (λ found. IfSome found (LinesDiffer wanted.now came.now)) }
 {
     let wanted = pieces_of(alloc, wanted)?;
     let found = found_lines(&wanted, &pieces_of(alloc, came)?);

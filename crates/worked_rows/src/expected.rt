@@ -31,7 +31,8 @@ fn read_report<F: Files>(
     row: &str,
     files: &mut F,
 ) -> Result<ExpectedReport, RowError>
-    ensures found { IfOk result (λ report. IfSome (F.contents files.old) (λ told. HasReport told row.now report)) }
+    ensures found { IfOk result (λ report. IfSome (F.contents files.old) (λ told.
+        HasReport told row.now report)) }
     ensures stay { F.contents files.new ≡ F.contents files.old }
 {
     match fetch_part(alloc, row, "report", files) {
@@ -50,7 +51,8 @@ pub fn read_expected<F: Files>(
     row: &str,
     files: &mut F,
 ) -> Result<Expected, RowError>
-    ensures found { IfOk result (λ expected. IfSome (F.contents files.old) (λ told. HasExpected told row.now expected)) }
+    ensures found { IfOk result (λ expected. IfSome (F.contents files.old) (λ told.
+        HasExpected told row.now expected)) }
     ensures stay { F.contents files.new ≡ F.contents files.old }
 {
     let status = fetch_part(alloc, row, "status", files)?;

@@ -134,7 +134,8 @@ fn take_line<F: Files>(
 
 /// The words that the lines say, behind the program's name.
 fn words_of(alloc: Global, text: &str) -> Result<Vec<String>, AllocError>
-    ensures { IfOk result (λ words. map string_bytes words.items ≡ codes "jfluid" ∷ lines text.now) }
+    ensures { IfOk result (λ words.
+        map string_bytes words.items ≡ codes "jfluid" ∷ lines text.now) }
 {
     let mut words = Vec::new(alloc);
     words.push(String::from_str(alloc, "jfluid")?)?;
@@ -152,7 +153,8 @@ fn text_part<F: Files>(
     part: &str,
     files: &mut F,
 ) -> Result<String, RowError>
-    ensures found { IfOk result (λ text. IfSome (F.contents files.old) (λ told. part_at told row.now part.now ≡ Some (string_bytes text))) }
+    ensures found { IfOk result (λ text. IfSome (F.contents files.old) (λ told.
+        part_at told row.now part.now ≡ Some (string_bytes text))) }
     ensures stay { F.contents files.new ≡ F.contents files.old }
 {
     let bytes = fetch_part(alloc, row, part, files)?;
@@ -164,7 +166,8 @@ fn text_part<F: Files>(
 
 /// What a row gives: the files `args` and `given` of its folder.
 pub fn read_given<F: Files>(alloc: Global, row: &str, files: &mut F) -> Result<Given, RowError>
-    ensures words { IfOk result (λ given. IfSome (F.contents files.old) (λ told. HasWords told row.now (map string_bytes given.words.items))) }
+    ensures words { IfOk result (λ given. IfSome (F.contents files.old) (λ told.
+        HasWords told row.now (map string_bytes given.words.items))) }
     ensures stay { F.contents files.new ≡ F.contents files.old }
 {
     let args = text_part(alloc, row, "args", files)?;

@@ -83,7 +83,8 @@ fn run_row<F: Files>(
     row: &str,
     files: &mut F,
 ) -> Result<Option<Difference>, RowError>
-    ensures passed { result ≡ Ok None → IfSome (F.contents files.old) (λ told. HasPassed told row.now) }
+    ensures passed { result ≡ Ok None →
+        IfSome (F.contents files.old) (λ told. HasPassed told row.now) }
     ensures stay { F.contents files.new ≡ F.contents files.old }
 {
     let expected = read_expected(alloc, row, files)?;
@@ -95,7 +96,8 @@ fn run_row<F: Files>(
 /// The verdict on the row of this name.
 fn judge<F: Files>(alloc: Global, row: &str, files: &mut F) -> Result<Verdict, ListError>
     ensures name { IfOk result (λ verdict. string_bytes verdict.name ≡ row.now) }
-    ensures passed { IfOk result (λ verdict. verdict.fault ≡ None → IfSome (F.contents files.old) (λ told. HasPassed told row.now)) }
+    ensures passed { IfOk result (λ verdict. verdict.fault ≡ None →
+        IfSome (F.contents files.old) (λ told. HasPassed told row.now)) }
     ensures stay { F.contents files.new ≡ F.contents files.old }
 {
     let name = String::from_str(alloc, row)?;
@@ -111,9 +113,11 @@ fn judge<F: Files>(alloc: Global, row: &str, files: &mut F) -> Result<Verdict, L
 /// The text of a list.
 #[tactic(auto, unfolding(crate::specs::Rows::file_at))]
 fn fetch_list<F: Files>(alloc: Global, list: &str, files: &mut F) -> Result<String, ListError>
-    ensures found { IfOk result (λ text. IfSome (F.contents files.old) (λ told. file_at told list.now ≡ Some (string_bytes text))) }
+    ensures found { IfOk result (λ text. IfSome (F.contents files.old) (λ told.
+        file_at told list.now ≡ Some (string_bytes text))) }
     ensures stay { F.contents files.new ≡ F.contents files.old }
-    ensures not_fetched { result ≡ Err ListError.NotFetched → Rose (F.faults files.old) (F.faults files.new) }
+    ensures not_fetched { result ≡ Err ListError.NotFetched →
+        Rose (F.faults files.old) (F.faults files.new) }
 {
     let bytes = match files.fetch(alloc, list, MOST) {
         Ok(bytes) => bytes,
@@ -132,8 +136,11 @@ pub fn judge_list<F: Files>(
     list: &str,
     files: &mut F,
 ) -> Result<Vec<Verdict>, ListError>
-    ensures all { IfOk result (λ verdicts. IfSome (F.contents files.old) (λ told. IfSome (file_at told list.now) (λ text. map name_of verdicts.items ≡ row_names text))) }
-    ensures passed { IfOk result (λ verdicts. IfSome (F.contents files.old) (λ told. AreTrueOf told verdicts.items)) }
+    ensures all { IfOk result (λ verdicts. IfSome (F.contents files.old) (λ told.
+        IfSome (file_at told list.now) (λ text.
+        map name_of verdicts.items ≡ row_names text))) }
+    ensures passed { IfOk result (λ verdicts. IfSome (F.contents files.old) (λ told.
+        AreTrueOf told verdicts.items)) }
 {
     let text = fetch_list(alloc, list, files)?;
     let names = row_names(alloc, text.as_str())?;

@@ -35,7 +35,8 @@ pub fn lines_of<'a>(alloc: Global, text: &'a str) -> Result<Vec<&'a str>, AllocE
 
 /// The names on those of the lines that are rows.
 fn names_in<'a>(alloc: Global, lines: &[&'a str]) -> Result<Vec<&'a str>, AllocError>
-    ensures { IfOk result (λ names. map (λ name. name.now) names.items ≡ names_in (map (λ line. line.now) lines.now)) }
+    ensures { let all = map (λ line. line.now) lines.now in
+        IfOk result (λ names. map (λ name. name.now) names.items ≡ names_in all) }
 {
     let mut names = Vec::new(alloc);
     for line in lines {

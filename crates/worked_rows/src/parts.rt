@@ -47,7 +47,8 @@ impl From<NoMemory> for RowError {
 /// The contents of a file by its path.
 #[tactic(auto, unfolding(crate::specs::Rows::file_at))]
 pub fn fetch_file<F: Files>(alloc: Global, path: &str, files: &mut F) -> Result<Vec<u8>, RowError>
-    ensures found { IfOk result (λ bytes. IfSome (F.contents files.old) (λ told. file_at told path.now ≡ Some bytes.items)) }
+    ensures found { IfOk result (λ bytes. IfSome (F.contents files.old) (λ told.
+        file_at told path.now ≡ Some bytes.items)) }
     ensures stay { F.contents files.new ≡ F.contents files.old }
 {
     match files.fetch(alloc, path, MOST) {
@@ -64,7 +65,8 @@ pub fn fetch_part<F: Files>(
     part: &str,
     files: &mut F,
 ) -> Result<Vec<u8>, RowError>
-    ensures found { IfOk result (λ bytes. IfSome (F.contents files.old) (λ told. part_at told row.now part.now ≡ Some bytes.items)) }
+    ensures found { IfOk result (λ bytes. IfSome (F.contents files.old) (λ told.
+        part_at told row.now part.now ≡ Some bytes.items)) }
     ensures stay { F.contents files.new ≡ F.contents files.old }
 {
     let path = format!(in alloc; "{row}/{part}")?;
