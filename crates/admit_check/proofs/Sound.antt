@@ -30,10 +30,13 @@ number_below n class at [] k e = absurd (none-some k e)
 number_below n class at (place ∷ rest) k e =
     one_more n (length rest) k (same_place class at place) (number_from (n + 1) class at rest) (λ later. number_below (n + 1) class at rest k later) e
 
+method_below : (p : Program) (class at k : ℕ) → number_of_method p class at ≡ Some k → k < length p.methods
+method_below p class at k e = let below = number_below 0 class at p.methods k e in omega arith
+
 main_below : (p : Program) (class k : ℕ) → main_of_class p class ≡ Some k → k < length p.methods
 main_below p class k e =
     option_and_then_some (λ c. option_and_then (number_of_method p class) (declared_main c)) (class_at p class) k e
-    (λ c is rest. option_and_then_some (number_of_method p class) (declared_main c) k rest (λ at is found. number_below 0 class at p.methods k found))
+    (λ c is rest. option_and_then_some (number_of_method p class) (declared_main c) k rest (λ at is found. method_below p class at k found))
 
 main_in-below : (p : Program) (given : ℕ) (name : List ℕ) (k : ℕ) → main_in p given name ≡ Some k → k < length p.methods
 main_in-below p given name k e =
@@ -54,7 +57,7 @@ root_below p a k e =
     let wanted = name_type_of a.root.name a.root.descriptor in
     option_and_then_some (declared_method p wanted) (class_named p a.root.class) k e
     (λ class is rest. option_and_then_some (λ c. option_and_then (number_of_method p class) (method_named c wanted)) (class_at p class) k rest
-    (λ c at found. option_and_then_some (number_of_method p class) (method_named c wanted) k found (λ at is number. number_below 0 class at p.methods k number)))
+    (λ c at found. option_and_then_some (number_of_method p class) (method_named c wanted) k found (λ at is number. method_below p class at k number)))
 
 act_below : (p : Program) (a : Action) (act : Act) → act_of p a ≡ Some act → IsBelow p act
 act_below p a act e = by_root (root_in p a.root) (λ k is. root_below p a k is) e where

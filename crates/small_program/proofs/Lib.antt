@@ -1,4 +1,4 @@
 pub mod Codes
 pub mod Formed
 pub mod Methods
-pub mod Admitted
+pub mod Answered
