@@ -1,15 +1,16 @@
 -- What is answered for one class.
 use Rattle.std.proofs.Common.{◌≡◌, ℕ, suc, ◌+◌, ◌<◌, ◌^◌, Bool, true, false, List, [], ◌∷◌, ◌++◌, length, Option, Result, Ok, Err, refl, sym, ap, subst, ◌∙◌, inl, inr, arith}
-use Rattle.std.specs.Prelude.{◌≢◌, ◌⊎◌, ◌↔◌, IsTrue, cond, ◌||◌}
+use Rattle.std.specs.Prelude.{◌≢◌, ◌⊎◌, ◌↔◌, IsTrue, IfOk, IfErr, IfSome, cond, ◌||◌}
 use Rattle.const_pool.specs.declared.class.ClassFile.{ClassFile}
 use Rattle.base_classes.specs.BuiltInFiles.{built_in_files}
 use Rattle.jvm_model.specs.declared.program.Program.{Program}
 use Rattle.admit_check.specs.declared.error.AdmitError.{AdmitError}
 use Rattle.admit_check.specs.declared.error.AdmitError.TheVariants as fault
 use Rattle.admit_check.specs.Admission.{IsSoundProgram}
+use Rattle.small_program.specs.declared.admission.Admitted.{Admitted}
 use Rattle.small_program.specs.declared.admission.Refused.{Refused}
 use Rattle.small_program.specs.declared.admission.Refused.TheVariants as refused
-use Rattle.small_program.specs.Admission.{is_memory, is_of_class, passes_class, refusal_for, IsSmall, IsRefusedFor}
+use Rattle.small_program.specs.Admission.{is_memory, is_of_class, passes_class, refusal_for, selected, IsSmall, Runs, IsRefusedFor}
 
 false_true : {A : Type 0} → false ≡ true → A
 false_true e = absurd cc
@@ -35,7 +36,7 @@ refuses f small answer c told decided = by_memory (is_memory f) refl where
 -- what is admitted but not small
 pub outside : (p : Program) (small : Bool) (answer : Result Program AdmitError) (c : ClassFile) → answer ≡ Ok p → small ≡ false → IsTrue small ↔ IsSmall c
     → IsRefusedFor answer c refused.NotBuilt
-outside p small answer c e no decided = (ap passes_class e, λ s. false_true (sym no ∙ decided.1 s))
+outside p small answer c e is decided = (ap passes_class e, λ s. false_true (sym is ∙ decided.1 s))
 
 -- ---- the program of one class
 
@@ -44,3 +45,30 @@ has_first c name p sound = let e : length p.classes ≡ suc (length built_in_fil
 
 pub main_small : (classes : List ClassFile) (name : List ℕ) (p : Program) → IsSoundProgram classes name p → p.main < 2 ^ 16
 main_small classes name p sound = let below = sound.main in let few = sound.few in omega arith
+
+-- ---- a small class that is admitted
+
+pub runs-as : (r : Result Admitted Refused) (p : Program) (answer : Result Program AdmitError) (c : ClassFile) (methods : ℕ) → IsSmall c → answer ≡ Ok p
+    → methods ≡ length c.methods → IfOk r (λ a. p.main ≡ a.main) → IfOk r (λ a. selected p.acts ≡ a.root)
+    → IfOk r (λ a. IfSome a.root (λ method. method < methods)) → IfOk r (λ a. Runs answer c a.main a.root)
+runs-as (Err e) p answer c methods small admitted count main root own = tt
+runs-as (Ok a) p answer c methods small admitted count main root own = record {
+  small = small;
+  program = p;
+  admitted = admitted;
+  main_is = main;
+  root_is = root;
+  own = subst (λ (n : ℕ). IfSome a.root (λ method. method < n)) count own;
+}
+
+pub foreign-as : (r : Result Admitted Refused) (p : Program) (answer : Result Program AdmitError) (c : ClassFile) (methods : ℕ) → IsSmall c → answer ≡ Ok p
+    → methods ≡ length c.methods → IfErr r (λ e. e ≡ refused.NotBuiltPlan)
+    → IfErr r (λ e. IfSome (selected p.acts) (λ method. method < methods) → ⊥) → IfErr r (IsRefusedFor answer c)
+foreign-as (Ok a) p answer c methods small admitted count is foreign = tt
+foreign-as (Err e) p answer c methods small admitted count is foreign =
+    subst (IsRefusedFor answer c) (sym is) (record {
+      small = small;
+      program = p;
+      admitted = admitted;
+      foreign = λ own. foreign (subst (λ (n : ℕ). IfSome (selected p.acts) (λ method. method < n)) (sym count) own);
+    })
