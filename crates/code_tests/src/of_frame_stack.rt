@@ -21,30 +21,32 @@ fn begin(
     Ok(frames.enter(version, 7, max_locals, max_stack, args))
 }
 
+/// Whether nothing is there, nothing is taken, and nothing is put.
+fn has_nothing(frames: &mut Frames) -> bool {
+    frames.depth() == 0
+        && frames.top().is_none()
+        && frames.place().is_none()
+        && frames.height().is_none()
+        && frames.peek(0).is_none()
+        && frames.pop().is_none()
+        && frames.local(0).is_none()
+        && frames.leave().is_none()
+        && !frames.go(1)
+        && !frames.push(Value::Int(1))
+        && !frames.set_local(0, Value::Int(1))
+}
+
 #[test]
 fn without_a_frame_there_is_nothing(rt: HostRuntime) -> Result<(), Fail> {
     let mut frames = Frames::new(rt.alloc());
-    assert_eq!(rt; frames.depth(), 0);
-    assert_eq!(rt; frames.top(), None);
-    assert_eq!(rt; frames.place(), None);
-    assert_eq!(rt; frames.height(), None);
-    assert_eq!(rt; frames.peek(0), None);
-    assert_eq!(rt; frames.pop(), None);
-    assert_eq!(rt; frames.local(0), None);
-    assert_eq!(rt; frames.leave(), None);
-    assert!(rt; !frames.go(1));
-    assert!(rt; !frames.push(Value::Int(1)));
-    assert!(rt; !frames.set_local(0, Value::Int(1)));
+    assert!(rt; has_nothing(&mut frames));
     assert!(rt; !begin(&mut frames, 3, 4, 4, 1)?, "no argument is there");
     assert!(rt; begin(&mut frames, 3, 0, 0, 0)?);
-    assert_eq!(rt; frames.top(), Some((3, 7)));
-    assert_eq!(rt; frames.place(), Some(0));
+    assert_eq!(rt; (frames.top(), frames.place()), (Some((3, 7)), Some(0)));
     assert!(rt; frames.go(65535));
-    assert_eq!(rt; frames.place(), Some(65535));
-    assert_eq!(rt; frames.height(), Some(0));
+    assert_eq!(rt; (frames.place(), frames.height()), (Some(65535), Some(0)));
     assert!(rt; !frames.push(Value::Addr(9)));
-    assert_eq!(rt; frames.leave(), Some(3));
-    assert_eq!(rt; frames.depth(), 0);
+    assert_eq!(rt; (frames.leave(), frames.depth()), (Some(3), 0));
     Ok(())
 }
 
@@ -111,14 +113,12 @@ fn arguments_are_the_first_locals(rt: HostRuntime) -> Result<(), Fail> {
     }
     assert!(rt; !begin(&mut frames, 2, 9, 0, 4)?, "one argument too few");
     assert!(rt; !begin(&mut frames, 2, 2, 0, 2)?, "one slot too few");
-    assert_eq!(rt; frames.height(), Some(4));
-    assert_eq!(rt; frames.depth(), 1);
+    assert_eq!(rt; (frames.height(), frames.depth()), (Some(4), 1));
     assert!(rt; begin(&mut frames, 2, 3, 0, 2)?, "they fit exactly");
     let locals = [frames.local(0), frames.local(1), frames.local(2)];
     assert_eq!(rt; locals, [Some(Value::Long(2)), None, Some(Value::Ref(3))]);
     assert!(rt; frames.set_local(1, Value::Int(4)));
-    assert_eq!(rt; frames.leave(), Some(2));
-    assert_eq!(rt; frames.height(), Some(1));
+    assert_eq!(rt; (frames.leave(), frames.height()), (Some(2), Some(1)));
     assert_eq!(rt; frames.peek(0), Some(Value::Int(1)));
     assert!(rt; begin(&mut frames, 2, 3, 0, 0)?);
     assert_eq!(rt; frames.local(1), None, "what an ended frame wrote is gone");

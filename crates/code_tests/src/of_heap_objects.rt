@@ -1,6 +1,7 @@
 //! Heaps by hand: each None, false and full heap at its edge, narrow arrays, interned texts.
 
 use heap_objects::{Datum, Heap, HeapError};
+use std::alloc::Global;
 
 const CLASS: u32 = 256;
 
@@ -65,10 +66,12 @@ fn holds(heap: &Heap, object: u32, units: &[u16]) -> bool {
 #[test]
 fn what_objects_have(rt: HostRuntime) {
     let mut heap = Heap::new(rt.alloc(), 100);
-    let fields = [Datum::Int(-1), Datum::Long(5), Datum::Ref(0)];
-    assert_eq!(rt; instance(&mut heap, &fields), Ok(1));
-    assert_eq!(rt; array(&mut heap, INTS, Datum::Int(0), 2), Ok(2));
-    assert_eq!(rt; text(&mut heap, &[72, 105]), Ok(3));
+    let made = [
+        instance(&mut heap, &[Datum::Int(-1), Datum::Long(5), Datum::Ref(0)]),
+        array(&mut heap, INTS, Datum::Int(0), 2),
+        text(&mut heap, &[72, 105]),
+    ];
+    assert_eq!(rt; made, [Ok(1), Ok(2), Ok(3)]);
     assert_eq!(rt; heap.used(), 10);
     // The object, its kind, its length, its slot 1, and whether slots 2 and 3 can be written.
     let rows = [
@@ -80,15 +83,16 @@ fn what_objects_have(rt: HostRuntime) {
         (u32::MAX, None, None, None, [false, false]),
     ];
     for (object, kind, len, value, writes) in rows {
-        assert_eq!(rt; heap.kind(object), kind, "of {object}");
-        assert_eq!(rt; heap.len(object), len, "of {object}");
-        assert_eq!(rt; heap.get(object, 1), value, "of {object}");
+        let found = (heap.kind(object), heap.len(object), heap.get(object, 1));
+        assert_eq!(rt; found, (kind, len, value), "of {object}");
         let two = put(&mut heap, object, 2, Datum::Ref(3));
         let three = put(&mut heap, object, 3, Datum::Ref(3));
         assert_eq!(rt; [two, three], writes, "of {object}");
     }
-    assert_eq!(rt; heap.get(1, 2), Some(Datum::Ref(3)));
-    assert_eq!(rt; heap.get(1, 3), None);
+    assert_eq!(rt;
+        (heap.get(1, 2), heap.get(1, 3)),
+        (Some(Datum::Ref(3)), None)
+    );
     assert!(rt; holds(&heap, 3, &[72, 105]));
     for object in [0, 1, 2, 4] {
         assert!(rt; heap.units(object).is_none(), "of {object}");
@@ -109,17 +113,23 @@ fn make(heap: &mut Heap, sort: u8, fields: &[Datum], units: &[u16]) -> Result<u3
     }
 }
 
+/// What is answered in a heap of nine slots for one slot too many, for as many as fit, and for no more, and the slots used
+/// before and behind those that fit.
+fn at_the_limit(alloc: Global, sort: u8) -> ([Result<u32, HeapError>; 3], [u32; 2]) {
+    let mut heap = Heap::new(alloc, 9);
+    let more = make(&mut heap, sort, &[Datum::Int(1); 9], &[1; 9]);
+    let before = heap.used();
+    let exact = make(&mut heap, sort, &[Datum::Int(1); 8], &[1; 8]);
+    let behind = heap.used();
+    let next = make(&mut heap, sort, &[], &[]);
+    ([more, exact, next], [before, behind])
+}
+
 #[test]
 fn a_limit_that_is_exact_and_one_slot_more(rt: HostRuntime) {
     for sort in 0..4u8 {
-        let mut heap = Heap::new(rt.alloc(), 9);
-        let more = make(&mut heap, sort, &[Datum::Int(1); 9], &[1; 9]);
-        assert_eq!(rt; more, FULL, "of sort {sort}");
-        assert_eq!(rt; heap.used(), 0, "a refusal takes nothing");
-        let exact = make(&mut heap, sort, &[Datum::Int(1); 8], &[1; 8]);
-        assert_eq!(rt; exact, Ok(1), "nor a number, of sort {sort}");
-        assert_eq!(rt; heap.used(), 9);
-        assert_eq!(rt; make(&mut heap, sort, &[], &[]), FULL, "of sort {sort}");
+        let wanted = ([FULL, Ok(1), FULL], [0, 9]);
+        assert_eq!(rt; at_the_limit(rt.alloc(), sort), wanted, "of sort {sort}");
     }
     let mut heap = Heap::new(rt.alloc(), 9);
     assert_eq!(rt; array(&mut heap, INTS, Datum::Int(0), u32::MAX), FULL);
@@ -127,39 +137,56 @@ fn a_limit_that_is_exact_and_one_slot_more(rt: HostRuntime) {
     assert_eq!(rt; intern(&mut heap, &[1; 8]), Ok(1), "it is there");
 }
 
+/// A change of a text: units behind it, or in its place.
+enum Change {
+    Append(&'static [u16]),
+    Replace(&'static [u16]),
+}
+
+/// A change, whether it is made, and what the text holds then.
+type ChangeRow = (Change, bool, &'static [u16]);
+
+const CHANGES: [ChangeRow; 6] = [
+    // Three slots are left.
+    (Change::Append(&[5; 4]), false, &[1, 2, 3]),
+    (Change::Replace(&[5; 7]), false, &[1, 2, 3]),
+    (Change::Append(&[6]), true, &[1, 2, 3, 6]),
+    (Change::Replace(&[7; 6]), true, &[7; 6]),
+    // No longer than it was, but nothing was given back.
+    (Change::Replace(&[8; 2]), true, &[8; 2]),
+    (Change::Replace(&[8; 3]), false, &[8; 2]),
+];
+
+const UP_TO_THE_LIMIT: [ChangeRow; 2] = [
+    (Change::Append(&[5; 3]), true, &[1, 2, 3, 5, 5, 5]),
+    (Change::Append(&[5]), false, &[1, 2, 3, 5, 5, 5]),
+];
+
+fn change_text(heap: &mut Heap, change: &Change) -> Option<bool> {
+    match change {
+        Change::Append(units) => append(heap, 1, units),
+        Change::Replace(units) => replace(heap, 1, units),
+    }
+}
+
+/// Whether a text of three units in a heap of seven slots takes these changes so, and uses all of them in the end.
+fn is_changed_so(alloc: Global, rows: &[ChangeRow]) -> bool {
+    let mut heap = Heap::new(alloc, 7);
+    if text(&mut heap, &[1, 2, 3]) != Ok(1) {
+        return false;
+    }
+    for (change, made, held) in rows {
+        if change_text(&mut heap, change) != Some(*made) || !holds(&heap, 1, held) {
+            return false;
+        }
+    }
+    heap.used() == 7
+}
+
 #[test]
 fn a_text_that_grows(rt: HostRuntime) {
-    let mut heap = Heap::new(rt.alloc(), 7);
-    assert_eq!(rt; text(&mut heap, &[1, 2, 3]), Ok(1));
-    assert_eq!(rt;
-        append(&mut heap, 1, &[5; 4]),
-        Some(false),
-        "three are left"
-    );
-    assert_eq!(rt; replace(&mut heap, 1, &[5; 7]), Some(false));
-    assert_eq!(rt; append(&mut heap, 1, &[6]), Some(true));
-    assert!(rt; holds(&heap, 1, &[1, 2, 3, 6]));
-    assert_eq!(rt; replace(&mut heap, 1, &[7; 6]), Some(true));
-    assert_eq!(rt; heap.used(), 7);
-    assert_eq!(rt;
-        replace(&mut heap, 1, &[8; 2]),
-        Some(true),
-        "no longer than it was"
-    );
-    assert_eq!(rt;
-        replace(&mut heap, 1, &[8; 3]),
-        Some(false),
-        "nothing was given back"
-    );
-    assert!(rt; holds(&heap, 1, &[8; 2]));
-    let mut heap = Heap::new(rt.alloc(), 7);
-    assert_eq!(rt; text(&mut heap, &[1, 2, 3]), Ok(1));
-    assert_eq!(rt;
-        append(&mut heap, 1, &[5; 3]),
-        Some(true),
-        "up to the limit"
-    );
-    assert_eq!(rt; append(&mut heap, 1, &[5]), Some(false));
+    assert!(rt; is_changed_so(rt.alloc(), &CHANGES));
+    assert!(rt; is_changed_so(rt.alloc(), &UP_TO_THE_LIMIT));
 }
 
 #[test]
