@@ -3,7 +3,5 @@
 
 mod plan;
 mod roots;
-#[cfg(test)]
-mod tests;
 
 pub use plan::{Action, LineCause, Plan, PlanError, RootName, plan_of_root};
