@@ -11,7 +11,7 @@ use Rattle.const_pool.specs.declared.pool.Const.TheVariants.{Gap, Utf8, Integer,
 use Rattle.const_pool.specs.declared.descriptor.Kind.TheVariants.{Int, Ref}
 use Rattle.const_pool.specs.declared.class.Member.{Member}
 use Rattle.const_pool.specs.Pool.{is_utf8, is_class, is_name_type, Names, IsEntry, AreEntries}
-use Rattle.const_pool.specs.ClassFile.{code_bytes, IsByte, IsCode, IsMember, IsMethodAttribute, IsClassFile}
+use Rattle.const_pool.specs.ClassFile.{code_bytes, class_bytes, IsByte, IsCode, IsMember, IsMethodAttribute, IsClassFile}
 use Rattle.const_pool.specs.Plain.{IsPlainEntry, IsPlainCode, HasPlainShape}
 use Rattle.code_model.specs.declared.instr.Arg.TheVariants.{Plain as no_operand, Value, Pool as index}
 use Rattle.code_model.specs.declared.instr.Code.{Code}
@@ -22,6 +22,7 @@ use Rattle.code_model.specs.Instructions.{instruction_at, IsReading}
 use Rattle.jvm_model.specs.SmallClass.{IsSmallMethod}
 use Rattle.jvm_model.proofs.PlainRun.{p1, p1_pool, code_with, method_with}
 use Rattle.jvm_model.specs.StandsFor.{IsBuilt}
+use Rattle.class_reader.specs.Files.{IsFile}
 
 abbrev pub f_bytes : List ℕ
 f_bytes = 26 ∷ 4 ∷ 96 ∷ 172 ∷ []
@@ -191,6 +192,9 @@ p1_formed = record {
   attribute_count = omega arith;
   attributes = tt;
 }
+
+pub p1_file : IsFile (class_bytes p1) p1
+p1_file = record { short = omega arith; spells = record { spelled = refl; formed = p1_formed } }
 
 -- ---- a small class
 

@@ -1,131 +1,55 @@
 //! The worked class P1: its method `f(I)I` adds one, and its method `main` prints what f gives for 41.
 
-ghost use Rattle.std.specs.Prelude.{◌≡◌, take, drop, length, IfOk};
+ghost use Rattle.std.specs.Prelude.{◌≡◌, length, IfOk};
+ghost use Rattle.const_pool.specs.ClassFile.{class_bytes};
 ghost use Rattle.jvm_model.specs.StandsFor.{IsBuilt};
-ghost use Rattle.const_pool.specs.declared.pool.Const.TheVariants.{Utf8};
-ghost use Rattle.jvm_model.proofs.PlainRun.{p1, p1_pool, method_with};
+ghost use Rattle.jvm_model.proofs.PlainRun.{p1};
 
-use const_pool::{Attribute, ClassFile, CodeAttribute, Const, Handler, Member, Pool};
+use class_reader::{ReadError, read_class};
+use const_pool::{Attribute, ClassFile, CodeAttribute, Handler, Pool};
 use inject_events::{Image, instrument};
-use jf_bytes::{NoMemory, Seq, Text16};
 use jvm_model::Mark;
 use std::alloc::Global;
-use std::test::*;
+use std::test::Fail;
 
-/// The Utf8 entry of an ASCII text.
-fn utf8(alloc: Global, text: &str) -> Result<Const, NoMemory>
-    ensures { IfOk result (λ c. c ≡ Utf8 text.now) }
+static P1: [u8; 296] = [
+    0xca, 0xfe, 0xba, 0xbe, 0x00, 0x00, 0x00, 0x32, 0x00, 0x18, 0x01, 0x00, 0x02, 0x50, 0x31, 0x07,
+    0x00, 0x01, 0x01, 0x00, 0x10, 0x6a, 0x61, 0x76, 0x61, 0x2f, 0x6c, 0x61, 0x6e, 0x67, 0x2f, 0x4f,
+    0x62, 0x6a, 0x65, 0x63, 0x74, 0x07, 0x00, 0x03, 0x01, 0x00, 0x10, 0x6a, 0x61, 0x76, 0x61, 0x2f,
+    0x6c, 0x61, 0x6e, 0x67, 0x2f, 0x53, 0x79, 0x73, 0x74, 0x65, 0x6d, 0x07, 0x00, 0x05, 0x01, 0x00,
+    0x03, 0x6f, 0x75, 0x74, 0x01, 0x00, 0x15, 0x4c, 0x6a, 0x61, 0x76, 0x61, 0x2f, 0x69, 0x6f, 0x2f,
+    0x50, 0x72, 0x69, 0x6e, 0x74, 0x53, 0x74, 0x72, 0x65, 0x61, 0x6d, 0x3b, 0x0c, 0x00, 0x07, 0x00,
+    0x08, 0x09, 0x00, 0x06, 0x00, 0x09, 0x01, 0x00, 0x01, 0x66, 0x01, 0x00, 0x04, 0x28, 0x49, 0x29,
+    0x49, 0x0c, 0x00, 0x0b, 0x00, 0x0c, 0x0a, 0x00, 0x02, 0x00, 0x0d, 0x01, 0x00, 0x13, 0x6a, 0x61,
+    0x76, 0x61, 0x2f, 0x69, 0x6f, 0x2f, 0x50, 0x72, 0x69, 0x6e, 0x74, 0x53, 0x74, 0x72, 0x65, 0x61,
+    0x6d, 0x07, 0x00, 0x0f, 0x01, 0x00, 0x07, 0x70, 0x72, 0x69, 0x6e, 0x74, 0x6c, 0x6e, 0x01, 0x00,
+    0x04, 0x28, 0x49, 0x29, 0x56, 0x0c, 0x00, 0x11, 0x00, 0x12, 0x0a, 0x00, 0x10, 0x00, 0x13, 0x01,
+    0x00, 0x04, 0x6d, 0x61, 0x69, 0x6e, 0x01, 0x00, 0x16, 0x28, 0x5b, 0x4c, 0x6a, 0x61, 0x76, 0x61,
+    0x2f, 0x6c, 0x61, 0x6e, 0x67, 0x2f, 0x53, 0x74, 0x72, 0x69, 0x6e, 0x67, 0x3b, 0x29, 0x56, 0x01,
+    0x00, 0x04, 0x43, 0x6f, 0x64, 0x65, 0x00, 0x21, 0x00, 0x02, 0x00, 0x04, 0x00, 0x00, 0x00, 0x00,
+    0x00, 0x02, 0x00, 0x09, 0x00, 0x0b, 0x00, 0x0c, 0x00, 0x01, 0x00, 0x17, 0x00, 0x00, 0x00, 0x10,
+    0x00, 0x02, 0x00, 0x01, 0x00, 0x00, 0x00, 0x04, 0x1a, 0x04, 0x60, 0xac, 0x00, 0x00, 0x00, 0x00,
+    0x00, 0x09, 0x00, 0x15, 0x00, 0x16, 0x00, 0x01, 0x00, 0x17, 0x00, 0x00, 0x00, 0x18, 0x00, 0x02,
+    0x00, 0x01, 0x00, 0x00, 0x00, 0x0c, 0xb2, 0x00, 0x0a, 0x10, 0x29, 0xb8, 0x00, 0x0e, 0xb6, 0x00,
+    0x14, 0xb1, 0x00, 0x00, 0x00, 0x00, 0x00, 0x00,
+];
+
+fn p1_bytes() -> &'static [u8]
+    ensures { result.now ≡ class_bytes p1 }
 {
-    let units = text
-        .as_bytes()
-        .iter()
-        .map(|byte| u16::from(*byte))
-        .collect(alloc)?;
-    Ok(Const::Utf8(Text16::new(units)))
-}
-
-/// The entries of P1 up to the field System.out.
-fn first_entries(alloc: Global) -> Result<Vec<Const>, NoMemory>
-    ensures { IfOk result (λ entries. entries.items ≡ take 11 p1_pool) }
-{
-    let entries = [
-        Const::Gap,
-        utf8(alloc, "P1")?,
-        Const::Class(1),
-        utf8(alloc, "java/lang/Object")?,
-        Const::Class(3),
-        utf8(alloc, "java/lang/System")?,
-        Const::Class(5),
-        utf8(alloc, "out")?,
-        utf8(alloc, "Ljava/io/PrintStream;")?,
-        Const::NameType(7, 8),
-        Const::Field(6, 9),
-    ];
-    Ok(Vec::from_array(alloc, entries)?)
-}
-
-/// Those behind them.
-fn last_entries(alloc: Global) -> Result<Vec<Const>, NoMemory>
-    ensures { IfOk result (λ entries. entries.items ≡ drop 11 p1_pool) }
-{
-    let entries = [
-        utf8(alloc, "f")?,
-        utf8(alloc, "(I)I")?,
-        Const::NameType(11, 12),
-        Const::Method(2, 13),
-        utf8(alloc, "java/io/PrintStream")?,
-        Const::Class(15),
-        utf8(alloc, "println")?,
-        utf8(alloc, "(I)V")?,
-        Const::NameType(17, 18),
-        Const::Method(16, 19),
-        utf8(alloc, "main")?,
-        utf8(alloc, "([Ljava/lang/String;)V")?,
-        utf8(alloc, "Code")?,
-    ];
-    Ok(Vec::from_array(alloc, entries)?)
-}
-
-fn p1_pool(alloc: Global) -> Result<Pool, NoMemory>
-    ensures { IfOk result (λ pool. pool ≡ p1_pool) }
-{
-    let mut entries = first_entries(alloc)?;
-    entries.append(&mut last_entries(alloc)?)?;
-    Ok(Pool::new(entries))
-}
-
-/// A public static method of this code.
-fn method(alloc: Global, name: u16, descriptor: u16, code: &[u8]) -> Result<Member, NoMemory>
-    ensures { IfOk result (λ m. m ≡ method_with name descriptor code.now) }
-{
-    let code = CodeAttribute {
-        max_stack: 2,
-        max_locals: 1,
-        code: Seq::from_slice(alloc, code)?,
-        handlers: Seq::new(alloc),
-        attributes: Seq::new(alloc),
-    };
-    let mut attributes = Seq::new(alloc);
-    attributes.push(Attribute::Code(23, code))?;
-    Ok(Member {
-        access: 9,
-        name,
-        descriptor,
-        attributes,
-    })
-}
-
-const F: [u8; 4] = [0x1A, 0x04, 0x60, 0xAC];
-
-const MAIN: [u8; 12] = [0xB2, 0, 10, 0x10, 41, 0xB8, 0, 14, 0xB6, 0, 20, 0xB1];
-
-fn make_p1(alloc: Global) -> Result<ClassFile, NoMemory>
-    ensures { IfOk result (λ class. class ≡ p1) }
-{
-    let mut methods = Seq::new(alloc);
-    methods.push(method(alloc, 11, 12, F.as_slice())?)?;
-    methods.push(method(alloc, 21, 22, MAIN.as_slice())?)?;
-    Ok(ClassFile {
-        minor: 0,
-        major: 50,
-        pool: p1_pool(alloc)?,
-        access: 33,
-        this_class: 2,
-        super_class: 4,
-        interfaces: Seq::new(alloc),
-        fields: Seq::new(alloc),
-        methods,
-        attributes: Seq::new(alloc),
-    })
+    &P1
 }
 
 /// P1, of which the tests need no more than that it can be rewritten.
-fn p1(alloc: Global) -> Result<ClassFile, NoMemory>
+fn p1(alloc: Global) -> Result<ClassFile, ReadError>
     ensures rewritable { IfOk result (λ class. IsBuilt class) }
     ensures methods { IfOk result (λ class. length class.methods ≡ 2) }
 {
-    make_p1(alloc)
+    read_class(alloc, p1_bytes())
 }
+
+/// The code of its main.
+const MAIN: [u8; 12] = [0xB2, 0, 10, 0x10, 41, 0xB8, 0, 14, 0xB6, 0, 20, 0xB1];
 
 /// The image of P1 with these marks, where f has the number `first`.
 fn image_of_p1(alloc: Global, first: u16, f: Mark, main: Mark) -> Result<Image, Fail> {
