@@ -225,6 +225,3 @@ pub fn admit(
         Err(NoMemory) => Err(AdmitError::NoMemory),
     }
 }
-
-#[cfg(test)]
-mod tests;

@@ -13,9 +13,6 @@ ghost use Rattle.admit_check.specs.Codes.{IsCodeRefusal, IsRefusal};
 ghost use Rattle.admit_check.specs.Uses.{AreWithin};
 ghost use Rattle.code_model.specs.Reading.{Gives};
 
-#[cfg(test)]
-mod tests;
-
 use crate::error::{AdmitError, CodeCause};
 use crate::starts::Body;
 use crate::texts::method_kinds;

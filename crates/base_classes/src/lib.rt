@@ -73,6 +73,3 @@ pub fn built_in(alloc: Global) -> Result<Vec<ClassFile>, NoMemory>
 {
     make_all(alloc)
 }
-
-#[cfg(test)]
-mod tests;

@@ -16,6 +16,3 @@ mod tags;
 
 pub use error::ReadError;
 pub use reader::{MOST_BYTES, read_class, read_image};
-
-#[cfg(test)]
-mod tests;

@@ -1,4 +1,3 @@
 pub mod Pools
 pub mod Lengths
 pub mod Fitting
-pub mod WorkedClass

@@ -1,4 +1,3 @@
 pub mod Fits
 pub mod Parts
 pub mod Room
-pub mod WorkedClass

@@ -9,6 +9,3 @@ mod room;
 mod writer;
 
 pub use writer::write_class;
-
-#[cfg(test)]
-mod tests;

@@ -18,6 +18,3 @@ pub use encoding::encode;
 pub use error::CodeError;
 pub use instr::{Arg, Code, Instr};
 pub use laying::{Group, Homes, Laid, LayError, lay_out};
-
-#[cfg(test)]
-mod tests;

@@ -12,6 +12,3 @@ pub use class::{Attribute, ClassFile, CodeAttribute, Handler, Member, Raw};
 pub use descriptor::{DescriptorError, Kind, Shape, parse_field, parse_method};
 pub use pool::{Const, MemberRef, Pool, PoolError};
 pub use tail::{Tail, TailError, append_tail, copy_pool};
-
-#[cfg(test)]
-mod tests;

@@ -11,6 +11,3 @@ mod tree;
 pub use laws::folds_to_counts;
 pub use node::Node;
 pub use tree::Tree;
-
-#[cfg(test)]
-mod tests;

@@ -6,6 +6,3 @@ mod numbers;
 mod records;
 
 pub use events::{Events, Full};
-
-#[cfg(test)]
-mod tests;

@@ -7,6 +7,3 @@ mod slots;
 mod width;
 
 pub use frames::Frames;
-
-#[cfg(test)]
-mod tests;

@@ -26,6 +26,3 @@ pub enum Value {
     /// The return address of a subroutine: an offset in the code.
     Addr(u16),
 }
-
-#[cfg(test)]
-mod tests;

@@ -1,5 +1,3 @@
 pub mod Laying
 pub mod Images
 pub mod Rewritable
-mod WorkedVersion
-pub mod WorkedClass

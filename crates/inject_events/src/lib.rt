@@ -10,6 +10,3 @@ mod versions;
 
 pub use error::{Cause, InjectError};
 pub use image::{Image, instrument};
-
-#[cfg(test)]
-mod tests;

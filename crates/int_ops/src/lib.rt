@@ -7,8 +7,6 @@ mod convert;
 mod int;
 mod laws;
 mod long;
-#[cfg(test)]
-mod tests;
 
 pub use convert::{i2b, i2c, i2l, i2s, l2i};
 pub use int::{

@@ -22,8 +22,3 @@ pub use standard::{StdSink, StdSource};
 pub use streams::{Files, Sink, Source};
 pub use text::Text16;
 pub use unicode::{from_utf8, to_utf8};
-
-#[cfg(test)]
-mod tests;
-#[cfg(test)]
-mod text_tests;

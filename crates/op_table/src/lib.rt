@@ -7,8 +7,6 @@ ghost use Rattle.op_table.specs.Opcodes.{row_of, wide_row_of};
 ghost use Rattle.op_table.specs.Opcodes.{HasNoFixedSize, NeverGoesOn, IsReturn};
 
 mod tables;
-#[cfg(test)]
-mod tests;
 
 pub use tables::{OPS, WIDE_OPS};
 

@@ -3,8 +3,6 @@
 
 mod plan;
 mod roots;
-#[cfg(test)]
-mod tests;
 
 pub use plan::{Action, LineCause, Plan, PlanError, RootName, plan_of_root};
 pub use roots::slashed;

@@ -11,6 +11,3 @@ mod writing;
 
 pub use facts::Facts;
 pub use writing::report;
-
-#[cfg(test)]
-mod tests;

@@ -11,6 +11,3 @@ mod programs;
 mod rows;
 
 pub use generator::generate;
-
-#[cfg(test)]
-mod tests;

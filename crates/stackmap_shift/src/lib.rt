@@ -18,6 +18,3 @@ pub use frames::{Frame, FrameKind, Frames, VType};
 pub use moves::shift_frames;
 pub use reading::read_frames;
 pub use writing::write_frames;
-
-#[cfg(test)]
-mod tests;

@@ -1,7 +1,0 @@
--- The last clock is known.
-use Rattle.std.proofs.Common.{◌≡◌}
-use Rattle.event_buffer.specs.Buffers.{last_clock}
-use Rattle.event_buffer.proofs.tests.first_in_first_out.Given as goal
-
-abbrev pub invariant-loop-number : goal.invariant-loop-number
-invariant-loop-number g l = last_clock l.buffer ≡ l.last

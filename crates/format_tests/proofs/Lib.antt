@@ -1,0 +1,2 @@
+pub mod WorkedClass
+mod WorkedDraws

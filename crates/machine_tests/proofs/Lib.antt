@@ -1,0 +1,3 @@
+pub mod WorkedClass
+mod WorkedVersion
+mod BuiltInCodes

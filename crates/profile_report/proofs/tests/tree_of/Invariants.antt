@@ -1,9 +1,0 @@
-use Rattle.std.proofs.Common.{◌≡◌, ◌≤◌}
-use Rattle.context_tree.specs.Profiles.{calls_of}
-use Rattle.profile_report.proofs.tests.tree_of.Given as goal
-
-abbrev pub invariant-loop-event : goal.invariant-loop-event
-invariant-loop-event l = record {
-  clock : l.tree.clock ≡ l.last;
-  calls : calls_of l.tree ≤ l.event-index;
-}
