@@ -113,8 +113,11 @@ impl<R: rt::Files> Model for LateFile<R> {
 
     ghost Value = { LateView };
 
-    ghost view = { λ f. record { name = string_bytes f.name; is_made = is_some f.file;
-        faults = f.faults } };
+    ghost view = { λ f. record {
+      name = string_bytes f.name;
+      is_made = is_some f.file;
+      faults = f.faults;
+    } };
 }
 
 impl<R: rt::Files> LateFile<R> {

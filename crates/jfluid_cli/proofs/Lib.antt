@@ -7,7 +7,6 @@ pub mod Underway
 pub mod ToldFiles
 pub mod Complete
 pub mod Early
-pub mod Unfit
 pub mod Answered
 pub mod Carried
 pub mod Finished

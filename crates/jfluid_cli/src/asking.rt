@@ -37,9 +37,9 @@ fn silent(alloc: Global) -> Plan
 
 /// The plan of a root's word, which may be left out.
 fn plan_of(alloc: Global, root: Option<&str>) -> Result<Plan, Refusal>
-    ensures said { IfOk result (λ plan. plan ≡ plan_said (option_copied root)) }
-    ensures fine { IfOk result (λ _. IsBadRoot (option_copied root) → ⊥) }
-    ensures bad { result ≡ Err Refusal.BadRoot → IsBadRoot (option_copied root) }
+    ensures said { IfOk result (λ plan. plan ≡ plan_said (option_copied root.entry)) }
+    ensures fine { IfOk result (λ _. IsBadRoot (option_copied root.entry) → ⊥) }
+    ensures bad { result ≡ Err Refusal.BadRoot → IsBadRoot (option_copied root.entry) }
     ensures errors { IfErr result (λ e. (e ≡ Refusal.BadRoot) ⊎ (e ≡ Refusal.NoMemory)) }
 {
     let Some(word) = root else {

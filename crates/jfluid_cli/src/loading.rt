@@ -76,7 +76,7 @@ fn load<F: Files>(
     asked: &Asked,
     files: &mut F,
 ) -> Result<Loaded, Refusal>
-    requires asked { asked_by (command_view command.entry) ≡ asked.now }
+    requires asked { asked_by (command_view command) ≡ asked.now }
     requires actions { length asked.now.plan.actions < 2 ^ 32 }
     ensures ok { let k = command_view command.entry in
         IfOk result (λ l. let p = l.program in

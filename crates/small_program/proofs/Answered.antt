@@ -38,14 +38,6 @@ pub outside : (p : Program) (small : Bool) (answer : Result Program AdmitError) 
     → IsRefusedFor answer c refused.NotBuilt
 outside p small answer c e is decided = (ap passes_class e, λ s. false_true (sym is ∙ decided.1 s))
 
--- ---- the program of one class
-
-pub has_first : (c : ClassFile) (name : List ℕ) (p : Program) → IsSoundProgram (c ∷ []) name p → 0 < length p.classes
-has_first c name p sound = let e : length p.classes ≡ suc (length built_in_files) = ap length sound.classes_are in omega arith
-
-pub main_small : (classes : List ClassFile) (name : List ℕ) (p : Program) → IsSoundProgram classes name p → p.main < 2 ^ 16
-main_small classes name p sound = let below = sound.main in let few = sound.few in omega arith
-
 -- ---- a small class that is admitted
 
 pub runs-as : (r : Result Admitted Refused) (p : Program) (answer : Result Program AdmitError) (c : ClassFile) (methods : ℕ) → IsSmall c → answer ≡ Ok p
