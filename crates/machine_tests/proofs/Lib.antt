@@ -1,3 +1,4 @@
 pub mod WorkedClass
 mod WorkedVersion
 mod BuiltInCodes
+pub mod Lists

@@ -19,7 +19,7 @@ pub(super) fn put(bytes: &mut Vec<u8>, more: &[u8]) -> Result<(), NoMemory> {
 }
 
 /// The class of these bytes; None where there is no memory, or they are no class file.
-fn class(alloc: Global, bytes: &[u8]) -> Option<ClassFile>
+pub(super) fn class(alloc: Global, bytes: &[u8]) -> Option<ClassFile>
     ensures { IfSome result IsClassFile }
 {
     read_class(alloc, bytes).ok()
@@ -61,8 +61,20 @@ pub(super) fn answer(
     second: &[u8],
     root: &str,
 ) -> Result<Result<Program, AdmitError>, Fail> {
-    let main = Text16::new(Vec::from_slice(alloc, &[65])?);
     let classes = list(alloc, first, second).ok_or("classes")?;
+    answer_for(alloc, classes, root)
+}
+
+/// The same for at most 4,096 classes.
+pub(super) fn answer_for(
+    alloc: Global,
+    classes: Seq<ClassFile>,
+    root: &str,
+) -> Result<Result<Program, AdmitError>, Fail>
+    requires formed { AllByRecursion IsClassFile classes }
+    requires count { length classes ≤ 4096 }
+{
+    let main = Text16::new(Vec::from_slice(alloc, &[65])?);
     let plan = plan(alloc, root).ok_or("a plan")?;
     Ok(admit(alloc, classes, &main, &plan))
 }

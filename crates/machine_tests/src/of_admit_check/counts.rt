@@ -1,7 +1,12 @@
-//! A class with as many methods with Code as a program may have, and with one more.
+//! A class with as many methods with Code as a program may have, and with one more; and as many classes as it may have.
 
-use super::classes::{answer, put, shown};
-use jf_bytes::NoMemory;
+ghost use Rattle.std.specs.Prelude.{◌≡◌, IfSome};
+ghost use Rattle.std.specs.List.{AllByRecursion};
+ghost use Rattle.const_pool.specs.ClassFile.{IsClassFile};
+
+use super::classes::{answer, answer_for, class, put, shown};
+use const_pool::ClassFile;
+use jf_bytes::{NoMemory, Seq};
 use std::alloc::Global;
 use std::test::Fail;
 
@@ -64,5 +69,54 @@ fn too_many_methods(rt: HostRuntime) -> Result<(), Fail> {
         let told = shown(alloc, answer(alloc, bytes.as_slice(), &[], "")?)?;
         assert_eq!(rt; told.as_str(), wanted);
     }
+    Ok(())
+}
+
+// ---- classes
+
+/// What stands in front of the class's name, and behind it.
+const TO_NAME: &[u8] = &[0, 5, 1, 0, 3];
+
+const BEHIND_NAME: &[u8] =
+    b"\x07\0\x01\x01\0\x10java/lang/Object\x07\0\x03\0\x21\0\x02\0\x04\0\0\0\0\0\0\0\0";
+
+/// A class without members, whose name is this number in three letters.
+fn named_bytes(alloc: Global, number: u16) -> Result<Vec<u8>, NoMemory> {
+    let name = [letter(number / 1024), letter(number / 32), letter(number)];
+    let mut bytes = Vec::new(alloc);
+    put(&mut bytes, HEADING)?;
+    put(&mut bytes, TO_NAME)?;
+    put(&mut bytes, &name)?;
+    put(&mut bytes, BEHIND_NAME)?;
+    Ok(bytes)
+}
+
+fn named_class(alloc: Global, number: u16) -> Option<ClassFile>
+    ensures { IfSome result IsClassFile }
+{
+    let bytes = named_bytes(alloc, number).ok()?;
+    class(alloc, bytes.as_slice())
+}
+
+/// So many such classes.
+#[tactic(auto, using(crate::proofs::Lists::all_more))]
+fn named_classes(alloc: Global, count: u16) -> Option<Seq<ClassFile>>
+    ensures formed { IfSome result (AllByRecursion IsClassFile) }
+{
+    let mut classes = Seq::new(alloc);
+    for number in 0..count {
+        classes.push(named_class(alloc, number)?).ok()?;
+    }
+    Some(classes)
+}
+
+/// None of them is the main class; two that agree would be told.
+#[test]
+fn as_many_classes_as_there_may_be(rt: HostRuntime) -> Result<(), Fail> {
+    let alloc = rt.alloc();
+    let classes = named_classes(alloc, 4096).ok_or("classes")?;
+    assert_eq!(rt; classes.len(), 4096);
+    let told = shown(alloc, answer_for(alloc, classes, "")?)?;
+    assert_eq!(rt; told.as_str(), "NoMain");
     Ok(())
 }
