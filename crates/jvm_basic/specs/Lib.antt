@@ -1,0 +1,5 @@
+pub mod Families
+pub mod Outcomes
+pub mod Values
+pub mod StackForms
+pub mod Rules

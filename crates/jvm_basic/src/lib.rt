@@ -1,0 +1,12 @@
+//! What a frame does by itself: the instructions that see nothing but the locals and operands of their frame (JVM
+//! Specification 2.11, 6.5). Nothing here takes memory.
+#![tactic(auto)]
+
+mod arithmetic;
+mod effect;
+mod families;
+mod family;
+mod moving;
+mod reading;
+
+pub use effect::Effect;
