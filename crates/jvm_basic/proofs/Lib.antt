@@ -1,2 +1,4 @@
 pub mod Tops
 pub mod Fitting
+pub mod Slots
+pub mod Keys

@@ -3,9 +3,11 @@
 #![tactic(auto)]
 
 mod arithmetic;
+mod branching;
 mod effect;
 mod families;
 mod family;
+mod locals;
 mod moving;
 mod reading;
 
