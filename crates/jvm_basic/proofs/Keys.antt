@@ -11,13 +11,13 @@ use Rattle.jvm_basic.specs.Rules.{target_of}
 none : {A : Type 0} (x : A) → Some x ≡ None → ⊥
 none x e = cc
 
-drop-at : {A : Type 0} (xs : List A) (i : ℕ) (x : A) → Some x ≡ slice_get xs i → drop i xs ≡ x ∷ drop (i + 1) xs
+pub drop-at : {A : Type 0} (xs : List A) (i : ℕ) (x : A) → Some x ≡ slice_get xs i → drop i xs ≡ x ∷ drop (i + 1) xs
 drop-at xs i x e =
     let more : suc i ≡ i + 1 = omega arith in
     drop-cons xs i x (slice_get_within xs i x (sym e))
     ∙ (ap (λ y. y ∷ drop (suc i) xs) (get_or_from_slice_get xs i x x (sym e)) ∙ ap (λ k. x ∷ drop k xs) more)
 
-drop-past : {A : Type 0} (i : ℕ) (xs : List A) → None ≡ slice_get xs i → drop i xs ≡ []
+pub drop-past : {A : Type 0} (i : ℕ) (xs : List A) → None ≡ slice_get xs i → drop i xs ≡ []
 drop-past zero [] e = refl
 drop-past (suc i) [] e = refl
 drop-past zero (x ∷ xs) e = absurd (none x (sym e))

@@ -2,3 +2,5 @@ pub mod Tops
 pub mod Fitting
 pub mod Slots
 pub mod Keys
+pub mod Copied
+pub mod Forms

@@ -2,4 +2,5 @@ pub mod Families
 pub mod Outcomes
 pub mod Values
 pub mod StackForms
+pub mod Copies
 pub mod Rules

@@ -10,5 +10,6 @@ mod family;
 mod locals;
 mod moving;
 mod reading;
+mod stack;
 
 pub use effect::Effect;
