@@ -4,3 +4,4 @@ pub mod Slots
 pub mod Keys
 pub mod Copied
 pub mod Forms
+pub mod ByForms

@@ -8,6 +8,7 @@ ghost use Rattle.jvm_basic.specs.StackForms.{has_form, with_operand, forms_of};
 ghost use Rattle.jvm_basic.specs.Copies.{inserted, values_of, inserts};
 ghost use Rattle.jvm_basic.specs.Copies.{copies_one, copies_two, swaps, with_operands};
 ghost use Rattle.jvm_basic.specs.Rules.{arranges};
+ghost use Rattle.jvm_basic.specs.declared.family.Arrangement.TheVariants.{Pop, Pop2, Dup, DupX1, DupX2, Dup2, Dup2X1, Dup2X2, Swap};
 
 use crate::effect::Effect;
 use crate::family::Arrangement;
@@ -157,4 +158,140 @@ fn swap(frames: &mut Frames, place: u16) -> Effect
     insert(frames, 1, value, None);
     frames.go(place);
     Effect::Next
+}
+
+fn pop(frames: &mut Frames, next: u16) -> Effect
+    ensures effect { result ≡ effect_of (arranges (forms_of Pop) next) frames.old }
+    ensures frames { frames.new ≡ after (arranges (forms_of Pop) next) frames.old }
+{
+    if fits(frames, &[false]) {
+        return drop_one(frames, next);
+    }
+    Effect::Bad
+}
+
+fn pop2(frames: &mut Frames, next: u16) -> Effect
+    ensures effect { result ≡ effect_of (arranges (forms_of Pop2) next) frames.old }
+    ensures frames { frames.new ≡ after (arranges (forms_of Pop2) next) frames.old }
+{
+    if fits(frames, &[false, false]) {
+        return drop_two(frames, next);
+    }
+    if fits(frames, &[true]) {
+        return drop_one(frames, next);
+    }
+    Effect::Bad
+}
+
+#[tactic(auto, using(crate::proofs::ByForms::by_forms))]
+fn dup(frames: &mut Frames, next: u16) -> Effect
+    ensures effect { result ≡ effect_of (arranges (forms_of Dup) next) frames.old }
+    ensures frames { frames.new ≡ after (arranges (forms_of Dup) next) frames.old }
+{
+    if fits(frames, &[false]) {
+        return copy_one(frames, 1, next);
+    }
+    Effect::Bad
+}
+
+#[tactic(auto, using(crate::proofs::ByForms::by_forms))]
+fn dup_x1(frames: &mut Frames, next: u16) -> Effect
+    ensures effect { result ≡ effect_of (arranges (forms_of DupX1) next) frames.old }
+    ensures frames { frames.new ≡ after (arranges (forms_of DupX1) next) frames.old }
+{
+    if fits(frames, &[false, false]) {
+        return copy_one(frames, 2, next);
+    }
+    Effect::Bad
+}
+
+#[tactic(auto, using(crate::proofs::ByForms::by_forms))]
+fn dup_x2(frames: &mut Frames, next: u16) -> Effect
+    ensures effect { result ≡ effect_of (arranges (forms_of DupX2) next) frames.old }
+    ensures frames { frames.new ≡ after (arranges (forms_of DupX2) next) frames.old }
+{
+    if fits(frames, &[false, false, false]) {
+        return copy_one(frames, 3, next);
+    }
+    if fits(frames, &[false, true]) {
+        return copy_one(frames, 2, next);
+    }
+    Effect::Bad
+}
+
+#[tactic(auto, using(crate::proofs::ByForms::by_forms))]
+fn dup2(frames: &mut Frames, next: u16) -> Effect
+    ensures effect { result ≡ effect_of (arranges (forms_of Dup2) next) frames.old }
+    ensures frames { frames.new ≡ after (arranges (forms_of Dup2) next) frames.old }
+{
+    if fits(frames, &[false, false]) {
+        return copy_two(frames, 2, next);
+    }
+    if fits(frames, &[true]) {
+        return copy_one(frames, 1, next);
+    }
+    Effect::Bad
+}
+
+#[tactic(auto, using(crate::proofs::ByForms::by_forms))]
+fn dup2_x1(frames: &mut Frames, next: u16) -> Effect
+    ensures effect { result ≡ effect_of (arranges (forms_of Dup2X1) next) frames.old }
+    ensures frames { frames.new ≡ after (arranges (forms_of Dup2X1) next) frames.old }
+{
+    if fits(frames, &[false, false, false]) {
+        return copy_two(frames, 3, next);
+    }
+    if fits(frames, &[true, false]) {
+        return copy_one(frames, 2, next);
+    }
+    Effect::Bad
+}
+
+#[tactic(auto, using(crate::proofs::ByForms::by_forms))]
+fn dup2_x2(frames: &mut Frames, next: u16) -> Effect
+    ensures effect { result ≡ effect_of (arranges (forms_of Dup2X2) next) frames.old }
+    ensures frames { frames.new ≡ after (arranges (forms_of Dup2X2) next) frames.old }
+{
+    if fits(frames, &[false, false, false, false]) {
+        return copy_two(frames, 4, next);
+    }
+    if fits(frames, &[true, false, false]) {
+        return copy_one(frames, 3, next);
+    }
+    if fits(frames, &[false, false, true]) {
+        return copy_two(frames, 3, next);
+    }
+    if fits(frames, &[true, true]) {
+        return copy_one(frames, 2, next);
+    }
+    Effect::Bad
+}
+
+#[tactic(auto, using(crate::proofs::ByForms::by_forms))]
+fn swap_shorts(frames: &mut Frames, next: u16) -> Effect
+    ensures effect { result ≡ effect_of (arranges (forms_of Swap) next) frames.old }
+    ensures frames { frames.new ≡ after (arranges (forms_of Swap) next) frames.old }
+{
+    if fits(frames, &[false, false]) {
+        return swap(frames, next);
+    }
+    Effect::Bad
+}
+
+/// pop to swap.
+pub fn arrange(frames: &mut Frames, op: Arrangement, next: u16) -> Effect
+    ensures effect { result ≡ effect_of (arranges (forms_of op) next) frames.old }
+    ensures frames { frames.new ≡ after (arranges (forms_of op) next) frames.old }
+{
+    match op {
+        Arrangement::Pop => pop(frames, next),
+        Arrangement::Pop2 => pop2(frames, next),
+        Arrangement::Dup => dup(frames, next),
+        Arrangement::DupX1 => dup_x1(frames, next),
+        Arrangement::DupX2 => dup_x2(frames, next),
+        Arrangement::Dup2 => dup2(frames, next),
+        Arrangement::Dup2X1 => dup2_x1(frames, next),
+        Arrangement::Dup2X2 => dup2_x2(frames, next),
+        Arrangement::Swap => swap_shorts(frames, next),
+    }
 }
