@@ -5,3 +5,4 @@ pub mod Keys
 pub mod Copied
 pub mod Forms
 pub mod ByForms
+pub mod Rows

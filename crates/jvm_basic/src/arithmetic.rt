@@ -16,9 +16,9 @@ use crate::reading::{int_of, ints_of, long_and_int_of, long_of, longs_of};
 use frame_stack::Frames;
 use heap_objects::Value;
 use int_ops::{
-    add_i32, add_i64, and_i32, and_i64, cmp_i64, div_i32, div_i64, i2b, i2c, i2l, i2s, l2i, mul_i32,
-    mul_i64, neg_i32, neg_i64, or_i32, or_i64, rem_i32, rem_i64, shl_i32, shl_i64, shr_i32, shr_i64,
-    sub_i32, sub_i64, ushr_i32, ushr_i64, xor_i32, xor_i64,
+    add_i32, add_i64, and_i32, and_i64, cmp_i64, div_i32, div_i64, i2b, i2c, i2l, i2s, l2i,
+    mul_i32, mul_i64, neg_i32, neg_i64, or_i32, or_i64, rem_i32, rem_i64, shl_i32, shl_i64,
+    shr_i32, shr_i64, sub_i32, sub_i64, ushr_i32, ushr_i64, xor_i32, xor_i64,
 };
 
 // ---- results
@@ -62,7 +62,6 @@ fn shifted(op: LongShift, a: i64, n: i32) -> i64
     }
 }
 
-
 fn divided_int(op: Division, a: i32, b: i32) -> Option<i32>
     ensures { result ≡ divided op w32 a b }
 {
@@ -71,7 +70,6 @@ fn divided_int(op: Division, a: i32, b: i32) -> Option<i32>
         Division::Remainder => rem_i32(a, b),
     }
 }
-
 
 fn divided_long(op: Division, a: i64, b: i64) -> Option<i64>
     ensures { result ≡ divided op w64 a b }

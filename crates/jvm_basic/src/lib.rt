@@ -7,9 +7,11 @@ mod branching;
 mod effect;
 mod families;
 mod family;
+mod instruction;
 mod locals;
 mod moving;
 mod reading;
 mod stack;
 
 pub use effect::Effect;
+pub use instruction::basic;
