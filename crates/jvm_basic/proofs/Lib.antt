@@ -6,3 +6,4 @@ pub mod Copied
 pub mod Forms
 pub mod ByForms
 pub mod Rows
+pub mod Exact

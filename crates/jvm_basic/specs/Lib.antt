@@ -4,3 +4,4 @@ pub mod Values
 pub mod StackForms
 pub mod Copies
 pub mod Rules
+pub mod Laws

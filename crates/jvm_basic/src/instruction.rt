@@ -1,8 +1,12 @@
 //! One instruction within its frame.
 
-ghost use Rattle.std.specs.Prelude.{◌≡◌};
+ghost use Rattle.std.specs.Prelude.{◌≡◌, ◌≢◌, ◌↔◌, ℕ, IsTrue};
+ghost use Rattle.frame_stack.specs.FrameLists.{top_operands};
+ghost use Rattle.jvm_basic.specs.declared.effect.Effect.TheVariants.{Next, Throws, Other};
+ghost use Rattle.jvm_basic.specs.Families.{family_of};
+ghost use Rattle.jvm_basic.specs.Laws.{is_elsewhere, divides_by_zero};
 ghost use Rattle.jvm_basic.specs.Outcomes.{GoesOn, effect_of, after};
-ghost use Rattle.jvm_basic.specs.Rules.{does, replaces, rule_of, value_in};
+ghost use Rattle.jvm_basic.specs.Rules.{arithmetic_exception, does, replaces, rule_of, value_in};
 
 use crate::arithmetic::{
     calculate, calculate_long, compare_longs, convert_int, convert_long, divide_ints, divide_longs,
@@ -94,6 +98,12 @@ fn do_family(
 pub fn basic(instr: &Instr, constant: Option<Value>, next: u16, frames: &mut Frames) -> Effect
     ensures effect { result ≡ effect_of (rule_of instr.now constant next) frames.old }
     ensures frames { frames.new ≡ after (rule_of instr.now constant next) frames.old }
+    ensures kept { result ≢ Next → frames.new ≡ frames.old }
+    ensures other { (result ≡ Other) ↔ IsTrue (is_elsewhere instr.now.op) }
+    ensures throws { (result ≡ Throws arithmetic_exception)
+        ↔ IsTrue (divides_by_zero (family_of instr.now.op) (top_operands frames.old.frames)) }
+    ensures only { (class : ℕ) → result ≡ Throws class → class ≡ arithmetic_exception }
 {
-    do_family(family_of(instr.op), &instr.arg, constant, next, frames)
+    let op = instr.op;
+    do_family(family_of(op), &instr.arg, constant, next, frames)
 }
