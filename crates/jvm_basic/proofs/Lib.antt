@@ -7,3 +7,5 @@ pub mod Forms
 pub mod ByForms
 pub mod Rows
 pub mod Exact
+pub mod WorkedSteps
+pub mod WorkedRuns

@@ -8,6 +8,7 @@ use Rattle.heap_objects.specs.declared.Value.{Value}
 use Rattle.heap_objects.specs.declared.Value.TheVariants.{Int, Long, Ref, Addr}
 use Rattle.frame_stack.specs.Widths.{width}
 use Rattle.frame_stack.specs.FrameLists.{PlacedFrame, AreSound, local_of, has_slot, with_local, top_operands}
+use Rattle.jvm_basic.proofs.Tops.{tops, dropped}
 use Rattle.jvm_basic.specs.Outcomes.{Locals, Operands, top_locals, can_hold, with_top}
 use Rattle.jvm_basic.specs.Values.{local_in, has_slots, stored}
 
@@ -62,3 +63,7 @@ written-top slot v o place (f ∷ fs) = refl
 pub ruleset slots = (local_of-is, has_slot-is, read-has_slot)
 
 pub ruleset written = (written-operands, written-holds, written-top)
+
+pub ruleset storing = (slots, tops, dropped)
+
+pub ruleset writing = (slots, written, tops)

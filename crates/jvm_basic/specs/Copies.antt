@@ -1,8 +1,8 @@
 -- The stack instructions as this crate does them: values put below so many operands. By the forms they are the same.
-use Rattle.std.specs.Prelude.{ℕ, List, [], ◌∷◌, ◌++◌, take, drop, Option, Some, None, slice_get}
+use Rattle.std.specs.Prelude.{ℕ, Bool, List, [], ◌∷◌, ◌++◌, take, drop, Option, Some, None, slice_get}
 use Rattle.heap_objects.specs.declared.Value.{Value}
-use Rattle.frame_stack.specs.FrameLists.{PlacedFrame}
-use Rattle.jvm_basic.specs.Outcomes.{Operands, Rule, GoesOn, Breaks}
+use Rattle.frame_stack.specs.FrameLists.{PlacedFrame, FramesView, with_frames, top_operands}
+use Rattle.jvm_basic.specs.Outcomes.{Operands, Rule, GoesOn, Breaks, can_hold}
 use Rattle.jvm_basic.specs.StackForms.{with_operand}
 
 -- these values, below so many operands
@@ -44,3 +44,17 @@ swaps place l o = swaps_value (slice_get o 0) place l o
 abbrev pub with_operands : Operands → List PlacedFrame → List PlacedFrame
 with_operands o [] = []
 with_operands o (f ∷ fs) = record f { operands = o } ∷ fs
+
+-- there is room for these values more
+abbrev pub has_room_for : List Value → FramesView → Bool
+has_room_for values s = can_hold (values ++ top_operands s.frames) s.frames
+
+abbrev pub has_room_for_some : Option Value → FramesView → Bool
+has_room_for_some value s = can_hold (with_operand value (top_operands s.frames)) s.frames
+
+-- with this value on top, where there is one
+abbrev pub with_some : Option Value → FramesView → FramesView
+with_some value s = with_frames (with_operands (with_operand value (top_operands s.frames)) s.frames) s
+
+abbrev pub with_inserted : ℕ → List Value → FramesView → FramesView
+with_inserted under values s = with_frames (with_operands (inserted under values (top_operands s.frames)) s.frames) s

@@ -2,11 +2,10 @@
 
 ghost use Rattle.std.specs.Prelude.{◌≡◌};
 ghost use Rattle.std.specs.Int.{w32, w64};
-ghost use Rattle.frame_stack.specs.FrameLists.{top_operands};
-ghost use Rattle.jvm_basic.specs.Values.{ints_of, longs_of};
 ghost use Rattle.jvm_basic.specs.Outcomes.{effect_of, after};
-ghost use Rattle.jvm_basic.specs.Rules.{calculated, calculated_long, shifted, divided, of_int, of_long};
-ghost use Rattle.jvm_basic.specs.Rules.{calculates, calculates_long, shifts, compares_longs, divides_ints};
+ghost use Rattle.jvm_basic.specs.Rules.{calculated, calculated_long, shifted, divided};
+ghost use Rattle.jvm_basic.specs.Rules.{of_int, of_long, compares_longs, divides_ints};
+ghost use Rattle.jvm_basic.specs.Rules.{calculates, calculates_long, shifts};
 ghost use Rattle.jvm_basic.specs.Rules.{divides_longs, converts_int, converts_long};
 
 use crate::effect::{ARITHMETIC_EXCEPTION, Effect};

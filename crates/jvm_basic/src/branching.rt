@@ -5,7 +5,8 @@ ghost use Rattle.frame_stack.specs.FrameLists.{AreSound, top_operands};
 ghost use Rattle.jvm_basic.specs.Values.{int_of};
 ghost use Rattle.jvm_basic.specs.Outcomes.{effect_of, after};
 ghost use Rattle.jvm_basic.specs.Rules.{compares, is_same, holds, tests, branches, goes_to};
-ghost use Rattle.jvm_basic.specs.Rules.{target_at, target_of, chosen, switches, calls_subroutine, target_in};
+ghost use Rattle.jvm_basic.specs.Rules.{target_at, target_of, chosen, switches};
+ghost use Rattle.jvm_basic.specs.Rules.{calls_subroutine, target_in};
 
 use crate::effect::Effect;
 use crate::family::{Comparison, Test};

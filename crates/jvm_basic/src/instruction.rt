@@ -1,6 +1,7 @@
 //! One instruction within its frame.
 
-ghost use Rattle.std.specs.Prelude.{◌≡◌, ◌≢◌, ◌↔◌, ℕ, IsTrue};
+ghost use Rattle.std.specs.Prelude.{◌≡◌, ◌≢◌, ◌↔◌, ℕ, IsTrue, Some, slice_get, codes};
+ghost use Rattle.const_pool.specs.BuiltIn.{built_in_names};
 ghost use Rattle.frame_stack.specs.FrameLists.{top_operands};
 ghost use Rattle.jvm_basic.specs.declared.effect.Effect.TheVariants.{Next, Throws, Other};
 ghost use Rattle.jvm_basic.specs.Families.{family_of};
@@ -102,6 +103,8 @@ pub fn basic(instr: &Instr, constant: Option<Value>, next: u16, frames: &mut Fra
     ensures other { (result ≡ Other) ↔ IsTrue (is_elsewhere instr.now.op) }
     ensures throws { (result ≡ Throws arithmetic_exception)
         ↔ IsTrue (divides_by_zero (family_of instr.now.op) (top_operands frames.old.frames)) }
+    ensures named { slice_get built_in_names arithmetic_exception
+        ≡ Some (codes "java/lang/ArithmeticException") }
     ensures only { (class : ℕ) → result ≡ Throws class → class ≡ arithmetic_exception }
 {
     let op = instr.op;

@@ -3,7 +3,8 @@
 ghost use Rattle.std.specs.Prelude.{◌≡◌, Some};
 ghost use Rattle.jvm_basic.specs.Values.{has_kind, is_storable};
 ghost use Rattle.jvm_basic.specs.Outcomes.{effect_of, after};
-ghost use Rattle.jvm_basic.specs.Rules.{loads, stores, increments, goes_back, slot_in, increment_in};
+ghost use Rattle.jvm_basic.specs.Rules.{loads, stores, increments, goes_back};
+ghost use Rattle.jvm_basic.specs.Rules.{slot_in, increment_in};
 
 use crate::effect::Effect;
 use crate::family::Kind;
@@ -60,7 +61,7 @@ pub fn load(frames: &mut Frames, kind: Kind, arg: &Arg, next: u16) -> Effect
 }
 
 /// istore_0 to astore_3.
-#[tactic(auto, using(crate::proofs::Slots::slots, crate::proofs::Tops::tops, crate::proofs::Tops::dropped))]
+#[tactic(auto, using(crate::proofs::Slots::storing))]
 pub fn store_to(frames: &mut Frames, kind: Kind, slot: u16, next: u16) -> Effect
     ensures effect { result ≡ effect_of (stores kind (Some slot) next) frames.old }
     ensures frames { frames.new ≡ after (stores kind (Some slot) next) frames.old }
@@ -86,7 +87,7 @@ pub fn store(frames: &mut Frames, kind: Kind, arg: &Arg, next: u16) -> Effect
 }
 
 /// iinc of a slot.
-#[tactic(auto, using(crate::proofs::Slots::slots, crate::proofs::Slots::written, crate::proofs::Tops::tops))]
+#[tactic(auto, using(crate::proofs::Slots::writing))]
 fn increment_slot(frames: &mut Frames, slot: u16, added: i16, next: u16) -> Effect
     ensures effect { result ≡ effect_of (increments (Some (slot, added)) next) frames.old }
     ensures frames { frames.new ≡ after (increments (Some (slot, added)) next) frames.old }

@@ -57,7 +57,8 @@ pub fn replace(frames: &mut Frames, value: Value, place: u16) -> Effect
 /// With a value in place of the two topmost operands, which have room for it.
 #[tactic(auto, using(crate::proofs::Tops::tops, crate::proofs::Tops::dropped))]
 pub fn replace_two(frames: &mut Frames, value: Value, place: u16) -> Effect
-    requires fits { IsTrue (can_hold (value ∷ drop 2 (top_operands frames.old.frames)) frames.old.frames) }
+    requires fits { IsTrue (can_hold
+        (value ∷ drop 2 (top_operands frames.old.frames)) frames.old.frames) }
     ensures effect { result ≡ effect_of (replaces 2 (Some value) place) frames.old }
     ensures frames { frames.new ≡ after (replaces 2 (Some value) place) frames.old }
 {

@@ -1,14 +1,16 @@
 //! The stack instructions (JVM Specification 2.11.6, 6.5).
 
-ghost use Rattle.std.specs.Prelude.{◌≡◌, ◌∷◌, ◌++◌, ◌≤◌, [], ℕ, IsTrue, length, slice_get};
+ghost use Rattle.std.specs.Prelude.{◌≡◌, ◌∷◌, ◌≤◌, [], IsTrue, length, slice_get};
 ghost use Rattle.frame_stack.specs.Widths.{is_long};
-ghost use Rattle.frame_stack.specs.FrameLists.{AreSound, top_operands, with_frames};
-ghost use Rattle.jvm_basic.specs.Outcomes.{can_hold, effect_of, after};
-ghost use Rattle.jvm_basic.specs.StackForms.{has_form, with_operand, forms_of};
-ghost use Rattle.jvm_basic.specs.Copies.{inserted, values_of, inserts};
-ghost use Rattle.jvm_basic.specs.Copies.{copies_one, copies_two, swaps, with_operands};
+ghost use Rattle.frame_stack.specs.FrameLists.{AreSound, top_operands};
+ghost use Rattle.jvm_basic.specs.Outcomes.{effect_of, after};
+ghost use Rattle.jvm_basic.specs.StackForms.{has_form, forms_of};
+ghost use Rattle.jvm_basic.specs.Copies.{values_of, has_room_for, has_room_for_some, with_some};
+ghost use Rattle.jvm_basic.specs.Copies.{with_inserted, inserts, copies_one, copies_two, swaps};
 ghost use Rattle.jvm_basic.specs.Rules.{arranges};
-ghost use Rattle.jvm_basic.specs.declared.family.Arrangement.TheVariants.{Pop, Pop2, Dup, DupX1, DupX2, Dup2, Dup2X1, Dup2X2, Swap};
+ghost use Rattle.jvm_basic.specs.declared.family.Arrangement.TheVariants.{Pop, Pop2, Dup, DupX1};
+ghost use Rattle.jvm_basic.specs.declared.family.Arrangement.TheVariants.{DupX2, Dup2, Dup2X1};
+ghost use Rattle.jvm_basic.specs.declared.family.Arrangement.TheVariants.{Dup2X2, Swap};
 
 use crate::effect::Effect;
 use crate::family::Arrangement;
@@ -50,7 +52,7 @@ fn fits(frames: &Frames, longs: &[bool]) -> bool
 /// Whether there is room for these values more. The frames are as they were.
 #[tactic(auto, using(crate::proofs::Copied::copied))]
 fn has_room(frames: &mut Frames, first: Value, second: Option<Value>) -> bool
-    ensures room { result ≡ can_hold (values_of first second ++ top_operands frames.old.frames) frames.old.frames }
+    ensures room { result ≡ has_room_for (values_of first second) frames.old }
     ensures frames { frames.new ≡ frames.old }
 {
     match second {
@@ -69,7 +71,7 @@ fn has_room(frames: &mut Frames, first: Value, second: Option<Value>) -> bool
 /// Whether there is room for a value more.
 #[tactic(auto, using(crate::proofs::Tops::tops, crate::proofs::Copied::copied))]
 fn has_room_for(frames: &mut Frames, value: Value) -> bool
-    ensures room { result ≡ can_hold (value ∷ top_operands frames.old.frames) frames.old.frames }
+    ensures room { result ≡ has_room_for (value ∷ []) frames.old }
     ensures frames { frames.new ≡ frames.old }
 {
     if !frames.push(value) {
@@ -82,9 +84,8 @@ fn has_room_for(frames: &mut Frames, value: Value) -> bool
 /// Puts a value on top, where there is one.
 #[tactic(auto, using(crate::proofs::Copied::copied))]
 fn push_some(frames: &mut Frames, value: Option<Value>)
-    requires fits { IsTrue (can_hold (with_operand value (top_operands frames.old.frames)) frames.old.frames) }
-    ensures { frames.new ≡ with_frames
-        (with_operands (with_operand value (top_operands frames.old.frames)) frames.old.frames) frames.old }
+    requires fits { IsTrue (has_room_for_some value frames.old) }
+    ensures { frames.new ≡ with_some value frames.old }
 {
     if let Some(value) = value {
         frames.push(value);
@@ -94,10 +95,8 @@ fn push_some(frames: &mut Frames, value: Option<Value>)
 /// Puts these values, which have room, below so many operands.
 #[tactic(auto, using(crate::proofs::Copied::copied))]
 fn insert(frames: &mut Frames, under: u16, first: Value, second: Option<Value>)
-    requires fits { IsTrue (can_hold
-        (values_of first second ++ top_operands frames.old.frames) frames.old.frames) }
-    ensures { frames.new ≡ with_frames (with_operands
-        (inserted under (values_of first second) (top_operands frames.old.frames)) frames.old.frames) frames.old }
+    requires fits { IsTrue (has_room_for (values_of first second) frames.old) }
+    ensures { frames.new ≡ with_inserted under (values_of first second) frames.old }
 {
     if under == 0 {
         push_some(frames, second);
