@@ -15,3 +15,6 @@ mod stack;
 
 pub use effect::Effect;
 pub use instruction::basic;
+
+#[cfg(test)]
+mod tests;
