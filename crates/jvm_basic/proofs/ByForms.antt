@@ -1,8 +1,7 @@
 -- Values put below so many operands are what the forms of the stack instructions say.
-use Rattle.std.proofs.Common.{◌≡◌, ℕ, Bool, true, false, List, [], ◌∷◌, drop, refl, sym}
-use Rattle.std.specs.Prelude.{Option, Some, None, ◌&&◌}
+use Rattle.std.proofs.Common.{◌≡◌, ℕ, Bool, true, false, List, [], ◌∷◌, drop, refl}
+use Rattle.std.specs.Prelude.{◌&&◌}
 use Rattle.std.proofs.lemmas.Bool.{false≢true}
-use Rattle.heap_objects.specs.declared.Value.{Value}
 use Rattle.jvm_basic.specs.Outcomes.{Locals, Operands, GoesOn}
 use Rattle.jvm_basic.specs.StackForms.{has_form, puts_on}
 use Rattle.jvm_basic.specs.Copies.{copies_one, copies_two, swaps}

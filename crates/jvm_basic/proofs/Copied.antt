@@ -1,10 +1,11 @@
 -- The top frame, by its operands.
-use Rattle.std.proofs.Common.{◌≡◌, ℕ, zero, suc, ◌+◌, ◌≤◌, Bool, true, false, List, [], ◌∷◌, ◌++◌, take, drop, length, refl, ap, sym, ◌∙◌, arith}
-use Rattle.std.specs.Prelude.{nat_le, Option, Some, None, IsTrue, slice_get}
+use Rattle.std.proofs.Common.{◌≡◌, ℕ, zero, suc, ◌+◌, ◌≤◌, true, false, List, [], ◌∷◌, ◌++◌, take, drop, refl, ap, ◌∙◌, arith}
+use Rattle.std.specs.Prelude.{nat_le, slice_get}
 use Rattle.std.proofs.lemmas.Bool.{le-leb, leb-true, false≢true}
 use Rattle.heap_objects.specs.declared.Value.{Value}
-use Rattle.frame_stack.specs.Widths.{width, height_of}
-use Rattle.frame_stack.specs.FrameLists.{PlacedFrame, FramesView, with_frames, AreSound, top_operands, can_push, with_operand, without_operand, with_place}
+use Rattle.frame_stack.specs.Widths.{height_of}
+use Rattle.frame_stack.specs.FrameLists.{PlacedFrame, FramesView, with_frames, top_operands, can_push, with_operand, without_operand, with_place}
+use Rattle.jvm_basic.proofs.Tops.{can_push-is}
 use Rattle.jvm_basic.specs.Outcomes.{Operands, top_locals, can_hold, with_top, effect_of, after}
 use Rattle.jvm_basic.specs.StackForms.{with_operand as above}
 use Rattle.jvm_basic.specs.Copies.{inserted, inserts, with_operands}
@@ -15,9 +16,9 @@ pub pushed-popped : (v : Value) (fs : List PlacedFrame) → without_operand (wit
 pushed-popped v [] = refl
 pushed-popped v (f ∷ fs) = refl
 
-pub pushed-operands : (v : Value) (fs : List PlacedFrame) (o : Operands) → can_push v fs ≡ true → top_operands (with_operand v fs) ≡ v ∷ top_operands fs
-pushed-operands v [] o e = absurd (false≢true e)
-pushed-operands v (f ∷ fs) o e = refl
+pub pushed-operands : (v : Value) (fs : List PlacedFrame) → can_push v fs ≡ true → top_operands (with_operand v fs) ≡ v ∷ top_operands fs
+pushed-operands v [] e = absurd (false≢true e)
+pushed-operands v (f ∷ fs) e = refl
 
 pub pushed-holds : (v : Value) (o : Operands) (fs : List PlacedFrame) → can_hold o (with_operand v fs) ≡ can_hold o fs
 pushed-holds v o [] = refl
@@ -53,10 +54,6 @@ pub with-top : (o : Operands) (place : ℕ) (fs : List PlacedFrame)
     → with_place place (with_operands o fs) ≡ with_top (top_locals fs) o place fs
 with-top o place [] = refl
 with-top o place (f ∷ fs) = refl
-
-pub can_push-with : (v : Value) (fs : List PlacedFrame) → can_push v fs ≡ can_hold (v ∷ top_operands fs) fs
-can_push-with v [] = refl
-can_push-with v (f ∷ fs) = ap (λ n. nat_le n f.max_stack) (omega arith)
 
 -- ---- heights
 
@@ -114,4 +111,17 @@ copy-done n values place s h =
     let held = inserted-holds n values (top_operands s.frames) s.frames ∙ h in
     (rw held refl, rw held (ap (λ fs. with_frames fs s) (with-top (inserted n values (top_operands s.frames)) place s.frames)))
 
-pub ruleset copied = (pushed-popped, pushed-operands, pushed-holds, with_operand-is, without-is, with-itself, with-twice, with-holds, with-operands, with-top, can_push-with, inserted-holds)
+pub ruleset copied = (
+  pushed-popped,
+  pushed-operands,
+  pushed-holds,
+  with_operand-is,
+  without-is,
+  with-itself,
+  with-twice,
+  with-holds,
+  with-operands,
+  with-top,
+  can_push-is,
+  inserted-holds,
+)

@@ -1,5 +1,5 @@
 -- The locals of the top frame.
-use Rattle.std.proofs.Common.{◌≡◌, ℕ, suc, ◌+◌, ◌≤◌, ◌<◌, ℤ, Bool, true, false, List, [], ◌∷◌, length, refl, ap, sym, subst, ◌∙◌, arith}
+use Rattle.std.proofs.Common.{◌≡◌, ℕ, ◌+◌, ◌≤◌, ◌<◌, ℤ, true, List, [], ◌∷◌, length, refl, ap, sym, arith}
 use Rattle.std.specs.Prelude.{nat_le, Option, Some, None, slice_get}
 use Rattle.std.specs.Option.{option_flatten}
 use Rattle.std.proofs.lemmas.Bool.{le-leb, lt-leb}
@@ -26,23 +26,20 @@ pub has_slot-is : (slot : ℕ) (v : Value) (fs : List PlacedFrame) → AreSound 
 has_slot-is slot v [] h = sym (lt-leb _ _ (omega (arith, positive v)))
 has_slot-is slot v (f ∷ fs) h = ap (λ n. nat_le (slot + width v) n) (sym h.0.locals)
 
+none : (v : Value) → Some v ≡ None → ⊥
+none v e = cc
+
 -- a local that can be read is there to be written
 within : (l : Locals) (slot : ℕ) (v : Value) → Some v ≡ local_in l slot → slot < length l
 within l slot v e = there (slice_get l slot) refl e
   where
-    none : Some v ≡ None → ⊥
-    none e = cc
-
     there : (x : Option (Option Value)) → slice_get l slot ≡ x → Some v ≡ option_flatten x → slot < length l
-    there None at e = absurd (none e)
+    there None at e = absurd (none v e)
     there (Some x) at e = slice_get_within l slot x at
 
 pub read-has_slot : (slot : ℕ) (v : Value) (m : ℤ) (fs : List PlacedFrame) → AreSound fs → Some v ≡ local_of slot fs
     → has_slot slot (Int m) fs ≡ true
-read-has_slot slot v m [] h e = absurd (none e)
-  where
-    none : Some v ≡ None → ⊥
-    none e = cc
+read-has_slot slot v m [] h e = absurd (none v e)
 read-has_slot slot v m (f ∷ fs) h e = le-leb _ _ (omega (arith, within f.locals slot v e, h.0.locals))
 
 -- ---- with a local written

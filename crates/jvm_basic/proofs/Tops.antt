@@ -1,9 +1,9 @@
 -- The top frame with other operands.
-use Rattle.std.proofs.Common.{◌≡◌, ℕ, zero, suc, ◌+◌, ◌≤◌, Bool, true, false, List, [], ◌∷◌, drop, refl, ap, sym, ◌∙◌, arith}
-use Rattle.std.specs.Prelude.{nat_le, Option, Some, None, IsTrue}
+use Rattle.std.proofs.Common.{◌≡◌, ℕ, ◌≤◌, List, [], ◌∷◌, drop, refl, ap, arith}
+use Rattle.std.specs.Prelude.{nat_le}
 use Rattle.std.proofs.lemmas.Bool.{le-leb}
 use Rattle.heap_objects.specs.declared.Value.{Value}
-use Rattle.frame_stack.specs.Widths.{width, height_of}
+use Rattle.frame_stack.specs.Widths.{height_of}
 use Rattle.frame_stack.specs.FrameLists.{PlacedFrame, AreSound, has_frame, top_operands, can_push, with_operand, without_operand, with_place}
 use Rattle.jvm_basic.specs.Outcomes.{Locals, Operands, top_locals, can_hold, with_top}
 

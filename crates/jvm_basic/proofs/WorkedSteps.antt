@@ -1,12 +1,11 @@
 -- Instructions worked by hand, one step each.
-use Rattle.std.proofs.Common.{◌≡◌, ℕ, Bool, true, false, ℤ, pos, negsuc, List, [], ◌∷◌, map, refl}
-use Rattle.std.specs.Prelude.{Option, Some, None}
+use Rattle.std.proofs.Common.{◌≡◌, ℕ, false, pos, negsuc, List, [], ◌∷◌, map, refl}
+use Rattle.std.specs.Prelude.{Some, None}
 use Rattle.std.specs.Int.{int_wrap}
 use Rattle.heap_objects.specs.declared.Value.{Value}
 use Rattle.heap_objects.specs.declared.Value.TheVariants.{Int, Long, Ref, Addr}
 use Rattle.code_model.specs.declared.instr.Arg.{Arg}
 use Rattle.code_model.specs.declared.instr.Arg.TheVariants as arg
-use Rattle.code_model.specs.declared.instr.Instr.{Instr}
 use Rattle.jvm_basic.specs.Families.{rows, family_of}
 use Rattle.jvm_basic.specs.Outcomes.{Locals, Operands, Outcome, GoesOn, Raises, Breaks, Leaves}
 use Rattle.jvm_basic.specs.Rules.{rule_of}

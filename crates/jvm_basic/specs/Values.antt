@@ -1,5 +1,5 @@
 -- What stands on top of the operands, and what a local has (JVM Specification 2.6.1, 2.6.2, 2.11.1).
-use Rattle.std.specs.Prelude.{ℕ, ◌+◌, Bool, true, false, List, [], ◌∷◌, length, Option, Some, None, slice_get, nat_le, ℤ}
+use Rattle.std.specs.Prelude.{ℕ, ◌+◌, Bool, true, false, ◌∷◌, length, Option, Some, None, slice_get, nat_le, ℤ}
 use Rattle.std.specs.Option.{option_flatten}
 use Rattle.heap_objects.specs.declared.Value.{Value}
 use Rattle.heap_objects.specs.declared.Value.TheVariants.{Int, Long, Ref, Addr}

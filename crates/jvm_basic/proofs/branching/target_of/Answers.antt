@@ -1,5 +1,5 @@
 -- a key that is another is passed
-use Rattle.std.proofs.Common.{rules, ◌≡◌, ◌∙◌, ap, sym, w32, to_z, of_z}
+use Rattle.std.proofs.Common.{rules, ◌∙◌, ap, sym, w32, to_z, of_z}
 use Rattle.std.proofs.lemmas.Int.{to_z-of_z}
 use Rattle.jvm_basic.proofs.Keys.{passed}
 use Rattle.jvm_basic.proofs.branching.target_of.Goals as goal

@@ -1,4 +1,3 @@
-use Rattle.std.proofs.Common.{◌≡◌, sym}
 use Rattle.jvm_basic.proofs.Rows.{family_at}
 use Rattle.jvm_basic.proofs.families.family_of.Goals as goal
 

@@ -1,9 +1,9 @@
 -- the laws of the rule
 use Rattle.std.proofs.Common.{◌≡◌, ◌∙◌, sym, subst, rules, arith}
-use Rattle.std.specs.Prelude.{IsTrue, ◌↔◌, ◌≢◌, ℕ, Some}
-use Rattle.frame_stack.specs.FrameLists.{FramesView, top_operands}
+use Rattle.std.specs.Prelude.{IsTrue, ◌↔◌}
+use Rattle.frame_stack.specs.FrameLists.{top_operands}
 use Rattle.jvm_basic.specs.declared.effect.Effect.{Effect}
-use Rattle.jvm_basic.specs.declared.effect.Effect.TheVariants.{Next, Throws, Other}
+use Rattle.jvm_basic.specs.declared.effect.Effect.TheVariants.{Throws, Other}
 use Rattle.jvm_basic.specs.Families.{family_of}
 use Rattle.jvm_basic.specs.Laws.{is_elsewhere, divides_by_zero}
 use Rattle.jvm_basic.specs.Outcomes.{effect_of, after}

@@ -1,5 +1,5 @@
 -- there is room for the operand that was taken off
-use Rattle.std.proofs.Common.{◌≡◌, ◌-◌, rules}
+use Rattle.std.proofs.Common.{◌-◌}
 use Rattle.jvm_basic.specs.Copies.{values_of}
 use Rattle.jvm_basic.proofs.Copied.{put-back-on}
 use Rattle.jvm_basic.proofs.stack.+insert.Goals as goal

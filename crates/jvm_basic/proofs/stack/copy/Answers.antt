@@ -1,4 +1,4 @@
-use Rattle.std.proofs.Common.{◌≡◌, ◌∙◌, rules}
+use Rattle.std.proofs.Common.{◌∙◌, rules}
 use Rattle.jvm_basic.specs.Copies.{values_of}
 use Rattle.jvm_basic.proofs.Copied.{copy-not, copy-done}
 use Rattle.jvm_basic.proofs.stack.copy.Goals as goal
