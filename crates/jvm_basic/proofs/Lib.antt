@@ -9,3 +9,4 @@ pub mod Rows
 pub mod Exact
 pub mod WorkedSteps
 pub mod WorkedRuns
+pub mod ItsOperand

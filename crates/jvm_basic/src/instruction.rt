@@ -5,7 +5,7 @@ ghost use Rattle.const_pool.specs.BuiltIn.{built_in_names};
 ghost use Rattle.frame_stack.specs.FrameLists.{top_operands};
 ghost use Rattle.jvm_basic.specs.declared.effect.Effect.TheVariants.{Next, Throws, Other};
 ghost use Rattle.jvm_basic.specs.Families.{family_of};
-ghost use Rattle.jvm_basic.specs.Laws.{is_elsewhere, divides_by_zero};
+ghost use Rattle.jvm_basic.specs.Laws.{is_elsewhere, divides_by_zero, HasItsOperand};
 ghost use Rattle.jvm_basic.specs.Outcomes.{GoesOn, effect_of, after};
 ghost use Rattle.jvm_basic.specs.Rules.{arithmetic_exception, does, replaces, rule_of, value_in};
 
@@ -103,6 +103,7 @@ pub fn basic(instr: &Instr, constant: Option<Value>, next: u16, frames: &mut Fra
     ensures other { (result ≡ Other) ↔ IsTrue (is_elsewhere instr.now.op) }
     ensures throws { (result ≡ Throws arithmetic_exception)
         ↔ IsTrue (divides_by_zero (family_of instr.now.op) (top_operands frames.old.frames)) }
+    ensures operand { HasItsOperand instr.now }
     ensures named { slice_get built_in_names arithmetic_exception
         ≡ Some (codes "java/lang/ArithmeticException") }
     ensures only { (class : ℕ) → result ≡ Throws class → class ≡ arithmetic_exception }
