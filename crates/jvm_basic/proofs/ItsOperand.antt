@@ -1,6 +1,6 @@
 -- An instruction of a code has the operand that its family needs.
-use Rattle.std.proofs.Common.{◌≡◌, ℕ, ◌<◌, Bool, true, false, List, pos, refl, sym, subst}
-use Rattle.std.specs.Prelude.{Option, Some, is_some, IsTrue, if◌then◌else◌}
+use Rattle.std.proofs.Common.{◌≡◌, ◌<◌, Bool, true, false, pos, refl, sym, subst}
+use Rattle.std.specs.Prelude.{is_some}
 use Rattle.std.specs.List.{list_all, range_with_len}
 use Rattle.std.proofs.lemmas.Bool.{false≢true}
 use Rattle.op_table.specs.declared.Form.{Form}
@@ -9,7 +9,6 @@ use Rattle.op_table.specs.Opcodes.{groups, row_of, wide_groups, wide_row_of}
 use Rattle.code_model.specs.declared.instr.Arg.{Arg}
 use Rattle.code_model.specs.declared.instr.Instr.{Instr}
 use Rattle.code_model.specs.Operands.{form_of}
-use Rattle.code_model.specs.Instructions.{instruction_at}
 use Rattle.code_model.proofs.Spelled.{HasShape, instruction_spelled}
 use Rattle.code_model.proofs.Readings.{stands_from}
 use Rattle.jvm_basic.specs.Families.{rows, family_of}

@@ -10,3 +10,4 @@ pub mod Exact
 pub mod WorkedSteps
 pub mod WorkedRuns
 pub mod ItsOperand
+pub mod Needed

@@ -5,3 +5,4 @@ pub mod StackForms
 pub mod Copies
 pub mod Rules
 pub mod Laws
+pub mod Needs

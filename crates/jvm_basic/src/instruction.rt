@@ -3,8 +3,9 @@
 ghost use Rattle.std.specs.Prelude.{◌≡◌, ◌≢◌, ◌↔◌, ℕ, IsTrue, Some, slice_get, codes};
 ghost use Rattle.const_pool.specs.BuiltIn.{built_in_names};
 ghost use Rattle.frame_stack.specs.FrameLists.{top_operands};
-ghost use Rattle.jvm_basic.specs.declared.effect.Effect.TheVariants.{Next, Throws, Other};
+ghost use Rattle.jvm_basic.specs.declared.effect.Effect.TheVariants.{Next, Throws, Bad, Other};
 ghost use Rattle.jvm_basic.specs.Families.{family_of};
+ghost use Rattle.jvm_basic.specs.Needs.{is_bad};
 ghost use Rattle.jvm_basic.specs.Laws.{is_elsewhere, divides_by_zero, HasItsOperand};
 ghost use Rattle.jvm_basic.specs.Outcomes.{GoesOn, effect_of, after};
 ghost use Rattle.jvm_basic.specs.Rules.{arithmetic_exception, does, replaces, rule_of, value_in};
@@ -100,6 +101,7 @@ pub fn basic(instr: &Instr, constant: Option<Value>, next: u16, frames: &mut Fra
     ensures effect { result ≡ effect_of (rule_of instr.now constant next) frames.old }
     ensures frames { frames.new ≡ after (rule_of instr.now constant next) frames.old }
     ensures kept { result ≢ Next → frames.new ≡ frames.old }
+    ensures bad { (result ≡ Bad) ↔ IsTrue (is_bad instr.now constant next frames.old) }
     ensures other { (result ≡ Other) ↔ IsTrue (is_elsewhere instr.now.op) }
     ensures throws { (result ≡ Throws arithmetic_exception)
         ↔ IsTrue (divides_by_zero (family_of instr.now.op) (top_operands frames.old.frames)) }

@@ -3,13 +3,15 @@ use Rattle.std.proofs.Common.{◌≡◌, ◌∙◌, sym, subst, rules, arith}
 use Rattle.std.specs.Prelude.{IsTrue, ◌↔◌}
 use Rattle.frame_stack.specs.FrameLists.{top_operands}
 use Rattle.jvm_basic.specs.declared.effect.Effect.{Effect}
-use Rattle.jvm_basic.specs.declared.effect.Effect.TheVariants.{Throws, Other}
+use Rattle.jvm_basic.specs.declared.effect.Effect.TheVariants.{Throws, Bad, Other}
 use Rattle.jvm_basic.specs.Families.{family_of}
 use Rattle.jvm_basic.specs.Laws.{is_elsewhere, divides_by_zero}
+use Rattle.jvm_basic.specs.Needs.{is_bad}
 use Rattle.jvm_basic.specs.Outcomes.{effect_of, after}
 use Rattle.jvm_basic.specs.Rules.{arithmetic_exception, rule_of}
 use Rattle.jvm_basic.proofs.Exact.{other-exactly, throws-exactly, throws-only, kept-unless-next}
 use Rattle.jvm_basic.proofs.ItsOperand.{has-its-operand}
+use Rattle.jvm_basic.proofs.Needed.{bad-exactly}
 use Rattle.jvm_basic.proofs.Rows.{arithmetic-is-named}
 use Rattle.jvm_basic.proofs.instruction.basic.Goals as goal
 
@@ -29,6 +31,7 @@ returns c =
       effect = told c;
       frames = made c;
       kept = λ apart. made c ∙ kept-unless-next (rule_of i c.args.constant c.args.next) s (λ e. apart (told c ∙ e));
+      bad = subst (λ (e : Effect). (e ≡ Bad) ↔ IsTrue (is_bad i c.args.constant c.args.next s)) is (bad-exactly i c.args.constant c.args.next s);
       other = subst (λ (e : Effect). (e ≡ Other) ↔ IsTrue (is_elsewhere i.op)) is (other-exactly i c.args.constant c.args.next s (omega arith));
       throws = subst (λ (e : Effect). (e ≡ Throws arithmetic_exception) ↔ IsTrue (divides_by_zero (family_of i.op) (top_operands s.frames))) is (throws-exactly i c.args.constant c.args.next s);
       operand = has-its-operand i (omega arith);
