@@ -110,6 +110,7 @@ pub fn basic(instr: &Instr, constant: Option<Value>, next: u16, frames: &mut Fra
         ≡ Some (codes "java/lang/ArithmeticException") }
     ensures only { (class : ℕ) → result ≡ Throws class → class ≡ arithmetic_exception }
 {
+    // Read by itself, so that its range is known.
     let op = instr.op;
     do_family(family_of(op), &instr.arg, constant, next, frames)
 }
