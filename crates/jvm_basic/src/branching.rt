@@ -11,7 +11,7 @@ ghost use Rattle.jvm_basic.specs.Rules.{calls_subroutine, target_in};
 use crate::effect::Effect;
 use crate::family::{Comparison, Test};
 use crate::moving::{drop_one, drop_two, go_on, put};
-use crate::reading::{int_of, ints_of, ref_of, refs_of};
+use crate::reading::{int_of, ints_of, recall, ref_of, refs_of};
 use code_model::Arg;
 use frame_stack::Frames;
 use heap_objects::Value;
@@ -95,7 +95,7 @@ pub fn go_to(frames: &mut Frames, arg: &Arg) -> Effect
     ensures effect { result ≡ effect_of (goes_to (target_in arg.now)) frames.old }
     ensures frames { frames.new ≡ after (goes_to (target_in arg.now)) frames.old }
 {
-    let _ = frames.peek(0);
+    recall(frames);
     match arg {
         Arg::Target(target) => go_on(frames, *target),
         _ => Effect::Bad,

@@ -20,6 +20,7 @@ use crate::families::family_of;
 use crate::family::Family;
 use crate::locals::{go_back, increment, load, load_from, store, store_to};
 use crate::moving::{go_on, put};
+use crate::reading::recall;
 use crate::stack::arrange;
 use code_model::{Arg, Instr};
 use frame_stack::Frames;
@@ -30,7 +31,7 @@ fn pass(frames: &mut Frames, next: u16) -> Effect
     ensures effect { result ≡ effect_of (λ l o. GoesOn l o next) frames.old }
     ensures frames { frames.new ≡ after (λ l o. GoesOn l o next) frames.old }
 {
-    let _ = frames.peek(0);
+    recall(frames);
     go_on(frames, next)
 }
 

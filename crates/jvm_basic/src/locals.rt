@@ -9,6 +9,7 @@ ghost use Rattle.jvm_basic.specs.Rules.{slot_in, increment_in};
 use crate::effect::Effect;
 use crate::family::Kind;
 use crate::moving::{drop_one, go_on, put};
+use crate::reading::recall;
 use code_model::Arg;
 use frame_stack::Frames;
 use heap_objects::Value;
@@ -95,7 +96,7 @@ fn increment_slot(frames: &mut Frames, slot: u16, added: i16, next: u16) -> Effe
     let Some(Value::Int(n)) = frames.local(slot) else {
         return Effect::Bad;
     };
-    let _ = frames.peek(0);
+    recall(frames);
     if !frames.set_local(slot, Value::Int(add_i32(n, i32::from(added)))) {
         return Effect::Bad;
     }
@@ -122,7 +123,7 @@ fn go_back_by(frames: &mut Frames, slot: u16) -> Effect
     let Some(Value::Addr(place)) = frames.local(slot) else {
         return Effect::Bad;
     };
-    let _ = frames.peek(0);
+    recall(frames);
     go_on(frames, place)
 }
 

@@ -1,4 +1,4 @@
-//! What stands on top of the operands. The clause `sound` is what the frames promise of any.
+//! What stands on top of the operands. Each read also tells that the frames are sound.
 
 ghost use Rattle.std.specs.Prelude.{◌≡◌};
 ghost use Rattle.frame_stack.specs.FrameLists.{AreSound, top_operands};
@@ -7,6 +7,13 @@ ghost use Rattle.jvm_basic.specs.Values.{ints_of, longs_of, long_and_int_of, ref
 
 use frame_stack::Frames;
 use heap_objects::Value;
+
+/// Recalls what the frames promise of themselves: a read tells it.
+pub fn recall(frames: &Frames)
+    ensures { AreSound frames.now.frames }
+{
+    let _ = frames.peek(0);
+}
 
 /// The int on top.
 pub fn int_of(frames: &Frames) -> Option<i32>

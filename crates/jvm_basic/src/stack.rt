@@ -15,6 +15,7 @@ ghost use Rattle.jvm_basic.specs.declared.family.Arrangement.TheVariants.{Dup2X2
 use crate::effect::Effect;
 use crate::family::Arrangement;
 use crate::moving::{drop_one, drop_two};
+use crate::reading::recall;
 use frame_stack::Frames;
 use heap_objects::Value;
 
@@ -37,7 +38,7 @@ fn fits(frames: &Frames, longs: &[bool]) -> bool
     ensures form { result ≡ has_form longs.now (top_operands frames.now.frames) }
     ensures sound { AreSound frames.now.frames }
 {
-    let _ = frames.peek(0);
+    recall(frames);
     for index in 0..longs.len() {
         let (Some(long), Some(value)) = (long_at(longs, index), frames.peek(index as u16)) else {
             return false;
