@@ -1,0 +1,309 @@
+-- Which instructions are left to others, and which throw.
+use Rattle.std.proofs.Common.{◌≡◌, ◌↔◌, ℕ, ◌<◌, Bool, true, false, not, cond, get_or, length, List, [], ◌∷◌, ℤ, pos, refl, sym, ap, ◌∙◌, subst, arith}
+use Rattle.std.specs.Prelude.{Option, Some, None, IsTrue, ◌&&◌, if◌then◌else◌}
+use Rattle.std.specs.Option.{option_map}
+use Rattle.std.specs.Ordering.{int_eq}
+use Rattle.std.specs.Int.{Width, w32, w64}
+use Rattle.std.specs.List.{list_all, range_with_len}
+use Rattle.std.proofs.lemmas.Bool.{false≢true}
+use Rattle.std.proofs.lemmas.List.FromFn.{length-range_with_len, get_or-range_with_len}
+use Rattle.std.proofs.lemmas.List.Sums.{AllPass-from_list_all}
+use Rattle.heap_objects.specs.declared.Value.{Value}
+use Rattle.heap_objects.specs.declared.Value.TheVariants.{Int, Long, Ref, Addr}
+use Rattle.frame_stack.specs.FrameLists.{PlacedFrame, FramesView, with_frames, top_operands}
+use Rattle.code_model.specs.declared.instr.Arg.{Arg}
+use Rattle.code_model.specs.declared.instr.Instr.{Instr}
+use Rattle.op_table.specs.Opcodes.{groups, row_of}
+use Rattle.jvm_basic.specs.declared.effect.Effect.{Effect}
+use Rattle.jvm_basic.specs.declared.effect.Effect.TheVariants.{Next, Throws, Bad, Other}
+use Rattle.jvm_basic.specs.declared.family.Division.{Division}
+use Rattle.jvm_basic.specs.declared.family.Kind.{Kind}
+use Rattle.jvm_basic.specs.declared.family.Test.{Test}
+use Rattle.jvm_basic.specs.declared.family.Family.{Family}
+use Rattle.jvm_basic.specs.declared.family.Family.TheVariants as family
+use Rattle.jvm_basic.specs.Families.{rows, family_of}
+use Rattle.jvm_basic.specs.Outcomes.{Locals, Operands, Outcome, GoesOn, Raises, Breaks, Leaves, Rule, can_hold, with_top, effect_in, frames_in, asked, effect_of, after}
+use Rattle.jvm_basic.specs.Values.{int_of, ints_of, longs_of, local_in, has_kind, is_storable, has_slots, stored}
+use Rattle.jvm_basic.specs.StackForms.{forms_of, arranged}
+use Rattle.jvm_basic.specs.Rules.{arithmetic_exception, replaces, divided, divided_by, divides_these, loads_value, loads, stores, increments_value, increments, leaves, goes_if, branches, holds, tests, goes_to, chosen, switches_on, calls_subroutine, goes_back_to, goes_back, value_in, slot_in, increment_in, target_in, does, rule_of}
+use Rattle.jvm_basic.specs.Laws.{is_elsewhere, has_zero_divisor, divides_by_zero}
+
+-- ---- an outcome that stays within the frame: the frame goes on, or breaks
+
+abbrev stays : Outcome → Bool
+stays (GoesOn l o place) = true
+stays (Raises class) = false
+stays Breaks = true
+stays Leaves = false
+
+abbrev Stays : Outcome → Type 0
+Stays outcome = stays outcome ≡ true
+
+replaces-stays : (n : ℕ) (v : Option Value) (next : ℕ) (l : Locals) (o : Operands) → Stays (replaces n v next l o)
+replaces-stays n None next l o = refl
+replaces-stays n (Some v) next l o = refl
+
+choice-stays : (b : Bool) (x y : Outcome) → Stays x → Stays y → Stays (if b then x else y)
+choice-stays true x y h k = h
+choice-stays false x y h k = k
+
+loads-value-stays : (k : Kind) (v : Option Value) (next : ℕ) (l : Locals) (o : Operands) → Stays (loads_value k v next l o)
+loads-value-stays k None next l o = refl
+loads-value-stays k (Some v) next l o = choice-stays (has_kind k v) _ _ refl refl
+
+loads-stays : (k : Kind) (slot : Option ℕ) (next : ℕ) (l : Locals) (o : Operands) → Stays (loads k slot next l o)
+loads-stays k None next l o = refl
+loads-stays k (Some slot) next l o = loads-value-stays k (local_in l slot) next l o
+
+stores-stays : (k : Kind) (slot : Option ℕ) (next : ℕ) (l : Locals) (o : Operands) → Stays (stores k slot next l o)
+stores-stays k None next l o = refl
+stores-stays k (Some slot) next l [] = refl
+stores-stays k (Some slot) next l (v ∷ o) =
+    choice-stays (is_storable k v && has_slots l slot v) (GoesOn (stored l slot v) o next) Breaks refl refl
+
+increments-value-stays : (slot : ℕ) (d : ℤ) (v : Option Value) (next : ℕ) (l : Locals) (o : Operands) → Stays (increments_value slot d v next l o)
+increments-value-stays slot d None next l o = refl
+increments-value-stays slot d (Some (Int n)) next l o = refl
+increments-value-stays slot d (Some (Long n)) next l o = refl
+increments-value-stays slot d (Some (Ref n)) next l o = refl
+increments-value-stays slot d (Some (Addr n)) next l o = refl
+
+increments-stays : (x : Option (ℕ × ℤ)) (next : ℕ) (l : Locals) (o : Operands) → Stays (increments x next l o)
+increments-stays None next l o = refl
+increments-stays (Some (slot, d)) next l o = increments-value-stays slot d (local_in l slot) next l o
+
+leaves-stays : (x : Option Operands) (next : ℕ) (l : Locals) → Stays (leaves x next l)
+leaves-stays None next l = refl
+leaves-stays (Some o) next l = refl
+
+goes-if-stays : (b : Option Bool) (taken target next : ℕ) (l : Locals) (o : Operands) → Stays (goes_if b taken target next l o)
+goes-if-stays None taken target next l o = refl
+goes-if-stays (Some b) taken target next l o = refl
+
+branches-stays : (t : Test) (target : Option ℕ) (next : ℕ) (l : Locals) (o : Operands) → Stays (branches t target next l o)
+branches-stays t None next l o = refl
+branches-stays t (Some target) next l o = goes-if-stays (holds t o) (tests t) target next l o
+
+goes-to-stays : (target : Option ℕ) (l : Locals) (o : Operands) → Stays (goes_to target l o)
+goes-to-stays None l o = refl
+goes-to-stays (Some target) l o = refl
+
+switches-stays : (a : Arg) (n : Option ℤ) (l : Locals) (o : Operands) → Stays (switches_on a n l o)
+switches-stays a None l o = refl
+switches-stays a (Some n) l o = goes-to-stays (chosen a n) l _
+
+subroutine-stays : (target : Option ℕ) (next : ℕ) (l : Locals) (o : Operands) → Stays (calls_subroutine target next l o)
+subroutine-stays None next l o = refl
+subroutine-stays (Some target) next l o = refl
+
+back-to-stays : (v : Option Value) (l : Locals) (o : Operands) → Stays (goes_back_to v l o)
+back-to-stays None l o = refl
+back-to-stays (Some (Int n)) l o = refl
+back-to-stays (Some (Long n)) l o = refl
+back-to-stays (Some (Ref n)) l o = refl
+back-to-stays (Some (Addr n)) l o = refl
+
+back-stays : (slot : Option ℕ) (l : Locals) (o : Operands) → Stays (goes_back slot l o)
+back-stays None l o = refl
+back-stays (Some slot) l o = back-to-stays (local_in l slot) l o
+
+-- ---- what an instruction comes to, of every family
+
+abbrev left : Outcome → Bool
+left Leaves = true
+left (GoesOn l o place) = false
+left (Raises class) = false
+left Breaks = false
+
+abbrev throwing : Outcome → Bool
+throwing (Raises class) = true
+throwing (GoesOn l o place) = false
+throwing Breaks = false
+throwing Leaves = false
+
+-- whether it is left to others, and whether it throws
+record Comes (x : Outcome) (e z : Bool) : Type 0 where
+  left : left x ≡ e
+  throws : throwing x ≡ z
+  only : (class : ℕ) → x ≡ Raises class → class ≡ arithmetic_exception
+
+stays-comes : (x : Outcome) → Stays x → Comes x false false
+stays-comes (GoesOn l o place) h = record { left = refl; throws = refl; only = λ class e. absurd (false≢true (ap throwing e)) }
+stays-comes Breaks h = record { left = refl; throws = refl; only = λ class e. absurd (false≢true (ap throwing e)) }
+stays-comes (Raises class) h = absurd (false≢true h)
+stays-comes Leaves h = absurd (false≢true h)
+
+abbrev class_of : Outcome → ℕ
+class_of (Raises class) = class
+class_of (GoesOn l o place) = 0
+class_of Breaks = 0
+class_of Leaves = 0
+
+-- there are operands, and no result
+abbrev lacks : Option (Option Value) → Bool
+lacks (Some None) = true
+lacks (Some (Some v)) = false
+lacks None = false
+
+divides-comes : (x : Option (Option Value)) (next : ℕ) (l : Locals) (o : Operands) (z : Bool) → lacks x ≡ z → Comes (divides_these x next l o) false z
+divides-comes None next l o z h = record { left = refl; throws = h; only = λ class e. absurd (false≢true (ap throwing e)) }
+divides-comes (Some None) next l o z h = record { left = refl; throws = h; only = λ class e. sym (ap class_of e) }
+divides-comes (Some (Some v)) next l o z h = record { left = refl; throws = h; only = λ class e. absurd (false≢true (ap throwing e)) }
+
+quotient-lacks : (op : Division) (w : Width) (make : ℤ → Value) (x : Option (ℤ × ℤ))
+    → lacks (option_map (λ p. option_map make (divided op w p.0 p.1)) x) ≡ has_zero_divisor x
+quotient-lacks op w make None = refl
+quotient-lacks op w make (Some p) = by (int_eq p.1 (pos 0)) (divided_by op w p.0 p.1)
+  where
+    by : (b : Bool) (q : ℤ) → lacks (Some (option_map make (if b then None else Some q))) ≡ b
+    by true q = refl
+    by false q = refl
+
+-- the family that is done elsewhere
+abbrev other : Family → Bool
+other family.Elsewhere = true
+other _ = false
+
+comes : (f : Family) (a : Arg) (c : Option Value) (next : ℕ) (l : Locals) (o : Operands) → Comes (does f a c next l o) (other f) (divides_by_zero f o)
+comes family.Nop a c next l o = stays-comes _ refl
+comes (family.Constant v) a c next l o = stays-comes _ refl
+comes family.Given a c next l o = stays-comes _ (replaces-stays 0 c next l o)
+comes family.Immediate a c next l o = stays-comes _ (replaces-stays 0 (value_in a) next l o)
+comes (family.Load k) a c next l o = stays-comes _ (loads-stays k (slot_in a) next l o)
+comes (family.LoadFrom k slot) a c next l o = stays-comes _ (loads-stays k (Some slot) next l o)
+comes (family.Store k) a c next l o = stays-comes _ (stores-stays k (slot_in a) next l o)
+comes (family.StoreTo k slot) a c next l o = stays-comes _ (stores-stays k (Some slot) next l o)
+comes (family.Arrange op) a c next l o = stays-comes _ (leaves-stays (arranged (forms_of op) o) next l)
+comes (family.BinaryOfInts op) a c next l o = stays-comes _ (replaces-stays 2 _ next l o)
+comes (family.BinaryOfLongs op) a c next l o = stays-comes _ (replaces-stays 2 _ next l o)
+comes (family.DivisionOfInts op) a c next l o = divides-comes _ next l o _ (quotient-lacks op w32 Int (ints_of o))
+comes (family.DivisionOfLongs op) a c next l o = divides-comes _ next l o _ (quotient-lacks op w64 Long (longs_of o))
+comes (family.ShiftOfLong op) a c next l o = stays-comes _ (replaces-stays 2 _ next l o)
+comes (family.UnaryOfInt op) a c next l o = stays-comes _ (replaces-stays 1 _ next l o)
+comes (family.UnaryOfLong op) a c next l o = stays-comes _ (replaces-stays 1 _ next l o)
+comes family.Lcmp a c next l o = stays-comes _ (replaces-stays 2 _ next l o)
+comes family.Iinc a c next l o = stays-comes _ (increments-stays (increment_in a) next l o)
+comes (family.Branch test) a c next l o = stays-comes _ (branches-stays test (target_in a) next l o)
+comes family.Goto a c next l o = stays-comes _ (goes-to-stays (target_in a) l o)
+comes family.Jsr a c next l o = stays-comes _ (subroutine-stays (target_in a) next l o)
+comes family.Ret a c next l o = stays-comes _ (back-stays (slot_in a) l o)
+comes family.Switch a c next l o = stays-comes _ (switches-stays a (int_of o) l o)
+comes family.Elsewhere a c next l o = record { left = refl; throws = refl; only = λ class e. absurd (false≢true (ap throwing e)) }
+
+-- ---- as an effect
+
+abbrev is_other : Effect → Bool
+is_other Other = true
+is_other Next = false
+is_other (Throws class) = false
+is_other Bad = false
+
+abbrev is_throw : Effect → Bool
+is_throw (Throws class) = true
+is_throw Next = false
+is_throw Bad = false
+is_throw Other = false
+
+effect-other : (x : Outcome) (fs : List PlacedFrame) → is_other (effect_in x fs) ≡ left x
+effect-other (GoesOn l o place) fs = by (can_hold o fs)
+  where
+    by : (b : Bool) → is_other (if b then Next else Bad) ≡ false
+    by true = refl
+    by false = refl
+effect-other (Raises class) fs = refl
+effect-other Breaks fs = refl
+effect-other Leaves fs = refl
+
+effect-throws : (x : Outcome) (fs : List PlacedFrame) → is_throw (effect_in x fs) ≡ throwing x
+effect-throws (GoesOn l o place) fs = by (can_hold o fs)
+  where
+    by : (b : Bool) → is_throw (if b then Next else Bad) ≡ false
+    by true = refl
+    by false = refl
+effect-throws (Raises class) fs = refl
+effect-throws Breaks fs = refl
+effect-throws Leaves fs = refl
+
+other-is : (e : Effect) → is_other e ≡ true → e ≡ Other
+other-is Other h = refl
+other-is Next h = absurd (false≢true h)
+other-is (Throws class) h = absurd (false≢true h)
+other-is Bad h = absurd (false≢true h)
+
+effect-raises : (x : Outcome) (fs : List PlacedFrame) (class : ℕ) → effect_in x fs ≡ Throws class → x ≡ Raises class
+effect-raises (Raises c) fs class e = ap (λ n. Raises n) (ap thrown e)
+  where
+    thrown : Effect → ℕ
+    thrown (Throws n) = n
+    thrown Next = 0
+    thrown Bad = 0
+    thrown Other = 0
+effect-raises (GoesOn l o place) fs class e = absurd (false≢true (sym (effect-throws (GoesOn l o place) fs) ∙ ap is_throw e))
+effect-raises Breaks fs class e = absurd (false≢true (ap is_throw e))
+effect-raises Leaves fs class e = absurd (false≢true (ap is_throw e))
+
+-- ---- by opcode
+
+-- b and c are the same
+abbrev same : Bool → Bool → Bool
+same b c = cond b c (not c)
+
+equal-from-same : (b c : Bool) → same b c ≡ true → b ≡ c
+equal-from-same true c h = sym h
+equal-from-same false true h = h
+equal-from-same false false h = refl
+
+pub holds-below : (p : ℕ → Bool) (n k : ℕ) → list_all p (range_with_len 0 n) ≡ true → k < n → p k ≡ true
+holds-below p n k e h =
+    let within : k < length (range_with_len 0 n) = subst (λ m. k < m) (sym (length-range_with_len 0 n)) h in
+    let here : get_or (range_with_len 0 n) k 0 ≡ k = get_or-range_with_len 0 n k 0 h ∙ omega arith in
+    subst (λ m. p m ≡ true) here (AllPass-from_list_all p (range_with_len 0 n) e k 0 within)
+
+elsewhere-fits : list_all (λ op. same (other (family_of op)) (is_elsewhere op)) (range_with_len 0 256) ≡ true
+unfolding family_of rows row_of groups
+elsewhere-fits = refl
+
+elsewhere-is : (op : ℕ) → op < 256 → other (family_of op) ≡ is_elsewhere op
+elsewhere-is op h = equal-from-same _ _ (holds-below (λ k. same (other (family_of k)) (is_elsewhere k)) 256 op elsewhere-fits h)
+
+-- ---- the effect of an instruction
+
+pub other-exactly : (i : Instr) (c : Option Value) (next : ℕ) (s : FramesView) → i.op < 256
+    → (effect_of (rule_of i c next) s ≡ Other) ↔ IsTrue (is_elsewhere i.op)
+other-exactly i c next s h =
+    let x = asked (rule_of i c next) s.frames in
+    let is : is_other (effect_in x s.frames) ≡ is_elsewhere i.op =
+    effect-other x s.frames ∙ ((comes (family_of i.op) i.arg c next _ _).left ∙ elsewhere-is i.op h) in
+    (λ e. sym is ∙ ap is_other e, λ e. other-is (effect_in x s.frames) (is ∙ e))
+
+pub throws-only : (i : Instr) (c : Option Value) (next : ℕ) (s : FramesView) (class : ℕ)
+    → effect_of (rule_of i c next) s ≡ Throws class → class ≡ arithmetic_exception
+throws-only i c next s class e =
+    (comes (family_of i.op) i.arg c next _ _).only class (effect-raises (asked (rule_of i c next) s.frames) s.frames class e)
+
+pub throws-exactly : (i : Instr) (c : Option Value) (next : ℕ) (s : FramesView)
+    → (effect_of (rule_of i c next) s ≡ Throws arithmetic_exception) ↔ IsTrue (divides_by_zero (family_of i.op) (top_operands s.frames))
+throws-exactly i c next s =
+    let x = asked (rule_of i c next) s.frames in
+    let is : is_throw (effect_in x s.frames) ≡ divides_by_zero (family_of i.op) (top_operands s.frames) =
+    effect-throws x s.frames ∙ (comes (family_of i.op) i.arg c next _ _).throws in
+    (λ e. sym is ∙ ap is_throw e, λ e. thrown-is (effect_in x s.frames) (is ∙ e) (λ class. throws-only i c next s class))
+  where
+    thrown-is : (e : Effect) → is_throw e ≡ true → ((class : ℕ) → e ≡ Throws class → class ≡ arithmetic_exception) → e ≡ Throws arithmetic_exception
+    thrown-is (Throws class) h only = ap Throws (only class refl)
+    thrown-is Next h only = absurd (false≢true h)
+    thrown-is Bad h only = absurd (false≢true h)
+    thrown-is Other h only = absurd (false≢true h)
+
+pub kept-unless-next : (r : Rule) (s : FramesView) → (effect_of r s ≡ Next → ⊥) → after r s ≡ s
+kept-unless-next r s apart = ap (λ fs. with_frames fs s) (by (asked r s.frames) s.frames apart)
+  where
+    chosen-kept : (b : Bool) (fs gs : List PlacedFrame) → ((if b then Next else Bad) ≡ Next → ⊥) → (if b then gs else fs) ≡ fs
+    chosen-kept true fs gs apart = absurd (apart refl)
+    chosen-kept false fs gs apart = refl
+
+    by : (x : Outcome) (fs : List PlacedFrame) → (effect_in x fs ≡ Next → ⊥) → frames_in x fs ≡ fs
+    by (GoesOn l o place) fs apart = chosen-kept (can_hold o fs) fs (with_top l o place fs) apart
+    by (Raises class) fs apart = refl
+    by Breaks fs apart = refl
+    by Leaves fs apart = refl

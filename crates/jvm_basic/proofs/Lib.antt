@@ -1,0 +1,13 @@
+pub mod Tops
+pub mod Fitting
+pub mod Slots
+pub mod Keys
+pub mod Copied
+pub mod Forms
+pub mod ByForms
+pub mod Rows
+pub mod Exact
+pub mod WorkedSteps
+pub mod WorkedRuns
+pub mod ItsOperand
+pub mod Needed

@@ -1,0 +1,73 @@
+-- When an instruction is left to others, when it throws, and which operand it has.
+use Rattle.std.specs.Prelude.{◌≡◌, ℕ, Bool, true, false, IsTrue, List, Option, Some, None, is_some, ◌==◌, ◌||◌, ℤ, pos}
+use Rattle.std.specs.Ordering.{int_eq}
+use Rattle.std.specs.Int.{is_in_range}
+use Rattle.op_table.specs.declared.Form.{Form}
+use Rattle.op_table.specs.declared.Form.TheVariants.{Wide, Unknown}
+use Rattle.op_table.specs.Opcodes.{row_of}
+use Rattle.code_model.specs.declared.instr.Arg.{Arg}
+use Rattle.code_model.specs.declared.instr.Instr.{Instr}
+use Rattle.code_model.specs.Instructions.{instruction_at}
+use Rattle.jvm_basic.specs.declared.family.Family.{Family}
+use Rattle.jvm_basic.specs.declared.family.Family.TheVariants.{DivisionOfInts, DivisionOfLongs, Immediate, Load, Store, Ret, Iinc, Branch, Goto, Jsr, Switch}
+use Rattle.jvm_basic.specs.Families.{family_of}
+use Rattle.jvm_basic.specs.Outcomes.{Operands}
+use Rattle.jvm_basic.specs.Values.{ints_of, longs_of}
+use Rattle.jvm_basic.specs.Rules.{value_in, slot_in, increment_in, target_in, chosen}
+
+abbrev pub is_no_instruction : Form → Bool
+is_no_instruction Wide = true
+is_no_instruction Unknown = true
+is_no_instruction _ = false
+
+-- The opcodes that a frame does not do by itself (6.5): array loads, array stores, returns and what names a member or a class up to
+-- monitorexit, multianewarray; what takes or gives a float or a double; and what is no instruction, as `wide` alone.
+abbrev pub is_elsewhere : ℕ → Bool
+is_elsewhere op =
+    is_in_range 46 53 op || (is_in_range 79 86 op || (is_in_range 172 195 op
+    || ((op == 197) || ((row_of op).floating || is_no_instruction (row_of op).form))))
+
+abbrev pub has_zero_divisor : Option (ℤ × ℤ) → Bool
+has_zero_divisor None = false
+has_zero_divisor (Some p) = int_eq p.1 (pos 0)
+
+-- idiv, irem, ldiv or lrem by 0
+abbrev pub divides_by_zero : Family → Operands → Bool
+divides_by_zero (DivisionOfInts op) o = has_zero_divisor (ints_of o)
+divides_by_zero (DivisionOfLongs op) o = has_zero_divisor (longs_of o)
+divides_by_zero _ o = false
+
+-- ---- operands: what an instruction of a family has, as its opcode's form says
+
+pub data Need : Type 0 where
+  Nothing : Need
+  Number : Need
+  Slot : Need
+  Increment : Need
+  Place : Need
+  Choice : Need
+
+abbrev pub need_of : Family → Need
+need_of Immediate = Number
+need_of (Load k) = Slot
+need_of (Store k) = Slot
+need_of Ret = Slot
+need_of Iinc = Increment
+need_of (Branch test) = Place
+need_of Goto = Place
+need_of Jsr = Place
+need_of Switch = Choice
+need_of _ = Nothing
+
+abbrev pub has_operand : Need → Arg → Bool
+has_operand Nothing a = true
+has_operand Number a = is_some (value_in a)
+has_operand Slot a = is_some (slot_in a)
+has_operand Increment a = is_some (increment_in a)
+has_operand Place a = is_some (target_in a)
+has_operand Choice a = is_some (chosen a (pos 0))
+
+-- an instruction that stands in a code has the operand that its family needs, so that its rule never breaks for want of one
+abbrev pub HasItsOperand : Instr → Type 0
+HasItsOperand i =
+    (bytes : List ℕ) (at : ℕ) → instruction_at bytes at ≡ Some i → IsTrue (has_operand (need_of (family_of i.op)) i.arg)

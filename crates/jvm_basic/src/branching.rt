@@ -1,0 +1,171 @@
+//! Branches, switches and subroutines (JVM Specification 2.11.7, 6.5).
+
+ghost use Rattle.std.specs.Prelude.{◌≡◌, ℤ, ◌-ℤ◌, Some};
+ghost use Rattle.frame_stack.specs.FrameLists.{AreSound, top_operands};
+ghost use Rattle.jvm_basic.specs.Values.{int_of};
+ghost use Rattle.jvm_basic.specs.Outcomes.{effect_of, after};
+ghost use Rattle.jvm_basic.specs.Rules.{compares, is_same, holds, tests, branches, goes_to};
+ghost use Rattle.jvm_basic.specs.Rules.{target_at, target_of, chosen, switches};
+ghost use Rattle.jvm_basic.specs.Rules.{calls_subroutine, target_in};
+
+use crate::effect::Effect;
+use crate::family::{Comparison, Test};
+use crate::moving::{drop_one, drop_two, go_on, put};
+use crate::reading::{int_of, ints_of, recall, ref_of, refs_of};
+use code_model::Arg;
+use frame_stack::Frames;
+use heap_objects::Value;
+use jf_bytes::Seq;
+
+// ---- branches
+
+fn compares(comparison: Comparison, a: i32, b: i32) -> bool
+    ensures { result ≡ compares comparison a b }
+{
+    match comparison {
+        Comparison::Equal => a == b,
+        Comparison::NotEqual => a != b,
+        Comparison::Less => a < b,
+        Comparison::AtLeast => a >= b,
+        Comparison::Greater => a > b,
+        Comparison::AtMost => a <= b,
+    }
+}
+
+/// Whether they are the same, or are not.
+fn is_same(same: bool, equal: bool) -> bool
+    ensures { result ≡ is_same same equal }
+{
+    if same { equal } else { !equal }
+}
+
+/// Whether the test holds, where the operands are of its kind.
+fn holds(frames: &Frames, test: Test) -> Option<bool>
+    ensures found { result ≡ holds test (top_operands frames.now.frames) }
+    ensures sound { AreSound frames.now.frames }
+{
+    match test {
+        Test::WithZero(comparison) => {
+            let n = int_of(frames)?;
+            Some(compares(comparison, n, 0))
+        }
+        Test::OfInts(comparison) => {
+            let (a, b) = ints_of(frames)?;
+            Some(compares(comparison, a, b))
+        }
+        Test::OfReferences(same) => {
+            let (a, b) = refs_of(frames)?;
+            Some(is_same(same, a == b))
+        }
+        Test::IsNull(null) => {
+            let reference = ref_of(frames)?;
+            Some(is_same(null, reference == 0))
+        }
+    }
+}
+
+/// A branch to a target.
+fn branch_to(frames: &mut Frames, test: Test, target: u16, next: u16) -> Effect
+    ensures effect { result ≡ effect_of (branches test (Some target) next) frames.old }
+    ensures frames { frames.new ≡ after (branches test (Some target) next) frames.old }
+{
+    let Some(holds) = holds(frames, test) else {
+        return Effect::Bad;
+    };
+    let place = if holds { target } else { next };
+    match test {
+        Test::WithZero(_) | Test::IsNull(_) => drop_one(frames, place),
+        Test::OfInts(_) | Test::OfReferences(_) => drop_two(frames, place),
+    }
+}
+
+/// ifeq to if_acmpne, ifnull, ifnonnull.
+pub fn branch(frames: &mut Frames, test: Test, arg: &Arg, next: u16) -> Effect
+    ensures effect { result ≡ effect_of (branches test (target_in arg.now) next) frames.old }
+    ensures frames { frames.new ≡ after (branches test (target_in arg.now) next) frames.old }
+{
+    match arg {
+        Arg::Target(target) => branch_to(frames, test, *target, next),
+        _ => Effect::Bad,
+    }
+}
+
+/// goto, goto_w.
+pub fn go_to(frames: &mut Frames, arg: &Arg) -> Effect
+    ensures effect { result ≡ effect_of (goes_to (target_in arg.now)) frames.old }
+    ensures frames { frames.new ≡ after (goes_to (target_in arg.now)) frames.old }
+{
+    recall(frames);
+    match arg {
+        Arg::Target(target) => go_on(frames, *target),
+        _ => Effect::Bad,
+    }
+}
+
+/// jsr, jsr_w.
+pub fn call_subroutine(frames: &mut Frames, arg: &Arg, next: u16) -> Effect
+    ensures effect { result ≡ effect_of (calls_subroutine (target_in arg.now) next) frames.old }
+    ensures frames { frames.new ≡ after (calls_subroutine (target_in arg.now) next) frames.old }
+{
+    match arg {
+        Arg::Target(target) => put(frames, Value::Addr(next), *target),
+        _ => Effect::Bad,
+    }
+}
+
+// ---- switches
+
+/// The target at a number's distance from the lowest one, else the default.
+fn target_at(default: u16, targets: &Seq<u16>, low: i32, n: i32) -> u16
+    ensures { result ≡ target_at default targets.now (n -ℤ low) }
+{
+    if n < low {
+        return default;
+    }
+    let distance = i64::from(n) - i64::from(low);
+    match targets.at(distance as usize) {
+        Some(target) => target,
+        None => default,
+    }
+}
+
+/// The target beside the first key that is the number, else the default.
+#[tactic(auto, using(crate::proofs::Keys::keys))]
+fn target_of(default: u16, keys: &Seq<i32>, targets: &Seq<u16>, n: i32) -> u16
+    ensures { result ≡ target_of default keys.now targets.now n }
+{
+    for index in 0..keys.len() {
+        let (Some(key), Some(target)) = (keys.at(index), targets.at(index)) else {
+            return default;
+        };
+        if key == n {
+            return target;
+        }
+    }
+    default
+}
+
+/// Where a switch goes.
+fn chosen(arg: &Arg, n: i32) -> Option<u16>
+    ensures { result ≡ chosen arg.now n }
+{
+    match arg {
+        Arg::Table(default, low, targets) => Some(target_at(*default, targets, *low, n)),
+        Arg::Lookup(default, keys, targets) => Some(target_of(*default, keys, targets, n)),
+        _ => None,
+    }
+}
+
+/// tableswitch, lookupswitch.
+pub fn switch(frames: &mut Frames, arg: &Arg) -> Effect
+    ensures effect { result ≡ effect_of (switches arg.now) frames.old }
+    ensures frames { frames.new ≡ after (switches arg.now) frames.old }
+{
+    let Some(n) = int_of(frames) else {
+        return Effect::Bad;
+    };
+    let Some(target) = chosen(arg, n) else {
+        return Effect::Bad;
+    };
+    drop_one(frames, target)
+}

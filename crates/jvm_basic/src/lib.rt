@@ -1,0 +1,20 @@
+//! What a frame does by itself: the instructions that see nothing but the locals and operands of their frame (JVM
+//! Specification 2.11, 6.5). Nothing here takes memory.
+#![tactic(auto)]
+
+mod arithmetic;
+mod branching;
+mod effect;
+mod families;
+mod family;
+mod instruction;
+mod locals;
+mod moving;
+mod reading;
+mod stack;
+
+pub use effect::Effect;
+pub use instruction::basic;
+
+#[cfg(test)]
+mod tests;
