@@ -1,1 +1,4 @@
 pub mod Dots
+pub mod Digits
+pub mod Pieces
+pub mod WorkedPlans

@@ -1,2 +1,4 @@
 pub mod Roots
 pub mod Plans
+pub mod Numbers
+pub mod Lines
