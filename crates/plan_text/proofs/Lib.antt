@@ -2,3 +2,4 @@ pub mod Dots
 pub mod Digits
 pub mod Pieces
 pub mod WorkedPlans
+pub mod OneAnswer
