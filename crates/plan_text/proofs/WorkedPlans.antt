@@ -178,14 +178,17 @@ is_f : IsRoot (codes "P1.f(I)I") f
 unfolding chars
 is_f = record {
   parts = refl;
-  described = (record { params = Int ∷ []; result = Some Int }, record {
-    params = codes "I";
-    result = codes "I";
-    fields = (codes "I", [], is_int, refl, refl);
-    most = omega arith;
-    returned = is_int;
-    spelled = refl;
-  });
+  described = (
+    record { params = Int ∷ []; result = Some Int },
+    record {
+      params = codes "I";
+      result = codes "I";
+      fields = (codes "I", [], is_int, refl, refl);
+      most = omega arith;
+      returned = is_int;
+      spelled = refl;
+    },
+  );
 }
 
 -- the action of a line about f, and a plan of such actions
@@ -227,7 +230,12 @@ empty_text = (Ok silent_plan, said 1 silent_plan [] (Ok silent_plan) empty_utf8 
 
 -- the numbers are those of the lines, of which empty ones and comments count
 second_line : IsPlanRead (35 ∷ 10 ∷ 13 ∷ 10 ∷ 120 ∷ 10 ∷ 255 ∷ []) (Err (BadLine 3 Unknown))
-second_line =
-    (Ok silent_plan, said 1 silent_plan (35 ∷ []) (Ok silent_plan) comment_utf8 refl,
-    (Ok silent_plan, said 2 silent_plan [] (Ok silent_plan) empty_utf8 refl,
-    (Err (BadLine 3 Unknown), said 3 silent_plan (120 ∷ []) (Err (BadLine 3 Unknown)) letter_utf8 refl, refl)))
+second_line = (
+  Ok silent_plan,
+  said 1 silent_plan (35 ∷ []) (Ok silent_plan) comment_utf8 refl,
+  (
+    Ok silent_plan,
+    said 2 silent_plan [] (Ok silent_plan) empty_utf8 refl,
+    (Err (BadLine 3 Unknown), said 3 silent_plan (120 ∷ []) (Err (BadLine 3 Unknown)) letter_utf8 refl, refl),
+  ),
+)

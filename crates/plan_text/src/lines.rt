@@ -1,10 +1,19 @@
 //! A plan's text, line by line.
 
-ghost use Rattle.std.specs.Prelude.{◌≡◌, ◌<◌, ◌^◌, map, length, nat_lt, IfOk, MatchOption, None, Some, false};
+ghost use Rattle.std.specs.Prelude.{◌≡◌, ◌<◌, ◌^◌, map, length, nat_lt, IfOk, false};
 ghost use Rattle.std.specs.Option.{option_map};
 ghost use Rattle.std.specs.List.{slice_split, list_any};
-ghost use Rattle.plan_text.specs.Lines.{UpToMemory, IsPlanRead, IsRead, IsLine, IsSaid, IsWorded, IsTimed, IsOrdered, IsActed, is_silent as is_silent_line, halves as halves_of, word_of as word_said, order_of as order_said, without_return as less_return, line_before as line_at, lines_in, is_feed, silent_plan, with_main as main_said, with_arg as arg_said, with_budget as budget_said, with_heap as heap_said, with_action as action_said, misplaced as misplaced_in, selected_after, same_root as are_same};
-ghost use Rattle.plan_text.specs.Numbers.{number_of as number_said, heap_of as slots_said, greatest_steps};
+ghost use Rattle.plan_text.specs.Lines.{UpToMemory, IsPlanRead, IsRead, IsLine, IsSaid, IsWorded};
+ghost use Rattle.plan_text.specs.Lines.{IsTimed, IsOrdered, IsActed, silent_plan, lines_in, is_feed};
+ghost use Rattle.plan_text.specs.Lines.{is_silent as is_silent_line, halves as halves_of};
+ghost use Rattle.plan_text.specs.Lines.{word_of as word_said, order_of as order_said};
+ghost use Rattle.plan_text.specs.Lines.{without_return as less_return, line_before as line_at};
+ghost use Rattle.plan_text.specs.Lines.{with_main as main_said, with_arg as arg_said};
+ghost use Rattle.plan_text.specs.Lines.{with_budget as budget_said, with_heap as heap_said};
+ghost use Rattle.plan_text.specs.Lines.{with_action as action_said, misplaced as misplaced_in};
+ghost use Rattle.plan_text.specs.Lines.{selected_after, same_root as are_same};
+ghost use Rattle.plan_text.specs.Numbers.{number_of as number_said, heap_of as slots_said};
+ghost use Rattle.plan_text.specs.Numbers.{greatest_steps};
 
 use crate::numbers::{heap_of, number_of};
 use crate::plan::{Action, LineCause, Plan, PlanError, RootName};
@@ -21,7 +30,7 @@ const GREATEST_STEPS: u64 = 1_000_000_000_000;
 /// So many args and so many actions a plan may have.
 const MOST_SAID: usize = 256;
 
-/// The first word of a line.
+/// The first word of a line, which says how the rest is read.
 #[derive(Clone, Copy)]
 enum Word {
     Main,
@@ -44,7 +53,7 @@ fn word_of(word: &str) -> Option<Word>
     }
 }
 
-/// Whether a root is selected or deselected.
+/// Whether a root is to be selected or deselected.
 fn order_of(word: &str) -> Option<bool>
     ensures { result ≡ order_said word.now }
 {
@@ -210,13 +219,22 @@ fn with_order(
     select: bool,
     word: &str,
 ) -> Result<Plan, PlanError>
-    ensures { UpToMemory result (IsActed number plan (number_said greatest_steps moment.now) select word.now) }
+    ensures { let moment = number_said greatest_steps moment.now in
+        UpToMemory result (IsActed number plan moment select word.now) }
 {
     let Some(moment) = number_of(moment, GREATEST_STEPS) else {
         return Err(PlanError::BadLine(number, LineCause::Number));
     };
     match read_root(alloc, word)? {
-        Some(root) => with_action(plan, number, Action { moment, select, root }),
+        Some(root) => with_action(
+            plan,
+            number,
+            Action {
+                moment,
+                select,
+                root,
+            },
+        ),
         None => Err(PlanError::BadLine(number, LineCause::Root)),
     }
 }
@@ -324,7 +342,12 @@ fn read_pieces(alloc: Global, pieces: &[&[u8]]) -> Result<Plan, PlanError>
     Ok(plan)
 }
 
-/// The plan that a text says, or its first fault.
+/// The plan that a text says, or the first line with a fault. A line ends with a line feed, which the last one may lack, and is
+/// empty, a comment that begins with `#`, or one of the forms `main NAME`, `arg TEXT`, `arg`, `budget N`, `heap N`,
+/// `at N select ROOT` and `at N deselect ROOT`, with single spaces.
+///
+/// Of a line the first cause is told, in the order of `LineCause`; then that its moment is below an earlier one, then that its
+/// root is selected already or is not selected, then that there are 256 args or actions before it.
 pub fn read_plan(alloc: Global, bytes: &[u8]) -> Result<Plan, PlanError>
     ensures { UpToMemory result (IsPlanRead bytes.now) }
 {

@@ -3,7 +3,8 @@
 ghost use Rattle.std.specs.Prelude.{◌≡◌, ◌≤◌, IfSome};
 ghost use Rattle.std.specs.List.{list_all};
 ghost use Rattle.std.specs.Char.{is_ascii_digit};
-ghost use Rattle.plan_text.specs.Numbers.{is_number as is_number_word, number_of as number_said, heap_of as heap_said};
+ghost use Rattle.plan_text.specs.Numbers.{is_number as is_number_word, number_of as number_said};
+ghost use Rattle.plan_text.specs.Numbers.{heap_of as heap_said};
 
 /// The least number of heap slots.
 const LEAST_HEAP: u64 = 1024;
