@@ -3,3 +3,4 @@ pub mod Digits
 pub mod Pieces
 pub mod WorkedPlans
 pub mod OneAnswer
+pub mod Within

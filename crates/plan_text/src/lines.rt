@@ -14,6 +14,7 @@ ghost use Rattle.plan_text.specs.Lines.{with_action as action_said, misplaced as
 ghost use Rattle.plan_text.specs.Lines.{selected_after, same_root as are_same};
 ghost use Rattle.plan_text.specs.Numbers.{number_of as number_said, heap_of as slots_said};
 ghost use Rattle.plan_text.specs.Numbers.{greatest_steps};
+ghost use Rattle.plan_text.specs.Bounds.{IsWithin};
 
 use crate::numbers::{heap_of, number_of};
 use crate::plan::{Action, LineCause, Plan, PlanError, RootName};
@@ -349,7 +350,8 @@ fn read_pieces(alloc: Global, pieces: &[&[u8]]) -> Result<Plan, PlanError>
 /// Of a line the first cause is told, in the order of `LineCause`; then that its moment is below an earlier one, then that its
 /// root is selected already or is not selected, then that there are 256 args or actions before it.
 pub fn read_plan(alloc: Global, bytes: &[u8]) -> Result<Plan, PlanError>
-    ensures { UpToMemory result (IsPlanRead bytes.now) }
+    ensures read { UpToMemory result (IsPlanRead bytes.now) }
+    ensures within { IfOk result IsWithin }
 {
     if bytes.len() > MOST_BYTES {
         return Err(PlanError::TooLong);
