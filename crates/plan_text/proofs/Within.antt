@@ -88,7 +88,11 @@ arg-within number plan text w =
     kept_if (nat_lt (length plan.args) most_said) (Ok (record plan { args = plan.args ++ utf16_of text ∷ [] })) (Err (TooMany number))
     (λ few. record {
       args = omega (arith, length-append plan.args (utf16_of text ∷ []), ltb-true (length plan.args) most_said few);
-      actions = w.actions; budget = w.budget; heap = w.heap; moments = w.moments; rising = w.rising;
+      actions = w.actions;
+      budget = w.budget;
+      heap = w.heap;
+      moments = w.moments;
+      rising = w.rising;
     })
     (λ _. tt)
 

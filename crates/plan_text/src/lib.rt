@@ -6,6 +6,6 @@ mod numbers;
 mod plan;
 mod roots;
 
-pub use lines::read_plan;
+pub use lines::{answer_is_one, read_plan};
 pub use plan::{Action, LineCause, Plan, PlanError, RootName, plan_of_root};
 pub use roots::slashed;

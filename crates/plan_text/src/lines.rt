@@ -1,6 +1,8 @@
 //! A plan's text, line by line.
 
-ghost use Rattle.std.specs.Prelude.{◌≡◌, ◌<◌, ◌^◌, map, length, nat_lt, IfOk, false};
+ghost use Rattle.std.specs.Prelude.{◌≡◌, ◌<◌, ◌^◌, ℕ, List, Result, map, length, nat_lt, IfOk, false};
+ghost use Rattle.plan_text.specs.declared.plan.Plan.{Plan as ThePlan};
+ghost use Rattle.plan_text.specs.declared.plan.PlanError.{PlanError as TheError};
 ghost use Rattle.std.specs.Option.{option_map};
 ghost use Rattle.std.specs.List.{slice_split, list_any};
 ghost use Rattle.plan_text.specs.Lines.{UpToMemory, IsPlanRead, IsRead, IsLine, IsSaid, IsWorded};
@@ -359,3 +361,9 @@ pub fn read_plan(alloc: Global, bytes: &[u8]) -> Result<Plan, PlanError>
     let pieces = pieces_of(alloc, bytes)?;
     read_pieces(alloc, &pieces)
 }
+
+/// A law with nothing to run: a text has one answer.
+pub fn answer_is_one()
+    ensures { (bytes : List ℕ) (a b : Result ThePlan TheError) →
+        IsPlanRead bytes a → IsPlanRead bytes b → a ≡ b }
+{}
