@@ -48,7 +48,7 @@ fn plan_of(alloc: Global, root: Option<&str>) -> Result<Plan, Refusal>
     match plan_of_root(alloc, word) {
         Ok(plan) => Ok(plan),
         Err(PlanError::BadLine(..)) => Err(Refusal::BadRoot),
-        Err(PlanError::NoMemory) => Err(Refusal::NoMemory),
+        Err(_) => Err(Refusal::NoMemory),
     }
 }
 

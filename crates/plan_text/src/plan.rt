@@ -50,8 +50,18 @@ pub enum LineCause {
 /// Why a plan is refused. A number is that of the line, counted from 1; it is 0 for the word of a root, which is in no line.
 #[derive(Debug, Drop, Error)]
 pub enum PlanError {
+    #[error("the text is too long")]
+    TooLong,
     #[error("the line can't be read")]
     BadLine(u32, LineCause),
+    #[error("the moment is below an earlier one")]
+    Backwards(u32),
+    #[error("the root is selected already")]
+    AlreadySelected(u32),
+    #[error("the root is not selected")]
+    NotSelected(u32),
+    #[error("too many lines of this form")]
+    TooMany(u32),
     #[error("no memory")]
     NoMemory,
 }
