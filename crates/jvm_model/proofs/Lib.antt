@@ -46,3 +46,6 @@ pub mod WorkedRuns
 pub mod WorkedThrows
 pub mod WorkedInitializers
 pub mod WorkedLimits
+mod WorkedClasses
+mod WorkedLoads
+mod WorkedLookups

@@ -32,3 +32,8 @@ pub mod Agreement
 pub mod Installed
 pub mod Attempts
 pub mod Quiet
+pub mod Lookup
+pub mod Selection
+pub mod Layouts
+pub mod Kinds
+pub mod Load
