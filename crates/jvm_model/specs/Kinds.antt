@@ -1,9 +1,9 @@
 -- Kinds of classes and arrays as numbers, and the names of arrays (JVM Specification 4.3.2, 4.4.1, 4.10.1.2). A kind is the
 -- number d * 2 ^ 24 + b: d is how many dimensions there are, 0 for what is no array; b is the code of newarray for a primitive
 -- element, 16 and the place among the built-in classes, or 256 and the position among the others, which stand before them.
-use Rattle.std.specs.Prelude.{ℕ, ◌+◌, ◌-◌, ◌*◌, Bool, false, not, List, [], ◌∷◌, length, Option, Some, None, nat_lt, nat_le, unwrap_or, ◌==◌, ◌&&◌, ◌||◌, if◌then◌else◌}
+use Rattle.std.specs.Prelude.{ℕ, ◌+◌, ◌-◌, ◌*◌, Bool, false, not, List, [], ◌∷◌, length, Option, Some, None, nat_lt, nat_le, unwrap_or, take, position, ◌==◌, ◌&&◌, ◌||◌, if◌then◌else◌}
 
-use Rattle.std.specs.Option.{option_map}
+use Rattle.std.specs.Option.{option_and_then, option_map}
 use Rattle.const_pool.specs.BuiltIn.{built_in_names}
 use Rattle.jvm_model.specs.Data.{Program}
 use Rattle.jvm_model.specs.Programs.{class_named}
@@ -76,11 +76,10 @@ primitive_code unit =
     if unit == 73 then Some 10 else
     if unit == 74 then Some 11 else None
 
--- a class's name up to the one semicolon at the end
+-- a class's name, up to the one semicolon at the end
 abbrev pub before_semicolon : List ℕ → Option (List ℕ)
-before_semicolon [] = None
-before_semicolon (unit ∷ []) = if unit == 59 then Some [] else None
-before_semicolon (unit ∷ next ∷ rest) = if unit == 59 then None else option_map (λ name. unit ∷ name) (before_semicolon (next ∷ rest))
+before_semicolon units =
+    option_and_then (λ at. if at + 1 == length units then Some (take at units) else None) (position (λ unit. unit == 59) units)
 
 -- behind the dimensions: a letter, or a class between L and the semicolon
 abbrev pub element_of : List ℕ → Option Element
@@ -100,11 +99,14 @@ array_from dimensions (unit ∷ rest) =
     else if nat_le dimensions 255 then option_map (array_of dimensions) (element_of (unit ∷ rest))
     else None
 
--- a name that begins as an array's and is no descriptor is the name of no class
+-- a name that begins as an array's
+abbrev pub is_array_name : List ℕ → Bool
+is_array_name [] = false
+is_array_name (unit ∷ rest) = unit == 91
+
+-- one that begins so and is no descriptor is the name of no class
 abbrev pub meaning_of : List ℕ → Meaning
-meaning_of [] = array_of 0 (Named [])
-meaning_of (unit ∷ rest) =
-    if unit == 91 then unwrap_or (array_from 1 rest) (array_of 0 (Named (unit ∷ rest))) else array_of 0 (Named (unit ∷ rest))
+meaning_of name = if is_array_name name then unwrap_or (array_from 0 name) (array_of 0 (Named name)) else array_of 0 (Named name)
 
 abbrev pub base_of_element : Program → Element → Option ℕ
 base_of_element p (Primitive code) = Some code

@@ -1,7 +1,7 @@
 -- Loading classes (JVM Specification 5.3): which are loaded when a name is resolved, in order, and what stops it. A class is
 -- loaded behind its superclass and its superinterfaces in order; each of these is looked at as soon as it is loaded. What was
 -- loaded before a fault stays loaded.
-use Rattle.std.specs.Prelude.{ℕ, zero, suc, ◌+◌, Bool, true, false, List, [], ◌∷◌, ◌++◌, length, Option, Some, None, map, codes, ◌==◌, if◌then◌else◌}
+use Rattle.std.specs.Prelude.{ℕ, zero, suc, ◌+◌, Bool, true, false, not, ◌&&◌, List, [], ◌∷◌, ◌++◌, length, Option, Some, None, map, codes, ◌==◌, if◌then◌else◌}
 use Rattle.std.specs.Bool.{beq}
 use Rattle.std.specs.List.{list_any}
 use Rattle.std.specs.Option.{option_map_or, option_to_list}
@@ -11,7 +11,7 @@ use Rattle.jvm_model.specs.Data.{Program}
 use Rattle.jvm_model.specs.SharedState.{no_class_definition}
 use Rattle.jvm_model.specs.Programs.{class_at, class_named}
 use Rattle.jvm_model.specs.Lookup.{incompatible_change, interface_names, is_interface}
-use Rattle.jvm_model.specs.Kinds.{Element, Primitive, Named, meaning_of}
+use Rattle.jvm_model.specs.Kinds.{Element, Primitive, Named, is_array_name, meaning_of}
 
 -- ---- what loading gives
 
@@ -69,7 +69,7 @@ needs_of p class = option_map_or class_needs (class_at p class) []
 
 -- an array is neither a class nor an interface here
 abbrev pub is_met : Program → Need → Bool
-is_met p n = option_map_or (λ class. beq (is_interface p class) n.interface) (class_named p n.name) false
+is_met p n = not (is_array_name n.name) && option_map_or (λ class. beq (is_interface p class) n.interface) (class_named p n.name) false
 
 abbrev pub need_fault : Program → Need → Option Fault
 need_fault p n = if is_met p n then None else Some Incompatible

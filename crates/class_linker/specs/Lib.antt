@@ -1,0 +1,5 @@
+pub mod Names
+pub mod Orders
+pub mod Indices
+pub mod Meanings
+pub mod Rows

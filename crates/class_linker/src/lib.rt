@@ -1,0 +1,13 @@
+//! Loading, subtypes, resolution, selection and layouts of a program's classes (JVM Specification 5.3, 5.4): the definitions of
+//! jvm_model by tables that are made once.
+#![tactic(auto)]
+
+mod access;
+mod index;
+mod meaning;
+mod names;
+mod order;
+mod package;
+mod rows;
+
+pub use index::Index;
