@@ -1,2 +1,5 @@
 mod NameLemmas
 mod IndexLemmas
+mod OrderLemmas
+mod RowLemmas
+mod LoadLemmas

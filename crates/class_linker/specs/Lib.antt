@@ -3,3 +3,4 @@ pub mod Orders
 pub mod Indices
 pub mod Meanings
 pub mod Rows
+pub mod States

@@ -1,5 +1,6 @@
 -- What the linker keeps of a class that was loaded: the walks over its supertypes, made of those of its direct supertypes.
-use Rattle.std.specs.Prelude.{◌≡◌, ℕ, ◌≤◌, Bool, IsTrue, List, [], ◌∷◌, ◌++◌, length, Option, Some, None, count_by, flat_map, is_some, slice_get, if◌then◌else◌}
+use Rattle.std.specs.Prelude.{◌≡◌, ℕ, ◌≤◌, Bool, true, List, [], ◌∷◌, ◌++◌, length, Option, Some, None, count_by, flat_map, is_some, slice_get, if◌then◌else◌}
+use Rattle.std.specs.List.{list_all}
 use Rattle.std.specs.Option.{option_and_then, option_map_or}
 use Rattle.const_pool.specs.declared.descriptor.Kind.{Kind}
 use Rattle.jvm_model.specs.declared.program.Program.{Program}
@@ -18,6 +19,9 @@ row_at rows class = option_and_then (λ (r : Option Row). r) (slice_get rows cla
 
 abbrev pub has_row : Rows → ℕ → Bool
 has_row rows class = is_some (row_at rows class)
+
+abbrev pub all_rows : Rows → List ℕ → Bool
+all_rows rows classes = list_all (has_row rows) classes
 
 abbrev pub row_count : Rows → ℕ
 row_count rows = count_by is_some rows
@@ -90,4 +94,4 @@ pub record AreRows (p : Program) (rows : Rows) : Type 0 where
 
 -- what has a row keeps one
 abbrev pub AreKept : Rows → Rows → Type 0
-AreKept before after = (class : ℕ) → IsTrue (has_row before class) → IsTrue (has_row after class)
+AreKept before after = (class : ℕ) → has_row before class ≡ true → has_row after class ≡ true

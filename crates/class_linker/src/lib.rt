@@ -4,6 +4,7 @@
 
 mod access;
 mod index;
+mod loading;
 mod meaning;
 mod names;
 mod order;

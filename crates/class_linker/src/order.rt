@@ -1,6 +1,6 @@
 //! Classes in an order, each once.
 
-ghost use Rattle.std.specs.Prelude.{◌≡◌, [], length, take, OnOk};
+ghost use Rattle.std.specs.Prelude.{◌≡◌, [], if◌then◌else◌, is_ok, length, take, OnOk};
 ghost use Rattle.class_linker.specs.Orders.{with_class, with_classes};
 ghost use Rattle.jvm_model.specs.Load.{is_among};
 
@@ -55,7 +55,7 @@ impl Order {
 
     /// Adds the class, if it is none of them.
     pub fn add(&mut self, class: u32) -> Result<(), NoMemory>
-        ensures { OnOk result (self.new ≡ with_class self.old class) }
+        ensures { self.new ≡ (if is_ok result then with_class self.old class else self.old) }
     {
         self.classes.insert(class)?;
         Ok(())

@@ -6,7 +6,7 @@ ghost use Rattle.jvm_model.specs.Layouts.{field_kind, held_by, own_kinds};
 ghost use Rattle.jvm_model.specs.Lookup.{superclass_of};
 ghost use Rattle.jvm_model.specs.Programs.{class_at};
 ghost use Rattle.class_linker.specs.Orders.{with_classes};
-ghost use Rattle.class_linker.specs.Rows.{layout_in, layout_made, row_at, row_made};
+ghost use Rattle.class_linker.specs.Rows.{has_row, layout_in, layout_made, row_at, row_made};
 ghost use Rattle.class_linker.specs.Rows.{superclasses_made, superinterfaces_made};
 ghost use Rattle.class_linker.specs.Rows.{supertypes_in, superclasses_in, superinterfaces_in};
 ghost use Rattle.class_linker.specs.Rows.{supertypes_made, with_interface, with_interfaces};
@@ -36,6 +36,13 @@ pub fn row_at(rows: &[Option<Row>], class: u32) -> Option<&Row>
         Some(row) => row.as_ref(),
         None => None,
     }
+}
+
+/// Whether a class has a row.
+pub fn has_row(rows: &[Option<Row>], class: u32) -> bool
+    ensures { result ≡ has_row rows.now class }
+{
+    row_at(rows, class).is_some()
 }
 
 // ---- parts, which are empty where there is no row

@@ -1,0 +1,212 @@
+//! Loading classes (JVM Specification 5.3).
+
+ghost use Rattle.std.specs.Prelude.{◌≡◌, ◌<◌, ◌++◌, ◌∷◌, [], ℕ, false, true, length, map};
+ghost use Rattle.std.specs.Prelude.{IfOk, OnOk};
+ghost use Rattle.jvm_model.specs.Load.{Loading, NoClass, is_among, is_met, needs_of};
+ghost use Rattle.jvm_model.specs.Lookup.{interfaces_of, superclass_of};
+ghost use Rattle.class_linker.specs.Rows.{AreKept, AreRows, all_rows, has_row, row_made};
+ghost use Rattle.class_linker.specs.States.{IfFresh, IsLater, IsState};
+ghost use Rattle.class_linker.specs.States.{class_loading, fault_view, named_loading, need_view};
+ghost use Rattle.class_linker.specs.States.{needs_at, needs_in, standing_loading};
+
+use crate::index::Index;
+use crate::meaning::{Element, is_array_name, meaning_of};
+use crate::order::Order;
+use crate::rows::{Row, has_row, row_made};
+use const_pool::ClassFile;
+use jf_bytes::{NoMemory, Seq, Text16};
+use std::alloc::Global;
+
+/// What stops loading: a name that is no class of the program, a class that is its own supertype, and a superclass that is an
+/// interface or a superinterface that is none.
+#[derive(Drop)]
+pub enum Fault {
+    NoClass(Text16),
+    Circular,
+    Incompatible,
+}
+
+/// A name that has to be loaded before a class, and whether an interface has to have it.
+#[derive(Clone, Copy)]
+pub struct Need<'a> {
+    pub name: &'a [u16],
+    pub interface: bool,
+}
+
+/// How the class of a name stands: there is nothing more to do, or the class is to be loaded.
+#[derive(Drop)]
+pub enum Standing {
+    Ended(Option<Fault>),
+    Fresh(u32),
+}
+
+/// The rows of the classes, and which are loaded, in order. A row may stay when its class could not be loaded after all.
+#[derive(Drop)]
+pub struct State {
+    pub rows: Seq<Option<Row>>,
+    pub loaded: Order,
+}
+
+// ---- what a class needs
+
+/// Whether the name is one of a class of the asked kind.
+fn is_met(index: &Index, need: &Need<'_>) -> bool
+    ensures { result ≡ is_met index.now (need_view need.now) }
+{
+    if is_array_name(need.name) {
+        return false;
+    }
+    match index.class_named(need.name) {
+        Some(class) => index.is_interface(class) == need.interface,
+        None => false,
+    }
+}
+
+/// Adds what an entry of a class file's pool names.
+fn add_need<'a>(
+    needs: &mut Seq<Need<'a>>,
+    file: &'a ClassFile,
+    entry: u16,
+    interface: bool,
+) -> Result<(), NoMemory>
+    ensures { OnOk result (map need_view needs.new
+        ≡ map need_view needs.old ++ needs_at file.now interface entry) }
+{
+    if let Ok(name) = file.pool.class_name(entry) {
+        needs.push(Need {
+            name: name.units(),
+            interface,
+        })?;
+    }
+    Ok(())
+}
+
+/// What a class file needs: its superclass, then its superinterfaces.
+fn class_needs(alloc: Global, file: &ClassFile) -> Result<Seq<Need<'_>>, NoMemory>
+    ensures { IfOk result (λ needs. map need_view needs ≡ needs_in file.now) }
+{
+    let mut needs = Seq::new(alloc);
+    add_need(&mut needs, file, file.super_class, false)?;
+    for entry in file.interfaces.as_slice() {
+        add_need(&mut needs, file, *entry, true)?;
+    }
+    Ok(needs)
+}
+
+#[tactic(auto, using(crate::proofs::LoadLemmas::needs_are))]
+fn needs_of(alloc: Global, index: &Index, class: u32) -> Result<Seq<Need<'_>>, NoMemory>
+    ensures { IfOk result (λ needs. map need_view needs ≡ needs_of index.now class) }
+{
+    match index.file(class) {
+        Some(file) => class_needs(alloc, file),
+        None => Ok(Seq::new(alloc)),
+    }
+}
+
+// ---- a class that is loaded
+
+/// Puts the row of a class in its place.
+#[tactic(auto, using(crate::proofs::RowLemmas::put_rows, crate::proofs::RowLemmas::put_kept, crate::proofs::RowLemmas::put_there))]
+fn put_row(index: &Index, rows: &mut Seq<Option<Row>>, class: u32, row: Row)
+    requires rows { AreRows index.now rows.old }
+    requires within { class < length rows.old }
+    requires none { has_row rows.old class ≡ false }
+    requires interfaces { all_rows rows.old (interfaces_of index.now class) ≡ true }
+    requires above { all_rows rows.old (superclass_of index.now class) ≡ true }
+    requires made { row ≡ row_made index.now rows.old class }
+    ensures rows { AreRows index.now rows.new }
+    ensures kept { AreKept rows.old rows.new }
+    ensures there { has_row rows.new class ≡ true }
+{
+    rows.set(class as usize, Some(row));
+}
+
+/// Makes the row of a class, where there is none yet.
+fn prepare(
+    alloc: Global,
+    index: &Index,
+    rows: &mut Seq<Option<Row>>,
+    class: u32,
+) -> Result<(), NoMemory>
+    requires rows { AreRows index.now rows.old }
+    requires within { class < length rows.old }
+    requires interfaces { all_rows rows.old (interfaces_of index.now class) ≡ true }
+    requires above { all_rows rows.old (superclass_of index.now class) ≡ true }
+    ensures rows { AreRows index.now rows.new }
+    ensures kept { AreKept rows.old rows.new }
+    ensures there { OnOk result (has_row rows.new class ≡ true) }
+{
+    if !has_row(rows.as_slice(), class) {
+        let row = row_made(alloc, index, rows.as_slice(), class)?;
+        put_row(index, rows, class, row);
+    }
+    Ok(())
+}
+
+/// Notes a class as loaded.
+fn finish(alloc: Global, index: &Index, state: &mut State, class: u32) -> Result<(), NoMemory>
+    requires state { IsState index.now state.old }
+    requires within { class < length state.old.rows }
+    requires fresh { is_among class state.old.loaded ≡ false }
+    requires interfaces { all_rows state.old.rows (interfaces_of index.now class) ≡ true }
+    requires above { all_rows state.old.rows (superclass_of index.now class) ≡ true }
+    ensures state { IsState index.now state.new }
+    ensures later { IsLater state.old state.new }
+    ensures loaded { OnOk result (state.new.loaded ≡ state.old.loaded ++ class ∷ []) }
+{
+    prepare(alloc, index, &mut state.rows, class)?;
+    state.loaded.add(class)
+}
+
+// ---- loading
+
+/// A name that is no class of the program.
+fn no_class(alloc: Global, name: &[u16]) -> Result<Fault, NoMemory>
+    ensures { IfOk result (λ fault. fault_view fault ≡ NoClass name.now) }
+{
+    Ok(Fault::NoClass(Text16::new(Vec::from_slice(alloc, name)?)))
+}
+
+/// How the class of this name stands.
+fn look_up_class(
+    alloc: Global,
+    index: &Index,
+    loaded: &Order,
+    path: &Order,
+    name: &[u16],
+) -> Result<Standing, NoMemory>
+    ensures fresh { IfOk result (IfFresh index.now path.now loaded.now) }
+    ensures loading { IfOk result (λ s. (fresh : ℕ → Loading)
+        → standing_loading s loaded.now fresh
+        ≡ class_loading index.now path.now name.now loaded.now fresh) }
+{
+    let Some(class) = index.class_named(name) else {
+        return Ok(Standing::Ended(Some(no_class(alloc, name)?)));
+    };
+    if loaded.has(class) {
+        Ok(Standing::Ended(None))
+    } else if path.has(class) {
+        Ok(Standing::Ended(Some(Fault::Circular)))
+    } else {
+        Ok(Standing::Fresh(class))
+    }
+}
+
+/// How a name stands: an array's is that of its element.
+fn look_up(
+    alloc: Global,
+    index: &Index,
+    loaded: &Order,
+    path: &Order,
+    name: &[u16],
+) -> Result<Standing, NoMemory>
+    ensures fresh { IfOk result (IfFresh index.now path.now loaded.now) }
+    ensures loading { IfOk result (λ s. (fresh : ℕ → Loading)
+        → standing_loading s loaded.now fresh
+        ≡ named_loading index.now path.now name.now loaded.now fresh) }
+{
+    match meaning_of(name).element {
+        Element::Primitive(_) => Ok(Standing::Ended(None)),
+        Element::Named(class_name) => look_up_class(alloc, index, loaded, path, class_name),
+    }
+}
