@@ -3,3 +3,5 @@ mod IndexLemmas
 mod OrderLemmas
 mod RowLemmas
 mod LoadLemmas
+mod LoadWalks
+mod LoadLoop

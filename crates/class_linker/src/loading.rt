@@ -1,11 +1,11 @@
 //! Loading classes (JVM Specification 5.3).
 
 ghost use Rattle.std.specs.Prelude.{◌≡◌, ◌<◌, ◌++◌, ◌∷◌, [], ℕ, false, true, length, map};
-ghost use Rattle.std.specs.Prelude.{IfOk, OnOk};
-ghost use Rattle.jvm_model.specs.Load.{Loading, NoClass, is_among, is_met, needs_of};
+ghost use Rattle.std.specs.Prelude.{IfOk, None, OnOk};
+ghost use Rattle.jvm_model.specs.Load.{Loading, NoClass, is_among, is_met, load_named, needs_of};
 ghost use Rattle.jvm_model.specs.Lookup.{interfaces_of, superclass_of};
 ghost use Rattle.class_linker.specs.Rows.{AreKept, AreRows, all_rows, has_row, row_made};
-ghost use Rattle.class_linker.specs.States.{IfFresh, IsLater, IsState};
+ghost use Rattle.class_linker.specs.States.{IfFresh, IsLater, IsState, loading_view};
 ghost use Rattle.class_linker.specs.States.{class_loading, fault_view, named_loading, need_view};
 ghost use Rattle.class_linker.specs.States.{needs_at, needs_in, standing_loading};
 
@@ -209,4 +209,43 @@ fn look_up(
         Element::Primitive(_) => Ok(Standing::Ended(None)),
         Element::Named(class_name) => look_up_class(alloc, index, loaded, path, class_name),
     }
+}
+
+/// Loads what a name stands for, with the classes of the path being loaded. The depth bounds the path.
+fn load_named(
+    alloc: Global,
+    index: &Index,
+    state: &mut State,
+    path: &mut Order,
+    depth: u32,
+    name: &[u16],
+) -> Result<Option<Fault>, NoMemory>
+    requires { IsState index.now state.old }
+    ensures state { IsState index.now state.new }
+    ensures later { IsLater state.old state.new }
+    ensures path { IfOk result (λ fault. fault ≡ None → path.new ≡ path.old) }
+    ensures loading { IfOk result (λ fault. loading_view state.new.loaded fault
+        ≡ load_named index.now depth path.old name.now state.old.loaded) }
+{
+    if depth == 0 {
+        return Ok(Some(Fault::Circular));
+    }
+    let class = match look_up(alloc, index, &state.loaded, path, name)? {
+        Standing::Ended(fault) => return Ok(fault),
+        Standing::Fresh(class) => class,
+    };
+    let needs = needs_of(alloc, index, class)?;
+    let before = path.len();
+    path.add(class)?;
+    for need in needs.as_slice() {
+        if let Some(fault) = load_named(alloc, index, state, path, depth - 1, need.name)? {
+            return Ok(Some(fault));
+        }
+        if !is_met(index, need) {
+            return Ok(Some(Fault::Incompatible));
+        }
+    }
+    path.truncate(before);
+    finish(alloc, index, state, class)?;
+    Ok(None)
 }
