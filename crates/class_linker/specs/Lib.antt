@@ -4,3 +4,5 @@ pub mod Indices
 pub mod Meanings
 pub mod Rows
 pub mod States
+pub mod Linkers
+pub mod Members

@@ -1,10 +1,11 @@
 //! A program with its classes found by their names.
 
-ghost use Rattle.std.specs.Prelude.{◌≡◌, ◌<◌, ◌^◌, [], length, IfOk};
+ghost use Rattle.std.specs.Prelude.{◌≡◌, ◌<◌, ◌^◌, [], length, IfOk, IfSome};
 ghost use Rattle.std.specs.Option.{option_copied};
 ghost use Rattle.jvm_model.specs.Programs.{class_at, class_named, super_of};
 ghost use Rattle.jvm_model.specs.Lookup.{interfaces_of, is_interface};
 ghost use Rattle.class_linker.specs.Indices.{IsLinkable, class_of_entry, interfaces_in};
+ghost use Rattle.class_linker.specs.Members.{HasFewMembers};
 ghost use Rattle.class_linker.specs.Names.{named_from};
 
 use crate::access::{INTERFACE, has_flag};
@@ -67,7 +68,8 @@ impl Index {
 
     /// The class file at a position.
     pub fn file(&self, class: u32) -> Option<&ClassFile>
-        ensures { option_copied result ≡ class_at self.now class }
+        ensures found { option_copied result ≡ class_at self.now class }
+        ensures few { IfSome result (λ c. HasFewMembers c.now) }
     {
         self.program.classes.get(class as usize)
     }

@@ -3,12 +3,15 @@
 #![tactic(auto)]
 
 mod access;
+mod answers;
 mod index;
 mod loading;
 mod meaning;
+mod members;
 mod names;
 mod order;
 mod package;
 mod rows;
 
+pub use answers::{Loaded, Resolved};
 pub use index::Index;

@@ -1,0 +1,72 @@
+-- What a clause sees of the linker, and its answers.
+use Rattle.std.specs.Prelude.{◌≡◌, ℕ, ◌+◌, Bool, true, List, [], ◌∷◌, Option, Some, None, drop, is_some, length, position, unwrap_or, if◌then◌else◌, ◌/◌, ◌%◌}
+use Rattle.std.specs.Option.{option_map, option_or}
+use Rattle.std.specs.Str.{bytes_eq}
+use Rattle.const_pool.specs.BuiltIn.{built_in_names}
+use Rattle.const_pool.specs.References.{NameAndType}
+use Rattle.jvm_model.specs.declared.program.Program.{Program}
+use Rattle.jvm_model.specs.Kinds.{KindParts, class_of_base, kind_named}
+use Rattle.jvm_model.specs.Load as load
+use Rattle.jvm_model.specs.Lookup as lookup
+use Rattle.class_linker.specs.declared.answers.Loaded.{Loaded}
+use Rattle.class_linker.specs.declared.answers.Loaded.TheVariants.{New, Already, Throws as Stopped, NoMemory}
+use Rattle.class_linker.specs.declared.answers.Resolved.{Resolved}
+use Rattle.class_linker.specs.declared.answers.Resolved.TheVariants.{Found, Throws}
+
+-- a program, and which of its classes are loaded, in order
+pub record LinkerView : Type 0 where
+  pub program : Program
+  pub loaded : List ℕ
+
+abbrev pub IsLoaded : LinkerView → ℕ → Type 0
+IsLoaded l class = load.is_among class l.loaded ≡ true
+
+-- ---- errors
+
+-- the place of an error's class among the built-in classes
+abbrev pub error_number : List ℕ → ℕ
+error_number name = unwrap_or (position (bytes_eq name) built_in_names) 0
+
+-- ---- resolution
+
+abbrev pub resolved_of : lookup.Resolution → Resolved
+resolved_of (lookup.Found m) = Found m.class m.position
+resolved_of (lookup.Fails error) = Throws (error_number error)
+
+abbrev pub place_view : ℕ × ℕ → lookup.MemberPlace
+place_view m = lookup.place_in m.0 m.1
+
+-- ---- loading
+
+abbrev pub absent_name : load.Fault → Option (List ℕ)
+absent_name (load.NoClass name) = Some name
+absent_name load.Circular = None
+absent_name load.Incompatible = None
+
+-- new where a class was loaded for it
+abbrev pub loaded_as : ℕ → List ℕ → Loaded
+loaded_as kind [] = Already kind
+loaded_as kind (class ∷ more) = New kind (class ∷ more)
+
+abbrev pub answer_by : Option load.Fault → ℕ → List ℕ → Loaded
+answer_by None kind classes = loaded_as kind classes
+answer_by (Some fault) kind classes = Stopped (error_number (load.error_of fault)) classes (absent_name fault)
+
+-- the kind that the name stands for, or the error, and the classes that were loaded behind those before
+abbrev pub answer_of : Program → List ℕ → List ℕ → load.Loading → Loaded
+answer_of p before name l = answer_by l.fault (unwrap_or (kind_named p name) 0) (drop (length before) l.loaded)
+
+abbrev pub load_answer : LinkerView → List ℕ → Loaded
+load_answer l name = answer_of l.program l.loaded name (load.load_of l.program l.loaded name)
+
+abbrev pub loaded_after : LinkerView → List ℕ → LinkerView
+loaded_after l name = record { program = l.program; loaded = (load.load_of l.program l.loaded name).loaded }
+
+-- ---- kinds
+
+abbrev pub parts_of : ℕ → KindParts
+parts_of kind = record { dimensions = kind / 16777216; base = kind % 16777216 }
+
+-- the class of a kind, or of an array's element, is loaded
+abbrev pub IsKnown : LinkerView → ℕ → Type 0
+IsKnown l kind = (class : ℕ) → class_of_base l.program (kind % 16777216) ≡ Some class → IsLoaded l class
