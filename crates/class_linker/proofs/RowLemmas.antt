@@ -11,8 +11,9 @@ use Rattle.jvm_model.specs.Layouts.{layout_within, own_kinds}
 use Rattle.jvm_model.specs.Lookup.{interfaces_of, is_interface, superclass_of, superclasses_within, superinterfaces_within, supertypes_within}
 use Rattle.jvm_model.specs.Programs.{class_at}
 use Rattle.class_linker.specs.declared.rows.Row.{Row}
-use Rattle.class_linker.specs.Orders.{IsSearchedAs, with_classes}
-use Rattle.class_linker.specs.Rows.{AreKept, AreRows, IsRow, Rows, all_rows, has_row, layout_in, row_at, row_count, row_made, superclasses_in, superinterfaces_in, superinterfaces_made, supertypes_in, supertypes_made, with_interfaces, with_supertypes}
+use Rattle.class_linker.specs.Orders.{IsSearchedAs, with_class, with_classes}
+use Rattle.jvm_model.specs.Load.{is_among}
+use Rattle.class_linker.specs.Rows.{AreKept, AreRows, IsClosed, IsRow, Rows, all_rows, has_row, layout_in, row_at, row_count, row_made, superclasses_in, superinterfaces_in, superinterfaces_made, supertypes_in, supertypes_made, with_interfaces, with_supertypes}
 use Rattle.class_linker.proofs.OrderLemmas.{both, equal, equal_as, more, same, then_as}
 
 false_true : false ≡ true → ⊥
@@ -176,6 +177,73 @@ row_count-set (Some x ∷ rows) zero r none within = absurd (some_none none)
 row_count-set (o ∷ rows) (suc class) r none within =
     omega (arith, count-cons o rows, count-cons o (slice_set rows class (Some r)), row_count-set rows class r none (omega arith))
 
+-- ---- classes that have rows
+
+all_append : (f : ℕ → Bool) (xs ys : List ℕ) → list_all f xs ≡ true → list_all f ys ≡ true → list_all f (xs ++ ys) ≡ true
+all_append f [] ys h k = k
+all_append f (x ∷ xs) ys h k =
+    ap₂ (λ a b. a && b) (first_of_and (f x) (list_all f xs) h) (all_append f xs ys (second_of_and (f x) (list_all f xs) h) k)
+
+all_with_class : (f : ℕ → Bool) (xs : List ℕ) (c : ℕ) → list_all f xs ≡ true → f c ≡ true → list_all f (with_class xs c) ≡ true
+all_with_class f xs c h k = by (is_among c xs)
+  where
+    by : (b : Bool) → list_all f (if b then xs else xs ++ c ∷ []) ≡ true
+    by true = h
+    by false = all_append f xs (c ∷ []) h (ap (λ b. b && true) k)
+
+all_with_classes : (f : ℕ → Bool) (xs ys : List ℕ) → list_all f xs ≡ true → list_all f ys ≡ true → list_all f (with_classes xs ys) ≡ true
+all_with_classes f xs [] h k = h
+all_with_classes f xs (y ∷ ys) h k =
+    all_with_classes f (with_class xs y) ys (all_with_class f xs y h (first_of_and (f y) (list_all f ys) k)) (second_of_and (f y) (list_all f ys) k)
+
+all_with_supertypes : (f : ℕ → Bool) (rows : Rows) → ((d : ℕ) → has_row rows d ≡ true → list_all f (supertypes_in rows d) ≡ true)
+    → (xs ys : List ℕ) → list_all f xs ≡ true → all_rows rows ys ≡ true → list_all f (with_supertypes rows xs ys) ≡ true
+all_with_supertypes f rows g xs [] h k = h
+all_with_supertypes f rows g xs (y ∷ ys) h k =
+    all_with_supertypes f rows g (with_classes xs (supertypes_in rows y)) ys
+        (all_with_classes f xs (supertypes_in rows y) h (g y (first_of_and (has_row rows y) (all_rows rows ys) k)))
+        (second_of_and (has_row rows y) (all_rows rows ys) k)
+
+all_flat : (f : ℕ → Bool) (rows : Rows) (g : ℕ → List ℕ) → ((d : ℕ) → has_row rows d ≡ true → list_all f (g d) ≡ true)
+    → (xs : List ℕ) → all_rows rows xs ≡ true → list_all f (flat_map g xs) ≡ true
+all_flat f rows g h [] k = refl
+all_flat f rows g h (x ∷ xs) k =
+    all_append f (g x) (flat_map g xs) (h x (first_of_and (has_row rows x) (all_rows rows xs) k))
+        (all_flat f rows g h xs (second_of_and (has_row rows x) (all_rows rows xs) k))
+
+all_kept : (before after : Rows) → AreKept before after → (xs : List ℕ) → all_rows before xs ≡ true → all_rows after xs ≡ true
+all_kept before after kept [] h = refl
+all_kept before after kept (x ∷ xs) h =
+    ap₂ (λ a b. a && b) (kept x (first_of_and (has_row before x) (all_rows before xs) h))
+        (all_kept before after kept xs (second_of_and (has_row before x) (all_rows before xs) h))
+
+module _ (p : Program) (rows : Rows) (are : AreRows p rows) (after : Rows) (kept : AreKept rows after) where
+  superclasses_have : (d : ℕ) → has_row rows d ≡ true → all_rows after (superclasses_in rows d) ≡ true
+  superclasses_have d has =
+      let w = has_one (row_at rows d) has in
+      all_kept rows after kept (superclasses_in rows d)
+          (ap (λ o. all_rows rows (option_map_or (λ (r : Row). r.superclasses) o [])) w.1 ∙ (are.closed d w.0 w.1).superclasses)
+
+  supertypes_have : (d : ℕ) → has_row rows d ≡ true → all_rows after (supertypes_in rows d) ≡ true
+  supertypes_have d has =
+      let w = has_one (row_at rows d) has in
+      all_kept rows after kept (supertypes_in rows d)
+          (ap (λ o. all_rows rows (option_map_or (λ (r : Row). r.supertypes) o [])) w.1 ∙ (are.closed d w.0 w.1).supertypes)
+
+  closed_made : (class : ℕ) → has_row after class ≡ true → all_rows rows (interfaces_of p class) ≡ true → all_rows rows (superclass_of p class) ≡ true
+      → IsClosed after (row_made p rows class)
+  closed_made class has interfaces above = record {
+      superclasses = ap₂ (λ a b. a && b) has (all_flat (has_row after) rows (superclasses_in rows) superclasses_have (superclass_of p class) above);
+      supertypes = all_with_supertypes (has_row after) rows supertypes_have (with_supertypes rows (class ∷ []) (interfaces_of p class)) (superclass_of p class)
+          (all_with_supertypes (has_row after) rows supertypes_have (class ∷ []) (interfaces_of p class) (ap (λ b. b && true) has) interfaces) above;
+    }
+
+  closed_kept : (r : Row) → IsClosed rows r → IsClosed after r
+  closed_kept r is = record {
+      superclasses = all_kept rows after kept r.superclasses is.superclasses;
+      supertypes = all_kept rows after kept r.supertypes is.supertypes;
+    }
+
 module _ (p : Program) (rows : Rows) (class : ℕ) (are : AreRows p rows) (without : has_row rows class ≡ false) (within : class < length rows)
     (interfaces : all_rows rows (interfaces_of p class) ≡ true) (above : all_rows rows (superclass_of p class) ≡ true) where
   none : row_at rows class ≡ None
@@ -207,12 +275,6 @@ module _ (p : Program) (rows : Rows) (class : ℕ) (are : AreRows p rows) (witho
       apart : (c == class) ≡ false → c ≢ class
       apart h e = grind (arith)
 
-  pub added : AreRows p after
-  added = record {
-      places = length-set rows class (Some (row_made p rows class)) ∙ are.places;
-      each = λ c bound r found most. each_after (c == class) c bound r refl found (omega (arith, row_count-set rows class (row_made p rows class) none within));
-    }
-
   kept_at : (b : Bool) (c : ℕ) → (c == class) ≡ b → has_row rows c ≡ true → has_row after c ≡ true
   kept_at true c is has = ap (λ k. has_row after k) (equal c class is) ∙ ap is_some (row_at-set_same rows class (row_made p rows class) within)
   kept_at false c is has = ap is_some (row_at-set_other rows class c (Some (row_made p rows class)) (apart is)) ∙ has
@@ -225,6 +287,25 @@ module _ (p : Program) (rows : Rows) (class : ℕ) (are : AreRows p rows) (witho
 
   pub added-there : has_row after class ≡ true
   added-there = ap is_some (row_at-set_same rows class (row_made p rows class) within)
+
+  closed_after : (b : Bool) (c : ℕ) (r : Row) → (c == class) ≡ b → row_at after c ≡ Some r → IsClosed after r
+  closed_after true c r is found =
+      let at_own : row_at after class ≡ Some r = ap (row_at after) (sym (equal c class is)) ∙ found in
+      subst (IsClosed after) (the_same (row_made p rows class) r (sym (row_at-set_same rows class (row_made p rows class) within) ∙ at_own))
+          (closed_made p rows are after added-kept class added-there interfaces above)
+  closed_after false c r is found =
+      closed_kept p rows are after added-kept r
+          (are.closed c r (sym (row_at-set_other rows class c (Some (row_made p rows class)) (apart is)) ∙ found))
+    where
+      apart : (c == class) ≡ false → c ≢ class
+      apart h e = grind (arith)
+
+  pub added : AreRows p after
+  added = record {
+      places = length-set rows class (Some (row_made p rows class)) ∙ are.places;
+      each = λ c bound r found most. each_after (c == class) c bound r refl found (omega (arith, row_count-set rows class (row_made p rows class) none within));
+      closed = λ c r found. closed_after (c == class) c r refl found;
+    }
 
   -- the same, where the row and the rows are told by what they are
 

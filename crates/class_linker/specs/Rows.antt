@@ -87,10 +87,16 @@ pub record IsRow (p : Program) (bound class : ℕ) (r : Row) : Type 0 where
   pub supertypes : IsSearchedAs r.supertypes (supertypes_within p bound class)
   pub layout : r.layout ≡ layout_within p bound class
 
+-- the classes of its walks have rows
+pub record IsClosed (rows : Rows) (r : Row) : Type 0 where
+  pub superclasses : all_rows rows r.superclasses ≡ true
+  pub supertypes : all_rows rows r.supertypes ≡ true
+
 -- There is a place for the row of each class. A walk from a class that has a row is no longer than there are rows.
 pub record AreRows (p : Program) (rows : Rows) : Type 0 where
   pub places : length rows ≡ length p.classes
   pub each : (class bound : ℕ) (r : Row) → row_at rows class ≡ Some r → row_count rows ≤ bound → IsRow p bound class r
+  pub closed : (class : ℕ) (r : Row) → row_at rows class ≡ Some r → IsClosed rows r
 
 -- what has a row keeps one
 abbrev pub AreKept : Rows → Rows → Type 0
