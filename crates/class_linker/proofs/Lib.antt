@@ -5,3 +5,4 @@ mod RowLemmas
 mod LoadLemmas
 mod LoadWalks
 mod LoadLoop
+mod Walked

@@ -69,7 +69,7 @@ each_equal test f g h (x ∷ xs) all =
 
 -- ---- a class that has a row
 
-has_one : (o : Option Row) → is_some o ≡ true → (r : Row) × (o ≡ Some r)
+pub has_one : (o : Option Row) → is_some o ≡ true → (r : Row) × (o ≡ Some r)
 has_one None h = absurd (false_true h)
 has_one (Some r) h = (r, refl)
 
@@ -79,24 +79,24 @@ module _ (p : Program) (rows : Rows) (are : AreRows p rows) (n : ℕ) (most : ro
       let w = has_one (row_at rows c) h in
       (w.0, w.1, are.each c n w.0 w.1 most)
 
-  superclasses_are : (c : ℕ) → has_row rows c ≡ true → superclasses_in rows c ≡ superclasses_within p n c
+  pub superclasses_are : (c : ℕ) → has_row rows c ≡ true → superclasses_in rows c ≡ superclasses_within p n c
   superclasses_are c h =
       let w = row_of c h in
       ap (λ o. option_map_or (λ (r : Row). r.superclasses) o []) w.1 ∙ w.2.superclasses
 
-  layout_is : (c : ℕ) → has_row rows c ≡ true → layout_in rows c ≡ layout_within p n c
+  pub layout_is : (c : ℕ) → has_row rows c ≡ true → layout_in rows c ≡ layout_within p n c
   layout_is c h =
       let w = row_of c h in
       ap (λ o. option_map_or (λ (r : Row). r.layout) o []) w.1 ∙ w.2.layout
 
-  superinterfaces_are : (c : ℕ) → has_row rows c ≡ true → IsSearchedAs (superinterfaces_in rows c) (superinterfaces_within p n c)
+  pub superinterfaces_are : (c : ℕ) → has_row rows c ≡ true → IsSearchedAs (superinterfaces_in rows c) (superinterfaces_within p n c)
   superinterfaces_are c h =
       let w = row_of c h in
       then_as (superinterfaces_in rows c) w.0.superinterfaces (superinterfaces_within p n c)
           (equal_as (superinterfaces_in rows c) w.0.superinterfaces (ap (λ o. option_map_or (λ (r : Row). r.superinterfaces) o []) w.1))
           w.2.superinterfaces
 
-  supertypes_are : (c : ℕ) → has_row rows c ≡ true → IsSearchedAs (supertypes_in rows c) (supertypes_within p n c)
+  pub supertypes_are : (c : ℕ) → has_row rows c ≡ true → IsSearchedAs (supertypes_in rows c) (supertypes_within p n c)
   supertypes_are c h =
       let w = row_of c h in
       then_as (supertypes_in rows c) w.0.supertypes (supertypes_within p n c)
@@ -218,13 +218,13 @@ all_kept before after kept (x ∷ xs) h =
         (all_kept before after kept xs (second_of_and (has_row before x) (all_rows before xs) h))
 
 module _ (p : Program) (rows : Rows) (are : AreRows p rows) (after : Rows) (kept : AreKept rows after) where
-  superclasses_have : (d : ℕ) → has_row rows d ≡ true → all_rows after (superclasses_in rows d) ≡ true
+  pub superclasses_have : (d : ℕ) → has_row rows d ≡ true → all_rows after (superclasses_in rows d) ≡ true
   superclasses_have d has =
       let w = has_one (row_at rows d) has in
       all_kept rows after kept (superclasses_in rows d)
           (ap (λ o. all_rows rows (option_map_or (λ (r : Row). r.superclasses) o [])) w.1 ∙ (are.closed d w.0 w.1).superclasses)
 
-  supertypes_have : (d : ℕ) → has_row rows d ≡ true → all_rows after (supertypes_in rows d) ≡ true
+  pub supertypes_have : (d : ℕ) → has_row rows d ≡ true → all_rows after (supertypes_in rows d) ≡ true
   supertypes_have d has =
       let w = has_one (row_at rows d) has in
       all_kept rows after kept (supertypes_in rows d)

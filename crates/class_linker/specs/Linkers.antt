@@ -1,6 +1,6 @@
 -- What a clause sees of the linker, and its answers.
-use Rattle.std.specs.Prelude.{◌≡◌, ℕ, ◌+◌, Bool, true, List, [], ◌∷◌, Option, Some, None, drop, is_some, length, position, unwrap_or, if◌then◌else◌, ◌/◌, ◌%◌}
-use Rattle.std.specs.Option.{option_map, option_or}
+use Rattle.std.specs.Prelude.{◌≡◌, ℕ, ◌+◌, Bool, true, List, [], ◌∷◌, ◌++◌, Option, Some, None, codes, drop, length, position, unwrap_or, if◌then◌else◌, ◌/◌, ◌%◌}
+use Rattle.std.specs.Option.{option_to_list}
 use Rattle.std.specs.Str.{bytes_eq}
 use Rattle.const_pool.specs.BuiltIn.{built_in_names}
 use Rattle.const_pool.specs.References.{NameAndType}
@@ -8,6 +8,7 @@ use Rattle.jvm_model.specs.declared.program.Program.{Program}
 use Rattle.jvm_model.specs.Kinds.{KindParts, class_of_base, kind_named}
 use Rattle.jvm_model.specs.Load as load
 use Rattle.jvm_model.specs.Lookup as lookup
+use Rattle.jvm_model.specs.Programs.{class_named}
 use Rattle.class_linker.specs.declared.answers.Loaded.{Loaded}
 use Rattle.class_linker.specs.declared.answers.Loaded.TheVariants.{New, Already, Throws as Stopped, NoMemory}
 use Rattle.class_linker.specs.declared.answers.Resolved.{Resolved}
@@ -70,3 +71,11 @@ parts_of kind = record { dimensions = kind / 16777216; base = kind % 16777216 }
 -- the class of a kind, or of an array's element, is loaded
 abbrev pub IsKnown : LinkerView → ℕ → Type 0
 IsKnown l kind = (class : ℕ) → class_of_base l.program (kind % 16777216) ≡ Some class → IsLoaded l class
+
+-- ---- where a method is sought
+
+abbrev pub interface_order : Program → ℕ → List ℕ
+interface_order p class = class ∷ (lookup.superinterfaces p class ++ option_to_list (class_named p (codes "java/lang/Object")))
+
+abbrev pub class_order : Program → ℕ → List ℕ
+class_order p class = lookup.superclasses p class ++ lookup.superinterfaces p class

@@ -5,13 +5,16 @@
 mod access;
 mod answers;
 mod index;
+mod kinds;
 mod loading;
 mod meaning;
 mod members;
 mod names;
 mod order;
 mod package;
+mod resolving;
 mod rows;
+mod walks;
 
 pub use answers::{Loaded, Resolved};
 pub use index::Index;

@@ -3,6 +3,7 @@
 ghost use Rattle.std.specs.Prelude.{◌≡◌, ◌++◌, [], flat_map, length, map, OnOk, IfOk};
 ghost use Rattle.std.specs.Option.{option_copied, option_map_or};
 ghost use Rattle.jvm_model.specs.Layouts.{field_kind, held_by, own_kinds};
+ghost use Rattle.jvm_model.specs.Load.{is_among};
 ghost use Rattle.jvm_model.specs.Lookup.{superclass_of};
 ghost use Rattle.jvm_model.specs.Programs.{class_at};
 ghost use Rattle.class_linker.specs.Orders.{with_classes};
@@ -47,7 +48,7 @@ pub fn has_row(rows: &[Option<Row>], class: u32) -> bool
 
 // ---- parts, which are empty where there is no row
 
-fn superclasses_in(rows: &[Option<Row>], class: u32) -> &[u32]
+pub fn superclasses_in(rows: &[Option<Row>], class: u32) -> &[u32]
     ensures { result.now ≡ superclasses_in rows.now class }
 {
     match row_at(rows, class) {
@@ -56,7 +57,7 @@ fn superclasses_in(rows: &[Option<Row>], class: u32) -> &[u32]
     }
 }
 
-fn superinterfaces_in(rows: &[Option<Row>], class: u32) -> &[u32]
+pub fn superinterfaces_in(rows: &[Option<Row>], class: u32) -> &[u32]
     ensures { result.now ≡ superinterfaces_in rows.now class }
 {
     match row_at(rows, class) {
@@ -65,7 +66,7 @@ fn superinterfaces_in(rows: &[Option<Row>], class: u32) -> &[u32]
     }
 }
 
-fn supertypes_in(rows: &[Option<Row>], class: u32) -> &[u32]
+pub fn supertypes_in(rows: &[Option<Row>], class: u32) -> &[u32]
     ensures { result.now ≡ supertypes_in rows.now class }
 {
     match row_at(rows, class) {
@@ -74,12 +75,22 @@ fn supertypes_in(rows: &[Option<Row>], class: u32) -> &[u32]
     }
 }
 
-fn layout_in(rows: &[Option<Row>], class: u32) -> &[Kind]
+pub fn layout_in(rows: &[Option<Row>], class: u32) -> &[Kind]
     ensures { result.now ≡ layout_in rows.now class }
 {
     match row_at(rows, class) {
         Some(row) => row.layout.as_slice(),
         None => &[],
+    }
+}
+
+/// Whether a class is among the supertypes of a class that was loaded.
+pub fn has_supertype(rows: &[Option<Row>], lower: u32, upper: u32) -> bool
+    ensures { result ≡ is_among upper (supertypes_in rows.now lower) }
+{
+    match row_at(rows, lower) {
+        Some(row) => row.supertypes.has(upper),
+        None => false,
     }
 }
 

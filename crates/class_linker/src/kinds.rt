@@ -1,0 +1,98 @@
+//! Kinds of classes and arrays.
+
+ghost use Rattle.std.specs.Prelude.{◌≡◌, ◌<◌, ◌≤◌, ℕ, Some, length, true};
+ghost use Rattle.jvm_model.specs.Kinds.{base_of_class, class_of_base, is_above_arrays};
+ghost use Rattle.jvm_model.specs.Kinds.{is_subbase, is_subkind, user_count};
+ghost use Rattle.class_linker.specs.Linkers.{parts_of};
+ghost use Rattle.class_linker.specs.Rows.{AreRows, has_row};
+
+use crate::index::Index;
+use crate::rows::Row;
+use crate::walks::is_subtype;
+
+/// How many built-in classes there are.
+const BUILT_IN: usize = 53;
+
+/// One dimension in a kind.
+pub const DIMENSION: u32 = 16_777_216;
+
+/// How many classes stand before the built-in ones.
+fn user_count(index: &Index) -> u32
+    ensures count { result ≡ user_count index.now }
+    ensures most { result ≤ 4096 }
+{
+    index.program().classes.len().saturating_sub(BUILT_IN) as u32
+}
+
+/// The base of a class in kinds.
+pub fn base_of_class(index: &Index, class: u32) -> u32
+    requires { class < length index.now.classes }
+    ensures base { result ≡ base_of_class index.now class }
+    ensures most { result < 16777216 }
+{
+    let users = user_count(index);
+    if class < users {
+        256 + class
+    } else {
+        16 + (class - users)
+    }
+}
+
+/// The position of the class of a base.
+fn class_of_base(index: &Index, base: u32) -> Option<u32>
+    requires { base < 16777216 }
+    ensures { result ≡ class_of_base index.now base }
+{
+    if base < 16 {
+        return None;
+    }
+    if base < 256 {
+        Some(user_count(index) + (base - 16))
+    } else {
+        Some(base - 256)
+    }
+}
+
+/// Whether every array is of this class.
+fn is_above_arrays(base: u32) -> bool
+    ensures { result ≡ is_above_arrays base }
+{
+    base == 16 || base == 17 || base == 18
+}
+
+/// Whether elements of one kind are of another.
+fn is_subbase(index: &Index, rows: &[Option<Row>], lower: u32, upper: u32) -> bool
+    requires rows { AreRows index.now rows.now }
+    requires has { (class : ℕ) → class_of_base index.now lower ≡ Some class
+        → has_row rows.now class ≡ true }
+    requires lower { lower < 16777216 }
+    requires upper { upper < 16777216 }
+    ensures { result ≡ is_subbase index.now lower upper }
+{
+    match class_of_base(index, lower) {
+        Some(a) => match class_of_base(index, upper) {
+            Some(b) => is_subtype(index, rows, a, b),
+            None => false,
+        },
+        None => match class_of_base(index, upper) {
+            Some(_) => false,
+            None => lower == upper,
+        },
+    }
+}
+
+/// Whether what has one kind also has another.
+pub fn is_subkind(index: &Index, rows: &[Option<Row>], lower: u32, upper: u32) -> bool
+    requires rows { AreRows index.now rows.now }
+    requires has { (class : ℕ) → class_of_base index.now (parts_of lower).base ≡ Some class
+        → has_row rows.now class ≡ true }
+    ensures { result ≡ is_subkind index.now (parts_of lower) (parts_of upper) }
+{
+    let deep = lower / DIMENSION;
+    let flat = upper / DIMENSION;
+    if deep == flat {
+        is_subbase(index, rows, lower % DIMENSION, upper % DIMENSION)
+    } else {
+        flat < deep && is_above_arrays(upper % DIMENSION)
+    }
+}
