@@ -82,3 +82,6 @@ more xs [] at = ap (first_in at) (sym (append-nil xs))
 more xs (y ∷ ys) at =
     more (with_class xs y) ys at
     ∙ (both (with_class xs y) (xs ++ y ∷ []) ys ys (one_more xs y) (same ys) at ∙ ap (first_in at) (append_assoc xs (y ∷ []) ys))
+
+pub first_in_both : (at : ℕ → Option ℕ) (xs ys : List ℕ) → first_in at (xs ++ ys) ≡ option_or (first_in at xs) (first_in at ys)
+first_in_both at xs ys = first_in-append at xs ys

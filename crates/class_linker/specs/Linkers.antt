@@ -74,8 +74,11 @@ IsKnown l kind = (class : ℕ) → class_of_base l.program (kind % 16777216) ≡
 
 -- ---- where a method is sought
 
+abbrev pub inherited_order : Program → ℕ → List ℕ
+inherited_order p class = lookup.superinterfaces p class ++ option_to_list (class_named p (codes "java/lang/Object"))
+
 abbrev pub interface_order : Program → ℕ → List ℕ
-interface_order p class = class ∷ (lookup.superinterfaces p class ++ option_to_list (class_named p (codes "java/lang/Object")))
+interface_order p class = class ∷ inherited_order p class
 
 abbrev pub class_order : Program → ℕ → List ℕ
 class_order p class = lookup.superclasses p class ++ lookup.superinterfaces p class

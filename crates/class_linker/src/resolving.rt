@@ -4,11 +4,11 @@ ghost use Rattle.std.specs.Prelude.{◌≡◌, true, codes};
 ghost use Rattle.std.specs.Option.{option_map, option_to_list};
 ghost use Rattle.jvm_model.specs.Lookup.{field_at, first_in, method_at, method_order};
 ghost use Rattle.jvm_model.specs.Lookup.{incompatible_change, resolved_field, resolved_method};
-ghost use Rattle.jvm_model.specs.Lookup.{supertypes};
+ghost use Rattle.jvm_model.specs.Lookup.{superclasses, superinterfaces, supertypes};
 ghost use Rattle.jvm_model.specs.Programs.{class_named};
 ghost use Rattle.jvm_model.specs.SharedState.{no_such_field, no_such_method};
-ghost use Rattle.class_linker.specs.Linkers.{class_order, error_number, interface_order, place_view};
-ghost use Rattle.class_linker.specs.Linkers.{resolved_of};
+ghost use Rattle.class_linker.specs.Linkers.{class_order, error_number, inherited_order, interface_order};
+ghost use Rattle.class_linker.specs.Linkers.{place_view, resolved_of};
 ghost use Rattle.class_linker.specs.Members.{wanted_view};
 ghost use Rattle.class_linker.specs.Rows.{AreRows, has_row};
 
@@ -96,6 +96,57 @@ fn object_method(index: &Index, wanted: &Wanted<'_>) -> Option<(u32, u16)>
     Some((class, position))
 }
 
+/// The method of a class or its superclasses.
+fn superclass_method(
+    index: &Index,
+    rows: &[Option<Row>],
+    class: u32,
+    wanted: &Wanted<'_>,
+) -> Option<(u32, u16)>
+    requires rows { AreRows index.now rows.now }
+    requires has { has_row rows.now class ≡ true }
+    ensures { option_map place_view result
+        ≡ first_in (method_at index.now (wanted_view wanted.now)) (superclasses index.now class) }
+{
+    first_method(index, wanted, superclasses_of(index, rows, class))
+}
+
+/// The method of a class's superinterfaces.
+fn superinterface_method(
+    index: &Index,
+    rows: &[Option<Row>],
+    class: u32,
+    wanted: &Wanted<'_>,
+) -> Option<(u32, u16)>
+    requires rows { AreRows index.now rows.now }
+    requires has { has_row rows.now class ≡ true }
+    ensures { option_map place_view result
+        ≡ first_in (method_at index.now (wanted_view wanted.now))
+            (superinterfaces index.now class) }
+{
+    first_method(index, wanted, superinterfaces_of(index, rows, class))
+}
+
+/// The method of an interface's superinterfaces, or of java/lang/Object.
+#[tactic(auto, using(crate::proofs::OrderLemmas::first_in_both))]
+fn inherited_method(
+    index: &Index,
+    rows: &[Option<Row>],
+    class: u32,
+    wanted: &Wanted<'_>,
+) -> Option<(u32, u16)>
+    requires rows { AreRows index.now rows.now }
+    requires has { has_row rows.now class ≡ true }
+    ensures { option_map place_view result
+        ≡ first_in (method_at index.now (wanted_view wanted.now))
+            (inherited_order index.now class) }
+{
+    match superinterface_method(index, rows, class, wanted) {
+        Some(found) => Some(found),
+        None => object_method(index, wanted),
+    }
+}
+
 /// The method of an interface, of its superinterfaces, or of java/lang/Object.
 fn sought_above_interface(
     index: &Index,
@@ -108,16 +159,14 @@ fn sought_above_interface(
     ensures { option_map place_view result
         ≡ first_in (method_at index.now (wanted_view wanted.now)) (interface_order index.now class) }
 {
-    if let Some(position) = method_at(index, wanted, class) {
-        return Some((class, position));
-    }
-    match first_method(index, wanted, superinterfaces_of(index, rows, class)) {
-        Some(found) => Some(found),
-        None => object_method(index, wanted),
+    match method_at(index, wanted, class) {
+        Some(position) => Some((class, position)),
+        None => inherited_method(index, rows, class, wanted),
     }
 }
 
 /// The method of a class, of its superclasses, or of its superinterfaces.
+#[tactic(auto, using(crate::proofs::OrderLemmas::first_in_both))]
 fn sought_above_class(
     index: &Index,
     rows: &[Option<Row>],
@@ -129,9 +178,9 @@ fn sought_above_class(
     ensures { option_map place_view result
         ≡ first_in (method_at index.now (wanted_view wanted.now)) (class_order index.now class) }
 {
-    match first_method(index, wanted, superclasses_of(index, rows, class)) {
+    match superclass_method(index, rows, class, wanted) {
         Some(found) => Some(found),
-        None => first_method(index, wanted, superinterfaces_of(index, rows, class)),
+        None => superinterface_method(index, rows, class, wanted),
     }
 }
 
