@@ -6,3 +6,4 @@ mod LoadLemmas
 mod LoadWalks
 mod LoadLoop
 mod Walked
+mod Begun

@@ -49,9 +49,12 @@ abbrev pub loaded_as : ℕ → List ℕ → Loaded
 loaded_as kind [] = Already kind
 loaded_as kind (class ∷ more) = New kind (class ∷ more)
 
+abbrev pub stopped_by : load.Fault → List ℕ → Loaded
+stopped_by fault classes = Stopped (error_number (load.error_of fault)) classes (absent_name fault)
+
 abbrev pub answer_by : Option load.Fault → ℕ → List ℕ → Loaded
 answer_by None kind classes = loaded_as kind classes
-answer_by (Some fault) kind classes = Stopped (error_number (load.error_of fault)) classes (absent_name fault)
+answer_by (Some fault) kind classes = stopped_by fault classes
 
 -- the kind that the name stands for, or the error, and the classes that were loaded behind those before
 abbrev pub answer_of : Program → List ℕ → List ℕ → load.Loading → Loaded
@@ -60,8 +63,18 @@ answer_of p before name l = answer_by l.fault (unwrap_or (kind_named p name) 0) 
 abbrev pub load_answer : LinkerView → List ℕ → Loaded
 load_answer l name = answer_of l.program l.loaded name (load.load_of l.program l.loaded name)
 
-abbrev pub loaded_after : LinkerView → List ℕ → LinkerView
-loaded_after l name = record { program = l.program; loaded = (load.load_of l.program l.loaded name).loaded }
+abbrev pub loaded_in : load.Loading → List ℕ
+loaded_in l = l.loaded
+
+-- want of memory changes nothing
+abbrev pub loaded_by : Loaded → List ℕ → LinkerView → LinkerView
+loaded_by NoMemory name l = l
+loaded_by _ name l = record { program = l.program; loaded = loaded_in (load.load_of l.program l.loaded name) }
+
+-- an answer, unless memory ran out
+abbrev pub IsAnswer : Loaded → Loaded → Type 0
+IsAnswer NoMemory due = Unit {0}
+IsAnswer given due = given ≡ due
 
 -- ---- kinds
 
@@ -82,3 +95,7 @@ interface_order p class = class ∷ inherited_order p class
 
 abbrev pub class_order : Program → ℕ → List ℕ
 class_order p class = lookup.superclasses p class ++ lookup.superinterfaces p class
+
+-- no classes are loaded yet
+abbrev pub linker_of : Program → LinkerView
+linker_of p = record { program = p; loaded = [] }

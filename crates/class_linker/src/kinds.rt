@@ -1,12 +1,16 @@
 //! Kinds of classes and arrays.
 
-ghost use Rattle.std.specs.Prelude.{◌≡◌, ◌<◌, ◌≤◌, ℕ, Some, length, true};
-ghost use Rattle.jvm_model.specs.Kinds.{base_of_class, class_of_base, is_above_arrays};
+ghost use Rattle.std.specs.Prelude.{◌≡◌, ◌<◌, ◌≤◌, ℕ, IfSome, Some, length, true};
+ghost use Rattle.std.specs.Prelude.{◌*◌, ◌+◌, unwrap_or};
+ghost use Rattle.jvm_model.specs.Kinds.{base_of_class, base_of_element};
+ghost use Rattle.jvm_model.specs.Kinds.{class_of_base, is_above_arrays, kind_named};
 ghost use Rattle.jvm_model.specs.Kinds.{is_subbase, is_subkind, user_count};
 ghost use Rattle.class_linker.specs.Linkers.{parts_of};
+ghost use Rattle.class_linker.specs.Meanings.{element_view};
 ghost use Rattle.class_linker.specs.Rows.{AreRows, has_row};
 
 use crate::index::Index;
+use crate::meaning::{Element, meaning_of};
 use crate::rows::Row;
 use crate::walks::is_subtype;
 
@@ -50,6 +54,39 @@ fn class_of_base(index: &Index, base: u32) -> Option<u32>
         Some(user_count(index) + (base - 16))
     } else {
         Some(base - 256)
+    }
+}
+
+/// The base of what is no array.
+fn base_of_element(index: &Index, element: Element<'_>) -> Option<u32>
+    ensures base { result ≡ base_of_element index.now (element_view element.entry) }
+    ensures most { IfSome result (λ base. base < 16777216) }
+{
+    match element {
+        Element::Primitive(code) => Some(u32::from(code)),
+        Element::Named(name) => {
+            let class = index.class_named(name)?;
+            Some(base_of_class(index, class))
+        }
+    }
+}
+
+/// The number of a kind.
+fn kind_number(dimensions: u8, base: u32) -> u32
+    requires { base < 16777216 }
+    ensures { result ≡ dimensions * 16777216 + base }
+{
+    u32::from(dimensions) * DIMENSION + base
+}
+
+/// The kind that a name stands for; 0 where it stands for none.
+pub fn kind_named(index: &Index, name: &[u16]) -> u32
+    ensures { result ≡ unwrap_or (kind_named index.now name.now) 0 }
+{
+    let meaning = meaning_of(name);
+    match base_of_element(index, meaning.element) {
+        Some(base) => kind_number(meaning.dimensions, base),
+        None => 0,
     }
 }
 

@@ -6,6 +6,7 @@ mod access;
 mod answers;
 mod index;
 mod kinds;
+mod linker;
 mod loading;
 mod meaning;
 mod members;
@@ -14,7 +15,8 @@ mod order;
 mod package;
 mod resolving;
 mod rows;
+mod telling;
 mod walks;
 
 pub use answers::{Loaded, Resolved};
-pub use index::Index;
+pub use linker::Linker;

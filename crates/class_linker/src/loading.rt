@@ -2,7 +2,8 @@
 
 ghost use Rattle.std.specs.Prelude.{◌≡◌, ◌<◌, ◌++◌, ◌∷◌, [], ℕ, false, true, length, map};
 ghost use Rattle.std.specs.Prelude.{IfOk, None, OnOk};
-ghost use Rattle.jvm_model.specs.Load.{Loading, NoClass, is_among, is_met, load_named, needs_of};
+ghost use Rattle.jvm_model.specs.Load.{Loading, NoClass, is_among, is_met, load_named, load_of};
+ghost use Rattle.jvm_model.specs.Load.{needs_of};
 ghost use Rattle.jvm_model.specs.Lookup.{interfaces_of, superclass_of};
 ghost use Rattle.class_linker.specs.Rows.{AreKept, AreRows, all_rows, has_row, row_made};
 ghost use Rattle.class_linker.specs.States.{IfFresh, IsLater, IsState, loading_view};
@@ -248,4 +249,22 @@ fn load_named(
     path.truncate(before);
     finish(alloc, index, state, class)?;
     Ok(None)
+}
+
+/// Loads what a name stands for.
+pub fn load_all(
+    alloc: Global,
+    index: &Index,
+    state: &mut State,
+    name: &[u16],
+) -> Result<Option<Fault>, NoMemory>
+    requires { IsState index.now state.old }
+    ensures state { IsState index.now state.new }
+    ensures later { IsLater state.old state.new }
+    ensures loading { IfOk result (λ fault. loading_view state.new.loaded fault
+        ≡ load_of index.now state.old.loaded name.now) }
+{
+    let mut path = Order::new(alloc);
+    let depth = index.program().classes.len() as u32 + 1;
+    load_named(alloc, index, state, &mut path, depth, name)
 }

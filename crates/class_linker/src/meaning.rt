@@ -9,7 +9,7 @@ ghost use Rattle.class_linker.specs.Meanings.{array_behind, element_view, meanin
 /// What is no array, or an array's element: a code of newarray, or the name of a class.
 #[derive(Clone, Copy)]
 pub enum Element<'a> {
-    Primitive(u32),
+    Primitive(u8),
     Named(&'a [u16]),
 }
 
@@ -28,7 +28,7 @@ const CLASS: u16 = 76;
 const SEMICOLON: u16 = 59;
 
 /// The code of newarray for the letter of a descriptor.
-fn primitive_code(unit: u16) -> Option<u32>
+fn primitive_code(unit: u16) -> Option<u8>
     ensures { result ≡ primitive_code unit }
 {
     match unit {
