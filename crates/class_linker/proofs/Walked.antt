@@ -1,6 +1,7 @@
 -- The rows of loaded classes give the walks of the definitions.
 use Rattle.std.proofs.Common.{◌≡◌, ℕ, ◌≤◌, Bool, true, false, List, [], ◌∷◌, ◌++◌, length, ap, sym, subst, refl, ◌∙◌}
 use Rattle.std.specs.Prelude.{Option, Some, None, is_some, ◌==◌, ◌||◌, if◌then◌else◌}
+use Rattle.std.specs.List.{list_any}
 use Rattle.std.specs.Option.{option_map_or}
 use Rattle.std.proofs.lemmas.List.Sums.{count_by-le-length}
 use Rattle.const_pool.specs.declared.descriptor.Kind.{Kind}
@@ -41,19 +42,21 @@ module _ (p : Program) (rows : Rows) (are : AreRows p rows) where
 
 -- ---- a class among those that are searched
 
-among_is : (c : ℕ) (xs : List ℕ) → is_among c xs ≡ is_some (first_in (λ k. if c == k then Some 0 else None) xs)
-among_is c [] = refl
-among_is c (x ∷ xs) = by (c == x) (among_is c xs)
+any_is : (test : ℕ → Bool) (xs : List ℕ) → list_any test xs ≡ is_some (first_in (λ k. if test k then Some 0 else None) xs)
+any_is test [] = refl
+any_is test (x ∷ xs) = by (test x) (any_is test xs)
   where
-    by : (b : Bool) → is_among c xs ≡ is_some (first_in (λ k. if c == k then Some 0 else None) xs)
-        → (b || is_among c xs)
-        ≡ is_some (option_map_or (λ position. Some (place_in x position)) (if b then Some 0 else None) (first_in (λ k. if c == k then Some 0 else None) xs))
+    by : (b : Bool) → list_any test xs ≡ is_some (first_in (λ k. if test k then Some 0 else None) xs)
+        → (b || list_any test xs)
+        ≡ is_some (option_map_or (λ position. Some (place_in x position)) (if b then Some 0 else None) (first_in (λ k. if test k then Some 0 else None) xs))
     by true rest = refl
     by false rest = rest
 
+pub searched_any : (test : ℕ → Bool) (xs ys : List ℕ) → IsSearchedAs xs ys → list_any test xs ≡ list_any test ys
+searched_any test xs ys same = any_is test xs ∙ (ap is_some (same (λ k. if test k then Some 0 else None)) ∙ sym (any_is test ys))
+
 pub searched_among : (c : ℕ) (xs ys : List ℕ) → IsSearchedAs xs ys → is_among c xs ≡ is_among c ys
-searched_among c xs ys same =
-    among_is c xs ∙ (ap is_some (same (λ k. if c == k then Some 0 else None)) ∙ sym (among_is c ys))
+searched_among c xs ys same = searched_any (λ other. c == other) xs ys same
 
 pub subtype_walked : (p : Program) (rows : Rows) → AreRows p rows → (lower upper : ℕ) → has_row rows lower ≡ true
     → is_among upper (supertypes_in rows lower) ≡ is_subtype p lower upper

@@ -6,3 +6,4 @@ pub mod Rows
 pub mod States
 pub mod Linkers
 pub mod Members
+pub mod Places

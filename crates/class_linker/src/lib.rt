@@ -12,9 +12,12 @@ mod meaning;
 mod members;
 mod names;
 mod order;
+mod overriding;
 mod package;
+mod place;
 mod resolving;
 mod rows;
+mod selecting;
 mod telling;
 mod walks;
 

@@ -1,13 +1,15 @@
 //! The linker.
 
 ghost use Rattle.std.specs.Prelude.{◌≡◌, None, replicate, IfOk};
+ghost use Rattle.std.specs.Option.{option_map};
 ghost use Rattle.const_pool.specs.References.{name_type_of};
 ghost use Rattle.jvm_model.specs.Kinds.{is_subkind};
 ghost use Rattle.jvm_model.specs.Layouts.{layout};
-ghost use Rattle.jvm_model.specs.Lookup.{resolved_field, resolved_method};
+ghost use Rattle.jvm_model.specs.Lookup.{place_in, resolved_field, resolved_method};
+ghost use Rattle.jvm_model.specs.Selection.{selected};
 ghost use Rattle.class_linker.specs.Indices.{IsLinkable};
 ghost use Rattle.class_linker.specs.Linkers.{IsAnswer, IsKnown, IsLoaded, linker_of, load_answer};
-ghost use Rattle.class_linker.specs.Linkers.{loaded_by, parts_of, resolved_of};
+ghost use Rattle.class_linker.specs.Linkers.{loaded_by, parts_of, place_view, resolved_of};
 
 use crate::answers::{Loaded, Resolved};
 use crate::index::Index;
@@ -15,8 +17,10 @@ use crate::kinds::is_subkind;
 use crate::loading::State;
 use crate::members::Wanted;
 use crate::order::Order;
+use crate::place::Place;
 use crate::resolving::{resolved_field, resolved_method};
 use crate::rows::Row;
+use crate::selecting::selected;
 use crate::telling::answer;
 use crate::walks::layout_of;
 use const_pool::Kind;
@@ -137,6 +141,27 @@ impl Linker {
         let wanted = Wanted { name, descriptor };
         let rows = self.state.rows.as_slice();
         resolved_method(&self.index, rows, class, interface, &wanted)
+    }
+
+    /// The method that an object of the receiver's class has for a method of a class: by class and position. With `interface` it is
+    /// the nearest instance method of the same name and descriptor, as invokeinterface takes it, and invokespecial from the direct
+    /// superclass; else the nearest one that is the method or overrides it, as invokevirtual takes it. None where there is none or
+    /// it is abstract.
+    pub fn select(
+        &self,
+        receiver: u32,
+        class: u32,
+        position: u16,
+        interface: bool,
+    ) -> Option<(u32, u16)>
+        requires { IsLoaded self.now receiver }
+        ensures { option_map place_view result
+            ≡ selected self.now.program receiver interface (place_in class position) }
+    {
+        let rows = self.state.rows.as_slice();
+        let m = Place { class, position };
+        let found = selected(&self.index, rows, receiver, interface, m)?;
+        Some((found.class, found.position))
     }
 
     /// The kinds of the instance fields of the class's objects, those of its superclass first.
