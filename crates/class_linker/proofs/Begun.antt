@@ -1,6 +1,6 @@
 -- Before any class was loaded.
 use Rattle.std.proofs.Common.{◌≡◌, ℕ, zero, suc, Bool, true, false, List, [], ◌∷◌, length, ap, sym, subst, refl, ◌∙◌}
-use Rattle.std.specs.Prelude.{Some, None, Option, replicate}
+use Rattle.std.specs.Prelude.{Some, None, Option, is_some, replicate}
 use Rattle.std.proofs.lemmas.List.{length-replicate}
 use Rattle.jvm_model.specs.Load.{is_among}
 use Rattle.jvm_model.specs.declared.program.Program.{Program}
@@ -25,6 +25,7 @@ begun p rows n loaded is many nothing = record {
     rows = record {
       places = ap length is ∙ (length-replicate n None ∙ many);
       each = λ class bound r found most. absurd (none_some r (sym (none_at n class) ∙ (ap (λ rs. row_at rs class) (sym is) ∙ found)));
+      ends = λ class bound has most. absurd (false_true (sym (ap is_some (ap (λ rs. row_at rs class) is ∙ none_at n class)) ∙ has));
       closed = λ class r found. absurd (none_some r (sym (none_at n class) ∙ (ap (λ rs. row_at rs class) (sym is) ∙ found)));
     };
     loaded = λ class among. absurd (false_true (ap (is_among class) (sym nothing) ∙ among));

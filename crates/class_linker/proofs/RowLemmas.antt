@@ -300,10 +300,42 @@ module _ (p : Program) (rows : Rows) (class : ℕ) (are : AreRows p rows) (witho
       apart : (c == class) ≡ false → c ≢ class
       apart h e = grind (arith)
 
+  -- the walk from the class ends within one step more
+  walk_ends : (n : ℕ) → row_count rows ≤ n → supertypes_within p (suc n) class ≡ supertypes_within p (suc (row_count rows)) class
+  walk_ends n most =
+      let the_end : (d : ℕ) → has_row rows d ≡ true → supertypes_within p n d ≡ supertypes_within p (row_count rows) d = λ d has. are.ends d n has most in
+      ap₂ (λ a b. class ∷ (a ++ b))
+          (each_equal (has_row rows) (supertypes_within p n) (supertypes_within p (row_count rows)) the_end (interfaces_of p class) interfaces)
+          (each_equal (has_row rows) (supertypes_within p n) (supertypes_within p (row_count rows)) the_end (superclass_of p class) above)
+
+  own_end : (bound : ℕ) → row_count rows + 1 ≤ bound → supertypes_within p bound class ≡ supertypes_within p (row_count rows + 1) class
+  own_end zero most = absurd (omega arith)
+  own_end (suc n) most = walk_ends n (omega arith) ∙ ap (λ k. supertypes_within p k class) one_more
+    where
+      one_more : suc (row_count rows) ≡ row_count rows + 1
+      one_more = omega arith
+
+  ends_after : (b : Bool) (c bound : ℕ) → (c == class) ≡ b → has_row after c ≡ true → row_count rows + 1 ≤ bound
+      → supertypes_within p bound c ≡ supertypes_within p (row_count rows + 1) c
+  ends_after true c bound is has most =
+      subst (λ k. supertypes_within p bound k ≡ supertypes_within p (row_count rows + 1) k) (sym (equal c class is)) (own_end bound most)
+  ends_after false c bound is has most =
+      let before : has_row rows c ≡ true = ap is_some (sym (row_at-set_other rows class c (Some (row_made p rows class)) (apart is))) ∙ has in
+      are.ends c bound before (omega arith) ∙ sym (are.ends c (row_count rows + 1) before (omega arith))
+    where
+      apart : (c == class) ≡ false → c ≢ class
+      apart h e = grind (arith)
+
+  counted : row_count after ≡ row_count rows + 1
+  counted = row_count-set rows class (row_made p rows class) none within
+
   pub added : AreRows p after
   added = record {
       places = length-set rows class (Some (row_made p rows class)) ∙ are.places;
       each = λ c bound r found most. each_after (c == class) c bound r refl found (omega (arith, row_count-set rows class (row_made p rows class) none within));
+      ends = λ c bound has most.
+          subst (λ n. supertypes_within p bound c ≡ supertypes_within p n c) (sym counted)
+              (ends_after (c == class) c bound refl has (subst (λ n. n ≤ bound) counted most));
       closed = λ c r found. closed_after (c == class) c r refl found;
     }
 

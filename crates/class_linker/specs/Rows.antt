@@ -96,6 +96,8 @@ pub record IsClosed (rows : Rows) (r : Row) : Type 0 where
 pub record AreRows (p : Program) (rows : Rows) : Type 0 where
   pub places : length rows ≡ length p.classes
   pub each : (class bound : ℕ) (r : Row) → row_at rows class ≡ Some r → row_count rows ≤ bound → IsRow p bound class r
+  pub ends : (class bound : ℕ) → has_row rows class ≡ true → row_count rows ≤ bound
+      → supertypes_within p bound class ≡ supertypes_within p (row_count rows) class
   pub closed : (class : ℕ) (r : Row) → row_at rows class ≡ Some r → IsClosed rows r
 
 -- what has a row keeps one

@@ -70,11 +70,11 @@ stands_below p m1 m2 =
 abbrev pub is_reached : Program → ℕ → MemberPlace → Bool
 is_reached p class m = not (is_private p m) && (is_open p m || same_package p class m.class)
 
--- A method overrides another below which it stands and which its class reaches, or one that is overridden by a method that it
--- overrides.
+-- A method overrides another below which it stands: where its class reaches that one, or where it overrides a third method that
+-- overrides that one.
 pub data Overrides (p : Program) : MemberPlace → MemberPlace → Type 0 where
   directly : (m1 m2 : MemberPlace) → IsTrue (stands_below p m1 m2) → IsTrue (is_reached p m1.class m2) → Overrides p m1 m2
-  through : (m1 m2 m3 : MemberPlace) → Overrides p m1 m3 → Overrides p m3 m2 → Overrides p m1 m2
+  through : (m1 m2 m3 : MemberPlace) → IsTrue (stands_below p m1 m2) → Overrides p m1 m3 → Overrides p m3 m2 → Overrides p m1 m2
 
 -- The same as a test: where the class does not reach the second method itself, a method between the two passes it on, which is
 -- open to every class and of the second one's package.
