@@ -7,3 +7,4 @@ mod LoadWalks
 mod LoadLoop
 mod Walked
 mod Begun
+mod Subtypes

@@ -15,7 +15,7 @@ use Rattle.class_linker.specs.Rows.{AreKept, AreRows, Rows, all_rows, has_row, l
 use Rattle.class_linker.proofs.RowLemmas.{has_one, layout_is, superclasses_are, superclasses_have, superinterfaces_are, supertypes_are, supertypes_have}
 
 module _ (p : Program) (rows : Rows) (are : AreRows p rows) where
-  bound : row_count rows ≤ length p.classes
+  pub bound : row_count rows ≤ length p.classes
   bound = subst (λ n. row_count rows ≤ n) are.places (count_by-le-length is_some rows)
 
   nothing_lost : AreKept rows rows
