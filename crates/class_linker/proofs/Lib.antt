@@ -8,3 +8,5 @@ mod LoadLoop
 mod Walked
 mod Begun
 mod Subtypes
+mod OverridingLaws
+mod OverridingTest
