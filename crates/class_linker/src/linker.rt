@@ -1,12 +1,12 @@
 //! The linker.
 
-ghost use Rattle.std.specs.Prelude.{◌≡◌, None, replicate, IfOk};
+ghost use Rattle.std.specs.Prelude.{◌≡◌, ◌↔◌, None, replicate, IfOk, IsTrue};
 ghost use Rattle.std.specs.Option.{option_map};
 ghost use Rattle.const_pool.specs.References.{name_type_of};
 ghost use Rattle.jvm_model.specs.Kinds.{is_subkind};
 ghost use Rattle.jvm_model.specs.Layouts.{layout};
 ghost use Rattle.jvm_model.specs.Lookup.{place_in, resolved_field, resolved_method};
-ghost use Rattle.jvm_model.specs.Selection.{selected};
+ghost use Rattle.jvm_model.specs.Selection.{Overrides, overrides, selected};
 ghost use Rattle.class_linker.specs.Indices.{IsLinkable};
 ghost use Rattle.class_linker.specs.Linkers.{IsAnswer, IsKnown, IsLoaded, linker_of, load_answer};
 ghost use Rattle.class_linker.specs.Linkers.{loaded_by, parts_of, place_view, resolved_of};
@@ -17,6 +17,7 @@ use crate::kinds::is_subkind;
 use crate::loading::State;
 use crate::members::Wanted;
 use crate::order::Order;
+use crate::overriding::overrides;
 use crate::place::Place;
 use crate::resolving::{resolved_field, resolved_method};
 use crate::rows::Row;
@@ -162,6 +163,22 @@ impl Linker {
         let m = Place { class, position };
         let found = selected(&self.index, rows, receiver, interface, m)?;
         Some((found.class, found.position))
+    }
+
+    /// Whether a method of a loaded class overrides another (5.4.5); methods are named by class and position.
+    pub fn overrides(&self, class: u32, position: u16, above: u32, above_position: u16) -> bool
+        requires { IsLoaded self.now class }
+        ensures test { result ≡ overrides self.now.program (place_in class position)
+            (place_in above above_position) }
+        ensures relation { IsTrue result ↔ Overrides self.now.program (place_in class position)
+            (place_in above above_position) }
+    {
+        let m1 = Place { class, position };
+        let m2 = Place {
+            class: above,
+            position: above_position,
+        };
+        overrides(&self.index, self.state.rows.as_slice(), m1, m2)
     }
 
     /// The kinds of the instance fields of the class's objects, those of its superclass first.

@@ -1,11 +1,11 @@
 //! Which methods override which (JVM Specification 5.4.5).
 
-ghost use Rattle.std.specs.Prelude.{◌≡◌, [], true, unwrap_or};
+ghost use Rattle.std.specs.Prelude.{◌≡◌, ◌↔◌, [], true, unwrap_or, IsTrue};
 ghost use Rattle.std.specs.List.{list_any};
 ghost use Rattle.std.specs.Option.{option_map, option_map_or};
 ghost use Rattle.jvm_model.specs.Lookup.{method_at, place_in, supertypes};
 ghost use Rattle.jvm_model.specs.Programs.{name_at};
-ghost use Rattle.jvm_model.specs.Selection.{access_of, is_abstract, is_open, is_private};
+ghost use Rattle.jvm_model.specs.Selection.{Overrides, access_of, is_abstract, is_open, is_private};
 ghost use Rattle.jvm_model.specs.Selection.{is_reached, is_static, overrides, passed_at};
 ghost use Rattle.jvm_model.specs.Selection.{passes_on, same_package, signature_of, stands_below};
 ghost use Rattle.class_linker.specs.Members.{is_declared_as, wanted_view};
@@ -190,12 +190,22 @@ fn is_passed(index: &Index, rows: &[Option<Row>], m1: Place, m2: Place) -> bool
     passed_among(index, rows, m1, m2, supertypes_of(index, rows, m1.class))
 }
 
-/// Whether the first method overrides the second.
-pub fn overrides(index: &Index, rows: &[Option<Row>], m1: Place, m2: Place) -> bool
+/// Whether the first method stands below the second, which its class reaches or another method passes on.
+fn passes_test(index: &Index, rows: &[Option<Row>], m1: Place, m2: Place) -> bool
     requires rows { AreRows index.now rows.now }
     requires first { has_row rows.now m1.class ≡ true }
     ensures { result ≡ overrides index.now (at_place m1) (at_place m2) }
 {
     stands_below(index, rows, m1, m2)
         && (is_reached(index, m1.class, m2) || is_passed(index, rows, m1, m2))
+}
+
+/// Whether the first method overrides the second.
+pub fn overrides(index: &Index, rows: &[Option<Row>], m1: Place, m2: Place) -> bool
+    requires rows { AreRows index.now rows.now }
+    requires first { has_row rows.now m1.class ≡ true }
+    ensures test { result ≡ overrides index.now (at_place m1) (at_place m2) }
+    ensures relation { IsTrue result ↔ Overrides index.now (at_place m1) (at_place m2) }
+{
+    passes_test(index, rows, m1, m2)
 }
