@@ -1,6 +1,6 @@
 -- The table of names gives what walking the classes gives.
 use Rattle.std.proofs.Common.{◌≡◌, ℕ, ◌+◌, Bool, true, false, List, [], ◌∷◌, ◌++◌, ap, sym, refl, ◌∙◌}
-use Rattle.std.specs.Prelude.{Option, Some, None, is_some, position, filter_map, if◌then◌else◌}
+use Rattle.std.specs.Prelude.{Option, Some, None, is_some, filter_map, if◌then◌else◌}
 use Rattle.std.specs.List.{cons_option, position_from}
 use Rattle.std.specs.Map.{lookup}
 use Rattle.std.specs.Option.{option_and_then, option_map_or, option_or}

@@ -1,5 +1,5 @@
 -- What loading needs and leaves.
-use Rattle.std.proofs.Common.{◌≡◌, ℕ, zero, suc, ◌+◌, ◌<◌, Bool, true, false, List, [], ◌∷◌, ◌++◌, length, map, ap, ap₂, sym, subst, refl, ◌∙◌, arith}
+use Rattle.std.proofs.Common.{◌≡◌, ℕ, Bool, true, false, List, [], ◌∷◌, ◌++◌, length, map, ap, ap₂, sym, refl, ◌∙◌, arith}
 use Rattle.std.specs.Prelude.{Option, Some, None, filter_map, flat_map, take, ◌==◌, ◌||◌}
 use Rattle.std.proofs.Math.Seq.{take-append_seam, take-length}
 use Rattle.std.specs.List.{cons_option}
@@ -7,11 +7,10 @@ use Rattle.std.specs.Option.{option_to_list}
 use Rattle.const_pool.specs.declared.class.ClassFile.{ClassFile}
 use Rattle.const_pool.specs.References.{named_class}
 use Rattle.jvm_model.specs.Load as load
-use Rattle.jvm_model.specs.Lookup.{interface_names}
 use Rattle.jvm_model.specs.declared.program.Program.{Program}
 use Rattle.class_linker.specs.declared.loading.State.{State}
 use Rattle.class_linker.specs.Rows.{AreKept, AreRows, Rows, has_row}
-use Rattle.class_linker.specs.States.{HaveRows, IsLater, IsState, needs_at, needs_in}
+use Rattle.class_linker.specs.States.{IsLater, IsState, needs_at, needs_in}
 use Rattle.class_linker.proofs.OrderLemmas.{equal}
 
 each_need : (f : ℕ → Option (List ℕ)) (xs : List ℕ)
@@ -60,16 +59,16 @@ among-front class xs ys is = among-append class xs ys ∙ ap (λ b. b || load.is
 module _ (p : Program) (s : State) (rows : Rows) (is : IsState p s) (are : AreRows p rows) (kept : AreKept s.rows rows) where
   pub state_same : (loaded : List ℕ) → loaded ≡ s.loaded → IsState p (record { rows = rows; loaded = loaded })
   state_same loaded same = record {
-      rows = are;
-      loaded = λ c among. kept c (is.loaded c (ap (load.is_among c) (sym same) ∙ among));
-    }
+    rows = are;
+    loaded = λ c among. kept c (is.loaded c (ap (load.is_among c) (sym same) ∙ among));
+  }
 
   pub state_more : (class : ℕ) (loaded : List ℕ) → loaded ≡ s.loaded ++ class ∷ [] → has_row rows class ≡ true
       → IsState p (record { rows = rows; loaded = loaded })
   state_more class loaded more has = record {
-      rows = are;
-      loaded = λ c among. by c (load.is_among c s.loaded) (c == class) refl refl (sym (among-append c s.loaded (class ∷ [])) ∙ (ap (load.is_among c) (sym more) ∙ among));
-    }
+    rows = are;
+    loaded = λ c among. by c (load.is_among c s.loaded) (c == class) refl refl (sym (among-append c s.loaded (class ∷ [])) ∙ (ap (load.is_among c) (sym more) ∙ among));
+  }
     where
       by : (c : ℕ) (before last : Bool) → load.is_among c s.loaded ≡ before → (c == class) ≡ last
           → (load.is_among c s.loaded || ((c == class) || false)) ≡ true → has_row rows c ≡ true

@@ -1,7 +1,6 @@
 -- The loop over the needs of a class: where it stops, and what it has done at its end.
-use Rattle.std.proofs.Common.{◌≡◌, ℕ, suc, ◌-◌, ◌<◌, ◌≤◌, Bool, true, false, List, [], ◌∷◌, ◌++◌, length, map, drop, get_or, ap, sym, subst, ◌∙◌}
+use Rattle.std.proofs.Common.{◌≡◌, ℕ, suc, ◌-◌, ◌<◌, ◌≤◌, true, false, List, [], ◌∷◌, ◌++◌, length, map, drop, get_or, ap, sym, subst, ◌∙◌}
 use Rattle.std.specs.Prelude.{Option, Some, None}
-use Rattle.std.specs.List.{list_all}
 use Rattle.std.proofs.Math.ListN.{drop_of_length-le}
 use Rattle.std.proofs.Math.Seq.{drop-cons}
 use Rattle.jvm_model.specs.Load.{Incompatible, Loading, behind_needs, done, failed, is_among, is_met, load_named, load_needs, needs_of}
@@ -18,10 +17,10 @@ use Rattle.class_linker.proofs.LoadWalks.{all_have, fresh_of, interfaces_pass, n
 
 module _ (p : Program) (depth : ℕ) (path : List ℕ) (class : ℕ) (before now : List ℕ) (items : List Need) (i : ℕ)
     (walked : load_needs p (load_named p (depth - 1) (path ++ class ∷ [])) (map need_view (drop i items)) now
-        ≡ load_needs p (load_named p (depth - 1) (path ++ class ∷ [])) (needs_of p class) before) where
+    ≡ load_needs p (load_named p (depth - 1) (path ++ class ∷ [])) (needs_of p class) before) where
   -- the need in hand, and those behind it
   from_here : (d : Need) → i < length items → load_needs p (load_named p (depth - 1) (path ++ class ∷ []))
-          (need_view (get_or items i d) ∷ map need_view (drop (suc i) items)) now
+      (need_view (get_or items i d) ∷ map need_view (drop (suc i) items)) now
       ≡ load_needs p (load_named p (depth - 1) (path ++ class ∷ [])) (needs_of p class) before
   from_here d within = ap (λ ns. load_needs p (load_named p (depth - 1) (path ++ class ∷ [])) (map need_view ns) now) (sym (drop-cons items i d within)) ∙ walked
 
@@ -37,7 +36,7 @@ module _ (p : Program) (depth : ℕ) (path : List ℕ) (class : ℕ) (before now
       → loading_view after (Some fault) ≡ fresh_of p depth path before class
   stopped_at d within taken after result fault same e is =
       ap (behind_needs class) (sym (stops_at p (load_named p (depth - 1) (path ++ class ∷ [])) (need_view (get_or items i d)) (map need_view (drop (suc i) items)) now after
-          (fault_view fault) (gave taken (get_or items i d).name.now after result (Some fault) same e is)) ∙ from_here d within)
+      (fault_view fault) (gave taken (get_or items i d).name.now after result (Some fault) same e is)) ∙ from_here d within)
 
   pub stopped_behind : (d : Need) → i < length items → (taken after : List ℕ) (result : Option code.Fault) → taken ≡ path ++ class ∷ []
       → loading_view after result ≡ load_named p (depth - 1) taken (get_or items i d).name.now now → result ≡ None
@@ -45,7 +44,7 @@ module _ (p : Program) (depth : ℕ) (path : List ℕ) (class : ℕ) (before now
       → failed after Incompatible ≡ fresh_of p depth path before class
   stopped_behind d within taken after result same e is not_met =
       ap (behind_needs class) (sym (stops_behind p (load_named p (depth - 1) (path ++ class ∷ [])) (need_view (get_or items i d)) (map need_view (drop (suc i) items)) now after
-          (gave taken (get_or items i d).name.now after result None same e is) not_met) ∙ from_here d within)
+      (gave taken (get_or items i d).name.now after result None same e is) not_met) ∙ from_here d within)
 
   -- ---- at the end
 
@@ -61,12 +60,12 @@ module _ (p : Program) (depth : ℕ) (path : List ℕ) (class : ℕ) (before now
   pub interfaces_have : length items ≤ i → (rows : Rows) → HaveRows rows now → all_rows rows (interfaces_of p class) ≡ true
   interfaces_have past rows have =
       all_have (λ c. is_among c now) (has_row rows) have (interfaces_of p class)
-          (interfaces_pass p (λ c. is_among c now) class (needs_done p (depth - 1) (path ++ class ∷ []) now (needs_of p class) before (all_done past)))
+      (interfaces_pass p (λ c. is_among c now) class (needs_done p (depth - 1) (path ++ class ∷ []) now (needs_of p class) before (all_done past)))
 
   pub superclass_has : length items ≤ i → (rows : Rows) → HaveRows rows now → all_rows rows (superclass_of p class) ≡ true
   superclass_has past rows have =
       all_have (λ c. is_among c now) (has_row rows) have (superclass_of p class)
-          (superclass_passes p (λ c. is_among c now) class (needs_done p (depth - 1) (path ++ class ∷ []) now (needs_of p class) before (all_done past)))
+      (superclass_passes p (λ c. is_among c now) class (needs_done p (depth - 1) (path ++ class ∷ []) now (needs_of p class) before (all_done past)))
 
   pub is_loaded : length items ≤ i → (after : List ℕ) → after ≡ now ++ class ∷ [] → done after ≡ fresh_of p depth path before class
   is_loaded past after is = ap done is ∙ ap (behind_needs class) (sym (all_done past))

@@ -1,6 +1,6 @@
 -- What loading leaves as it is, and what is loaded when it has no fault.
-use Rattle.std.proofs.Common.{◌≡◌, ◌≢◌, ℕ, zero, suc, ◌+◌, ◌-◌, ◌<◌, Bool, true, false, List, [], ◌∷◌, ◌++◌, length, map, ap, ap₂, sym, subst, refl, ◌∙◌, arith}
-use Rattle.std.specs.Prelude.{Option, Some, None, filter_map, flat_map, not, unwrap_or, ◌==◌, ◌||◌, ◌&&◌, if◌then◌else◌}
+use Rattle.std.proofs.Common.{◌≡◌, ◌≢◌, ℕ, zero, suc, ◌-◌, Bool, true, false, List, [], ◌∷◌, ◌++◌, map, ap, ap₂, sym, refl, ◌∙◌, arith}
+use Rattle.std.specs.Prelude.{Option, Some, None, filter_map, not, unwrap_or, ◌==◌, ◌||◌, ◌&&◌, if◌then◌else◌}
 use Rattle.std.specs.Bool.{beq}
 use Rattle.std.specs.List.{cons_option, list_all}
 use Rattle.std.specs.Option.{option_and_then, option_map_or, option_to_list}
@@ -11,11 +11,10 @@ use Rattle.jvm_model.specs.Load.{Fault, Circular, Incompatible, Loading, Need, T
 use Rattle.jvm_model.specs.Lookup.{interface_names, interfaces_of, is_interface, superclass_of}
 use Rattle.jvm_model.specs.Programs.{class_at, class_named}
 use Rattle.jvm_model.specs.declared.program.Program.{Program}
-use Rattle.class_linker.specs.Rows.{Rows, all_rows, has_row}
 use Rattle.class_linker.specs.declared.loading.Fault as code
 use Rattle.class_linker.specs.declared.loading.Standing.{Standing}
 use Rattle.class_linker.specs.declared.loading.Standing.TheVariants.{Ended, Fresh}
-use Rattle.class_linker.specs.States.{HaveRows, class_loading, loading_view, named_loading, standing_loading}
+use Rattle.class_linker.specs.States.{loading_view, named_loading, standing_loading}
 use Rattle.class_linker.proofs.LoadLemmas.{among-append, among-front, among-last}
 use Rattle.class_linker.proofs.OrderLemmas.{equal}
 
@@ -36,7 +35,7 @@ module _ (p : Program) (P : List ℕ → Type 0) (first : List ℕ)
   needs_kept load k [] loaded h = h
   needs_kept load k (n ∷ rest) loaded h =
       unless_kept (load n.name loaded).fault (load n.name loaded).loaded (λ after. unless (need_fault p n) after (load_needs p load rest)) (k n.name loaded h)
-          (λ l g. unless_kept (need_fault p n) l (load_needs p load rest) g (needs_kept load k rest))
+      (λ l g. unless_kept (need_fault p n) l (load_needs p load rest) g (needs_kept load k rest))
 
   behind_kept : (class : ℕ) (l : Loading) → is_among class first ≡ false → P l.loaded → P (behind_needs class l).loaded
   behind_kept class l other h = unless_kept l.fault l.loaded (λ loaded. done (loaded ++ class ∷ [])) h (λ loaded g. one_more loaded class other g)
@@ -77,9 +76,9 @@ module _ (p : Program) (P : List ℕ → Type 0) (first : List ℕ)
       let within : ℕ → List ℕ → List ℕ → Loading = λ class. load_named p n (path ++ class ∷ []) in
       let fresh : ℕ → Loading = λ class. behind_needs class (load_needs p (within class) (needs_of p class) loaded) in
       element_kept loaded (λ class_name. by_standing (standing_of path loaded (class_named p class_name)) class_name loaded fresh) (meaning_of name).element h
-          (λ class_name. class_kept path class_name loaded fresh (class_named p class_name) h
-              (λ class out. behind_kept class (load_needs p (within class) (needs_of p class) loaded) (begins class out)
-                  (needs_kept (within class) (named_kept n (path ++ class ∷ []) (longer path class begins)) (needs_of p class) loaded h)))
+      (λ class_name. class_kept path class_name loaded fresh (class_named p class_name) h
+      (λ class out. behind_kept class (load_needs p (within class) (needs_of p class) loaded) (begins class out)
+      (needs_kept (within class) (named_kept n (path ++ class ∷ []) (longer path class begins)) (needs_of p class) loaded h)))
 
 -- ---- what is loaded stays, and what is being loaded is not loaded
 
@@ -115,7 +114,7 @@ module _ (p : Program) (c : ℕ) where
       → is_among c (load_needs p (load_named p depth path) needs loaded).loaded ≡ false
   not_loaded depth path needs loaded has h =
       needs_kept p (λ l. is_among c l ≡ false) (c ∷ []) not_more (load_named p depth path)
-          (named_kept p (λ l. is_among c l ≡ false) (c ∷ []) not_more depth path (on_path path has)) needs loaded h
+      (named_kept p (λ l. is_among c l ≡ false) (c ∷ []) not_more depth path (on_path path has)) needs loaded h
 
 -- ---- a name that is looked up
 
@@ -184,6 +183,7 @@ module _ (p : Program) (class : ℕ) (after : List ℕ) where
     where
       fresh : ℕ → Loading
       fresh class = behind_needs class (load_needs p (load_named p depth (path ++ class ∷ [])) (needs_of p class) loaded)
+
       by : (a b : Bool) → is_among class loaded ≡ a
           → by_standing (if a then There else if b then Begun else Unloaded class) name loaded (λ class. behind_needs class (load_needs p (load_named p depth (path ++ class ∷ [])) (needs_of p class) loaded)) ≡ done after
           → is_among class after ≡ true
@@ -198,9 +198,8 @@ module _ (p : Program) (class : ℕ) (after : List ℕ) where
       let fresh : ℕ → Loading = λ class. behind_needs class (load_needs p (load_named p n (path ++ class ∷ [])) (needs_of p class) loaded) in
       let by_name : List ℕ → Loading = λ class_name. by_standing (standing_of path loaded (class_named p class_name)) class_name loaded fresh in
       class_done n path name loaded
-          (sym (ap (λ o. by_standing (standing_of path loaded o) name loaded fresh) is)
-          ∙ (sym (ap (λ (b : Bool). load_element (if b then unwrap_or (array_from 0 name) (array_of 0 (Named name)) else array_of 0 (Named name)).element loaded by_name) plain) ∙ e))
-
+      (sym (ap (λ o. by_standing (standing_of path loaded o) name loaded fresh) is)
+      ∙ (sym (ap (λ (b : Bool). load_element (if b then unwrap_or (array_from 0 name) (array_of 0 (Named name)) else array_of 0 (Named name)).element loaded by_name) plain) ∙ e))
 
 -- ---- the classes of needs
 
@@ -224,12 +223,13 @@ module _ (p : Program) (depth : ℕ) (path after : List ℕ) where
       plain : (b : Bool) → not b ≡ true → b ≡ false
       plain false h = refl
       plain true h = absurd (false_true h)
+
       by : (o : Option ℕ) → class_named p n.name ≡ o → option_map_or (λ class. beq (is_interface p class) n.interface) o false ≡ true
           → option_map_or (λ c. is_among c after) o false ≡ true
       by None is h = absurd (false_true h)
       by (Some class) is h =
           let there = named_done p class now depth path n.name loaded
-                  (plain (is_array_name n.name) (first_of_and (not (is_array_name n.name)) _ met)) is one in
+          (plain (is_array_name n.name) (first_of_and (not (is_array_name n.name)) _ met)) is one in
           ap (is_among class) (sym (ap (λ (l : Loading). l.loaded) others)) ∙ needs_stay p class depth path rest now there
 
   pub needs_done : (needs : List Need) (loaded : List ℕ) → load_needs p (load_named p depth path) needs loaded ≡ done after
@@ -240,6 +240,7 @@ module _ (p : Program) (depth : ℕ) (path after : List ℕ) where
     where
       now : List ℕ
       now = (load_named p depth path n.name loaded).loaded
+
       by_met : (b : Bool) → is_met p n ≡ b → load_named p depth path n.name loaded ≡ done (load_named p depth path n.name loaded).loaded
           → unless (if b then None else Some Incompatible) (load_named p depth path n.name loaded).loaded (load_needs p (load_named p depth path) rest) ≡ done after
           → (load_needs p (load_named p depth path) rest (load_named p depth path n.name loaded).loaded ≡ done after → list_all (passes p (λ c. is_among c after)) rest ≡ true)
@@ -247,6 +248,7 @@ module _ (p : Program) (depth : ℕ) (path after : List ℕ) where
       by_met true met one h others =
           ap₂ (λ a b. a && b) (met_done n rest loaded (load_named p depth path n.name loaded).loaded one h met) (others h)
       by_met false met one h others = absurd (failed_done (load_named p depth path n.name loaded).loaded after Incompatible h)
+
       by_fault : (o : Option Fault) → (load_named p depth path n.name loaded).fault ≡ o
           → unless o (load_named p depth path n.name loaded).loaded (λ l. unless (need_fault p n) l (load_needs p (load_named p depth path) rest)) ≡ done after
           → (load_needs p (load_named p depth path) rest (load_named p depth path n.name loaded).loaded ≡ done after → list_all (passes p (λ c. is_among c after)) rest ≡ true)
@@ -263,7 +265,7 @@ module _ (p : Program) (test : ℕ → Bool) where
   names_pass b [] h = refl
   names_pass b (name ∷ names) h =
       by (class_named p name) (first_of_and (passes p test (need b name)) (list_all (passes p test) (map (need b) names)) h)
-          (names_pass b names (second_of_and (passes p test (need b name)) (list_all (passes p test) (map (need b) names)) h))
+      (names_pass b names (second_of_and (passes p test (need b name)) (list_all (passes p test) (map (need b) names)) h))
     where
       by : (o : Option ℕ) → option_map_or test o false ≡ true → list_all test (filter_map (class_named p) names) ≡ true
           → list_all test (cons_option o (filter_map (class_named p) names)) ≡ true
@@ -290,9 +292,10 @@ module _ (p : Program) (test : ℕ → Bool) where
       × (list_all test (option_to_list (option_and_then (class_named p) (option_and_then (λ (c : ClassFile). named_class c.pool c.super_class) o))) ≡ true)
   directs None h = (refl, refl)
   directs (Some c) h =
-      let parts = split (map (need false) (option_to_list (named_class c.pool c.super_class))) (map (need true) (interface_names c)) h in
-      (names_pass true (interface_names c) parts.1,
-       ap (list_all test) (sym (one_name (named_class c.pool c.super_class))) ∙ names_pass false (option_to_list (named_class c.pool c.super_class)) parts.0)
+      let parts = split (map (need false) (option_to_list (named_class c.pool c.super_class))) (map (need true) (interface_names c)) h in (
+        names_pass true (interface_names c) parts.1,
+        ap (list_all test) (sym (one_name (named_class c.pool c.super_class))) ∙ names_pass false (option_to_list (named_class c.pool c.super_class)) parts.0,
+      )
 
   pub interfaces_pass : (class : ℕ) → list_all (passes p test) (needs_of p class) ≡ true → list_all test (interfaces_of p class) ≡ true
   interfaces_pass class h = (directs (class_at p class) h).0

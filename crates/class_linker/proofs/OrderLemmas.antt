@@ -1,7 +1,6 @@
 -- Each class once is searched as all of them are.
-use Rattle.std.proofs.Common.{◌≡◌, ℕ, Bool, true, false, List, [], ◌∷◌, ◌++◌, ap, sym, subst, refl, ◌∙◌, arith}
-use Rattle.std.specs.Prelude.{Option, Some, None, IsTrue, flat_map, ◌==◌, ◌||◌, if◌then◌else◌}
-use Rattle.std.specs.List.{list_all, list_any}
+use Rattle.std.proofs.Common.{◌≡◌, ℕ, Bool, true, false, List, [], ◌∷◌, ◌++◌, ap, sym, refl, ◌∙◌, arith}
+use Rattle.std.specs.Prelude.{Option, Some, None, ◌==◌, ◌||◌, if◌then◌else◌}
 use Rattle.std.specs.Option.{option_map_or, option_or}
 use Rattle.std.proofs.lemmas.List.{append_assoc, append-nil}
 use Rattle.jvm_model.specs.Load.{is_among}
@@ -50,6 +49,7 @@ module _ (at : ℕ → Option ℕ) where
           ≡ option_map_or (λ position. Some (place_in x position)) o (first_in at xs)
       behind None h rest = rest refl
       behind (Some n) h rest = refl
+
       by : (b : Bool) → (c == x) ≡ b → (b || is_among c xs) ≡ true → (is_among c xs ≡ true → first_in at (xs ++ c ∷ []) ≡ first_in at xs)
           → first_in at (x ∷ xs ++ c ∷ []) ≡ first_in at (x ∷ xs)
       by true same t rest = behind (at x) refl (λ none. past xs c (ap at (equal c x same) ∙ none))

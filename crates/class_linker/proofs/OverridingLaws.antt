@@ -1,9 +1,7 @@
 -- The test of overriding is the relation, among loaded classes.
-use Rattle.std.proofs.Common.{◌≡◌, ℕ, zero, suc, ◌+◌, Bool, true, false, List, [], ◌∷◌, ap, ap₂, sym, subst, refl, ◌∙◌, arith, inl, inr}
-use Rattle.std.specs.Prelude.{Option, Some, None, not, slice_get, unwrap_or, ◌⊎◌, ◌==◌, ◌||◌, ◌&&◌, if◌then◌else◌}
-use Rattle.std.specs.List.{list_any}
+use Rattle.std.proofs.Common.{◌≡◌, ℕ, suc, ◌+◌, Bool, true, false, List, [], ◌∷◌, ap, ap₂, sym, refl, ◌∙◌, arith, inl, inr}
+use Rattle.std.specs.Prelude.{Option, Some, None, not, slice_get, ◌⊎◌, ◌==◌, ◌||◌, ◌&&◌, if◌then◌else◌}
 use Rattle.std.specs.Option.{option_and_then, option_map, option_map_or}
-use Rattle.std.specs.Str.{bytes_eq}
 use Rattle.std.proofs.lemmas.Slice.Eq.{bytes_eq-Decides}
 use Rattle.const_pool.specs.declared.class.ClassFile.{ClassFile}
 use Rattle.const_pool.specs.declared.class.Member.{Member}
@@ -11,15 +9,12 @@ use Rattle.const_pool.specs.declared.pool.Const.{Const}
 use Rattle.const_pool.specs.References.{NameAndType, named_text}
 use Rattle.jvm_model.specs.declared.program.Program.{Program}
 use Rattle.jvm_model.specs.Descriptors.{same_text}
-use Rattle.jvm_model.specs.Load.{is_among}
-use Rattle.jvm_model.specs.Lookup.{MemberPlace, is_subtype, method_at, place_in, supertypes}
+use Rattle.jvm_model.specs.Lookup.{MemberPlace, is_subtype, method_at, place_in}
 use Rattle.jvm_model.specs.Methods.{is_member, method_from, same_text_at}
 use Rattle.jvm_model.specs.Programs.{class_at}
-use Rattle.jvm_model.specs.Selection.{Overrides, directly, through, is_open, is_private, is_reached, overrides, package_at, passed_at, passes_on, same_package, signature_of, stands_below, texts_of}
+use Rattle.jvm_model.specs.Selection.{signature_of, stands_below, texts_of}
 use Rattle.class_linker.specs.Members.{is_declared_as}
-use Rattle.class_linker.specs.Rows.{AreRows, Rows, has_row}
 use Rattle.class_linker.proofs.OrderLemmas.{equal}
-use Rattle.class_linker.proofs.Subtypes.{above_has, apart, goes_on}
 
 false_true : false ≡ true → ⊥
 false_true e = cc
@@ -56,7 +51,7 @@ texts_are : (c : ClassFile) (w : NameAndType) (m : Member) → is_member c.pool 
 texts_are c w m h =
     let parts = both (same_text_at c.pool m.name w.name) (same_text_at c.pool m.descriptor w.descriptor) h in
     ap₂ (λ n d. option_and_then (λ name. option_map (λ descriptor. record { name = name; descriptor = descriptor }) d) n)
-        (text_is c.pool m.name w.name parts.0) (text_is c.pool m.descriptor w.descriptor parts.1)
+    (text_is c.pool m.name w.name parts.0) (text_is c.pool m.descriptor w.descriptor parts.1)
 
 -- a method at a place counted from a number
 pub record IsFound (pool : List Const) (w : NameAndType) (n k : ℕ) (ms : List Member) : Type 0 where
@@ -74,12 +69,12 @@ some_some a b e = cc
 
 one_behind : (pool : List Const) (w : NameAndType) (n k : ℕ) (m : Member) (ms : List Member) → IsFound pool w (n + 1) k ms → IsFound pool w n k (m ∷ ms)
 one_behind pool w n k m ms f = record {
-    behind = suc f.behind;
-    counted = counted;
-    method = f.method;
-    there = f.there;
-    named = f.named;
-  }
+  behind = suc f.behind;
+  counted = counted;
+  method = f.method;
+  there = f.there;
+  named = f.named;
+}
   where
     counted : k ≡ n + suc f.behind
     counted = omega (arith, f.counted)
@@ -107,6 +102,7 @@ signature_found p w class k h = by (class_at p class) refl h
         let e : k ≡ f.behind = omega (arith, f.counted) in
         ap (λ i. option_and_then (texts_of c) (slice_get c.methods i)) e
         ∙ (ap (option_and_then (texts_of c)) f.there ∙ texts_are c w f.method f.named)
+
     by : (o : Option ClassFile) → class_at p class ≡ o → option_and_then (λ (c : ClassFile). method_from c.pool w 0 c.methods) o ≡ Some k
         → signature_of p (place_in class k) ≡ Some w
     by None is e = absurd (none_some k e)
@@ -127,6 +123,7 @@ declared p m1 m2 h = by (signature_of p m2) refl h
         → method_at p w m1.class ≡ Some m1.position
     at w None is k = absurd (false_true k)
     at w (Some n) is k = is ∙ ap Some (equal n m1.position k)
+
     by : (o : Option NameAndType) → signature_of p m2 ≡ o
         → option_map_or (λ w. option_map_or (λ at. at == m1.position) (method_at p w m1.class) false) o false ≡ true → IsDeclared p m1 m2
     by None is k = absurd (false_true k)

@@ -1,6 +1,6 @@
 -- The test of overriding is the relation, among loaded classes.
-use Rattle.std.proofs.Common.{◌≡◌, ℕ, Bool, true, false, List, [], ◌∷◌, ap, sym, subst, refl, ◌∙◌, arith, inl, inr}
-use Rattle.std.specs.Prelude.{Option, Some, None, not, ◌⊎◌, ◌↔◌, ◌==◌, ◌||◌, ◌&&◌, IsTrue}
+use Rattle.std.proofs.Common.{◌≡◌, ℕ, Bool, true, false, List, [], ◌∷◌, ap, sym, refl, ◌∙◌, arith, inl, inr}
+use Rattle.std.specs.Prelude.{Option, Some, None, not, ◌⊎◌, ◌==◌, ◌||◌, ◌&&◌}
 use Rattle.std.specs.List.{list_any}
 use Rattle.std.specs.Option.{option_map_or}
 use Rattle.std.proofs.lemmas.Slice.Eq.{bytes_eq-Decides}
@@ -12,7 +12,7 @@ use Rattle.jvm_model.specs.Selection.{Overrides, directly, through, is_open, is_
 use Rattle.class_linker.specs.Members.{is_declared_as}
 use Rattle.class_linker.specs.Rows.{AreRows, Rows, has_row}
 use Rattle.class_linker.proofs.OrderLemmas.{equal}
-use Rattle.class_linker.proofs.OverridingLaws.{IsBelow, IsDeclared, below, both, declared, either, joined, not_true, or_true, same_signature}
+use Rattle.class_linker.proofs.OverridingLaws.{IsBelow, below, both, declared, either, joined, not_true, or_true, same_signature}
 use Rattle.class_linker.proofs.Subtypes.{above_has, apart, goes_on}
 
 false_true : false ≡ true → ⊥
@@ -73,7 +73,7 @@ module _ (p : Program) where
       and_true (not (is_private p m)) (is_open p m || same_package p class m.class) (not_false (is_private p m) own) (ap (λ b. b || same_package p class m.class) free)
   reached class m own (inr near) =
       and_true (not (is_private p m)) (is_open p m || same_package p class m.class) (not_false (is_private p m) own)
-          (ap (λ b. is_open p m || b) near ∙ or_true (is_open p m))
+      (ap (λ b. is_open p m || b) near ∙ or_true (is_open p m))
 
   not_private : (class : ℕ) (m : MemberPlace) → is_reached p class m ≡ true → is_private p m ≡ false
   not_private class m h = not_true (is_private p m) (both (not (is_private p m)) (is_open p m || same_package p class m.class) h).0
@@ -85,7 +85,7 @@ module _ (p : Program) where
   one_package : (a b c : ℕ) → same_package p a b ≡ true → same_package p b c ≡ true → same_package p a c ≡ true
   one_package a b c x y =
       (bytes_eq-Decides (package_at p a) (package_at p c)).1
-          ((bytes_eq-Decides (package_at p a) (package_at p b)).0 x ∙ (bytes_eq-Decides (package_at p b) (package_at p c)).0 y)
+      ((bytes_eq-Decides (package_at p a) (package_at p b)).0 x ∙ (bytes_eq-Decides (package_at p b) (package_at p c)).0 y)
 
   -- ---- a method between the two
 
@@ -112,7 +112,7 @@ module _ (p : Program) where
   if_passes : (m1 m2 : MemberPlace) (i : IsPassed m1 m2) → passes_on p m1 m2 i.m3 ≡ true
   if_passes m1 m2 i =
       all_five (stands_below p m1 i.m3) (stands_below p i.m3 m2) (not (is_private p i.m3)) (is_open p i.m3) (is_reached p i.m3.class m2)
-          (stands m1 i.m3 i.lower) (stands i.m3 m2 i.upper) (not_false (is_private p i.m3) i.own) i.free i.reaches
+      (stands m1 i.m3 i.lower) (stands i.m3 m2 i.upper) (not_false (is_private p i.m3) i.own) i.free i.reaches
 
   passed_if : (m1 m2 : MemberPlace) → list_any (passed_at p m1 m2) (supertypes p m1.class) ≡ true → IsPassed m1 m2
   passed_if m1 m2 h =
@@ -122,6 +122,7 @@ module _ (p : Program) where
       at : (class : ℕ) (o : Option ℕ) → option_map_or (λ at. passes_on p m1 m2 (place_in class at)) o false ≡ true → IsPassed m1 m2
       at class None h = absurd (false_true h)
       at class (Some n) h = passes_if m1 m2 (place_in class n) h
+
       by : (class : ℕ) (o : Option NameAndType)
           → option_map_or (λ wanted. option_map_or (λ at. passes_on p m1 m2 (place_in class at)) (method_at p wanted class) false) o false ≡ true
           → IsPassed m1 m2
@@ -132,8 +133,8 @@ module _ (p : Program) where
   if_passed m1 m2 i =
       let d = declared p i.m3 m2 i.upper.declared in
       any_of (passed_at p m1 m2) (supertypes p m1.class) i.m3.class i.lower.sub
-          (ap (λ o. option_map_or (λ wanted. option_map_or (λ at. passes_on p m1 m2 (place_in i.m3.class at)) (method_at p wanted i.m3.class) false) o false) d.asked
-          ∙ (ap (λ o. option_map_or (λ at. passes_on p m1 m2 (place_in i.m3.class at)) o false) d.found ∙ if_passes m1 m2 i))
+      (ap (λ o. option_map_or (λ wanted. option_map_or (λ at. passes_on p m1 m2 (place_in i.m3.class at)) (method_at p wanted i.m3.class) false) o false) d.asked
+      ∙ (ap (λ o. option_map_or (λ at. passes_on p m1 m2 (place_in i.m3.class at)) o false) d.found ∙ if_passes m1 m2 i))
 
   -- ---- how a method overrides
 
@@ -165,16 +166,16 @@ module _ (p : Program) where
       by (b, inl k) = directly m1 m2 (stands m1 m2 b) k
       by (b, inr i) =
           through m1 m2 i.m3 (stands m1 m2 b) (directly m1 i.m3 (stands m1 i.m3 i.lower) (reached m1.class i.m3 i.own (inl i.free)))
-              (directly i.m3 m2 (stands i.m3 m2 i.upper) i.reaches)
+          (directly i.m3 m2 (stands i.m3 m2 i.upper) i.reaches)
 
   module _ (rows : Rows) (are : AreRows p rows) where
     below_both : (m1 m3 m2 : MemberPlace) → has_row rows m1.class ≡ true → IsBelow p m1 m3 → IsBelow p m3 m2 → IsBelow p m1 m2
     below_both m1 m3 m2 has lower upper = record {
-        other = apart p rows are m1.class m3.class m2.class has lower.sub lower.other upper.sub upper.other;
-        sub = goes_on p rows are m1.class m3.class m2.class has lower.sub upper.sub;
-        declared = ap (λ o. option_map_or (λ wanted. option_map_or (λ at. at == m1.position) (method_at p wanted m1.class) false) o false)
-            (sym (same_signature p m3 m2 upper.declared)) ∙ lower.declared;
-      }
+      other = apart p rows are m1.class m3.class m2.class has lower.sub lower.other upper.sub upper.other;
+      sub = goes_on p rows are m1.class m3.class m2.class has lower.sub upper.sub;
+      declared = ap (λ o. option_map_or (λ wanted. option_map_or (λ at. at == m1.position) (method_at p wanted m1.class) false) o false)
+          (sym (same_signature p m3 m2 upper.declared)) ∙ lower.declared;
+    }
 
     by_third : (m1 m3 m2 : MemberPlace) → IsBelow p m1 m3 → IsBelow p m3 m2 → is_private p m3 ≡ false → is_open p m3 ≡ true
         → is_reached p m3.class m2 ≡ true → IsPassed m1 m2
@@ -193,7 +194,7 @@ module _ (p : Program) where
         by (inl free) = inr (by_third m1 m3 m2 lower upper (not_private i.m3.class m3 i.reaches) free reaches)
         by (inr here) =
             inr (by_third m1 i.m3 m2 i.lower (below_both i.m3 m3 m2 (above_has p rows are m1.class i.m3.class has i.lower.sub) i.upper upper) i.own i.free
-                (reached i.m3.class m2 (not_private m3.class m2 reaches) (inr (one_package i.m3.class m3.class m2.class here same))))
+            (reached i.m3.class m2 (not_private m3.class m2 reaches) (inr (one_package i.m3.class m3.class m2.class here same))))
 
     far : (m1 m3 m2 : MemberPlace) → has_row rows m1.class ≡ true → IsBelow p m1 m3 → (is_reached p m1.class m3 ≡ true) ⊎ IsPassed m1 m3 → IsBelow p m3 m2
         → (is_reached p m3.class m2 ≡ true) ⊎ IsPassed m3 m2 → (is_reached p m1.class m2 ≡ true) ⊎ IsPassed m1 m2

@@ -1,12 +1,11 @@
 -- The row of a class that was made of those of its direct supertypes gives what the walks give.
-use Rattle.std.proofs.Common.{◌≡◌, ◌≢◌, ℕ, zero, suc, ◌+◌, ◌≤◌, ◌<◌, Bool, true, false, List, [], ◌∷◌, ◌++◌, length, ap, ap₂, sym, subst, refl, ◌∙◌, arith, slice_get, slice_set}
-use Rattle.std.specs.Prelude.{Option, Some, None, is_some, count_by, flat_map, ◌==◌, ◌&&◌, if◌then◌else◌}
+use Rattle.std.proofs.Common.{◌≡◌, ◌≢◌, ℕ, zero, suc, ◌+◌, ◌≤◌, ◌<◌, Bool, true, false, List, [], ◌∷◌, ◌++◌, length, ap, ap₂, sym, subst, refl, ◌∙◌, arith, slice_set}
+use Rattle.std.specs.Prelude.{Option, Some, None, is_some, flat_map, ◌==◌, ◌&&◌, if◌then◌else◌}
 use Rattle.std.specs.List.{list_all}
 use Rattle.std.specs.Option.{option_map_or}
 use Rattle.std.proofs.lemmas.List.{append_assoc, append-nil, length-set}
 use Rattle.std.proofs.lemmas.List.Sums.{sum_by-cons}
 use Rattle.jvm_model.specs.declared.program.Program.{Program}
-use Rattle.const_pool.specs.declared.descriptor.Kind.{Kind}
 use Rattle.jvm_model.specs.Layouts.{layout_within, own_kinds}
 use Rattle.jvm_model.specs.Lookup.{interfaces_of, is_interface, superclass_of, superclasses_within, superinterfaces_within, supertypes_within}
 use Rattle.jvm_model.specs.Programs.{class_at}
@@ -27,10 +26,10 @@ supertypes_more rows xs (y ∷ ys) =
     let own = supertypes_in rows y in
     let left = flat_map (supertypes_in rows) ys in
     then_as (with_supertypes rows (with_classes xs own) ys) (with_classes xs own ++ left) (xs ++ (own ++ left))
-        (supertypes_more rows (with_classes xs own) ys)
-        (then_as (with_classes xs own ++ left) ((xs ++ own) ++ left) (xs ++ (own ++ left))
-            (both (with_classes xs own) (xs ++ own) left left (more xs own) (same left))
-            (equal_as ((xs ++ own) ++ left) (xs ++ (own ++ left)) (append_assoc xs own left)))
+    (supertypes_more rows (with_classes xs own) ys)
+    (then_as (with_classes xs own ++ left) ((xs ++ own) ++ left) (xs ++ (own ++ left))
+    (both (with_classes xs own) (xs ++ own) left left (more xs own) (same left))
+    (equal_as ((xs ++ own) ++ left) (xs ++ (own ++ left)) (append_assoc xs own left)))
 
 pub interfaces_more : (rows : Rows) (xs ys : List ℕ)
     → IsSearchedAs (with_interfaces rows xs ys) (xs ++ flat_map (λ i. i ∷ superinterfaces_in rows i) ys)
@@ -39,10 +38,10 @@ interfaces_more rows xs (y ∷ ys) =
     let own : List ℕ = y ∷ superinterfaces_in rows y in
     let left = flat_map (λ i. i ∷ superinterfaces_in rows i) ys in
     then_as (with_interfaces rows (with_classes xs own) ys) (with_classes xs own ++ left) (xs ++ (own ++ left))
-        (interfaces_more rows (with_classes xs own) ys)
-        (then_as (with_classes xs own ++ left) ((xs ++ own) ++ left) (xs ++ (own ++ left))
-            (both (with_classes xs own) (xs ++ own) left left (more xs own) (same left))
-            (equal_as ((xs ++ own) ++ left) (xs ++ (own ++ left)) (append_assoc xs own left)))
+    (interfaces_more rows (with_classes xs own) ys)
+    (then_as (with_classes xs own ++ left) ((xs ++ own) ++ left) (xs ++ (own ++ left))
+    (both (with_classes xs own) (xs ++ own) left left (more xs own) (same left))
+    (equal_as ((xs ++ own) ++ left) (xs ++ (own ++ left)) (append_assoc xs own left)))
 
 -- ---- a list of classes that all pass a test
 
@@ -59,7 +58,7 @@ each_searched : (test : ℕ → Bool) (f g : ℕ → List ℕ) → ((c : ℕ) �
 each_searched test f g h [] all = same []
 each_searched test f g h (x ∷ xs) all =
     both (f x) (g x) (flat_map f xs) (flat_map g xs) (h x (first_of_and (test x) (list_all test xs) all))
-        (each_searched test f g h xs (second_of_and (test x) (list_all test xs) all))
+    (each_searched test f g h xs (second_of_and (test x) (list_all test xs) all))
 
 each_equal : {A : Type 0} (test : ℕ → Bool) (f g : ℕ → List A) → ((c : ℕ) → test c ≡ true → f c ≡ g c)
     → (xs : List ℕ) → list_all test xs ≡ true → flat_map f xs ≡ flat_map g xs
@@ -93,15 +92,15 @@ module _ (p : Program) (rows : Rows) (are : AreRows p rows) (n : ℕ) (most : ro
   superinterfaces_are c h =
       let w = row_of c h in
       then_as (superinterfaces_in rows c) w.0.superinterfaces (superinterfaces_within p n c)
-          (equal_as (superinterfaces_in rows c) w.0.superinterfaces (ap (λ o. option_map_or (λ (r : Row). r.superinterfaces) o []) w.1))
-          w.2.superinterfaces
+      (equal_as (superinterfaces_in rows c) w.0.superinterfaces (ap (λ o. option_map_or (λ (r : Row). r.superinterfaces) o []) w.1))
+      w.2.superinterfaces
 
   pub supertypes_are : (c : ℕ) → has_row rows c ≡ true → IsSearchedAs (supertypes_in rows c) (supertypes_within p n c)
   supertypes_are c h =
       let w = row_of c h in
       then_as (supertypes_in rows c) w.0.supertypes (supertypes_within p n c)
-          (equal_as (supertypes_in rows c) w.0.supertypes (ap (λ o. option_map_or (λ (r : Row). r.supertypes) o []) w.1))
-          w.2.supertypes
+      (equal_as (supertypes_in rows c) w.0.supertypes (ap (λ o. option_map_or (λ (r : Row). r.supertypes) o []) w.1))
+      w.2.supertypes
 
   with_own : (c : ℕ) → has_row rows c ≡ true → IsSearchedAs (c ∷ superinterfaces_in rows c) (c ∷ superinterfaces_within p n c)
   with_own c h = both (c ∷ []) (c ∷ []) (superinterfaces_in rows c) (superinterfaces_within p n c) (same (c ∷ [])) (superinterfaces_are c h)
@@ -111,17 +110,18 @@ module _ (p : Program) (rows : Rows) (are : AreRows p rows) (n : ℕ) (most : ro
   row_is : (class : ℕ) → all_rows rows (interfaces_of p class) ≡ true → all_rows rows (superclass_of p class) ≡ true
       → IsRow p (suc n) class (row_made p rows class)
   row_is class interfaces above = record {
-      superclasses = ap (λ l. class ∷ l) (each_equal (has_row rows) (superclasses_in rows) (superclasses_within p n) superclasses_are (superclass_of p class) above);
-      superinterfaces = superinterfaces_are_made;
-      supertypes = supertypes_are_made;
-      layout = ap (λ l. l ++ option_map_or own_kinds (class_at p class) [])
-          (each_equal (has_row rows) (layout_in rows) (layout_within p n) layout_is (superclass_of p class) above);
-    }
+    superclasses = ap (λ l. class ∷ l) (each_equal (has_row rows) (superclasses_in rows) (superclasses_within p n) superclasses_are (superclass_of p class) above);
+    superinterfaces = superinterfaces_are_made;
+    supertypes = supertypes_are_made;
+    layout = ap (λ l. l ++ option_map_or own_kinds (class_at p class) [])
+        (each_equal (has_row rows) (layout_in rows) (layout_within p n) layout_is (superclass_of p class) above);
+  }
     where
       inherited : (b : Bool) → IsSearchedAs (if b then [] else flat_map (superinterfaces_in rows) (superclass_of p class))
           (if b then [] else flat_map (superinterfaces_within p n) (superclass_of p class))
       inherited true = same []
       inherited false = each_searched (has_row rows) (superinterfaces_in rows) (superinterfaces_within p n) superinterfaces_are (superclass_of p class) above
+
       superinterfaces_are_made : IsSearchedAs (superinterfaces_made p rows class) (superinterfaces_within p (suc n) class)
       superinterfaces_are_made =
           let direct = with_interfaces rows [] (interfaces_of p class) in
@@ -129,11 +129,12 @@ module _ (p : Program) (rows : Rows) (are : AreRows p rows) (n : ℕ) (most : ro
           let walked = flat_map (λ i. i ∷ superinterfaces_within p n i) (interfaces_of p class) in
           let above_walked : List ℕ = if is_interface p class then [] else flat_map (superinterfaces_within p n) (superclass_of p class) in
           then_as (with_classes direct behind) (direct ++ behind) (walked ++ above_walked) (more direct behind)
-              (both direct walked behind above_walked
-                  (then_as direct (flat_map (λ i. i ∷ superinterfaces_in rows i) (interfaces_of p class)) walked
-                      (interfaces_more rows [] (interfaces_of p class))
-                      (each_searched (has_row rows) (λ i. i ∷ superinterfaces_in rows i) (λ i. i ∷ superinterfaces_within p n i) with_own (interfaces_of p class) interfaces))
-                  (inherited (is_interface p class)))
+          (both direct walked behind above_walked
+          (then_as direct (flat_map (λ i. i ∷ superinterfaces_in rows i) (interfaces_of p class)) walked
+          (interfaces_more rows [] (interfaces_of p class))
+          (each_searched (has_row rows) (λ i. i ∷ superinterfaces_in rows i) (λ i. i ∷ superinterfaces_within p n i) with_own (interfaces_of p class) interfaces))
+          (inherited (is_interface p class)))
+
       supertypes_are_made : IsSearchedAs (supertypes_made p rows class) (supertypes_within p (suc n) class)
       supertypes_are_made =
           let direct = with_supertypes rows (class ∷ []) (interfaces_of p class) in
@@ -142,12 +143,12 @@ module _ (p : Program) (rows : Rows) (are : AreRows p rows) (n : ℕ) (most : ro
           let walked = flat_map (supertypes_within p n) (interfaces_of p class) in
           let above_walked = flat_map (supertypes_within p n) (superclass_of p class) in
           then_as (with_supertypes rows direct (superclass_of p class)) (direct ++ behind) (class ∷ (walked ++ above_walked))
-              (supertypes_more rows direct (superclass_of p class))
-              (both direct (class ∷ walked) behind above_walked
-                  (then_as direct (class ∷ own) (class ∷ walked) (supertypes_more rows (class ∷ []) (interfaces_of p class))
-                      (both (class ∷ []) (class ∷ []) own walked (same (class ∷ []))
-                          (each_searched (has_row rows) (supertypes_in rows) (supertypes_within p n) supertypes_are (interfaces_of p class) interfaces)))
-                  (each_searched (has_row rows) (supertypes_in rows) (supertypes_within p n) supertypes_are (superclass_of p class) above))
+          (supertypes_more rows direct (superclass_of p class))
+          (both direct (class ∷ walked) behind above_walked
+          (then_as direct (class ∷ own) (class ∷ walked) (supertypes_more rows (class ∷ []) (interfaces_of p class))
+          (both (class ∷ []) (class ∷ []) own walked (same (class ∷ []))
+          (each_searched (has_row rows) (supertypes_in rows) (supertypes_within p n) supertypes_are (interfaces_of p class) interfaces)))
+          (each_searched (has_row rows) (supertypes_in rows) (supertypes_within p n) supertypes_are (superclass_of p class) above))
 
 -- ---- a row more
 
@@ -201,48 +202,48 @@ all_with_supertypes : (f : ℕ → Bool) (rows : Rows) → ((d : ℕ) → has_ro
 all_with_supertypes f rows g xs [] h k = h
 all_with_supertypes f rows g xs (y ∷ ys) h k =
     all_with_supertypes f rows g (with_classes xs (supertypes_in rows y)) ys
-        (all_with_classes f xs (supertypes_in rows y) h (g y (first_of_and (has_row rows y) (all_rows rows ys) k)))
-        (second_of_and (has_row rows y) (all_rows rows ys) k)
+    (all_with_classes f xs (supertypes_in rows y) h (g y (first_of_and (has_row rows y) (all_rows rows ys) k)))
+    (second_of_and (has_row rows y) (all_rows rows ys) k)
 
 all_flat : (f : ℕ → Bool) (rows : Rows) (g : ℕ → List ℕ) → ((d : ℕ) → has_row rows d ≡ true → list_all f (g d) ≡ true)
     → (xs : List ℕ) → all_rows rows xs ≡ true → list_all f (flat_map g xs) ≡ true
 all_flat f rows g h [] k = refl
 all_flat f rows g h (x ∷ xs) k =
     all_append f (g x) (flat_map g xs) (h x (first_of_and (has_row rows x) (all_rows rows xs) k))
-        (all_flat f rows g h xs (second_of_and (has_row rows x) (all_rows rows xs) k))
+    (all_flat f rows g h xs (second_of_and (has_row rows x) (all_rows rows xs) k))
 
 all_kept : (before after : Rows) → AreKept before after → (xs : List ℕ) → all_rows before xs ≡ true → all_rows after xs ≡ true
 all_kept before after kept [] h = refl
 all_kept before after kept (x ∷ xs) h =
     ap₂ (λ a b. a && b) (kept x (first_of_and (has_row before x) (all_rows before xs) h))
-        (all_kept before after kept xs (second_of_and (has_row before x) (all_rows before xs) h))
+    (all_kept before after kept xs (second_of_and (has_row before x) (all_rows before xs) h))
 
 module _ (p : Program) (rows : Rows) (are : AreRows p rows) (after : Rows) (kept : AreKept rows after) where
   pub superclasses_have : (d : ℕ) → has_row rows d ≡ true → all_rows after (superclasses_in rows d) ≡ true
   superclasses_have d has =
       let w = has_one (row_at rows d) has in
       all_kept rows after kept (superclasses_in rows d)
-          (ap (λ o. all_rows rows (option_map_or (λ (r : Row). r.superclasses) o [])) w.1 ∙ (are.closed d w.0 w.1).superclasses)
+      (ap (λ o. all_rows rows (option_map_or (λ (r : Row). r.superclasses) o [])) w.1 ∙ (are.closed d w.0 w.1).superclasses)
 
   pub supertypes_have : (d : ℕ) → has_row rows d ≡ true → all_rows after (supertypes_in rows d) ≡ true
   supertypes_have d has =
       let w = has_one (row_at rows d) has in
       all_kept rows after kept (supertypes_in rows d)
-          (ap (λ o. all_rows rows (option_map_or (λ (r : Row). r.supertypes) o [])) w.1 ∙ (are.closed d w.0 w.1).supertypes)
+      (ap (λ o. all_rows rows (option_map_or (λ (r : Row). r.supertypes) o [])) w.1 ∙ (are.closed d w.0 w.1).supertypes)
 
   closed_made : (class : ℕ) → has_row after class ≡ true → all_rows rows (interfaces_of p class) ≡ true → all_rows rows (superclass_of p class) ≡ true
       → IsClosed after (row_made p rows class)
   closed_made class has interfaces above = record {
-      superclasses = ap₂ (λ a b. a && b) has (all_flat (has_row after) rows (superclasses_in rows) superclasses_have (superclass_of p class) above);
-      supertypes = all_with_supertypes (has_row after) rows supertypes_have (with_supertypes rows (class ∷ []) (interfaces_of p class)) (superclass_of p class)
-          (all_with_supertypes (has_row after) rows supertypes_have (class ∷ []) (interfaces_of p class) (ap (λ b. b && true) has) interfaces) above;
-    }
+    superclasses = ap₂ (λ a b. a && b) has (all_flat (has_row after) rows (superclasses_in rows) superclasses_have (superclass_of p class) above);
+    supertypes = all_with_supertypes (has_row after) rows supertypes_have (with_supertypes rows (class ∷ []) (interfaces_of p class)) (superclass_of p class)
+        (all_with_supertypes (has_row after) rows supertypes_have (class ∷ []) (interfaces_of p class) (ap (λ b. b && true) has) interfaces) above;
+  }
 
   closed_kept : (r : Row) → IsClosed rows r → IsClosed after r
   closed_kept r is = record {
-      superclasses = all_kept rows after kept r.superclasses is.superclasses;
-      supertypes = all_kept rows after kept r.supertypes is.supertypes;
-    }
+    superclasses = all_kept rows after kept r.superclasses is.superclasses;
+    supertypes = all_kept rows after kept r.supertypes is.supertypes;
+  }
 
 module _ (p : Program) (rows : Rows) (class : ℕ) (are : AreRows p rows) (without : has_row rows class ≡ false) (within : class < length rows)
     (interfaces : all_rows rows (interfaces_of p class) ≡ true) (above : all_rows rows (superclass_of p class) ≡ true) where
@@ -292,10 +293,10 @@ module _ (p : Program) (rows : Rows) (class : ℕ) (are : AreRows p rows) (witho
   closed_after true c r is found =
       let at_own : row_at after class ≡ Some r = ap (row_at after) (sym (equal c class is)) ∙ found in
       subst (IsClosed after) (the_same (row_made p rows class) r (sym (row_at-set_same rows class (row_made p rows class) within) ∙ at_own))
-          (closed_made p rows are after added-kept class added-there interfaces above)
+      (closed_made p rows are after added-kept class added-there interfaces above)
   closed_after false c r is found =
       closed_kept p rows are after added-kept r
-          (are.closed c r (sym (row_at-set_other rows class c (Some (row_made p rows class)) (apart is)) ∙ found))
+      (are.closed c r (sym (row_at-set_other rows class c (Some (row_made p rows class)) (apart is)) ∙ found))
     where
       apart : (c == class) ≡ false → c ≢ class
       apart h e = grind (arith)
@@ -305,8 +306,8 @@ module _ (p : Program) (rows : Rows) (class : ℕ) (are : AreRows p rows) (witho
   walk_ends n most =
       let the_end : (d : ℕ) → has_row rows d ≡ true → supertypes_within p n d ≡ supertypes_within p (row_count rows) d = λ d has. are.ends d n has most in
       ap₂ (λ a b. class ∷ (a ++ b))
-          (each_equal (has_row rows) (supertypes_within p n) (supertypes_within p (row_count rows)) the_end (interfaces_of p class) interfaces)
-          (each_equal (has_row rows) (supertypes_within p n) (supertypes_within p (row_count rows)) the_end (superclass_of p class) above)
+      (each_equal (has_row rows) (supertypes_within p n) (supertypes_within p (row_count rows)) the_end (interfaces_of p class) interfaces)
+      (each_equal (has_row rows) (supertypes_within p n) (supertypes_within p (row_count rows)) the_end (superclass_of p class) above)
 
   own_end : (bound : ℕ) → row_count rows + 1 ≤ bound → supertypes_within p bound class ≡ supertypes_within p (row_count rows + 1) class
   own_end zero most = absurd (omega arith)
@@ -331,13 +332,13 @@ module _ (p : Program) (rows : Rows) (class : ℕ) (are : AreRows p rows) (witho
 
   pub added : AreRows p after
   added = record {
-      places = length-set rows class (Some (row_made p rows class)) ∙ are.places;
-      each = λ c bound r found most. each_after (c == class) c bound r refl found (omega (arith, row_count-set rows class (row_made p rows class) none within));
-      ends = λ c bound has most.
-          subst (λ n. supertypes_within p bound c ≡ supertypes_within p n c) (sym counted)
-              (ends_after (c == class) c bound refl has (subst (λ n. n ≤ bound) counted most));
-      closed = λ c r found. closed_after (c == class) c r refl found;
-    }
+    places = length-set rows class (Some (row_made p rows class)) ∙ are.places;
+    each = λ c bound r found most. each_after (c == class) c bound r refl found (omega (arith, row_count-set rows class (row_made p rows class) none within));
+    ends = λ c bound has most.
+        subst (λ n. supertypes_within p bound c ≡ supertypes_within p n c) (sym counted)
+        (ends_after (c == class) c bound refl has (subst (λ n. n ≤ bound) counted most));
+    closed = λ c r found. closed_after (c == class) c r refl found;
+  }
 
   -- the same, where the row and the rows are told by what they are
 

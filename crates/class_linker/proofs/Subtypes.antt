@@ -1,13 +1,11 @@
 -- Subtypes among loaded classes: they go on upwards, and never in a circle.
-use Rattle.std.proofs.Common.{◌≡◌, ℕ, zero, suc, ◌+◌, ◌<◌, ◌≤◌, Bool, true, false, List, [], ◌∷◌, ◌++◌, length, ap, sym, subst, refl, ◌∙◌, arith, length-append, inl, inr}
-use Rattle.std.specs.Prelude.{Option, Some, None, is_some, flat_map, ◌⊎◌, ◌==◌, ◌||◌, ◌&&◌}
-use Rattle.std.specs.List.{list_all}
-use Rattle.std.specs.Option.{option_map_or}
+use Rattle.std.proofs.Common.{◌≡◌, ℕ, zero, suc, ◌<◌, ◌≤◌, Bool, true, false, List, [], ◌∷◌, ◌++◌, length, ap, sym, subst, refl, ◌∙◌, arith, length-append, inl, inr}
+use Rattle.std.specs.Prelude.{flat_map, ◌⊎◌, ◌==◌, ◌||◌, ◌&&◌}
 use Rattle.std.proofs.lemmas.List.Concat.{flat_map-append}
 use Rattle.jvm_model.specs.declared.program.Program.{Program}
 use Rattle.jvm_model.specs.Load.{is_among}
 use Rattle.jvm_model.specs.Lookup.{interfaces_of, is_subtype, superclass_of, supertypes, supertypes_within}
-use Rattle.class_linker.specs.Rows.{AreRows, Rows, all_rows, has_row, row_at, supertypes_in}
+use Rattle.class_linker.specs.Rows.{AreRows, Rows, all_rows, has_row, supertypes_in}
 use Rattle.class_linker.proofs.LoadLemmas.{among-append, among-front}
 use Rattle.class_linker.proofs.OrderLemmas.{equal}
 use Rattle.class_linker.proofs.Walked.{bound, searched_among, supertypes_rows, supertypes_walked}
@@ -76,12 +74,14 @@ all_at rows (x ∷ xs) d all there = by (d == x) refl there (λ k. all_at rows x
     first : (a b : Bool) → (a && b) ≡ true → a ≡ true
     first true b h = refl
     first false b h = absurd (false_true h)
+
     second : (has_row rows x && all_rows rows xs) ≡ true → all_rows rows xs ≡ true
     second h = behind (has_row rows x) h
       where
         behind : (a : Bool) → (a && all_rows rows xs) ≡ true → all_rows rows xs ≡ true
         behind true h = h
         behind false h = absurd (false_true h)
+
     by : (b : Bool) → (d == x) ≡ b → (b || is_among d xs) ≡ true → (is_among d xs ≡ true → has_row rows d ≡ true) → has_row rows d ≡ true
     by true same k rest = ap (has_row rows) (equal d x same) ∙ first (has_row rows x) (all_rows rows xs) all
     by false other k rest = rest k
@@ -109,7 +109,7 @@ module _ (p : Program) (rows : Rows) (are : AreRows p rows) where
   pub above_has : (c x : ℕ) → has_row rows c ≡ true → is_subtype p c x ≡ true → has_row rows x ≡ true
   above_has c x has sub =
       all_at rows (supertypes_in rows c) x (supertypes_rows p rows are c has)
-          (searched_among x (supertypes_in rows c) (supertypes p c) (supertypes_walked p rows are c has) ∙ sub)
+      (searched_among x (supertypes_in rows c) (supertypes p c) (supertypes_walked p rows are c has) ∙ sub)
 
   -- a direct supertype is above
   rows_nonempty : (rs : Rows) (c : ℕ) → has_row rs c ≡ true → 0 < length rs
@@ -141,9 +141,9 @@ module _ (p : Program) (rows : Rows) (are : AreRows p rows) where
 
   below_direct : (c d : ℕ) → has_row rows c ≡ true → is_among d (interfaces_of p c ++ superclass_of p c) ≡ true → IsBelow c d
   below_direct c d has there = record {
-      fewer = fewer;
-      more = λ y h. above_direct c d y has there h;
-    }
+    fewer = fewer;
+    more = λ y h. above_direct c d y has there h;
+  }
     where
       fewer : length (supertypes p d) < length (supertypes p c)
       fewer = omega (arith, ap length (stepped c has), flat_length (supertypes p) (interfaces_of p c ++ superclass_of p c) d there)
@@ -151,20 +151,21 @@ module _ (p : Program) (rows : Rows) (are : AreRows p rows) where
   further : (c d x : ℕ) → IsBelow c d → (x ≡ d) ⊎ IsBelow d x → IsBelow c x
   further c d x below (inl same) = subst (IsBelow c) (sym same) below
   further c d x below (inr above) = record {
-      fewer = omega (arith, below.fewer, above.fewer);
-      more = λ y h. below.more y (above.more y h);
-    }
+    fewer = omega (arith, below.fewer, above.fewer);
+    more = λ y h. below.more y (above.more y h);
+  }
 
   climb : (n c x : ℕ) → has_row rows c ≡ true → is_among x (supertypes_within p n c) ≡ true → (x ≡ c) ⊎ IsBelow c x
   climb zero c x has h = absurd (false_true h)
   climb (suc n) c x has h =
       by (either (x == c) (is_among x (flat_map (supertypes_within p n) (interfaces_of p c ++ superclass_of p c))) (ap (is_among x) (sym (together n c)) ∙ h))
-          (climb n)
+      (climb n)
     where
       behind : IsIn (supertypes_within p n) (interfaces_of p c ++ superclass_of p c) x
           → ((d y : ℕ) → has_row rows d ≡ true → is_among y (supertypes_within p n d) ≡ true → (y ≡ d) ⊎ IsBelow d y) → IsBelow c x
       behind i rest =
           further c i.class x (below_direct c i.class has i.there) (rest i.class x (direct_has c i.class has i.there) i.within)
+
       by : ((x == c) ≡ true) ⊎ (is_among x (flat_map (supertypes_within p n) (interfaces_of p c ++ superclass_of p c)) ≡ true)
           → ((d y : ℕ) → has_row rows d ≡ true → is_among y (supertypes_within p n d) ≡ true → (y ≡ d) ⊎ IsBelow d y) → (x ≡ c) ⊎ IsBelow c x
       by (inl same) rest = inl (equal x c same)

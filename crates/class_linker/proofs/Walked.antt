@@ -1,18 +1,16 @@
 -- The rows of loaded classes give the walks of the definitions.
-use Rattle.std.proofs.Common.{◌≡◌, ℕ, ◌≤◌, Bool, true, false, List, [], ◌∷◌, ◌++◌, length, ap, sym, subst, refl, ◌∙◌}
-use Rattle.std.specs.Prelude.{Option, Some, None, is_some, ◌==◌, ◌||◌, if◌then◌else◌}
+use Rattle.std.proofs.Common.{◌≡◌, ℕ, ◌≤◌, Bool, true, false, List, [], ◌∷◌, length, ap, sym, subst, refl, ◌∙◌}
+use Rattle.std.specs.Prelude.{Some, None, is_some, ◌==◌, ◌||◌, if◌then◌else◌}
 use Rattle.std.specs.List.{list_any}
 use Rattle.std.specs.Option.{option_map_or}
 use Rattle.std.proofs.lemmas.List.Sums.{count_by-le-length}
-use Rattle.const_pool.specs.declared.descriptor.Kind.{Kind}
 use Rattle.jvm_model.specs.declared.program.Program.{Program}
 use Rattle.jvm_model.specs.Layouts.{layout}
 use Rattle.jvm_model.specs.Load.{is_among}
 use Rattle.jvm_model.specs.Lookup.{first_in, is_subtype, place_in, superclasses, superinterfaces, supertypes}
-use Rattle.class_linker.specs.declared.rows.Row.{Row}
 use Rattle.class_linker.specs.Orders.{IsSearchedAs}
-use Rattle.class_linker.specs.Rows.{AreKept, AreRows, Rows, all_rows, has_row, layout_in, row_at, row_count, superclasses_in, superinterfaces_in, supertypes_in}
-use Rattle.class_linker.proofs.RowLemmas.{has_one, layout_is, superclasses_are, superclasses_have, superinterfaces_are, supertypes_are, supertypes_have}
+use Rattle.class_linker.specs.Rows.{AreKept, AreRows, Rows, all_rows, has_row, layout_in, row_count, superclasses_in, superinterfaces_in, supertypes_in}
+use Rattle.class_linker.proofs.RowLemmas.{layout_is, superclasses_are, superclasses_have, superinterfaces_are, supertypes_are, supertypes_have}
 
 module _ (p : Program) (rows : Rows) (are : AreRows p rows) where
   pub bound : row_count rows ≤ length p.classes

@@ -1,9 +1,8 @@
 -- What a clause sees of the linker, and its answers.
-use Rattle.std.specs.Prelude.{◌≡◌, ℕ, ◌+◌, Bool, true, List, [], ◌∷◌, ◌++◌, Option, Some, None, codes, drop, length, position, unwrap_or, if◌then◌else◌, ◌/◌, ◌%◌}
+use Rattle.std.specs.Prelude.{◌≡◌, ℕ, true, List, [], ◌∷◌, ◌++◌, Option, Some, None, codes, drop, length, position, unwrap_or, ◌/◌, ◌%◌}
 use Rattle.std.specs.Option.{option_to_list}
 use Rattle.std.specs.Str.{bytes_eq}
 use Rattle.const_pool.specs.BuiltIn.{built_in_names}
-use Rattle.const_pool.specs.References.{NameAndType}
 use Rattle.jvm_model.specs.declared.program.Program.{Program}
 use Rattle.jvm_model.specs.Kinds.{KindParts, class_of_base, kind_named}
 use Rattle.jvm_model.specs.Load as load

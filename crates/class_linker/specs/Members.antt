@@ -1,5 +1,5 @@
 -- A name and a descriptor as the definitions have them, and how many members a class file has at most.
-use Rattle.std.specs.Prelude.{ℕ, ◌<◌, ◌^◌, ◌==◌, Bool, false, length}
+use Rattle.std.specs.Prelude.{◌<◌, ◌^◌, ◌==◌, Bool, false, length}
 use Rattle.std.specs.Option.{option_map_or}
 use Rattle.jvm_model.specs.declared.program.Program.{Program}
 use Rattle.jvm_model.specs.Lookup.{MemberPlace, method_at}

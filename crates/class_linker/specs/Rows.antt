@@ -1,5 +1,5 @@
 -- What the linker keeps of a class that was loaded: the walks over its supertypes, made of those of its direct supertypes.
-use Rattle.std.specs.Prelude.{◌≡◌, ℕ, ◌≤◌, Bool, true, List, [], ◌∷◌, ◌++◌, length, Option, Some, None, count_by, flat_map, is_some, slice_get, if◌then◌else◌}
+use Rattle.std.specs.Prelude.{◌≡◌, ℕ, ◌≤◌, Bool, true, List, [], ◌∷◌, ◌++◌, length, Option, Some, count_by, flat_map, is_some, slice_get, if◌then◌else◌}
 use Rattle.std.specs.List.{list_all}
 use Rattle.std.specs.Option.{option_and_then, option_map_or}
 use Rattle.const_pool.specs.declared.descriptor.Kind.{Kind}
@@ -56,7 +56,7 @@ with_interfaces rows classes (i ∷ rest) = with_interfaces rows (with_interface
 abbrev pub superinterfaces_made : Program → Rows → ℕ → List ℕ
 superinterfaces_made p rows class =
     with_classes (with_interfaces rows [] (interfaces_of p class))
-        (if is_interface p class then [] else flat_map (superinterfaces_in rows) (superclass_of p class))
+    (if is_interface p class then [] else flat_map (superinterfaces_in rows) (superclass_of p class))
 
 -- classes, each with its supertypes
 abbrev pub with_supertypes : Rows → List ℕ → List ℕ → List ℕ

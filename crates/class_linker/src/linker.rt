@@ -137,7 +137,7 @@ impl Linker {
         requires { IsLoaded self.now class }
         ensures { result ≡ resolved_of
             (resolved_method self.now.program class interface
-                (name_type_of name.now descriptor.now)) }
+            (name_type_of name.now descriptor.now)) }
     {
         let wanted = Wanted { name, descriptor };
         let rows = self.state.rows.as_slice();

@@ -160,13 +160,7 @@ fn passed_at(index: &Index, rows: &[Option<Row>], m1: Place, m2: Place, class: u
 }
 
 /// Whether such a method is declared in one of the classes.
-fn passed_among(
-    index: &Index,
-    rows: &[Option<Row>],
-    m1: Place,
-    m2: Place,
-    classes: &[u32],
-) -> bool
+fn passed_among(index: &Index, rows: &[Option<Row>], m1: Place, m2: Place, classes: &[u32]) -> bool
     requires rows { AreRows index.now rows.now }
     requires first { has_row rows.now m1.class ≡ true }
     requires have { all_rows rows.now classes.now ≡ true }

@@ -7,7 +7,8 @@ ghost use Rattle.jvm_model.specs.Lookup.{incompatible_change, resolved_field, re
 ghost use Rattle.jvm_model.specs.Lookup.{superclasses, superinterfaces, supertypes};
 ghost use Rattle.jvm_model.specs.Programs.{class_named};
 ghost use Rattle.jvm_model.specs.SharedState.{no_such_field, no_such_method};
-ghost use Rattle.class_linker.specs.Linkers.{class_order, error_number, inherited_order, interface_order};
+ghost use Rattle.class_linker.specs.Linkers.{class_order, error_number, inherited_order};
+ghost use Rattle.class_linker.specs.Linkers.{interface_order};
 ghost use Rattle.class_linker.specs.Linkers.{place_view, resolved_of};
 ghost use Rattle.class_linker.specs.Members.{wanted_view};
 ghost use Rattle.class_linker.specs.Rows.{AreRows, has_row};
@@ -89,7 +90,7 @@ pub fn resolved_field(
 fn object_method(index: &Index, wanted: &Wanted<'_>) -> Option<(u32, u16)>
     ensures { option_map place_view result
         ≡ first_in (method_at index.now (wanted_view wanted.now))
-            (option_to_list (class_named index.now (codes "java/lang/Object"))) }
+        (option_to_list (class_named index.now (codes "java/lang/Object"))) }
 {
     let class = index.class_named(object_name())?;
     let position = method_at(index, wanted, class)?;
@@ -122,7 +123,7 @@ fn superinterface_method(
     requires has { has_row rows.now class ≡ true }
     ensures { option_map place_view result
         ≡ first_in (method_at index.now (wanted_view wanted.now))
-            (superinterfaces index.now class) }
+        (superinterfaces index.now class) }
 {
     first_method(index, wanted, superinterfaces_of(index, rows, class))
 }
@@ -139,7 +140,7 @@ fn inherited_method(
     requires has { has_row rows.now class ≡ true }
     ensures { option_map place_view result
         ≡ first_in (method_at index.now (wanted_view wanted.now))
-            (inherited_order index.now class) }
+        (inherited_order index.now class) }
 {
     match superinterface_method(index, rows, class, wanted) {
         Some(found) => Some(found),

@@ -121,11 +121,7 @@ fn add_interface(order: &mut Order, rows: &[Option<Row>], class: u32) -> Result<
 }
 
 /// Adds interfaces, each with its superinterfaces.
-fn add_interfaces(
-    order: &mut Order,
-    rows: &[Option<Row>],
-    classes: &[u32],
-) -> Result<(), NoMemory>
+fn add_interfaces(order: &mut Order, rows: &[Option<Row>], classes: &[u32]) -> Result<(), NoMemory>
     ensures { OnOk result (order.new ≡ with_interfaces rows.now order.old classes.now) }
 {
     for class in classes {
@@ -168,11 +164,7 @@ fn superinterfaces_made(
 }
 
 /// Adds classes, each with its supertypes.
-fn add_supertypes(
-    order: &mut Order,
-    rows: &[Option<Row>],
-    classes: &[u32],
-) -> Result<(), NoMemory>
+fn add_supertypes(order: &mut Order, rows: &[Option<Row>], classes: &[u32]) -> Result<(), NoMemory>
     ensures { OnOk result (order.new ≡ with_supertypes rows.now order.old classes.now) }
 {
     for class in classes {

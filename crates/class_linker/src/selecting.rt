@@ -86,7 +86,13 @@ fn nearest(
     requires has { has_row rows.now receiver ≡ true }
     ensures { option_map at_place result ≡ nearest index.now receiver interface (at_place m) }
 {
-    first_candidate(index, rows, interface, m, superclasses_of(index, rows, receiver))
+    first_candidate(
+        index,
+        rows,
+        interface,
+        m,
+        superclasses_of(index, rows, receiver),
+    )
 }
 
 /// The method that is invoked for the resolved one.

@@ -50,12 +50,7 @@ fn stopped(alloc: Global, fault: Fault, classes: &[u32]) -> Result<Loaded, NoMem
     })
 }
 
-fn told(
-    alloc: Global,
-    fault: Option<Fault>,
-    kind: u32,
-    classes: &[u32],
-) -> Result<Loaded, NoMemory>
+fn told(alloc: Global, fault: Option<Fault>, kind: u32, classes: &[u32]) -> Result<Loaded, NoMemory>
     ensures { IfOk result (λ l. l ≡ answer_by (option_map fault_view fault) kind classes.now) }
 {
     match fault {
@@ -89,10 +84,5 @@ pub fn answer(
     let before = state.loaded.len();
     let fault = load_all(alloc, index, state, name)?;
     let kind = kind_named(index, name);
-    told(
-        alloc,
-        fault,
-        kind,
-        behind(state.loaded.as_slice(), before),
-    )
+    told(alloc, fault, kind, behind(state.loaded.as_slice(), before))
 }

@@ -1,5 +1,5 @@
 -- Programs by hand, for worked look-ups: what a class file names, beside the class format.
-use Rattle.std.specs.Prelude.{ℕ, ◌+◌, ◌*◌, List, [], ◌∷◌, ◌++◌, length, map, Option, Some, None, codes, unwrap_or, is_some, position, if◌then◌else◌}
+use Rattle.std.specs.Prelude.{ℕ, ◌+◌, ◌*◌, List, [], ◌∷◌, ◌++◌, length, map, Option, Some, None, codes, unwrap_or, is_some, if◌then◌else◌}
 use Rattle.const_pool.specs.declared.pool.Const.{Const}
 use Rattle.const_pool.specs.declared.pool.Const.TheVariants.{Gap, Utf8, Class}
 use Rattle.const_pool.specs.declared.class.ClassFile.{ClassFile}

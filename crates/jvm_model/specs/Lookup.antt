@@ -1,12 +1,11 @@
 -- Supertypes, and looking up fields and methods (JVM Specification 4.9, 5.4.3). A walk goes from a class to the classes that it
 -- names; what names no class of the program is passed over. Among classes that can be loaded no chain of supertypes is longer
 -- than the list of classes, which bounds each walk; in a list with circles the bound cuts it.
-use Rattle.std.specs.Prelude.{ℕ, zero, suc, Bool, false, List, [], ◌∷◌, ◌++◌, length, Option, Some, None, slice_get, filter_map, flat_map, codes, ◌==◌, if◌then◌else◌}
+use Rattle.std.specs.Prelude.{ℕ, zero, suc, Bool, false, List, [], ◌∷◌, ◌++◌, length, Option, Some, None, filter_map, flat_map, codes, ◌==◌, if◌then◌else◌}
 use Rattle.std.specs.Bool.{beq}
 use Rattle.std.specs.List.{list_any}
-use Rattle.std.specs.Option.{option_and_then, option_map, option_map_or, option_to_list}
+use Rattle.std.specs.Option.{option_and_then, option_map_or, option_to_list}
 use Rattle.const_pool.specs.declared.class.ClassFile.{ClassFile}
-use Rattle.const_pool.specs.declared.class.Member.{Member}
 use Rattle.const_pool.specs.References.{NameAndType, named_class}
 use Rattle.jvm_model.specs.Data.{Program}
 use Rattle.jvm_model.specs.Methods.{method_named}

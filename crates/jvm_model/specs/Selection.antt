@@ -1,6 +1,6 @@
 -- Overriding (JVM Specification 5.4.5), and which method an object's class has for a resolved one (chapter 6, invokevirtual and
 -- invokeinterface).
-use Rattle.std.specs.Prelude.{ℕ, ◌+◌, Bool, false, not, List, [], ◌∷◌, Option, Some, None, IsTrue, slice_get, take, find, unwrap_or, ◌==◌, ◌&&◌, ◌||◌, if◌then◌else◌}
+use Rattle.std.specs.Prelude.{ℕ, ◌+◌, Bool, false, not, List, [], ◌∷◌, Option, Some, None, IsTrue, slice_get, take, unwrap_or, ◌==◌, ◌&&◌, ◌||◌, if◌then◌else◌}
 use Rattle.std.specs.List.{list_any}
 use Rattle.std.specs.Option.{option_and_then, option_map, option_map_or}
 use Rattle.const_pool.specs.declared.class.ClassFile.{ClassFile}

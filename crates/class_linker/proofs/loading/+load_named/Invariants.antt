@@ -13,4 +13,4 @@ invariant-loop-need l =
     × IsLater l.fn.state l.state
     × (l.path ≡ l.fn.path ++ l.class ∷ [])
     × (load_needs l.index (load_named l.index (l.depth - 1) (l.fn.path ++ l.class ∷ [])) (map need_view (drop l.need-index l.need-items)) l.state.loaded
-        ≡ load_needs l.index (load_named l.index (l.depth - 1) (l.fn.path ++ l.class ∷ [])) (needs_of l.index l.class) l.fn.state.loaded)
+    ≡ load_needs l.index (load_named l.index (l.depth - 1) (l.fn.path ++ l.class ∷ [])) (needs_of l.index l.class) l.fn.state.loaded)

@@ -9,4 +9,4 @@ pub returns : goal.returns
 returns c =
     c.passed_among.ensures
     ∙ searched_any (passed_at c.args.index.now (at_place c.args.m1) (at_place c.args.m2)) c.supertypes_of.result.now
-        (supertypes c.args.index.now c.args.m1.class) c.supertypes_of.ensures.searched
+    (supertypes c.args.index.now c.args.m1.class) c.supertypes_of.ensures.searched

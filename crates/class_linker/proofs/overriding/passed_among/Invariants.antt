@@ -9,5 +9,5 @@ use Rattle.class_linker.proofs.overriding.passed_among.Given as goal
 abbrev pub invariant-loop-class : goal.invariant-loop-class
 invariant-loop-class l =
     (list_any (passed_at l.index (at_place l.m1) (at_place l.m2)) (drop l.class-index l.classes)
-        ≡ list_any (passed_at l.index (at_place l.m1) (at_place l.m2)) l.classes)
+    ≡ list_any (passed_at l.index (at_place l.m1) (at_place l.m2)) l.classes)
     × (all_rows l.rows (drop l.class-index l.classes) ≡ true)

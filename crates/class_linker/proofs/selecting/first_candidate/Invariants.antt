@@ -9,5 +9,5 @@ use Rattle.class_linker.proofs.selecting.first_candidate.Given as goal
 abbrev pub invariant-loop-class : goal.invariant-loop-class
 invariant-loop-class l =
     (first_in (candidate l.index l.interface (at_place l.m)) (drop l.class-index l.classes)
-        ≡ first_in (candidate l.index l.interface (at_place l.m)) l.classes)
+    ≡ first_in (candidate l.index l.interface (at_place l.m)) l.classes)
     × (all_rows l.rows (drop l.class-index l.classes) ≡ true)

@@ -8,7 +8,7 @@ use Rattle.class_linker.proofs.walks.supertypes_of.Goals as goal
 pub returns-clause-searched : goal.returns-clause-searched
 returns-clause-searched c =
     subst (λ l. IsSearchedAs l (supertypes c.args.index.now c.args.class)) (sym c.supertypes_in.ensures)
-        (supertypes_walked c.args.index.now c.args.rows.now c.requires.rows c.args.class c.requires.has)
+    (supertypes_walked c.args.index.now c.args.rows.now c.requires.rows c.args.class c.requires.has)
 
 pub returns-clause-rows : goal.returns-clause-rows
 returns-clause-rows c =
