@@ -7,3 +7,4 @@ pub mod States
 pub mod Linkers
 pub mod Members
 pub mod Places
+pub mod Buckets

@@ -6,7 +6,7 @@ use Rattle.jvm_model.specs.Lookup.{MemberPlace, method_at}
 use Rattle.jvm_model.specs.Selection.{signature_of}
 use Rattle.const_pool.specs.declared.class.ClassFile.{ClassFile}
 use Rattle.const_pool.specs.References.{NameAndType}
-use Rattle.class_linker.specs.declared.members.Wanted.{Wanted}
+use Rattle.class_linker.specs.declared.wanted.Wanted.{Wanted}
 
 abbrev pub wanted_view : Wanted → NameAndType
 wanted_view w = record { name = w.name.now; descriptor = w.descriptor.now }

@@ -18,8 +18,10 @@ mod place;
 mod resolving;
 mod rows;
 mod selecting;
+mod table;
 mod telling;
 mod walks;
+mod wanted;
 
 pub use answers::{Loaded, Resolved};
 pub use linker::Linker;

@@ -4,38 +4,13 @@ ghost use Rattle.std.specs.Prelude.{◌≡◌, ◌<◌, ◌^◌, length};
 ghost use Rattle.std.specs.Option.{option_map};
 ghost use Rattle.class_linker.specs.Members.{wanted_view};
 ghost use Rattle.jvm_model.specs.Lookup.{field_at, first_in, method_at};
-ghost use Rattle.jvm_model.specs.Methods.{is_member, method_named, same_text_at};
+ghost use Rattle.jvm_model.specs.Methods.{method_named};
 ghost use Rattle.jvm_model.specs.SharedState.{field_named};
 ghost use Rattle.class_linker.specs.Linkers.{place_view};
 
 use crate::index::Index;
-use const_pool::{ClassFile, Member, Pool};
-use jf_bytes::Text16;
-
-/// The name and the descriptor of a member.
-#[derive(Clone, Copy)]
-pub struct Wanted<'a> {
-    pub name: &'a Text16,
-    pub descriptor: &'a Text16,
-}
-
-/// Whether an entry is this text.
-fn is_text_at(pool: &Pool, entry: u16, text: &Text16) -> bool
-    ensures { result ≡ same_text_at pool.now entry text.now }
-{
-    match pool.text(entry) {
-        Ok(found) => found.same(text),
-        Err(_) => false,
-    }
-}
-
-/// Whether a member has this name and this descriptor.
-fn is_member(pool: &Pool, wanted: &Wanted<'_>, member: &Member) -> bool
-    ensures { result ≡ is_member pool.now (wanted_view wanted.now) member.now }
-{
-    is_text_at(pool, member.name, wanted.name)
-        && is_text_at(pool, member.descriptor, wanted.descriptor)
-}
+use crate::wanted::{Wanted, is_member};
+use const_pool::ClassFile;
 
 /// The position of the first method with this name and this descriptor.
 fn method_named(file: &ClassFile, wanted: &Wanted<'_>) -> Option<u16>

@@ -14,11 +14,12 @@ ghost use Rattle.class_linker.specs.Rows.{AreRows, all_rows, has_row};
 
 use crate::access::{ABSTRACT, PRIVATE, PROTECTED, PUBLIC, STATIC, has_flag};
 use crate::index::Index;
-use crate::members::{Wanted, method_at};
+use crate::members::method_at;
 use crate::package;
 use crate::place::Place;
 use crate::rows::Row;
 use crate::walks::{is_subtype, supertypes_of};
+use crate::wanted::Wanted;
 
 // ---- a method
 

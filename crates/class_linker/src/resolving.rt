@@ -15,9 +15,10 @@ ghost use Rattle.class_linker.specs.Rows.{AreRows, has_row};
 
 use crate::answers::Resolved;
 use crate::index::Index;
-use crate::members::{Wanted, first_field, first_method, method_at};
+use crate::members::{first_field, first_method, method_at};
 use crate::rows::Row;
 use crate::walks::{superclasses_of, superinterfaces_of, supertypes_of};
+use crate::wanted::Wanted;
 
 /// The name of the class above all others.
 static OBJECT: [u16; 16] = [
