@@ -10,3 +10,4 @@ mod Begun
 mod Subtypes
 mod OverridingLaws
 mod OverridingTest
+mod BucketLemmas

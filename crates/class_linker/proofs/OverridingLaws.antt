@@ -40,7 +40,7 @@ or_true false = refl
 
 -- ---- the name and descriptor of a method that was found by them
 
-text_is : (pool : List Const) (i : ℕ) (text : List ℕ) → same_text_at pool i text ≡ true → named_text pool i ≡ Some text
+pub text_is : (pool : List Const) (i : ℕ) (text : List ℕ) → same_text_at pool i text ≡ true → named_text pool i ≡ Some text
 text_is pool i text h = by (named_text pool i) refl h
   where
     by : (o : Option (List ℕ)) → named_text pool i ≡ o → option_map_or (λ found. same_text found text) o false ≡ true → named_text pool i ≡ Some text

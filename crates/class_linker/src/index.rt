@@ -1,26 +1,31 @@
 //! A program with its classes found by their names.
 
-ghost use Rattle.std.specs.Prelude.{◌≡◌, ◌<◌, ◌^◌, [], length, IfOk, IfSome};
-ghost use Rattle.std.specs.Option.{option_copied};
+ghost use Rattle.std.specs.Prelude.{◌≡◌, ◌<◌, ◌^◌, [], length, map, IfOk, IfSome};
+ghost use Rattle.std.specs.List.{AllByRecursion};
+ghost use Rattle.std.specs.Option.{option_copied, option_map};
+ghost use Rattle.const_pool.specs.ClassFile.{IsClassFile};
 ghost use Rattle.jvm_model.specs.Programs.{class_at, class_named, super_of};
 ghost use Rattle.jvm_model.specs.Lookup.{interfaces_of, is_interface};
+ghost use Rattle.class_linker.specs.Buckets.{table_of};
 ghost use Rattle.class_linker.specs.Indices.{IsLinkable, class_of_entry, interfaces_in};
 ghost use Rattle.class_linker.specs.Members.{HasFewMembers};
 ghost use Rattle.class_linker.specs.Names.{named_from};
 
 use crate::access::{INTERFACE, has_flag};
 use crate::names::Names;
+use crate::table::{Table, table_of};
 use const_pool::ClassFile;
 use jf_bytes::{NoMemory, Seq};
 use jvm_model::Program;
 use std::alloc::Global;
 use std::marker::Model;
 
-/// A program, and a table of its classes' names. A clause sees the program.
+/// A program, a table of its classes' names, and for each class one of its members. A clause sees the program.
 #[derive(Drop)]
 pub struct Index {
     program: Program,
     names: Names,
+    tables: Seq<Table>,
 }
 
 impl Model for Index {
@@ -31,7 +36,7 @@ impl Model for Index {
 
     ghost view = { λ i. i.program };
 
-    ghost invariant = { λ i. IsIndexed i.program i.names };
+    ghost invariant = { λ i. IsIndexed i.program i.names i.tables };
 }
 
 /// The names of these classes.
@@ -48,15 +53,32 @@ fn names_of(alloc: Global, classes: &[ClassFile]) -> Result<Names, NoMemory>
     Ok(names)
 }
 
+/// The tables of these classes' members.
+fn tables_of(alloc: Global, classes: &[ClassFile]) -> Result<Seq<Table>, NoMemory>
+    requires { AllByRecursion IsClassFile classes.now }
+    ensures { IfOk result (λ tables. tables ≡ map table_of classes.now) }
+{
+    let mut tables = Seq::with_capacity(alloc, classes.len())?;
+    for class in classes {
+        tables.push(table_of(alloc, class)?)?;
+    }
+    Ok(tables)
+}
+
 impl Index {
-    /// The program with its table.
+    /// The program with its tables.
     #[tactic(auto, using(crate::proofs::IndexLemmas::named_all))]
     pub fn new(alloc: Global, program: Program) -> Result<Index, NoMemory>
         requires { IsLinkable program }
         ensures { IfOk result (λ index. index ≡ program) }
     {
         let names = names_of(alloc, program.classes.as_slice())?;
-        Ok(Index { program, names })
+        let tables = tables_of(alloc, program.classes.as_slice())?;
+        Ok(Index {
+            program,
+            names,
+            tables,
+        })
     }
 
     pub fn program(&self) -> &Program
@@ -72,6 +94,14 @@ impl Index {
         ensures few { IfSome result (λ c. HasFewMembers c.now) }
     {
         self.program.classes.get(class as usize)
+    }
+
+    /// The table of a class's members.
+    #[tactic(auto, using(crate::proofs::BucketLemmas::table_at))]
+    pub fn table(&self, class: u32) -> Option<&Table>
+        ensures { option_copied result ≡ option_map table_of (class_at self.now class) }
+    {
+        self.tables.get(class as usize)
     }
 
     /// The position of the class of this name.

@@ -130,12 +130,7 @@ fn is_at(pool: &Pool, members: &[Member], wanted: &Wanted<'_>, position: u16) ->
 }
 
 /// The first of these positions at which the member stands.
-fn first_at(
-    pool: &Pool,
-    members: &[Member],
-    wanted: &Wanted<'_>,
-    positions: &[u16],
-) -> Option<u16>
+fn first_at(pool: &Pool, members: &[Member], wanted: &Wanted<'_>, positions: &[u16]) -> Option<u16>
     ensures { result
         ≡ find (is_at pool.now members.now (wanted_view wanted.now)) positions.now }
 {
