@@ -1,6 +1,3 @@
-mod NameLemmas
-mod IndexLemmas
-mod OrderLemmas
 mod RowLemmas
 mod LoadLemmas
 mod LoadWalks
@@ -10,4 +7,3 @@ mod Begun
 mod Subtypes
 mod OverridingLaws
 mod OverridingTest
-mod BucketLemmas

@@ -11,7 +11,7 @@ use Rattle.jvm_model.specs.declared.program.Program.{Program}
 use Rattle.class_linker.specs.declared.loading.State.{State}
 use Rattle.class_linker.specs.Rows.{AreKept, AreRows, Rows, has_row}
 use Rattle.class_linker.specs.States.{IsLater, IsState, needs_at, needs_in}
-use Rattle.class_linker.proofs.OrderLemmas.{equal}
+use Rattle.class_index.proofs.OrderLemmas.{equal}
 
 each_need : (f : ℕ → Option (List ℕ)) (xs : List ℕ)
     → flat_map (λ x. map (load.need true) (option_to_list (f x))) xs ≡ map (load.need true) (filter_map f xs)

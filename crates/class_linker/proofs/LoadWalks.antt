@@ -16,7 +16,7 @@ use Rattle.class_linker.specs.declared.loading.Standing.{Standing}
 use Rattle.class_linker.specs.declared.loading.Standing.TheVariants.{Ended, Fresh}
 use Rattle.class_linker.specs.States.{loading_view, named_loading, standing_loading}
 use Rattle.class_linker.proofs.LoadLemmas.{among-append, among-front, among-last}
-use Rattle.class_linker.proofs.OrderLemmas.{equal}
+use Rattle.class_index.proofs.OrderLemmas.{equal}
 
 false_true : false ≡ true → ⊥
 false_true e = cc

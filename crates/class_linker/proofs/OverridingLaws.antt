@@ -2,19 +2,18 @@
 use Rattle.std.proofs.Common.{◌≡◌, ℕ, suc, ◌+◌, Bool, true, false, List, [], ◌∷◌, ap, ap₂, sym, refl, ◌∙◌, arith, inl, inr}
 use Rattle.std.specs.Prelude.{Option, Some, None, not, slice_get, ◌⊎◌, ◌==◌, ◌||◌, ◌&&◌, if◌then◌else◌}
 use Rattle.std.specs.Option.{option_and_then, option_map, option_map_or}
-use Rattle.std.proofs.lemmas.Slice.Eq.{bytes_eq-Decides}
 use Rattle.const_pool.specs.declared.class.ClassFile.{ClassFile}
 use Rattle.const_pool.specs.declared.class.Member.{Member}
 use Rattle.const_pool.specs.declared.pool.Const.{Const}
-use Rattle.const_pool.specs.References.{NameAndType, named_text}
+use Rattle.const_pool.specs.References.{NameAndType}
 use Rattle.jvm_model.specs.declared.program.Program.{Program}
-use Rattle.jvm_model.specs.Descriptors.{same_text}
 use Rattle.jvm_model.specs.Lookup.{MemberPlace, is_subtype, method_at, place_in}
 use Rattle.jvm_model.specs.Methods.{is_member, method_from, same_text_at}
 use Rattle.jvm_model.specs.Programs.{class_at}
 use Rattle.jvm_model.specs.Selection.{signature_of, stands_below, texts_of}
-use Rattle.class_linker.specs.Members.{is_declared_as}
-use Rattle.class_linker.proofs.OrderLemmas.{equal}
+use Rattle.class_index.specs.Members.{is_declared_as}
+use Rattle.class_index.proofs.OrderLemmas.{equal}
+use Rattle.class_index.proofs.MemberTexts.{both, text_is}
 
 false_true : false ≡ true → ⊥
 false_true e = cc
@@ -26,10 +25,6 @@ pub not_true : (b : Bool) → not b ≡ true → b ≡ false
 not_true false h = refl
 not_true true h = absurd (false_true h)
 
-pub both : (a b : Bool) → (a && b) ≡ true → (a ≡ true) × (b ≡ true)
-both true b h = (refl, h)
-both false b h = absurd (false_true h)
-
 pub either : (a b : Bool) → (a || b) ≡ true → (a ≡ true) ⊎ (b ≡ true)
 either true b h = inl refl
 either false b h = inr h
@@ -39,13 +34,6 @@ or_true true = refl
 or_true false = refl
 
 -- ---- the name and descriptor of a method that was found by them
-
-pub text_is : (pool : List Const) (i : ℕ) (text : List ℕ) → same_text_at pool i text ≡ true → named_text pool i ≡ Some text
-text_is pool i text h = by (named_text pool i) refl h
-  where
-    by : (o : Option (List ℕ)) → named_text pool i ≡ o → option_map_or (λ found. same_text found text) o false ≡ true → named_text pool i ≡ Some text
-    by None is k = absurd (false_true k)
-    by (Some found) is k = is ∙ ap Some ((bytes_eq-Decides found text).0 k)
 
 texts_are : (c : ClassFile) (w : NameAndType) (m : Member) → is_member c.pool w m ≡ true → texts_of c m ≡ Some w
 texts_are c w m h =

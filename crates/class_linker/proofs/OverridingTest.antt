@@ -9,10 +9,11 @@ use Rattle.jvm_model.specs.declared.program.Program.{Program}
 use Rattle.jvm_model.specs.Load.{is_among}
 use Rattle.jvm_model.specs.Lookup.{MemberPlace, is_subtype, method_at, place_in, supertypes}
 use Rattle.jvm_model.specs.Selection.{Overrides, directly, through, is_open, is_private, is_reached, overrides, package_at, passed_at, passes_on, same_package, signature_of, stands_below}
-use Rattle.class_linker.specs.Members.{is_declared_as}
+use Rattle.class_index.specs.Members.{is_declared_as}
 use Rattle.class_linker.specs.Rows.{AreRows, Rows, has_row}
-use Rattle.class_linker.proofs.OrderLemmas.{equal}
-use Rattle.class_linker.proofs.OverridingLaws.{IsBelow, below, both, declared, either, joined, not_true, or_true, same_signature}
+use Rattle.class_index.proofs.OrderLemmas.{equal}
+use Rattle.class_index.proofs.MemberTexts.{both}
+use Rattle.class_linker.proofs.OverridingLaws.{IsBelow, below, declared, either, joined, not_true, or_true, same_signature}
 use Rattle.class_linker.proofs.Subtypes.{above_has, apart, goes_on}
 
 false_true : false ≡ true → ⊥

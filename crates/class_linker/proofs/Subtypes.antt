@@ -7,7 +7,7 @@ use Rattle.jvm_model.specs.Load.{is_among}
 use Rattle.jvm_model.specs.Lookup.{interfaces_of, is_subtype, superclass_of, supertypes, supertypes_within}
 use Rattle.class_linker.specs.Rows.{AreRows, Rows, all_rows, has_row, supertypes_in}
 use Rattle.class_linker.proofs.LoadLemmas.{among-append, among-front}
-use Rattle.class_linker.proofs.OrderLemmas.{equal}
+use Rattle.class_index.proofs.OrderLemmas.{equal}
 use Rattle.class_linker.proofs.Walked.{bound, searched_among, supertypes_rows, supertypes_walked}
 
 false_true : false ≡ true → ⊥

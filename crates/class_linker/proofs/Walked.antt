@@ -1,14 +1,15 @@
 -- The rows of loaded classes give the walks of the definitions.
-use Rattle.std.proofs.Common.{◌≡◌, ℕ, ◌≤◌, Bool, true, false, List, [], ◌∷◌, length, ap, sym, subst, refl, ◌∙◌}
-use Rattle.std.specs.Prelude.{Some, None, is_some, ◌==◌, ◌||◌, if◌then◌else◌}
+use Rattle.std.proofs.Common.{◌≡◌, ℕ, ◌≤◌, Bool, true, false, List, [], ◌∷◌, ◌++◌, length, ap, sym, subst, refl, ◌∙◌}
+use Rattle.std.specs.Prelude.{Option, Some, None, is_some, ◌==◌, ◌||◌, if◌then◌else◌}
 use Rattle.std.specs.List.{list_any}
-use Rattle.std.specs.Option.{option_map_or}
+use Rattle.std.specs.Option.{option_map_or, option_or}
 use Rattle.std.proofs.lemmas.List.Sums.{count_by-le-length}
 use Rattle.jvm_model.specs.declared.program.Program.{Program}
 use Rattle.jvm_model.specs.Layouts.{layout}
 use Rattle.jvm_model.specs.Load.{is_among}
 use Rattle.jvm_model.specs.Lookup.{first_in, is_subtype, place_in, superclasses, superinterfaces, supertypes}
-use Rattle.class_linker.specs.Orders.{IsSearchedAs}
+use Rattle.class_index.specs.Orders.{IsSearchedAs}
+use Rattle.class_index.proofs.OrderLemmas.{first_in_both}
 use Rattle.class_linker.specs.Rows.{AreKept, AreRows, Rows, all_rows, has_row, layout_in, row_count, superclasses_in, superinterfaces_in, supertypes_in}
 use Rattle.class_linker.proofs.RowLemmas.{layout_is, superclasses_are, superclasses_have, superinterfaces_are, supertypes_are, supertypes_have}
 
@@ -60,3 +61,6 @@ pub subtype_walked : (p : Program) (rows : Rows) → AreRows p rows → (lower u
     → is_among upper (supertypes_in rows lower) ≡ is_subtype p lower upper
 subtype_walked p rows are lower upper has =
     searched_among upper (supertypes_in rows lower) (supertypes p lower) (supertypes_walked p rows are lower has)
+
+pub first_of_both : (at : ℕ → Option ℕ) (xs ys : List ℕ) → first_in at (xs ++ ys) ≡ option_or (first_in at xs) (first_in at ys)
+first_of_both at xs ys = first_in_both at xs ys

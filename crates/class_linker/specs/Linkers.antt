@@ -33,9 +33,6 @@ abbrev pub resolved_of : lookup.Resolution → Resolved
 resolved_of (lookup.Found m) = Found m.class m.position
 resolved_of (lookup.Fails error) = Throws (error_number error)
 
-abbrev pub place_view : ℕ × ℕ → lookup.MemberPlace
-place_view m = lookup.place_in m.0 m.1
-
 -- ---- loading
 
 abbrev pub absent_name : load.Fault → Option (List ℕ)

@@ -7,7 +7,7 @@ use Rattle.jvm_model.specs.declared.program.Program.{Program}
 use Rattle.jvm_model.specs.Layouts.{layout_within, own_kinds}
 use Rattle.jvm_model.specs.Lookup.{interfaces_of, is_interface, superclass_of, superclasses_within, superinterfaces_within, supertypes_within}
 use Rattle.jvm_model.specs.Programs.{class_at}
-use Rattle.class_linker.specs.Orders.{IsSearchedAs, with_classes}
+use Rattle.class_index.specs.Orders.{IsSearchedAs, with_classes}
 use Rattle.class_linker.specs.declared.rows.Row.{Row}
 
 abbrev pub Rows : Type 0

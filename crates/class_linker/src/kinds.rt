@@ -6,13 +6,12 @@ ghost use Rattle.jvm_model.specs.Kinds.{base_of_class, base_of_element};
 ghost use Rattle.jvm_model.specs.Kinds.{class_of_base, is_above_arrays, kind_named};
 ghost use Rattle.jvm_model.specs.Kinds.{is_subbase, is_subkind, user_count};
 ghost use Rattle.class_linker.specs.Linkers.{parts_of};
-ghost use Rattle.class_linker.specs.Meanings.{element_view};
+ghost use Rattle.class_index.specs.Meanings.{element_view};
 ghost use Rattle.class_linker.specs.Rows.{AreRows, has_row};
 
-use crate::index::Index;
-use crate::meaning::{Element, meaning_of};
 use crate::rows::Row;
 use crate::walks::is_subtype;
+use class_index::{Element, Index, meaning_of};
 
 /// How many built-in classes there are.
 const BUILT_IN: usize = 53;

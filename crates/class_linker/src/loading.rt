@@ -10,10 +10,8 @@ ghost use Rattle.class_linker.specs.States.{IfFresh, IsLater, IsState, loading_v
 ghost use Rattle.class_linker.specs.States.{class_loading, fault_view, named_loading, need_view};
 ghost use Rattle.class_linker.specs.States.{needs_at, needs_in, standing_loading};
 
-use crate::index::Index;
-use crate::meaning::{Element, is_array_name, meaning_of};
-use crate::order::Order;
 use crate::rows::{Row, has_row, row_made};
+use class_index::{Element, Index, Order, is_array_name, meaning_of};
 use const_pool::ClassFile;
 use jf_bytes::{NoMemory, Seq, Text16};
 use std::alloc::Global;

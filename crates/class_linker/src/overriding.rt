@@ -8,18 +8,17 @@ ghost use Rattle.jvm_model.specs.Programs.{name_at};
 ghost use Rattle.jvm_model.specs.Selection.{Overrides, access_of, is_abstract, is_open, is_private};
 ghost use Rattle.jvm_model.specs.Selection.{is_reached, is_static, overrides, passed_at};
 ghost use Rattle.jvm_model.specs.Selection.{passes_on, same_package, signature_of, stands_below};
-ghost use Rattle.class_linker.specs.Members.{is_declared_as, wanted_view};
+ghost use Rattle.class_index.specs.Members.{is_declared_as, wanted_view};
 ghost use Rattle.class_linker.specs.Places.{at_place};
 ghost use Rattle.class_linker.specs.Rows.{AreRows, all_rows, has_row};
 
-use crate::access::{ABSTRACT, PRIVATE, PROTECTED, PUBLIC, STATIC, has_flag};
-use crate::index::Index;
-use crate::members::method_at;
-use crate::package;
 use crate::place::Place;
 use crate::rows::Row;
 use crate::walks::{is_subtype, supertypes_of};
-use crate::wanted::Wanted;
+use class_index::{
+    ABSTRACT, Index, PRIVATE, PROTECTED, PUBLIC, STATIC, Wanted, has_flag, in_same_package,
+    method_at,
+};
 
 // ---- a method
 
@@ -94,7 +93,7 @@ fn name_units(index: &Index, class: u32) -> &[u16]
 fn same_package(index: &Index, a: u32, b: u32) -> bool
     ensures { result ≡ same_package index.now a b }
 {
-    package::same_package(name_units(index, a), name_units(index, b))
+    in_same_package(name_units(index, a), name_units(index, b))
 }
 
 // ---- overriding

@@ -7,18 +7,17 @@ ghost use Rattle.jvm_model.specs.Lookup.{incompatible_change, resolved_field, re
 ghost use Rattle.jvm_model.specs.Lookup.{superclasses, superinterfaces, supertypes};
 ghost use Rattle.jvm_model.specs.Programs.{class_named};
 ghost use Rattle.jvm_model.specs.SharedState.{no_such_field, no_such_method};
+ghost use Rattle.class_index.specs.Members.{place_view};
 ghost use Rattle.class_linker.specs.Linkers.{class_order, error_number, inherited_order};
 ghost use Rattle.class_linker.specs.Linkers.{interface_order};
-ghost use Rattle.class_linker.specs.Linkers.{place_view, resolved_of};
-ghost use Rattle.class_linker.specs.Members.{wanted_view};
+ghost use Rattle.class_linker.specs.Linkers.{resolved_of};
+ghost use Rattle.class_index.specs.Members.{wanted_view};
 ghost use Rattle.class_linker.specs.Rows.{AreRows, has_row};
 
 use crate::answers::Resolved;
-use crate::index::Index;
-use crate::members::{first_field, first_method, method_at};
 use crate::rows::Row;
 use crate::walks::{superclasses_of, superinterfaces_of, supertypes_of};
-use crate::wanted::Wanted;
+use class_index::{Index, Wanted, first_field, first_method, method_at};
 
 /// The name of the class above all others.
 static OBJECT: [u16; 16] = [
@@ -130,7 +129,7 @@ fn superinterface_method(
 }
 
 /// The method of an interface's superinterfaces, or of java/lang/Object.
-#[tactic(auto, using(crate::proofs::OrderLemmas::first_in_both))]
+#[tactic(auto, using(crate::proofs::Walked::first_of_both))]
 fn inherited_method(
     index: &Index,
     rows: &[Option<Row>],
@@ -168,7 +167,7 @@ fn sought_above_interface(
 }
 
 /// The method of a class, of its superclasses, or of its superinterfaces.
-#[tactic(auto, using(crate::proofs::OrderLemmas::first_in_both))]
+#[tactic(auto, using(crate::proofs::Walked::first_of_both))]
 fn sought_above_class(
     index: &Index,
     rows: &[Option<Row>],

@@ -6,16 +6,14 @@ ghost use Rattle.jvm_model.specs.Layouts.{field_kind, held_by, own_kinds};
 ghost use Rattle.jvm_model.specs.Load.{is_among};
 ghost use Rattle.jvm_model.specs.Lookup.{superclass_of};
 ghost use Rattle.jvm_model.specs.Programs.{class_at};
-ghost use Rattle.class_linker.specs.Orders.{with_classes};
+ghost use Rattle.class_index.specs.Orders.{with_classes};
 ghost use Rattle.class_linker.specs.Rows.{has_row, layout_in, layout_made, row_at, row_made};
 ghost use Rattle.class_linker.specs.Rows.{superclasses_made, superinterfaces_made};
 ghost use Rattle.class_linker.specs.Rows.{supertypes_in, superclasses_in, superinterfaces_in};
 ghost use Rattle.class_linker.specs.Rows.{supertypes_made, with_interface, with_interfaces};
 ghost use Rattle.class_linker.specs.Rows.{with_supertypes};
 
-use crate::access::{STATIC, has_flag};
-use crate::index::Index;
-use crate::order::Order;
+use class_index::{Index, Order, STATIC, has_flag};
 use const_pool::{ClassFile, Kind, Member};
 use jf_bytes::{NoMemory, Seq};
 use std::alloc::Global;

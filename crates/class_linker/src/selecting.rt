@@ -7,12 +7,11 @@ ghost use Rattle.jvm_model.specs.Selection.{candidate, fits, nearest, same_membe
 ghost use Rattle.class_linker.specs.Places.{at_place};
 ghost use Rattle.class_linker.specs.Rows.{AreRows, all_rows, has_row};
 
-use crate::index::Index;
-use crate::members::method_at;
 use crate::overriding::{is_abstract, is_static, overrides, signature_of};
 use crate::place::Place;
 use crate::rows::Row;
 use crate::walks::superclasses_of;
+use class_index::{Index, method_at};
 
 fn same_member(a: Place, b: Place) -> bool
     ensures { result ≡ same_member (at_place a) (at_place b) }

@@ -9,10 +9,10 @@ ghost use Rattle.class_linker.specs.Linkers.{loaded_in, stopped_by};
 ghost use Rattle.class_linker.specs.States.{IsLater, IsState, fault_view};
 
 use crate::answers::Loaded;
-use crate::index::Index;
 use crate::kinds::kind_named;
 use crate::loading::{Fault, State, load_all};
 use crate::resolving::incompatible_change;
+use class_index::Index;
 use jf_bytes::{NoMemory, Seq};
 use std::alloc::Global;
 

@@ -3,13 +3,13 @@
 ghost use Rattle.std.specs.Prelude.{◌≡◌, true};
 ghost use Rattle.jvm_model.specs.Layouts.{layout};
 ghost use Rattle.jvm_model.specs.Lookup.{is_subtype, superclasses, superinterfaces, supertypes};
-ghost use Rattle.class_linker.specs.Orders.{IsSearchedAs};
+ghost use Rattle.class_index.specs.Orders.{IsSearchedAs};
 ghost use Rattle.class_linker.specs.Rows.{AreRows, all_rows, has_row};
 
-use crate::index::Index;
 use crate::rows::{
     Row, has_supertype, layout_in, superclasses_in, superinterfaces_in, supertypes_in,
 };
+use class_index::Index;
 use const_pool::Kind;
 
 /// A class and its superclasses, upwards.

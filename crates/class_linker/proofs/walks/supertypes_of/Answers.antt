@@ -1,6 +1,6 @@
 use Rattle.std.proofs.Common.{◌∙◌, ap, sym, subst}
 use Rattle.jvm_model.specs.Lookup.{supertypes}
-use Rattle.class_linker.specs.Orders.{IsSearchedAs}
+use Rattle.class_index.specs.Orders.{IsSearchedAs}
 use Rattle.class_linker.specs.Rows.{all_rows}
 use Rattle.class_linker.proofs.Walked.{supertypes_rows, supertypes_walked}
 use Rattle.class_linker.proofs.walks.supertypes_of.Goals as goal

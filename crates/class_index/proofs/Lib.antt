@@ -1,0 +1,5 @@
+mod NameLemmas
+mod IndexLemmas
+pub mod OrderLemmas
+pub mod MemberTexts
+mod BucketLemmas
