@@ -1,6 +1,6 @@
 //! The members of a class by numbers of their names and descriptors.
 
-ghost use Rattle.std.specs.Prelude.{◌≡◌, ◌<◌, ◌+◌, ◌%◌, ◌^◌, [], find, length, replicate, unwrap_or};
+ghost use Rattle.std.specs.Prelude.{◌≡◌, ◌<◌, ◌^◌, [], find, length, replicate, unwrap_or};
 ghost use Rattle.const_pool.specs.References.{named_text};
 ghost use Rattle.std.specs.Prelude.{IfOk, OnOk};
 ghost use Rattle.class_index.specs.Buckets.{bucket_at, buckets_of, is_at, member_number};
