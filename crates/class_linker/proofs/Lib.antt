@@ -7,3 +7,4 @@ mod Begun
 mod Subtypes
 mod OverridingLaws
 mod OverridingTest
+mod WorkedAnswers

@@ -46,6 +46,6 @@ pub mod WorkedRuns
 pub mod WorkedThrows
 pub mod WorkedInitializers
 pub mod WorkedLimits
-mod WorkedClasses
+pub mod WorkedClasses
 mod WorkedLoads
 mod WorkedLookups

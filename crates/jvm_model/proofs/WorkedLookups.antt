@@ -167,3 +167,30 @@ dimensions_count = refl
 
 pub no_array_is_below : is_subkind with_arrays (record { dimensions = 0; base = 16 }) (record { dimensions = 1; base = 16 }) ≡ false
 no_array_is_below = refl
+
+-- ---- an interface whose superclass is A, with a field, and B that implements it: B is a subtype of A and extends it not
+
+abbrev through_an_interface : Program
+through_an_interface = program_of (
+    root_class
+    ∷ with_fields (item 0 (codes "f") (codes "I") ∷ []) (class_shape a object [])
+    ∷ class_shape b object (i ∷ [])
+    ∷ record (class_shape i a []) { access = 1537 }
+    ∷ [])
+
+pub is_below : is_subtype through_an_interface 2 1 ≡ true
+is_below = refl
+
+pub has_its_field : resolved_field through_an_interface 2 f ≡ Found (place_in 1 0)
+has_its_field = refl
+
+pub has_no_slot_for_it : layout through_an_interface 2 ≡ []
+has_no_slot_for_it = refl
+
+-- ---- a list that can't be loaded: each walk ends
+
+abbrev in_a_circle : Program
+in_a_circle = program_of (class_shape a b [] ∷ class_shape b a [] ∷ [])
+
+pub walk_is_cut : resolved_field in_a_circle 0 f ≡ Fails no_such_field
+walk_is_cut = refl
