@@ -1,5 +1,5 @@
 -- What was loaded so far, and how loading changes it.
-use Rattle.std.specs.Prelude.{◌≡◌, ℕ, ◌<◌, Bool, true, false, List, length, Option, flat_map, map, ◌++◌, take}
+use Rattle.std.specs.Prelude.{◌≡◌, ℕ, ◌<◌, Bool, true, false, List, length, Option, flat_map, map, [], ◌∷◌, ◌++◌, take}
 use Rattle.std.specs.Option.{option_map, option_to_list}
 use Rattle.const_pool.specs.declared.class.ClassFile.{ClassFile}
 use Rattle.const_pool.specs.References.{named_class}
@@ -12,6 +12,8 @@ use Rattle.class_linker.specs.declared.loading.Fault.TheVariants as code
 use Rattle.class_linker.specs.declared.loading.Standing.{Standing}
 use Rattle.class_linker.specs.declared.loading.Standing.TheVariants.{Ended, Fresh}
 use Rattle.class_linker.specs.declared.loading.Need.{Need}
+use Rattle.class_linker.specs.declared.loading.Begun.{Begun}
+use Rattle.class_linker.specs.declared.loading.Begun.TheVariants as begun
 use Rattle.class_linker.specs.declared.loading.State.{State}
 use Rattle.class_linker.specs.Rows.{AreKept, AreRows, Rows, has_row}
 
@@ -73,3 +75,17 @@ pub record IsFresh (p : Program) (path loaded : List ℕ) (class : ℕ) : Type 0
 abbrev pub IfFresh : Program → List ℕ → List ℕ → Standing → Type 0
 IfFresh p path loaded (Ended fault) = Unit {0}
 IfFresh p path loaded (Fresh class) = IsFresh p path loaded class
+
+-- ---- the same, with the class on the path
+
+abbrev pub as_standing : Begun → Standing
+as_standing (begun.Ended fault) = Ended fault
+as_standing (begun.Class opened) = Fresh opened.class
+
+abbrev pub path_behind : List ℕ → Begun → List ℕ
+path_behind path (begun.Ended fault) = path
+path_behind path (begun.Class opened) = path ++ opened.class ∷ []
+
+abbrev pub HasNeeds : Program → Begun → Type 0
+HasNeeds p (begun.Ended fault) = Unit {0}
+HasNeeds p (begun.Class opened) = map need_view opened.needs ≡ load.needs_of p opened.class

@@ -1,13 +1,14 @@
 //! Loading classes (JVM Specification 5.3).
 
 ghost use Rattle.std.specs.Prelude.{◌≡◌, ◌<◌, ◌++◌, ◌∷◌, [], ℕ, false, true, length, map};
-ghost use Rattle.std.specs.Prelude.{IfOk, None, OnOk};
+ghost use Rattle.std.specs.Prelude.{IfOk, None, OnOk, take};
 ghost use Rattle.jvm_model.specs.Load.{Loading, NoClass, is_among, is_met, load_named, load_of};
 ghost use Rattle.jvm_model.specs.Load.{needs_of};
 ghost use Rattle.jvm_model.specs.Lookup.{interfaces_of, superclass_of};
 ghost use Rattle.class_linker.specs.Rows.{AreKept, AreRows, all_rows, has_row, row_made};
 ghost use Rattle.class_linker.specs.States.{IfFresh, IsLater, IsState, loading_view};
-ghost use Rattle.class_linker.specs.States.{class_loading, fault_view, named_loading, need_view};
+ghost use Rattle.class_linker.specs.States.{HasNeeds, as_standing, class_loading, fault_view};
+ghost use Rattle.class_linker.specs.States.{named_loading, need_view, path_behind};
 ghost use Rattle.class_linker.specs.States.{needs_at, needs_in, standing_loading};
 
 use crate::rows::{Row, has_row, row_made};
@@ -37,6 +38,20 @@ pub struct Need<'a> {
 pub enum Standing {
     Ended(Option<Fault>),
     Fresh(u32),
+}
+
+/// A class that is being loaded, with what it needs.
+#[derive(Drop)]
+pub struct Opened<'a> {
+    pub class: u32,
+    pub needs: Seq<Need<'a>>,
+}
+
+/// The same, where a class that is to be loaded is being loaded now.
+#[derive(Drop)]
+pub enum Begun<'a> {
+    Ended(Option<Fault>),
+    Class(Opened<'a>),
 }
 
 /// The rows of the classes, and which are loaded, in order. A row may stay when its class could not be loaded after all.
@@ -210,6 +225,69 @@ fn look_up(
     }
 }
 
+/// Puts a class on the path.
+fn open<'a>(
+    alloc: Global,
+    index: &'a Index,
+    path: &mut Order,
+    class: u32,
+) -> Result<Opened<'a>, NoMemory>
+    requires { is_among class path.old ≡ false }
+    ensures class { IfOk result (λ o. o.class ≡ class) }
+    ensures needs { IfOk result (λ o. map need_view o.needs ≡ needs_of index.now class) }
+    ensures path { OnOk result (path.new ≡ path.old ++ class ∷ []) }
+{
+    let needs = needs_of(alloc, index, class)?;
+    path.add(class)?;
+    Ok(Opened { class, needs })
+}
+
+/// Looks at how a name stands, and puts its class on the path where it is to be loaded.
+#[inline(never)]
+fn begin<'a>(
+    alloc: Global,
+    index: &'a Index,
+    loaded: &Order,
+    path: &mut Order,
+    name: &[u16],
+) -> Result<Begun<'a>, NoMemory>
+    ensures fresh { IfOk result (λ b. IfFresh index.now path.old loaded.now (as_standing b)) }
+    ensures loading { IfOk result (λ b. (fresh : ℕ → Loading)
+        → standing_loading (as_standing b) loaded.now fresh
+        ≡ named_loading index.now path.old name.now loaded.now fresh) }
+    ensures needs { IfOk result (HasNeeds index.now) }
+    ensures path { IfOk result (λ b. path.new ≡ path_behind path.old b) }
+{
+    match look_up(alloc, index, loaded, path, name)? {
+        Standing::Ended(fault) => Ok(Begun::Ended(fault)),
+        Standing::Fresh(class) => Ok(Begun::Class(open(alloc, index, path, class)?)),
+    }
+}
+
+/// Takes a class off the path and notes it as loaded.
+#[inline(never)]
+fn close(
+    alloc: Global,
+    index: &Index,
+    state: &mut State,
+    path: &mut Order,
+    before: usize,
+    class: u32,
+) -> Result<(), NoMemory>
+    requires state { IsState index.now state.old }
+    requires within { class < length state.old.rows }
+    requires fresh { is_among class state.old.loaded ≡ false }
+    requires interfaces { all_rows state.old.rows (interfaces_of index.now class) ≡ true }
+    requires above { all_rows state.old.rows (superclass_of index.now class) ≡ true }
+    ensures state { IsState index.now state.new }
+    ensures later { IsLater state.old state.new }
+    ensures loaded { OnOk result (state.new.loaded ≡ state.old.loaded ++ class ∷ []) }
+    ensures path { path.new ≡ take before path.old }
+{
+    path.truncate(before);
+    finish(alloc, index, state, class)
+}
+
 /// Loads what a name stands for, with the classes of the path being loaded. The depth bounds the path.
 fn load_named(
     alloc: Global,
@@ -229,13 +307,12 @@ fn load_named(
     if depth == 0 {
         return Ok(Some(Fault::Circular));
     }
-    let class = match look_up(alloc, index, &state.loaded, path, name)? {
-        Standing::Ended(fault) => return Ok(fault),
-        Standing::Fresh(class) => class,
-    };
-    let needs = needs_of(alloc, index, class)?;
     let before = path.len();
-    path.add(class)?;
+    let opened = match begin(alloc, index, &state.loaded, path, name)? {
+        Begun::Ended(fault) => return Ok(fault),
+        Begun::Class(opened) => opened,
+    };
+    let Opened { class, needs } = opened;
     for need in needs.as_slice() {
         if let Some(fault) = load_named(alloc, index, state, path, depth - 1, need.name)? {
             return Ok(Some(fault));
@@ -244,8 +321,7 @@ fn load_named(
             return Ok(Some(Fault::Incompatible));
         }
     }
-    path.truncate(before);
-    finish(alloc, index, state, class)?;
+    close(alloc, index, state, path, before, class)?;
     Ok(None)
 }
 
