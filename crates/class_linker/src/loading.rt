@@ -64,6 +64,7 @@ pub struct State {
 // ---- what a class needs
 
 /// Whether the name is one of a class of the asked kind.
+#[inline(never)]
 fn is_met(index: &Index, need: &Need<'_>) -> bool
     ensures { result ≡ is_met index.now (need_view need.now) }
 {
