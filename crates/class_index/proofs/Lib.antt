@@ -1,0 +1,8 @@
+mod NameLemmas
+mod IndexLemmas
+pub mod OrderLemmas
+pub mod MemberTexts
+mod BucketLemmas
+pub mod WorkedClasses
+mod WorkedLoads
+mod WorkedLookups

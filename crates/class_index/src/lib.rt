@@ -1,0 +1,21 @@
+//! The classes of a program by their names, and the members of each class by name and descriptor (JVM Specification 5.3, 5.4.3): by
+//! tables that are made once.
+#![tactic(auto)]
+
+mod access;
+mod index;
+mod meaning;
+mod members;
+mod names;
+mod order;
+mod package;
+mod table;
+mod wanted;
+
+pub use access::{ABSTRACT, INTERFACE, PRIVATE, PROTECTED, PUBLIC, STATIC, has_flag};
+pub use index::Index;
+pub use meaning::{Element, Meaning, is_array_name, meaning_of};
+pub use members::{field_at, first_field, first_method, method_at};
+pub use order::Order;
+pub use package::in_same_package;
+pub use wanted::Wanted;

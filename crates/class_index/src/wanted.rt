@@ -1,0 +1,33 @@
+//! A member that is wanted.
+
+ghost use Rattle.std.specs.Prelude.{◌≡◌};
+ghost use Rattle.jvm_model.specs.Methods.{is_member, same_text_at};
+ghost use Rattle.class_index.specs.Members.{wanted_view};
+
+use const_pool::{Member, Pool};
+use jf_bytes::Text16;
+
+/// The name and the descriptor of a member.
+#[derive(Clone, Copy)]
+pub struct Wanted<'a> {
+    pub name: &'a Text16,
+    pub descriptor: &'a Text16,
+}
+
+/// Whether an entry is this text.
+fn is_text_at(pool: &Pool, entry: u16, text: &Text16) -> bool
+    ensures { result ≡ same_text_at pool.now entry text.now }
+{
+    match pool.text(entry) {
+        Ok(found) => found.same(text),
+        Err(_) => false,
+    }
+}
+
+/// Whether a member has this name and this descriptor.
+pub fn is_member(pool: &Pool, wanted: &Wanted<'_>, member: &Member) -> bool
+    ensures { result ≡ is_member pool.now (wanted_view wanted.now) member.now }
+{
+    is_text_at(pool, member.name, wanted.name)
+        && is_text_at(pool, member.descriptor, wanted.descriptor)
+}

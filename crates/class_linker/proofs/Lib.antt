@@ -1,0 +1,10 @@
+mod RowLemmas
+mod LoadLemmas
+mod LoadWalks
+mod LoadLoop
+mod Walked
+mod Begun
+mod Subtypes
+mod OverridingLaws
+mod OverridingTest
+mod WorkedAnswers

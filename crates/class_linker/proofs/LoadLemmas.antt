@@ -1,0 +1,86 @@
+-- What loading needs and leaves.
+use Rattle.std.proofs.Common.{◌≡◌, ℕ, Bool, true, false, List, [], ◌∷◌, ◌++◌, length, map, ap, ap₂, sym, refl, ◌∙◌, arith}
+use Rattle.std.specs.Prelude.{Option, Some, None, filter_map, flat_map, take, ◌==◌, ◌||◌}
+use Rattle.std.proofs.Math.Seq.{take-append_seam, take-length}
+use Rattle.std.specs.List.{cons_option}
+use Rattle.std.specs.Option.{option_to_list}
+use Rattle.const_pool.specs.declared.class.ClassFile.{ClassFile}
+use Rattle.const_pool.specs.References.{named_class}
+use Rattle.class_index.specs.Load as load
+use Rattle.jvm_model.specs.declared.program.Program.{Program}
+use Rattle.class_linker.specs.declared.loading.State.{State}
+use Rattle.class_linker.specs.Rows.{AreKept, AreRows, Rows, has_row}
+use Rattle.class_linker.specs.States.{IsLater, IsState, needs_at, needs_in}
+use Rattle.class_index.proofs.OrderLemmas.{equal}
+
+each_need : (f : ℕ → Option (List ℕ)) (xs : List ℕ)
+    → flat_map (λ x. map (load.need true) (option_to_list (f x))) xs ≡ map (load.need true) (filter_map f xs)
+each_need f [] = refl
+each_need f (x ∷ xs) = by (f x) (each_need f xs)
+  where
+    by : (o : Option (List ℕ)) → flat_map (λ x. map (load.need true) (option_to_list (f x))) xs ≡ map (load.need true) (filter_map f xs)
+        → map (load.need true) (option_to_list o) ++ flat_map (λ x. map (load.need true) (option_to_list (f x))) xs
+        ≡ map (load.need true) (cons_option o (filter_map f xs))
+    by None rest = rest
+    by (Some name) rest = ap (λ l. load.need true name ∷ l) rest
+
+pub needs_are : (c : ClassFile) → needs_in c ≡ load.class_needs c
+needs_are c = ap (λ l. needs_at c false c.super_class ++ l) (each_need (named_class c.pool) c.interfaces)
+
+-- ---- what is among classes
+
+false_true : false ≡ true → ⊥
+false_true e = cc
+
+pub among-append : (class : ℕ) (xs ys : List ℕ) → load.is_among class (xs ++ ys) ≡ (load.is_among class xs || load.is_among class ys)
+among-append class [] ys = refl
+among-append class (x ∷ xs) ys = by (class == x) (among-append class xs ys)
+  where
+    by : (b : Bool) → load.is_among class (xs ++ ys) ≡ (load.is_among class xs || load.is_among class ys)
+        → (b || load.is_among class (xs ++ ys)) ≡ ((b || load.is_among class xs) || load.is_among class ys)
+    by true rest = refl
+    by false rest = rest
+
+equals_itself : (n : ℕ) → (n == n) ≡ true
+equals_itself n = grind (arith)
+
+pub among-last : (class : ℕ) (xs : List ℕ) → load.is_among class (xs ++ class ∷ []) ≡ true
+among-last class xs = among-append class xs (class ∷ []) ∙ (ap (λ b. load.is_among class xs || (b || false)) (equals_itself class) ∙ by (load.is_among class xs))
+  where
+    by : (b : Bool) → (b || true) ≡ true
+    by true = refl
+    by false = refl
+
+pub among-front : (class : ℕ) (xs ys : List ℕ) → load.is_among class xs ≡ true → load.is_among class (xs ++ ys) ≡ true
+among-front class xs ys is = among-append class xs ys ∙ ap (λ b. b || load.is_among class ys) is
+
+-- ---- a state after a row was made
+
+module _ (p : Program) (s : State) (rows : Rows) (is : IsState p s) (are : AreRows p rows) (kept : AreKept s.rows rows) where
+  pub state_same : (loaded : List ℕ) → loaded ≡ s.loaded → IsState p (record { rows = rows; loaded = loaded })
+  state_same loaded same = record {
+    rows = are;
+    loaded = λ c among. kept c (is.loaded c (ap (load.is_among c) (sym same) ∙ among));
+  }
+
+  pub state_more : (class : ℕ) (loaded : List ℕ) → loaded ≡ s.loaded ++ class ∷ [] → has_row rows class ≡ true
+      → IsState p (record { rows = rows; loaded = loaded })
+  state_more class loaded more has = record {
+    rows = are;
+    loaded = λ c among. by c (load.is_among c s.loaded) (c == class) refl refl (sym (among-append c s.loaded (class ∷ [])) ∙ (ap (load.is_among c) (sym more) ∙ among));
+  }
+    where
+      by : (c : ℕ) (before last : Bool) → load.is_among c s.loaded ≡ before → (c == class) ≡ last
+          → (load.is_among c s.loaded || ((c == class) || false)) ≡ true → has_row rows c ≡ true
+      by c true last was is_last among = kept c (is.loaded c was)
+      by c false true was is_last among = ap (has_row rows) (equal c class is_last) ∙ has
+      by c false false was is_last among =
+          absurd (false_true (sym (ap₂ (λ a b. a || (b || false)) was is_last) ∙ among))
+
+pub later_same : (s : State) (rows : Rows) (loaded : List ℕ) → AreKept s.rows rows → loaded ≡ s.loaded → IsLater s (record { rows = rows; loaded = loaded })
+later_same s rows loaded kept same = record { rows = kept; loaded = ap (take (length s.loaded)) same ∙ take-length s.loaded }
+
+pub later_more : (s : State) (rows : Rows) (loaded more : List ℕ) → AreKept s.rows rows → loaded ≡ s.loaded ++ more
+    → IsLater s (record { rows = rows; loaded = loaded })
+later_more s rows loaded more kept same =
+    record { rows = kept; loaded = ap (take (length s.loaded)) same ∙ take-append_seam s.loaded more }

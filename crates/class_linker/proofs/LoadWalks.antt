@@ -1,0 +1,309 @@
+-- What loading leaves as it is, and what is loaded when it has no fault.
+use Rattle.std.proofs.Common.{◌≡◌, ◌≢◌, ℕ, zero, suc, ◌-◌, Bool, true, false, List, [], ◌∷◌, ◌++◌, map, ap, ap₂, sym, refl, ◌∙◌, arith}
+use Rattle.std.specs.Prelude.{Option, Some, None, filter_map, not, unwrap_or, ◌==◌, ◌||◌, ◌&&◌, if◌then◌else◌}
+use Rattle.std.specs.Bool.{beq}
+use Rattle.std.specs.List.{cons_option, list_all}
+use Rattle.std.specs.Option.{option_and_then, option_map_or, option_to_list}
+use Rattle.const_pool.specs.declared.class.ClassFile.{ClassFile}
+use Rattle.const_pool.specs.References.{named_class}
+use Rattle.class_index.specs.Kinds.{Element, Primitive, Named, array_from, array_of, is_array_name, meaning_of}
+use Rattle.class_index.specs.Load.{Fault, Circular, Incompatible, Loading, Need, There, Begun, Fresh as Unloaded, behind_needs, by_standing, class_needs, done, failed, go_on, is_among, is_met, load_element, load_named, load_needs, need, need_fault, needs_of, standing_of, unless}
+use Rattle.class_index.specs.Lookup.{interface_names, interfaces_of, is_interface, superclass_of}
+use Rattle.jvm_model.specs.Programs.{class_at, class_named}
+use Rattle.jvm_model.specs.declared.program.Program.{Program}
+use Rattle.class_linker.specs.declared.loading.Fault as code
+use Rattle.class_linker.specs.declared.loading.Standing.{Standing}
+use Rattle.class_linker.specs.declared.loading.Standing.TheVariants.{Ended, Fresh}
+use Rattle.class_linker.specs.States.{loading_view, named_loading, standing_loading}
+use Rattle.class_linker.proofs.LoadLemmas.{among-append, among-front, among-last}
+use Rattle.class_index.proofs.OrderLemmas.{equal}
+
+false_true : false ≡ true → ⊥
+false_true e = cc
+
+-- ---- what holds of the loaded classes and is kept by one more that is not on the path holds at the end
+
+module _ (p : Program) (P : List ℕ → Type 0) (first : List ℕ)
+    (one_more : (loaded : List ℕ) (class : ℕ) → is_among class first ≡ false → P loaded → P (loaded ++ class ∷ [])) where
+  unless_kept : (o : Option Fault) (loaded : List ℕ) (next : List ℕ → Loading) → P loaded → ((l : List ℕ) → P l → P (next l).loaded)
+      → P (unless o loaded next).loaded
+  unless_kept None loaded next h k = k loaded h
+  unless_kept (Some fault) loaded next h k = h
+
+  needs_kept : (load : List ℕ → List ℕ → Loading) → ((name loaded : List ℕ) → P loaded → P (load name loaded).loaded)
+      → (needs : List Need) (loaded : List ℕ) → P loaded → P (load_needs p load needs loaded).loaded
+  needs_kept load k [] loaded h = h
+  needs_kept load k (n ∷ rest) loaded h =
+      unless_kept (load n.name loaded).fault (load n.name loaded).loaded (λ after. unless (need_fault p n) after (load_needs p load rest)) (k n.name loaded h)
+      (λ l g. unless_kept (need_fault p n) l (load_needs p load rest) g (needs_kept load k rest))
+
+  behind_kept : (class : ℕ) (l : Loading) → is_among class first ≡ false → P l.loaded → P (behind_needs class l).loaded
+  behind_kept class l other h = unless_kept l.fault l.loaded (λ loaded. done (loaded ++ class ∷ [])) h (λ loaded g. one_more loaded class other g)
+
+  -- the path has the first classes
+  Begins : List ℕ → Type 0
+  Begins path = (class : ℕ) → is_among class path ≡ false → is_among class first ≡ false
+
+  class_kept : (path name loaded : List ℕ) (fresh : ℕ → Loading) (o : Option ℕ) → P loaded
+      → ((class : ℕ) → is_among class path ≡ false → P (fresh class).loaded)
+      → P (by_standing (standing_of path loaded o) name loaded fresh).loaded
+  class_kept path name loaded fresh None h k = h
+  class_kept path name loaded fresh (Some class) h k = by (is_among class loaded) (is_among class path) refl
+    where
+      by : (a b : Bool) → is_among class path ≡ b
+          → P (by_standing (if a then There else if b then Begun else Unloaded class) name loaded fresh).loaded
+      by true b e = h
+      by false true e = h
+      by false false e = k class e
+
+  element_kept : (loaded : List ℕ) (load : List ℕ → Loading) (e : Element) → P loaded → ((name : List ℕ) → P (load name).loaded)
+      → P (load_element e loaded load).loaded
+  element_kept loaded load (Primitive code) h k = h
+  element_kept loaded load (Named name) h k = k name
+
+  longer : (path : List ℕ) (class : ℕ) → ((c : ℕ) → is_among c path ≡ false → is_among c first ≡ false)
+      → (c : ℕ) → is_among c (path ++ class ∷ []) ≡ false → is_among c first ≡ false
+  longer path class begins c out = begins c (by (is_among c path) refl)
+    where
+      by : (b : Bool) → is_among c path ≡ b → is_among c path ≡ false
+      by false e = e
+      by true e = absurd (false_true (sym out ∙ among-front c path (class ∷ []) e))
+
+  pub named_kept : (depth : ℕ) (path : List ℕ) → ((c : ℕ) → is_among c path ≡ false → is_among c first ≡ false)
+      → (name loaded : List ℕ) → P loaded → P (load_named p depth path name loaded).loaded
+  named_kept zero path begins name loaded h = h
+  named_kept (suc n) path begins name loaded h =
+      let within : ℕ → List ℕ → List ℕ → Loading = λ class. load_named p n (path ++ class ∷ []) in
+      let fresh : ℕ → Loading = λ class. behind_needs class (load_needs p (within class) (needs_of p class) loaded) in
+      element_kept loaded (λ class_name. by_standing (standing_of path loaded (class_named p class_name)) class_name loaded fresh) (meaning_of name).element h
+      (λ class_name. class_kept path class_name loaded fresh (class_named p class_name) h
+      (λ class out. behind_kept class (load_needs p (within class) (needs_of p class) loaded) (begins class out)
+      (needs_kept (within class) (named_kept n (path ++ class ∷ []) (longer path class begins)) (needs_of p class) loaded h)))
+
+-- ---- what is loaded stays, and what is being loaded is not loaded
+
+module _ (p : Program) (c : ℕ) where
+  none_first : (class : ℕ) (path : List ℕ) → is_among class path ≡ false → is_among class [] ≡ false
+  none_first class path out = refl
+
+  pub named_stays : (depth : ℕ) (path name loaded : List ℕ) → is_among c loaded ≡ true → is_among c (load_named p depth path name loaded).loaded ≡ true
+  named_stays depth path name loaded h =
+      named_kept p (λ l. is_among c l ≡ true) [] (λ l class out g. among-front c l (class ∷ []) g) depth path (λ class out. refl) name loaded h
+
+  pub needs_stay : (depth : ℕ) (path : List ℕ) (needs : List Need) (loaded : List ℕ) → is_among c loaded ≡ true
+      → is_among c (load_needs p (load_named p depth path) needs loaded).loaded ≡ true
+  needs_stay depth path needs loaded h =
+      needs_kept p (λ l. is_among c l ≡ true) [] (λ l class out g. among-front c l (class ∷ []) g) (load_named p depth path) (named_stays depth path) needs loaded h
+
+  -- one more that is not the class
+  not_more : (l : List ℕ) (class : ℕ) → is_among class (c ∷ []) ≡ false → is_among c l ≡ false → is_among c (l ++ class ∷ []) ≡ false
+  not_more l class other g = among-append c l (class ∷ []) ∙ (ap (λ b. b || ((c == class) || false)) g ∙ ap (λ b. b || false) (apart (class == c) refl other))
+    where
+      apart : (b : Bool) → (class == c) ≡ b → (b || false) ≡ false → (c == class) ≡ false
+      apart true e h = absurd (false_true (sym h))
+      apart false e h = grind (arith)
+
+  on_path : (path : List ℕ) → is_among c path ≡ true → (class : ℕ) → is_among class path ≡ false → is_among class (c ∷ []) ≡ false
+  on_path path has class out = by (class == c) refl
+    where
+      by : (b : Bool) → (class == c) ≡ b → (b || false) ≡ false
+      by true e = absurd (false_true (sym out ∙ (ap (λ k. is_among k path) (equal class c e) ∙ has)))
+      by false e = refl
+
+  pub not_loaded : (depth : ℕ) (path : List ℕ) (needs : List Need) (loaded : List ℕ) → is_among c path ≡ true → is_among c loaded ≡ false
+      → is_among c (load_needs p (load_named p depth path) needs loaded).loaded ≡ false
+  not_loaded depth path needs loaded has h =
+      needs_kept p (λ l. is_among c l ≡ false) (c ∷ []) not_more (load_named p depth path)
+      (named_kept p (λ l. is_among c l ≡ false) (c ∷ []) not_more depth path (on_path path has)) needs loaded h
+
+-- ---- a name that is looked up
+
+-- what a class loads that is not loaded yet
+abbrev pub fresh_of : Program → ℕ → List ℕ → List ℕ → ℕ → Loading
+fresh_of p depth path loaded class = behind_needs class (load_needs p (load_named p (depth - 1) (path ++ class ∷ [])) (needs_of p class) loaded)
+
+one_less : (n : ℕ) → n ≡ suc n - 1
+one_less n = omega arith
+
+opened : (p : Program) (depth : ℕ) (path name loaded : List ℕ) → depth ≢ 0
+    → load_named p depth path name loaded ≡ named_loading p path name loaded (fresh_of p depth path loaded)
+opened p zero path name loaded some = absurd (some refl)
+opened p (suc n) path name loaded some =
+    ap (λ d. named_loading p path name loaded (λ class. behind_needs class (load_needs p (load_named p d (path ++ class ∷ [])) (needs_of p class) loaded))) (one_less n)
+
+module _ (p : Program) (depth : ℕ) (path name loaded : List ℕ) (some : depth ≢ 0) (s : Standing)
+    (looked : (fresh : ℕ → Loading) → standing_loading s loaded fresh ≡ named_loading p path name loaded fresh) where
+  pub ended_is : (fault : Option code.Fault) → s ≡ Ended fault → loading_view loaded fault ≡ load_named p depth path name loaded
+  ended_is fault is =
+      ap (λ t. standing_loading t loaded (fresh_of p depth path loaded)) (sym is)
+      ∙ (looked (fresh_of p depth path loaded) ∙ sym (opened p depth path name loaded some))
+
+  pub fresh_is : (class : ℕ) → s ≡ Fresh class → fresh_of p depth path loaded class ≡ load_named p depth path name loaded
+  fresh_is class is =
+      ap (λ t. standing_loading t loaded (fresh_of p depth path loaded)) (sym is)
+      ∙ (looked (fresh_of p depth path loaded) ∙ sym (opened p depth path name loaded some))
+
+-- ---- where loading stops
+
+-- at a need that has a fault
+pub stops_at : (p : Program) (load : List ℕ → List ℕ → Loading) (n : Need) (rest : List Need) (loaded after : List ℕ) (fault : Fault)
+    → load n.name loaded ≡ failed after fault → load_needs p load (n ∷ rest) loaded ≡ failed after fault
+stops_at p load n rest loaded after fault e = ap (λ l. go_on l (λ l. unless (need_fault p n) l (load_needs p load rest))) e
+
+-- at a need that is not met
+pub stops_behind : (p : Program) (load : List ℕ → List ℕ → Loading) (n : Need) (rest : List Need) (loaded after : List ℕ)
+    → load n.name loaded ≡ done after → is_met p n ≡ false → load_needs p load (n ∷ rest) loaded ≡ failed after Incompatible
+stops_behind p load n rest loaded after e not_met =
+    ap (λ l. go_on l (λ l. unless (need_fault p n) l (load_needs p load rest))) e
+    ∙ ap (λ b. unless (if b then None else Some Incompatible) after (load_needs p load rest)) not_met
+
+-- ---- what is loaded where there is no fault
+
+some_none : (f : Fault) → Some f ≡ None → ⊥
+some_none f e = cc
+
+failed_done : (loaded after : List ℕ) (fault : Fault) → failed loaded fault ≡ done after → ⊥
+failed_done loaded after fault e = some_none fault (ap (λ (l : Loading). l.fault) e)
+
+done_done : (loaded after : List ℕ) → done loaded ≡ done after → loaded ≡ after
+done_done loaded after e = ap (λ (l : Loading). l.loaded) e
+
+module _ (p : Program) (class : ℕ) (after : List ℕ) where
+  behind_done : (l : Loading) → behind_needs class l ≡ done after → is_among class after ≡ true
+  behind_done l e = by l.fault e
+    where
+      by : (o : Option Fault) → unless o l.loaded (λ loaded. done (loaded ++ class ∷ [])) ≡ done after → is_among class after ≡ true
+      by None h = ap (is_among class) (sym (done_done (l.loaded ++ class ∷ []) after h)) ∙ among-last class l.loaded
+      by (Some fault) h = absurd (failed_done l.loaded after fault h)
+
+  class_done : (depth : ℕ) (path name loaded : List ℕ)
+      → by_standing (standing_of path loaded (Some class)) name loaded (λ class. behind_needs class (load_needs p (load_named p depth (path ++ class ∷ [])) (needs_of p class) loaded)) ≡ done after
+      → is_among class after ≡ true
+  class_done depth path name loaded e = by (is_among class loaded) (is_among class path) refl e
+    where
+      fresh : ℕ → Loading
+      fresh class = behind_needs class (load_needs p (load_named p depth (path ++ class ∷ [])) (needs_of p class) loaded)
+
+      by : (a b : Bool) → is_among class loaded ≡ a
+          → by_standing (if a then There else if b then Begun else Unloaded class) name loaded (λ class. behind_needs class (load_needs p (load_named p depth (path ++ class ∷ [])) (needs_of p class) loaded)) ≡ done after
+          → is_among class after ≡ true
+      by true b is h = ap (is_among class) (sym (done_done loaded after h)) ∙ is
+      by false true is h = absurd (failed_done loaded after Circular h)
+      by false false is h = behind_done (load_needs p (load_named p depth (path ++ class ∷ [])) (needs_of p class) loaded) h
+
+  pub named_done : (depth : ℕ) (path name loaded : List ℕ) → is_array_name name ≡ false → class_named p name ≡ Some class
+      → load_named p depth path name loaded ≡ done after → is_among class after ≡ true
+  named_done zero path name loaded plain is e = absurd (failed_done loaded after Circular e)
+  named_done (suc n) path name loaded plain is e =
+      let fresh : ℕ → Loading = λ class. behind_needs class (load_needs p (load_named p n (path ++ class ∷ [])) (needs_of p class) loaded) in
+      let by_name : List ℕ → Loading = λ class_name. by_standing (standing_of path loaded (class_named p class_name)) class_name loaded fresh in
+      class_done n path name loaded
+      (sym (ap (λ o. by_standing (standing_of path loaded o) name loaded fresh) is)
+      ∙ (sym (ap (λ (b : Bool). load_element (if b then unwrap_or (array_from 0 name) (array_of 0 (Named name)) else array_of 0 (Named name)).element loaded by_name) plain) ∙ e))
+
+-- ---- the classes of needs
+
+first_of_and : (a b : Bool) → (a && b) ≡ true → a ≡ true
+first_of_and true b h = refl
+first_of_and false b h = absurd (false_true h)
+
+second_of_and : (a b : Bool) → (a && b) ≡ true → b ≡ true
+second_of_and true b h = h
+second_of_and false b h = absurd (false_true h)
+
+-- the class of a need passes the test
+abbrev pub passes : Program → (ℕ → Bool) → Need → Bool
+passes p test n = option_map_or test (class_named p n.name) false
+
+module _ (p : Program) (depth : ℕ) (path after : List ℕ) where
+  met_done : (n : Need) (rest : List Need) (loaded now : List ℕ) → load_named p depth path n.name loaded ≡ done now
+      → load_needs p (load_named p depth path) rest now ≡ done after → is_met p n ≡ true → passes p (λ c. is_among c after) n ≡ true
+  met_done n rest loaded now one others met = by (class_named p n.name) refl (second_of_and (not (is_array_name n.name)) _ met)
+    where
+      plain : (b : Bool) → not b ≡ true → b ≡ false
+      plain false h = refl
+      plain true h = absurd (false_true h)
+
+      by : (o : Option ℕ) → class_named p n.name ≡ o → option_map_or (λ class. beq (is_interface p class) n.interface) o false ≡ true
+          → option_map_or (λ c. is_among c after) o false ≡ true
+      by None is h = absurd (false_true h)
+      by (Some class) is h =
+          let there = named_done p class now depth path n.name loaded
+          (plain (is_array_name n.name) (first_of_and (not (is_array_name n.name)) _ met)) is one in
+          ap (is_among class) (sym (ap (λ (l : Loading). l.loaded) others)) ∙ needs_stay p class depth path rest now there
+
+  pub needs_done : (needs : List Need) (loaded : List ℕ) → load_needs p (load_named p depth path) needs loaded ≡ done after
+      → list_all (passes p (λ c. is_among c after)) needs ≡ true
+  needs_done [] loaded e = refl
+  needs_done (n ∷ rest) loaded e =
+      by_fault (load_named p depth path n.name loaded).fault refl e (needs_done rest (load_named p depth path n.name loaded).loaded)
+    where
+      now : List ℕ
+      now = (load_named p depth path n.name loaded).loaded
+
+      by_met : (b : Bool) → is_met p n ≡ b → load_named p depth path n.name loaded ≡ done (load_named p depth path n.name loaded).loaded
+          → unless (if b then None else Some Incompatible) (load_named p depth path n.name loaded).loaded (load_needs p (load_named p depth path) rest) ≡ done after
+          → (load_needs p (load_named p depth path) rest (load_named p depth path n.name loaded).loaded ≡ done after → list_all (passes p (λ c. is_among c after)) rest ≡ true)
+          → (passes p (λ c. is_among c after) n && list_all (passes p (λ c. is_among c after)) rest) ≡ true
+      by_met true met one h others =
+          ap₂ (λ a b. a && b) (met_done n rest loaded (load_named p depth path n.name loaded).loaded one h met) (others h)
+      by_met false met one h others = absurd (failed_done (load_named p depth path n.name loaded).loaded after Incompatible h)
+
+      by_fault : (o : Option Fault) → (load_named p depth path n.name loaded).fault ≡ o
+          → unless o (load_named p depth path n.name loaded).loaded (λ l. unless (need_fault p n) l (load_needs p (load_named p depth path) rest)) ≡ done after
+          → (load_needs p (load_named p depth path) rest (load_named p depth path n.name loaded).loaded ≡ done after → list_all (passes p (λ c. is_among c after)) rest ≡ true)
+          → (passes p (λ c. is_among c after) n && list_all (passes p (λ c. is_among c after)) rest) ≡ true
+      by_fault None is h others =
+          by_met (is_met p n) refl (ap (λ o. record { loaded = (load_named p depth path n.name loaded).loaded; fault = o }) is) h others
+      by_fault (Some fault) is h others = absurd (failed_done (load_named p depth path n.name loaded).loaded after fault h)
+
+-- ---- the direct supertypes
+
+module _ (p : Program) (test : ℕ → Bool) where
+  names_pass : (b : Bool) (names : List (List ℕ)) → list_all (passes p test) (map (need b) names) ≡ true
+      → list_all test (filter_map (class_named p) names) ≡ true
+  names_pass b [] h = refl
+  names_pass b (name ∷ names) h =
+      by (class_named p name) (first_of_and (passes p test (need b name)) (list_all (passes p test) (map (need b) names)) h)
+      (names_pass b names (second_of_and (passes p test (need b name)) (list_all (passes p test) (map (need b) names)) h))
+    where
+      by : (o : Option ℕ) → option_map_or test o false ≡ true → list_all test (filter_map (class_named p) names) ≡ true
+          → list_all test (cons_option o (filter_map (class_named p) names)) ≡ true
+      by None h rest = absurd (false_true h)
+      by (Some c) h rest = ap₂ (λ a b. a && b) h rest
+
+  split : (xs ys : List Need) → list_all (passes p test) (xs ++ ys) ≡ true
+      → (list_all (passes p test) xs ≡ true) × (list_all (passes p test) ys ≡ true)
+  split [] ys h = (refl, h)
+  split (x ∷ xs) ys h =
+      let both = split xs ys (second_of_and (passes p test x) (list_all (passes p test) (xs ++ ys)) h) in
+      (ap₂ (λ a b. a && b) (first_of_and (passes p test x) (list_all (passes p test) (xs ++ ys)) h) both.0, both.1)
+
+  one_name : (o : Option (List ℕ)) → filter_map (class_named p) (option_to_list o) ≡ option_to_list (option_and_then (class_named p) o)
+  one_name None = refl
+  one_name (Some name) = by (class_named p name)
+    where
+      by : (o : Option ℕ) → cons_option o [] ≡ option_to_list o
+      by None = refl
+      by (Some c) = refl
+
+  directs : (o : Option ClassFile) → list_all (passes p test) (option_map_or class_needs o []) ≡ true
+      → (list_all test (filter_map (class_named p) (option_map_or interface_names o [])) ≡ true)
+      × (list_all test (option_to_list (option_and_then (class_named p) (option_and_then (λ (c : ClassFile). named_class c.pool c.super_class) o))) ≡ true)
+  directs None h = (refl, refl)
+  directs (Some c) h =
+      let parts = split (map (need false) (option_to_list (named_class c.pool c.super_class))) (map (need true) (interface_names c)) h in (
+        names_pass true (interface_names c) parts.1,
+        ap (list_all test) (sym (one_name (named_class c.pool c.super_class))) ∙ names_pass false (option_to_list (named_class c.pool c.super_class)) parts.0,
+      )
+
+  pub interfaces_pass : (class : ℕ) → list_all (passes p test) (needs_of p class) ≡ true → list_all test (interfaces_of p class) ≡ true
+  interfaces_pass class h = (directs (class_at p class) h).0
+
+  pub superclass_passes : (class : ℕ) → list_all (passes p test) (needs_of p class) ≡ true → list_all test (superclass_of p class) ≡ true
+  superclass_passes class h = (directs (class_at p class) h).1
+
+pub all_have : (f g : ℕ → Bool) → ((c : ℕ) → f c ≡ true → g c ≡ true) → (xs : List ℕ) → list_all f xs ≡ true → list_all g xs ≡ true
+all_have f g h [] all = refl
+all_have f g h (x ∷ xs) all =
+    ap₂ (λ a b. a && b) (h x (first_of_and (f x) (list_all f xs) all)) (all_have f g h xs (second_of_and (f x) (list_all f xs) all))

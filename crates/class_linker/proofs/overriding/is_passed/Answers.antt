@@ -1,0 +1,12 @@
+use Rattle.std.proofs.Common.{◌∙◌}
+use Rattle.class_index.specs.Lookup.{supertypes}
+use Rattle.class_index.specs.Selection.{passed_at}
+use Rattle.class_linker.specs.Places.{at_place}
+use Rattle.class_linker.proofs.Walked.{searched_any}
+use Rattle.class_linker.proofs.overriding.is_passed.Goals as goal
+
+pub returns : goal.returns
+returns c =
+    c.passed_among.ensures
+    ∙ searched_any (passed_at c.args.index.now (at_place c.args.m1) (at_place c.args.m2)) c.supertypes_of.result.now
+    (supertypes c.args.index.now c.args.m1.class) c.supertypes_of.ensures.searched

@@ -1,0 +1,13 @@
+use Rattle.std.proofs.Common.{◌∙◌, ap}
+use Rattle.class_linker.specs.Rows.{all_rows}
+use Rattle.class_linker.proofs.Walked.{superclasses_rows, superclasses_walked}
+use Rattle.class_linker.proofs.walks.superclasses_of.Goals as goal
+
+pub returns-clause-all : goal.returns-clause-all
+returns-clause-all c =
+    c.superclasses_in.ensures ∙ superclasses_walked c.args.index.now c.args.rows.now c.requires.rows c.args.class c.requires.has
+
+pub returns-clause-rows : goal.returns-clause-rows
+returns-clause-rows c =
+    ap (all_rows c.args.rows.now) c.superclasses_in.ensures
+    ∙ superclasses_rows c.args.index.now c.args.rows.now c.requires.rows c.args.class c.requires.has

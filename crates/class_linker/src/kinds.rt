@@ -1,0 +1,134 @@
+//! Kinds of classes and arrays.
+
+ghost use Rattle.std.specs.Prelude.{◌≡◌, ◌<◌, ◌≤◌, ℕ, IfSome, Some, length, true};
+ghost use Rattle.std.specs.Prelude.{◌*◌, ◌+◌, unwrap_or};
+ghost use Rattle.class_index.specs.Kinds.{base_of_class, base_of_element};
+ghost use Rattle.class_index.specs.Kinds.{class_of_base, is_above_arrays, kind_named};
+ghost use Rattle.class_index.specs.Kinds.{is_subbase, is_subkind, user_count};
+ghost use Rattle.class_linker.specs.Linkers.{parts_of};
+ghost use Rattle.class_index.specs.Meanings.{element_view};
+ghost use Rattle.class_linker.specs.Rows.{AreRows, has_row};
+
+use crate::rows::Row;
+use crate::walks::is_subtype;
+use class_index::{Element, Index, meaning_of};
+
+/// How many built-in classes there are.
+const BUILT_IN: usize = 53;
+
+/// One dimension in a kind.
+pub const DIMENSION: u32 = 16_777_216;
+
+/// How many classes stand before the built-in ones.
+fn user_count(index: &Index) -> u32
+    ensures count { result ≡ user_count index.now }
+    ensures most { result ≤ 4096 }
+{
+    index.program().classes.len().saturating_sub(BUILT_IN) as u32
+}
+
+/// The base of a class in kinds.
+pub fn base_of_class(index: &Index, class: u32) -> u32
+    requires { class < length index.now.classes }
+    ensures base { result ≡ base_of_class index.now class }
+    ensures most { result < 16777216 }
+{
+    let users = user_count(index);
+    if class < users {
+        256 + class
+    } else {
+        16 + (class - users)
+    }
+}
+
+/// The position of the class of a base.
+fn class_of_base(index: &Index, base: u32) -> Option<u32>
+    requires { base < 16777216 }
+    ensures { result ≡ class_of_base index.now base }
+{
+    if base < 16 {
+        return None;
+    }
+    if base < 256 {
+        Some(user_count(index) + (base - 16))
+    } else {
+        Some(base - 256)
+    }
+}
+
+/// The base of what is no array.
+fn base_of_element(index: &Index, element: Element<'_>) -> Option<u32>
+    ensures base { result ≡ base_of_element index.now (element_view element.entry) }
+    ensures most { IfSome result (λ base. base < 16777216) }
+{
+    match element {
+        Element::Primitive(code) => Some(u32::from(code)),
+        Element::Named(name) => {
+            let class = index.class_named(name)?;
+            Some(base_of_class(index, class))
+        }
+    }
+}
+
+/// The number of a kind.
+fn kind_number(dimensions: u8, base: u32) -> u32
+    requires { base < 16777216 }
+    ensures { result ≡ dimensions * 16777216 + base }
+{
+    u32::from(dimensions) * DIMENSION + base
+}
+
+/// The kind that a name stands for; 0 where it stands for none.
+pub fn kind_named(index: &Index, name: &[u16]) -> u32
+    ensures { result ≡ unwrap_or (kind_named index.now name.now) 0 }
+{
+    let meaning = meaning_of(name);
+    match base_of_element(index, meaning.element) {
+        Some(base) => kind_number(meaning.dimensions, base),
+        None => 0,
+    }
+}
+
+/// Whether every array is of this class.
+fn is_above_arrays(base: u32) -> bool
+    ensures { result ≡ is_above_arrays base }
+{
+    base == 16 || base == 17 || base == 18
+}
+
+/// Whether elements of one kind are of another.
+fn is_subbase(index: &Index, rows: &[Option<Row>], lower: u32, upper: u32) -> bool
+    requires rows { AreRows index.now rows.now }
+    requires has { (class : ℕ) → class_of_base index.now lower ≡ Some class
+        → has_row rows.now class ≡ true }
+    requires lower { lower < 16777216 }
+    requires upper { upper < 16777216 }
+    ensures { result ≡ is_subbase index.now lower upper }
+{
+    match class_of_base(index, lower) {
+        Some(a) => match class_of_base(index, upper) {
+            Some(b) => is_subtype(index, rows, a, b),
+            None => false,
+        },
+        None => match class_of_base(index, upper) {
+            Some(_) => false,
+            None => lower == upper,
+        },
+    }
+}
+
+/// Whether what has one kind also has another.
+pub fn is_subkind(index: &Index, rows: &[Option<Row>], lower: u32, upper: u32) -> bool
+    requires rows { AreRows index.now rows.now }
+    requires has { (class : ℕ) → class_of_base index.now (parts_of lower).base ≡ Some class
+        → has_row rows.now class ≡ true }
+    ensures { result ≡ is_subkind index.now (parts_of lower) (parts_of upper) }
+{
+    let deep = lower / DIMENSION;
+    let flat = upper / DIMENSION;
+    if deep == flat {
+        is_subbase(index, rows, lower % DIMENSION, upper % DIMENSION)
+    } else {
+        flat < deep && is_above_arrays(upper % DIMENSION)
+    }
+}

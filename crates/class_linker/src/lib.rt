@@ -1,0 +1,18 @@
+//! Loading, subtypes, resolution, selection and layouts of a program's classes (JVM Specification 5.3, 5.4): the definitions of
+//! jvm_model by tables that are made once.
+#![tactic(auto)]
+
+mod answers;
+mod kinds;
+mod linker;
+mod loading;
+mod overriding;
+mod place;
+mod resolving;
+mod rows;
+mod selecting;
+mod telling;
+mod walks;
+
+pub use answers::{Loaded, Resolved};
+pub use linker::Linker;

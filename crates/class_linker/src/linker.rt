@@ -1,0 +1,190 @@
+//! The linker.
+
+ghost use Rattle.std.specs.Prelude.{◌≡◌, ◌↔◌, None, replicate, IfOk, IsTrue};
+ghost use Rattle.std.specs.Option.{option_map};
+ghost use Rattle.const_pool.specs.References.{name_type_of};
+ghost use Rattle.class_index.specs.Kinds.{is_subkind};
+ghost use Rattle.class_index.specs.Layouts.{layout};
+ghost use Rattle.class_index.specs.Lookup.{place_in, resolved_field, resolved_method};
+ghost use Rattle.class_index.specs.Selection.{Overrides, overrides, selected};
+ghost use Rattle.class_index.specs.Indices.{IsLinkable};
+ghost use Rattle.class_index.specs.Members.{place_view};
+ghost use Rattle.class_linker.specs.Linkers.{IsAnswer, IsKnown, IsLoaded, linker_of, load_answer};
+ghost use Rattle.class_linker.specs.Linkers.{loaded_by, parts_of, resolved_of};
+
+use crate::answers::{Loaded, Resolved};
+use crate::kinds::is_subkind;
+use crate::loading::State;
+use crate::overriding::overrides;
+use crate::place::Place;
+use crate::resolving::{resolved_field, resolved_method};
+use crate::rows::Row;
+use crate::selecting::selected;
+use crate::telling::answer;
+use crate::walks::layout_of;
+use class_index::{Index, Order, Wanted};
+use const_pool::Kind;
+use jf_bytes::{NoMemory, Seq, Text16};
+use jvm_model::Program;
+use std::alloc::Global;
+use std::marker::Model;
+
+/// A program's classes, and which of them are loaded, in order. A clause sees these two. Classes are named by their positions,
+/// for an array by that of java/lang/Object. Every call but `new` and `load` takes no memory.
+#[derive(Drop)]
+pub struct Linker {
+    alloc: Global,
+    index: Index,
+    state: State,
+}
+
+impl Model for Linker {
+    ghost use Rattle.class_linker.specs.Linkers.{LinkerView};
+    ghost use Rattle.class_linker.specs.States.{IsState};
+
+    ghost Value = { LinkerView };
+
+    ghost view = { λ l. record { program = l.index; loaded = l.state.loaded } };
+
+    ghost invariant = { λ l. IsState l.index l.state };
+}
+
+/// A place for the row of each of so many classes.
+fn no_rows(alloc: Global, count: usize) -> Result<Seq<Option<Row>>, NoMemory>
+    ensures { IfOk result (λ rows. rows ≡ replicate count None) }
+{
+    let mut rows = Seq::with_capacity(alloc, count)?;
+    for _ in 0..count {
+        rows.push(None)?;
+    }
+    Ok(rows)
+}
+
+impl Linker {
+    /// A linker for the program, with no class loaded.
+    pub fn new(alloc: Global, program: Program) -> Result<Linker, NoMemory>
+        requires { IsLinkable program }
+        ensures { IfOk result (λ l. l ≡ linker_of program) }
+    {
+        let rows = no_rows(alloc, program.classes.len())?;
+        let index = Index::new(alloc, program)?;
+        Ok(Linker {
+            alloc,
+            index,
+            state: State {
+                rows,
+                loaded: Order::new(alloc),
+            },
+        })
+    }
+
+    pub fn program(&self) -> &Program
+        ensures { result.now ≡ self.now.program }
+    {
+        self.index.program()
+    }
+
+    /// The loaded classes, in order.
+    pub fn loaded(&self) -> &[u32]
+        ensures { result.now ≡ self.now.loaded }
+    {
+        self.state.loaded.as_slice()
+    }
+
+    /// Loads the class of this name with what it needs (5.3), or the class of an array's elements. After `NoMemory` nothing is
+    /// loaded that was not.
+    pub fn load(&mut self, name: &Text16) -> Loaded
+        ensures answer { IsAnswer result (load_answer self.old name.now) }
+        ensures loaded { self.new ≡ loaded_by result name.now self.old }
+    {
+        let before = self.state.loaded.len();
+        match answer(self.alloc, &self.index, &mut self.state, name.units()) {
+            Ok(loaded) => loaded,
+            Err(NoMemory) => {
+                self.state.loaded.truncate(before);
+                Loaded::NoMemory
+            }
+        }
+    }
+
+    /// Whether what has one kind also has another (4.10.1). What the first kind is of has to be loaded.
+    pub fn subtype(&self, lower: u32, upper: u32) -> bool
+        requires { IsKnown self.now lower }
+        ensures { result ≡ is_subkind self.now.program (parts_of lower) (parts_of upper) }
+    {
+        is_subkind(&self.index, self.state.rows.as_slice(), lower, upper)
+    }
+
+    /// The field that a reference stands for (5.4.3.2).
+    pub fn resolve_field(&self, class: u32, name: &Text16, descriptor: &Text16) -> Resolved
+        requires { IsLoaded self.now class }
+        ensures { result ≡ resolved_of
+            (resolved_field self.now.program class (name_type_of name.now descriptor.now)) }
+    {
+        let wanted = Wanted { name, descriptor };
+        resolved_field(&self.index, self.state.rows.as_slice(), class, &wanted)
+    }
+
+    /// The method that a reference stands for (5.4.3.3), or an interface method's (5.4.3.4).
+    pub fn resolve_method(
+        &self,
+        class: u32,
+        interface: bool,
+        name: &Text16,
+        descriptor: &Text16,
+    ) -> Resolved
+        requires { IsLoaded self.now class }
+        ensures { result ≡ resolved_of
+            (resolved_method self.now.program class interface
+            (name_type_of name.now descriptor.now)) }
+    {
+        let wanted = Wanted { name, descriptor };
+        let rows = self.state.rows.as_slice();
+        resolved_method(&self.index, rows, class, interface, &wanted)
+    }
+
+    /// The method that an object of the receiver's class has for a method of a class: by class and position. With `interface` it is
+    /// the nearest instance method of the same name and descriptor, as invokeinterface takes it, and invokespecial from the direct
+    /// superclass; else the nearest one that is the method or overrides it, as invokevirtual takes it. None where there is none or
+    /// it is abstract.
+    pub fn select(
+        &self,
+        receiver: u32,
+        class: u32,
+        position: u16,
+        interface: bool,
+    ) -> Option<(u32, u16)>
+        requires { IsLoaded self.now receiver }
+        ensures { option_map place_view result
+            ≡ selected self.now.program receiver interface (place_in class position) }
+    {
+        let rows = self.state.rows.as_slice();
+        let m = Place { class, position };
+        let found = selected(&self.index, rows, receiver, interface, m)?;
+        Some((found.class, found.position))
+    }
+
+    /// Whether a method of a loaded class overrides another (5.4.5); methods are named by class and position.
+    pub fn overrides(&self, class: u32, position: u16, above: u32, above_position: u16) -> bool
+        requires { IsLoaded self.now class }
+        ensures test { result ≡ overrides self.now.program (place_in class position)
+            (place_in above above_position) }
+        ensures relation { IsTrue result ↔ Overrides self.now.program (place_in class position)
+            (place_in above above_position) }
+    {
+        let m1 = Place { class, position };
+        let m2 = Place {
+            class: above,
+            position: above_position,
+        };
+        overrides(&self.index, self.state.rows.as_slice(), m1, m2)
+    }
+
+    /// The kinds of the instance fields of the class's objects, those of its superclass first.
+    pub fn layout(&self, class: u32) -> &[Kind]
+        requires { IsLoaded self.now class }
+        ensures { result.now ≡ layout self.now.program class }
+    {
+        layout_of(&self.index, self.state.rows.as_slice(), class)
+    }
+}

@@ -1,0 +1,205 @@
+//! Which methods override which (JVM Specification 5.4.5).
+
+ghost use Rattle.std.specs.Prelude.{◌≡◌, ◌↔◌, [], true, unwrap_or, IsTrue};
+ghost use Rattle.std.specs.List.{list_any};
+ghost use Rattle.std.specs.Option.{option_map, option_map_or};
+ghost use Rattle.class_index.specs.Lookup.{method_at, place_in, supertypes};
+ghost use Rattle.jvm_model.specs.Programs.{name_at};
+ghost use Rattle.class_index.specs.Selection.{Overrides, access_of, is_abstract, is_open, is_private};
+ghost use Rattle.class_index.specs.Selection.{is_reached, is_static, overrides, passed_at};
+ghost use Rattle.class_index.specs.Selection.{passes_on, same_package, signature_of, stands_below};
+ghost use Rattle.class_index.specs.Members.{is_declared_as, wanted_view};
+ghost use Rattle.class_linker.specs.Places.{at_place};
+ghost use Rattle.class_linker.specs.Rows.{AreRows, all_rows, has_row};
+
+use crate::place::Place;
+use crate::rows::Row;
+use crate::walks::{is_subtype, supertypes_of};
+use class_index::{
+    ABSTRACT, Index, PRIVATE, PROTECTED, PUBLIC, STATIC, Wanted, has_flag, in_same_package,
+    method_at,
+};
+
+// ---- a method
+
+/// Its flags.
+fn access_of(index: &Index, m: Place) -> u16
+    ensures { result ≡ access_of index.now (at_place m) }
+{
+    match index.file(m.class) {
+        Some(file) => match file.methods.get(m.position as usize) {
+            Some(method) => method.access,
+            None => 0,
+        },
+        None => 0,
+    }
+}
+
+fn is_private(index: &Index, m: Place) -> bool
+    ensures { result ≡ is_private index.now (at_place m) }
+{
+    has_flag(access_of(index, m), PRIVATE)
+}
+
+pub fn is_static(index: &Index, m: Place) -> bool
+    ensures { result ≡ is_static index.now (at_place m) }
+{
+    has_flag(access_of(index, m), STATIC)
+}
+
+pub fn is_abstract(index: &Index, m: Place) -> bool
+    ensures { result ≡ is_abstract index.now (at_place m) }
+{
+    has_flag(access_of(index, m), ABSTRACT)
+}
+
+/// Whether it is public or protected.
+fn is_open(index: &Index, m: Place) -> bool
+    ensures { result ≡ is_open index.now (at_place m) }
+{
+    let access = access_of(index, m);
+    has_flag(access, PUBLIC) || has_flag(access, PROTECTED)
+}
+
+/// Its name and descriptor.
+pub fn signature_of(index: &Index, m: Place) -> Option<Wanted<'_>>
+    ensures { option_map wanted_view result ≡ signature_of index.now (at_place m) }
+{
+    let file = index.file(m.class)?;
+    let method = file.methods.get(m.position as usize)?;
+    let Ok(name) = file.pool.text(method.name) else {
+        return None;
+    };
+    let Ok(descriptor) = file.pool.text(method.descriptor) else {
+        return None;
+    };
+    Some(Wanted { name, descriptor })
+}
+
+// ---- packages
+
+fn name_units(index: &Index, class: u32) -> &[u16]
+    ensures { result.now ≡ unwrap_or (name_at index.now class) [] }
+{
+    match index.file(class) {
+        Some(file) => match file.pool.class_name(file.this_class) {
+            Ok(name) => name.units(),
+            Err(_) => &[],
+        },
+        None => &[],
+    }
+}
+
+fn same_package(index: &Index, a: u32, b: u32) -> bool
+    ensures { result ≡ same_package index.now a b }
+{
+    in_same_package(name_units(index, a), name_units(index, b))
+}
+
+// ---- overriding
+
+/// Whether the class of the first method has, for the second one's name and descriptor, that method.
+fn is_declared_as(index: &Index, m1: Place, m2: Place) -> bool
+    ensures { result ≡ is_declared_as index.now (at_place m1) (at_place m2) }
+{
+    match signature_of(index, m2) {
+        Some(wanted) => match method_at(index, &wanted, m1.class) {
+            Some(at) => at == m1.position,
+            None => false,
+        },
+        None => false,
+    }
+}
+
+/// Whether the class of the first method is a proper subtype of the second one's, with the same name and descriptor.
+fn stands_below(index: &Index, rows: &[Option<Row>], m1: Place, m2: Place) -> bool
+    requires rows { AreRows index.now rows.now }
+    requires has { has_row rows.now m1.class ≡ true }
+    ensures { result ≡ stands_below index.now (at_place m1) (at_place m2) }
+{
+    m1.class != m2.class
+        && is_subtype(index, rows, m1.class, m2.class)
+        && is_declared_as(index, m1, m2)
+}
+
+/// Whether the method can be overridden from the class itself.
+fn is_reached(index: &Index, class: u32, m: Place) -> bool
+    ensures { result ≡ is_reached index.now class (at_place m) }
+{
+    !is_private(index, m) && (is_open(index, m) || same_package(index, class, m.class))
+}
+
+/// Whether the third method, between the two, makes the first one override the second.
+fn passes_on(index: &Index, rows: &[Option<Row>], m1: Place, m2: Place, m3: Place) -> bool
+    requires rows { AreRows index.now rows.now }
+    requires first { has_row rows.now m1.class ≡ true }
+    requires third { has_row rows.now m3.class ≡ true }
+    ensures { result ≡ passes_on index.now (at_place m1) (at_place m2) (at_place m3) }
+{
+    stands_below(index, rows, m1, m3)
+        && stands_below(index, rows, m3, m2)
+        && !is_private(index, m3)
+        && is_open(index, m3)
+        && is_reached(index, m3.class, m2)
+}
+
+/// Whether such a method is declared in the class.
+fn passed_at(index: &Index, rows: &[Option<Row>], m1: Place, m2: Place, class: u32) -> bool
+    requires rows { AreRows index.now rows.now }
+    requires first { has_row rows.now m1.class ≡ true }
+    requires has { has_row rows.now class ≡ true }
+    ensures { result ≡ passed_at index.now (at_place m1) (at_place m2) class }
+{
+    match signature_of(index, m2) {
+        Some(wanted) => match method_at(index, &wanted, class) {
+            Some(position) => passes_on(index, rows, m1, m2, Place { class, position }),
+            None => false,
+        },
+        None => false,
+    }
+}
+
+/// Whether such a method is declared in one of the classes.
+fn passed_among(index: &Index, rows: &[Option<Row>], m1: Place, m2: Place, classes: &[u32]) -> bool
+    requires rows { AreRows index.now rows.now }
+    requires first { has_row rows.now m1.class ≡ true }
+    requires have { all_rows rows.now classes.now ≡ true }
+    ensures { result ≡ list_any (passed_at index.now (at_place m1) (at_place m2)) classes.now }
+{
+    for class in classes {
+        if passed_at(index, rows, m1, m2, *class) {
+            return true;
+        }
+    }
+    false
+}
+
+/// Whether such a method is declared above the first one.
+fn is_passed(index: &Index, rows: &[Option<Row>], m1: Place, m2: Place) -> bool
+    requires rows { AreRows index.now rows.now }
+    requires first { has_row rows.now m1.class ≡ true }
+    ensures { result ≡ list_any (passed_at index.now (at_place m1) (at_place m2))
+        (supertypes index.now m1.class) }
+{
+    passed_among(index, rows, m1, m2, supertypes_of(index, rows, m1.class))
+}
+
+/// Whether the first method stands below the second, which its class reaches or another method passes on.
+fn passes_test(index: &Index, rows: &[Option<Row>], m1: Place, m2: Place) -> bool
+    requires rows { AreRows index.now rows.now }
+    requires first { has_row rows.now m1.class ≡ true }
+    ensures { result ≡ overrides index.now (at_place m1) (at_place m2) }
+{
+    stands_below(index, rows, m1, m2)
+        && (is_reached(index, m1.class, m2) || is_passed(index, rows, m1, m2))
+}
+
+/// Whether the first method overrides the second.
+pub fn overrides(index: &Index, rows: &[Option<Row>], m1: Place, m2: Place) -> bool
+    requires rows { AreRows index.now rows.now }
+    requires first { has_row rows.now m1.class ≡ true }
+    ensures test { result ≡ overrides index.now (at_place m1) (at_place m2) }
+    ensures relation { IsTrue result ↔ Overrides index.now (at_place m1) (at_place m2) }
+{
+    passes_test(index, rows, m1, m2)
+}

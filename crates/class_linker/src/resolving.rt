@@ -1,0 +1,227 @@
+//! Resolution of fields and methods (JVM Specification 5.4.3).
+
+ghost use Rattle.std.specs.Prelude.{◌≡◌, true, codes};
+ghost use Rattle.std.specs.Option.{option_map, option_to_list};
+ghost use Rattle.class_index.specs.Lookup.{field_at, first_in, method_at, method_order};
+ghost use Rattle.class_index.specs.Lookup.{incompatible_change, resolved_field, resolved_method};
+ghost use Rattle.class_index.specs.Lookup.{superclasses, superinterfaces, supertypes};
+ghost use Rattle.jvm_model.specs.Programs.{class_named};
+ghost use Rattle.jvm_model.specs.SharedState.{no_such_field, no_such_method};
+ghost use Rattle.class_index.specs.Members.{place_view};
+ghost use Rattle.class_linker.specs.Linkers.{class_order, error_number, inherited_order};
+ghost use Rattle.class_linker.specs.Linkers.{interface_order};
+ghost use Rattle.class_linker.specs.Linkers.{resolved_of};
+ghost use Rattle.class_index.specs.Members.{wanted_view};
+ghost use Rattle.class_linker.specs.Rows.{AreRows, has_row};
+
+use crate::answers::Resolved;
+use crate::rows::Row;
+use crate::walks::{superclasses_of, superinterfaces_of, supertypes_of};
+use class_index::{Index, Wanted, first_field, first_method, method_at};
+
+/// The name of the class above all others.
+static OBJECT: [u16; 16] = [
+    106, 97, 118, 97, 47, 108, 97, 110, 103, 47, 79, 98, 106, 101, 99, 116,
+];
+
+fn object_name() -> &'static [u16]
+    ensures { result.now ≡ codes "java/lang/Object" }
+{
+    &OBJECT
+}
+
+// ---- the errors, by the places of their classes
+
+fn no_such_field() -> u16
+    ensures { result ≡ error_number no_such_field }
+{
+    49
+}
+
+fn no_such_method() -> u16
+    ensures { result ≡ error_number no_such_method }
+{
+    50
+}
+
+pub fn incompatible_change() -> u16
+    ensures { result ≡ error_number incompatible_change }
+{
+    44
+}
+
+// ---- fields
+
+/// The field of a class, or the first one above it.
+fn sought_field(
+    index: &Index,
+    rows: &[Option<Row>],
+    class: u32,
+    wanted: &Wanted<'_>,
+) -> Option<(u32, u16)>
+    requires rows { AreRows index.now rows.now }
+    requires has { has_row rows.now class ≡ true }
+    ensures { option_map place_view result
+        ≡ first_in (field_at index.now (wanted_view wanted.now)) (supertypes index.now class) }
+{
+    first_field(index, wanted, supertypes_of(index, rows, class))
+}
+
+/// What a field reference of a class stands for.
+pub fn resolved_field(
+    index: &Index,
+    rows: &[Option<Row>],
+    class: u32,
+    wanted: &Wanted<'_>,
+) -> Resolved
+    requires rows { AreRows index.now rows.now }
+    requires has { has_row rows.now class ≡ true }
+    ensures { result ≡ resolved_of (resolved_field index.now class (wanted_view wanted.now)) }
+{
+    match sought_field(index, rows, class, wanted) {
+        Some((declaring, position)) => Resolved::Found(declaring, position),
+        None => Resolved::Throws(no_such_field()),
+    }
+}
+
+// ---- methods
+
+/// The method of java/lang/Object.
+fn object_method(index: &Index, wanted: &Wanted<'_>) -> Option<(u32, u16)>
+    ensures { option_map place_view result
+        ≡ first_in (method_at index.now (wanted_view wanted.now))
+        (option_to_list (class_named index.now (codes "java/lang/Object"))) }
+{
+    let class = index.class_named(object_name())?;
+    let position = method_at(index, wanted, class)?;
+    Some((class, position))
+}
+
+/// The method of a class or its superclasses.
+fn superclass_method(
+    index: &Index,
+    rows: &[Option<Row>],
+    class: u32,
+    wanted: &Wanted<'_>,
+) -> Option<(u32, u16)>
+    requires rows { AreRows index.now rows.now }
+    requires has { has_row rows.now class ≡ true }
+    ensures { option_map place_view result
+        ≡ first_in (method_at index.now (wanted_view wanted.now)) (superclasses index.now class) }
+{
+    first_method(index, wanted, superclasses_of(index, rows, class))
+}
+
+/// The method of a class's superinterfaces.
+fn superinterface_method(
+    index: &Index,
+    rows: &[Option<Row>],
+    class: u32,
+    wanted: &Wanted<'_>,
+) -> Option<(u32, u16)>
+    requires rows { AreRows index.now rows.now }
+    requires has { has_row rows.now class ≡ true }
+    ensures { option_map place_view result
+        ≡ first_in (method_at index.now (wanted_view wanted.now))
+        (superinterfaces index.now class) }
+{
+    first_method(index, wanted, superinterfaces_of(index, rows, class))
+}
+
+/// The method of an interface's superinterfaces, or of java/lang/Object.
+#[tactic(auto, using(crate::proofs::Walked::first_of_both))]
+fn inherited_method(
+    index: &Index,
+    rows: &[Option<Row>],
+    class: u32,
+    wanted: &Wanted<'_>,
+) -> Option<(u32, u16)>
+    requires rows { AreRows index.now rows.now }
+    requires has { has_row rows.now class ≡ true }
+    ensures { option_map place_view result
+        ≡ first_in (method_at index.now (wanted_view wanted.now))
+        (inherited_order index.now class) }
+{
+    match superinterface_method(index, rows, class, wanted) {
+        Some(found) => Some(found),
+        None => object_method(index, wanted),
+    }
+}
+
+/// The method of an interface, of its superinterfaces, or of java/lang/Object.
+fn sought_above_interface(
+    index: &Index,
+    rows: &[Option<Row>],
+    class: u32,
+    wanted: &Wanted<'_>,
+) -> Option<(u32, u16)>
+    requires rows { AreRows index.now rows.now }
+    requires has { has_row rows.now class ≡ true }
+    ensures { option_map place_view result
+        ≡ first_in (method_at index.now (wanted_view wanted.now))
+        (interface_order index.now class) }
+{
+    match method_at(index, wanted, class) {
+        Some(position) => Some((class, position)),
+        None => inherited_method(index, rows, class, wanted),
+    }
+}
+
+/// The method of a class, of its superclasses, or of its superinterfaces.
+#[tactic(auto, using(crate::proofs::Walked::first_of_both))]
+fn sought_above_class(
+    index: &Index,
+    rows: &[Option<Row>],
+    class: u32,
+    wanted: &Wanted<'_>,
+) -> Option<(u32, u16)>
+    requires rows { AreRows index.now rows.now }
+    requires has { has_row rows.now class ≡ true }
+    ensures { option_map place_view result
+        ≡ first_in (method_at index.now (wanted_view wanted.now)) (class_order index.now class) }
+{
+    match superclass_method(index, rows, class, wanted) {
+        Some(found) => Some(found),
+        None => superinterface_method(index, rows, class, wanted),
+    }
+}
+
+fn sought_method(
+    index: &Index,
+    rows: &[Option<Row>],
+    class: u32,
+    wanted: &Wanted<'_>,
+) -> Option<(u32, u16)>
+    requires rows { AreRows index.now rows.now }
+    requires has { has_row rows.now class ≡ true }
+    ensures { option_map place_view result
+        ≡ first_in (method_at index.now (wanted_view wanted.now)) (method_order index.now class) }
+{
+    if index.is_interface(class) {
+        sought_above_interface(index, rows, class, wanted)
+    } else {
+        sought_above_class(index, rows, class, wanted)
+    }
+}
+
+/// What a method reference of a class stands for.
+pub fn resolved_method(
+    index: &Index,
+    rows: &[Option<Row>],
+    class: u32,
+    interface: bool,
+    wanted: &Wanted<'_>,
+) -> Resolved
+    requires rows { AreRows index.now rows.now }
+    requires has { has_row rows.now class ≡ true }
+    ensures { result
+        ≡ resolved_of (resolved_method index.now class interface (wanted_view wanted.now)) }
+{
+    if index.is_interface(class) != interface {
+        return Resolved::Throws(incompatible_change());
+    }
+    match sought_method(index, rows, class, wanted) {
+        Some((declaring, position)) => Resolved::Found(declaring, position),
+        None => Resolved::Throws(no_such_method()),
+    }
+}

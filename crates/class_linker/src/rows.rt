@@ -1,0 +1,279 @@
+//! What is kept of a class once it is loaded.
+
+ghost use Rattle.std.specs.Prelude.{◌≡◌, ◌++◌, [], flat_map, length, map, OnOk, IfOk};
+ghost use Rattle.std.specs.Option.{option_copied, option_map_or};
+ghost use Rattle.class_index.specs.Layouts.{field_kind, held_by, own_kinds};
+ghost use Rattle.class_index.specs.Load.{is_among};
+ghost use Rattle.class_index.specs.Lookup.{superclass_of};
+ghost use Rattle.jvm_model.specs.Programs.{class_at};
+ghost use Rattle.class_index.specs.Orders.{with_classes};
+ghost use Rattle.class_linker.specs.Rows.{has_row, layout_in, layout_made, row_at, row_made};
+ghost use Rattle.class_linker.specs.Rows.{superclasses_made, superinterfaces_made};
+ghost use Rattle.class_linker.specs.Rows.{supertypes_in, superclasses_in, superinterfaces_in};
+ghost use Rattle.class_linker.specs.Rows.{supertypes_made, with_interface, with_interfaces};
+ghost use Rattle.class_linker.specs.Rows.{with_supertypes};
+
+use class_index::{Index, Order, STATIC, has_flag};
+use const_pool::{ClassFile, Kind, Member};
+use jf_bytes::{NoMemory, Seq};
+use std::alloc::Global;
+
+/// The walks over the supertypes of a class, and the kinds of an object's slots.
+#[derive(Drop)]
+pub struct Row {
+    pub superclasses: Seq<u32>,
+    pub superinterfaces: Order,
+    pub supertypes: Order,
+    pub layout: Seq<Kind>,
+}
+
+/// The row of a class, where it was loaded.
+pub fn row_at(rows: &[Option<Row>], class: u32) -> Option<&Row>
+    ensures { option_copied result ≡ row_at rows.now class }
+{
+    match rows.get(class as usize) {
+        Some(row) => row.as_ref(),
+        None => None,
+    }
+}
+
+/// Whether a class has a row.
+pub fn has_row(rows: &[Option<Row>], class: u32) -> bool
+    ensures { result ≡ has_row rows.now class }
+{
+    row_at(rows, class).is_some()
+}
+
+// ---- parts, which are empty where there is no row
+
+pub fn superclasses_in(rows: &[Option<Row>], class: u32) -> &[u32]
+    ensures { result.now ≡ superclasses_in rows.now class }
+{
+    match row_at(rows, class) {
+        Some(row) => row.superclasses.as_slice(),
+        None => &[],
+    }
+}
+
+pub fn superinterfaces_in(rows: &[Option<Row>], class: u32) -> &[u32]
+    ensures { result.now ≡ superinterfaces_in rows.now class }
+{
+    match row_at(rows, class) {
+        Some(row) => row.superinterfaces.as_slice(),
+        None => &[],
+    }
+}
+
+pub fn supertypes_in(rows: &[Option<Row>], class: u32) -> &[u32]
+    ensures { result.now ≡ supertypes_in rows.now class }
+{
+    match row_at(rows, class) {
+        Some(row) => row.supertypes.as_slice(),
+        None => &[],
+    }
+}
+
+pub fn layout_in(rows: &[Option<Row>], class: u32) -> &[Kind]
+    ensures { result.now ≡ layout_in rows.now class }
+{
+    match row_at(rows, class) {
+        Some(row) => row.layout.as_slice(),
+        None => &[],
+    }
+}
+
+/// Whether a class is among the supertypes of a class that was loaded.
+pub fn has_supertype(rows: &[Option<Row>], lower: u32, upper: u32) -> bool
+    ensures { result ≡ is_among upper (supertypes_in rows.now lower) }
+{
+    match row_at(rows, lower) {
+        Some(row) => row.supertypes.has(upper),
+        None => false,
+    }
+}
+
+// ---- a row from the rows of what the class names
+
+fn superclasses_made(
+    alloc: Global,
+    index: &Index,
+    rows: &[Option<Row>],
+    class: u32,
+) -> Result<Seq<u32>, NoMemory>
+    ensures { IfOk result (λ classes. classes ≡ superclasses_made index.now rows.now class) }
+{
+    let mut classes = Seq::new(alloc);
+    classes.push(class)?;
+    if let Some(above) = index.super_of(class) {
+        classes.extend_from_slice(superclasses_in(rows, above))?;
+    }
+    Ok(classes)
+}
+
+/// Adds an interface and its superinterfaces.
+fn add_interface(order: &mut Order, rows: &[Option<Row>], class: u32) -> Result<(), NoMemory>
+    ensures { OnOk result (order.new ≡ with_interface rows.now order.old class) }
+{
+    order.add(class)?;
+    order.add_all(superinterfaces_in(rows, class))
+}
+
+/// Adds interfaces, each with its superinterfaces.
+fn add_interfaces(order: &mut Order, rows: &[Option<Row>], classes: &[u32]) -> Result<(), NoMemory>
+    ensures { OnOk result (order.new ≡ with_interfaces rows.now order.old classes.now) }
+{
+    for class in classes {
+        add_interface(order, rows, *class)?;
+    }
+    Ok(())
+}
+
+/// Adds the superinterfaces of a class's superclass.
+fn add_inherited(
+    order: &mut Order,
+    index: &Index,
+    rows: &[Option<Row>],
+    class: u32,
+) -> Result<(), NoMemory>
+    ensures { OnOk result (order.new ≡ with_classes order.old
+        (flat_map (superinterfaces_in rows.now) (superclass_of index.now class))) }
+{
+    match index.super_of(class) {
+        Some(above) => order.add_all(superinterfaces_in(rows, above)),
+        None => Ok(()),
+    }
+}
+
+fn superinterfaces_made(
+    alloc: Global,
+    index: &Index,
+    rows: &[Option<Row>],
+    class: u32,
+) -> Result<Order, NoMemory>
+    ensures { IfOk result (λ order. order ≡ superinterfaces_made index.now rows.now class) }
+{
+    let mut order = Order::new(alloc);
+    let direct = index.interfaces_of(alloc, class)?;
+    add_interfaces(&mut order, rows, direct.as_slice())?;
+    if !index.is_interface(class) {
+        add_inherited(&mut order, index, rows, class)?;
+    }
+    Ok(order)
+}
+
+/// Adds classes, each with its supertypes.
+fn add_supertypes(order: &mut Order, rows: &[Option<Row>], classes: &[u32]) -> Result<(), NoMemory>
+    ensures { OnOk result (order.new ≡ with_supertypes rows.now order.old classes.now) }
+{
+    for class in classes {
+        order.add_all(supertypes_in(rows, *class))?;
+    }
+    Ok(())
+}
+
+/// Adds the superclass with its supertypes.
+fn add_superclass(
+    order: &mut Order,
+    index: &Index,
+    rows: &[Option<Row>],
+    class: u32,
+) -> Result<(), NoMemory>
+    ensures { OnOk result (order.new
+        ≡ with_supertypes rows.now order.old (superclass_of index.now class)) }
+{
+    match index.super_of(class) {
+        Some(above) => order.add_all(supertypes_in(rows, above)),
+        None => Ok(()),
+    }
+}
+
+fn supertypes_made(
+    alloc: Global,
+    index: &Index,
+    rows: &[Option<Row>],
+    class: u32,
+) -> Result<Order, NoMemory>
+    ensures { IfOk result (λ order. order ≡ supertypes_made index.now rows.now class) }
+{
+    let mut order = Order::new(alloc);
+    order.add(class)?;
+    let direct = index.interfaces_of(alloc, class)?;
+    add_supertypes(&mut order, rows, direct.as_slice())?;
+    add_superclass(&mut order, index, rows, class)?;
+    Ok(order)
+}
+
+// ---- instance fields
+
+/// What a field of this descriptor holds, which its first unit tells.
+fn held_by(descriptor: &[u16]) -> Kind
+    ensures { result ≡ held_by descriptor.now }
+{
+    match descriptor.first() {
+        Some(66) => Kind::Byte,
+        Some(67) => Kind::Char,
+        Some(68) => Kind::Double,
+        Some(70) => Kind::Float,
+        Some(73) => Kind::Int,
+        Some(74) => Kind::Long,
+        Some(83) => Kind::Short,
+        Some(90) => Kind::Bool,
+        _ => Kind::Ref,
+    }
+}
+
+fn field_kind(file: &ClassFile, field: &Member) -> Kind
+    ensures { result ≡ field_kind file.now field.now }
+{
+    match file.pool.text(field.descriptor) {
+        Ok(descriptor) => held_by(descriptor.units()),
+        Err(_) => held_by(&[]),
+    }
+}
+
+/// Adds the kinds of a class's own instance fields.
+fn add_own(kinds: &mut Seq<Kind>, file: &ClassFile) -> Result<(), NoMemory>
+    ensures { OnOk result (kinds.new ≡ kinds.old ++ own_kinds file.now) }
+{
+    for field in file.fields.as_slice() {
+        if !has_flag(field.access, STATIC) {
+            kinds.push(field_kind(file, field))?;
+        }
+    }
+    Ok(())
+}
+
+fn layout_made(
+    alloc: Global,
+    index: &Index,
+    rows: &[Option<Row>],
+    class: u32,
+) -> Result<Seq<Kind>, NoMemory>
+    ensures { IfOk result (λ kinds. kinds ≡ layout_made index.now rows.now class) }
+{
+    let mut kinds = Seq::new(alloc);
+    if let Some(above) = index.super_of(class) {
+        kinds.extend_from_slice(layout_in(rows, above))?;
+    }
+    if let Some(file) = index.file(class) {
+        add_own(&mut kinds, file)?;
+    }
+    Ok(kinds)
+}
+
+/// The row of a class.
+pub fn row_made(
+    alloc: Global,
+    index: &Index,
+    rows: &[Option<Row>],
+    class: u32,
+) -> Result<Row, NoMemory>
+    ensures { IfOk result (λ row. row ≡ row_made index.now rows.now class) }
+{
+    Ok(Row {
+        superclasses: superclasses_made(alloc, index, rows, class)?,
+        superinterfaces: superinterfaces_made(alloc, index, rows, class)?,
+        supertypes: supertypes_made(alloc, index, rows, class)?,
+        layout: layout_made(alloc, index, rows, class)?,
+    })
+}

@@ -1,0 +1,115 @@
+//! Which method is invoked (JVM Specification chapter 6, invokevirtual, invokeinterface and invokespecial).
+
+ghost use Rattle.std.specs.Prelude.{◌≡◌, true};
+ghost use Rattle.std.specs.Option.{option_map};
+ghost use Rattle.class_index.specs.Lookup.{first_in};
+ghost use Rattle.class_index.specs.Selection.{candidate, fits, nearest, same_member, selected};
+ghost use Rattle.class_linker.specs.Places.{at_place};
+ghost use Rattle.class_linker.specs.Rows.{AreRows, all_rows, has_row};
+
+use crate::overriding::{is_abstract, is_static, overrides, signature_of};
+use crate::place::Place;
+use crate::rows::Row;
+use crate::walks::superclasses_of;
+use class_index::{Index, method_at};
+
+fn same_member(a: Place, b: Place) -> bool
+    ensures { result ≡ same_member (at_place a) (at_place b) }
+{
+    a.class == b.class && a.position == b.position
+}
+
+/// Whether a class may have the method for the resolved one.
+fn fits(index: &Index, rows: &[Option<Row>], interface: bool, m: Place, own: Place) -> bool
+    requires rows { AreRows index.now rows.now }
+    requires has { has_row rows.now own.class ≡ true }
+    ensures { result ≡ fits index.now interface (at_place m) (at_place own) }
+{
+    !is_static(index, own) && (interface || (same_member(own, m) || overrides(index, rows, own, m)))
+}
+
+/// What the class has for the resolved method.
+fn candidate(
+    index: &Index,
+    rows: &[Option<Row>],
+    interface: bool,
+    m: Place,
+    class: u32,
+) -> Option<u16>
+    requires rows { AreRows index.now rows.now }
+    requires has { has_row rows.now class ≡ true }
+    ensures { result ≡ candidate index.now interface (at_place m) class }
+{
+    let wanted = signature_of(index, m)?;
+    let position = method_at(index, &wanted, class)?;
+    if fits(index, rows, interface, m, Place { class, position }) {
+        Some(position)
+    } else {
+        None
+    }
+}
+
+/// The first that one of the classes has.
+fn first_candidate(
+    index: &Index,
+    rows: &[Option<Row>],
+    interface: bool,
+    m: Place,
+    classes: &[u32],
+) -> Option<Place>
+    requires rows { AreRows index.now rows.now }
+    requires have { all_rows rows.now classes.now ≡ true }
+    ensures { option_map at_place result
+        ≡ first_in (candidate index.now interface (at_place m)) classes.now }
+{
+    for class in classes {
+        if let Some(position) = candidate(index, rows, interface, m, *class) {
+            return Some(Place {
+                class: *class,
+                position,
+            });
+        }
+    }
+    None
+}
+
+/// The nearest one from the class upwards.
+fn nearest(
+    index: &Index,
+    rows: &[Option<Row>],
+    receiver: u32,
+    interface: bool,
+    m: Place,
+) -> Option<Place>
+    requires rows { AreRows index.now rows.now }
+    requires has { has_row rows.now receiver ≡ true }
+    ensures { option_map at_place result ≡ nearest index.now receiver interface (at_place m) }
+{
+    first_candidate(
+        index,
+        rows,
+        interface,
+        m,
+        superclasses_of(index, rows, receiver),
+    )
+}
+
+/// The method that is invoked for the resolved one.
+pub fn selected(
+    index: &Index,
+    rows: &[Option<Row>],
+    receiver: u32,
+    interface: bool,
+    m: Place,
+) -> Option<Place>
+    requires rows { AreRows index.now rows.now }
+    requires has { has_row rows.now receiver ≡ true }
+    ensures { option_map at_place result ≡ selected index.now receiver interface (at_place m) }
+{
+    let found = nearest(index, rows, receiver, interface, m)?;
+    if is_abstract(index, found) {
+        None
+    } else {
+        Some(found)
+    }
+}

@@ -1,0 +1,88 @@
+//! What a load answers.
+
+ghost use Rattle.std.specs.Prelude.{◌≡◌, drop, IfOk, OnOk};
+ghost use Rattle.std.specs.Option.{option_map};
+ghost use Rattle.class_index.specs.Load.{circular_class, load_of};
+ghost use Rattle.jvm_model.specs.SharedState.{no_class_definition};
+ghost use Rattle.class_linker.specs.Linkers.{answer_by, answer_of, error_number, loaded_as};
+ghost use Rattle.class_linker.specs.Linkers.{loaded_in, stopped_by};
+ghost use Rattle.class_linker.specs.States.{IsLater, IsState, fault_view};
+
+use crate::answers::Loaded;
+use crate::kinds::kind_named;
+use crate::loading::{Fault, State, load_all};
+use crate::resolving::incompatible_change;
+use class_index::Index;
+use jf_bytes::{NoMemory, Seq};
+use std::alloc::Global;
+
+fn no_class_definition() -> u16
+    ensures { result ≡ error_number no_class_definition }
+{
+    42
+}
+
+fn circular_class() -> u16
+    ensures { result ≡ error_number circular_class }
+{
+    45
+}
+
+/// The classes were loaded, if there are any.
+fn loaded_as(alloc: Global, kind: u32, classes: &[u32]) -> Result<Loaded, NoMemory>
+    ensures { IfOk result (λ l. l ≡ loaded_as kind classes.now) }
+{
+    if classes.is_empty() {
+        return Ok(Loaded::Already(kind));
+    }
+    Ok(Loaded::New(kind, Seq::from_slice(alloc, classes)?))
+}
+
+/// Loading was stopped when the classes were loaded.
+fn stopped(alloc: Global, fault: Fault, classes: &[u32]) -> Result<Loaded, NoMemory>
+    ensures { IfOk result (λ l. l ≡ stopped_by (fault_view fault) classes.now) }
+{
+    let loaded = Seq::from_slice(alloc, classes)?;
+    Ok(match fault {
+        Fault::NoClass(name) => Loaded::Throws(no_class_definition(), loaded, Some(name)),
+        Fault::Circular => Loaded::Throws(circular_class(), loaded, None),
+        Fault::Incompatible => Loaded::Throws(incompatible_change(), loaded, None),
+    })
+}
+
+fn told(alloc: Global, fault: Option<Fault>, kind: u32, classes: &[u32]) -> Result<Loaded, NoMemory>
+    ensures { IfOk result (λ l. l ≡ answer_by (option_map fault_view fault) kind classes.now) }
+{
+    match fault {
+        None => loaded_as(alloc, kind, classes),
+        Some(fault) => stopped(alloc, fault, classes),
+    }
+}
+
+/// The classes behind the first ones.
+fn behind(classes: &[u32], before: usize) -> &[u32]
+    ensures { result.now ≡ drop before classes.now }
+{
+    classes.get(before..).unwrap_or(&[])
+}
+
+/// Loads what a name stands for, and tells what it gave. An Err may leave more classes loaded.
+pub fn answer(
+    alloc: Global,
+    index: &Index,
+    state: &mut State,
+    name: &[u16],
+) -> Result<Loaded, NoMemory>
+    requires { IsState index.now state.old }
+    ensures state { IsState index.now state.new }
+    ensures later { IsLater state.old state.new }
+    ensures told { IfOk result (λ l. l ≡ answer_of index.now state.old.loaded name.now
+        (load_of index.now state.old.loaded name.now)) }
+    ensures loaded { OnOk result (state.new.loaded
+        ≡ loaded_in (load_of index.now state.old.loaded name.now)) }
+{
+    let before = state.loaded.len();
+    let fault = load_all(alloc, index, state, name)?;
+    let kind = kind_named(index, name);
+    told(alloc, fault, kind, behind(state.loaded.as_slice(), before))
+}

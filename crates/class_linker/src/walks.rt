@@ -1,0 +1,60 @@
+//! The walks over the supertypes of classes that were loaded.
+
+ghost use Rattle.std.specs.Prelude.{◌≡◌, true};
+ghost use Rattle.class_index.specs.Layouts.{layout};
+ghost use Rattle.class_index.specs.Lookup.{is_subtype, superclasses, superinterfaces, supertypes};
+ghost use Rattle.class_index.specs.Orders.{IsSearchedAs};
+ghost use Rattle.class_linker.specs.Rows.{AreRows, all_rows, has_row};
+
+use crate::rows::{
+    Row, has_supertype, layout_in, superclasses_in, superinterfaces_in, supertypes_in,
+};
+use class_index::Index;
+use const_pool::Kind;
+
+/// A class and its superclasses, upwards.
+pub fn superclasses_of<'a>(index: &Index, rows: &'a [Option<Row>], class: u32) -> &'a [u32]
+    requires rows { AreRows index.now rows.now }
+    requires has { has_row rows.now class ≡ true }
+    ensures all { result.now ≡ superclasses index.now class }
+    ensures rows { all_rows rows.now result.now ≡ true }
+{
+    superclasses_in(rows, class)
+}
+
+/// The superinterfaces of a class, as they are searched.
+pub fn superinterfaces_of<'a>(index: &Index, rows: &'a [Option<Row>], class: u32) -> &'a [u32]
+    requires rows { AreRows index.now rows.now }
+    requires has { has_row rows.now class ≡ true }
+    ensures { IsSearchedAs result.now (superinterfaces index.now class) }
+{
+    superinterfaces_in(rows, class)
+}
+
+/// All supertypes of a class, as they are searched.
+pub fn supertypes_of<'a>(index: &Index, rows: &'a [Option<Row>], class: u32) -> &'a [u32]
+    requires rows { AreRows index.now rows.now }
+    requires has { has_row rows.now class ≡ true }
+    ensures searched { IsSearchedAs result.now (supertypes index.now class) }
+    ensures rows { all_rows rows.now result.now ≡ true }
+{
+    supertypes_in(rows, class)
+}
+
+/// The kinds of the slots of a class's objects.
+pub fn layout_of<'a>(index: &Index, rows: &'a [Option<Row>], class: u32) -> &'a [Kind]
+    requires rows { AreRows index.now rows.now }
+    requires has { has_row rows.now class ≡ true }
+    ensures { result.now ≡ layout index.now class }
+{
+    layout_in(rows, class)
+}
+
+/// Whether a class is the other one, or inherits from it, or implements it.
+pub fn is_subtype(index: &Index, rows: &[Option<Row>], lower: u32, upper: u32) -> bool
+    requires rows { AreRows index.now rows.now }
+    requires has { has_row rows.now lower ≡ true }
+    ensures { result ≡ is_subtype index.now lower upper }
+{
+    has_supertype(rows, lower, upper)
+}
