@@ -5,7 +5,7 @@ use Rattle.const_pool.specs.declared.pool.Const.TheVariants.{Gap, Utf8, Class}
 use Rattle.const_pool.specs.declared.class.ClassFile.{ClassFile}
 use Rattle.const_pool.specs.declared.class.Member.{Member}
 use Rattle.const_pool.specs.References.{NameAndType}
-use Rattle.jvm_model.specs.Data.{Program}
+use Rattle.jvm_model.specs.declared.program.Program.{Program}
 
 -- a field or a method
 pub record Item : Type 0 where

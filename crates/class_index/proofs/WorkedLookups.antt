@@ -2,7 +2,7 @@
 use Rattle.std.specs.Prelude.{◌≡◌, ℕ, true, false, List, [], ◌∷◌, Some, None, codes, refl}
 use Rattle.const_pool.specs.declared.descriptor.Kind.TheVariants.{Int, Long, Ref}
 use Rattle.const_pool.specs.References.{NameAndType}
-use Rattle.jvm_model.specs.Data.{Program}
+use Rattle.jvm_model.specs.declared.program.Program.{Program}
 use Rattle.class_index.specs.Kinds.{is_subkind, kind_named}
 use Rattle.class_index.specs.Layouts.{layout}
 use Rattle.class_index.specs.Lookup.{Found, Fails, incompatible_change, is_subtype, place_in, resolved_field, resolved_method}

@@ -6,7 +6,7 @@ use Rattle.const_pool.specs.declared.class.Member.{Member}
 use Rattle.const_pool.specs.declared.descriptor.Kind.{Kind}
 use Rattle.const_pool.specs.declared.descriptor.Kind.TheVariants.{Int, Long, Ref, Byte, Bool, Char, Short, Float, Double}
 use Rattle.const_pool.specs.References.{named_text}
-use Rattle.jvm_model.specs.Data.{Program}
+use Rattle.jvm_model.specs.declared.program.Program.{Program}
 use Rattle.jvm_model.specs.Programs.{class_at}
 use Rattle.class_index.specs.Lookup.{superclass_of}
 use Rattle.jvm_model.specs.SmallClass.{has_flag}

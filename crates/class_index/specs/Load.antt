@@ -7,7 +7,7 @@ use Rattle.std.specs.List.{list_any}
 use Rattle.std.specs.Option.{option_map_or, option_to_list}
 use Rattle.const_pool.specs.declared.class.ClassFile.{ClassFile}
 use Rattle.const_pool.specs.References.{named_class}
-use Rattle.jvm_model.specs.Data.{Program}
+use Rattle.jvm_model.specs.declared.program.Program.{Program}
 use Rattle.jvm_model.specs.SharedState.{no_class_definition}
 use Rattle.jvm_model.specs.Programs.{class_at, class_named}
 use Rattle.class_index.specs.Lookup.{incompatible_change, interface_names, is_interface}

@@ -7,7 +7,7 @@ use Rattle.std.specs.List.{list_any}
 use Rattle.std.specs.Option.{option_and_then, option_map_or, option_to_list}
 use Rattle.const_pool.specs.declared.class.ClassFile.{ClassFile}
 use Rattle.const_pool.specs.References.{NameAndType, named_class}
-use Rattle.jvm_model.specs.Data.{Program}
+use Rattle.jvm_model.specs.declared.program.Program.{Program}
 use Rattle.jvm_model.specs.Methods.{method_named}
 use Rattle.jvm_model.specs.Programs.{class_at, class_named, super_of}
 use Rattle.jvm_model.specs.SharedState.{field_named, no_such_field, no_such_method}
