@@ -159,7 +159,7 @@ fn sought_above_interface(
     requires has { has_row rows.now class ≡ true }
     ensures { option_map place_view result
         ≡ first_in (method_at index.now (wanted_view wanted.now))
-            (interface_order index.now class) }
+        (interface_order index.now class) }
 {
     match method_at(index, wanted, class) {
         Some(position) => Some((class, position)),
