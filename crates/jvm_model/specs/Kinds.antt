@@ -2,7 +2,6 @@
 -- number d * 2 ^ 24 + b: d is how many dimensions there are, 0 for what is no array; b is the code of newarray for a primitive
 -- element, 16 and the place among the built-in classes, or 256 and the position among the others, which stand before them.
 use Rattle.std.specs.Prelude.{ℕ, ◌+◌, ◌-◌, ◌*◌, Bool, false, not, List, [], ◌∷◌, length, Option, Some, None, nat_lt, nat_le, unwrap_or, take, position, ◌==◌, ◌&&◌, ◌||◌, if◌then◌else◌}
-
 use Rattle.std.specs.Option.{option_and_then, option_map}
 use Rattle.const_pool.specs.BuiltIn.{built_in_names}
 use Rattle.jvm_model.specs.Data.{Program}
