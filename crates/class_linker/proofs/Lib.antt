@@ -1,10 +1,10 @@
 mod RowLemmas
 mod LoadLemmas
-mod LoadWalks
+pub mod LoadWalks
 mod LoadLoop
 mod Walked
 mod Begun
-mod Subtypes
+pub mod Subtypes
 mod OverridingLaws
-mod OverridingTest
+pub mod OverridingTest
 mod WorkedAnswers

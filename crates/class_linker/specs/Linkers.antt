@@ -3,6 +3,7 @@ use Rattle.std.specs.Prelude.{◌≡◌, ℕ, true, List, [], ◌∷◌, ◌++�
 use Rattle.std.specs.Option.{option_to_list}
 use Rattle.std.specs.Str.{bytes_eq}
 use Rattle.const_pool.specs.BuiltIn.{built_in_names}
+use Rattle.const_pool.specs.References.{NameAndType}
 use Rattle.jvm_model.specs.declared.program.Program.{Program}
 use Rattle.class_index.specs.Kinds.{KindParts, class_of_base, kind_named}
 use Rattle.class_index.specs.Load as load
@@ -82,6 +83,9 @@ abbrev pub IsKnown : LinkerView → ℕ → Type 0
 IsKnown l kind = (class : ℕ) → class_of_base l.program (kind % 16777216) ≡ Some class → IsLoaded l class
 
 -- ---- where a method is sought
+
+abbrev pub method_in : Program → NameAndType → List ℕ → Option lookup.MemberPlace
+method_in p wanted classes = lookup.first_in (lookup.method_at p wanted) classes
 
 abbrev pub inherited_order : Program → ℕ → List ℕ
 inherited_order p class = lookup.superinterfaces p class ++ option_to_list (class_named p (codes "java/lang/Object"))

@@ -2,15 +2,14 @@
 
 ghost use Rattle.std.specs.Prelude.{◌≡◌, true, codes};
 ghost use Rattle.std.specs.Option.{option_map, option_to_list};
-ghost use Rattle.class_index.specs.Lookup.{field_at, first_in, method_at, method_order};
+ghost use Rattle.class_index.specs.Lookup.{field_at, first_in, method_order};
 ghost use Rattle.class_index.specs.Lookup.{incompatible_change, resolved_field, resolved_method};
 ghost use Rattle.class_index.specs.Lookup.{superclasses, superinterfaces, supertypes};
 ghost use Rattle.jvm_model.specs.Programs.{class_named};
 ghost use Rattle.jvm_model.specs.SharedState.{no_such_field, no_such_method};
 ghost use Rattle.class_index.specs.Members.{place_view};
 ghost use Rattle.class_linker.specs.Linkers.{class_order, error_number, inherited_order};
-ghost use Rattle.class_linker.specs.Linkers.{interface_order};
-ghost use Rattle.class_linker.specs.Linkers.{resolved_of};
+ghost use Rattle.class_linker.specs.Linkers.{interface_order, method_in, resolved_of};
 ghost use Rattle.class_index.specs.Members.{wanted_view};
 ghost use Rattle.class_linker.specs.Rows.{AreRows, has_row};
 
@@ -89,7 +88,7 @@ pub fn resolved_field(
 /// The method of java/lang/Object.
 fn object_method(index: &Index, wanted: &Wanted<'_>) -> Option<(u32, u16)>
     ensures { option_map place_view result
-        ≡ first_in (method_at index.now (wanted_view wanted.now))
+        ≡ method_in index.now (wanted_view wanted.now)
         (option_to_list (class_named index.now (codes "java/lang/Object"))) }
 {
     let class = index.class_named(object_name())?;
@@ -107,7 +106,7 @@ fn superclass_method(
     requires rows { AreRows index.now rows.now }
     requires has { has_row rows.now class ≡ true }
     ensures { option_map place_view result
-        ≡ first_in (method_at index.now (wanted_view wanted.now)) (superclasses index.now class) }
+        ≡ method_in index.now (wanted_view wanted.now) (superclasses index.now class) }
 {
     first_method(index, wanted, superclasses_of(index, rows, class))
 }
@@ -122,8 +121,7 @@ fn superinterface_method(
     requires rows { AreRows index.now rows.now }
     requires has { has_row rows.now class ≡ true }
     ensures { option_map place_view result
-        ≡ first_in (method_at index.now (wanted_view wanted.now))
-        (superinterfaces index.now class) }
+        ≡ method_in index.now (wanted_view wanted.now) (superinterfaces index.now class) }
 {
     first_method(index, wanted, superinterfaces_of(index, rows, class))
 }
@@ -139,8 +137,7 @@ fn inherited_method(
     requires rows { AreRows index.now rows.now }
     requires has { has_row rows.now class ≡ true }
     ensures { option_map place_view result
-        ≡ first_in (method_at index.now (wanted_view wanted.now))
-        (inherited_order index.now class) }
+        ≡ method_in index.now (wanted_view wanted.now) (inherited_order index.now class) }
 {
     match superinterface_method(index, rows, class, wanted) {
         Some(found) => Some(found),
@@ -158,8 +155,7 @@ fn sought_above_interface(
     requires rows { AreRows index.now rows.now }
     requires has { has_row rows.now class ≡ true }
     ensures { option_map place_view result
-        ≡ first_in (method_at index.now (wanted_view wanted.now))
-        (interface_order index.now class) }
+        ≡ method_in index.now (wanted_view wanted.now) (interface_order index.now class) }
 {
     match method_at(index, wanted, class) {
         Some(position) => Some((class, position)),
@@ -178,7 +174,7 @@ fn sought_above_class(
     requires rows { AreRows index.now rows.now }
     requires has { has_row rows.now class ≡ true }
     ensures { option_map place_view result
-        ≡ first_in (method_at index.now (wanted_view wanted.now)) (class_order index.now class) }
+        ≡ method_in index.now (wanted_view wanted.now) (class_order index.now class) }
 {
     match superclass_method(index, rows, class, wanted) {
         Some(found) => Some(found),
@@ -195,7 +191,7 @@ fn sought_method(
     requires rows { AreRows index.now rows.now }
     requires has { has_row rows.now class ≡ true }
     ensures { option_map place_view result
-        ≡ first_in (method_at index.now (wanted_view wanted.now)) (method_order index.now class) }
+        ≡ method_in index.now (wanted_view wanted.now) (method_order index.now class) }
 {
     if index.is_interface(class) {
         sought_above_interface(index, rows, class, wanted)
