@@ -1,9 +1,9 @@
 -- The image of a class of the built part agrees with the class, place by place.
 use Rattle.std.proofs.Common.{◌≡◌, ℕ, zero, suc, ◌+◌, ◌<◌, ◌≤◌, ◌⊎◌, inl, inr, Bool, true, false, List, [], ◌∷◌, length, slice_get, Option, Some, None, refl, sym, ap, subst, ◌∙◌, zero-add, arith}
-use Rattle.std.specs.Prelude.{map, unwrap_or, MatchBool}
+use Rattle.std.specs.Prelude.{map, is_some, unwrap_or, MatchBool}
 use Rattle.std.specs.Option.{option_and_then}
 use Rattle.std.proofs.lemmas.List.{append-nil}
-use Rattle.std.proofs.lemmas.Option.{same_Some, slice_get_within}
+use Rattle.std.proofs.lemmas.Option.{same_Some, none-some, slice_get_within}
 use Rattle.const_pool.specs.declared.class.ClassFile.{ClassFile}
 use Rattle.const_pool.specs.declared.class.Member.{Member}
 use Rattle.const_pool.specs.declared.class.CodeAttribute.{CodeAttribute}
@@ -12,13 +12,13 @@ use Rattle.code_model.specs.Instructions.{IsReading}
 use Rattle.jvm_model.specs.declared.event.Mark.{Mark}
 use Rattle.jvm_model.specs.declared.event.Mark.TheVariants.{Off, Plain, Root}
 use Rattle.jvm_model.specs.Agreement.{Agrees}
-use Rattle.jvm_model.specs.Images.{is_off, all_off, IsMarkedMember, IsMemberImage, IsOriginal, IsRewritten, IsImage}
+use Rattle.jvm_model.specs.Images.{is_off, all_off, IsMarkedMember, IsMemberImage, next_number, AreMemberImages, IsOriginal, IsRewritten, IsImage}
 use Rattle.jvm_model.specs.Methods.{code_of, method_code, method_named}
 use Rattle.jvm_model.specs.StandsFor.{IsBuilt, homes_at, mark_at}
 use Rattle.jvm_model.specs.Versions.{laid_version}
 use Rattle.jvm_model.proofs.ImageLines.{IsPlainMethod, IsLaidMethod, Agrees-versions}
-use Rattle.jvm_model.proofs.ImageMethods.{LooksAlike, LooksAlike-rewritten, nth-image, code_of-marked, small-coded}
-use Rattle.jvm_model.proofs.Starts.{HasCode, HasCode-method_code, nth-passes}
+use Rattle.jvm_model.proofs.ImageMethods.{has_code, LooksAlike, LooksAlike-rewritten, nth-image, code_of-marked, small-coded}
+use Rattle.jvm_model.proofs.Starts.{HasCode, HasCode-method_code, nth-passes, nth-each}
 
 -- ---- no method is marked
 
@@ -50,8 +50,17 @@ Agrees-original c marks image homes built off is =
       unmoved = ap (λ (hs : List (Option Homes)). homes_at hs m) is.unmoved ∙ none-at c.methods m;
       off = off-at marks m off;
     }))
+    (λ m none. ap (λ (hs : List (Option Homes)). homes_at hs m) is.unmoved ∙ none-at c.methods m)
 
 -- ---- some are
+
+-- there are homes for the methods alone
+none-past : (count number : ℕ) (marks : List Mark) (olds news : List Member) (homes : List (Option Homes)) (m : ℕ) → AreMemberImages count number marks olds news homes
+    → slice_get olds m ≡ None → slice_get homes m ≡ None
+none-past count number [] [] [] [] m are past = refl
+none-past count number (mark ∷ marks) (old ∷ olds) (new ∷ news) (h ∷ homes) zero are past = absurd (none-some old (sym past))
+none-past count number (mark ∷ marks) (old ∷ olds) (new ∷ news) (h ∷ homes) (suc m) are past = none-past count (next_number number old) marks olds news homes m are.1 past
+none-past count number _ _ _ _ m are past = absurd are
 
 -- a marked method is rewritten
 laid-method : (c image : ClassFile) (marks : List Mark) (homes : List (Option Homes)) (m : ℕ) (code : CodeAttribute) (old new : Member) (mark : Mark) (home : Option Homes) (moved : Homes)
@@ -83,8 +92,16 @@ laid-method c image marks homes m code old new mark home moved built is coded ha
 
 Agrees-rewritten : (c : ClassFile) (marks : List Mark) (image : ClassFile) (homes : List (Option Homes)) → IsBuilt c → IsRewritten c 0 marks image homes → Agrees c marks image homes
 Agrees-rewritten c marks image homes built is =
-    Agrees-versions c image marks homes built (LooksAlike-rewritten c 0 marks image homes built.small is) each
+    Agrees-versions c image marks homes built (LooksAlike-rewritten c 0 marks image homes built.small is) each others
   where
+    others : (m : ℕ) → method_code c m ≡ None → homes_at homes m ≡ None
+    others m none = by_member (slice_get c.methods m) refl where
+      by_member : (o : Option Member) → slice_get c.methods m ≡ o → homes_at homes m ≡ None
+      by_member None past = ap (λ x. unwrap_or x None) (none-past (length c.pool) 0 marks c.methods image.methods homes m is.methods past)
+      by_member (Some old) at =
+          absurd (let code : is_some (code_of old) ≡ true = nth-each has_code c.methods m old (small-coded c built.small) at in
+          let no : false ≡ true = sym (ap is_some (ap (option_and_then code_of) (sym at) ∙ none)) ∙ code in cc)
+
     each : (m : ℕ) (code : CodeAttribute) → method_code c m ≡ Some code → IsPlainMethod c image homes marks m code ⊎ IsLaidMethod c image homes marks m
     each m code coded =
         let has = HasCode-method_code c m code coded in

@@ -495,8 +495,8 @@ module _ (c image : ClassFile) (marks : List Mark) (homes : List (Option Homes))
   abbrev HasVersion : ℕ → CodeAttribute → Type 0
   HasVersion m code = IsPlainMethod c image homes marks m code ⊎ IsLaidMethod c image homes marks m
 
-  pub Agrees-versions : ((m : ℕ) (code : CodeAttribute) → method_code c m ≡ Some code → HasVersion m code) → Agrees c marks image homes
-  Agrees-versions each = record {
+  pub Agrees-versions : ((m : ℕ) (code : CodeAttribute) → method_code c m ≡ Some code → HasVersion m code) → ((m : ℕ) → method_code c m ≡ None → homes_at homes m ≡ None) → Agrees c marks image homes
+  Agrees-versions each others = record {
     lines = λ m at line start lined. elim (each m start.code start.coded) [
       | inl plain ↦ plain-line m at line start plain lined
       | inr laid ↦ laid-line m at line start laid lined
@@ -521,4 +521,5 @@ module _ (c image : ClassFile) (marks : List Mark) (homes : List (Option Homes))
       | inl plain ↦ ap (λ h. home_by h 0) plain.unmoved ∙ sym (ap (λ b. cond b 0 6) plain.off)
       | inr laid ↦ laid-first m laid
     ];
+    others = others;
   }

@@ -1,17 +1,16 @@
--- In the program of one small class a method's number is its position.
-use Rattle.std.proofs.Common.{◌≡◌, ℕ, zero, suc, ◌+◌, List, [], ◌∷◌, ◌++◌, slice_get, cond, Option, Some, None, refl, sym, ap, ◌∙◌, zero-add, arith}
-use Rattle.std.specs.Option.{option_map, option_map_or, option_and_then}
+-- In a program whose first class is small, the number of a method of that class is its position.
+use Rattle.std.proofs.Common.{◌≡◌, ℕ, zero, suc, ◌+◌, ◌<◌, List, length, [], ◌∷◌, ◌++◌, slice_get, cond, Option, Some, None, refl, sym, ap, ◌∙◌, zero-add, arith}
+use Rattle.std.specs.Option.{option_map, option_and_then}
 use Rattle.std.specs.List.{AllByRecursion}
 use Rattle.std.proofs.Math.Nat.{add-zero}
 use Rattle.std.proofs.lemmas.Bool.{eq-eqb, ne_eqb}
-use Rattle.std.proofs.lemmas.List.{append-nil}
 use Rattle.std.proofs.lemmas.Option.{none-some}
 use Rattle.const_pool.specs.declared.class.ClassFile.{ClassFile}
 use Rattle.const_pool.specs.declared.class.Member.{Member}
-use Rattle.const_pool.specs.declared.class.CodeAttribute.{CodeAttribute}
-use Rattle.jvm_model.specs.Data.{MethodPlace}
-use Rattle.jvm_model.specs.Methods.{code_of, method_code, method_params}
-use Rattle.jvm_model.specs.Programs.{coded_from, numbered_from, number_from, number_of_method, class_at, by_number, code_of_method, params_of_method, max_stack_of, max_locals_of, alone, world_of}
+use Rattle.jvm_model.specs.Data.{MethodPlace, Program}
+use Rattle.jvm_model.specs.Methods.{method_code}
+use Rattle.jvm_model.specs.OneClass.{IsProgramOf}
+use Rattle.jvm_model.specs.Programs.{coded_from, numbered_from, numbered, number_from, number_of_method, place_of_method, class_at, by_number, code_of_method}
 use Rattle.jvm_model.specs.SmallClass.{IsSmallClass}
 use Rattle.jvm_model.proofs.ImageMethods.{has_code, small-coded}
 
@@ -28,36 +27,45 @@ coded-nth class at (m ∷ ms) (suc k) coded =
     ap (λ b. slice_get (cond b (at_position class at m ∷ coded_from class (at + 1) ms) (coded_from class (at + 1) ms)) (suc k)) coded.0
     ∙ (coded-nth class (at + 1) ms k coded.1 ∙ ap (λ x. option_map (at_position class x) (slice_get ms k)) n)
 
+-- ---- the class of a program that is of one class
+
+nth-append : {A : Type 0} (xs ys : List A) (k : ℕ) (x : A) → slice_get xs k ≡ Some x → slice_get (xs ++ ys) k ≡ Some x
+nth-append [] ys k x e = absurd (none-some x e)
+nth-append (z ∷ xs) ys zero x e = e
+nth-append (z ∷ xs) ys (suc k) x e = nth-append xs ys k x e
+
+pub first-at : (c : ClassFile) (p : Program) → IsProgramOf c p → class_at p 0 ≡ Some c
+first-at c p of = ap (λ cs. slice_get cs 0) of.classes
+
+-- the method at a position of the class has this number
+pub place-first : (c : ClassFile) (p : Program) (v : ℕ) (m : Member) → IsSmallClass c → IsProgramOf c p → slice_get c.methods v ≡ Some m
+    → place_of_method p v ≡ Some (record { class = 0; position = v })
+place-first c p v m small of e =
+    ap (λ ms. slice_get ms v) (of.methods ∙ ap numbered of.classes)
+    ∙ nth-append (coded_from 0 0 c.methods) (numbered_from 1 of.rest) v (record { class = 0; position = v })
+    (coded-nth 0 0 c.methods v (small-coded c small)
+    ∙ (ap (option_map (at_position 0 (0 + v))) e ∙ ap (λ n. let o : Option MethodPlace = Some (record { class = 0; position = n }) in o) (zero-add v)))
+
 -- what is looked up by number is looked up by position, among the class's methods
-pub by_number-alone : {A : Type 0} (c : ClassFile) (main : ℕ) (look : ClassFile → ℕ → Option A) (v : ℕ) → IsSmallClass c
-    → by_number (alone c main) look v ≡ option_and_then (λ m. look c v) (slice_get c.methods v)
-by_number-alone {A} c main look v small =
-    ap (option_and_then found) (ap (λ l. slice_get l v) (append-nil (coded_from 0 0 c.methods)) ∙ coded-nth 0 0 c.methods v (small-coded c small)) ∙ by_member (slice_get c.methods v)
+pub by_number-first : {A : Type 0} (c : ClassFile) (p : Program) (look : ClassFile → ℕ → Option A) (v : ℕ) (m : Member) → IsSmallClass c → IsProgramOf c p → slice_get c.methods v ≡ Some m
+    → by_number p look v ≡ look c v
+by_number-first {A} c p look v m small of e =
+    ap (option_and_then found) (place-first c p v m small of e) ∙ ap (option_and_then (λ k. look k v)) (first-at c p of)
   where
     found : MethodPlace → Option A
-    found place = option_and_then (λ k. look k place.position) (class_at (alone c main) place.class)
+    found place = option_and_then (λ k. look k place.position) (class_at p place.class)
 
-    by_member : (m : Option Member) → option_and_then found (option_map (at_position 0 (0 + v)) m) ≡ option_and_then (λ m. look c v) m
-    by_member None = refl
-    by_member (Some m) = ap (look c) (zero-add v)
+pub code-first : (c : ClassFile) (p : Program) (v : ℕ) (m : Member) → IsSmallClass c → IsProgramOf c p → slice_get c.methods v ≡ Some m → code_of_method p v ≡ method_code c v
+code-first c p v m small of e = by_number-first c p method_code v m small of e
 
-pub code-alone : (c : ClassFile) (main : ℕ) (v : ℕ) → IsSmallClass c → code_of_method (alone c main) v ≡ method_code c v
-code-alone c main v small = by_number-alone c main method_code v small ∙ by_member (slice_get c.methods v) refl where
-  by_member : (m : Option Member) → slice_get c.methods v ≡ m → option_and_then (λ x. method_code c v) m ≡ method_code c v
-  by_member None e = sym (ap (option_and_then code_of) e)
-  by_member (Some m) e = refl
+nth-there : {A : Type 0} (xs : List A) (k : ℕ) → k < length xs → (x : A) × (slice_get xs k ≡ Some x)
+nth-there [] k e = absurd (omega (arith, e))
+nth-there (x ∷ xs) zero e = (x, refl)
+nth-there (x ∷ xs) (suc k) e = nth-there xs k (omega (arith, e))
 
-pub params-alone : (c : ClassFile) (main : ℕ) (v : ℕ) → IsSmallClass c → params_of_method (alone c main) v ≡ method_params c v
-params-alone c main v small = by_number-alone c main method_params v small ∙ by_member (slice_get c.methods v) refl where
-  by_member : (m : Option Member) → slice_get c.methods v ≡ m → option_and_then (λ x. method_params c v) m ≡ method_params c v
-  by_member None e = rw (e) refl
-  by_member (Some m) e = refl
-
-pub max_stack-alone : (c : ClassFile) (main : ℕ) (input : List ℕ) (v : ℕ) → IsSmallClass c → max_stack_of (world_of c main input) v ≡ option_map_or (λ (k : CodeAttribute). k.max_stack) (method_code c v) 0
-max_stack-alone c main input v small = ap (λ code. option_map_or (λ (k : CodeAttribute). k.max_stack) code 0) (code-alone c main v small)
-
-pub max_locals-alone : (c : ClassFile) (main : ℕ) (input : List ℕ) (v : ℕ) → IsSmallClass c → max_locals_of (world_of c main input) v ≡ option_map_or (λ (k : CodeAttribute). k.max_locals) (method_code c v) 0
-max_locals-alone c main input v small = ap (λ code. option_map_or (λ (k : CodeAttribute). k.max_locals) code 0) (code-alone c main v small)
+-- the main method is one of the class
+pub main-first : (c : ClassFile) (p : Program) → IsProgramOf c p → (m : Member) × (slice_get c.methods p.main ≡ Some m)
+main-first c p of = nth-there c.methods p.main of.main
 
 -- ---- from positions to numbers
 
@@ -75,7 +83,8 @@ number-coded n at (x ∷ ms) rest (suc k) m coded e =
     ∙ (ap (λ y. number_from (n + 1) 0 y (coded_from 0 (at + 1) ms ++ rest)) (sym here)
     ∙ (number-coded (n + 1) (at + 1) ms rest k m coded.1 e ∙ ap (λ x. let o : Option ℕ = Some x in o) count)))
 
-pub number-alone : (c : ClassFile) (main k : ℕ) (m : Member) → IsSmallClass c → slice_get c.methods k ≡ Some m → number_of_method (alone c main) 0 k ≡ Some k
-number-alone c main k m small e =
-    ap (λ x. number_from 0 0 x (numbered_from 0 (c ∷ []))) (sym (zero-add k))
-    ∙ (number-coded 0 0 c.methods [] k m (small-coded c small) e ∙ ap (λ x. let o : Option ℕ = Some x in o) (zero-add k))
+pub number-first : (c : ClassFile) (p : Program) (k : ℕ) (m : Member) → IsSmallClass c → IsProgramOf c p → slice_get c.methods k ≡ Some m → number_of_method p 0 k ≡ Some k
+number-first c p k m small of e =
+    ap (number_from 0 0 k) (of.methods ∙ ap numbered of.classes)
+    ∙ (ap (λ x. number_from 0 0 x (numbered_from 0 (c ∷ of.rest))) (sym (zero-add k))
+    ∙ (number-coded 0 0 c.methods (numbered_from 1 of.rest) k m (small-coded c small) e ∙ ap (λ x. let o : Option ℕ = Some x in o) (zero-add k)))

@@ -1,7 +1,7 @@
 -- The original code of a small class stays within itself: where a frame stands at the start of an instruction, it goes on
 -- at such starts alone.
 use Rattle.std.proofs.Common.{◌≡◌, ℕ, zero, suc, ◌+◌, ◌≤◌, Bool, true, false, List, [], ◌∷◌, length, slice_get, cond, Option, Some, None, refl, sym, ap, subst, ◌∙◌, eqb-true, arith}
-use Rattle.std.specs.Prelude.{map, unwrap_or, ◌==◌, ◌||◌}
+use Rattle.std.specs.Prelude.{map, is_some, unwrap_or, ◌==◌, ◌||◌}
 use Rattle.std.specs.Option.{IfSome, option_map, option_map_or, option_and_then}
 use Rattle.std.specs.List.{AllByRecursion}
 use Rattle.std.proofs.lemmas.Bool.{eq-eqb}
@@ -19,16 +19,16 @@ use Rattle.code_model.specs.Instructions.{end_of, Reads}
 use Rattle.code_model.specs.Layout.{size_at}
 use Rattle.code_model.proofs.Lengths.{size_at-some}
 use Rattle.code_model.proofs.Readings.{at-instruction_at, instruction_at-past}
-use Rattle.jvm_model.specs.Data.{Operation, Instruction}
+use Rattle.jvm_model.specs.Data.{Operation, Instruction, Catcher, Program}
 use Rattle.jvm_model.specs.Methods.{code_among, code_of, method_code}
-use Rattle.jvm_model.specs.Lines.{operation_with, next_of, targets_of, ends, code_instruction, method_instruction}
+use Rattle.jvm_model.specs.Lines.{operation_with, next_of, targets_of, ends, method_instruction}
 use Rattle.jvm_model.specs.Originals.{catcher_of, method_handlers, original}
-use Rattle.jvm_model.specs.Programs.{alone}
+use Rattle.jvm_model.specs.OneClass.{IsProgramOf}
 use Rattle.jvm_model.specs.Closed.{IsWithin, IsClosed}
 use Rattle.jvm_model.specs.Places.{read_from, method_reading, is_start_in, is_place}
 use Rattle.jvm_model.specs.Agreement.{IsStart}
 use Rattle.jvm_model.specs.StandsFor.{IsBuilt}
-use Rattle.jvm_model.proofs.Numbers.{by_number-alone}
+use Rattle.jvm_model.proofs.Numbers.{by_number-first}
 use Rattle.jvm_model.proofs.Starts.{HasLine, HasLine-start, IsStart-first, HasCode-method_code, nth-each}
 
 -- ---- readings are computed
@@ -68,7 +68,8 @@ any-nth (j ∷ is) at (suc k) i e here = or-second (j.at == at) (is_start_in is 
 
 pub start-place : (c : ClassFile) (m at : ℕ) → IsStart c m at → is_place c m at ≡ true
 start-place c m at start =
-    or-second (at == 0) (is_start_in (method_reading c m) at)
+    ap (λ o. cond (is_some o) (at == 0 || is_start_in (method_reading c m) at) true) start.coded
+    ∙ or-second (at == 0) (is_start_in (method_reading c m) at)
     (ap (λ is. is_start_in is at) (reading-is c m at start) ∙ any-nth start.reading.instrs at start.nth start.instr start.stands start.here)
 
 record Nth (is : List Instr) (at : ℕ) : Type 0 where
@@ -90,13 +91,16 @@ nth-any (j ∷ is) at e = nth-by j is at (j.at == at) refl e (nth-any is at)
 
 pub place-start : (c : ClassFile) (m at : ℕ) (code : CodeAttribute) → IsBuilt c → method_code c m ≡ Some code → is_place c m at ≡ true → IsStart c m at
 place-start c m at code built coded e = by_test (at == 0) refl where
+  here : (at == 0 || is_start_in (method_reading c m) at) ≡ true
+  here = sym (ap (λ o. cond (is_some o) (at == 0 || is_start_in (method_reading c m) at) true) coded) ∙ e
+
   first : IsStart c m 0
   first = let has = HasCode-method_code c m code coded in IsStart-first c m has.member built.small has.is
 
   by_test : (b : Bool) → (at == 0) ≡ b → IsStart c m at
   by_test true t = subst (IsStart c m) (sym (eqb-true at 0 t)) first
   by_test false t =
-      let in_reading : is_start_in (method_reading c m) at ≡ true = ap (λ b. b || is_start_in (method_reading c m) at) (sym t) ∙ e in
+      let in_reading : is_start_in (method_reading c m) at ≡ true = ap (λ b. b || is_start_in (method_reading c m) at) (sym t) ∙ here in
       let found = nth-any first.reading.instrs at (ap (λ is. is_start_in is at) (sym (reading-is c m 0 first)) ∙ in_reading) in
       record {
         code = first.code;
@@ -111,27 +115,26 @@ place-start c m at code built coded e = by_test (at == 0) refl where
 
 -- ---- the text
 
-pub at-original : (c : ClassFile) (main v at : ℕ) → IsBuilt c → (original (alone c main)).at v at ≡ method_instruction c v at
-at-original c main v at built =
-    by_number-alone c main (λ k m. method_instruction k m at) v built.small ∙ by_member (slice_get c.methods v) refl where
-      by_member : (m : Option Member) → slice_get c.methods v ≡ m → option_and_then (λ x. method_instruction c v at) m ≡ method_instruction c v at
-      by_member None e = rw (e) refl
-      by_member (Some m) e = refl
+pub at-original : (c : ClassFile) (p : Program) (v at : ℕ) → IsBuilt c → IsProgramOf c p → is_some (method_code c v) ≡ true → (original p).at v at ≡ method_instruction c v at
+at-original c p v at built of code = by_member (slice_get c.methods v) refl where
+  by_member : (m : Option Member) → slice_get c.methods v ≡ m → (original p).at v at ≡ method_instruction c v at
+  by_member None e = absurd (let no : false ≡ true = ap is_some (sym (ap (option_and_then code_of) e)) ∙ code in cc)
+  by_member (Some m) e = by_number-first c p (λ k x. method_instruction k x at) v m built.small of e
 
 plain-handlers : (m : Member) (code : CodeAttribute) → HasPlainCode m → code_of m ≡ Some code → code.handlers ≡ []
 plain-handlers m code plain e = (subst (λ o. IfSome o IsPlainCode) e plain).handlers
 
-pub handlers-original : (c : ClassFile) (main v : ℕ) → IsBuilt c → (original (alone c main)).handlers v ≡ []
-handlers-original c main v built =
-    ap (λ o. unwrap_or o []) (by_number-alone c main method_handlers v built.small) ∙ by_member (slice_get c.methods v) refl where
-      by_code : (m : Member) (code : Option CodeAttribute) → slice_get c.methods v ≡ Some m → code_of m ≡ code → unwrap_or (option_map (λ (k : CodeAttribute). map (catcher_of c) k.handlers) code) [] ≡ []
-      by_code m None e is = refl
-      by_code m (Some code) e is = ap (map (catcher_of c)) (plain-handlers m code (nth-each HasPlainCode c.methods v m built.plain.methods e) is)
+pub handlers-original : (c : ClassFile) (p : Program) (v : ℕ) → IsBuilt c → IsProgramOf c p → is_some (method_code c v) ≡ true → (original p).handlers v ≡ []
+handlers-original c p v built of code = by_member (slice_get c.methods v) refl where
+  by_code : (m : Member) (code : Option CodeAttribute) → slice_get c.methods v ≡ Some m → code_of m ≡ code → unwrap_or (option_map (λ (k : CodeAttribute). map (catcher_of c) k.handlers) code) [] ≡ []
+  by_code m None e is = refl
+  by_code m (Some code) e is = ap (map (catcher_of c)) (plain-handlers m code (nth-each HasPlainCode c.methods v m built.plain.methods e) is)
 
-      by_member : (m : Option Member) → slice_get c.methods v ≡ m → unwrap_or (option_and_then (λ x. method_handlers c v) m) [] ≡ []
-      by_member None e = refl
-      by_member (Some m) e =
-          ap (λ o. unwrap_or (option_map (λ (k : CodeAttribute). map (catcher_of c) k.handlers) (option_and_then code_of o)) []) e ∙ by_code m (code_of m) e refl
+  by_member : (m : Option Member) → slice_get c.methods v ≡ m → (original p).handlers v ≡ []
+  by_member None e = absurd (let no : false ≡ true = ap is_some (sym (ap (option_and_then code_of) e)) ∙ code in cc)
+  by_member (Some m) e =
+      ap (λ o. unwrap_or o []) (by_number-first c p method_handlers v m built.small of e)
+      ∙ (ap (λ o. unwrap_or (option_map (λ (k : CodeAttribute). map (catcher_of c) k.handlers) (option_and_then code_of o)) []) e ∙ by_code m (code_of m) e refl)
 
 no-targets : (c : ClassFile) (op : ℕ) (a : Arg) (o : Operation) → operation_with c op a ≡ Some o → targets_of a ≡ []
 no-targets c op arg.Plain o e = refl
@@ -145,31 +148,64 @@ pub record StandsAt (c : ClassFile) (v at : ℕ) (i : Instruction) : Type 0 wher
   pub has : HasLine c v at start.instr
   pub is : i ≡ record { operation = has.operation; own = start.instr.at; next = next_of has.operation (end_of start.instr); targets = targets_of start.instr.arg }
 
-pub stands-at : (c : ClassFile) (main v at : ℕ) (i : Instruction) → IsBuilt c → is_place c v at ≡ true → (original (alone c main)).at v at ≡ Some i → StandsAt c v at i
-stands-at c main v at i built place e = by_code (method_code c v) refl where
+pub stands-at : (c : ClassFile) (p : Program) (v at : ℕ) (i : Instruction) → IsBuilt c → IsProgramOf c p → is_some (method_code c v) ≡ true → is_place c v at ≡ true → (original p).at v at ≡ Some i → StandsAt c v at i
+stands-at c p v at i built of coded place e = by_code (method_code c v) refl where
   by_code : (code : Option CodeAttribute) → method_code c v ≡ code → StandsAt c v at i
-  by_code None none =
-      absurd (none-some i (sym (ap (option_and_then (λ (k : CodeAttribute). code_instruction c k.code at)) none) ∙ (sym (at-original c main v at built) ∙ e)))
-  by_code (Some code) coded =
-      let start = place-start c v at code built coded place in
+  by_code None none = absurd (let no : false ≡ true = ap is_some (sym none) ∙ coded in cc)
+  by_code (Some code) has_code =
+      let start = place-start c v at code built has_code place in
       let has = HasLine-start c v at built start in
-      record { start = start; has = has; is = same_Some i _ (sym e ∙ (at-original c main v at built ∙ has.instructed)) }
+      record { start = start; has = has; is = same_Some i _ (sym e ∙ (at-original c p v at built of coded ∙ has.instructed)) }
 
 next-place : (c : ClassFile) (v : ℕ) (b : Bool) (k : ℕ) → (b ≡ false → IsStart c v k) → IfSome (cond b None (Some k)) (λ n. is_place c v n ≡ true)
 next-place c v true k start = tt
 next-place c v false k start = start-place c v k (start refl)
 
-pub original-closed : (c : ClassFile) (main : ℕ) → IsBuilt c → IsClosed (is_place c) (original (alone c main))
-original-closed c main built = record {
-  start = λ v. refl;
-  first = λ v. refl;
-  next = λ v at i place e. (
-      let found = stands-at c main v at i built place e in
+-- wherever a frame of another class's method stands, it is left alone
+elsewhere-place : (c : ClassFile) (v at : ℕ) → is_some (method_code c v) ≡ false → is_place c v at ≡ true
+elsewhere-place c v at none = ap (λ b. cond b (at == 0 || is_start_in (method_reading c v) at) true) none
+
+elsewhere-next : (c : ClassFile) (v : ℕ) (next : Option ℕ) → is_some (method_code c v) ≡ false → IfSome next (λ k. is_place c v k ≡ true)
+elsewhere-next c v None none = tt
+elsewhere-next c v (Some k) none = elsewhere-place c v k none
+
+elsewhere-targets : (c : ClassFile) (v : ℕ) (ks : List ℕ) → is_some (method_code c v) ≡ false → AllByRecursion (λ k. is_place c v k ≡ true) ks
+elsewhere-targets c v [] none = tt
+elsewhere-targets c v (k ∷ ks) none = (elsewhere-place c v k none, elsewhere-targets c v ks none)
+
+elsewhere-handlers : (c : ClassFile) (v : ℕ) (hs : List Catcher) → is_some (method_code c v) ≡ false → AllByRecursion (IsWithin (is_place c) v) hs
+elsewhere-handlers c v [] none = tt
+elsewhere-handlers c v (h ∷ hs) none =
+    ((elsewhere-place c v h.start none, elsewhere-place c v h.finish none, elsewhere-place c v h.target none), elsewhere-handlers c v hs none)
+
+pub zero-place : (c : ClassFile) (v : ℕ) → is_place c v 0 ≡ true
+zero-place c v = by_code (is_some (method_code c v)) where
+  by_code : (b : Bool) → cond b true true ≡ true
+  by_code true = refl
+  by_code false = refl
+
+pub original-closed : (c : ClassFile) (p : Program) → IsBuilt c → IsProgramOf c p → IsClosed (is_place c) (original p)
+original-closed c p built of = record {
+  start = zero-place c;
+  first = zero-place c;
+  next = λ v at i place e. next_by v at i place e (is_some (method_code c v)) refl;
+  targets = λ v at i place e. targets_by v at i place e (is_some (method_code c v)) refl;
+  handlers = λ v. handlers_by v (is_some (method_code c v)) refl;
+} where
+  next_by : (v at : ℕ) (i : Instruction) → is_place c v at ≡ true → (original p).at v at ≡ Some i → (b : Bool) → is_some (method_code c v) ≡ b → IfSome i.next (λ k. is_place c v k ≡ true)
+  next_by v at i place e false none = elsewhere-next c v i.next none
+  next_by v at i place e true coded =
+      let found = stands-at c p v at i built of coded place e in
       subst (λ (x : Instruction). IfSome x.next (λ k. is_place c v k ≡ true)) (sym found.is)
-      (next-place c v (ends found.has.operation) (end_of found.start.instr) (λ goes. found.has.next (sym found.has.stops ∙ goes))));
-  targets = λ v at i place e. (
-      let found = stands-at c main v at i built place e in
+      (next-place c v (ends found.has.operation) (end_of found.start.instr) (λ goes. found.has.next (sym found.has.stops ∙ goes)))
+
+  targets_by : (v at : ℕ) (i : Instruction) → is_place c v at ≡ true → (original p).at v at ≡ Some i → (b : Bool) → is_some (method_code c v) ≡ b → AllByRecursion (λ k. is_place c v k ≡ true) i.targets
+  targets_by v at i place e false none = elsewhere-targets c v i.targets none
+  targets_by v at i place e true coded =
+      let found = stands-at c p v at i built of coded place e in
       subst (λ (x : Instruction). AllByRecursion (λ k. is_place c v k ≡ true) x.targets) (sym found.is)
-      (subst (AllByRecursion (λ k. is_place c v k ≡ true)) (sym (no-targets c found.start.instr.op found.start.instr.arg found.has.operation found.has.operated)) tt));
-  handlers = λ v. subst (AllByRecursion (IsWithin (is_place c) v)) (sym (handlers-original c main v built)) tt;
-}
+      (subst (AllByRecursion (λ k. is_place c v k ≡ true)) (sym (no-targets c found.start.instr.op found.start.instr.arg found.has.operation found.has.operated)) tt)
+
+  handlers_by : (v : ℕ) (b : Bool) → is_some (method_code c v) ≡ b → AllByRecursion (IsWithin (is_place c) v) ((original p).handlers v)
+  handlers_by v false none = elsewhere-handlers c v ((original p).handlers v) none
+  handlers_by v true coded = subst (AllByRecursion (IsWithin (is_place c) v)) (sym (handlers-original c p v built of coded)) tt

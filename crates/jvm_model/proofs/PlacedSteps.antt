@@ -15,12 +15,12 @@ use Rattle.jvm_model.specs.Agreement as agreement
 use Rattle.jvm_model.specs.Agreement.{IsStart, is_return_operation, is_left_by, leave_probe_of, entry_kind, first_place, behind_leave, is_entry, is_leave, entry_probe_of, rewritten}
 use Rattle.jvm_model.specs.Images.{is_off}
 use Rattle.jvm_model.specs.Attempts.{asks, does_line, closed, attempt_placed}
-use Rattle.jvm_model.specs.Installed.{Installed, world_in, line_in, placed, tabled}
+use Rattle.jvm_model.specs.Installed.{Installed, class_in, world_in, line_in, placed, tabled}
 use Rattle.jvm_model.specs.Lines.{next_of, targets_of}
 use Rattle.jvm_model.specs.Methods.{method_code}
 use Rattle.jvm_model.specs.Moved.{Moving, moved_instruction, moved_frame, moved_stack, moved, moved_turn, ArePlaces, IsPlaced}
 use Rattle.jvm_model.specs.Originals.{original}
-use Rattle.jvm_model.specs.Programs.{alone}
+use Rattle.jvm_model.specs.OneClass.{IsProgramOf}
 use Rattle.jvm_model.specs.Quiet.{IsCoded, AreCoded, IsQuiet}
 use Rattle.jvm_model.specs.Resolved.{resolved_in}
 use Rattle.jvm_model.specs.Run.{steps_at, step}
@@ -36,15 +36,15 @@ use Rattle.jvm_model.proofs.StepMoves.{placed-places, step-moves}
 
 -- ---- an attempt over the tables of versions
 
-module _ (t : Installed) (built : IsBuilt t.class) (agrees : agreement.Agrees t.class t.marks t.image t.homes) where
+module _ (t : Installed) (built : IsBuilt (class_in t)) (of : IsProgramOf (class_in t) t.program) (agrees : agreement.Agrees (class_in t) t.marks t.image t.homes) where
   abbrev c : ClassFile
-  c = t.class
+  c = class_in t
 
   abbrev w : World
   w = world_in t
 
   abbrev u : Text
-  u = rewritten t.class t.main t.image t.homes
+  u = rewritten t.program t.image t.homes
 
   abbrev m : Moving
   m = by_homes t.homes
@@ -69,9 +69,10 @@ module _ (t : Installed) (built : IsBuilt t.class) (agrees : agreement.Agrees t.
         lined = lined;
         operates = refl;
         instruction = moved_instruction (home_at t.homes v) i;
-        instructed = ap (option_and_then (λ (l : Line). option_map (moved_instruction (home_at t.homes v)) ((original (alone c t.main)).at v l.own))) lined
-            ∙ (ap (λ k. option_map (moved_instruction (home_at t.homes v)) ((original (alone c t.main)).at v k)) has.own
-            ∙ ap (option_map (moved_instruction (home_at t.homes v))) (at-original c t.main v at built ∙ has.instructed));
+        instructed = ap (λ x. cond (is_some x) (option_and_then (λ (l : Line). option_map (moved_instruction (home_at t.homes v)) ((original t.program).at v l.own)) (line_in t v (home_at t.homes v at))) ((original t.program).at v (home_at t.homes v at))) start.coded
+            ∙ (ap (option_and_then (λ (l : Line). option_map (moved_instruction (home_at t.homes v)) ((original t.program).at v l.own))) lined
+            ∙ (ap (λ k. option_map (moved_instruction (home_at t.homes v)) ((original t.program).at v k)) has.own
+            ∙ ap (option_map (moved_instruction (home_at t.homes v))) (at-original c t.program v at built of (ap is_some start.coded) ∙ has.instructed)));
         same = refl;
         places = refl;
       }
@@ -137,12 +138,12 @@ module _ (t : Installed) (built : IsBuilt t.class) (agrees : agreement.Agrees t.
       let resolves : resolved_in c home.instruction.operation ≡ Some q = ap (resolved_in c) home.same ∙ (has.resolves ∙ ap (λ x. let o : Option Resolved = Some x in o) (sym home.operates)) in
       let callee : (k : ℕ) → q ≡ resolved.Invokestatic k → IsStart c k 0 = λ k is. has.callee k (sym home.operates ∙ is) in
       let coded : IsCoded c g.method g.version = record { same = quiet.coded.0.same; code = quiet.coded.0.code } in
-      let stepped : steps_at w u s' g (u.at g.version g.place) ≡ closed (applies w u home.instruction (asks c q g.locals g.operands) (wrote_by q s' g) g) =
-      ap (steps_at w u s' g) home.instructed ∙ steps_at-is c t.main t.input built u home.instruction q s' g (λ k. refl) resolves (callee-at c q callee) (callee-coded c q callee) calm coded in
-      let tried : closed (does_line t s' g (line_in t g.version g.place)) ≡ closed (applies w (tabled t) (placed home.line) (asks c q g.locals g.operands) (wrote_by q s' g) g) = ap (λ l. closed (does_line t s' g l)) home.lined in
-      let same : applies w (tabled t) (placed home.line) (asks c q g.locals g.operands) (wrote_by q s' g) g ≡ applies w u home.instruction (asks c q g.locals g.operands) (wrote_by q s' g) g =
-      applies-same c w (tabled t) u (placed home.line) home.instruction (asks c q g.locals g.operands) (wrote_by q s' g) g
-      (says (wrote_by q s' g) below refl quiet.coded.1 places.1) (simple-asks c q g.locals g.operands (callee-coded c q callee)) (ap (λ (x : ℕ × Option ℕ). x.0) home.places) (ap (λ (x : ℕ × Option ℕ). x.1) home.places) in
+      let stepped : steps_at w u s' g (u.at g.version g.place) ≡ closed (applies w u home.instruction (asks t.program q g.locals g.operands) (wrote_by q s' g) g) =
+      ap (steps_at w u s' g) home.instructed ∙ steps_at-is c w built of u home.instruction q s' g (λ k. refl) resolves (callee-at c q callee) (callee-coded c q callee) calm coded in
+      let tried : closed (does_line t s' g (line_in t g.version g.place)) ≡ closed (applies w (tabled t) (placed home.line) (asks t.program q g.locals g.operands) (wrote_by q s' g) g) = ap (λ l. closed (does_line t s' g l)) home.lined in
+      let same : applies w (tabled t) (placed home.line) (asks t.program q g.locals g.operands) (wrote_by q s' g) g ≡ applies w u home.instruction (asks t.program q g.locals g.operands) (wrote_by q s' g) g =
+      applies-same c w (tabled t) u (placed home.line) home.instruction (asks t.program q g.locals g.operands) (wrote_by q s' g) g
+      (says (wrote_by q s' g) below refl quiet.coded.1 places.1) (simple-asks c t.program q g.locals g.operands (callee-coded c q callee)) (ap (λ (x : ℕ × Option ℕ). x.0) home.places) (ap (λ (x : ℕ × Option ℕ). x.1) home.places) in
       tried ∙ (ap closed same ∙ sym stepped)
     where
       below-coded : (es : List Entry) → AreCoded c es → AreCoded c (moved_stack m es)
@@ -151,7 +152,7 @@ module _ (t : Installed) (built : IsBuilt t.class) (agrees : agreement.Agrees t.
       below-coded (Initializing class part ∷ es) coded = coded
 
   abbrev o : Text
-  o = original (alone c t.main)
+  o = original t.program
 
   pub attempt-is : (s : State) (f : Frame) (below : List Entry) → s.stack ≡ Active f ∷ below → s.ending ≡ None → IsQuiet c s → IsPlaced (norm_in c) s
       → attempt_placed t (moved m s) ≡ moved_turn m (step w o s)
@@ -161,7 +162,7 @@ module _ (t : Installed) (built : IsBuilt t.class) (agrees : agreement.Agrees t.
       ap (λ y. attempt_placed t (moved m y)) (sym same)
       ∙ (frame-attempt s f below (subst (IsQuiet c) (sym same) quiet) (subst (IsPlaced (norm_in c)) (sym same) at)
       ∙ (ap (λ y. step w u (moved m y)) same
-      ∙ step-moves (norm_in c) w m o u (original-agrees c t.main built) (rewritten-agrees c t.main t.marks t.image t.homes built agrees) s at))
+      ∙ step-moves (norm_in c) w m o u (original-agrees c t.program built of) (rewritten-agrees t.program t.marks t.image t.homes built of agrees) s at))
 
   -- ---- behind a leave probe
 
@@ -188,7 +189,7 @@ module _ (t : Installed) (built : IsBuilt t.class) (agrees : agreement.Agrees t.
       let returns : is_return_operation at.line.operation ≡ true = ap is_return_operation at.operates ∙ left-returns (is_return_operation has.resolved) (not (is_off (mark_at t.marks f.version))) left in
       let q : Resolved = at.line.operation in
       ap (λ l. closed (does_line t s' (record g { place = home + 6 }) l)) (behind ∙ at.lined)
-      ∙ (ap closed (return-anywhere c w (tabled t) (placed at.line) q (wrote_by q s' g) g (home + 6) returns)
+      ∙ (ap closed (return-anywhere w (tabled t) (placed at.line) q (wrote_by q s' g) g (home + 6) returns)
       ∙ sym (ap (λ l. closed (does_line t s' g l)) at.lined))
     where
       left-returns : (a b : Bool) → (a && b) ≡ true → a ≡ true

@@ -10,11 +10,11 @@ use Rattle.const_pool.specs.declared.descriptor.Kind.{Kind}
 use Rattle.const_pool.specs.declared.descriptor.Kind.TheVariants as kind
 use Rattle.jvm_model.specs.declared.operation.Resolved.{Resolved}
 use Rattle.jvm_model.specs.declared.operation.Resolved.TheVariants as resolved
-use Rattle.jvm_model.specs.Data.{Datum, Value, IntOperator, Locals, Operands, Frame, Entry, Active, Initializing, Unverifiable, State, Began, Left, Turn, Instruction, Text, Next, Outcome, GoesOn, Invokes, Returns, Breaks, World}
+use Rattle.jvm_model.specs.Data.{Datum, Value, IntOperator, Locals, Operands, Frame, Entry, Active, Initializing, Unverifiable, State, Began, Left, Turn, Instruction, Text, Next, Outcome, GoesOn, Invokes, Returns, Breaks, Program, World}
 use Rattle.jvm_model.specs.Values.{as_value, datum_of, arguments, depth, with_value, loaded}
 use Rattle.jvm_model.specs.LocalRules.{pushes, calculates, returns_datum, returns}
-use Rattle.jvm_model.specs.Methods.{method_code, method_params}
-use Rattle.jvm_model.specs.Programs.{max_stack_of}
+use Rattle.jvm_model.specs.Methods.{method_code}
+use Rattle.jvm_model.specs.Programs.{max_stack_of, params_of_method}
 use Rattle.jvm_model.specs.Rules.{is_print_stream, invokes, invokes_with}
 use Rattle.jvm_model.specs.Applies.{still, with_frame, breaks, lands, goes, new_frame, has_room, begins, resumes, gives_back, breaks_or_ends, applies}
 use Rattle.jvm_model.specs.Quiet.{IsCoded, AreCoded, IsQuiet}
@@ -66,16 +66,16 @@ abbrev pub CodedCallee : ClassFile → Resolved → Type 0
 CodedCallee c (resolved.Invokestatic k) = is_some (method_code c k) ≡ true
 CodedCallee c _ = Unit {0}
 
-pub simple-asks : (c : ClassFile) (q : Resolved) (l : Locals) (o : Operands) → CodedCallee c q → IsSimple c (asks c q l o)
-simple-asks c resolved.Nop l o callee = tt
-simple-asks c (resolved.Constant n) l o callee = tt
-simple-asks c (resolved.Iload slot) l o callee = simple-pushes c (loaded kind.Int (slice_get l slot)) l o
-simple-asks c (resolved.Binary op) l o callee = simple-calculates c op l o
-simple-asks c resolved.Ireturn l o callee = simple-returns c o
-simple-asks c resolved.Return l o callee = tt
-simple-asks c resolved.Out l o callee = tt
-simple-asks c resolved.Println l o callee = simple-println c l o
-simple-asks c (resolved.Invokestatic k) l o callee = simple-invokes c k (method_params c k) o callee
+pub simple-asks : (c : ClassFile) (p : Program) (q : Resolved) (l : Locals) (o : Operands) → CodedCallee c q → IsSimple c (asks p q l o)
+simple-asks c p resolved.Nop l o callee = tt
+simple-asks c p (resolved.Constant n) l o callee = tt
+simple-asks c p (resolved.Iload slot) l o callee = simple-pushes c (loaded kind.Int (slice_get l slot)) l o
+simple-asks c p (resolved.Binary op) l o callee = simple-calculates c op l o
+simple-asks c p resolved.Ireturn l o callee = simple-returns c o
+simple-asks c p resolved.Return l o callee = tt
+simple-asks c p resolved.Out l o callee = tt
+simple-asks c p resolved.Println l o callee = simple-println c l o
+simple-asks c p (resolved.Invokestatic k) l o callee = simple-invokes c k (params_of_method p k) o callee
 
 -- ---- quiet states stay quiet
 

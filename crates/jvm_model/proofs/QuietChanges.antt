@@ -7,12 +7,13 @@ use Rattle.const_pool.specs.declared.descriptor.Kind.{Kind}
 use Rattle.const_pool.specs.declared.descriptor.Kind.TheVariants as kind
 use Rattle.jvm_model.specs.declared.operation.Resolved.{Resolved}
 use Rattle.jvm_model.specs.declared.operation.Resolved.TheVariants as resolved
-use Rattle.jvm_model.specs.Data.{Datum, Value, IntOperator, Locals, Operands, Frame, Entry, Active, Returned, State, Began, Left, Turn, Instruction, Text, Next, Outcome, GoesOn, Returns, Breaks, World}
+use Rattle.jvm_model.specs.Data.{Datum, Value, IntOperator, Locals, Operands, Frame, Entry, Active, Returned, State, Began, Left, Turn, Instruction, Text, Next, Outcome, GoesOn, Returns, Breaks, Program, World}
 use Rattle.jvm_model.specs.Agreement.{is_return_operation}
 use Rattle.jvm_model.specs.Applies.{still, breaks, new_frame, has_room, begins, applies}
 use Rattle.jvm_model.specs.Attempts.{asks_println, asks, is_empty, closed_state, closed}
 use Rattle.jvm_model.specs.LocalRules.{pushes, calculates, returns_datum, returns}
-use Rattle.jvm_model.specs.Methods.{method_code, method_params}
+use Rattle.jvm_model.specs.Methods.{method_code}
+use Rattle.jvm_model.specs.Programs.{params_of_method}
 use Rattle.jvm_model.specs.Rules.{is_print_stream, invokes, invokes_with}
 use Rattle.jvm_model.specs.Values.{datum_of, arguments, loaded}
 use Rattle.jvm_model.proofs.QuietApplies.{CodedCallee, IsOneVersion}
@@ -68,21 +69,21 @@ leaving-returns : (o : Operands) → IsLeaving (returns (Some kind.Int) o)
 leaving-returns [] = tt
 leaving-returns (v ∷ below) = leaving-datum (datum_of kind.Int v)
 
-leaving-asks : (c : ClassFile) (q : Resolved) (l : Locals) (o : Operands) → is_return_operation q ≡ true → IsLeaving (asks c q l o)
-leaving-asks c resolved.Ireturn l o e = leaving-returns o
-leaving-asks c resolved.Return l o e = tt
-leaving-asks c resolved.Nop l o e = absurd cc
-leaving-asks c (resolved.Constant n) l o e = absurd cc
-leaving-asks c (resolved.Iload slot) l o e = absurd cc
-leaving-asks c (resolved.Binary op) l o e = absurd cc
-leaving-asks c resolved.Out l o e = absurd cc
-leaving-asks c resolved.Println l o e = absurd cc
-leaving-asks c (resolved.Invokestatic k) l o e = absurd cc
+leaving-asks : (p : Program) (q : Resolved) (l : Locals) (o : Operands) → is_return_operation q ≡ true → IsLeaving (asks p q l o)
+leaving-asks p resolved.Ireturn l o e = leaving-returns o
+leaving-asks p resolved.Return l o e = tt
+leaving-asks p resolved.Nop l o e = absurd cc
+leaving-asks p (resolved.Constant n) l o e = absurd cc
+leaving-asks p (resolved.Iload slot) l o e = absurd cc
+leaving-asks p (resolved.Binary op) l o e = absurd cc
+leaving-asks p resolved.Out l o e = absurd cc
+leaving-asks p resolved.Println l o e = absurd cc
+leaving-asks p (resolved.Invokestatic k) l o e = absurd cc
 
 -- a return leaves the same state, wherever its frame stands
-pub return-anywhere : (c : ClassFile) (w : World) (t : Text) (i : Instruction) (q : Resolved) (s : State) (f : Frame) (place : ℕ) → is_return_operation q ≡ true
-    → applies w t i (asks c q f.locals f.operands) s (record f { place = place }) ≡ applies w t i (asks c q f.locals f.operands) s f
-return-anywhere c w t i q s f place e = leaving-anywhere w t i (asks c q f.locals f.operands) s f place (leaving-asks c q f.locals f.operands e)
+pub return-anywhere : (w : World) (t : Text) (i : Instruction) (q : Resolved) (s : State) (f : Frame) (place : ℕ) → is_return_operation q ≡ true
+    → applies w t i (asks w.program q f.locals f.operands) s (record f { place = place }) ≡ applies w t i (asks w.program q f.locals f.operands) s f
+return-anywhere w t i q s f place e = leaving-anywhere w t i (asks w.program q f.locals f.operands) s f place (leaving-asks w.program q f.locals f.operands e)
 
 -- ---- what changes
 
@@ -104,7 +105,7 @@ invokes-went : (c : ClassFile) (w : World) (t : Text) (i : Instruction) (k : ℕ
 invokes-went c w t i k None o s f one code = stays refl refl
 invokes-went c w t i k (Some params) o s f one code = args-went c w t i k (length params) (arguments params o) o s f one code
 
-applied-went : (c : ClassFile) (w : World) (t : Text) (i : Instruction) (q : Resolved) (l : Locals) (o : Operands) (s : State) (f : Frame) → IsOneVersion t → CodedCallee c q → Went c t q (applies w t i (asks c q l o) s f)
+applied-went : (c : ClassFile) (w : World) (t : Text) (i : Instruction) (q : Resolved) (l : Locals) (o : Operands) (s : State) (f : Frame) → IsOneVersion t → CodedCallee c q → Went c t q (applies w t i (asks w.program q l o) s f)
 applied-went c w t i resolved.Nop l o s f one callee = stays refl refl
 applied-went c w t i (resolved.Constant n) l o s f one callee = stays refl refl
 applied-went c w t i (resolved.Iload slot) l o s f one callee = stays refl (still-changes w t i (pushes (loaded kind.Int (slice_get l slot)) l o) s f (still-pushes (loaded kind.Int (slice_get l slot)) l o))
@@ -113,7 +114,7 @@ applied-went c w t i resolved.Ireturn l o s f one callee = leaves refl (leaving-
 applied-went c w t i resolved.Return l o s f one callee = leaves refl refl
 applied-went c w t i resolved.Out l o s f one callee = stays refl refl
 applied-went c w t i resolved.Println l o s f one callee = stays refl (still-changes w t i (asks_println l o) s f (still-println l o))
-applied-went c w t i (resolved.Invokestatic k) l o s f one callee = invokes-went c w t i k (method_params c k) o s f one callee
+applied-went c w t i (resolved.Invokestatic k) l o s f one callee = invokes-went c w t i k (params_of_method w.program k) o s f one callee
 
 closed-stack : (s : State) → (closed_state s).stack ≡ s.stack
 closed-stack s = by_test (is_empty s.stack && is_none s.ending) where
@@ -126,5 +127,5 @@ closed-went c t q a (stays e changes) = stays e changes
 closed-went c t q a (starts e m f below code version place stack changes) = starts e m f below code version place (closed-stack a.after ∙ stack) changes
 closed-went c t q a (leaves e changes) = leaves e changes
 
-pub attempt-went : (c : ClassFile) (w : World) (t : Text) (i : Instruction) (q : Resolved) (s : State) (f : Frame) → IsOneVersion t → CodedCallee c q → Went c t q (closed (applies w t i (asks c q f.locals f.operands) s f))
-attempt-went c w t i q s f one callee = closed-went c t q (applies w t i (asks c q f.locals f.operands) s f) (applied-went c w t i q f.locals f.operands s f one callee)
+pub attempt-went : (c : ClassFile) (w : World) (t : Text) (i : Instruction) (q : Resolved) (s : State) (f : Frame) → IsOneVersion t → CodedCallee c q → Went c t q (closed (applies w t i (asks w.program q f.locals f.operands) s f))
+attempt-went c w t i q s f one callee = closed-went c t q (applies w t i (asks w.program q f.locals f.operands) s f) (applied-went c w t i q f.locals f.operands s f one callee)

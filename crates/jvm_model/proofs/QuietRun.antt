@@ -7,7 +7,7 @@ use Rattle.jvm_model.specs.Data.{Frame, Entry, Active, Initializing, Ending, Sta
 use Rattle.jvm_model.specs.Moved.{IsPlaced}
 use Rattle.jvm_model.specs.Moves.{main_or_end, moves, move}
 use Rattle.jvm_model.specs.Originals.{original}
-use Rattle.jvm_model.specs.Programs.{alone, world_of}
+use Rattle.jvm_model.specs.OneClass.{IsProgramOf}
 use Rattle.jvm_model.specs.Quiet.{AreCoded, IsQuiet}
 use Rattle.jvm_model.specs.Run.{run, turn_in-zero, turn_in-suc}
 use Rattle.jvm_model.specs.StandsFor.{IsBuilt}
@@ -17,16 +17,13 @@ use Rattle.jvm_model.proofs.QuietSteps.{step-quiet}
 use Rattle.jvm_model.proofs.RewrittenAgrees.{norm_in, original-agrees}
 use Rattle.jvm_model.proofs.StepMoves.{turn_in-placed}
 
-module _ (c : ClassFile) (main : ℕ) (input : List ℕ) (built : IsBuilt c) where
-  abbrev w : World
-  w = world_of c main input
-
+module _ (c : ClassFile) (w : World) (built : IsBuilt c) (of : IsProgramOf c w.program) where
   pub run-placed : (n : ℕ) → IsPlaced (norm_in c) (run w n)
-  run-placed n = turn_in-placed (norm_in c) w (original (alone c main)) (original-agrees c main built) n
+  run-placed n = turn_in-placed (norm_in c) w (original w.program) (original-agrees c w.program built of) n
 
   pub run-quiet : (n : ℕ) → IsQuiet c (run w n)
-  run-quiet zero = subst (λ (a : Turn). IsQuiet c a.after) (sym (turn_in-zero w (original (alone c main)))) (start-quiet c main input (original (alone c main)) built.small refl)
-  run-quiet (suc n) = subst (λ (a : Turn). IsQuiet c a.after) (sym (turn_in-suc w (original (alone c main)) n)) (step-quiet c main input built (run w n) (run-quiet n) (run-placed n))
+  run-quiet zero = subst (λ (a : Turn). IsQuiet c a.after) (sym (turn_in-zero w (original w.program))) (start-quiet c w (original w.program) built.small of refl)
+  run-quiet (suc n) = subst (λ (a : Turn). IsQuiet c a.after) (sym (turn_in-suc w (original w.program) n)) (step-quiet c w built of (run w n) (run-quiet n) (run-placed n))
 
   -- a run that goes on has a frame
   pub record HasFrame (s : State) : Type 0 where
@@ -35,15 +32,15 @@ module _ (c : ClassFile) (main : ℕ) (input : List ℕ) (built : IsBuilt c) whe
     pub is : s.stack ≡ Active frame ∷ below
     pub going : s.ending ≡ None
 
-  by_stack : (s : State) (ending : Option Ending) (stack : List Entry) → IsQuiet c s → move w (original (alone c main)) s ≡ None → s.ending ≡ ending → s.stack ≡ stack → is_some ending ≡ false → HasFrame s
+  by_stack : (s : State) (ending : Option Ending) (stack : List Entry) → IsQuiet c s → move w (original w.program) s ≡ None → s.ending ≡ ending → s.stack ≡ stack → is_some ending ≡ false → HasFrame s
   by_stack s (Some e) stack quiet stops ended is going = absurd cc
   by_stack s None (Active f ∷ below) quiet stops ended is going = record { frame = f; below = below; is = is; going = ended }
   by_stack s None (Initializing class part ∷ below) quiet stops ended is going = absurd (subst (AreCoded c) is quiet.coded)
   by_stack s None [] quiet stops ended is going =
-      let moves_on : move w (original (alone c main)) s ≡ Some (main_or_end w (original (alone c main)) s s.begun) =
-      ap (λ r. moves w (original (alone c main)) s s.ending r s.stack) quiet.thrown
-      ∙ (ap (λ e. moves w (original (alone c main)) s e None s.stack) ended ∙ ap (λ es. moves w (original (alone c main)) s None None es) is) in
-      absurd (none-some (main_or_end w (original (alone c main)) s s.begun) (sym stops ∙ moves_on))
+      let moves_on : move w (original w.program) s ≡ Some (main_or_end w (original w.program) s s.begun) =
+      ap (λ r. moves w (original w.program) s s.ending r s.stack) quiet.thrown
+      ∙ (ap (λ e. moves w (original w.program) s e None s.stack) ended ∙ ap (λ es. moves w (original w.program) s None None es) is) in
+      absurd (none-some (main_or_end w (original w.program) s s.begun) (sym stops ∙ moves_on))
 
   pub run-frame : (n : ℕ) → is_some (run w n).ending ≡ false → HasFrame (run w n)
-  run-frame n going = by_stack (run w n) (run w n).ending (run w n).stack (run-quiet n) (run-stops w (original (alone c main)) n) refl refl going
+  run-frame n going = by_stack (run w n) (run w n).ending (run w n).stack (run-quiet n) (run-stops w (original w.program) n) refl refl going

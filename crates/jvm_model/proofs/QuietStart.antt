@@ -1,40 +1,36 @@
 -- The start of a small class: the class is loaded and made ready, and `main` begins, where its argument fits.
-use Rattle.std.proofs.Common.{◌≡◌, ℕ, ◌+◌, Bool, true, false, List, [], ◌∷◌, slice_get, cond, Option, Some, None, refl, sym, ap, subst, ◌∙◌}
-use Rattle.std.specs.Prelude.{codes, not, is_some, nat_le, length, ◌&&◌, ◌||◌, ◌==◌}
+use Rattle.std.proofs.Common.{◌≡◌, ℕ, zero, suc, ◌+◌, ◌*◌, ◌<◌, get_or, arith, Bool, true, false, List, [], ◌∷◌, slice_get, cond, Option, Some, None, refl, sym, ap, subst, ◌∙◌}
+use Rattle.std.specs.Prelude.{codes, not, is_some, nat_le, length, map, slice_set, ◌&&◌, ◌||◌, ◌==◌}
 use Rattle.std.specs.Option.{option_map, option_map_or, option_and_then}
 use Rattle.std.specs.List.{list_any, AllByRecursion}
-use Rattle.std.proofs.lemmas.List.{append-nil}
-use Rattle.std.proofs.lemmas.Option.{same_Some, none-some, option_and_then_some}
+use Rattle.std.proofs.lemmas.List.Quantifiers.{position-Some}
+use Rattle.std.proofs.lemmas.Option.{same_Some, none-some, option_and_then_some, slice_get-map, slice_get-get_or}
 use Rattle.std.proofs.lemmas.Slice.Eq.{bytes_eq-Decides}
 use Rattle.const_pool.specs.declared.class.ClassFile.{ClassFile}
 use Rattle.const_pool.specs.declared.class.Member.{Member}
-use Rattle.const_pool.specs.declared.class.CodeAttribute.{CodeAttribute}
 use Rattle.const_pool.specs.BuiltIn.{probe_class, built_in_names}
 use Rattle.const_pool.specs.References.{NameAndType, named_text, named_class}
-use Rattle.jvm_model.specs.Data.{Active, Superclass, Initializer, Finish, Ready, Unverifiable, MethodPlace, State, Loads, Began, Turn, Text, World}
+use Rattle.jvm_model.specs.Data.{Active, Superclass, Initializer, Finish, Phase, Fresh, Running, Ready, Unverifiable, MethodPlace, Program, State, Loads, Began, Turn, Text, World}
 use Rattle.jvm_model.specs.Applies.{still, new_frame, has_room}
 use Rattle.jvm_model.specs.Descriptors.{same_text}
-use Rattle.jvm_model.specs.Methods.{method_code, is_member, method_from, same_text_at}
-use Rattle.jvm_model.specs.Moves.{at_part, with_super, runs_initializer, argument_array, move, settles, settled}
-use Rattle.jvm_model.specs.Programs.{has_name, class_named, super_of, number_of_method, initializer_name, initializer_of, max_locals_of, alone, world_of}
+use Rattle.jvm_model.specs.Methods.{code_of, method_code, method_named, is_member, method_from, same_text_at}
+use Rattle.jvm_model.specs.Moves.{at_part, after_super, with_super, runs_initializer, argument_array, move, fresh, left, settles, settled}
+use Rattle.jvm_model.specs.OneClass.{IsProgramOf}
+use Rattle.jvm_model.specs.Programs.{name_of, has_name, has_built_in_name, class_named, super_of, number_of_method, initializer_name, initializer_of}
 use Rattle.jvm_model.specs.Quiet.{IsQuiet}
 use Rattle.jvm_model.specs.Run.{before, with_loaded, loaded_turn, main_class, starts_with, start}
-use Rattle.jvm_model.specs.SharedState.{with_phase}
+use Rattle.jvm_model.specs.SharedState.{phase_of, with_phase, phase_before}
 use Rattle.jvm_model.specs.SmallClass.{begins_with, is_free_name, is_plain_name, is_plain_member, member_of, IsSmallClass}
 use Rattle.jvm_model.proofs.ImageMethods.{small-coded, each-nth}
-use Rattle.jvm_model.proofs.Numbers.{at_position, coded-nth, code-alone}
+use Rattle.jvm_model.proofs.Numbers.{first-at, place-first, main-first}
 use Rattle.jvm_model.proofs.QuietSettles.{stops, one-move}
 
--- ---- the class is the main class, and has neither a superclass in the program nor an initializer
+-- ---- the class is the main class; its superclass is ready, and it has no initializer
 
-main-class : (c : ClassFile) (main : ℕ) → IsSmallClass c → main_class (alone c main) ≡ 0
-main-class c main small =
-    ap (λ (o : Option MethodPlace). option_map_or (λ (place : MethodPlace). place.class) o 0)
-    (ap (λ l. slice_get l main) (append-nil _) ∙ coded-nth 0 0 c.methods main (small-coded c small)) ∙ by_member (slice_get c.methods main)
-  where
-    by_member : (m : Option Member) → option_map_or (λ (place : MethodPlace). place.class) (option_map (at_position 0 (0 + main)) m) 0 ≡ 0
-    by_member None = refl
-    by_member (Some m) = refl
+main-class : (c : ClassFile) (p : Program) → IsSmallClass c → IsProgramOf c p → main_class p ≡ 0
+main-class c p small of =
+    let main = main-first c p of in
+    ap (λ (o : Option MethodPlace). option_map_or (λ (place : MethodPlace). place.class) o 0) (place-first c p p.main main.0 small of main.1)
 
 abbrev object_name : List ℕ
 object_name = codes "java/lang/Object"
@@ -69,18 +65,55 @@ free-other own free =
     let names : not (list_any (same_text own) built_in_names) ≡ true = second (not (same_text own probe_class)) _ two in
     first-false (same_text own object_name) _ names
 
-no-super : (c : ClassFile) (main : ℕ) → IsSmallClass c → super_of (alone c main) 0 ≡ None
-no-super c main small =
+-- the class itself does not have Object's name
+not-object : (c : ClassFile) (above : List ℕ) → IsSmallClass c → object_name ≡ above → has_name above c ≡ false
+not-object c above small name =
     let own = passed is_free_name (named_class c.pool c.this_class) small.name in
-    let above = passed (same_text object_name) (named_class c.pool c.super_class) small.super in
-    let name : object_name ≡ above.0 = same-is object_name above.0 above.2 in
-    let other : has_name above.0 c ≡ false =
-    ap (λ o. option_map_or (same_text above.0) o false) own.1 ∙ not-both (same_text above.0 own.0) (λ e. (
-    let is : own.0 ≡ object_name = sym (same-is above.0 own.0 e) ∙ sym name in
+    ap (λ o. option_map_or (same_text above) o false) own.1 ∙ not-both (same_text above own.0) (λ e. (
+    let is : own.0 ≡ object_name = sym (same-is above own.0 e) ∙ sym name in
     let yes : same_text own.0 object_name ≡ true = ap (λ t. same_text t object_name) is ∙ same-refl object_name in
-    let no : true ≡ false = sym yes ∙ free-other own.0 own.2 in cc)) in
-    let none : class_named (alone c main) above.0 ≡ None = rw (other) refl in
-    ap (option_and_then (class_named (alone c main))) above.1 ∙ none
+    let no : true ≡ false = sym yes ∙ free-other own.0 own.2 in cc))
+
+object-built_in : (k : ClassFile) (above : List ℕ) → object_name ≡ above → has_name above k ≡ true → has_built_in_name k ≡ true
+object-built_in k above name e =
+    let found = passed (same_text above) (name_of k) e in
+    let is : found.0 ≡ object_name = sym (same-is above found.0 found.2) ∙ sym name in
+    ap (λ o. option_map_or (λ n. list_any (same_text n) built_in_names) o false) found.1 ∙ (ap (λ n. list_any (same_text n) built_in_names) is ∙ refl)
+
+-- what the phases are once the class is being initialized
+phase-behind : (cs : List ClassFile) (c : ClassFile) (rest : List ClassFile) (d : ℕ) (above : List ℕ) → cs ≡ c ∷ rest → object_name ≡ above → has_name above c ≡ false
+    → d < length cs → has_name above (get_or cs d c) ≡ true → slice_get (slice_set (map phase_before cs) 0 Running) d ≡ Some Ready
+phase-behind [] c rest d above is name other within named = absurd (omega (arith, within))
+phase-behind (x ∷ cs) c rest zero above is name other within named =
+    absurd (let same : x ≡ c = ap (λ ks. get_or ks 0 c) is in let e : true ≡ false = sym named ∙ (ap (has_name above) same ∙ other) in cc)
+phase-behind (x ∷ cs) c rest (suc k) above is name other within named =
+    slice_get-map phase_before cs k
+    ∙ (ap (option_map phase_before) (slice_get-get_or cs k c (omega (arith, within)))
+    ∙ ap (λ b. let o : Option Phase = Some (cond b Ready Fresh) in o) (object-built_in (get_or cs k c) above name named))
+
+-- its superclass is ready already, or no class of the program
+super-ready : (c : ClassFile) (w : World) → IsSmallClass c → IsProgramOf c w.program → (s : State) → s.shared.phases ≡ slice_set (map phase_before w.program.classes) 0 Running
+    → with_super w s 0 (super_of w.program 0) ≡ at_part s 0 Initializer
+super-ready c w small of s phases = ap (with_super w s 0) above ∙ by_found (class_named p named.0) refl where
+  p : Program
+  p = w.program
+
+  named : (x : List ℕ) × (named_class c.pool c.super_class ≡ Some x) × (same_text object_name x ≡ true)
+  named = passed (same_text object_name) (named_class c.pool c.super_class) small.super
+
+  name : object_name ≡ named.0
+  name = same-is object_name named.0 named.2
+
+  above : super_of p 0 ≡ class_named p named.0
+  above = ap (option_and_then (class_named p)) (ap (option_and_then (λ (k : ClassFile). named_class k.pool k.super_class)) (first-at c p of) ∙ named.1)
+
+  by_found : (o : Option ℕ) → class_named p named.0 ≡ o → with_super w s 0 (class_named p named.0) ≡ at_part s 0 Initializer
+  by_found None e = ap (with_super w s 0) e
+  by_found (Some d) e =
+      let found = position-Some (has_name named.0) p.classes d c e in
+      let ready : phase_of s.shared d ≡ Some Ready =
+      ap (λ ps. slice_get ps d) phases ∙ phase-behind p.classes c of.rest d named.0 of.classes name (not-object c named.0 small name) found.0 found.1 in
+      ap (with_super w s 0) e ∙ ap (after_super w s 0 d) ready
 
 plain-other : (c : ClassFile) (m : Member) → option_map_or is_plain_member (member_of c.pool m) false ≡ true → is_member c.pool initializer_name m ≡ false
 plain-other c m plain =
@@ -110,9 +143,10 @@ none-named : (c : ClassFile) (n : ℕ) (ms : List Member) → AllByRecursion (λ
 none-named c n [] all = refl
 none-named c n (m ∷ ms) all = ap (λ b. cond b (Some n) (method_from c.pool initializer_name (n + 1) ms)) all.0 ∙ none-named c (n + 1) ms all.1
 
-no-initializer : (c : ClassFile) (main : ℕ) → IsSmallClass c → initializer_of (alone c main) 0 ≡ None
-no-initializer c main small =
-    ap (option_and_then (number_of_method (alone c main) 0))
+no-initializer : (c : ClassFile) (p : Program) → IsSmallClass c → IsProgramOf c p → initializer_of p 0 ≡ None
+no-initializer c p small of =
+    ap (option_and_then (λ k. option_and_then (number_of_method p 0) (method_named k initializer_name))) (first-at c p of)
+    ∙ ap (option_and_then (number_of_method p 0))
     (none-named c 0 c.methods (each-nth (λ m. is_member c.pool initializer_name m ≡ false) c.methods (λ k m e. plain-other c m (small.methods k m e).named)))
 
 -- ---- the start
@@ -132,58 +166,68 @@ begun_in w t = record {
 abbrev pub unbegun_in : World → Turn
 unbegun_in w = record { after = record (ready_in w) { ending = Some (Unverifiable w.program.main 0) }; changes = Loads (0 ∷ []) ∷ [] }
 
-module _ (c : ClassFile) (main : ℕ) (input : List ℕ) (t : Text) (small : IsSmallClass c) where
-  abbrev w : World
-  w = world_of c main input
+-- a phase that is put twice
+put-twice : (ps : List Phase) → slice_set (slice_set ps 0 Running) 0 Ready ≡ slice_set ps 0 Ready
+put-twice [] = refl
+put-twice (x ∷ ps) = refl
+
+first-ready : (cs : List ClassFile) (c : ClassFile) (rest : List ClassFile) → cs ≡ c ∷ rest → slice_get (slice_set (map phase_before cs) 0 Ready) 0 ≡ Some Ready
+first-ready [] c rest e = absurd (let x : [] ≡ c ∷ rest = e in cc)
+first-ready (x ∷ cs) c rest e = refl
+
+module _ (c : ClassFile) (w : World) (t : Text) (small : IsSmallClass c) (of : IsProgramOf c w.program) where
+  abbrev main : ℕ
+  main = w.program.main
 
   abbrev base : State
   base = record (starts_with w 0) { stack = [] }
 
-  over : (b : Bool) → has_room w main argument_array ≡ b → loaded_turn (0 ∷ []) (settles w t 7 (still (ready_in w))) ≡ cond b (begun_in w t) (unbegun_in w)
-  over true room =
+  over : (n : ℕ) (b : Bool) → has_room w main argument_array ≡ b → loaded_turn (0 ∷ []) (settles w t (suc n) (still (ready_in w))) ≡ cond b (begun_in w t) (unbegun_in w)
+  over n true room =
       let next : Turn = record { after = record (ready_in w) { begun = true; stack = Active (new_frame w t main argument_array) ∷ [] }; changes = Began main ∷ [] } in
       let moves : move w t (ready_in w) ≡ Some next = ap (λ b. let o : Option Turn = Some (cond b next (still (record (ready_in w) { ending = Some (Unverifiable main 0) }))) in o) room in
-      ap (loaded_turn (0 ∷ [])) (one-move w t 6 (still (ready_in w)) next moves ∙ stops w t 6 next refl)
-  over false room =
+      ap (loaded_turn (0 ∷ [])) (one-move w t n (still (ready_in w)) next moves ∙ stops w t n next refl)
+  over n false room =
       let next : Turn = still (record (ready_in w) { ending = Some (Unverifiable main 0) }) in
       let moves : move w t (ready_in w) ≡ Some next =
       ap (λ b. let o : Option Turn = Some (cond b (record { after = record (ready_in w) { begun = true; stack = Active (new_frame w t main argument_array) ∷ [] }; changes = Began main ∷ [] }) next) in o) room in
-      ap (loaded_turn (0 ∷ [])) (one-move w t 6 (still (ready_in w)) next moves ∙ stops w t 6 next refl)
+      ap (loaded_turn (0 ∷ [])) (one-move w t n (still (ready_in w)) next moves ∙ stops w t n next refl)
 
-  initialized : settles w t 11 (still (starts_with w 0)) ≡ settles w t 7 (still (ready_in w))
-  initialized =
-      one-move w t 10 (still (starts_with w 0)) (still (at_part base 0 Superclass)) refl
-      ∙ (one-move w t 9 (still (at_part base 0 Superclass)) (still (at_part base 0 Initializer)) (ap (λ above. let o : Option Turn = Some (still (with_super w base 0 above)) in o) (no-super c main small))
-      ∙ (one-move w t 8 (still (at_part base 0 Initializer)) (still (at_part base 0 Finish)) (ap (λ m. let o : Option Turn = Some (runs_initializer w t base 0 m) in o) (no-initializer c main small))
-      ∙ one-move w t 7 (still (at_part base 0 Finish)) (still (ready_in w)) refl))
+  initialized : (n : ℕ) → settles w t (suc (suc (suc (suc n)))) (still (starts_with w 0)) ≡ settles w t n (still (ready_in w))
+  initialized n =
+      one-move w t (suc (suc (suc n))) (still (starts_with w 0)) (still (at_part base 0 Superclass)) refl
+      ∙ (one-move w t (suc (suc n)) (still (at_part base 0 Superclass)) (still (at_part base 0 Initializer)) (ap (λ s. let o : Option Turn = Some (still s) in o) (super-ready c w small of base refl))
+      ∙ (one-move w t (suc n) (still (at_part base 0 Initializer)) (still (at_part base 0 Finish)) (ap (λ m. let o : Option Turn = Some (runs_initializer w t base 0 m) in o) (no-initializer c w.program small of))
+      ∙ one-move w t n (still (at_part base 0 Finish)) (still (ready_in w))
+      (ap (λ ps. let o : Option Turn = Some (still (record base { shared = record base.shared { phases = ps } })) in o) (put-twice (map phase_before w.program.classes)))))
 
   pub start-is : start w t ≡ cond (has_room w main argument_array) (begun_in w t) (unbegun_in w)
   start-is =
-      ap (λ class. loaded_turn (class ∷ []) (settled w t (still (starts_with w class)))) (main-class c main small)
-      ∙ (ap (loaded_turn (0 ∷ [])) initialized ∙ over (has_room w main argument_array) refl)
+      let rest : ℕ = 8 * fresh (starts_with w 0).shared.phases + 6 in
+      let more : left (starts_with w 0) ≡ suc (suc (suc (suc (suc rest)))) = omega arith in
+      ap (λ class. loaded_turn (class ∷ []) (settled w t (still (starts_with w class)))) (main-class c w.program small of)
+      ∙ (ap (λ n. loaded_turn (0 ∷ []) (settles w t n (still (starts_with w 0)))) more
+      ∙ (ap (loaded_turn (0 ∷ [])) (initialized (suc rest)) ∙ over rest (has_room w main argument_array) refl))
 
-  -- a method with room for its argument has code
-  pub main-coded : has_room w main argument_array ≡ true → is_some (method_code c main) ≡ true
-  main-coded room = by_code (method_code c main) refl where
-    by_code : (code : Option CodeAttribute) → method_code c main ≡ code → is_some code ≡ true
-    by_code None none = absurd (
-        let no : max_locals_of w main ≡ 0 = ap (λ o. option_map_or (λ (k : CodeAttribute). k.max_locals) o 0) (code-alone c main main small ∙ none) in
-        let e : nat_le 1 0 ≡ true = ap (λ n. nat_le 1 n) (sym no) ∙ room in cc)
-    by_code (Some code) e = refl
+  -- the main method has code
+  pub main-coded : is_some (method_code c main) ≡ true
+  main-coded =
+      let main = main-first c w.program of in
+      ap is_some (ap (option_and_then code_of) main.1 ∙ (small.methods w.program.main main.0 main.1).coded)
 
-  by_room : (b : Bool) → has_room w main argument_array ≡ b → (t.current main ≡ main) → IsQuiet c (cond b (begun_in w t) (unbegun_in w)).after
-  by_room true room one = record {
+  by_room : (b : Bool) → (t.current main ≡ main) → IsQuiet c (cond b (begun_in w t) (unbegun_in w)).after
+  by_room true one = record {
     thrown = refl;
     begun = λ e. refl;
-    ready = refl;
-    coded = (record { same = one; code = main-coded room }, tt);
+    ready = first-ready w.program.classes c of.rest of.classes;
+    coded = (record { same = one; code = main-coded }, tt);
   }
-  by_room false room one = record {
+  by_room false one = record {
     thrown = refl;
     begun = λ e. absurd (none-some (Unverifiable main 0) (sym e));
-    ready = refl;
+    ready = first-ready w.program.classes c of.rest of.classes;
     coded = tt;
   }
 
   pub start-quiet : t.current main ≡ main → IsQuiet c (start w t).after
-  start-quiet one = subst (λ (a : Turn). IsQuiet c a.after) (sym start-is) (by_room (has_room w main argument_array) refl one)
+  start-quiet one = subst (λ (a : Turn). IsQuiet c a.after) (sym start-is) (by_room (has_room w main argument_array) one)

@@ -15,7 +15,7 @@ use Rattle.jvm_model.specs.Lines.{next_of, targets_of}
 use Rattle.jvm_model.specs.Methods.{method_code}
 use Rattle.jvm_model.specs.Moved.{IsPlace, IsPlaced}
 use Rattle.jvm_model.specs.Originals.{original}
-use Rattle.jvm_model.specs.Programs.{alone, world_of}
+use Rattle.jvm_model.specs.OneClass.{IsProgramOf}
 use Rattle.jvm_model.specs.Quiet.{IsCoded, IsQuiet}
 use Rattle.jvm_model.specs.Resolved.{resolved_in}
 use Rattle.jvm_model.specs.Rules.{does}
@@ -83,27 +83,24 @@ closed-quiet c s quiet = by_test (is_empty s.stack && is_none s.ending) where
 abbrev pub wrote_by : Resolved → State → Frame → State
 wrote_by q s f = record s { output = s.output ++ writes q f.operands }
 
-module _ (c : ClassFile) (main : ℕ) (input : List ℕ) (built : IsBuilt c) where
-  abbrev w : World
-  w = world_of c main input
-
+module _ (c : ClassFile) (w : World) (built : IsBuilt c) (of : IsProgramOf c w.program) where
   pub applied-quiet : (t : Text) (i : Instruction) (q : Resolved) (s : State) (f : Frame) → IsOneVersion t → CodedCallee c q → IsQuiet c s → IsCoded c f.method f.version
-      → IsQuiet c (applies w t i (asks c q f.locals f.operands) (wrote_by q s f) f).after
+      → IsQuiet c (applies w t i (asks w.program q f.locals f.operands) (wrote_by q s f) f).after
   applied-quiet t i q s f one callee quiet coded =
-      applies-quiet c w t i (asks c q f.locals f.operands) (wrote_by q s f) f one (simple-asks c q f.locals f.operands callee)
+      applies-quiet c w t i (asks w.program q f.locals f.operands) (wrote_by q s f) f one (simple-asks c w.program q f.locals f.operands callee)
       (record { thrown = quiet.thrown; begun = quiet.begun; ready = quiet.ready; coded = quiet.coded }) coded
 
   pub steps_at-is : (t : Text) (i : Instruction) (q : Resolved) (s : State) (f : Frame) → IsOneVersion t → resolved_in c i.operation ≡ Some q → HasCallee c q → CodedCallee c q → IsQuiet c s → IsCoded c f.method f.version
-      → steps_at w t s f (Some i) ≡ closed (applies w t i (asks c q f.locals f.operands) (wrote_by q s f) f)
+      → steps_at w t s f (Some i) ≡ closed (applies w t i (asks w.program q f.locals f.operands) (wrote_by q s f) f)
   steps_at-is t i q s f one resolves there callee quiet coded =
-      let done : does w i.operation s.shared f.locals f.operands ≡ done_by c q s.shared f.locals f.operands = does-resolved c main input i.operation q s.shared f.locals f.operands built.small resolves there quiet.ready in
-      let simple : IsSimple c (asks c q f.locals f.operands) = simple-asks c q f.locals f.operands callee in
+      let done : does w i.operation s.shared f.locals f.operands ≡ done_by w.program q s.shared f.locals f.operands = does-resolved c w i.operation q s.shared f.locals f.operands built.small of resolves there quiet.ready in
+      let simple : IsSimple c (asks w.program q f.locals f.operands) = simple-asks c w.program q f.locals f.operands callee in
       ap (steps_by w t i s f) done
-      ∙ (ap (λ k. goes_again w t i s f k (tries w t i s f (done_by c q s.shared f.locals f.operands))) (starts-simple c (asks c q f.locals f.operands) simple)
-      ∙ settled-quiet c w t (applies w t i (asks c q f.locals f.operands) (wrote_by q s f) f) (applied-quiet t i q s f one callee quiet coded))
+      ∙ (ap (λ k. goes_again w t i s f k (tries w t i s f (done_by w.program q s.shared f.locals f.operands))) (starts-simple c (asks w.program q f.locals f.operands) simple)
+      ∙ settled-quiet c w t (applies w t i (asks w.program q f.locals f.operands) (wrote_by q s f) f) (applied-quiet t i q s f one callee quiet coded))
 
   -- a step of the original keeps a state quiet
-  original-one : IsOneVersion (original (alone c main))
+  original-one : IsOneVersion (original w.program)
   original-one m = refl
 
   below-quiet : (s : State) (f : Frame) (below : List Entry) → IsQuiet c (record s { stack = Active f ∷ below }) → IsQuiet c (record s { stack = below })
@@ -121,29 +118,29 @@ module _ (c : ClassFile) (main : ℕ) (input : List ℕ) (built : IsBuilt c) whe
       record { start = start; has = HasLine-start c f.version f.place built start }
 
   frame-quiet_step : (s : State) (f : Frame) (below : List Entry) → IsQuiet c (record s { stack = Active f ∷ below; ending = None }) → IsPlaced (norm_in c) (record s { stack = Active f ∷ below; ending = None })
-      → IsQuiet c (step w (original (alone c main)) (record s { stack = Active f ∷ below; ending = None })).after
+      → IsQuiet c (step w (original w.program) (record s { stack = Active f ∷ below; ending = None })).after
   frame-quiet_step s f below quiet at =
       let going : State = record s { ending = None } in
       let now = current-of going f below quiet at in
-      let t : Text = original (alone c main) in
+      let t : Text = original w.program in
       let i : Instruction = record { operation = now.has.operation; own = now.start.instr.at; next = next_of now.has.operation (end_of now.start.instr); targets = targets_of now.start.instr.arg } in
-      let there : t.at f.version f.place ≡ Some i = at-original c main f.version f.place built ∙ now.has.instructed in
+      let there : t.at f.version f.place ≡ Some i = at-original c w.program f.version f.place built of (ap is_some now.start.coded) ∙ now.has.instructed in
       let s' : State = record going { stack = below } in
       let calm = below-quiet going f below quiet in
-      let is : steps_at w t s' f (t.at f.version f.place) ≡ closed (applies w t i (asks c now.has.resolved f.locals f.operands) (wrote_by now.has.resolved s' f) f) =
+      let is : steps_at w t s' f (t.at f.version f.place) ≡ closed (applies w t i (asks w.program now.has.resolved f.locals f.operands) (wrote_by now.has.resolved s' f) f) =
       ap (steps_at w t s' f) there ∙ steps_at-is t i now.has.resolved s' f original-one now.has.resolves (callee-at c now.has.resolved now.has.callee) (callee-coded c now.has.resolved now.has.callee) calm quiet.coded.0 in
       subst (λ (a : Turn). IsQuiet c a.after) (sym is)
-      (closed-quiet c (applies w t i (asks c now.has.resolved f.locals f.operands) (wrote_by now.has.resolved s' f) f).after
+      (closed-quiet c (applies w t i (asks w.program now.has.resolved f.locals f.operands) (wrote_by now.has.resolved s' f) f).after
       (applied-quiet t i now.has.resolved s' f original-one (callee-coded c now.has.resolved now.has.callee) calm quiet.coded.0))
 
   by-parts : (s : State) (ending : Option Ending) (stack : List Entry) → IsQuiet c (record s { stack = stack; ending = ending }) → IsPlaced (norm_in c) (record s { stack = stack; ending = ending })
-      → IsQuiet c (step w (original (alone c main)) (record s { stack = stack; ending = ending })).after
+      → IsQuiet c (step w (original w.program) (record s { stack = stack; ending = ending })).after
   by-parts s (Some e) stack quiet at = quiet
   by-parts s None [] quiet at = quiet
   by-parts s None (Initializing class part ∷ below) quiet at = absurd quiet.coded
   by-parts s None (Active f ∷ below) quiet at = frame-quiet_step s f below quiet at
 
-  pub step-quiet : (s : State) → IsQuiet c s → IsPlaced (norm_in c) s → IsQuiet c (step w (original (alone c main)) s).after
+  pub step-quiet : (s : State) → IsQuiet c s → IsPlaced (norm_in c) s → IsQuiet c (step w (original w.program) s).after
   step-quiet s quiet at = by-parts s s.ending s.stack quiet at
 
   -- ---- what a step is of
@@ -152,19 +149,19 @@ module _ (c : ClassFile) (main : ℕ) (input : List ℕ) (built : IsBuilt c) whe
   pub record IsStepOf (s : State) (f : Frame) : Type 0 where
     pub start : IsStart c f.version f.place
     pub has : HasLine c f.version f.place start.instr
-    pub went : Went c (original (alone c main)) has.resolved (step w (original (alone c main)) s)
+    pub went : Went c (original w.program) has.resolved (step w (original w.program) s)
 
   explicit-step : (s : State) (f : Frame) (below : List Entry) → IsQuiet c (record s { stack = Active f ∷ below; ending = None }) → IsPlaced (norm_in c) (record s { stack = Active f ∷ below; ending = None })
       → IsStepOf (record s { stack = Active f ∷ below; ending = None }) f
   explicit-step s f below quiet at =
       let going : State = record s { ending = None } in
       let now = current-of going f below quiet at in
-      let t : Text = original (alone c main) in
+      let t : Text = original w.program in
       let i : Instruction = record { operation = now.has.operation; own = now.start.instr.at; next = next_of now.has.operation (end_of now.start.instr); targets = targets_of now.start.instr.arg } in
-      let there : t.at f.version f.place ≡ Some i = at-original c main f.version f.place built ∙ now.has.instructed in
+      let there : t.at f.version f.place ≡ Some i = at-original c w.program f.version f.place built of (ap is_some now.start.coded) ∙ now.has.instructed in
       let s' : State = record going { stack = below } in
       let coded = callee-coded c now.has.resolved now.has.callee in
-      let is : steps_at w t s' f (t.at f.version f.place) ≡ closed (applies w t i (asks c now.has.resolved f.locals f.operands) (wrote_by now.has.resolved s' f) f) =
+      let is : steps_at w t s' f (t.at f.version f.place) ≡ closed (applies w t i (asks w.program now.has.resolved f.locals f.operands) (wrote_by now.has.resolved s' f) f) =
       ap (steps_at w t s' f) there ∙ steps_at-is t i now.has.resolved s' f original-one now.has.resolves (callee-at c now.has.resolved now.has.callee) coded (below-quiet going f below quiet) quiet.coded.0 in
       record {
         start = now.start;

@@ -1,5 +1,5 @@
 -- What ties a rewritten class to the original, place by place; and the rewritten class as a text.
-use Rattle.std.specs.Prelude.{◌≡◌, ℕ, ◌+◌, Bool, true, false, not, List, map, Option, Some, None, slice_get, ◌&&◌, if◌then◌else◌}
+use Rattle.std.specs.Prelude.{◌≡◌, ℕ, ◌+◌, Bool, true, false, not, List, map, Option, Some, None, is_some, slice_get, ◌&&◌, if◌then◌else◌}
 use Rattle.std.specs.Option.{option_and_then, option_map, option_map_or}
 use Rattle.const_pool.specs.declared.class.ClassFile.{ClassFile}
 use Rattle.const_pool.specs.declared.class.CodeAttribute.{CodeAttribute}
@@ -14,13 +14,13 @@ use Rattle.jvm_model.specs.declared.event.Mark.TheVariants.{Off, Plain, Root}
 use Rattle.jvm_model.specs.declared.operation.Line.{Line}
 use Rattle.jvm_model.specs.declared.operation.Resolved.{Resolved}
 use Rattle.jvm_model.specs.declared.operation.Resolved.TheVariants.{Ireturn, Return}
-use Rattle.jvm_model.specs.Data.{Text}
+use Rattle.jvm_model.specs.Data.{Program, Text}
 use Rattle.jvm_model.specs.Images.{is_off}
 use Rattle.jvm_model.specs.Methods.{method_code}
 use Rattle.jvm_model.specs.Moved.{moved_instruction, moved_catcher}
 use Rattle.jvm_model.specs.Originals.{original}
-use Rattle.jvm_model.specs.Programs.{alone}
-use Rattle.jvm_model.specs.StandsFor.{ProbeCall, home_at, line_at, probe_at, version_line, mark_at}
+use Rattle.jvm_model.specs.Programs.{first_class}
+use Rattle.jvm_model.specs.StandsFor.{ProbeCall, homes_at, home_at, line_at, probe_at, version_line, mark_at}
 
 -- ---- where frames stand
 
@@ -76,6 +76,8 @@ pub record Agrees (c : ClassFile) (marks : List Mark) (image : ClassFile) (homes
   pub enters : (method : ℕ) (code : CodeAttribute) → method_code c method ≡ Some code → probe_at image method 0 ≡ entry_probe_of marks method
   pub first : (method : ℕ) (code : CodeAttribute) → method_code c method ≡ Some code
       → home_at homes method 0 ≡ (if is_off (mark_at marks method) then 0 else 6)
+  -- what is no method of the class stays
+  pub others : (method : ℕ) → method_code c method ≡ None → homes_at homes method ≡ None
 
 -- ---- the rewritten class as a text
 
@@ -111,10 +113,13 @@ line_behind image homes method place = version_line image homes method (behind_l
 
 -- The rewritten class as a text of the program of one class: no probes, and at a home the instruction whose offset it is
 -- the home of. What the instruction does is said of the original class; that the image's lines do the same is `Agrees`.
-abbrev pub rewritten : ClassFile → ℕ → ClassFile → List (Option Homes) → Text
-rewritten c main image homes = let t = original (alone c main) in record {
+abbrev pub rewritten : Program → ClassFile → List (Option Homes) → Text
+rewritten p image homes = let t = original p in record {
   current = λ method. method;
   first = λ method. home_at homes method (t.first method);
-  at = λ method place. option_and_then (λ (line : Line). option_map (moved_instruction (home_at homes method)) (t.at method line.own)) (line_behind image homes method place);
+  at = λ method place.
+      if is_some (method_code (first_class p) method)
+      then option_and_then (λ (line : Line). option_map (moved_instruction (home_at homes method)) (t.at method line.own)) (line_behind image homes method place)
+      else t.at method place;
   handlers = λ method. map (moved_catcher (home_at homes method)) (t.handlers method);
 }

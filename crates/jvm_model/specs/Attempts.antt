@@ -1,7 +1,7 @@
 -- One attempt over versions: what the line at the current frame's place asks for, by its operation with names looked up.
 use Rattle.std.specs.Prelude.{ℕ, Bool, true, false, List, [], ◌∷◌, ◌++◌, Option, Some, None, is_none, slice_get, ◌&&◌, if◌then◌else◌}
 use Rattle.heap_objects.specs.declared.Value.TheVariants.{Int, Ref}
-use Rattle.const_pool.specs.declared.class.ClassFile.{ClassFile}
+use Rattle.jvm_model.specs.declared.program.Program.{Program}
 use Rattle.const_pool.specs.declared.descriptor.Kind.TheVariants as kind
 use Rattle.jvm_model.specs.declared.operation.Line.{Line}
 use Rattle.jvm_model.specs.declared.operation.Resolved.{Resolved}
@@ -13,7 +13,7 @@ use Rattle.jvm_model.specs.declared.state.Entry.TheVariants.{Active, Initializin
 use Rattle.jvm_model.specs.declared.state.Phase.TheVariants.{Ready}
 use Rattle.jvm_model.specs.declared.ending.Ending.TheVariants.{Returned, Unverifiable}
 use Rattle.jvm_model.specs.Data.{Locals, Operands, Change, Loads, Began, Left, Unwound, Turn, Next, Outcome, GoesOn, Returns, Breaks}
-use Rattle.jvm_model.specs.Methods.{method_params}
+use Rattle.jvm_model.specs.Programs.{params_of_method}
 use Rattle.jvm_model.specs.Values.{loaded}
 use Rattle.jvm_model.specs.LocalRules.{pushes, calculates, returns}
 use Rattle.jvm_model.specs.Rules.{is_print_stream, line_text, invokes_with}
@@ -29,16 +29,16 @@ abbrev pub asks_println : Locals → Operands → Outcome
 asks_println l (Int n ∷ Ref r ∷ below) = if is_print_stream r then GoesOn l below Next else Breaks false
 asks_println l _ = Breaks false
 
-abbrev pub asks : ClassFile → Resolved → Locals → Operands → Outcome
-asks c resolved.Nop l o = GoesOn l o Next
-asks c (resolved.Constant n) l o = GoesOn l (Int n ∷ o) Next
-asks c (resolved.Iload slot) l o = pushes (loaded kind.Int (slice_get l slot)) l o
-asks c (resolved.Binary op) l o = calculates op l o
-asks c resolved.Ireturn l o = returns (Some kind.Int) o
-asks c resolved.Return l o = Returns None
-asks c resolved.Out l o = GoesOn l (Ref 3 ∷ o) Next
-asks c resolved.Println l o = asks_println l o
-asks c (resolved.Invokestatic method) l o = invokes_with method (method_params c method) o
+abbrev pub asks : Program → Resolved → Locals → Operands → Outcome
+asks p resolved.Nop l o = GoesOn l o Next
+asks p (resolved.Constant n) l o = GoesOn l (Int n ∷ o) Next
+asks p (resolved.Iload slot) l o = pushes (loaded kind.Int (slice_get l slot)) l o
+asks p (resolved.Binary op) l o = calculates op l o
+asks p resolved.Ireturn l o = returns (Some kind.Int) o
+asks p resolved.Return l o = Returns None
+asks p resolved.Out l o = GoesOn l (Ref 3 ∷ o) Next
+asks p resolved.Println l o = asks_println l o
+asks p (resolved.Invokestatic method) l o = invokes_with method (params_of_method p method) o
 
 abbrev pub printed : Operands → List ℕ
 printed (Int n ∷ Ref r ∷ below) = if is_print_stream r then line_text n else []
@@ -54,7 +54,7 @@ writes _ o = []
 abbrev pub does_line : Installed → State → Frame → Option Line → Turn
 does_line t s f None = still (breaks s f 0)
 does_line t s f (Some line) =
-    applies (world_in t) (tabled t) (placed line) (asks t.class line.operation f.locals f.operands) (record s { output = s.output ++ writes line.operation f.operands }) f
+    applies (world_in t) (tabled t) (placed line) (asks t.program line.operation f.locals f.operands) (record s { output = s.output ++ writes line.operation f.operands }) f
 
 abbrev pub attempts : Installed → State → List Entry → Turn
 attempts t s [] = still s
@@ -86,12 +86,12 @@ ready t =
 -- `main` begins, where it has a local for its arguments
 abbrev pub start_placed : Installed → Turn
 start_placed t =
-    if has_room (world_in t) t.main argument_array
+    if has_room (world_in t) t.program.main argument_array
     then record {
-      after = record (ready t) { begun = true; stack = Active (new_frame (world_in t) (tabled t) t.main argument_array) ∷ [] };
-      changes = Loads (0 ∷ []) ∷ Began t.main ∷ [];
+      after = record (ready t) { begun = true; stack = Active (new_frame (world_in t) (tabled t) t.program.main argument_array) ∷ [] };
+      changes = Loads (0 ∷ []) ∷ Began t.program.main ∷ [];
     }
-    else record { after = record (ready t) { ending = Some (Unverifiable t.main 0) }; changes = Loads (0 ∷ []) ∷ [] }
+    else record { after = record (ready t) { ending = Some (Unverifiable t.program.main 0) }; changes = Loads (0 ∷ []) ∷ [] }
 
 -- whether an activation began
 abbrev pub has_begun : List Change → Bool

@@ -1,4 +1,4 @@
--- What a machine runs: a class with its main method and input, and the versions of its methods.
+-- What a machine runs: a program with its input, and the versions of the methods of its own class.
 use Rattle.std.specs.Prelude.{ℕ, List, [], map, Option, None}
 use Rattle.std.specs.Option.{option_map}
 use Rattle.const_pool.specs.declared.class.ClassFile.{ClassFile}
@@ -6,25 +6,34 @@ use Rattle.code_model.specs.declared.laying.Homes.{Homes}
 use Rattle.jvm_model.specs.declared.event.Mark.{Mark}
 use Rattle.jvm_model.specs.declared.event.Mark.TheVariants.{Off}
 use Rattle.jvm_model.specs.declared.operation.Line.{Line}
-use Rattle.jvm_model.specs.Data.{Nop, Within, Instruction, Text, World}
-use Rattle.jvm_model.specs.Programs.{world_of}
+use Rattle.jvm_model.specs.Data.{Nop, Within, Instruction, Program, Text, World}
+use Rattle.jvm_model.specs.Programs.{first_class}
 use Rattle.jvm_model.specs.Agreement.{first_place, line_behind}
 
--- The class, whose limits and parameters count; the marks of its methods, the image that they have there, and its homes.
+-- The program, whose limits and parameters count; the marks of the methods of its first class, the image that they have there,
+-- and its homes.
 pub record Installed : Type 0 where
-  pub class : ClassFile
-  pub main : ℕ
+  pub program : Program
   pub input : List ℕ
   pub marks : List Mark
   pub image : ClassFile
   pub homes : List (Option Homes)
 
 -- every version is the original
-abbrev pub all_originals : ClassFile → ℕ → List ℕ → Installed
-all_originals c main input = record { class = c; main = main; input = input; marks = map (λ m. Off) c.methods; image = c; homes = map (λ m. None) c.methods }
+abbrev pub all_originals : Program → List ℕ → Installed
+all_originals p input = let c = first_class p in record {
+  program = p;
+  input = input;
+  marks = map (λ m. Off) c.methods;
+  image = c;
+  homes = map (λ m. None) c.methods;
+}
+
+abbrev pub class_in : Installed → ClassFile
+class_in t = first_class t.program
 
 abbrev pub world_in : Installed → World
-world_in t = world_of t.class t.main t.input
+world_in t = record { program = t.program; input = t.input }
 
 -- the line that goes with a place of a version
 abbrev pub line_in : Installed → ℕ → ℕ → Option Line

@@ -32,4 +32,5 @@ pub mod StandsFor
 pub mod Agreement
 pub mod Installed
 pub mod Attempts
+pub mod OneClass
 pub mod Quiet

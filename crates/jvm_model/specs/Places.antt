@@ -1,5 +1,5 @@
 -- The places of a class's original code: the offsets at which instructions start (JVM Specification 4.7.3).
-use Rattle.std.specs.Prelude.{ℕ, zero, suc, Bool, List, [], ◌∷◌, length, ◌==◌, ◌||◌}
+use Rattle.std.specs.Prelude.{ℕ, zero, suc, Bool, true, is_some, if◌then◌else◌, List, [], ◌∷◌, length, ◌==◌, ◌||◌}
 use Rattle.std.specs.Option.{option_map_or}
 use Rattle.std.specs.List.{list_any}
 use Rattle.const_pool.specs.declared.class.ClassFile.{ClassFile}
@@ -20,6 +20,6 @@ method_reading c method = option_map_or (λ (code : CodeAttribute). read_from (l
 abbrev pub is_start_in : List Instr → ℕ → Bool
 is_start_in instrs at = list_any (λ (i : Instr). i.at == at) instrs
 
--- where a frame of the method can stand; each method begins at 0
+-- Where a frame of the method can stand; each method begins at 0. Of a method that has no Code in the class nothing is said.
 abbrev pub is_place : ClassFile → ℕ → ℕ → Bool
-is_place c method at = at == 0 || is_start_in (method_reading c method) at
+is_place c method at = if is_some (method_code c method) then at == 0 || is_start_in (method_reading c method) at else true

@@ -1,10 +1,12 @@
 -- Looking up classes and methods of a program by their names and numbers (JVM Specification 4.1, 4.6, 5.4.3).
-use Rattle.std.specs.Prelude.{ℕ, zero, suc, ◌+◌, Bool, false, List, [], ◌∷◌, ◌++◌, length, Option, Some, None, is_some, position, slice_get, codes, ◌==◌, ◌&&◌, ◌||◌, if◌then◌else◌}
+use Rattle.std.specs.Prelude.{ℕ, zero, suc, ◌+◌, Bool, false, List, [], ◌∷◌, ◌++◌, length, Option, Some, None, is_some, position, slice_get, unwrap_or, codes, ◌==◌, ◌&&◌, ◌||◌, if◌then◌else◌}
+use Rattle.std.specs.List.{list_any}
 use Rattle.std.specs.Option.{option_and_then, option_map_or}
 use Rattle.const_pool.specs.declared.class.ClassFile.{ClassFile}
 use Rattle.const_pool.specs.declared.class.Member.{Member}
 use Rattle.const_pool.specs.declared.class.CodeAttribute.{CodeAttribute}
 use Rattle.const_pool.specs.declared.descriptor.Kind.{Kind}
+use Rattle.const_pool.specs.BuiltIn.{built_in_names}
 use Rattle.const_pool.specs.References.{NameAndType, Reference, named_class}
 use Rattle.jvm_model.specs.Data.{MethodPlace, Program, World}
 use Rattle.jvm_model.specs.Descriptors.{same_text}
@@ -14,6 +16,21 @@ use Rattle.jvm_model.specs.Methods.{code_of, method_code, method_named, method_p
 
 abbrev pub class_at : Program → ℕ → Option ClassFile
 class_at p class = slice_get p.classes class
+
+-- a class without anything, where a program has none
+abbrev pub no_class : ClassFile
+no_class = record {
+  minor = 0;
+  major = 0;
+  pool = [];
+  access = 0;
+  this_class = 0;
+  super_class = 0;
+  interfaces = [];
+  fields = [];
+  methods = [];
+  attributes = [];
+}
 
 abbrev pub name_of : ClassFile → Option (List ℕ)
 name_of c = named_class c.pool c.this_class
@@ -44,6 +61,14 @@ is_within p (suc n) class name =
 -- a class is the one with this name, or inherits from it; no chain of superclasses is longer than the list of classes
 abbrev pub is_subclass : Program → ℕ → List ℕ → Bool
 is_subclass p class name = is_within p (length p.classes) class name
+
+-- the class that a program begins with: that of its own which runs so far
+abbrev pub first_class : Program → ClassFile
+first_class p = unwrap_or (class_at p 0) no_class
+
+-- the class has the name of a built-in one
+abbrev pub has_built_in_name : ClassFile → Bool
+has_built_in_name c = option_map_or (λ name. list_any (same_text name) built_in_names) (name_of c) false
 
 -- ---- methods
 

@@ -6,9 +6,9 @@ use Rattle.heap_objects.specs.declared.datum.Datum.TheVariants as datum
 use Rattle.const_pool.specs.declared.class.ClassFile.{ClassFile}
 use Rattle.const_pool.specs.declared.class.Member.{Member}
 use Rattle.const_pool.specs.References.{NameAndType, Reference, named_text}
-use Rattle.jvm_model.specs.Data.{Datum, Phase, Fresh, Object, Instance, Array, Chars, Program, Shared, World}
+use Rattle.jvm_model.specs.Data.{Datum, Phase, Fresh, Ready, Object, Instance, Array, Chars, Program, Shared, World}
 use Rattle.jvm_model.specs.Methods.{is_member}
-use Rattle.jvm_model.specs.Programs.{class_at, class_named, class_of_reference}
+use Rattle.jvm_model.specs.Programs.{class_at, class_named, class_of_reference, has_built_in_name}
 
 -- ---- classes
 
@@ -98,10 +98,19 @@ zero_for (unit ∷ rest) = if unit == 74 then datum.Long (pos 0) else if unit ==
 abbrev pub zeros : ClassFile → List Datum
 zeros c = map (λ (m : Member). zero_for (unwrap_or (named_text c.pool m.descriptor) [])) c.fields
 
+-- the built-in classes are ready from the beginning, without any code (5.3, 5.5)
+abbrev pub phase_before : ClassFile → Phase
+phase_before c = if has_built_in_name c then Ready else Fresh
+
+-- their positions, counted from this one
+abbrev pub built_in_from : ℕ → List ClassFile → List ℕ
+built_in_from at [] = []
+built_in_from at (c ∷ rest) = if has_built_in_name c then at ∷ built_in_from (at + 1) rest else built_in_from (at + 1) rest
+
 abbrev pub shared_before : Program → Shared
 shared_before p = record {
-  loaded = [];
-  phases = map (λ c. Fresh) p.classes;
+  loaded = built_in_from 0 p.classes;
+  phases = map phase_before p.classes;
   statics = map zeros p.classes;
   heap = [];
   used = 0;

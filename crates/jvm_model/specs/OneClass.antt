@@ -1,0 +1,18 @@
+-- Programs of one class that runs so far.
+use Rattle.std.specs.Prelude.{◌≡◌, ℕ, ◌<◌, List, ◌∷◌, length}
+use Rattle.const_pool.specs.declared.class.ClassFile.{ClassFile}
+use Rattle.jvm_model.specs.Data.{Program}
+use Rattle.jvm_model.specs.Programs.{first_class, numbered}
+use Rattle.jvm_model.specs.StandsFor.{IsBuilt}
+
+-- The class and those behind it, with the methods that have Code numbered in their order. The main method is the class's.
+pub record IsProgramOf (c : ClassFile) (p : Program) : Type 0 where
+  pub rest : List ClassFile
+  pub classes : p.classes ≡ c ∷ rest
+  pub methods : p.methods ≡ numbered p.classes
+  pub main : p.main < length c.methods
+
+-- A program whose first class is of the part that runs so far; the classes behind it are built in.
+pub record IsBuiltProgram (p : Program) : Type 0 where
+  pub class : IsBuilt (first_class p)
+  pub program : IsProgramOf (first_class p) p
