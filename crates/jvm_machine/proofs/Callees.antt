@@ -15,7 +15,7 @@ use Rattle.jvm_model.specs.declared.state.Frame.{Frame}
 use Rattle.jvm_model.specs.declared.state.State.{State}
 use Rattle.jvm_model.specs.Data.{Locals, Operands, Began, Turn, Instruction}
 use Rattle.jvm_model.specs.Agreement.{first_place}
-use Rattle.jvm_model.specs.Methods.{method_params}
+use Rattle.jvm_model.specs.Programs.{params_of_method}
 use Rattle.jvm_model.specs.Programs.{max_locals_of}
 use Rattle.jvm_model.specs.Values.{as_value, datum_of, data_of, spread}
 use Rattle.jvm_model.specs.Rules.{invokes_with, invokes as invokes_outcome}
@@ -79,7 +79,7 @@ topmost-few ks o few =
 abbrev pub invoked : Installed → Instruction → State → Frame → ℕ → Option Frame → Turn
 invoked t i s f method None = still (breaks s f i.own)
 invoked t i s f method (Some callee) = record {
-  after = with_frame (with_frame s (record f { operands = drop (option_map_or length (method_params t.class method) 0) f.operands })) callee;
+  after = with_frame (with_frame s (record f { operands = drop (option_map_or length (params_of_method t.program method) 0) f.operands })) callee;
   changes = Began method ∷ [];
 }
 
@@ -102,17 +102,17 @@ invoked_with t i s f method below locals =
 
 -- the locals that the values take fit, or do not
 fitting : (t : Installed) (i : Instruction) (s : State) (f : Frame) (method : ℕ) (values : List Value)
-    → invoked_with t i s f method (drop (option_map_or length (method_params t.class method) 0) f.operands) (spread_values values) ≡ invoked t i s f method (fitting_frame t method values)
+    → invoked_with t i s f method (drop (option_map_or length (params_of_method t.program method) 0) f.operands) (spread_values values) ≡ invoked t i s f method (fitting_frame t method values)
 fitting t i s f method values = by_room (nat_le (length (spread_values values)) (max_locals_of (world_in t) method)) (frame_of_values t method values) where
   by_room : (b : Bool) (callee : Frame)
-      → cond b (record { after = with_frame (with_frame s (record f { operands = drop (option_map_or length (method_params t.class method) 0) f.operands })) callee; changes = Began method ∷ [] }) (still (breaks s f i.own))
+      → cond b (record { after = with_frame (with_frame s (record f { operands = drop (option_map_or length (params_of_method t.program method) 0) f.operands })) callee; changes = Began method ∷ [] }) (still (breaks s f i.own))
       ≡ invoked t i s f method (cond b (Some callee) None)
   by_room true callee = refl
   by_room false callee = refl
 
 -- the values are such data, or are none
 with_data : (t : Installed) (i : Instruction) (s : State) (f : Frame) (method : ℕ) (params : List Kind) (values : List Value) (data_found : Option (List Datum))
-    → method_params t.class method ≡ Some params → data_of params values ≡ data_found
+    → params_of_method t.program method ≡ Some params → data_of params values ≡ data_found
     → applies (world_in t) (tabled t) i (invokes_outcome method (length params) data_found f.operands) s f
     ≡ invoked t i s f method (option_and_then (fitting_frame t method) (cond (is_some data_found) (Some values) None))
 with_data t i s f method params values None known e = refl
@@ -121,7 +121,7 @@ with_data t i s f method params values (Some ds) known e =
     ∙ (ap (λ p. invoked_with t i s f method (drop (option_map_or length p 0) f.operands) (spread_values values)) (sym known)
     ∙ fitting t i s f method values)
 
-by_params : (t : Installed) (i : Instruction) (s : State) (f : Frame) (method : ℕ) (params : Option (List Kind)) → method_params t.class method ≡ params
+by_params : (t : Installed) (i : Instruction) (s : State) (f : Frame) (method : ℕ) (params : Option (List Kind)) → params_of_method t.program method ≡ params
     → applies (world_in t) (tabled t) i (invokes_with method params f.operands) s f
     ≡ invoked t i s f method (option_and_then (λ ks. option_and_then (fitting_frame t method) (topmost ks f.operands)) params)
 by_params t i s f method None known = refl
@@ -130,16 +130,16 @@ by_params t i s f method (Some ks) known =
     with_data t i s f method ks values (data_of ks values) known refl
 
 pub invokes-callee : (t : Installed) (i : Instruction) (s : State) (f : Frame) (method : ℕ)
-    → applies (world_in t) (tabled t) i (invokes_with method (method_params t.class method) f.operands) s f ≡ invoked t i s f method (callee_frame t method f.operands)
-invokes-callee t i s f method = by_params t i s f method (method_params t.class method) refl
+    → applies (world_in t) (tabled t) i (invokes_with method (params_of_method t.program method) f.operands) s f ≡ invoked t i s f method (callee_frame t method f.operands)
+invokes-callee t i s f method = by_params t i s f method (params_of_method t.program method) refl
 
 -- what becomes of it without a callee, and with one
 pub invokes-none : (t : Installed) (i : Instruction) (s : State) (f : Frame) (method : ℕ) → callee_frame t method f.operands ≡ None
-    → applies (world_in t) (tabled t) i (invokes_with method (method_params t.class method) f.operands) s f ≡ invoked t i s f method None
+    → applies (world_in t) (tabled t) i (invokes_with method (params_of_method t.program method) f.operands) s f ≡ invoked t i s f method None
 invokes-none t i s f method none = invokes-callee t i s f method ∙ ap (invoked t i s f method) none
 
 pub invokes-some : (t : Installed) (i : Instruction) (s : State) (f : Frame) (method : ℕ) (callee : Frame) → callee_frame t method f.operands ≡ Some callee
-    → applies (world_in t) (tabled t) i (invokes_with method (method_params t.class method) f.operands) s f ≡ invoked t i s f method (Some callee)
+    → applies (world_in t) (tabled t) i (invokes_with method (params_of_method t.program method) f.operands) s f ≡ invoked t i s f method (Some callee)
 invokes-some t i s f method callee found = invokes-callee t i s f method ∙ ap (invoked t i s f method) found
 
 -- a callee has as many operands below it as it takes
@@ -152,11 +152,11 @@ enough_by t method o callee (Some ks) found =
     (λ (enough : length ks ≤ length o). enough)
     (cases_lt (length o) (length ks))
 
-pub callee-enough : (t : Installed) (method : ℕ) (o : Operands) (callee : Frame) → callee_frame t method o ≡ Some callee → option_map_or length (method_params t.class method) 0 ≤ length o
-callee-enough t method o callee found = enough_by t method o callee (method_params t.class method) found
+pub callee-enough : (t : Installed) (method : ℕ) (o : Operands) (callee : Frame) → callee_frame t method o ≡ Some callee → option_map_or length (params_of_method t.program method) 0 ≤ length o
+callee-enough t method o callee found = enough_by t method o callee (params_of_method t.program method) found
 
 -- more parameters than operands: there is no callee
-pub callee-few : (t : Installed) (method : ℕ) (o : Operands) (ks : List Kind) → method_params t.class method ≡ Some ks → length o < length ks → callee_frame t method o ≡ None
+pub callee-few : (t : Installed) (method : ℕ) (o : Operands) (ks : List Kind) → params_of_method t.program method ≡ Some ks → length o < length ks → callee_frame t method o ≡ None
 callee-few t method o ks known few =
     ap (option_and_then (λ params. option_and_then (fitting_frame t method) (topmost params o))) known ∙ ap (option_and_then (fitting_frame t method)) (topmost-few ks o few)
 

@@ -8,6 +8,7 @@ use Rattle.const_pool.specs.declared.class.CodeAttribute.{CodeAttribute}
 use Rattle.code_model.specs.declared.instr.Instr.{Instr}
 use Rattle.code_model.specs.declared.laying.Homes.{Homes}
 use Rattle.code_model.specs.Instructions.{instruction_at, end_of}
+use Rattle.jvm_model.specs.declared.program.Program.{Program}
 use Rattle.jvm_model.specs.declared.operation.Line.{Line}
 use Rattle.jvm_model.specs.declared.operation.Resolved.{Resolved}
 use Rattle.jvm_model.specs.declared.operation.Resolved.TheVariants as resolved
@@ -89,14 +90,14 @@ is_going_on (GoesOn l o to) = true
 is_going_on _ = false
 
 -- a return never goes on
-return-ends : (c : ClassFile) (q : Resolved) (l : Locals) (o : Operands) → is_return_operation q ≡ true → is_going_on (asks c q l o) ≡ false
-return-ends c resolved.Ireturn l [] e = refl
-return-ends c resolved.Ireturn l (Int n ∷ below) e = refl
-return-ends c resolved.Ireturn l (Long n ∷ below) e = refl
-return-ends c resolved.Ireturn l (Ref r ∷ below) e = refl
-return-ends c resolved.Ireturn l (Addr t ∷ below) e = refl
-return-ends c resolved.Return l o e = refl
-return-ends c _ l o e = absurd cc
+return-ends : (p : Program) (q : Resolved) (l : Locals) (o : Operands) → is_return_operation q ≡ true → is_going_on (asks p q l o) ≡ false
+return-ends p resolved.Ireturn l [] e = refl
+return-ends p resolved.Ireturn l (Int n ∷ below) e = refl
+return-ends p resolved.Ireturn l (Long n ∷ below) e = refl
+return-ends p resolved.Ireturn l (Ref r ∷ below) e = refl
+return-ends p resolved.Ireturn l (Addr t ∷ below) e = refl
+return-ends p resolved.Return l o e = refl
+return-ends p _ l o e = absurd cc
 
 -- A frame that an instruction has changed goes on as the old one does with its locals and operands.
 goes-kept : (t : Installed) (s : State) (f new : Frame) (l : Locals) (o : Operands) (own : ℕ) (next : Option ℕ) → (next ≡ None → ⊥) → stands new ≡ stands f
@@ -106,22 +107,22 @@ goes-kept t s f new l o own (Some place) some kept =
     ap (λ (x : Standing). let frame : Frame = record { method = x.method; version = x.version; place = place; locals = l; operands = o } in lands (world_in t) s frame own) kept
 
 by_frame : (t : Installed) (s : State) (f new : Frame) (line : Line) (asked : Flow) → new ≡ f
-    → outcome_of t.class asked new ≡ asks t.class line.operation f.locals f.operands
-    → applies (world_in t) (tabled t) (placed line) (outcome_of t.class asked new) s new ≡ applies (world_in t) (tabled t) (placed line) (asks t.class line.operation f.locals f.operands) s f
+    → outcome_of t.program asked new ≡ asks t.program line.operation f.locals f.operands
+    → applies (world_in t) (tabled t) (placed line) (outcome_of t.program asked new) s new ≡ applies (world_in t) (tabled t) (placed line) (asks t.program line.operation f.locals f.operands) s f
 by_frame t s f new line asked kept same =
     ap (λ out. applies (world_in t) (tabled t) (placed line) out s new) same
-    ∙ ap (λ x. applies (world_in t) (tabled t) (placed line) (asks t.class line.operation f.locals f.operands) s x) kept
+    ∙ ap (λ x. applies (world_in t) (tabled t) (placed line) (asks t.program line.operation f.locals f.operands) s x) kept
 
 -- What becomes of the state and the changed frame is what becomes of it and the frame as it was, by what is asked for.
 pub applies-kept : (t : Installed) (s : State) (f new : Frame) (line : Line) (asked : Flow) → Some line ≡ line_in t f.version f.place → IsKept asked f new
-    → outcome_of t.class asked new ≡ asks t.class line.operation f.locals f.operands
-    → applies (world_in t) (tabled t) (placed line) (outcome_of t.class asked new) s new ≡ applies (world_in t) (tabled t) (placed line) (asks t.class line.operation f.locals f.operands) s f
+    → outcome_of t.program asked new ≡ asks t.program line.operation f.locals f.operands
+    → applies (world_in t) (tabled t) (placed line) (outcome_of t.program asked new) s new ≡ applies (world_in t) (tabled t) (placed line) (asks t.program line.operation f.locals f.operands) s f
 applies-kept t s f new line flow.GoesOn stood kept same =
     ap still (goes-kept t s f new new.locals new.operands line.own line.next never kept)
     ∙ ap (λ out. applies (world_in t) (tabled t) (placed line) out s f) same
   where
     returning : is_return_operation line.operation ≡ true → true ≡ false
-    returning e = ap is_going_on same ∙ return-ends t.class line.operation f.locals f.operands e
+    returning e = ap is_going_on same ∙ return-ends t.program line.operation f.locals f.operands e
 
     never : line.next ≡ None → ⊥
     never none = let whole = line-whole t f.version f.place line stood in let returns = subst (λ (n : Option ℕ). (is_some n || is_return_operation line.operation) ≡ true) none whole in absurd (let no = returning returns in cc)
@@ -131,9 +132,9 @@ applies-kept t s f new line (flow.Breaks ends) stood kept same = by_frame t s f 
 
 -- with what was written: the line is done
 pub does-kept : (t : Installed) (s : State) (f new : Frame) (line : Line) (asked : Flow) (output : List ℕ) → Some line ≡ line_in t f.version f.place → IsKept asked f new
-    → outcome_of t.class asked new ≡ asks t.class line.operation f.locals f.operands → output ≡ s.output ++ writes line.operation f.operands
-    → applies (world_in t) (tabled t) (placed line) (outcome_of t.class asked new) (record s { output = output }) new ≡ does_line t s f (line_in t f.version f.place)
+    → outcome_of t.program asked new ≡ asks t.program line.operation f.locals f.operands → output ≡ s.output ++ writes line.operation f.operands
+    → applies (world_in t) (tabled t) (placed line) (outcome_of t.program asked new) (record s { output = output }) new ≡ does_line t s f (line_in t f.version f.place)
 does-kept t s f new line asked output stood kept same written =
     applies-kept t (record s { output = output }) f new line asked stood kept same
-    ∙ (ap (λ out. applies (world_in t) (tabled t) (placed line) (asks t.class line.operation f.locals f.operands) (record s { output = out }) f) written
+    ∙ (ap (λ out. applies (world_in t) (tabled t) (placed line) (asks t.program line.operation f.locals f.operands) (record s { output = out }) f) written
     ∙ ap (does_line t s f) stood)

@@ -1,5 +1,5 @@
 -- The machine stands for the run: when it is made, when versions are installed, and when it goes on.
-use Rattle.std.proofs.Common.{◌≡◌, ℕ, ◌+◌, ◌-◌, Bool, true, false, cond, List, [], ◌∷◌, length, Option, Some, None, refl, sym, ap, subst, ◌∙◌, eqb-true}
+use Rattle.std.proofs.Common.{◌≡◌, ℕ, ◌+◌, ◌-◌, Bool, true, false, cond, List, [], ◌∷◌, length, Option, Some, None, refl, sym, ap, subst, ◌∙◌, eqb-true, arith, ◌<◌}
 use Rattle.std.specs.Prelude.{map, slice_get, is_none, ◌==◌, ◌||◌}
 use Rattle.std.proofs.lemmas.List.{length-map}
 use Rattle.std.specs.Result.{OnOk, OnErr}
@@ -16,7 +16,8 @@ use Rattle.jvm_model.specs.declared.state.State.{State}
 use Rattle.jvm_model.specs.Agreement.{Agrees}
 use Rattle.jvm_model.specs.Attempts.{start_placed}
 use Rattle.jvm_model.specs.Images.{IsImage, all_off}
-use Rattle.jvm_model.specs.Installed.{Installed, all_originals, world_in}
+use Rattle.jvm_model.specs.declared.program.Program.{Program}
+use Rattle.jvm_model.specs.Installed.{Installed, all_originals, class_in, world_in}
 use Rattle.jvm_model.specs.Moved.{moved_entry, moved}
 use Rattle.jvm_model.specs.Run.{before, run}
 use Rattle.jvm_model.specs.StandsFor.{IsBuilt, by_homes}
@@ -27,6 +28,8 @@ use Rattle.jvm_machine.specs.Moves.{leave_passed, rest_by, Move, entered, steppe
 use Rattle.jvm_machine.specs.Probes.{event_of}
 use Rattle.jvm_machine.specs.Running.{IsRunning, finished, is_done, seen, shown_of, top_of}
 use Rattle.jvm_machine.specs.Turns.{IsGoingOn}
+use Rattle.jvm_model.specs.OneClass.{IsBuiltProgram}
+use Rattle.jvm_model.specs.Programs.{first_class}
 use Rattle.jvm_machine.specs.View.{View, made, state_of, shown, advanced, begun, events_now}
 use Rattle.jvm_machine.proofs.Steps.{IsStep, start-step, step-is}
 
@@ -42,7 +45,7 @@ early-state t s told true broken clock is early whole = absurd cc
 early-state t s told false true clock is early whole = absurd cc
 
 -- a machine whose start is still to come
-early-running : (t : Installed) → IsBuilt t.class → Agrees t.class t.marks t.image t.homes → IsRunning (seen t (before (world_in t)) 0 false false 0) (before (world_in t))
+early-running : (t : Installed) → IsBuiltProgram t.program → Agrees (class_in t) t.marks t.image t.homes → IsRunning (seen t (before (world_in t)) 0 false false 0) (before (world_in t))
 early-running t built agrees = record {
   built = built;
   agrees = agrees;
@@ -62,24 +65,26 @@ originals-agree c built =
     Agrees-image c (map (λ m. Off) c.methods) c (map (λ m. None) c.methods) built
     (rw (all_off-originals c.methods) (record { class_stays = refl; unmoved = refl }))
 
-pub is_made : (t : Installed) (c : ClassFile) (main : ℕ) (input : List ℕ) (s : State) → IsBuilt c → t ≡ all_originals c main input → s ≡ before (world_in (all_originals c main input)) → IsRunning (seen t s 0 false false 0) s
-is_made t c main input s built originals empty =
+pub some-classes : (p : Program) → IsBuiltProgram p → 0 < length p.classes
+some-classes p built = subst (λ cs. 0 < length cs) (sym built.program.classes) (omega arith)
+
+pub is_made : (t : Installed) (p : Program) (input : List ℕ) (s : State) → IsBuiltProgram p → t ≡ all_originals p input → s ≡ before (world_in (all_originals p input)) → IsRunning (seen t s 0 false false 0) s
+is_made t p input s built originals empty =
     subst (λ (x : Installed). IsRunning (seen x s 0 false false 0) s) (sym originals)
-    (subst (λ (x : State). IsRunning (seen (all_originals c main input) x 0 false false 0) x) (sym empty)
-    (early-running (all_originals c main input) built (originals-agree c built)))
+    (subst (λ (x : State). IsRunning (seen (all_originals p input) x 0 false false 0) x) (sym empty)
+    (early-running (all_originals p input) built (originals-agree (first_class p) built.class)))
 
 -- and what is seen of it
-pub seen-made : (t : Installed) (c : ClassFile) (main number : ℕ) (input bytes : List ℕ) (s : State) → number ≡ main → bytes ≡ input
-    → t ≡ all_originals c number bytes → s ≡ before (world_in (all_originals c number bytes)) → seen t s 0 false false 0 ≡ made c main input
-seen-made t c main number input bytes s numbered given originals empty =
+pub seen-made : (t : Installed) (p : Program) (input bytes : List ℕ) (s : State) → bytes ≡ input
+    → t ≡ all_originals p bytes → s ≡ before (world_in (all_originals p bytes)) → seen t s 0 false false 0 ≡ made p input
+seen-made t p input bytes s given originals empty =
     ap (λ (x : Installed). seen x s 0 false false 0) originals
-    ∙ (ap (λ (x : State). seen (all_originals c number bytes) x 0 false false 0) empty
-    ∙ (ap (λ n. made c n bytes) numbered ∙ ap (made c main) given))
+    ∙ (ap (λ (x : State). seen (all_originals p bytes) x 0 false false 0) empty ∙ ap (made p) given)
 
 -- ---- installing versions
 
 installed-early : (t : Installed) (s : State) (told : ℕ) (started broken : Bool) (clock : ℕ) (marks : List Mark) (image : ClassFile) (homes : List (Option Homes))
-    → IsRunning (seen t s told started broken clock) s → started ≡ false → broken ≡ false → Agrees t.class marks image homes
+    → IsRunning (seen t s told started broken clock) s → started ≡ false → broken ≡ false → Agrees (class_in t) marks image homes
     → IsRunning (seen (record t { marks = marks; image = image; homes = homes }) s told started broken clock) s
 installed-early t s told true broken clock marks image homes is early whole agrees = absurd cc
 installed-early t s told false true clock marks image homes is early whole agrees = absurd cc
@@ -99,12 +104,12 @@ installed-early t s told false false clock marks image homes is early whole agre
 pub is_installed : (result : Result (Unit {0}) NoMemory) (t new : Installed) (s : State) (told : ℕ) (started broken : Bool) (clock : ℕ)
     (marks : List Mark) (image : ClassFile) (homes : List (Option Homes))
     → IsRunning (seen t s told started broken clock) s → started ≡ false → broken ≡ false
-    → length marks ≡ length t.class.methods → IsImage t.class 0 marks image homes
+    → length marks ≡ length (class_in t).methods → IsImage (class_in t) 0 marks image homes
     → OnOk result (new ≡ record t { marks = marks; image = image; homes = homes }) → OnErr result (new ≡ t)
     → IsRunning (seen new s told started broken clock) s
 is_installed (Ok u) t new s told started broken clock marks image homes is early whole each is_image ok err =
     subst (λ (x : Installed). IsRunning (seen x s told started broken clock) s) (sym ok)
-    (installed-early t s told started broken clock marks image homes is early whole (Agrees-image t.class marks image homes is.built is_image))
+    (installed-early t s told started broken clock marks image homes is early whole (Agrees-image (class_in t) marks image homes is.built.class is_image))
 is_installed (Err e) t new s told started broken clock marks image homes is early whole each is_image ok err =
     subst (λ (x : Installed). IsRunning (seen x s told started broken clock) s) (sym err) is
 
@@ -118,8 +123,7 @@ pub record GoesOn (old : View) (t : Installed) (n : ℕ) (m : Move) : Type 0 whe
 -- the view of a step in hand, but for how many of its events were told
 abbrev view_at : Installed → State → ℕ → Bool → ℕ → View
 view_at t after told done clock = record {
-  class = t.class;
-  main = t.main;
+  program = t.program;
   input = t.input;
   marks = t.marks;
   image = t.image;
@@ -133,7 +137,7 @@ view_at t after told done clock = record {
 }
 
 -- a step that begins
-begun-by : (t : Installed) (s after : State) (told : ℕ) (probe : Option Probe) (started : Bool) (clock n : ℕ) → IsBuilt t.class → Agrees t.class t.marks t.image t.homes
+begun-by : (t : Installed) (s after : State) (told : ℕ) (probe : Option Probe) (started : Bool) (clock n : ℕ) → IsBuiltProgram t.program → Agrees (class_in t) t.marks t.image t.homes
     → clock_in 0 started clock ≡ n → IsStep t n (record { state = after; told = told; probe = probe })
     → GoesOn (seen t s 0 started false clock) t n (record { state = after; told = told; probe = probe })
 begun-by t s after told None started clock n built agrees now step =
@@ -201,14 +205,14 @@ goes_on t s told started clock is going = by_told (told == 0) refl where
   at-start : (s : State) (clock : ℕ) → IsRunning (seen t s 0 false false clock) s → GoesOn (seen t s 0 false false clock) t 0 (begun_move t false s)
   at-start s clock is = (
       let m : Move = entered t (start_placed t) in
-      begun-by t s m.state m.told m.probe false clock 0 is.built is.agrees refl (start-step t is.built is.agrees))
+      begun-by t s m.state m.told m.probe false clock 0 is.built is.agrees refl (start-step t is.built.class is.built.program is.agrees))
 
   at-step : (s : State) (clock : ℕ) → IsRunning (seen t s 0 true false clock) s → IsGoingOn (seen t s 0 true false clock) → GoesOn (seen t s 0 true false clock) t (clock + 1) (begun_move t true s)
   at-step s clock is going =
       let there : State = moved (by_homes t.homes) (run (world_in t) clock) in
       let m : Move = stepped t there in
       subst (λ (x : State). GoesOn (seen t x 0 true false clock) t (clock + 1) (stepped t x)) (sym (is.stands refl))
-      (begun-by t there m.state m.told m.probe true clock (clock + 1) is.built is.agrees refl (step-is t is.built is.agrees clock going))
+      (begun-by t there m.state m.told m.probe true clock (clock + 1) is.built is.agrees refl (step-is t is.built.class is.built.program is.agrees clock going))
 
   resting : (started : Bool) → IsRunning (seen t s 0 started false clock) s → IsGoingOn (seen t s 0 started false clock) → GoesOn (seen t s 0 started false clock) t (clock_in 0 started clock) (moved_on t started 0 s)
   resting false is going = at-start s clock is

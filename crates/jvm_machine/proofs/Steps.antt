@@ -23,9 +23,10 @@ use Rattle.jvm_model.specs.Attempts.{has_begun, attempt_placed, ready, start_pla
 use Rattle.jvm_model.specs.Changes.{methods}
 use Rattle.jvm_model.specs.EventLists.{begin_events, end_events, step_events}
 use Rattle.jvm_model.specs.Images.{is_off}
-use Rattle.jvm_model.specs.Installed.{Installed, world_in, tabled}
+use Rattle.jvm_model.specs.Installed.{Installed, class_in, world_in, tabled}
 use Rattle.jvm_model.specs.Methods.{method_code}
 use Rattle.jvm_model.specs.Moved.{moved_entry, moved_frame, moved_stack, moved, moved_turn}
+use Rattle.jvm_model.specs.OneClass.{IsProgramOf}
 use Rattle.jvm_model.specs.Originals.{original}
 use Rattle.jvm_model.specs.Quiet.{AreCoded}
 use Rattle.jvm_model.specs.Run.{turn, run, step, start, turn_in-zero, turn_in-more}
@@ -86,7 +87,7 @@ pub record IsStep (t : Installed) (n : ℕ) (m : Move) : Type 0 where
   pub counts : m.told ≡ told_by m.probe
   pub behind : StandsBehind t.image m.probe m.state.stack
 
-module _ (t : Installed) (built : IsBuilt t.class) (agrees : Agrees t.class t.marks t.image t.homes) where
+module _ (t : Installed) (built : IsBuilt (class_in t)) (of : IsProgramOf (class_in t) t.program) (agrees : Agrees (class_in t) t.marks t.image t.homes) where
   abbrev w : World
   w = world_in t
 
@@ -111,19 +112,19 @@ module _ (t : Installed) (built : IsBuilt t.class) (agrees : Agrees t.class t.ma
 
   -- ---- an activation has begun
 
-  code-of : (v : ℕ) → is_some (method_code t.class v) ≡ true → (code : CodeAttribute) × (method_code t.class v ≡ Some code)
-  code-of v some = by_code (method_code t.class v) refl where
-    by_code : (found : Option CodeAttribute) → method_code t.class v ≡ found → (code : CodeAttribute) × (method_code t.class v ≡ Some code)
+  code-of : (v : ℕ) → is_some (method_code (class_in t) v) ≡ true → (code : CodeAttribute) × (method_code (class_in t) v ≡ Some code)
+  code-of v some = by_code (method_code (class_in t) v) refl where
+    by_code : (found : Option CodeAttribute) → method_code (class_in t) v ≡ found → (code : CodeAttribute) × (method_code (class_in t) v ≡ Some code)
     by_code None none = absurd (let e : false ≡ true = ap is_some (sym none) ∙ some in cc)
     by_code (Some code) e = (code, e)
 
-  entry-is : (v : ℕ) → is_some (method_code t.class v) ≡ true → probe_of_kind is_entry_kind (placed_probe_at t.image v 0) ≡ entry_by v (mark v)
+  entry-is : (v : ℕ) → is_some (method_code (class_in t) v) ≡ true → probe_of_kind is_entry_kind (placed_probe_at t.image v 0) ≡ entry_by v (mark v)
   entry-is v some =
       let code = code-of v some in
       ap (λ p. probe_of_kind is_entry_kind (option_map (placed_probe 0) p)) (agrees.enters v code.0 code.1)
 
   -- behind an entry probe no leave probe was passed
-  not-left : (v : ℕ) (k : Mark) → is_some (method_code t.class v) ≡ true → mark v ≡ k → is_off k ≡ false → leave_behind t.image v (home_at t.homes v 0) ≡ None
+  not-left : (v : ℕ) (k : Mark) → is_some (method_code (class_in t) v) ≡ true → mark v ≡ k → is_off k ≡ false → leave_behind t.image v (home_at t.homes v 0) ≡ None
   not-left v k some is marked =
       let code = code-of v some in
       let home : home_at t.homes v 0 ≡ 6 = agrees.first v code.0 code.1 ∙ (ap (λ x. cond (is_off x) 0 6) is ∙ ap (λ b. let n : ℕ = cond b 0 6 in n) marked) in
@@ -156,7 +157,7 @@ module _ (t : Installed) (built : IsBuilt t.class) (agrees : Agrees t.class t.ma
   }
 
   begun-step : (n : ℕ) (a : Turn) (v : ℕ) (f : Frame) (below : List Entry) → has_begun a.changes ≡ true → a.after ≡ there n → (now n).stack ≡ Active f ∷ below → f.version ≡ v → f.place ≡ 0
-      → is_some (method_code t.class v) ≡ true → step_events (marking_of t.marks) w n ≡ begin_events n v (mark v) → IsStep t n (entered t a)
+      → is_some (method_code (class_in t) v) ≡ true → step_events (marking_of t.marks) w n ≡ begin_events n v (mark v) → IsStep t n (entered t a)
   begun-step n a v f below begun after stack version place some events =
       let top : (there n).stack ≡ Active (moved_frame (by_homes t.homes) f) ∷ moved_stack (by_homes t.homes) below = ap (moved_stack (by_homes t.homes)) stack in
       let probe : entry_here t.image (there n).stack ≡ entry_by v (mark v) =
@@ -190,21 +191,21 @@ module _ (t : Installed) (built : IsBuilt t.class) (agrees : Agrees t.class t.ma
 
   -- the current frame, its line, and what its step changes
   record Stepping (n : ℕ) : Type 0 where
-    has_frame : HasFrame t.class t.main t.input built (now n)
-    step_is : IsStepOf t.class t.main t.input built (now n) has_frame.frame
+    has_frame : HasFrame (class_in t) w built of (now n)
+    step_is : IsStepOf (class_in t) w built of (now n) has_frame.frame
     attempted : attempt_placed t (there n) ≡ moved_turn (by_homes t.homes) (step w (original w.program) (now n))
     same : has_frame.frame.version ≡ has_frame.frame.method
 
   stepping : (n : ℕ) → is_some (now n).ending ≡ false → Stepping n
   stepping n going =
-      let hf = run-frame t.class t.main t.input built n going in
-      let quiet = run-quiet t.class t.main t.input built n in
-      let placed = run-placed t.class t.main t.input built n in
+      let hf = run-frame (class_in t) w built of n going in
+      let quiet = run-quiet (class_in t) w built of n in
+      let placed = run-placed (class_in t) w built of n in
       record {
         has_frame = hf;
-        step_is = step-of t.class t.main t.input built (now n) hf.frame hf.below hf.is hf.going quiet placed;
-        attempted = attempt-is t built agrees (now n) hf.frame hf.below hf.is hf.going quiet placed;
-        same = (subst (AreCoded t.class) hf.is quiet.coded).0.same;
+        step_is = step-of (class_in t) w built of (now n) hf.frame hf.below hf.is hf.going quiet placed;
+        attempted = attempt-is t built of agrees (now n) hf.frame hf.below hf.is hf.going quiet placed;
+        same = (subst (AreCoded (class_in t)) hf.is quiet.coded).0.same;
       }
 
   after-next : (n : ℕ) (now_is : Stepping n) → (attempt_placed t (there n)).after ≡ there (n + 1)
@@ -222,7 +223,7 @@ module _ (t : Installed) (built : IsBuilt t.class) (agrees : Agrees t.class t.ma
   off-events step method b Root e f = absurd (let x : true ≡ false = sym (ap (λ y. y && true) e) ∙ f in cc)
 
   -- without a leave probe
-  unleft-by : (n : ℕ) (now_is : Stepping n) → left_in n now_is ≡ false → Went t.class (original w.program) now_is.step_is.has.resolved (step w (original w.program) (now n)) → IsStep t (n + 1) (entered t (attempt_placed t (there n)))
+  unleft-by : (n : ℕ) (now_is : Stepping n) → left_in n now_is ≡ false → Went (class_in t) (original w.program) now_is.step_is.has.resolved (step w (original w.program) (now n)) → IsStep t (n + 1) (entered t (attempt_placed t (there n)))
   unleft-by n now_is left (stays goes changes) =
       plain-step (n + 1) (attempt_placed t (there n)) (changes-next n now_is [] changes) (after-next n now_is)
       (next-events n now_is.has_frame.frame now_is.has_frame.below [] now_is.has_frame.is changes)
@@ -242,7 +243,7 @@ module _ (t : Installed) (built : IsBuilt t.class) (agrees : Agrees t.class t.ma
   goes-not true b e f = let x : true ≡ false = e in cc
   goes-not false b e f = let x : false ≡ true = f in cc
 
-  left-events : (n : ℕ) (now_is : Stepping n) → left_in n now_is ≡ true → Went t.class (original w.program) now_is.step_is.has.resolved (step w (original w.program) (now n))
+  left-events : (n : ℕ) (now_is : Stepping n) → left_in n now_is ≡ true → Went (class_in t) (original w.program) now_is.step_is.has.resolved (step w (original w.program) (now n))
       → step_events (marking_of t.marks) w (n + 1) ≡ events_by (n + 1) (leave_of (home_at t.homes now_is.has_frame.frame.version now_is.has_frame.frame.place) now_is.has_frame.frame.version true)
   left-events n now_is left (stays goes changes) = absurd (goes-not (is_return_operation now_is.step_is.has.resolved) _ goes left)
   left-events n now_is left (starts goes v f below code version place stack changes) = absurd (goes-not (is_return_operation now_is.step_is.has.resolved) _ goes left)
@@ -271,14 +272,14 @@ module _ (t : Installed) (built : IsBuilt t.class) (agrees : Agrees t.class t.ma
       let f : Frame = now_is.has_frame.frame in
       let below : List Entry = now_is.has_frame.below in
       let home : ℕ = home_at t.homes f.version f.place in
-      let at : state_at (home + 6) (there n) ≡ at_return t built agrees (now n) f below =
+      let at : state_at (home + 6) (there n) ≡ at_return t built of agrees (now n) f below =
       ap (λ es. record (there n) { stack = stack_at (home + 6) (moved_stack (by_homes t.homes) es) }) now_is.has_frame.is in
       let passed : leave_passed t.image (state_at (home + 6) (there n)).stack ≡ Some (left_probe n now_is) =
       ap (λ (s : State). leave_passed t.image s.stack) at ∙ (behind home (le-leb 6 (home + 6) (omega arith)) ∙ (leave-at n now_is ∙ ap (leave_of home f.version) left)) in
       record {
         leads = ap (rest_by t (state_at (home + 6) (there n))) passed
             ∙ (ap (λ s. (attempt_placed t s).after) at
-            ∙ (ap (λ (a : Turn). a.after) (attempt-behind t built agrees (now n) f below now_is.step_is.start now_is.step_is.has now_is.has_frame.is left) ∙ after-next n now_is));
+            ∙ (ap (λ (a : Turn). a.after) (attempt-behind t built of agrees (now n) f below now_is.step_is.start now_is.step_is.has now_is.has_frame.is left) ∙ after-next n now_is));
         tells = left-events n now_is left now_is.step_is.went;
         waits = λ e. shown-before at;
         counts = refl;
@@ -293,7 +294,7 @@ module _ (t : Installed) (built : IsBuilt t.class) (agrees : Agrees t.class t.ma
       behind home le = ap (λ b. cond b (probe_of_kind is_leave_kind (placed_probe_at t.image now_is.has_frame.frame.version (home + 6 - 6))) None) le
           ∙ ap (λ x. probe_of_kind is_leave_kind (placed_probe_at t.image now_is.has_frame.frame.version x)) (let e : home + 6 - 6 ≡ home = omega arith in e)
 
-      shown-before : state_at (home_at t.homes now_is.has_frame.frame.version now_is.has_frame.frame.place + 6) (there n) ≡ at_return t built agrees (now n) now_is.has_frame.frame now_is.has_frame.below
+      shown-before : state_at (home_at t.homes now_is.has_frame.frame.version now_is.has_frame.frame.place + 6) (there n) ≡ at_return t built of agrees (now n) now_is.has_frame.frame now_is.has_frame.below
           → shown_of (state_at (home_at t.homes now_is.has_frame.frame.version now_is.has_frame.frame.place + 6) (there n)) ≡ shown_of (now (n + 1 - 1))
       shown-before at =
           let back : n + 1 - 1 ≡ n = omega arith in
@@ -314,37 +315,37 @@ module _ (t : Installed) (built : IsBuilt t.class) (agrees : Agrees t.class t.ma
 
   -- ---- the start
 
-  start-by : (b : Bool) → has_room w t.main argument_array ≡ b → start w (rewritten t.class t.main t.image t.homes) ≡ cond b (begun_in w (rewritten t.class t.main t.image t.homes)) (unbegun_in w)
-      → start_placed t ≡ start w (rewritten t.class t.main t.image t.homes)
+  start-by : (b : Bool) → has_room w t.program.main argument_array ≡ b → start w (rewritten t.program t.image t.homes) ≡ cond b (begun_in w (rewritten t.program t.image t.homes)) (unbegun_in w)
+      → start_placed t ≡ start w (rewritten t.program t.image t.homes)
   start-by true room is =
-      let code = main-coded t.class t.main t.input (rewritten t.class t.main t.image t.homes) built.small room in
-      let frame : new_frame w (tabled t) t.main argument_array ≡ new_frame w (rewritten t.class t.main t.image t.homes) t.main argument_array =
-      ap (λ (place : ℕ). record (new_frame w (rewritten t.class t.main t.image t.homes) t.main argument_array) { place = place }) (first-home t built agrees t.main code) in
-      ap (λ b. cond b (placed_begin (new_frame w (tabled t) t.main argument_array)) placed_end) room ∙ (ap placed_begin frame ∙ sym is)
+      let code = main-coded (class_in t) w (rewritten t.program t.image t.homes) built.small of in
+      let frame : new_frame w (tabled t) t.program.main argument_array ≡ new_frame w (rewritten t.program t.image t.homes) t.program.main argument_array =
+      ap (λ (place : ℕ). record (new_frame w (rewritten t.program t.image t.homes) t.program.main argument_array) { place = place }) (first-home t built of agrees t.program.main code) in
+      ap (λ b. cond b (placed_begin (new_frame w (tabled t) t.program.main argument_array)) placed_end) room ∙ (ap placed_begin frame ∙ sym is)
     where
       placed_begin : Frame → Turn
-      placed_begin f = record { after = record (ready t) { begun = true; stack = Active f ∷ [] }; changes = Loads (0 ∷ []) ∷ Began t.main ∷ [] }
+      placed_begin f = record { after = record (ready t) { begun = true; stack = Active f ∷ [] }; changes = Loads (0 ∷ []) ∷ Began t.program.main ∷ [] }
 
       placed_end : Turn
-      placed_end = record { after = record (ready t) { ending = Some (Unverifiable t.main 0) }; changes = Loads (0 ∷ []) ∷ [] }
+      placed_end = record { after = record (ready t) { ending = Some (Unverifiable t.program.main 0) }; changes = Loads (0 ∷ []) ∷ [] }
   start-by false room is = ap (λ b. cond b (record {
-    after = record (ready t) { begun = true; stack = Active (new_frame w (tabled t) t.main argument_array) ∷ [] };
-    changes = Loads (0 ∷ []) ∷ Began t.main ∷ [];
-  }) (record { after = record (ready t) { ending = Some (Unverifiable t.main 0) }; changes = Loads (0 ∷ []) ∷ [] })) room ∙ sym is
+    after = record (ready t) { begun = true; stack = Active (new_frame w (tabled t) t.program.main argument_array) ∷ [] };
+    changes = Loads (0 ∷ []) ∷ Began t.program.main ∷ [];
+  }) (record { after = record (ready t) { ending = Some (Unverifiable t.program.main 0) }; changes = Loads (0 ∷ []) ∷ [] })) room ∙ sym is
 
   start-placed_is : start_placed t ≡ moved_turn (by_homes t.homes) (start w (original w.program))
   start-placed_is =
-      start-by (has_room w t.main argument_array) refl (start-is t.class t.main t.input (rewritten t.class t.main t.image t.homes) built.small)
-      ∙ start-moves (norm_in t.class) w (by_homes t.homes) (original w.program) (rewritten t.class t.main t.image t.homes) (original-agrees t.class t.main built) (rewritten-agrees t.class t.main t.marks t.image t.homes built agrees)
+      start-by (has_room w t.program.main argument_array) refl (start-is (class_in t) w (rewritten t.program t.image t.homes) built.small of)
+      ∙ start-moves (norm_in (class_in t)) w (by_homes t.homes) (original w.program) (rewritten t.program t.image t.homes) (original-agrees (class_in t) t.program built of) (rewritten-agrees t.program t.marks t.image t.homes built of agrees)
 
-  started-by : (b : Bool) → has_room w t.main argument_array ≡ b → turn w 0 ≡ cond b (begun_in w (original w.program)) (unbegun_in w) → IsStep t 0 (entered t (start_placed t))
+  started-by : (b : Bool) → has_room w t.program.main argument_array ≡ b → turn w 0 ≡ cond b (begun_in w (original w.program)) (unbegun_in w) → IsStep t 0 (entered t (start_placed t))
   started-by true room is =
-      begun-step 0 (start_placed t) t.main (new_frame w (original w.program) t.main argument_array) []
+      begun-step 0 (start_placed t) t.program.main (new_frame w (original w.program) t.program.main argument_array) []
       (ap (λ (a : Turn). has_begun a.changes) (start-placed_is ∙ ap (moved_turn (by_homes t.homes)) (sym (turn_in-zero w (original w.program)) ∙ is)))
       (ap (λ (a : Turn). a.after) (start-placed_is ∙ ap (moved_turn (by_homes t.homes)) (sym (turn_in-zero w (original w.program)))))
       (ap (λ (a : Turn). a.after.stack) is) refl refl
-      (main-coded t.class t.main t.input (original w.program) built.small room)
-      (events-start (marking_of t.marks) mark always w ∙ (ap (λ (a : Turn). all_told_of mark 0 [] a.changes) is ∙ append-nil (begin_events 0 t.main (mark t.main))))
+      (main-coded (class_in t) w (original w.program) built.small of)
+      (events-start (marking_of t.marks) mark always w ∙ (ap (λ (a : Turn). all_told_of mark 0 [] a.changes) is ∙ append-nil (begin_events 0 t.program.main (mark t.program.main))))
   started-by false room is =
       plain-step 0 (start_placed t)
       (ap (λ (a : Turn). has_begun a.changes) (start-placed_is ∙ ap (moved_turn (by_homes t.homes)) (sym (turn_in-zero w (original w.program)) ∙ is)))
@@ -353,5 +354,5 @@ module _ (t : Installed) (built : IsBuilt t.class) (agrees : Agrees t.class t.ma
 
   pub start-step : IsStep t 0 (entered t (start_placed t))
   start-step =
-      started-by (has_room w t.main argument_array) refl
-      (turn_in-zero w (original w.program) ∙ start-is t.class t.main t.input (original w.program) built.small)
+      started-by (has_room w t.program.main argument_array) refl
+      (turn_in-zero w (original w.program) ∙ start-is (class_in t) w (original w.program) built.small of)

@@ -9,7 +9,7 @@ use Rattle.jvm_model.specs.declared.state.Frame.{Frame}
 use Rattle.jvm_model.specs.declared.state.State.{State}
 use Rattle.jvm_model.specs.Data.{Locals, Change, Turn}
 use Rattle.jvm_model.specs.Values.{as_value, with_value}
-use Rattle.jvm_model.specs.Methods.{method_params}
+use Rattle.jvm_model.specs.Programs.{params_of_method}
 use Rattle.jvm_model.specs.Rules.{invokes_with}
 use Rattle.jvm_model.specs.Applies.{with_frame, goes, resumes, gives_back, applies}
 use Rattle.jvm_model.specs.Attempts.{does_line, attempts, has_begun}
@@ -28,12 +28,12 @@ Becomes result s turn = OnOk result (s ≡ turn.after)
 
 -- what becomes of a state by what the line asks for
 abbrev pub flows : Installed → Line → Flow → State → Frame → Turn
-flows t line flow s f = applies (world_in t) (tabled t) (placed line) (outcome_of t.class flow f) s f
+flows t line flow s f = applies (world_in t) (tabled t) (placed line) (outcome_of t.program flow f) s f
 
 -- the line asks for this method
 abbrev pub invokes : Installed → Line → ℕ → State → Frame → Turn
 invokes t line method s f =
-    applies (world_in t) (tabled t) (placed line) (invokes_with method (method_params t.class method) f.operands) s f
+    applies (world_in t) (tabled t) (placed line) (invokes_with method (params_of_method t.program method) f.operands) s f
 
 -- the frame goes on at this place
 abbrev pub goes_to : Installed → State → Frame → ℕ → Option ℕ → State
@@ -52,7 +52,7 @@ abbrev pub gives_back_in : Installed → State → Option Datum → State
 gives_back_in t s d = gives_back (world_in t) (tabled t) s d s.stack
 
 abbrev pub param_count : Installed → ℕ → ℕ
-param_count t method = option_map_or length (method_params t.class method) 0
+param_count t method = option_map_or length (params_of_method t.program method) 0
 
 -- the callee stands on its caller, whose arguments are taken off
 abbrev pub with_callee : Installed → State → ℕ → Frame → Frame → State

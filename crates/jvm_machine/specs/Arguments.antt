@@ -7,8 +7,7 @@ use Rattle.const_pool.specs.declared.descriptor.Kind.{Kind}
 use Rattle.jvm_model.specs.declared.state.Frame.{Frame}
 use Rattle.jvm_model.specs.Data.{Locals, Operands}
 use Rattle.jvm_model.specs.Agreement.{first_place}
-use Rattle.jvm_model.specs.Methods.{method_params}
-use Rattle.jvm_model.specs.Programs.{max_locals_of}
+use Rattle.jvm_model.specs.Programs.{max_locals_of, params_of_method}
 use Rattle.jvm_model.specs.Values.{data_of}
 use Rattle.jvm_model.specs.Installed.{Installed, world_in}
 
@@ -37,8 +36,8 @@ abbrev pub topmost : List Kind → Operands → Option (List Value)
 topmost params o = let values = reverse (take (length params) o) in if is_some (data_of params values) then Some values else None
 
 abbrev pub callee_frame : Installed → ℕ → Operands → Option Frame
-callee_frame t method o = option_and_then (λ params. option_and_then (fitting_frame t method) (topmost params o)) (method_params t.class method)
+callee_frame t method o = option_and_then (λ params. option_and_then (fitting_frame t method) (topmost params o)) (params_of_method t.program method)
 
 -- the caller stays at its instruction without the arguments
 abbrev pub without_arguments : Installed → ℕ → Frame → Frame
-without_arguments t method f = record f { operands = drop (option_map_or length (method_params t.class method) 0) f.operands }
+without_arguments t method f = record f { operands = drop (option_map_or length (params_of_method t.program method) 0) f.operands }

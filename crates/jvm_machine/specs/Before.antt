@@ -1,10 +1,9 @@
--- The state before the start, of whatever class without fields.
-use Rattle.std.specs.Prelude.{◌≡◌, ℕ, List, []}
-use Rattle.const_pool.specs.declared.class.ClassFile.{ClassFile}
+-- The state before the start of a program, on whatever input.
+use Rattle.std.specs.Prelude.{ℕ, List}
+use Rattle.jvm_model.specs.declared.program.Program.{Program}
 use Rattle.jvm_model.specs.declared.state.State.{State}
-use Rattle.jvm_model.specs.Programs.{world_of}
 use Rattle.jvm_model.specs.Run.{before}
 
--- it holds of each such state
-abbrev pub BeforeEach : (State → Type 0) → Type 0
-BeforeEach Holds = (c : ClassFile) (main : ℕ) (input : List ℕ) → c.fields ≡ [] → Holds (before (world_of c main input))
+-- it holds of that state
+abbrev pub BeforeEach : Program → (State → Type 0) → Type 0
+BeforeEach p Holds = (input : List ℕ) → Holds (before (record { program = p; input = input }))

@@ -7,7 +7,9 @@ use Rattle.jvm_model.specs.declared.state.Entry.TheVariants.{Active}
 use Rattle.jvm_model.specs.Agreement.{Agrees}
 use Rattle.jvm_model.specs.Moved.{moved}
 use Rattle.jvm_model.specs.Run.{run}
-use Rattle.jvm_model.specs.StandsFor.{IsBuilt, by_homes}
+use Rattle.jvm_model.specs.StandsFor.{by_homes}
+use Rattle.jvm_model.specs.OneClass.{IsBuiltProgram}
+use Rattle.jvm_model.specs.Programs.{first_class}
 use Rattle.jvm_model.specs.Installed.{Installed}
 use Rattle.jvm_machine.specs.Moves.{leave_passed, rest_of}
 use Rattle.jvm_machine.specs.View.{View, Place, world, state_of, is_resting, events_now}
@@ -24,8 +26,7 @@ is_done t told s = told == 0 || is_none (leave_passed t.image s.stack)
 -- what a clause sees
 abbrev pub seen : Installed → State → ℕ → Bool → Bool → ℕ → View
 seen t s told started broken clock = record {
-  class = t.class;
-  main = t.main;
+  program = t.program;
   input = t.input;
   marks = t.marks;
   image = t.image;
@@ -43,7 +44,7 @@ abbrev pub finished : Installed → ℕ → State → State
 finished t told s = if told == 0 then s else rest_of t s
 
 abbrev pub installed_of : View → Installed
-installed_of v = record { class = v.class; main = v.main; input = v.input; marks = v.marks; image = v.image; homes = v.homes }
+installed_of v = record { program = v.program; input = v.input; marks = v.marks; image = v.image; homes = v.homes }
 
 -- what is shown of a state
 pub record Shown : Type 0 where
@@ -54,12 +55,12 @@ pub record Shown : Type 0 where
 abbrev pub shown_of : State → Shown
 shown_of s = record { output = s.output; ending = s.ending; live = length s.stack }
 
--- The class is built, and the versions agree with it. Unless memory has run out, the state is, once the step is done, the
+-- The program is of a built class, and the versions agree with it. Unless memory has run out, the state is, once the step is done, the
 -- run's with its frames at their homes; before its instruction is done it shows what the step before has shown; and the
 -- events of a step in hand were told. Before the start none is in hand.
 pub record IsRunning (v : View) (state : State) : Type 0 where
-  pub built : IsBuilt v.class
-  pub agrees : Agrees v.class v.marks v.image v.homes
+  pub built : IsBuiltProgram v.program
+  pub agrees : Agrees (first_class v.program) v.marks v.image v.homes
   pub stands : v.broken ≡ false → finished (installed_of v) v.told state ≡ moved (by_homes v.homes) (state_of v)
   pub waits : v.broken ≡ false → v.done ≡ false → shown_of state ≡ shown_of (run (world v) (v.clock - 1))
   pub told : v.broken ≡ false → is_resting v ≡ false → v.told ≡ length (events_now v)

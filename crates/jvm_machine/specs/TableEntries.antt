@@ -1,5 +1,5 @@
 -- What the tables hold of a method and of a version, and of which classes they can be made.
-use Rattle.std.specs.Prelude.{◌≡◌, ℕ, ◌<◌, ◌^◌, List, [], ◌∷◌, length, map, Option, Some, None, IfSome, All, if◌then◌else◌}
+use Rattle.std.specs.Prelude.{◌≡◌, ℕ, ◌<◌, ◌^◌, List, [], ◌∷◌, length, map, slice_get, Option, Some, None, IfSome, All, if◌then◌else◌}
 use Rattle.std.specs.Option.{option_and_then, option_map, option_map_or}
 use Rattle.std.specs.List.{range_with_len}
 use Rattle.const_pool.specs.declared.class.ClassFile.{ClassFile}
@@ -16,7 +16,10 @@ use Rattle.jvm_model.specs.declared.event.EventKind.{EventKind}
 use Rattle.jvm_model.specs.declared.operation.Line.{Line}
 use Rattle.jvm_model.specs.declared.operation.Resolved.{Resolved}
 use Rattle.jvm_model.specs.Agreement.{is_return_operation}
+use Rattle.jvm_model.specs.declared.program.MethodPlace.{MethodPlace}
+use Rattle.jvm_model.specs.declared.program.Program.{Program}
 use Rattle.jvm_model.specs.Methods.{code_of, member_shape}
+use Rattle.jvm_model.specs.Programs.{class_at}
 use Rattle.jvm_model.specs.StandsFor.{origin_by, code_line, placed_line, invoked_probe, pushed_number, probe_in}
 
 -- ---- of a method of the class
@@ -31,6 +34,16 @@ entry_of c m = record {
   max_stack = option_map_or (λ code. code.max_stack) (code_of m) 0;
   max_locals = option_map_or (λ code. code.max_locals) (code_of m) 0;
 }
+
+-- of a method by its place in the program; nothing where there is none
+abbrev pub no_method : Method
+no_method = record { params = None; max_stack = 0; max_locals = 0 }
+
+abbrev pub entry_in : MethodPlace → ClassFile → Method
+entry_in place c = option_map_or (entry_of c) (slice_get c.methods place.position) no_method
+
+abbrev pub entry_at : Program → MethodPlace → Method
+entry_at p place = option_map_or (entry_in place) (class_at p place.class) no_method
 
 -- ---- of a version of a method
 

@@ -6,8 +6,9 @@ use Rattle.jvm_model.specs.declared.event.Event.{Event}
 use Rattle.jvm_model.specs.declared.event.Mark.{Mark}
 use Rattle.jvm_model.specs.declared.event.Mark.TheVariants.{Off}
 use Rattle.jvm_model.specs.declared.state.State.{State}
+use Rattle.jvm_model.specs.declared.program.Program.{Program}
 use Rattle.jvm_model.specs.Data.{World}
-use Rattle.jvm_model.specs.Programs.{world_of}
+use Rattle.jvm_model.specs.Programs.{first_class}
 use Rattle.jvm_model.specs.EventLists.{step_events}
 use Rattle.jvm_model.specs.Run.{before, run}
 use Rattle.jvm_model.specs.StandsFor.{marking_of}
@@ -17,13 +18,12 @@ pub record Place : Type 0 where
   pub method : ℕ
   pub at : ℕ
 
--- A machine of a class, with the number of its main method and its input; the marks of the versions that it runs, their
--- image and homes. It has made the start, or not; memory has run out, or not; the clock is the number of steps begun
+-- A machine of a program, with its input; the marks of the versions of the first class's methods that it runs, their image and
+-- homes. It has made the start, or not; memory has run out, or not; the clock is the number of steps begun
 -- after the start; so many events of the step in hand were told; whether its instruction was done; and the current frame
 -- stands here.
 pub record View : Type 0 where
-  pub class : ClassFile
-  pub main : ℕ
+  pub program : Program
   pub input : List ℕ
   pub marks : List Mark
   pub image : ClassFile
@@ -36,14 +36,13 @@ pub record View : Type 0 where
   pub top : Option Place
 
 -- a machine that was just made: every version is the original
-abbrev pub made : ClassFile → ℕ → List ℕ → View
-made class main input = record {
-  class = class;
-  main = main;
+abbrev pub made : Program → List ℕ → View
+made program input = record {
+  program = program;
   input = input;
-  marks = map (λ m. Off) class.methods;
-  image = class;
-  homes = map (λ m. None) class.methods;
+  marks = map (λ m. Off) (first_class program).methods;
+  image = first_class program;
+  homes = map (λ m. None) (first_class program).methods;
   started = false;
   broken = false;
   clock = 0;
@@ -53,7 +52,7 @@ made class main input = record {
 }
 
 abbrev pub world : View → World
-world v = world_of v.class v.main v.input
+world v = record { program = v.program; input = v.input }
 
 -- the state that it stands for between steps: the run's after that many steps, and before the start nothing was done
 abbrev pub state_of : View → State

@@ -2,7 +2,8 @@
 
 ghost use Rattle.std.specs.Prelude.{◌≡◌, ◌^◌, ◌<◌, ◌&&◌, false, length, OnOk, OnErr, IfOk};
 ghost use Rattle.jvm_model.specs.Images.{IsImage};
-ghost use Rattle.jvm_model.specs.StandsFor.{IsBuilt};
+ghost use Rattle.jvm_model.specs.OneClass.{IsBuiltProgram};
+ghost use Rattle.jvm_model.specs.Programs.{first_class};
 ghost use Rattle.jvm_machine.specs.Advances.{Advances, broken_in};
 ghost use Rattle.jvm_machine.specs.Turns.{Turns, IsGoingOn};
 ghost use Rattle.jvm_machine.specs.View.{made, shown, live_of, with_image, is_resting, has_ended};
@@ -15,12 +16,12 @@ use crate::turn::Turn;
 use code_model::Homes;
 use const_pool::ClassFile;
 use jf_bytes::{NoMemory, Seq};
-use jvm_model::{Ending, Event, Mark, State};
+use jvm_model::{Ending, Event, Mark, Program, State};
 use std::alloc::Global;
 use std::marker::Model;
 
-/// A machine that runs a class (JVM Specification 2.6, 2.11, 5.2, 6). A clause sees what it runs and how far it has come;
-/// its output and ending are those of the run of the original class. Its frames stand at places of versions.
+/// A machine that runs a program whose first class is of the part that runs so far (JVM Specification 2.6, 2.11, 5.2, 6). A clause sees what it runs and how far it has come;
+/// its output and ending are those of the run of the original classes. Its frames stand at places of versions.
 #[derive(Drop)]
 pub struct Vm {
     alloc: Global,
@@ -44,13 +45,13 @@ impl Model for Vm {
 }
 
 impl Vm {
-    /// A machine that will run the class from the method with this number. It looks up every place of every code once.
-    pub fn new(alloc: Global, class: ClassFile, main: u16, input: Vec<u8>) -> Result<Vm, NoMemory>
-        requires { IsBuilt class }
-        ensures { IfOk result (λ vm. vm ≡ made class main input.items) }
+    /// A machine that will run the program from its main method. It looks up every place of every code of its first class once.
+    pub fn new(alloc: Global, program: Program, input: Vec<u8>) -> Result<Vm, NoMemory>
+        requires { IsBuiltProgram program }
+        ensures { IfOk result (λ vm. vm ≡ made program input.items) }
     {
-        let tables = Tables::new(alloc, class, u32::from(main), Seq::from_vec(input))?;
-        let state = state_before(alloc)?;
+        let state = state_before(alloc, &program)?;
+        let tables = Tables::new(alloc, program, Seq::from_vec(input))?;
         Ok(Vm {
             alloc,
             tables,
@@ -75,8 +76,8 @@ impl Vm {
         requires class { class ≡ 0 }
         requires early { self.old.started ≡ false }
         requires whole { self.old.broken ≡ false }
-        requires marks { length marks.now ≡ length self.old.class.methods }
-        requires image { IsImage self.old.class 0 marks.now image homes.now }
+        requires marks { length marks.now ≡ length (first_class self.old.program).methods }
+        requires image { IsImage (first_class self.old.program) 0 marks.now image homes.now }
         ensures ok { OnOk result (self.new ≡ with_image marks.now image homes.now self.old) }
         ensures err { OnErr result (self.new ≡ self.old) }
     {
@@ -150,9 +151,16 @@ impl Vm {
         self.clock
     }
 
-    /// The class that it runs, as it was given.
+    /// The program that it runs, as it was given.
+    pub fn program(&self) -> &Program
+        ensures { result.now ≡ self.now.program }
+    {
+        self.tables.program()
+    }
+
+    /// The program's first class, whose methods run.
     pub fn class(&self) -> &ClassFile
-        ensures { result.now ≡ self.now.class }
+        ensures { result.now ≡ first_class self.now.program }
     {
         self.tables.class()
     }

@@ -1,14 +1,15 @@
-//! What the machine keeps of each method of the class: its parameters and its limits.
+//! What the machine keeps of each method of the program: its parameters and its limits.
 
 ghost use Rattle.std.specs.Prelude.{◌≡◌, map, IfOk};
 ghost use Rattle.std.specs.Option.{option_copied};
 ghost use Rattle.jvm_model.specs.Methods.{code_of};
-ghost use Rattle.jvm_machine.specs.TableEntries.{params_of, entry_of};
+ghost use Rattle.jvm_machine.specs.TableEntries.{params_of, entry_of, no_method, entry_at};
 
 use crate::descriptor::shape_of;
 use crate::tables::Method;
 use const_pool::{Attribute, ClassFile, CodeAttribute, Kind, Member};
 use jf_bytes::{NoMemory, Seq};
+use jvm_model::{MethodPlace, Program};
 use std::alloc::Global;
 
 /// A method's code, where it has one.
@@ -59,13 +60,37 @@ fn prepare(alloc: Global, class: &ClassFile, member: &Member) -> Result<Method, 
     })
 }
 
-/// Prepares each method of a class, in order.
-pub fn prepare_methods(alloc: Global, class: &ClassFile) -> Result<Seq<Method>, NoMemory>
-    ensures { IfOk result (λ methods. methods ≡ map (entry_of class.now) class.now.methods) }
+/// Nothing, where a program has no method.
+fn no_method() -> Method
+    ensures { result ≡ no_method }
 {
-    let mut methods = Seq::with_capacity(alloc, class.methods.len())?;
-    for member in class.methods.as_slice() {
-        methods.push(prepare(alloc, class, member)?)?;
+    Method {
+        params: None,
+        max_stack: 0,
+        max_locals: 0,
+    }
+}
+
+/// Prepares the method at a place of a program.
+fn prepare_at(alloc: Global, program: &Program, place: MethodPlace) -> Result<Method, NoMemory>
+    ensures { IfOk result (λ method. method ≡ entry_at program.now place) }
+{
+    let Some(class) = program.classes.get(place.class as usize) else {
+        return Ok(no_method());
+    };
+    match class.methods.get(place.position as usize) {
+        Some(member) => prepare(alloc, class, member),
+        None => Ok(no_method()),
+    }
+}
+
+/// Prepares each method of a program, by its number.
+pub fn prepare_methods(alloc: Global, program: &Program) -> Result<Seq<Method>, NoMemory>
+    ensures { IfOk result (λ methods. methods ≡ map (entry_at program.now) program.now.methods) }
+{
+    let mut methods = Seq::with_capacity(alloc, program.methods.len())?;
+    for place in program.methods.as_slice() {
+        methods.push(prepare_at(alloc, program, *place)?)?;
     }
     Ok(methods)
 }

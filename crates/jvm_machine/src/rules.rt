@@ -1,7 +1,7 @@
 //! What each instruction asks for (JVM Specification 6.5), as the rules of jvm_model say it.
 
 ghost use Rattle.std.specs.Prelude.{◌≡◌, ◌∷◌, ◌++◌, OnOk, IfOk};
-ghost use Rattle.const_pool.specs.declared.class.ClassFile.{ClassFile};
+ghost use Rattle.jvm_model.specs.declared.program.Program.{Program};
 ghost use Rattle.jvm_model.specs.Rules.{line_text};
 ghost use Rattle.jvm_model.specs.LocalRules.{calculated};
 ghost use Rattle.jvm_model.specs.Attempts.{printed, writes};
@@ -31,7 +31,7 @@ fn push(frame: &mut Frame, value: Value) -> Result<(), NoMemory>
 
 /// iload: the local must hold an int.
 fn load_int(frame: &mut Frame, slot: u16) -> Result<Flow, NoMemory>
-    ensures outcome { Asks result frame.new (λ c. loads_int slot frame.old) }
+    ensures outcome { Asks result frame.new (λ p. loads_int slot frame.old) }
     ensures kept { IfOk result (λ flow. IsKept flow frame.old frame.new) }
 {
     let Some(Some(Value::Int(n))) = frame.locals.at(slot as usize) else {
@@ -53,7 +53,7 @@ fn calculate(op: IntOperator, a: i32, b: i32) -> i32
 
 /// An arithmetic instruction over two ints; the topmost operand is the second one.
 fn do_binary(frame: &mut Frame, op: IntOperator) -> Result<Flow, NoMemory>
-    ensures outcome { Asks result frame.new (λ c. calculates_in op frame.old) }
+    ensures outcome { Asks result frame.new (λ p. calculates_in op frame.old) }
     ensures kept { IfOk result (λ flow. IsKept flow frame.old frame.new) }
 {
     let Some((a, b)) = take_ints(&mut frame.operands) else {
@@ -65,7 +65,7 @@ fn do_binary(frame: &mut Frame, op: IntOperator) -> Result<Flow, NoMemory>
 
 /// ireturn.
 fn return_int(frame: &Frame) -> Flow
-    ensures { (c : ClassFile) → outcome_of c result frame.now ≡ returns_int frame.now }
+    ensures { (p : Program) → outcome_of p result frame.now ≡ returns_int frame.now }
 {
     match frame.operands.peek(0) {
         Some(Value::Int(n)) => Flow::Returns(Some(Datum::Int(n))),
@@ -84,7 +84,7 @@ fn write_line(alloc: Global, output: &mut Seq<u8>, n: i32) -> Result<(), NoMemor
 
 /// println(I)V: the receiver below the argument must be a PrintStream.
 fn println(alloc: Global, output: &mut Seq<u8>, frame: &mut Frame) -> Result<Flow, NoMemory>
-    ensures outcome { Asks result frame.new (λ c. asks_println_in frame.old) }
+    ensures outcome { Asks result frame.new (λ p. asks_println_in frame.old) }
     ensures written { OnOk result (output.new ≡ output.old ++ printed frame.old.operands) }
     ensures kept { IfOk result (λ flow. IsKept flow frame.old frame.new) }
 {
@@ -106,7 +106,7 @@ pub fn execute(
     frame: &mut Frame,
     operation: Resolved,
 ) -> Result<Flow, NoMemory>
-    ensures outcome { Asks result frame.new (λ c. asks_in c operation frame.old) }
+    ensures outcome { Asks result frame.new (λ p. asks_in p operation frame.old) }
     ensures written { OnOk result (output.new ≡ output.old ++ writes operation frame.old.operands) }
     ensures kept { IfOk result (λ flow. IsKept flow frame.old frame.new) }
 {

@@ -1,14 +1,13 @@
 //! A class with its methods and their versions prepared: what stands at each place is looked up once, and found by its
 //! place from then on.
 
-ghost use Rattle.std.specs.Prelude.{◌≡◌, None, IfOk, OnOk, OnErr};
+ghost use Rattle.std.specs.Prelude.{◌≡◌, ◌<◌, None, length, IfOk, OnOk, OnErr};
 ghost use Rattle.std.specs.Option.{option_copied};
 ghost use Rattle.jvm_model.specs.Agreement.{first_place, is_entry_kind, is_leave, is_leave_kind};
+ghost use Rattle.jvm_model.specs.Programs.{first_class, params_of_method};
 ghost use Rattle.jvm_model.specs.Programs.{max_stack_of, max_locals_of};
-ghost use Rattle.jvm_model.specs.SmallClass.{IsSmallClass};
 ghost use Rattle.jvm_model.specs.StandsFor.{probe_at, version_line};
-ghost use Rattle.jvm_model.specs.Methods.{method_params};
-ghost use Rattle.jvm_model.specs.Installed.{all_originals, world_in, line_in};
+ghost use Rattle.jvm_model.specs.Installed.{all_originals, class_in, world_in, line_in};
 ghost use Rattle.jvm_machine.specs.Prepared.{with_versions};
 ghost use Rattle.jvm_machine.specs.Probes.{placed_probe_at};
 ghost use Rattle.jvm_machine.specs.TableEntries.{FitsTables, FitsVersions};
@@ -20,7 +19,7 @@ use crate::versions::prepare_versions;
 use code_model::Homes;
 use const_pool::{ClassFile, Kind};
 use jf_bytes::{NoMemory, Seq};
-use jvm_model::{EventKind, Line, Mark};
+use jvm_model::{EventKind, Line, Mark, Program};
 use std::alloc::Global;
 use std::marker::Model;
 
@@ -47,6 +46,14 @@ fn is_leave_kind(kind: EventKind) -> bool
     }
 }
 
+/// The first class of a program that has one.
+fn first_class(program: &Program) -> &ClassFile
+    requires { 0 < length program.now.classes }
+    ensures { result.now ≡ first_class program.now }
+{
+    &program.classes.as_slice()[0]
+}
+
 /// What the machine keeps of a method: what it takes, and its limits.
 #[derive(Debug, Drop)]
 pub struct Method {
@@ -62,15 +69,14 @@ pub struct PreparedVersion {
     pub probes: Seq<Option<Probe>>,
 }
 
-/// A class and its versions, ready to run. A clause sees the class, the marks, the image and its homes.
+/// A program and the versions of its first class, ready to run. A clause sees the program, the marks, the image and its homes.
 #[derive(Debug, Drop)]
 pub struct Tables {
-    class: ClassFile,
-    main: u32,
+    program: Program,
     input: Seq<u8>,
     methods: Seq<Method>,
     marks: Seq<Mark>,
-    /// None where it is the class itself.
+    /// None where it is the first class itself.
     image: Option<ClassFile>,
     homes: Seq<Option<Homes>>,
     versions: Seq<PreparedVersion>,
@@ -82,30 +88,25 @@ impl Model for Tables {
 
     ghost Value = { Installed };
 
-    ghost view = { λ t. installed_by t.class t.main t.input t.marks t.image t.homes };
+    ghost view = { λ t. installed_by t.program t.input t.marks t.image t.homes };
 
-    ghost invariant = { λ t. AreReady t.class t.image t.homes t.methods t.versions };
+    ghost invariant = { λ t. AreReady t.program t.image t.homes t.methods t.versions };
 }
 
 impl Tables {
-    /// Prepares a class, each version of which is the original.
-    pub fn new(
-        alloc: Global,
-        class: ClassFile,
-        main: u32,
-        input: Seq<u8>,
-    ) -> Result<Tables, NoMemory>
-        requires fits { FitsTables class }
-        requires small { IsSmallClass class }
-        ensures { IfOk result (λ tables. tables ≡ all_originals class main input) }
+    /// Prepares a program, each version of which is the original.
+    pub fn new(alloc: Global, program: Program, input: Seq<u8>) -> Result<Tables, NoMemory>
+        requires some { 0 < length program.classes }
+        requires fits { FitsTables (first_class program) }
+        ensures { IfOk result (λ tables. tables ≡ all_originals program input) }
     {
-        let methods = prepare_methods(alloc, &class)?;
+        let methods = prepare_methods(alloc, &program)?;
+        let class = first_class(&program);
         let marks = no_marks(alloc, class.methods.as_slice())?;
         let homes = no_homes(alloc, class.methods.as_slice())?;
-        let versions = prepare_versions(alloc, &class, homes.as_slice())?;
+        let versions = prepare_versions(alloc, class, homes.as_slice())?;
         Ok(Tables {
-            class,
-            main,
+            program,
             input,
             methods,
             marks,
@@ -137,17 +138,24 @@ impl Tables {
         Ok(())
     }
 
-    pub fn class(&self) -> &ClassFile
-        ensures { result.now ≡ self.now.class }
+    pub fn program(&self) -> &Program
+        ensures { result.now ≡ self.now.program }
     {
-        &self.class
+        &self.program
+    }
+
+    /// The class whose methods run.
+    pub fn class(&self) -> &ClassFile
+        ensures { result.now ≡ class_in self.now }
+    {
+        first_class(&self.program)
     }
 
     /// The number of the main method.
     pub fn main(&self) -> u32
-        ensures { result ≡ self.now.main }
+        ensures { result ≡ self.now.program.main }
     {
-        self.main
+        self.program.main
     }
 
     /// What stands at a place of a method's version, by two look-ups.
@@ -218,7 +226,7 @@ impl Tables {
 
     /// What a method takes, where it has a descriptor of the built part.
     pub fn params(&self, method: u32) -> Option<&Seq<Kind>>
-        ensures { option_copied result ≡ method_params self.now.class method }
+        ensures { option_copied result ≡ params_of_method self.now.program method }
     {
         self.methods.get(method as usize)?.params.as_ref()
     }

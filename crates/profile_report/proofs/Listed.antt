@@ -5,7 +5,7 @@ use Rattle.std.specs.Option.{option_map_or}
 use Rattle.std.proofs.lemmas.Grind.{flat_map-append}
 use Rattle.std.proofs.lemmas.List.{append_assoc, flat_map_more, take_all, take_more}
 use Rattle.std.proofs.lemmas.Option.{get_or_from_slice_get, slice_get_within}
-use Rattle.const_pool.specs.declared.class.ClassFile.{ClassFile}
+use Rattle.jvm_model.specs.declared.program.Program.{Program}
 use Rattle.jvm_model.specs.Paths.{Context}
 use Rattle.context_tree.specs.Profiles.{children_of, is_child, last_method, path_of_node, total_of}
 use Rattle.profile_report.specs.Nodes.{lines_below, lines_from, node_line}
@@ -16,34 +16,34 @@ flat_map-flat_map : {X Y A : Type 0} (f : Y → List A) (g : X → List Y) (xs :
 flat_map-flat_map f g [] = refl
 flat_map-flat_map f g (x ∷ xs) = flat_map-append f (g x) (flat_map g xs) ∙ ap (λ t. flat_map f (g x) ++ t) (flat_map-flat_map f g xs)
 
-module _ (class : ClassFile) (contexts : List Context) where
+module _ (program : Program) (contexts : List Context) where
   -- the line of a node at its own level
-  node_line-context : (path : List ℕ) (i : ℕ) (c : Context) → slice_get contexts i ≡ Some c → is_child path c ≡ true → node_line class contexts (length path) i ≡ context_line class contexts c
+  node_line-context : (path : List ℕ) (i : ℕ) (c : Context) → slice_get contexts i ≡ Some c → is_child path c ≡ true → node_line program contexts (length path) i ≡ context_line program contexts c
   node_line-context path i c found is =
       let level : length path ≡ length c.path - 1 = omega (arith, length-child path c is) in
-      ap (λ o. option_map_or (λ (d : Context). line_text class (length path) d.calls d.own (total_of d.path contexts) (last_method d.path)) o []) found
-      ∙ ap (λ l. line_text class l c.calls c.own (total_of c.path contexts) (last_method c.path)) level
+      ap (λ o. option_map_or (λ (d : Context). line_text program (length path) d.calls d.own (total_of d.path contexts) (last_method d.path)) o []) found
+      ∙ ap (λ l. line_text program l c.calls c.own (total_of c.path contexts) (last_method c.path)) level
 
   pub lines_below-listed : (levels : ℕ) (from : Option ℕ)
-      → lines_below class contexts levels (length (path_of_node from contexts)) from ≡ flat_map (context_line class contexts) (listed levels contexts (path_of_node from contexts))
+      → lines_below program contexts levels (length (path_of_node from contexts)) from ≡ flat_map (context_line program contexts) (listed levels contexts (path_of_node from contexts))
   lines_below-listed zero from = refl
   lines_below-listed (suc levels) from =
       let path : List ℕ = path_of_node from contexts in
       flat_map-numbers path
-      (λ i. node_line class contexts (length path) i ++ lines_below class contexts levels (length path + 1) (Some i))
-      (λ c. flat_map (context_line class contexts) (c ∷ listed levels contexts c.path))
+      (λ i. node_line program contexts (length path) i ++ lines_below program contexts levels (length path + 1) (Some i))
+      (λ c. flat_map (context_line program contexts) (c ∷ listed levels contexts c.path))
       0 contexts
       (λ k c found is.
       let first : 0 + k ≡ k = omega arith in
       let there : path_of_node (Some k) contexts ≡ c.path = ap (λ o. option_map_or (λ (d : Context). d.path) o []) found in
       let deeper : length path + 1 ≡ length (path_of_node (Some k) contexts) = sym (ap length there ∙ length-child path c is) in
-      ap (λ i. node_line class contexts (length path) i ++ lines_below class contexts levels (length path + 1) (Some i)) first
-      ∙ ap (λ t. t ++ lines_below class contexts levels (length path + 1) (Some k)) (node_line-context path k c found is)
-      ∙ ap (λ t. context_line class contexts c ++ t)
-      (ap (λ l. lines_below class contexts levels l (Some k)) deeper
+      ap (λ i. node_line program contexts (length path) i ++ lines_below program contexts levels (length path + 1) (Some i)) first
+      ∙ ap (λ t. t ++ lines_below program contexts levels (length path + 1) (Some k)) (node_line-context path k c found is)
+      ∙ ap (λ t. context_line program contexts c ++ t)
+      (ap (λ l. lines_below program contexts levels l (Some k)) deeper
       ∙ lines_below-listed levels (Some k)
-      ∙ ap (λ p. flat_map (context_line class contexts) (listed levels contexts p)) there))
-      ∙ sym (flat_map-flat_map (context_line class contexts) (λ (c : Context). c ∷ listed levels contexts c.path) (below contexts path))
+      ∙ ap (λ p. flat_map (context_line program contexts) (listed levels contexts p)) there))
+      ∙ sym (flat_map-flat_map (context_line program contexts) (λ (c : Context). c ∷ listed levels contexts c.path) (below contexts path))
 
 -- ---- the loop over the children of a node
 
@@ -75,22 +75,22 @@ past_end (i ∷ children) zero h = cc
 past_end (i ∷ children) (suc place) h = let rest : length children ≤ place = past_end children place h in omega (arith, rest)
 
 -- all children
-pub all_done : (class : ClassFile) (contexts : List Context) (level : ℕ) (from : Option ℕ) (place : ℕ) (o x : List ℕ) → level < length contexts
+pub all_done : (program : Program) (contexts : List Context) (level : ℕ) (from : Option ℕ) (place : ℕ) (o x : List ℕ) → level < length contexts
     → None ≡ slice_get (children_of (path_of_node from contexts) contexts) place
-    → x ≡ o ++ flat_map (lines_from class contexts (length contexts - (level + 1)) level) (take place (children_of (path_of_node from contexts) contexts))
-    → x ≡ o ++ lines_below class contexts (length contexts - level) level from
-all_done class contexts level from place o x deep found p =
+    → x ≡ o ++ flat_map (lines_from program contexts (length contexts - (level + 1)) level) (take place (children_of (path_of_node from contexts) contexts))
+    → x ≡ o ++ lines_below program contexts (length contexts - level) level from
+all_done program contexts level from place o x deep found p =
     let children : List ℕ = children_of (path_of_node from contexts) contexts in
     let levels : length contexts - level ≡ suc (length contexts - (level + 1)) = omega (arith, deep) in
-    p ∙ ap (λ l. o ++ flat_map (lines_from class contexts (length contexts - (level + 1)) level) l) (take_all place children (past_end children place (sym found)))
-    ∙ ap (λ n. o ++ lines_below class contexts n level from) (sym levels)
+    p ∙ ap (λ l. o ++ flat_map (lines_from program contexts (length contexts - (level + 1)) level) l) (take_all place children (past_end children place (sym found)))
+    ∙ ap (λ n. o ++ lines_below program contexts n level from) (sym levels)
 
 -- the whole tree
-pub whole_tree : (class : ClassFile) (contexts : List Context) (o x y : List ℕ) → x ≡ o ++ codes "tree\n"
-    → y ≡ x ++ lines_below class contexts (length contexts - 0) 0 None → y ≡ o ++ tree_text class contexts
-whole_tree class contexts o x y p q =
+pub whole_tree : (program : Program) (contexts : List Context) (o x y : List ℕ) → x ≡ o ++ codes "tree\n"
+    → y ≡ x ++ lines_below program contexts (length contexts - 0) 0 None → y ≡ o ++ tree_text program contexts
+whole_tree program contexts o x y p q =
     let levels : length contexts - 0 ≡ length contexts = omega arith in
-    q ∙ ap (λ t. t ++ lines_below class contexts (length contexts - 0) 0 None) p
-    ∙ append_assoc o (codes "tree\n") (lines_below class contexts (length contexts - 0) 0 None)
-    ∙ ap (λ n. o ++ (codes "tree\n" ++ lines_below class contexts n 0 None)) levels
-    ∙ ap (λ t. o ++ (codes "tree\n" ++ t)) (lines_below-listed class contexts (length contexts) None)
+    q ∙ ap (λ t. t ++ lines_below program contexts (length contexts - 0) 0 None) p
+    ∙ append_assoc o (codes "tree\n") (lines_below program contexts (length contexts - 0) 0 None)
+    ∙ ap (λ n. o ++ (codes "tree\n" ++ lines_below program contexts n 0 None)) levels
+    ∙ ap (λ t. o ++ (codes "tree\n" ++ t)) (lines_below-listed program contexts (length contexts) None)

@@ -1,14 +1,13 @@
 //! Names of methods and classes.
 
-ghost use Rattle.std.specs.Prelude.{◌≡◌, ◌++◌, [], unwrap_or, slice_get, OnOk};
+ghost use Rattle.std.specs.Prelude.{◌≡◌, ◌++◌, OnOk};
 ghost use Rattle.std.specs.Option.{option_copied};
-ghost use Rattle.const_pool.specs.BuiltIn.{built_in_names};
-ghost use Rattle.profile_report.specs.Reports.{class_text, method_text};
+ghost use Rattle.profile_report.specs.Reports.{class_text, member_text, method_text};
 ghost use Rattle.profile_report.specs.Shown.{shown};
 
-use base_classes::built_in_name;
 use const_pool::ClassFile;
 use jf_bytes::{NoMemory, Text16, to_utf8};
+use jvm_model::Program;
 use std::alloc::Global;
 
 /// Adds a text that the pool may have, in UTF-8.
@@ -22,38 +21,53 @@ fn push_text(alloc: Global, out: &mut Vec<u8>, text: Option<&Text16>) -> Result<
     Ok(())
 }
 
-/// Adds a method: its class, a dot, its name and its descriptor.
-pub fn push_method(
+/// Adds the method at a position of a class: the class, a dot, its name and its descriptor.
+fn push_member(
     alloc: Global,
     out: &mut Vec<u8>,
     class: &ClassFile,
-    method: u32,
+    position: u16,
 ) -> Result<(), NoMemory>
-    ensures { OnOk result (out.new.items ≡ out.old.items ++ method_text class.now method) }
+    ensures { OnOk result (out.new.items ≡ out.old.items ++ member_text class.now position) }
 {
     push_text(alloc, out, class.pool.class_name(class.this_class).ok())?;
     out.push(b'.')?;
-    let Some(method) = class.methods.get(method as usize) else {
+    let Some(method) = class.methods.get(position as usize) else {
         return Ok(());
     };
     push_text(alloc, out, class.pool.text(method.name).ok())?;
     push_text(alloc, out, class.pool.text(method.descriptor).ok())
 }
 
-/// Adds the name of the class with this number: 0 is the program's own, and the built-in ones are counted from 1.
+/// Adds the method with this number.
+pub fn push_method(
+    alloc: Global,
+    out: &mut Vec<u8>,
+    program: &Program,
+    method: u32,
+) -> Result<(), NoMemory>
+    ensures { OnOk result (out.new.items ≡ out.old.items ++ method_text program.now method) }
+{
+    let Some(place) = program.methods.get(method as usize) else {
+        return Ok(());
+    };
+    let Some(class) = program.classes.get(place.class as usize) else {
+        return Ok(());
+    };
+    push_member(alloc, out, class, place.position)
+}
+
+/// Adds the name of the class at this position.
 pub fn push_class(
     alloc: Global,
     out: &mut Vec<u8>,
-    class: &ClassFile,
-    number: u32,
+    program: &Program,
+    position: u32,
 ) -> Result<(), NoMemory>
-    ensures { OnOk result (out.new.items ≡ out.old.items ++ class_text class.now number) }
+    ensures { OnOk result (out.new.items ≡ out.old.items ++ class_text program.now position) }
 {
-    if number == 0 {
-        return push_text(alloc, out, class.pool.class_name(class.this_class).ok());
-    }
-    if let Some(name) = built_in_name(number as usize - 1) {
-        out.extend_from_slice(name.as_bytes())?;
-    }
-    Ok(())
+    let Some(class) = program.classes.get(position as usize) else {
+        return Ok(());
+    };
+    push_text(alloc, out, class.pool.class_name(class.this_class).ok())
 }

@@ -7,9 +7,9 @@ ghost use Rattle.profile_report.specs.Reports.{Adds, counts_text, tree_text};
 
 use crate::names::push_method;
 use crate::numbers::push_number;
-use const_pool::ClassFile;
 use context_tree::{Node, Tree};
 use jf_bytes::NoMemory;
+use jvm_model::Program;
 use std::alloc::Global;
 
 /// Adds two spaces for each level.
@@ -39,16 +39,16 @@ fn push_counts(out: &mut Vec<u8>, calls: u64, own: u64, total: u64) -> Result<()
 fn push_line(
     alloc: Global,
     out: &mut Vec<u8>,
-    class: &ClassFile,
+    program: &Program,
     level: usize,
     node: Node,
     total: u64,
 ) -> Result<(), NoMemory>
-    ensures { OnOk result (out.new.items ≡ out.old.items ++ node_text class.now level node total) }
+    ensures { OnOk result (out.new.items ≡ out.old.items ++ node_text program.now level node total) }
 {
     push_indent(out, level)?;
     push_counts(out, node.calls, node.own, total)?;
-    push_method(alloc, out, class, node.method)?;
+    push_method(alloc, out, program, node.method)?;
     out.push(b'\n')?;
     Ok(())
 }
@@ -57,7 +57,7 @@ fn push_line(
 fn push_node(
     alloc: Global,
     out: &mut Vec<u8>,
-    class: &ClassFile,
+    program: &Program,
     tree: &Tree,
     totals: &[u64],
     level: usize,
@@ -65,17 +65,17 @@ fn push_node(
 ) -> Result<(), NoMemory>
     requires within { number < length tree.now.contexts }
     requires totals { totals.now ≡ totals_of tree.now }
-    ensures { Adds result out.old.items out.new.items (tree_line class.now tree.now level number) }
+    ensures { Adds result out.old.items out.new.items (tree_line program.now tree.now level number) }
 {
     let node = tree.nodes()[number];
-    push_line(alloc, out, class, level, node, totals[number])
+    push_line(alloc, out, program, level, node, totals[number])
 }
 
 /// Adds the lines of all nodes below one, each before those below it. The first are at this level.
 fn push_below(
     alloc: Global,
     out: &mut Vec<u8>,
-    class: &ClassFile,
+    program: &Program,
     tree: &Tree,
     totals: &[u64],
     level: usize,
@@ -83,7 +83,7 @@ fn push_below(
 ) -> Result<(), NoMemory>
     requires within { IfSome node (λ i. i < length tree.now.contexts) }
     requires totals { totals.now ≡ totals_of tree.now }
-    ensures { Adds result out.old.items out.new.items (tree_lines class.now tree.now level node) }
+    ensures { Adds result out.old.items out.new.items (tree_lines program.now tree.now level node) }
 {
     // No path is longer than there are nodes, and so no node is deeper.
     let count = tree.nodes().len();
@@ -92,8 +92,8 @@ fn push_below(
     }
     let mut place = 0;
     while let Some(child) = tree.child(node, place) {
-        push_node(alloc, out, class, tree, totals, level, child)?;
-        push_below(alloc, out, class, tree, totals, level + 1, Some(child))?;
+        push_node(alloc, out, program, tree, totals, level, child)?;
+        push_below(alloc, out, program, tree, totals, level + 1, Some(child))?;
         place += 1;
     }
     Ok(())
@@ -103,13 +103,13 @@ fn push_below(
 pub fn push_tree(
     alloc: Global,
     out: &mut Vec<u8>,
-    class: &ClassFile,
+    program: &Program,
     tree: &Tree,
 ) -> Result<(), NoMemory>
-    ensures { OnOk result (out.new.items ≡ out.old.items ++ tree_text class.now tree.now.contexts) }
+    ensures { OnOk result (out.new.items ≡ out.old.items ++ tree_text program.now tree.now.contexts) }
 {
     let totals = tree.totals(alloc)?;
     out.extend_from_slice(b"tree\n")?;
-    push_below(alloc, out, class, tree, totals.as_slice(), 0, None)?;
+    push_below(alloc, out, program, tree, totals.as_slice(), 0, None)?;
     Ok(())
 }

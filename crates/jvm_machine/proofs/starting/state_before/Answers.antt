@@ -4,6 +4,6 @@ use Rattle.jvm_model.specs.declared.state.State.{State}
 use Rattle.jvm_machine.proofs.starting.state_before.Goals as goal
 
 pub returns : goal.returns
-returns c = λ c' main input e.
+returns c = λ input.
     rw c.new.ensures (rw c.new-2.ensures (ap (λ (s : Shared). let state : State = record { stack = []; thrown = None; begun = false; shared = s; output = []; ending = None } in state)
-    (c.in_ok-shared_before.ensures c' main input e)))
+    c.in_ok-shared_before.ensures))

@@ -17,10 +17,10 @@ pub loop-child-preserved : goal.loop-child-preserved
 loop-child-preserved t c =
     let contexts = c.args.tree.now.contexts in
     let levels = length contexts - (c.args.level + 1) in
-    one_more (lines_from c.args.class.now contexts levels c.args.level) _ _ _ _ _ _ _ _ _
+    one_more (lines_from c.args.program.now contexts levels c.args.level) _ _ _ _ _ _ _ _ _
     c.in-Some.ensures.child c.loop-child.invariant c.in_ok-push_node.ensures c.in_ok-push_below.ensures refl
 
 pub returns : goal.returns
 returns t c =
     let deep : c.args.level < length c.args.tree.now.contexts = omega arith in
-    all_done c.args.class.now c.args.tree.now.contexts c.args.level c.args.node _ _ _ deep c.in_default.ensures.child c.loop-child.invariant
+    all_done c.args.program.now c.args.tree.now.contexts c.args.level c.args.node _ _ _ deep c.in_default.ensures.child c.loop-child.invariant

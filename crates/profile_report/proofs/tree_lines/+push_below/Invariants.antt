@@ -12,7 +12,7 @@ decreases-push_below l = length l.tree.now.contexts - l.level
 abbrev pub invariant-loop-child : goal.invariant-loop-child
 invariant-loop-child l =
     l.out.items ≡ l.fn.out.items
-    ++ flat_map (lines_from l.class l.tree.contexts (length l.tree.contexts - (l.level + 1)) l.level) (take l.place (children_of (path_of_node l.node l.tree.contexts) l.tree.contexts))
+    ++ flat_map (lines_from l.program l.tree.contexts (length l.tree.contexts - (l.level + 1)) l.level) (take l.place (children_of (path_of_node l.node l.tree.contexts) l.tree.contexts))
 
 abbrev pub decreases-loop-child : goal.decreases-loop-child
 decreases-loop-child l = length (children_of (path_of_node l.node l.tree.contexts) l.tree.contexts) - l.place

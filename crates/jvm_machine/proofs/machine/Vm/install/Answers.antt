@@ -2,6 +2,7 @@ use Rattle.std.proofs.Common.{◌≡◌, false, ap, sym, ◌∙◌, subst}
 use Rattle.std.specs.Prelude.{length}
 use Rattle.const_pool.specs.declared.class.ClassFile.{ClassFile}
 use Rattle.jvm_model.specs.Images.{IsImage}
+use Rattle.jvm_model.specs.Programs.{first_class}
 use Rattle.jvm_model.specs.StandsFor.{IsBuilt}
 use Rattle.jvm_machine.specs.View.{View}
 use Rattle.jvm_machine.proofs.Images.{FitsVersions-image}
@@ -10,12 +11,12 @@ use Rattle.jvm_machine.proofs.machine.Vm.install.Goals as goal
 
 pub install-requires : goal.install-requires
 install-requires c =
-    let class : c.self.inside.tables.class ≡ c.args.self.now.class = ap (λ (v : View). v.class) c.self.view_is in
-    FitsVersions-image c.args.self.now.class c.args.marks.now c.args.image c.args.homes.now (subst IsBuilt class c.self.invariant.built) c.requires.image
+    let class : first_class c.self.inside.tables.program ≡ first_class c.args.self.now.program = ap (λ (v : View). first_class v.program) c.self.view_is in
+    FitsVersions-image (first_class c.args.self.now.program) c.args.marks.now c.args.image c.args.homes.now (subst IsBuilt class c.self.invariant.built.class) c.requires.image
 
 pub invariant_of-self : goal.invariant_of-self
 invariant_of-self c =
-    let class : c.args.self.now.class ≡ c.self.inside.tables.class = ap (λ (v : View). v.class) (sym c.self.view_is) in
+    let class : first_class c.args.self.now.program ≡ first_class c.self.inside.tables.program = ap (λ (v : View). first_class v.program) (sym c.self.view_is) in
     let started : c.self.inside.started ≡ false = ap (λ (v : View). v.started) c.self.view_is ∙ c.requires.early in
     let whole : c.self.inside.broken ≡ false = ap (λ (v : View). v.broken) c.self.view_is ∙ c.requires.whole in
     is_installed c.install.result c.self.inside.tables c.install.new.self c.self.inside.state c.self.inside.told c.self.inside.started c.self.inside.broken c.self.inside.clock
