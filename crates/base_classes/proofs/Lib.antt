@@ -1,7 +1,7 @@
 pub mod Computed
 mod Groups
 mod WellFormed
-mod NameLemmas
+pub mod NameLemmas
 mod NativeLemmas
 mod NativeNumbers
 mod Sound

@@ -3,7 +3,6 @@ use Rattle.std.proofs.Common.{◌≡◌, ℕ, ◌<◌, true, false, List, length
 use Rattle.std.specs.Prelude.{◌⊎◌, Result, Ok, Err, IfOk, IfErr, IsOk, OnOk, MatchResult}
 use Rattle.std.specs.Option.{option_and_then}
 use Rattle.jf_bytes.specs.Streams.{Rose}
-use Rattle.const_pool.specs.declared.class.ClassFile.{ClassFile}
 use Rattle.jvm_model.proofs.Growth.{ending-earlier}
 use Rattle.jvm_model.specs.Originals.{original}
 use Rattle.jvm_machine.specs.View.{View, world}
@@ -18,7 +17,9 @@ use Rattle.jfluid_cli.specs.Stages.{IsStopped}
 use Rattle.small_program.specs.Admission.{Runs}
 use Rattle.jfluid_cli.specs.Asking.{asked_by}
 use Rattle.jfluid_cli.specs.Runs.{IsCarriedOut, SameProgram, StopCause, is_ended_at}
-use Rattle.jvm_model.specs.StandsFor.{IsBuilt}
+use Rattle.jvm_model.specs.declared.program.Program.{Program}
+use Rattle.jvm_model.specs.OneClass.{IsBuiltProgram}
+use Rattle.jvm_model.specs.Programs.{first_class}
 use Rattle.jfluid_cli.specs.Selections.{IsSelected, marks_for}
 use Rattle.jfluid_cli.specs.Top.{answer_for, report_of, reported_of, root_of, root_of_answer}
 use Rattle.jfluid_cli.specs.Words.{Command, command_of}
@@ -65,15 +66,15 @@ run-answer (Err r) outcome s budget text k ok untold why carried cause =
 -- ---- the root of the words
 
 -- what is reported for the root of an admitted program is what is reported of the words
-pub root-reported : (words : List (List ℕ)) (command : Command) (main : ℕ) (root : Option ℕ)
-    (class : ClassFile) (v : View) → command_of words ≡ Some command
-    → Runs (answer_for (asked_by command) class) class main root → v.class ≡ class
-    → report_of root v ≡ reported_of words v
-root-reported words command main root class v commanded runs same =
-    let is : root_of words v.class ≡ root =
-    ap (option_and_then (λ (k : Command). root_of_answer (answer_for (asked_by k) v.class)))
-    commanded
-    ∙ (ap (λ (c : ClassFile). root_of_answer (answer_for (asked_by command) c)) same
+pub root-reported : (words : List (List ℕ)) (command : Command) (root : Option ℕ)
+    (program : Program) (v : View) → command_of words ≡ Some command
+    → Runs (answer_for (asked_by command) (first_class program)) (first_class program) program root
+    → v.program ≡ program → report_of root v ≡ reported_of words v
+root-reported words command root program v commanded runs same =
+    let is : root_of words (first_class v.program) ≡ root =
+    ap (option_and_then (λ (k : Command). root_of_answer
+    (answer_for (asked_by k) (first_class v.program)))) commanded
+    ∙ (ap (λ (p : Program). root_of_answer (answer_for (asked_by command) (first_class p))) same
     ∙ (ap root_of_answer runs.admitted ∙ runs.root_is)) in
     ap (λ (o : Option ℕ). report_of o v) (sym is)
 
@@ -81,7 +82,9 @@ root-reported words command main root class v commanded runs same =
 pub selected-later : (root : Option ℕ) (from v : View) → SameProgram from v → IsSelected root from
     → IsSelected root v
 selected-later root from v same is = record {
-  built = subst IsBuilt (sym same.class) is.built;
-  known = λ k e. subst (λ (c : ClassFile). k < length c.methods) (sym same.class) (is.known k e);
-  marks = same.marks ∙ (is.marks ∙ ap (λ (c : ClassFile). marks_for c root) (sym same.class));
+  built = subst IsBuiltProgram (sym same.program) is.built;
+  known = λ k e. subst (λ (p : Program). k < length (first_class p).methods) (sym same.program)
+      (is.known k e);
+  marks = same.marks
+      ∙ (is.marks ∙ ap (λ (p : Program). marks_for (first_class p) root) (sym same.program));
 }

@@ -5,8 +5,8 @@ use Rattle.std.specs.Option.{option_map, option_map_or}
 use Rattle.jf_bytes.specs.Streams.{Told, HasTold, PutsFront}
 use Rattle.jf_bytes.specs.Unicode.{utf16_of}
 use Rattle.plan_text.specs.Roots.{slashed}
-use Rattle.const_pool.specs.declared.class.ClassFile.{ClassFile}
-use Rattle.jvm_model.specs.Programs.{world_of}
+use Rattle.jvm_model.specs.declared.program.Program.{Program}
+use Rattle.jvm_model.specs.Programs.{first_class}
 use Rattle.jvm_model.specs.Run.{output_of}
 use Rattle.jvm_machine.specs.View.{View}
 use Rattle.jfluid_cli.specs.declared.kept.Kept.{Kept}
@@ -19,7 +19,7 @@ use Rattle.jfluid_cli.specs.Sinks.{IsUntold}
 use Rattle.jfluid_cli.specs.Stages.{IsEarly, IsLoaded, HasFetchCause, is_early, IsStopped, IsSameRun, IsCarried}
 use Rattle.jfluid_cli.specs.Origins.{HasOrigin, IsOnlyProgram}
 use Rattle.jfluid_cli.specs.Refusals.{status_of}
-use Rattle.jfluid_cli.specs.Runs.{PutsAtMost, SameProgram, IsCarriedOut, output_at}
+use Rattle.jfluid_cli.specs.Runs.{PutsAtMost, SameProgram, IsCarriedOut, output_at, world_on}
 use Rattle.jfluid_cli.specs.Selections.{IsSelected, RunsProgram}
 use Rattle.jfluid_cli.specs.Top.{HasNoProgram, IsProgram, file_word, report_of, reported_of}
 use Rattle.jfluid_cli.specs.Words.{Command, Options, command_of, options_of, budget_of, is_class_file}
@@ -81,9 +81,9 @@ file-word (program ∷ main ∷ file ∷ more) k e =
 
 -- what is accepted is no file without a program
 pub not-accepted : (g : Given) (k : Command) → g.asked ≡ Some k
-    → HasTold g.told k.file (HasNoProgram (asked_by k)) → (class : ClassFile) (main : ℕ)
-    → IsAccepted g class main → ⊥
-not-accepted g k asked none class main a =
+    → HasTold g.told k.file (HasNoProgram (asked_by k)) → (program : Program)
+    → IsAccepted g program → ⊥
+not-accepted g k asked none program a =
     let both : (let o : Option Command = Some k in o ≡ Some a.command) = sym asked
     ∙ a.accepts.asked in
     let same : k ≡ a.command = cc in
@@ -93,7 +93,7 @@ not-accepted g k asked none class main a =
     subst (λ (t : Option Told). HasTold t a.command.file
     (HasNoProgram (asked_by a.command))) a.telling has in
     subst (λ (o : Option (List ℕ)). IsSomeAnd o (HasNoProgram (asked_by a.command)))
-    a.told_as files class main a.root a.program
+    a.told_as files program a.root a.program_is
 
 -- ---- want of memory
 
@@ -120,20 +120,18 @@ some-kept (Some k) P has = (k, refl, has)
 
 outputs-same : (v w : View) (n m : ℕ) → SameProgram v w → n ≡ m → output_at v n ≡ output_at w m
 outputs-same v w n m same at =
-    ap (λ (c : ClassFile). output_of (world_of c v.main v.input) n) (sym same.class)
-    ∙ (ap (λ (k : ℕ). output_of (world_of w.class k v.input) n) (sym same.main)
-    ∙ (ap (λ (i : List ℕ). output_of (world_of w.class w.main i) n) (sym same.input)
-    ∙ ap (output_at w) at))
+    ap (λ (p : Program). output_of (world_on p v.input) n) (sym same.program)
+    ∙ (ap (λ (i : List ℕ). output_of (world_on w.program i) n) (sym same.input)
+    ∙ ap (output_at w) at)
 
 -- what is known of a machine that was made
 pub record IsMade (c : Call) (command : Command) (root : Option ℕ) (made : Kept) : Type 0 where
   pub commanded : command_of c.words ≡ Some command
   pub fine : IsFine command
   pub bytes : List ℕ
-  pub class : ClassFile
-  pub main : ℕ
-  pub loaded : IsLoaded c.told command bytes class main root
-  pub runs : RunsProgram class main made.vm
+  pub program : Program
+  pub loaded : IsLoaded c.told command bytes program root
+  pub runs : RunsProgram program made.vm
   pub classes : made.classes ≡ bytes ∷ []
   pub input : made.input ≡ []
   pub selected : IsSelected root made.vm
@@ -146,8 +144,8 @@ budget-is words command e =
 made-origin : (c : Call) (command : Command) (root : Option ℕ) (made k : Kept)
     → IsMade c command root made → IsSameRun made k → HasOrigin c.told c.words k
 made-origin c command root made k is same =
-    let class_is : is.class ≡ k.vm.class = sym (same.program.class ∙ is.runs.class_is) in
-    let main_is : is.main ≡ k.vm.main = sym (same.program.main ∙ is.runs.main_is) in
+    let program_is : is.program ≡ k.vm.program =
+    sym (same.program.program ∙ is.runs.program_is) in
     record {
       command = command;
       commanded = is.commanded;
@@ -157,9 +155,8 @@ made-origin c command root made k is same =
       told_as = is.loaded.told_as;
       root = root;
       program =
-          subst (λ (n : ℕ). IsProgram (asked_by command) is.bytes k.vm.class n root) main_is
-          (subst (λ (x : ClassFile). IsProgram (asked_by command) is.bytes x is.main root)
-          class_is is.loaded.program);
+          subst (λ (p : Program). IsProgram (asked_by command) is.bytes p root) program_is
+          is.loaded.program_is;
       selected = selected-later root made.vm k.vm same.program is.selected;
       input = same.input ∙ is.input;
       no_input = same.program.input ∙ is.runs.input_is;
@@ -170,7 +167,8 @@ made-only : (c : Call) (command : Command) (root : Option ℕ) (made k : Kept)
 made-only c command root made k is same = record {
   bytes = is.bytes;
   classes = same.classes ∙ is.classes;
-  only = λ x file. is.loaded.one x file ∙ sym (same.program.class ∙ is.runs.class_is);
+  only = λ x file. is.loaded.one x file
+      ∙ ap first_class (sym (same.program.program ∙ is.runs.program_is));
   faultless = is.loaded.faultless;
 }
 
@@ -203,8 +201,8 @@ made-run c command root made k status is same ran = record {
   calm = ran.calm;
   report = subst (λ (text : List ℕ). IsReported k.vm text c.streams.report c.streams.report_after
       status)
-      (root-reported c.words command is.main root is.class k.vm is.commanded
-      is.loaded.program.runs (same.program.class ∙ is.runs.class_is)) ran.report;
+      (root-reported c.words command root is.program k.vm is.commanded
+      is.loaded.program_is.runs (same.program.program ∙ is.runs.program_is)) ran.report;
 }
 
 stopped-refused : (c : Call) (command : Command) (k : Kept) (r : Refusal)

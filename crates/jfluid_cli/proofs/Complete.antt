@@ -8,11 +8,10 @@ use Rattle.jvm_model.specs.declared.state.State.{State}
 use Rattle.admit_check.specs.declared.error.AdmitError.{AdmitError}
 use Rattle.small_program.specs.Admission.{Runs}
 use Rattle.jvm_model.specs.Originals.{original}
-use Rattle.jvm_model.specs.Programs.{world_of}
 use Rattle.jvm_model.specs.Run.{ending_of}
 use Rattle.jvm_model.proofs.Growth.{run-stays}
 use Rattle.jvm_machine.specs.View.{View, world}
-use Rattle.jfluid_cli.specs.Runs.{ending_at, IsCarriedOut}
+use Rattle.jfluid_cli.specs.Runs.{ending_at, IsCarriedOut, world_on}
 use Rattle.jfluid_cli.specs.Top.{IsCalm}
 
 -- a calm count did not rise
@@ -39,17 +38,13 @@ ends_as v budget old new carried =
 same_program : (x y : Program) → (let r : Result Program AdmitError = Ok x in r ≡ Ok y) → x ≡ y
 same_program x y e = cc e
 
--- an answer has one main method
-pub one-main : (answer : Result Program AdmitError) (c d : ClassFile) (m n : ℕ) (r s : Option ℕ)
-    → Runs answer c m r → Runs answer d n s → m ≡ n
-one-main answer c d m n r s left right =
-    let same : left.program ≡ right.program =
-    same_program left.program right.program (sym left.admitted ∙ right.admitted) in
-    sym left.main_is ∙ (ap (λ (p : Program). p.main) same ∙ right.main_is)
+-- an answer has one program
+pub one-program : (answer : Result Program AdmitError) (c d : ClassFile) (p q : Program)
+    (r s : Option ℕ) → Runs answer c p r → Runs answer d q s → p ≡ q
+one-program answer c d p q r s left right = same_program p q (sym left.admitted ∙ right.admitted)
 
-pub ending_of_same : (c d : ClassFile) (m n : ℕ) (x y : List ℕ) (budget : ℕ) → c ≡ d → m ≡ n → x ≡ y
-    → ending_of (world_of c m x) budget ≡ ending_of (world_of d n y) budget
-ending_of_same c d m n x y budget e f h =
-    ap (λ (k : ClassFile). ending_of (world_of k m x) budget) e
-    ∙ (ap (λ (k : ℕ). ending_of (world_of d k x) budget) f
-    ∙ ap (λ (i : List ℕ). ending_of (world_of d n i) budget) h)
+pub ending_of_same : (p q : Program) (x y : List ℕ) (budget : ℕ) → p ≡ q → x ≡ y
+    → ending_of (world_on p x) budget ≡ ending_of (world_on q y) budget
+ending_of_same p q x y budget e f =
+    ap (λ (r : Program). ending_of (world_on r x) budget) e
+    ∙ ap (λ (i : List ℕ). ending_of (world_on q i) budget) f

@@ -124,17 +124,17 @@ fetched g k told asked bytes deref accepts same asks front is = record {
 
 -- what was fetched and read is what the files tell
 pub loaded : (told : Option Told) (k : Command) (asked : Asked) (bytes deref : List ℕ)
-    (class : ClassFile) (main : ℕ) (root : Option ℕ) → IsFetched told k.file most_bytes bytes
-    → bytes ≡ deref → asked_by k ≡ asked → IsProgram asked deref class main root
-    → ((c : ClassFile) → IsFile deref c → c ≡ class)
-    → ((fault : ReadError) → IsFirstFault deref fault → ⊥) → IsLoaded told k bytes class main root
-loaded told k asked bytes deref class main root front is asks program one faultless =
-    let program_is : IsProgram (asked_by k) bytes class main root =
-    subst (λ (bs : List ℕ). IsProgram (asked_by k) bs class main root) (sym is)
-    (subst (λ (a : Asked). IsProgram a deref class main root) (sym asks) program) in
+    (program : Program) (root : Option ℕ) → IsFetched told k.file most_bytes bytes
+    → bytes ≡ deref → asked_by k ≡ asked → IsProgram asked deref program root
+    → ((c : ClassFile) → IsFile deref c → c ≡ first_class program)
+    → ((fault : ReadError) → IsFirstFault deref fault → ⊥) → IsLoaded told k bytes program root
+loaded told k asked bytes deref program root front is asks fits one faultless =
+    let program_is : IsProgram (asked_by k) bytes program root =
+    subst (λ (bs : List ℕ). IsProgram (asked_by k) bs program root) (sym is)
+    (subst (λ (a : Asked). IsProgram a deref program root) (sym asks) fits) in
     record {
       told_as = told_whole told k.file bytes front program_is.file.short;
-      program = program_is;
+      program_is = program_is;
       one = λ c file. one c (subst (λ (bs : List ℕ). IsFile bs c) is file);
       faultless = λ fault first. faultless fault
           (subst (λ (bs : List ℕ). IsFirstFault bs fault) is first);

@@ -6,7 +6,7 @@ use Rattle.std.proofs.lemmas.Option.{same_Some, none-some}
 use Rattle.jf_bytes.specs.Streams.{Told, IsToldAs, PutsAll, PutsFront, Rose, contents_at}
 use Rattle.const_pool.specs.declared.class.ClassFile.{ClassFile}
 use Rattle.class_reader.specs.Files.{IsFile}
-use Rattle.jvm_model.specs.Programs.{world_of}
+use Rattle.jvm_model.specs.Programs.{first_class}
 use Rattle.jvm_model.specs.Run.{ending_of}
 use Rattle.small_program.specs.Admission.{Runs}
 use Rattle.jfluid_cli.specs.declared.kept.Kept.{Kept}
@@ -19,11 +19,11 @@ use Rattle.jfluid_cli.specs.Sinks.{SinkView, IsUntold, PutsOrRose}
 use Rattle.jfluid_cli.specs.Stages.{IsCarried}
 use Rattle.jfluid_cli.specs.Origins.{HasOrigin, IsOnlyProgram}
 use Rattle.jfluid_cli.specs.Refusals.{status_of, IsRefusalStatus, refusal_line}
-use Rattle.jfluid_cli.specs.Runs.{ending_at}
+use Rattle.jfluid_cli.specs.Runs.{ending_at, world_on}
 use Rattle.jfluid_cli.specs.Top.{IsCalm, IsProgram, answer_for, is_run, is_status, file_word, reported_of, status_of_ending}
 use Rattle.jfluid_cli.specs.Words.{Command, budget_of}
 use Rattle.jfluid_cli.proofs.Carried.{memory-refused}
-use Rattle.jfluid_cli.proofs.Complete.{calm_not_rose, ends_as, ending_of_same, one-main}
+use Rattle.jfluid_cli.proofs.Complete.{calm_not_rose, ends_as, ending_of_same, one-program}
 
 not_both : false ≡ true → ⊥
 not_both e = cc
@@ -54,15 +54,15 @@ kept-fit c k o u =
     let bytes : o.bytes ≡ u.bytes =
     same-bytes c.told o.command u.command u.files o.bytes u.bytes same u.telling o.told_as
     u.told_as in
-    u.none k.vm.class k.vm.main o.root
-    (subst (λ (bs : List ℕ). IsProgram (asked_by u.command) bs k.vm.class k.vm.main o.root) bytes
-    (subst (λ (x : Command). IsProgram (asked_by x) o.bytes k.vm.class k.vm.main o.root) same
+    u.none k.vm.program o.root
+    (subst (λ (bs : List ℕ). IsProgram (asked_by u.command) bs k.vm.program o.root) bytes
+    (subst (λ (x : Command). IsProgram (asked_by x) o.bytes k.vm.program o.root) same
     o.program))
 
-kept-ends : (c : Call) (k : Kept) (class : ClassFile) (main budget : ℕ) → HasOrigin c.told c.words k
-    → IsOnlyProgram k → IsAccepted (given_of c) class main
-    → ending_at k.vm budget ≡ ending_of (world_of class main []) budget
-kept-ends c k class main budget o alone a =
+kept-ends : (c : Call) (k : Kept) (p : Program) (budget : ℕ) → HasOrigin c.told c.words k
+    → IsOnlyProgram k → IsAccepted (given_of c) p
+    → ending_at k.vm budget ≡ ending_of (world_on p []) budget
+kept-ends c k p budget o alone a =
     let same : o.command ≡ a.command =
     same-command (given_of c).asked o.command a.command o.commanded a.accepts.asked in
     let bytes : o.bytes ≡ a.bytes =
@@ -71,16 +71,18 @@ kept-ends c k class main budget o alone a =
     let both : alone.bytes ∷ [] ≡ a.bytes ∷ [] = sym alone.classes
     ∙ (o.classes ∙ ap (λ (bs : List ℕ). bs ∷ []) bytes) in
     let held : a.bytes ≡ alone.bytes = cc in
-    let class_is : class ≡ k.vm.class =
-    alone.only class (subst (λ (bs : List ℕ). IsFile bs class) held a.program.file) in
-    let runs : Runs (answer_for (asked_by a.command) class) k.vm.class k.vm.main o.root =
-    subst (λ (x : ClassFile). Runs (answer_for (asked_by a.command) x) k.vm.class k.vm.main o.root)
+    let class : ClassFile = first_class p in
+    let own : ClassFile = first_class k.vm.program in
+    let class_is : class ≡ own =
+    alone.only class (subst (λ (bs : List ℕ). IsFile bs class) held a.program_is.file) in
+    let runs : Runs (answer_for (asked_by a.command) class) own k.vm.program o.root =
+    subst (λ (x : ClassFile). Runs (answer_for (asked_by a.command) x) own k.vm.program o.root)
     (sym class_is)
-    (subst (λ (x : Command). Runs (answer_for (asked_by x) k.vm.class) k.vm.class k.vm.main o.root)
+    (subst (λ (x : Command). Runs (answer_for (asked_by x) own) own k.vm.program o.root)
     same o.program.runs) in
-    ending_of_same k.vm.class class k.vm.main main k.vm.input [] budget (sym class_is)
-    (one-main (answer_for (asked_by a.command) class) k.vm.class class k.vm.main main o.root a.root
-    runs a.program.runs) o.no_input
+    ending_of_same k.vm.program p k.vm.input [] budget
+    (one-program (answer_for (asked_by a.command) class) own class k.vm.program p o.root a.root
+    runs a.program_is.runs) o.no_input
 
 -- something is kept
 held : (o : Option Kept) (P Q : Kept → Type 0) → IsSome o → IfSome o P → IfSome o Q → (k : Kept)
@@ -108,18 +110,18 @@ not-fine c words accepted =
 
 -- ---- a run
 
-run-complete : (c : Call) (status : ℕ) (k : Kept) (class : ClassFile) (main : ℕ)
+run-complete : (c : Call) (status : ℕ) (k : Kept) (p : Program)
     → HasOrigin c.told c.words k → IsOnlyProgram k
     → IsRun (budget_of c.words) (reported_of c.words) c.streams status k
-    → IsAccepted (given_of c) class main → AllCalm c
-    → status ≡ status_of_ending (ending_of (world_of class main []) (budget_of c.words))
-run-complete c status k class main o alone ran a calm = elim (cases_eq status 8) [
+    → IsAccepted (given_of c) p → AllCalm c
+    → status ≡ status_of_ending (ending_of (world_on p []) (budget_of c.words))
+run-complete c status k p o alone ran a calm = elim (cases_eq status 8) [
   | inl eight ↦ absurd (calm_not_rose c.streams.report.faults c.streams.report_after.faults
       calm.report (ran.report.not_reported eight))
   | inr other ↦ ran.report.ending other
       ∙ ap status_of_ending
       (ends_as k.vm (budget_of c.words) c.streams.out.taken c.streams.out_after.taken ran.output
-      ∙ kept-ends c k class main (budget_of c.words) o alone a)
+      ∙ kept-ends c k p (budget_of c.words) o alone a)
 ]
 
 pub answered-run : (c : Call) (status : ℕ) → IsCarried c (Ok status) → IsAnswered c status

@@ -1,8 +1,7 @@
 -- What a call of the program leaves: all that it promises.
 use Rattle.std.specs.Prelude.{◌≡◌, ◌≢◌, ℕ, ◌⊎◌, true, false, List, [], Option, None, IfSome, IsSome, IsSomeAnd}
 use Rattle.jf_bytes.specs.Streams.{Told, PutsAll, PutsFront, Rose}
-use Rattle.const_pool.specs.declared.class.ClassFile.{ClassFile}
-use Rattle.jvm_model.specs.Programs.{world_of}
+use Rattle.jvm_model.specs.declared.program.Program.{Program}
 use Rattle.jvm_model.specs.Run.{ending_of}
 use Rattle.jvm_machine.specs.View.{View}
 use Rattle.jfluid_cli.specs.declared.kept.Kept.{Kept}
@@ -11,7 +10,7 @@ use Rattle.jfluid_cli.specs.Asking.{IsFine}
 use Rattle.jfluid_cli.specs.Causes.{Given, IsAccepted, IsUnfit, IsDue, OfWords}
 use Rattle.jfluid_cli.specs.Origins.{HasOrigin, IsOnlyProgram}
 use Rattle.jfluid_cli.specs.Refusals.{status_of, refusal_line}
-use Rattle.jfluid_cli.specs.Runs.{IsCarriedOut, PutsAtMost, ending_at}
+use Rattle.jfluid_cli.specs.Runs.{IsCarriedOut, PutsAtMost, ending_at, world_on}
 use Rattle.jfluid_cli.specs.Sinks.{SinkView, FilesView, Streams, PutsOrRose}
 use Rattle.jfluid_cli.specs.Top.{IsCalm, is_run, is_refused, is_status, file_word, reported_of, status_of_ending}
 use Rattle.jfluid_cli.specs.Words.{command_of, budget_of}
@@ -73,7 +72,7 @@ pub record IsRunOf (c : Call) (status : ℕ) : Type 0 where
 pub record IsRefused (c : Call) (r : Refusal) : Type 0 where
   pub due : IsDue (given_of c) r
   -- 3 comes only where not all is accepted
-  pub file : status_of r ≡ 3 → (k : ClassFile) (main : ℕ) → IsAccepted (given_of c) k main → ⊥
+  pub file : status_of r ≡ 3 → (p : Program) → IsAccepted (given_of c) p → ⊥
   -- nothing is kept, but with 6, and perhaps with 9
   pub refused : is_refused (status_of r) ≡ true → c.kept ≡ None
   pub made : status_of r ≡ 6 → IsSome c.kept
@@ -119,6 +118,6 @@ pub record IsAnswered (c : Call) (status : ℕ) : Type 0 where
       (status ≡ 3) ⊎ (status ≡ 9)
   -- the status of the run at the budget wherever all is accepted
   pub complete :
-      (k : ClassFile) (main : ℕ) → IsAccepted (given_of c) k main → AllCalm c →
-      (status ≡ status_of_ending (ending_of (world_of k main []) (budget_of c.words)))
+      (p : Program) → IsAccepted (given_of c) p → AllCalm c →
+      (status ≡ status_of_ending (ending_of (world_on p []) (budget_of c.words)))
       ⊎ (status ≡ 9)

@@ -1,7 +1,7 @@
 -- What a call is given, when it is accepted, and the cause of each refusal.
 use Rattle.std.specs.Prelude.{◌≡◌, ℕ, ◌⊎◌, List, Option, Some, None}
 use Rattle.jf_bytes.specs.Streams.{Told, HasTold, contents_at}
-use Rattle.const_pool.specs.declared.class.ClassFile.{ClassFile}
+use Rattle.jvm_model.specs.declared.program.Program.{Program}
 use Rattle.class_reader.specs.Files.{IsFirstFault}
 use Rattle.jfluid_cli.specs.declared.refusal.Refusal.{Refusal}
 use Rattle.jfluid_cli.specs.declared.refusal.Refusal.TheVariants as refusal
@@ -25,7 +25,7 @@ pub record Accepts (g : Given) (k : Command) : Type 0 where
   pub fine : IsFine k
 
 -- The words are accepted, and the files tell this program for them.
-pub record IsAccepted (g : Given) (class : ClassFile) (main : ℕ) : Type 0 where
+pub record IsAccepted (g : Given) (program : Program) : Type 0 where
   pub command : Command
   pub accepts : Accepts g command
   pub files : Told
@@ -33,7 +33,7 @@ pub record IsAccepted (g : Given) (class : ClassFile) (main : ℕ) : Type 0 wher
   pub bytes : List ℕ
   pub told_as : contents_at files command.file ≡ Some bytes
   pub root : Option ℕ
-  pub program : IsProgram (asked_by command) bytes class main root
+  pub program_is : IsProgram (asked_by command) bytes program root
 
 -- The words are accepted, and what the files tell for them is no program.
 pub record IsUnfit (g : Given) : Type 0 where

@@ -4,6 +4,7 @@ use Rattle.jf_bytes.specs.Streams.{Told}
 use Rattle.const_pool.specs.declared.class.ClassFile.{ClassFile}
 use Rattle.class_reader.specs.declared.error.ReadError.{ReadError}
 use Rattle.class_reader.specs.Files.{IsFile, IsFirstFault}
+use Rattle.jvm_model.specs.Programs.{first_class}
 use Rattle.jfluid_cli.specs.declared.kept.Kept.{Kept}
 use Rattle.jfluid_cli.specs.Asking.{asked_by, IsFine}
 use Rattle.jfluid_cli.specs.Selections.{IsSelected}
@@ -21,14 +22,14 @@ pub record HasOrigin (told : Option Told) (words : List (List ℕ)) (k : Kept) :
   pub classes : k.classes ≡ bytes ∷ []
   pub told_as : IsToldAs told command.file bytes
   pub root : Option ℕ
-  pub program : IsProgram (asked_by command) bytes k.vm.class k.vm.main root
+  pub program : IsProgram (asked_by command) bytes k.vm.program root
   pub selected : IsSelected root k.vm
   pub input : k.input ≡ []
   pub no_input : k.vm.input ≡ []
 
--- The bytes that are kept have no fault, and spell no other class than the one that runs.
+-- The bytes that are kept have no fault, and spell no other class than the first one of the program that runs.
 pub record IsOnlyProgram (k : Kept) : Type 0 where
   pub bytes : List ℕ
   pub classes : k.classes ≡ bytes ∷ []
-  pub only : (c : ClassFile) → IsFile bytes c → c ≡ k.vm.class
+  pub only : (c : ClassFile) → IsFile bytes c → c ≡ first_class k.vm.program
   pub faultless : (fault : ReadError) → IsFirstFault bytes fault → ⊥

@@ -4,6 +4,8 @@ use Rattle.jf_bytes.specs.Streams.{Told, Rose, IsFetched, IsToldAs}
 use Rattle.const_pool.specs.declared.class.ClassFile.{ClassFile}
 use Rattle.class_reader.specs.Files.{IsFile, IsFirstFault, most_bytes}
 use Rattle.class_reader.specs.declared.error.ReadError.{ReadError}
+use Rattle.jvm_model.specs.declared.program.Program.{Program}
+use Rattle.jvm_model.specs.Programs.{first_class}
 use Rattle.jfluid_cli.specs.declared.asking.Asked.{Asked}
 use Rattle.jfluid_cli.specs.declared.kept.Kept.{Kept}
 use Rattle.jfluid_cli.specs.declared.refusal.Refusal.{Refusal}
@@ -37,11 +39,11 @@ pub record IsFetchedFor (g : Given) (asked : Asked) (bytes : List ℕ) : Type 0 
   pub front : IsFetched g.told command.file most_bytes bytes
 
 -- What was loaded for a command: the bytes that the files tell, which spell this program alone.
-pub record IsLoaded (told : Option Told) (k : Command) (bytes : List ℕ) (class : ClassFile)
-    (main : ℕ) (root : Option ℕ) : Type 0 where
+pub record IsLoaded (told : Option Told) (k : Command) (bytes : List ℕ) (program : Program)
+    (root : Option ℕ) : Type 0 where
   pub told_as : IsToldAs told k.file bytes
-  pub program : IsProgram (asked_by k) bytes class main root
-  pub one : (c : ClassFile) → IsFile bytes c → c ≡ class
+  pub program_is : IsProgram (asked_by k) bytes program root
+  pub one : (c : ClassFile) → IsFile bytes c → c ≡ first_class program
   pub faultless : (fault : ReadError) → IsFirstFault bytes fault → ⊥
 
 -- A fetch fails only where the count rose, and its name is then the last that failed.

@@ -8,6 +8,7 @@ use Rattle.class_reader.specs.Files.{IsFile}
 use Rattle.jvm_model.specs.declared.ending.Ending.{Ending}
 use Rattle.jvm_model.specs.declared.ending.Ending.TheVariants.{Returned, Exited, Uncaught, Unverifiable}
 use Rattle.jvm_model.specs.declared.program.Program.{Program}
+use Rattle.jvm_model.specs.Programs.{first_class}
 use Rattle.admit_check.specs.declared.error.AdmitError.{AdmitError}
 use Rattle.admit_check.specs.Admission.{admission_of}
 use Rattle.small_program.specs.declared.admission.Refused.{Refused}
@@ -54,11 +55,11 @@ is_status = is_among (0 ∷ 1 ∷ 2 ∷ 3 ∷ 4 ∷ 6 ∷ 7 ∷ 8 ∷ 9 ∷ 10 �
 abbrev pub answer_for : Asked → ClassFile → Result Program AdmitError
 answer_for a c = admission_of (c ∷ []) a.main a.plan
 
--- The bytes are a file of a class that runs so far, with this main method and this root.
-pub record IsProgram (a : Asked) (bytes : List ℕ) (class : ClassFile) (main : ℕ) (root : Option ℕ)
-    : Type 0 where
-  pub file : IsFile bytes class
-  pub runs : Runs (answer_for a class) class main root
+-- The bytes are a file of a class that runs so far, as the first one of this program with this root.
+pub record IsProgram (a : Asked) (bytes : List ℕ) (program : Program) (root : Option ℕ) : Type 0
+  where
+    pub file : IsFile bytes (first_class program)
+    pub runs : Runs (answer_for a (first_class program)) (first_class program) program root
 
 -- a class is spelled that is refused so
 abbrev pub HasRefused : Asked → Refused → List ℕ → Type 0
@@ -68,7 +69,7 @@ HasRefused a refused bytes =
 -- no program is spelled
 abbrev pub HasNoProgram : Asked → List ℕ → Type 0
 HasNoProgram a bytes =
-    (c : ClassFile) (main : ℕ) (root : Option ℕ) → IsProgram a bytes c main root → ⊥
+    (program : Program) (root : Option ℕ) → IsProgram a bytes program root → ⊥
 
 -- what a fetch refuses
 abbrev pub IsFetchRefusal : Refusal → Type 0
@@ -81,7 +82,7 @@ IsFetchRefusal refusal = (refusal ≡ NotFetched) ⊎ (refusal ≡ NoMemory)
 abbrev pub report_of : Option ℕ → View → List ℕ
 report_of root v =
     let contexts = projection (acts_for root) (world v) v.clock in
-    report_text v.class (ending_at v v.clock) v.clock (swaps_for root) false contexts
+    report_text v.program (ending_at v v.clock) v.clock (swaps_for root) false contexts
 
 -- the root of an admitted program
 abbrev pub root_of_answer : Result Program AdmitError → Option ℕ
@@ -95,7 +96,7 @@ root_of words c =
 
 -- what is reported of the run of these words
 abbrev pub reported_of : List (List ℕ) → View → List ℕ
-reported_of words v = report_of (root_of words v.class) v
+reported_of words v = report_of (root_of words (first_class v.program)) v
 
 -- the third word, which is the file's name
 abbrev pub file_word : List (List ℕ) → List ℕ

@@ -5,6 +5,8 @@ ghost use Rattle.const_pool.specs.declared.class.ClassFile.{ClassFile as Class};
 ghost use Rattle.class_reader.specs.declared.error.ReadError.{ReadError as Fault};
 ghost use Rattle.class_reader.specs.Files.{IsFile, IsFirstFault, most_bytes};
 ghost use Rattle.jf_bytes.specs.Streams.{HasTold, IsFetched, Rose};
+ghost use Rattle.jvm_model.specs.OneClass.{IsBuiltProgram};
+ghost use Rattle.jvm_model.specs.Programs.{first_class};
 ghost use Rattle.jfluid_cli.specs.Asking.{asked_by, IsFine};
 ghost use Rattle.jfluid_cli.specs.Causes.{Given, Accepts};
 ghost use Rattle.jfluid_cli.specs.Refusals.{status_of};
@@ -24,8 +26,9 @@ use std::alloc::Global;
 /// Reads and admits a class file.
 fn read_program(alloc: Global, bytes: &[u8], asked: &Asked) -> Result<Admitted, Refusal>
     requires actions { length asked.now.plan.actions < 2 ^ 32 }
-    ensures ok { IfOk result (λ p. IsProgram asked.now bytes.now p.class p.main p.root) }
-    ensures one { IfOk result (λ p. (c : Class) → IsFile bytes.now c → c ≡ p.class) }
+    ensures ok { IfOk result (λ p. IsProgram asked.now bytes.now p.program p.root) }
+    ensures one { IfOk result (λ p. (c : Class) → IsFile bytes.now c → c ≡ first_class p.program) }
+    ensures built { IfOk result (λ p. IsBuiltProgram p.program) }
     ensures faultless { IfOk result (λ _. (fault : Fault) → IsFirstFault bytes.now fault → ⊥) }
     ensures refuses { IfErr result (λ e. status_of e ≡ 3 → HasNoProgram asked.now bytes.now) }
     ensures early { (g : Given) → IsFetchedFor g asked.now bytes.now → IfErr result (IsEarly g) }
@@ -80,7 +83,8 @@ fn load<F: Files>(
     requires actions { length asked.now.plan.actions < 2 ^ 32 }
     ensures ok { let k = command_view command.entry in
         IfOk result (λ l. let p = l.program in
-        IsLoaded (F.contents files.old) k l.bytes.items p.class p.main p.root) }
+        IsLoaded (F.contents files.old) k l.bytes.items p.program p.root) }
+    ensures built { IfOk result (λ l. IsBuiltProgram l.program.program) }
     ensures refuses { let k = command_view command.entry in
         IfErr result (λ e. status_of e ≡ 3 →
         HasTold (F.contents files.old) k.file (HasNoProgram (asked_by k))) }
@@ -106,8 +110,9 @@ pub fn prepare<F: Files>(
 ) -> Result<Loaded, Refusal>
     ensures ok { let k = command_view command.entry in
         IfOk result (λ l. let p = l.program in
-        IsLoaded (F.contents files.old) k l.bytes.items p.class p.main p.root) }
+        IsLoaded (F.contents files.old) k l.bytes.items p.program p.root) }
     ensures fine { IfOk result (λ _. IsFine (command_view command.entry)) }
+    ensures built { IfOk result (λ l. IsBuiltProgram l.program.program) }
     ensures refuses { let k = command_view command.entry in
         IfErr result (λ e. status_of e ≡ 3 →
         HasTold (F.contents files.old) k.file (HasNoProgram (asked_by k))) }

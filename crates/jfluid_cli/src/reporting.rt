@@ -55,7 +55,7 @@ fn text_of(alloc: Global, vm: &Vm, tree: &mut Tree, root: Option<u32>) -> Result
         swaps: swaps_of(root),
         summary: false,
     };
-    report(alloc, &facts, tree, vm.class())
+    report(alloc, &facts, tree, vm.program())
 }
 
 /// Puts the report of a machine, and answers the status of its run, or 8 where the put failed.

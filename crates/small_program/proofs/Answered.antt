@@ -7,6 +7,8 @@ use Rattle.jvm_model.specs.declared.program.Program.{Program}
 use Rattle.admit_check.specs.declared.error.AdmitError.{AdmitError}
 use Rattle.admit_check.specs.declared.error.AdmitError.TheVariants as fault
 use Rattle.admit_check.specs.Admission.{IsSoundProgram}
+use Rattle.jvm_model.specs.OneClass.{IsBuiltProgram}
+use Rattle.jvm_model.specs.Programs.{first_class}
 use Rattle.small_program.specs.declared.admission.Admitted.{Admitted}
 use Rattle.small_program.specs.declared.admission.Refused.{Refused}
 use Rattle.small_program.specs.declared.admission.Refused.TheVariants as refused
@@ -41,15 +43,13 @@ outside p small answer c e is decided = (ap passes_class e, λ s. false_true (sy
 -- ---- a small class that is admitted
 
 pub runs-as : (r : Result Admitted Refused) (p : Program) (answer : Result Program AdmitError) (c : ClassFile) (methods : ℕ) → IsSmall c → answer ≡ Ok p
-    → methods ≡ length c.methods → IfOk r (λ a. p.main ≡ a.main) → IfOk r (λ a. selected p.acts ≡ a.root)
-    → IfOk r (λ a. IfSome a.root (λ method. method < methods)) → IfOk r (λ a. Runs answer c a.main a.root)
-runs-as (Err e) p answer c methods small admitted count main root own = tt
-runs-as (Ok a) p answer c methods small admitted count main root own = record {
+    → methods ≡ length c.methods → IfOk r (λ a. a.program ≡ p) → IfOk r (λ a. selected p.acts ≡ a.root)
+    → IfOk r (λ a. IfSome a.root (λ method. method < methods)) → IfOk r (λ a. Runs answer c a.program a.root)
+runs-as (Err e) p answer c methods small admitted count same root own = tt
+runs-as (Ok a) p answer c methods small admitted count same root own = record {
   small = small;
-  program = p;
-  admitted = admitted;
-  main_is = main;
-  root_is = root;
+  admitted = admitted ∙ ap (λ (x : Program). let r : Result Program AdmitError = Ok x in r) (sym same);
+  root_is = ap (λ (x : Program). selected x.acts) same ∙ root;
   own = subst (λ (n : ℕ). IfSome a.root (λ method. method < n)) count own;
 }
 
@@ -64,3 +64,9 @@ foreign-as (Err e) p answer c methods small admitted count is foreign =
       admitted = admitted;
       foreign = λ own. foreign (subst (λ (n : ℕ). IfSome (selected p.acts) (λ method. method < n)) (sym count) own);
     })
+
+-- what is answered is of the built part, and begins with the class
+pub built-as : (r : Result Admitted Refused) (p : Program) (c : ClassFile) → first_class p ≡ c → IsBuiltProgram p → IfOk r (λ a. a.program ≡ p)
+    → IfOk r (λ a. first_class a.program ≡ c) × IfOk r (λ a. IsBuiltProgram a.program)
+built-as (Err e) p c first built same = (tt, tt)
+built-as (Ok a) p c first built same = (ap first_class same ∙ first, subst IsBuiltProgram (sym same) built)

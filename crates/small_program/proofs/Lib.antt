@@ -2,3 +2,4 @@ pub mod Codes
 pub mod Formed
 pub mod Methods
 pub mod Answered
+pub mod Sound

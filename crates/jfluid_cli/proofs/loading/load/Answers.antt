@@ -11,7 +11,7 @@ pub returns-in-Ok-clause-ok : goal.returns-in-Ok-clause-ok
 returns-in-Ok-clause-ok g c =
     loaded (g.F.Files.contents c.args.files.now)
     (command_view c.args.command) c.args.asked.now c.in_ok-bytes.bytes.items c.deref.result.now
-    c.in-Ok.program.class c.in-Ok.program.main c.in-Ok.program.root
+    c.in-Ok.program.program c.in-Ok.program.root
     c.in_ok-bytes.ensures.found (sym c.deref.ensures.value) c.requires.asked c.in-Ok.ensures.ok
     c.in-Ok.ensures.one c.in-Ok.ensures.faultless
 
