@@ -1,3 +1,4 @@
+pub mod FamilyRows
 pub mod Opcodes
 pub mod Starts
 pub mod ImagePools

@@ -21,7 +21,7 @@ use Rattle.code_model.proofs.Lengths.{size_at-some}
 use Rattle.code_model.proofs.Readings.{at-instruction_at, instruction_at-past}
 use Rattle.jvm_model.specs.Data.{Operation, Instruction}
 use Rattle.jvm_model.specs.Methods.{code_among, code_of, method_code}
-use Rattle.jvm_model.specs.Lines.{operation_with, next_of, targets_of, ends, code_instruction, method_instruction}
+use Rattle.jvm_model.specs.Lines.{next_of, targets_of, ends, code_instruction, method_instruction}
 use Rattle.jvm_model.specs.Originals.{catcher_of, method_handlers, original}
 use Rattle.jvm_model.specs.Programs.{alone}
 use Rattle.jvm_model.specs.Closed.{IsWithin, IsClosed}
@@ -133,12 +133,6 @@ handlers-original c main v built =
       by_member (Some m) e =
           ap (λ o. unwrap_or (option_map (λ (k : CodeAttribute). map (catcher_of c) k.handlers) (option_and_then code_of o)) []) e ∙ by_code m (code_of m) e refl
 
-no-targets : (c : ClassFile) (op : ℕ) (a : Arg) (o : Operation) → operation_with c op a ≡ Some o → targets_of a ≡ []
-no-targets c op arg.Plain o e = refl
-no-targets c op (arg.Value n) o e = refl
-no-targets c op (arg.Pool index) o e = refl
-no-targets c op _ o e = absurd (none-some o e)
-
 -- an instruction that stands at a place
 pub record StandsAt (c : ClassFile) (v at : ℕ) (i : Instruction) : Type 0 where
   pub start : IsStart c v at
@@ -170,6 +164,6 @@ original-closed c main built = record {
   targets = λ v at i place e. (
       let found = stands-at c main v at i built place e in
       subst (λ (x : Instruction). AllByRecursion (λ k. is_place c v k ≡ true) x.targets) (sym found.is)
-      (subst (AllByRecursion (λ k. is_place c v k ≡ true)) (sym (no-targets c found.start.instr.op found.start.instr.arg found.has.operation found.has.operated)) tt));
+      (subst (AllByRecursion (λ k. is_place c v k ≡ true)) (sym found.has.alike.nowhere) tt));
   handlers = λ v. subst (AllByRecursion (IsWithin (is_place c) v)) (sym (handlers-original c main v built)) tt;
 }

@@ -10,7 +10,7 @@ use Rattle.const_pool.specs.declared.descriptor.Kind.TheVariants as kind
 use Rattle.const_pool.specs.References.{Reference, named_class}
 use Rattle.jvm_model.specs.declared.operation.Resolved.{Resolved}
 use Rattle.jvm_model.specs.declared.operation.Resolved.TheVariants as resolved
-use Rattle.jvm_model.specs.Data.{Locals, Operands, Nop, Constant, Load, Binary, Return, Operation, Within, Getstatic, Putstatic, Invokestatic, Invokevirtual, Athrow, Local, Ready, Shared, Next, GoesOn, Breaks, Done, World}
+use Rattle.jvm_model.specs.Data.{Locals, Operands, Iadd, Isub, Imul, Nop, Constant, Load, BinaryOfInts, Return, Operation, Within, Getstatic, Putstatic, Invokestatic, Invokevirtual, Athrow, Local, Ready, Shared, Next, GoesOn, Breaks, Done, World}
 use Rattle.jvm_model.specs.Descriptors.{same_text}
 use Rattle.jvm_model.specs.Methods.{method_named}
 use Rattle.jvm_model.specs.LocalRules.{within}
@@ -34,7 +34,9 @@ local-done : (c : ClassFile) (i : Local) (q : Resolved) (s : Shared) (l : Locals
 local-done c Nop q s l o e = same-done c resolved.Nop q s l o e
 local-done c (Constant (datum.Int n)) q s l o e = same-done c (resolved.Constant n) q s l o e
 local-done c (Load kind.Int slot) q s l o e = same-done c (resolved.Iload slot) q s l o e
-local-done c (Binary op) q s l o e = same-done c (resolved.Binary op) q s l o e
+local-done c (BinaryOfInts Iadd) q s l o e = same-done c (resolved.Binary Iadd) q s l o e
+local-done c (BinaryOfInts Isub) q s l o e = same-done c (resolved.Binary Isub) q s l o e
+local-done c (BinaryOfInts Imul) q s l o e = same-done c (resolved.Binary Imul) q s l o e
 local-done c (Return None) q s l o e = same-done c resolved.Return q s l o e
 local-done c (Return (Some kind.Int)) q s l o e = same-done c resolved.Ireturn q s l o e
 local-done c i q s l o e = absurd (none-some q e)
