@@ -16,15 +16,17 @@ use Rattle.code_model.specs.declared.instr.Instr.{Instr}
 use Rattle.op_table.specs.Opcodes.{groups, row_of}
 use Rattle.jvm_basic.specs.declared.effect.Effect.{Effect}
 use Rattle.jvm_basic.specs.declared.effect.Effect.TheVariants.{Next, Throws, Bad, Other}
-use Rattle.jvm_basic.specs.declared.family.Division.{Division}
-use Rattle.jvm_basic.specs.declared.family.Kind.{Kind}
-use Rattle.jvm_basic.specs.declared.family.Test.{Test}
-use Rattle.jvm_basic.specs.declared.family.Family.{Family}
-use Rattle.jvm_basic.specs.declared.family.Family.TheVariants as family
-use Rattle.jvm_basic.specs.Families.{rows, family_of}
-use Rattle.jvm_basic.specs.Outcomes.{Locals, Operands, Outcome, GoesOn, Raises, Breaks, Leaves, Rule, can_hold, with_top, effect_in, frames_in, asked, effect_of, after}
-use Rattle.jvm_basic.specs.Values.{int_of, ints_of, longs_of, local_in, has_kind, is_storable, has_slots, stored}
-use Rattle.jvm_basic.specs.StackForms.{forms_of, arranged}
+use Rattle.jvm_model.specs.declared.family.Division.{Division}
+use Rattle.const_pool.specs.declared.descriptor.Kind.{Kind}
+use Rattle.jvm_model.specs.declared.family.Test.{Test}
+use Rattle.jvm_model.specs.declared.family.Family.{Family}
+use Rattle.jvm_model.specs.declared.family.Family.TheVariants as family
+use Rattle.jvm_model.specs.Families.{rows, family_of}
+use Rattle.jvm_model.specs.Data.{Locals, Operands}
+use Rattle.jvm_basic.specs.Outcomes.{Outcome, GoesOn, Raises, Breaks, Leaves, Rule, can_hold, with_top, effect_in, frames_in, asked, effect_of, after}
+use Rattle.jvm_model.specs.Values.{int_of, ints_of, longs_of, local_in, has_kind, is_storable, has_slots, stored}
+use Rattle.jvm_model.specs.StackForms.{forms_of}
+use Rattle.jvm_model.specs.Values.{arranged}
 use Rattle.jvm_basic.specs.Rules.{arithmetic_exception, replaces, divided, divided_by, divides_these, loads_value, loads, stores, increments_value, increments, leaves, goes_if, branches, holds, tests, goes_to, chosen, switches_on, calls_subroutine, goes_back_to, goes_back, value_in, slot_in, increment_in, target_in, does, rule_of}
 use Rattle.jvm_basic.specs.Laws.{is_elsewhere, has_zero_divisor, divides_by_zero}
 

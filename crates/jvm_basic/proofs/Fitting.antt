@@ -6,8 +6,9 @@ use Rattle.heap_objects.specs.declared.Value.{Value}
 use Rattle.heap_objects.specs.declared.Value.TheVariants.{Int, Long, Ref, Addr}
 use Rattle.frame_stack.specs.Widths.{height_of}
 use Rattle.frame_stack.specs.FrameLists.{PlacedFrame, AreSound, top_operands}
-use Rattle.jvm_basic.specs.Outcomes.{Operands, can_hold}
-use Rattle.jvm_basic.specs.Values.{ints_of, longs_of, long_and_int_of}
+use Rattle.jvm_model.specs.Data.{Operands}
+use Rattle.jvm_basic.specs.Outcomes.{can_hold}
+use Rattle.jvm_model.specs.Values.{ints_of, longs_of, long_and_int_of}
 
 -- the value on top of those left is within a height
 abbrev fits : Operands → ℕ → Value → Bool

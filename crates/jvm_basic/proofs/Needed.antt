@@ -12,15 +12,18 @@ use Rattle.code_model.specs.declared.instr.Arg.TheVariants as arg
 use Rattle.code_model.specs.declared.instr.Instr.{Instr}
 use Rattle.jvm_basic.specs.declared.effect.Effect.{Effect}
 use Rattle.jvm_basic.specs.declared.effect.Effect.TheVariants.{Next, Throws, Bad, Other}
-use Rattle.jvm_basic.specs.declared.family.Kind.{Kind}
-use Rattle.jvm_basic.specs.declared.family.Test.{Test}
-use Rattle.jvm_basic.specs.declared.family.Test.TheVariants.{WithZero, OfInts, OfReferences, IsNull}
-use Rattle.jvm_basic.specs.declared.family.Family.{Family}
-use Rattle.jvm_basic.specs.declared.family.Family.TheVariants as family
-use Rattle.jvm_basic.specs.Families.{family_of}
-use Rattle.jvm_basic.specs.Outcomes.{Locals, Operands, Outcome, GoesOn, Raises, Breaks, Leaves, top_locals, can_hold, effect_in, asked, effect_of}
-use Rattle.jvm_basic.specs.Values.{int_of, long_of, ref_of, ints_of, longs_of, long_and_int_of, refs_of, local_in, has_kind, is_storable, has_slots, stored}
-use Rattle.jvm_basic.specs.StackForms.{StackForm, forms_of, has_form, puts_on, arranged}
+use Rattle.const_pool.specs.declared.descriptor.Kind.{Kind}
+use Rattle.jvm_model.specs.declared.family.Test.{Test}
+use Rattle.jvm_model.specs.declared.family.Test.TheVariants.{WithZero, OfInts, OfReferences, IsNull}
+use Rattle.jvm_model.specs.declared.family.Family.{Family}
+use Rattle.jvm_model.specs.declared.family.Family.TheVariants as family
+use Rattle.jvm_model.specs.Families.{family_of}
+use Rattle.jvm_model.specs.Data.{Locals, Operands}
+use Rattle.jvm_basic.specs.Outcomes.{Outcome, GoesOn, Raises, Breaks, Leaves, top_locals, can_hold, effect_in, asked, effect_of}
+use Rattle.jvm_model.specs.Values.{int_of, long_of, ref_of, ints_of, longs_of, long_and_int_of, refs_of, local_in, has_kind, is_storable, has_slots, stored}
+use Rattle.jvm_model.specs.Data.{StackForm}
+use Rattle.jvm_model.specs.StackForms.{forms_of}
+use Rattle.jvm_model.specs.Values.{has_form, puts_on, arranged}
 use Rattle.jvm_basic.specs.Rules.{replaces, divides_these, loads_value, loads, stores, increments_value, increments, leaves, goes_if, branches, holds, tests, goes_to, chosen, switches_on, calls_subroutine, goes_back_to, goes_back, value_in, slot_in, increment_in, target_in, does, rule_of}
 use Rattle.jvm_basic.specs.Needs.{int, long, reference, address, stand, is_as, reads, takes_slots, fits_form, operands_of, has_needs, too_deep}
 

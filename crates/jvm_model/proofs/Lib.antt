@@ -47,3 +47,4 @@ pub mod WorkedRuns
 pub mod WorkedThrows
 pub mod WorkedInitializers
 pub mod WorkedLimits
+pub mod WorkedFamilies

@@ -1,5 +1,5 @@
 -- What an instruction asks for does not depend on what its return addresses are: it moves with them.
-use Rattle.std.proofs.Common.{◌≡◌, ℕ, zero, suc, ◌+◌, slice_get, slice_set, drop, length, map, Bool, true, false, List, [], ◌∷◌, Option, Some, None, nat_le, ◌&&◌, if◌then◌else◌, ℤ, refl, ap, ◌∙◌}
+use Rattle.std.proofs.Common.{◌≡◌, ℕ, zero, suc, ◌+◌, slice_get, slice_set, drop, length, map, Bool, true, false, List, [], ◌∷◌, Option, Some, None, is_some, nat_le, ◌&&◌, if◌then◌else◌, ℤ, refl, ap, ◌∙◌}
 use Rattle.std.specs.Option.{option_map, option_flatten}
 use Rattle.std.specs.Int.{w32, w64}
 use Rattle.std.proofs.lemmas.List.{drop-map, length-map}
@@ -12,9 +12,9 @@ use Rattle.int_ops.specs.Arithmetic.{wrapped_sum}
 use Rattle.frame_stack.specs.Widths.{is_long, width}
 use Rattle.frame_stack.specs.FrameLists.{is_long_slot, without_long_before, with_value as with_slot}
 use Rattle.jvm_model.specs.Data.{Datum, Value, Locals, Operands, IntOperator, LongOperator, Division, LongShift, OfInt, Ineg, I2l, I2b, I2c, I2s, OfLong, Lneg, L2i, Test, WithZero, OfInts, OfReferences, IsNull, StackForm, Keys, Local, Nop, Constant, Load, Store, Arrange, BinaryOfInts, BinaryOfLongs, DivisionOfInts, DivisionOfLongs, ShiftOfLong, UnaryOfInt, UnaryOfLong, Lcmp, Iinc, Branch, Goto, Switch, Jsr, Ret, Return, Next, Outcome, GoesOn, Breaks}
-use Rattle.jvm_model.specs.Values.{as_value, datum_of, loaded, storable, local_in, has_slots, stored, with_value, same_width, has_form, puts_on, arranged}
+use Rattle.jvm_model.specs.Values.{as_value, datum_of, has_kind, loaded, is_storable, local_in, has_slots, stored, with_value, same_width, has_form, puts_on, arranged}
 use Rattle.jvm_model.specs.StackForms.{forms_of}
-use Rattle.jvm_model.specs.LocalRules.{pushes, replaces, leaves, stores_value, stores, increments, divided, of_int, of_long, calculates, calculates_long, shifts, compares_longs, divides_these, divides_ints, divides_longs, converts_int, converts_long, where_if, holds, tests, goes_if, branches, switches, goes_back, returns_datum, returns, within}
+use Rattle.jvm_model.specs.LocalRules.{pushes, leaves, stores, increments, divided, of_int, of_long, calculates, calculates_long, shifts, compares_longs, divides_these, divides_ints, divides_longs, converts_int, converts_long, where_if, holds, tests, goes_if, branches, switches, goes_back, returns_datum, returns, within}
 use Rattle.jvm_model.specs.Moved.{moved_value, moved_slot, moved_locals, moved_operands, moved_where, moved_outcome}
 
 set-moves : {A B : Type 0} (f : A → B) (xs : List A) (i : ℕ) (x : A) → slice_set (map f xs) i (f x) ≡ map f (slice_set xs i x)
@@ -42,8 +42,12 @@ module _ (h : ℕ → ℕ) where
   kind-moves kind.Int (Addr t) = refl
   kind-moves _ (Addr t) = refl
 
-  value-moves : (k : Kind) (v : Value) → option_map as_value (datum_of k (moved_value h v)) ≡ option_map (moved_value h) (option_map as_value (datum_of k v))
-  value-moves k v = ap (option_map as_value) (kind-moves k v) ∙ found-moves (datum_of k v)
+  has_kind-moves : (k : Kind) (v : Value) → has_kind k (moved_value h v) ≡ has_kind k v
+  has_kind-moves k v = ap is_some (kind-moves k v)
+
+  kept-moves : (b : Bool) (v : Value) → (if b then Some (moved_value h v) else None) ≡ option_map (moved_value h) (if b then Some v else None)
+  kept-moves true v = refl
+  kept-moves false v = refl
 
   pub long-moves : (v : Value) → is_long (moved_value h v) ≡ is_long v
   long-moves (Long n) = refl
@@ -67,7 +71,7 @@ module _ (h : ℕ → ℕ) where
   pushed-moves d l o = ap (λ v. pushes v (moved_locals h l) (moved_operands h o)) (found-moves d) ∙ pushes-moves (option_map as_value d) l o
 
   loaded-moves : (k : Kind) (found : Option (Option Value)) → loaded k (option_map (moved_slot h) found) ≡ option_map (moved_value h) (loaded k found)
-  loaded-moves k (Some (Some v)) = value-moves k v
+  loaded-moves k (Some (Some v)) = ap (λ b. if b then Some (moved_value h v) else None) (has_kind-moves k v) ∙ kept-moves (has_kind k v) v
   loaded-moves k (Some None) = refl
   loaded-moves k None = refl
 
@@ -80,9 +84,9 @@ module _ (h : ℕ → ℕ) where
 
   -- ---- stores
 
-  storable-moves : (k : Kind) (v : Value) → storable k (moved_value h v) ≡ option_map (moved_value h) (storable k v)
+  storable-moves : (k : Kind) (v : Value) → is_storable k (moved_value h v) ≡ is_storable k v
   storable-moves kind.Ref (Addr t) = refl
-  storable-moves k v = value-moves k v
+  storable-moves k v = has_kind-moves k v
 
   read-moves : (found : Option (Option Value)) → option_flatten (option_map (moved_slot h) found) ≡ option_map (moved_value h) (option_flatten found)
   read-moves None = refl
@@ -122,18 +126,13 @@ module _ (h : ℕ → ℕ) where
   chosen_outcome-moves true x x' y y' p q = p
   chosen_outcome-moves false x x' y y' p q = q
 
-  stores_value-moves : (slot : ℕ) (v : Option Value) (l : Locals) (o : Operands)
-      → stores_value slot (option_map (moved_value h) v) (moved_locals h l) (moved_operands h o) ≡ moved_outcome h (stores_value slot v l o)
-  stores_value-moves slot None l o = refl
-  stores_value-moves slot (Some v) l o =
-      ap (λ b. if b then GoesOn (stored (moved_locals h l) slot (moved_value h v)) (moved_operands h o) Next else Breaks false) (slots-moves l slot v)
-      ∙ chosen_outcome-moves (has_slots l slot v) (GoesOn (stored l slot v) o Next) _ (Breaks false) _
-      (ap (λ x. GoesOn x (moved_operands h o) Next) (stored-moves l slot v)) refl
-
   stores-moves : (k : Kind) (slot : ℕ) (l : Locals) (o : Operands) → stores k slot (moved_locals h l) (moved_operands h o) ≡ moved_outcome h (stores k slot l o)
   stores-moves k slot l [] = refl
   stores-moves k slot l (v ∷ below) =
-      ap (λ x. stores_value slot x (moved_locals h l) (moved_operands h below)) (storable-moves k v) ∙ stores_value-moves slot (storable k v) l below
+      ap (λ b. if b then GoesOn (stored (moved_locals h l) slot (moved_value h v)) (moved_operands h below) Next else Breaks false)
+      (ap (λ b. b && has_slots (moved_locals h l) slot (moved_value h v)) (storable-moves k v) ∙ ap (λ b. is_storable k v && b) (slots-moves l slot v))
+      ∙ chosen_outcome-moves (is_storable k v && has_slots l slot v) (GoesOn (stored l slot v) below Next) _ (Breaks false) _
+      (ap (λ x. GoesOn x (moved_operands h below) Next) (stored-moves l slot v)) refl
 
   -- ---- stack instructions, all nine
 

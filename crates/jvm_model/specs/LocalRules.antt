@@ -1,5 +1,5 @@
 -- What an instruction asks for that sees nothing but the locals and operands of its frame (JVM Specification 2.11, 6.5).
-use Rattle.std.specs.Prelude.{ℕ, suc, Bool, true, false, not, List, [], ◌∷◌, drop, Option, Some, None, slice_get, nat_lt, ◌==◌, if◌then◌else◌, ℤ, pos, negsuc, ◌-ℤ◌, int_lt, int_rem, codes}
+use Rattle.std.specs.Prelude.{ℕ, suc, Bool, true, false, not, List, [], ◌∷◌, drop, Option, Some, None, slice_get, nat_lt, ◌==◌, ◌&&◌, if◌then◌else◌, ℤ, pos, negsuc, ◌-ℤ◌, int_lt, int_rem, codes}
 use Rattle.std.specs.Option.{option_map}
 use Rattle.std.specs.Ordering.{int_eq}
 use Rattle.std.specs.Int.{Width, w8, w16, w32, w64, int_wrap, int_bit_and, int_bit_or, int_bit_xor}
@@ -7,7 +7,7 @@ use Rattle.heap_objects.specs.declared.Value.TheVariants.{Int, Long, Addr}
 use Rattle.const_pool.specs.declared.descriptor.Kind.{Kind}
 use Rattle.int_ops.specs.Arithmetic.{wrapped_sum, wrapped_difference, wrapped_product, wrapped_negation, wrapped_quotient, shifted_left, shifted_right, shifted_right_unsigned, comparison, zero_extended}
 use Rattle.jvm_model.specs.Data.{Datum, Value, Locals, Operands, IntOperator, Iadd, Isub, Imul, Ishl, Ishr, Iushr, Iand, Ior, Ixor, LongOperator, Ladd, Lsub, Lmul, Land, Lor, Lxor, Division, Quotient, Remainder, LongShift, Lshl, Lshr, Lushr, OfInt, Ineg, I2l, I2b, I2c, I2s, OfLong, Lneg, L2i, Comparison, Equal, NotEqual, Less, AtLeast, Greater, AtMost, Test, WithZero, OfInts, OfReferences, IsNull, Keys, Consecutive, Listed, Local, Nop, Constant, Load, Store, Arrange, BinaryOfInts, BinaryOfLongs, DivisionOfInts, DivisionOfLongs, ShiftOfLong, UnaryOfInt, UnaryOfLong, Lcmp, Iinc, Branch, Goto, Switch, Jsr, Ret, Return, Where, Next, Target, Back, Outcome, GoesOn, Subroutine, Returns, Raises, Breaks}
-use Rattle.jvm_model.specs.Values.{as_value, datum_of, loaded, storable, local_in, has_slots, stored, int_of, long_of, ref_of, ints_of, longs_of, long_and_int_of, refs_of, arranged}
+use Rattle.jvm_model.specs.Values.{as_value, datum_of, loaded, is_storable, local_in, has_slots, stored, int_of, long_of, ref_of, ints_of, longs_of, long_and_int_of, refs_of, arranged}
 use Rattle.jvm_model.specs.StackForms.{forms_of}
 
 -- ---- the operand stack
@@ -28,13 +28,10 @@ leaves (Some o) l = GoesOn l o Next
 
 -- ---- locals
 
-abbrev pub stores_value : ℕ → Option Value → Locals → Operands → Outcome
-stores_value slot None l o = Breaks false
-stores_value slot (Some v) l o = if has_slots l slot v then GoesOn (stored l slot v) o Next else Breaks false
-
 abbrev pub stores : Kind → ℕ → Locals → Operands → Outcome
 stores k slot l [] = Breaks false
-stores k slot l (v ∷ below) = stores_value slot (storable k v) l below
+stores k slot l (v ∷ below) =
+    if is_storable k v && has_slots l slot v then GoesOn (stored l slot v) below Next else Breaks false
 
 -- written as by a store
 abbrev pub increments : ℕ → ℤ → Option Value → Locals → Operands → Outcome

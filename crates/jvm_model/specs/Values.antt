@@ -66,16 +66,13 @@ refs_of _ = None
 
 -- the value in a local, where it is of this kind
 abbrev pub loaded : Kind → Option (Option Value) → Option Value
-loaded k (Some (Some v)) = option_map as_value (datum_of k v)
+loaded k (Some (Some v)) = if has_kind k v then Some v else None
 loaded k _ = None
 
--- astore also takes a return address
-abbrev pub storable : Kind → Value → Option Value
-storable kind.Ref (Addr t) = Some (Addr t)
-storable k v = option_map as_value (datum_of k v)
-
+-- astore also takes a return address, which aload does not give back
 abbrev pub is_storable : Kind → Value → Bool
-is_storable k v = is_some (storable k v)
+is_storable kind.Ref (Addr t) = true
+is_storable k v = has_kind k v
 
 -- what can be read from a local
 abbrev pub local_in : Locals → ℕ → Option Value
