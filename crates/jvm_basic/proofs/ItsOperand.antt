@@ -62,7 +62,7 @@ place-suits form.Wide a h s = absurd s
 place-suits form.Unknown a h s = absurd s
 place-suits _ a h s = absurd (false≢true h)
 
-choice-suits : (f : Form) (a : Arg) → suits Choice f ≡ true → HasShape f a → is_some (chosen a (pos 0)) ≡ true
+choice-suits : (f : Form) (a : Arg) → suits Choice f ≡ true → HasShape f a → is_some (keys_in a) ≡ true
 choice-suits form.Table a h s = subst (λ x. is_some (keys_in x) ≡ true) (sym s.3) refl
 choice-suits form.Lookup a h s = subst (λ x. is_some (keys_in x) ≡ true) (sym s.3) refl
 choice-suits form.Wide a h s = absurd s
