@@ -1,10 +1,10 @@
 -- A rule of the model with its places put in: by the instruction's own targets it is what it is by those that its family has.
-use Rattle.std.proofs.Common.{◌≡◌, ℕ, Bool, true, false, List, [], ◌∷◌, ℤ, refl, ap, subst}
+use Rattle.std.proofs.Common.{◌≡◌, ℕ, Bool, true, false, List, [], ◌∷◌, ℤ, refl, ap}
 use Rattle.std.specs.Prelude.{Option, Some, None, slice_get, ◌&&◌, if◌then◌else◌}
 use Rattle.std.specs.Option.{option_map, option_and_then}
 use Rattle.std.proofs.lemmas.Bool.{false≢true}
 use Rattle.heap_objects.specs.declared.Value.{Value}
-use Rattle.heap_objects.specs.declared.Value.TheVariants.{Int, Long, Ref, Addr}
+use Rattle.heap_objects.specs.declared.Value.TheVariants.{Int, Addr}
 use Rattle.heap_objects.specs.declared.datum.Datum.{Datum}
 use Rattle.const_pool.specs.declared.descriptor.Kind.{Kind}
 use Rattle.frame_stack.specs.FrameLists.{FramesView, with_frames, top_operands}
@@ -13,14 +13,14 @@ use Rattle.code_model.specs.declared.instr.Arg.TheVariants as arg
 use Rattle.jvm_model.specs.declared.family.Family.{Family}
 use Rattle.jvm_model.specs.declared.family.Family.TheVariants as family
 use Rattle.jvm_model.specs.declared.family.Test.{Test}
-use Rattle.jvm_model.specs.Data.{Locals, Operands, Keys, Local, Constant, Load, Store, Iinc, Branch, Goto, Jsr, Ret, Switch, Return}
-use Rattle.jvm_model.specs.Data.{Next as Behind, Target, Back, Subroutine}
+use Rattle.jvm_model.specs.Data.{Locals, Operands, Keys, Local, Constant, Load, Store, Iinc, Branch, Goto, Jsr, Ret, Switch}
+use Rattle.jvm_model.specs.Data.{Next as Behind, Target, Back}
 use Rattle.jvm_model.specs.Data.{Outcome as Asked, GoesOn as AsksOn, Breaks as AsksBreak}
 use Rattle.jvm_model.specs.Lines.{value_in, slot_in, increment_in, target_in, keys_in, targets_of}
 use Rattle.jvm_model.specs.LocalRules
 use Rattle.jvm_model.specs.StackForms.{forms_of}
-use Rattle.jvm_model.specs.Values.{datum_of, has_kind, loaded, is_storable, local_in, has_slots, stored, int_of, ints_of, longs_of, long_and_int_of, long_of, arranged}
-use Rattle.jvm_basic.specs.Outcomes.{Rule, Outcome, Leaves, top_locals, effect_in, frames_in, effect_of, after}
+use Rattle.jvm_model.specs.Values.{datum_of, loaded, is_storable, local_in, has_slots, stored, int_of, arranged}
+use Rattle.jvm_basic.specs.Outcomes.{Rule, Leaves, top_locals, effect_in, frames_in, effect_of, after}
 use Rattle.jvm_basic.specs.Rules.{datum_in, placed, going, needs, does, rule_by}
 
 -- ---- outcomes that name no target

@@ -1,5 +1,5 @@
 -- An instruction of a code has the operand that its family needs.
-use Rattle.std.proofs.Common.{◌≡◌, ◌<◌, Bool, true, false, pos, refl, sym, subst}
+use Rattle.std.proofs.Common.{◌≡◌, ◌<◌, Bool, true, false, refl, sym, subst}
 use Rattle.std.specs.Prelude.{is_some}
 use Rattle.std.specs.List.{list_all, range_with_len}
 use Rattle.std.proofs.lemmas.Bool.{false≢true}

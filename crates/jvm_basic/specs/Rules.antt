@@ -1,5 +1,5 @@
 -- The rules of jvm_model with places put in (JVM Specification 2.11, 6.5): the place behind the instruction, and its targets.
-use Rattle.std.specs.Prelude.{ℕ, true, false, List, [], ◌∷◌, Option, Some, None, unwrap_or, position, slice_get, ℤ}
+use Rattle.std.specs.Prelude.{ℕ, false, List, [], ◌∷◌, Option, Some, None, unwrap_or, position, slice_get, ℤ}
 use Rattle.std.specs.Option.{option_and_then}
 use Rattle.heap_objects.specs.declared.datum.Datum.TheVariants as datum
 use Rattle.heap_objects.specs.declared.Value.{Value}
@@ -26,7 +26,7 @@ use Rattle.jvm_model.specs.Families.{family_of}
 use Rattle.jvm_model.specs.Lines.{value_in, slot_in, increment_in, target_in, keys_in, local_of, targets_of}
 use Rattle.jvm_model.specs.LocalRules
 use Rattle.jvm_model.specs.StackForms.{forms_of}
-use Rattle.jvm_model.specs.Values.{int_of, arranged}
+use Rattle.jvm_model.specs.Values.{arranged}
 use Rattle.jvm_basic.specs.Outcomes.{Rule, Outcome, GoesOn, Raises, Breaks, Leaves}
 
 -- ---- places

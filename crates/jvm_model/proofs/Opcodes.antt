@@ -359,8 +359,8 @@ StaysAlike-operation c bytes at i o q lt stands is e =
     elim (operation-within c i.op i.arg f o is) [
       | inl named ↦ named-alike c i.op i.arg o named
       | inr local ↦ (
-        let runs_so = (family-fits f i.arg (constant_in c.pool i.arg) local.0 local.1 q (ap (resolved_in c) local.2 ∙ e)).0 in
-        form-alike (form_of i.wide i.op) i.arg (straight-form i.wide i.op lt runs_so) (known_at bytes at i stands).1.shape)
+          let runs_so = (family-fits f i.arg (constant_in c.pool i.arg) local.0 local.1 q (ap (resolved_in c) local.2 ∙ e)).0 in
+          form-alike (form_of i.wide i.op) i.arg (straight-form i.wide i.op lt runs_so) (known_at bytes at i stands).1.shape)
     ]
 
 -- ---- sipush

@@ -9,18 +9,14 @@ use Rattle.std.proofs.lemmas.Option.{same_Some, none-some}
 use Rattle.const_pool.specs.declared.class.ClassFile.{ClassFile}
 use Rattle.const_pool.specs.declared.class.Member.{Member}
 use Rattle.const_pool.specs.declared.class.CodeAttribute.{CodeAttribute}
-use Rattle.const_pool.specs.declared.class.Attribute.{Attribute}
-use Rattle.const_pool.specs.declared.class.Attribute.TheVariants.{ConstantValue, Code, Other}
 use Rattle.jvm_model.specs.PlainShape.{IsPlainCode, HasPlainCode}
-use Rattle.code_model.specs.declared.instr.Arg.{Arg}
-use Rattle.code_model.specs.declared.instr.Arg.TheVariants as arg
 use Rattle.code_model.specs.declared.instr.Instr.{Instr}
 use Rattle.code_model.specs.Instructions.{end_of, Reads}
 use Rattle.code_model.specs.Layout.{size_at}
 use Rattle.code_model.proofs.Lengths.{size_at-some}
 use Rattle.code_model.proofs.Readings.{at-instruction_at, instruction_at-past}
-use Rattle.jvm_model.specs.Data.{Operation, Instruction}
-use Rattle.jvm_model.specs.Methods.{code_among, code_of, method_code}
+use Rattle.jvm_model.specs.Data.{Instruction}
+use Rattle.jvm_model.specs.Methods.{code_of, method_code}
 use Rattle.jvm_model.specs.Lines.{next_of, targets_of, ends, code_instruction, method_instruction}
 use Rattle.jvm_model.specs.Originals.{catcher_of, method_handlers, original}
 use Rattle.jvm_model.specs.Programs.{alone}

@@ -1,5 +1,5 @@
 -- Instructions worked by hand: what each asks for of its frame.
-use Rattle.std.specs.Prelude.{◌≡◌, ℕ, false, List, [], ◌∷◌, Option, Some, None, pos, negsuc, refl, codes}
+use Rattle.std.specs.Prelude.{◌≡◌, ℕ, false, [], ◌∷◌, Option, Some, None, pos, negsuc, refl, codes}
 use Rattle.std.specs.Option.{option_map}
 use Rattle.std.specs.Int.{int_wrap}
 use Rattle.heap_objects.specs.declared.datum.Datum.TheVariants as datum

@@ -6,6 +6,7 @@ ghost use Rattle.jvm_model.specs.Families.{family_of};
 use crate::family::Arrangement::{Dup, Dup2, Dup2X1, Dup2X2, DupX1, DupX2, Pop, Pop2, Swap};
 use crate::family::Comparison::{AtLeast, AtMost, Equal, Greater, Less, NotEqual};
 use crate::family::Division::{Quotient, Remainder};
+use crate::family::Family;
 use crate::family::Family::{
     Arrange, BinaryOfInts, BinaryOfLongs, Branch, Constant, DivisionOfInts, DivisionOfLongs,
     Elsewhere, Given, Goto, Iinc, Immediate, Jsr, Lcmp, Load, LoadFrom, Nop, Ret, Return,
@@ -17,7 +18,6 @@ use crate::family::LongShift::{Lshl, Lshr, Lushr};
 use crate::family::OfInt::{I2b, I2c, I2l, I2s, Ineg};
 use crate::family::OfLong::{L2i, Lneg};
 use crate::family::Test::{IsNull, OfInts, OfReferences, WithZero};
-use crate::family::Family;
 use const_pool::Kind;
 use heap_objects::Datum::{Int, Long, Ref};
 
