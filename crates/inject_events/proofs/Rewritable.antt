@@ -1,8 +1,9 @@
 -- Each method of a small class can be rewritten.
-use Rattle.std.proofs.Common.{◌≡◌, ℕ, zero, suc, ◌<◌, true, List, [], ◌∷◌, length, Some, subst}
+use Rattle.std.proofs.Common.{◌≡◌, ℕ, zero, suc, ◌<◌, true, List, [], ◌∷◌, length, Some, refl, ap, subst, ◌∙◌}
 use Rattle.std.specs.Prelude.{slice_get, IfSome}
 use Rattle.std.specs.List.{AllByRecursion}
-use Rattle.std.proofs.lemmas.Option.{same_Some, none-some, option_and_then_some}
+use Rattle.std.specs.Option.{option_and_then}
+use Rattle.std.proofs.lemmas.Option.{same_Some, none-some}
 use Rattle.const_pool.specs.declared.pool.Const.{Const}
 use Rattle.const_pool.specs.declared.class.ClassFile.{ClassFile}
 use Rattle.const_pool.specs.declared.class.Member.{Member}
@@ -11,17 +12,14 @@ use Rattle.const_pool.specs.declared.class.Attribute.{Attribute}
 use Rattle.const_pool.specs.declared.class.Attribute.TheVariants.{ConstantValue, Code, Other}
 use Rattle.const_pool.specs.ClassFile.{IsMember, IsMethodAttribute}
 use Rattle.jvm_model.specs.PlainShape.{IsPlainCode, HasPlainCode}
-use Rattle.std.specs.List.{list_all}
-use Rattle.std.proofs.lemmas.Bool.{and_parts}
-use Rattle.const_pool.specs.declared.descriptor.Shape.{Shape}
 use Rattle.code_model.specs.declared.instr.Instr.{Instr}
 use Rattle.code_model.specs.Groups.{targets_of}
-use Rattle.jvm_model.specs.Lines.{operation_of}
-use Rattle.jvm_model.specs.Resolved.{resolved_in, resolved_of}
-use Rattle.jvm_model.specs.SmallClass.{fits_method, is_small_instr}
-use Rattle.jvm_model.proofs.ImageLines.{some-passed}
-use Rattle.jvm_model.proofs.Opcodes.{StaysAlike-operation}
-use Rattle.jvm_model.specs.Methods.{code_among}
+use Rattle.code_model.specs.declared.instr.Code.{Code as Reading}
+use Rattle.code_model.specs.Instructions.{IsReading}
+use Rattle.jvm_model.specs.Agreement.{IsStart}
+use Rattle.jvm_model.specs.Methods.{code_among, code_of, method_code}
+use Rattle.jvm_model.proofs.ImageMethods.{each-nth}
+use Rattle.jvm_model.proofs.Starts.{HasLine-start}
 use Rattle.jvm_model.specs.StandsFor.{IsBuilt}
 use Rattle.inject_events.specs.Instrumentable.{AreRewritable}
 
@@ -38,14 +36,12 @@ not_empty pool (Other raw ∷ rest) code formed coded = not_empty pool rest code
 not_empty pool (Code name old ∷ rest) code formed coded = subst (λ (c : CodeAttribute). 0 < length c.code) (same_Some old code coded) formed.0.2.some
 
 -- small instructions have no targets
-all_straight : (c : ClassFile) (k most : ℕ) (shape : Shape) (is : List Instr) → list_all (is_small_instr c k most shape) is ≡ true → AllByRecursion (λ (i : Instr). targets_of i.arg ≡ []) is
-all_straight c k most shape [] small = tt
-all_straight c k most shape (i ∷ is) small =
-    let both = and_parts (is_small_instr c k most shape i) (list_all (is_small_instr c k most shape) is) small in
-    let does = some-passed (fits_method k most shape) (resolved_of c i) both.0 in (
-      option_and_then_some (resolved_in c) (operation_of c i) does.0 does.1 (λ o found resolved. (StaysAlike-operation c i o found).straight),
-      all_straight c k most shape is both.1,
-    )
+all_straight : (c : ClassFile) (k : ℕ) (code : CodeAttribute) (reading : Reading) → IsBuilt c → method_code c k ≡ Some code → IsReading code.code reading
+    → AllByRecursion (λ (i : Instr). targets_of i.arg ≡ []) reading.instrs
+all_straight c k code reading built coded reads =
+    each-nth (λ (i : Instr). targets_of i.arg ≡ []) reading.instrs (λ n i e. (
+    let start : IsStart c k i.at = record { code = code; coded = coded; reading = reading; reads = reads; nth = n; instr = i; stands = e; here = refl } in
+    (HasLine-start c k i.at built start).alike.straight))
 
 pub AreRewritable-methods : (c : ClassFile) → IsBuilt c → AreRewritable c.methods
 AreRewritable-methods c is k m at =
@@ -56,5 +52,5 @@ AreRewritable-methods c is k m at =
     record {
       code = method.code;
       coded = method.coded;
-      rewritable = record { some = some; plain = plain; readable = record { reading = method.small.reading; reads = method.small.reads; straight = all_straight c k method.code.max_locals method.shape method.small.reading.instrs method.small.small } };
+      rewritable = record { some = some; plain = plain; readable = record { reading = method.small.reading; reads = method.small.reads; straight = all_straight c k method.code method.small.reading is (ap (option_and_then code_of) at ∙ method.coded) method.small.reads } };
     }

@@ -1,7 +1,7 @@
 -- Which instructions are left to others, and which throw.
 use Rattle.std.proofs.Common.{◌≡◌, ◌↔◌, ℕ, ◌<◌, Bool, true, false, not, cond, get_or, length, List, [], ◌∷◌, ℤ, pos, refl, sym, ap, ◌∙◌, subst, arith}
-use Rattle.std.specs.Prelude.{Option, Some, None, IsTrue, ◌&&◌, if◌then◌else◌}
-use Rattle.std.specs.Option.{option_map}
+use Rattle.std.specs.Prelude.{Option, Some, None, IsTrue, drop, slice_get, if◌then◌else◌}
+use Rattle.std.specs.Option.{option_map, option_and_then}
 use Rattle.std.specs.Ordering.{int_eq}
 use Rattle.std.specs.Int.{Width, w32, w64}
 use Rattle.std.specs.List.{list_all, range_with_len}
@@ -9,23 +9,29 @@ use Rattle.std.proofs.lemmas.Bool.{false≢true}
 use Rattle.std.proofs.lemmas.List.FromFn.{length-range_with_len, get_or-range_with_len}
 use Rattle.std.proofs.lemmas.List.Sums.{AllPass-from_list_all}
 use Rattle.heap_objects.specs.declared.Value.{Value}
-use Rattle.heap_objects.specs.declared.Value.TheVariants.{Int, Long, Ref, Addr}
+use Rattle.heap_objects.specs.declared.Value.TheVariants.{Int, Long}
 use Rattle.frame_stack.specs.FrameLists.{PlacedFrame, FramesView, with_frames, top_operands}
 use Rattle.code_model.specs.declared.instr.Arg.{Arg}
 use Rattle.code_model.specs.declared.instr.Instr.{Instr}
 use Rattle.op_table.specs.Opcodes.{groups, row_of}
 use Rattle.jvm_basic.specs.declared.effect.Effect.{Effect}
 use Rattle.jvm_basic.specs.declared.effect.Effect.TheVariants.{Next, Throws, Bad, Other}
-use Rattle.jvm_basic.specs.declared.family.Division.{Division}
-use Rattle.jvm_basic.specs.declared.family.Kind.{Kind}
-use Rattle.jvm_basic.specs.declared.family.Test.{Test}
-use Rattle.jvm_basic.specs.declared.family.Family.{Family}
-use Rattle.jvm_basic.specs.declared.family.Family.TheVariants as family
-use Rattle.jvm_basic.specs.Families.{rows, family_of}
-use Rattle.jvm_basic.specs.Outcomes.{Locals, Operands, Outcome, GoesOn, Raises, Breaks, Leaves, Rule, can_hold, with_top, effect_in, frames_in, asked, effect_of, after}
-use Rattle.jvm_basic.specs.Values.{int_of, ints_of, longs_of, local_in, has_kind, is_storable, has_slots, stored}
-use Rattle.jvm_basic.specs.StackForms.{forms_of, arranged}
-use Rattle.jvm_basic.specs.Rules.{arithmetic_exception, replaces, divided, divided_by, divides_these, loads_value, loads, stores, increments_value, increments, leaves, goes_if, branches, holds, tests, goes_to, chosen, switches_on, calls_subroutine, goes_back_to, goes_back, value_in, slot_in, increment_in, target_in, does, rule_of}
+use Rattle.jvm_model.specs.declared.family.Division.{Division}
+use Rattle.jvm_model.specs.declared.family.Family.{Family}
+use Rattle.jvm_model.specs.declared.family.Family.TheVariants as family
+use Rattle.jvm_model.specs.Families.{rows, family_of}
+use Rattle.jvm_model.specs.Data.{Locals, Operands}
+use Rattle.jvm_basic.specs.Outcomes.{Outcome, GoesOn, Raises, Breaks, Leaves, Rule, can_hold, with_top, effect_in, frames_in, asked, effect_of, after}
+use Rattle.jvm_model.specs.Values.{loaded, int_of, ints_of, longs_of, local_in}
+use Rattle.jvm_model.specs.StackForms.{forms_of}
+use Rattle.jvm_model.specs.Values.{arranged}
+use Rattle.jvm_model.specs.Data.{Keys, Next as Behind, Target, Back}
+use Rattle.jvm_model.specs.Data.{Outcome as Asked, GoesOn as AsksOn, Breaks as AsksBreak}
+use Rattle.jvm_model.specs.Lines.{value_in, slot_in, increment_in, target_in, keys_in, targets_of}
+use Rattle.jvm_model.specs.LocalRules
+use Rattle.jvm_basic.specs.Rules.{datum_in, arithmetic_exception, goes_at, placed, needs, does, rule_by, rule_of}
+use Rattle.jvm_basic.proofs.Fitting.{arithmetic-position}
+use Rattle.jvm_basic.proofs.Asked.{is_simple, pushes-simple, replaces-simple, leaves-simple, stores-simple, increments-simple, back-simple, does-is}
 use Rattle.jvm_basic.specs.Laws.{is_elsewhere, has_zero_divisor, divides_by_zero}
 
 -- ---- an outcome that stays within the frame: the frame goes on, or breaks
@@ -39,73 +45,30 @@ stays Leaves = false
 abbrev Stays : Outcome → Type 0
 Stays outcome = stays outcome ≡ true
 
-replaces-stays : (n : ℕ) (v : Option Value) (next : ℕ) (l : Locals) (o : Operands) → Stays (replaces n v next l o)
-replaces-stays n None next l o = refl
-replaces-stays n (Some v) next l o = refl
+at-stays : (l : Locals) (o : Operands) (place : Option ℕ) → Stays (goes_at l o place)
+at-stays l o None = refl
+at-stays l o (Some place) = refl
 
-choice-stays : (b : Bool) (x y : Outcome) → Stays x → Stays y → Stays (if b then x else y)
-choice-stays true x y h k = h
-choice-stays false x y h k = k
+simple-stays : (x : Asked) (next : ℕ) (targets : List ℕ) (l : Locals) (o : Operands) → is_simple x ≡ true → Stays (placed next targets l o x)
+simple-stays (AsksOn m p Behind) next targets l o h = refl
+simple-stays (AsksOn m p (Back t)) next targets l o h = refl
+simple-stays (AsksOn m p (Target k)) next targets l o h = absurd (false≢true h)
+simple-stays (AsksBreak false) next targets l o h = refl
+simple-stays (AsksBreak true) next targets l o h = absurd (false≢true h)
+simple-stays _ next targets l o h = absurd (false≢true h)
 
-loads-value-stays : (k : Kind) (v : Option Value) (next : ℕ) (l : Locals) (o : Operands) → Stays (loads_value k v next l o)
-loads-value-stays k None next l o = refl
-loads-value-stays k (Some v) next l o = choice-stays (has_kind k v) _ _ refl refl
+needs-stays : {A : Type 0} (v : Option A) (rule : A → Rule) (l : Locals) (o : Operands) → ((x : A) → Stays (rule x l o)) → Stays (needs v rule l o)
+needs-stays None rule l o each = refl
+needs-stays (Some x) rule l o each = each x
 
-loads-stays : (k : Kind) (slot : Option ℕ) (next : ℕ) (l : Locals) (o : Operands) → Stays (loads k slot next l o)
-loads-stays k None next l o = refl
-loads-stays k (Some slot) next l o = loads-value-stays k (local_in l slot) next l o
+branch-stays : (b : Option Bool) (taken next target : ℕ) (l : Locals) (o : Operands) → Stays (placed next (target ∷ []) l o (LocalRules.goes_if b taken l o))
+branch-stays None taken next target l o = refl
+branch-stays (Some true) taken next target l o = refl
+branch-stays (Some false) taken next target l o = refl
 
-stores-stays : (k : Kind) (slot : Option ℕ) (next : ℕ) (l : Locals) (o : Operands) → Stays (stores k slot next l o)
-stores-stays k None next l o = refl
-stores-stays k (Some slot) next l [] = refl
-stores-stays k (Some slot) next l (v ∷ o) =
-    choice-stays (is_storable k v && has_slots l slot v) (GoesOn (stored l slot v) o next) Breaks refl refl
-
-increments-value-stays : (slot : ℕ) (d : ℤ) (v : Option Value) (next : ℕ) (l : Locals) (o : Operands) → Stays (increments_value slot d v next l o)
-increments-value-stays slot d None next l o = refl
-increments-value-stays slot d (Some (Int n)) next l o = refl
-increments-value-stays slot d (Some (Long n)) next l o = refl
-increments-value-stays slot d (Some (Ref n)) next l o = refl
-increments-value-stays slot d (Some (Addr n)) next l o = refl
-
-increments-stays : (x : Option (ℕ × ℤ)) (next : ℕ) (l : Locals) (o : Operands) → Stays (increments x next l o)
-increments-stays None next l o = refl
-increments-stays (Some (slot, d)) next l o = increments-value-stays slot d (local_in l slot) next l o
-
-leaves-stays : (x : Option Operands) (next : ℕ) (l : Locals) → Stays (leaves x next l)
-leaves-stays None next l = refl
-leaves-stays (Some o) next l = refl
-
-goes-if-stays : (b : Option Bool) (taken target next : ℕ) (l : Locals) (o : Operands) → Stays (goes_if b taken target next l o)
-goes-if-stays None taken target next l o = refl
-goes-if-stays (Some b) taken target next l o = refl
-
-branches-stays : (t : Test) (target : Option ℕ) (next : ℕ) (l : Locals) (o : Operands) → Stays (branches t target next l o)
-branches-stays t None next l o = refl
-branches-stays t (Some target) next l o = goes-if-stays (holds t o) (tests t) target next l o
-
-goes-to-stays : (target : Option ℕ) (l : Locals) (o : Operands) → Stays (goes_to target l o)
-goes-to-stays None l o = refl
-goes-to-stays (Some target) l o = refl
-
-switches-stays : (a : Arg) (n : Option ℤ) (l : Locals) (o : Operands) → Stays (switches_on a n l o)
-switches-stays a None l o = refl
-switches-stays a (Some n) l o = goes-to-stays (chosen a n) l _
-
-subroutine-stays : (target : Option ℕ) (next : ℕ) (l : Locals) (o : Operands) → Stays (calls_subroutine target next l o)
-subroutine-stays None next l o = refl
-subroutine-stays (Some target) next l o = refl
-
-back-to-stays : (v : Option Value) (l : Locals) (o : Operands) → Stays (goes_back_to v l o)
-back-to-stays None l o = refl
-back-to-stays (Some (Int n)) l o = refl
-back-to-stays (Some (Long n)) l o = refl
-back-to-stays (Some (Ref n)) l o = refl
-back-to-stays (Some (Addr n)) l o = refl
-
-back-stays : (slot : Option ℕ) (l : Locals) (o : Operands) → Stays (goes_back slot l o)
-back-stays None l o = refl
-back-stays (Some slot) l o = back-to-stays (local_in l slot) l o
+switch-stays : (keys : Keys) (n : Option ℤ) (targets : List ℕ) (l : Locals) (o : Operands) → Stays (placed 0 targets l o (LocalRules.switches_on keys n l o))
+switch-stays keys None targets l o = refl
+switch-stays keys (Some n) targets l o = at-stays l (drop 1 o) (slice_get targets (LocalRules.target_by keys n))
 
 -- ---- what an instruction comes to, of every family
 
@@ -145,50 +108,62 @@ lacks (Some None) = true
 lacks (Some (Some v)) = false
 lacks None = false
 
-divides-comes : (x : Option (Option Value)) (next : ℕ) (l : Locals) (o : Operands) (z : Bool) → lacks x ≡ z → Comes (divides_these x next l o) false z
+divides-comes : (x : Option (Option Value)) (next : ℕ) (l : Locals) (o : Operands) (z : Bool) → lacks x ≡ z
+    → Comes (placed next [] l o (LocalRules.divides_these x l o)) false z
 divides-comes None next l o z h = record { left = refl; throws = h; only = λ class e. absurd (false≢true (ap throwing e)) }
-divides-comes (Some None) next l o z h = record { left = refl; throws = h; only = λ class e. sym (ap class_of e) }
+divides-comes (Some None) next l o z h = record { left = refl; throws = h; only = λ class e. sym (ap class_of e) ∙ arithmetic-position }
 divides-comes (Some (Some v)) next l o z h = record { left = refl; throws = h; only = λ class e. absurd (false≢true (ap throwing e)) }
 
 quotient-lacks : (op : Division) (w : Width) (make : ℤ → Value) (x : Option (ℤ × ℤ))
-    → lacks (option_map (λ p. option_map make (divided op w p.0 p.1)) x) ≡ has_zero_divisor x
+    → lacks (option_map (λ p. option_map make (LocalRules.divided op w p.0 p.1)) x) ≡ has_zero_divisor x
 quotient-lacks op w make None = refl
-quotient-lacks op w make (Some p) = by (int_eq p.1 (pos 0)) (divided_by op w p.0 p.1)
+quotient-lacks op w make (Some p) = by (int_eq p.1 (pos 0)) (LocalRules.divided_by op w p.0 p.1)
   where
     by : (b : Bool) (q : ℤ) → lacks (Some (option_map make (if b then None else Some q))) ≡ b
     by true q = refl
     by false q = refl
 
--- the family that is done elsewhere
+-- the families that are left to others
 abbrev other : Family → Bool
 other family.Elsewhere = true
+other (family.Return k) = true
 other _ = false
+
+left-comes : Comes Leaves true false
+left-comes = record { left = refl; throws = refl; only = λ class e. absurd (false≢true (ap throwing e)) }
 
 comes : (f : Family) (a : Arg) (c : Option Value) (next : ℕ) (l : Locals) (o : Operands) → Comes (does f a c next l o) (other f) (divides_by_zero f o)
 comes family.Nop a c next l o = stays-comes _ refl
-comes (family.Constant v) a c next l o = stays-comes _ refl
-comes family.Given a c next l o = stays-comes _ (replaces-stays 0 c next l o)
-comes family.Immediate a c next l o = stays-comes _ (replaces-stays 0 (value_in a) next l o)
-comes (family.Load k) a c next l o = stays-comes _ (loads-stays k (slot_in a) next l o)
-comes (family.LoadFrom k slot) a c next l o = stays-comes _ (loads-stays k (Some slot) next l o)
-comes (family.Store k) a c next l o = stays-comes _ (stores-stays k (slot_in a) next l o)
-comes (family.StoreTo k slot) a c next l o = stays-comes _ (stores-stays k (Some slot) next l o)
-comes (family.Arrange op) a c next l o = stays-comes _ (leaves-stays (arranged (forms_of op) o) next l)
-comes (family.BinaryOfInts op) a c next l o = stays-comes _ (replaces-stays 2 _ next l o)
-comes (family.BinaryOfLongs op) a c next l o = stays-comes _ (replaces-stays 2 _ next l o)
+comes (family.Constant d) a c next l o = stays-comes _ refl
+comes family.Given a c next l o = stays-comes _ (needs-stays (option_and_then datum_in c) _ l o (λ d. refl))
+comes family.Immediate a c next l o = stays-comes _ (needs-stays (value_in a) _ l o (λ d. refl))
+comes (family.Load k) a c next l o = stays-comes _ (needs-stays (slot_in a) _ l o (λ n. simple-stays _ next [] l o (pushes-simple (loaded k (slice_get l n)) l o)))
+comes (family.LoadFrom k slot) a c next l o = stays-comes _ (simple-stays _ next [] l o (pushes-simple (loaded k (slice_get l slot)) l o))
+comes (family.Store k) a c next l o = stays-comes _ (needs-stays (slot_in a) _ l o (λ n. simple-stays _ next [] l o (stores-simple k n l o)))
+comes (family.StoreTo k slot) a c next l o = stays-comes _ (simple-stays _ next [] l o (stores-simple k slot l o))
+comes (family.Arrange op) a c next l o = stays-comes _ (simple-stays _ next [] l o (leaves-simple (arranged (forms_of op) o) l))
+comes (family.BinaryOfInts op) a c next l o = stays-comes _ (simple-stays _ next [] l o (replaces-simple 2 _ l o))
+comes (family.BinaryOfLongs op) a c next l o = stays-comes _ (simple-stays _ next [] l o (replaces-simple 2 _ l o))
 comes (family.DivisionOfInts op) a c next l o = divides-comes _ next l o _ (quotient-lacks op w32 Int (ints_of o))
 comes (family.DivisionOfLongs op) a c next l o = divides-comes _ next l o _ (quotient-lacks op w64 Long (longs_of o))
-comes (family.ShiftOfLong op) a c next l o = stays-comes _ (replaces-stays 2 _ next l o)
-comes (family.UnaryOfInt op) a c next l o = stays-comes _ (replaces-stays 1 _ next l o)
-comes (family.UnaryOfLong op) a c next l o = stays-comes _ (replaces-stays 1 _ next l o)
-comes family.Lcmp a c next l o = stays-comes _ (replaces-stays 2 _ next l o)
-comes family.Iinc a c next l o = stays-comes _ (increments-stays (increment_in a) next l o)
-comes (family.Branch test) a c next l o = stays-comes _ (branches-stays test (target_in a) next l o)
-comes family.Goto a c next l o = stays-comes _ (goes-to-stays (target_in a) l o)
-comes family.Jsr a c next l o = stays-comes _ (subroutine-stays (target_in a) next l o)
-comes family.Ret a c next l o = stays-comes _ (back-stays (slot_in a) l o)
-comes family.Switch a c next l o = stays-comes _ (switches-stays a (int_of o) l o)
-comes family.Elsewhere a c next l o = record { left = refl; throws = refl; only = λ class e. absurd (false≢true (ap throwing e)) }
+comes (family.ShiftOfLong op) a c next l o = stays-comes _ (simple-stays _ next [] l o (replaces-simple 2 _ l o))
+comes (family.UnaryOfInt op) a c next l o = stays-comes _ (simple-stays _ next [] l o (replaces-simple 1 _ l o))
+comes (family.UnaryOfLong op) a c next l o = stays-comes _ (simple-stays _ next [] l o (replaces-simple 1 _ l o))
+comes family.Lcmp a c next l o = stays-comes _ (simple-stays _ next [] l o (replaces-simple 2 _ l o))
+comes family.Iinc a c next l o =
+    stays-comes _ (needs-stays (increment_in a) _ l o (λ p. simple-stays _ next [] l o (increments-simple p.0 p.1 (local_in l p.0) l o)))
+comes (family.Branch test) a c next l o =
+    stays-comes _ (needs-stays (target_in a) _ l o (λ t. branch-stays (LocalRules.holds test o) (LocalRules.tests test) next t l o))
+comes family.Goto a c next l o = stays-comes _ (needs-stays (target_in a) _ l o (λ t. refl))
+comes family.Jsr a c next l o = stays-comes _ (needs-stays (target_in a) _ l o (λ t. refl))
+comes family.Ret a c next l o = stays-comes _ (needs-stays (slot_in a) _ l o (λ n. simple-stays _ 0 [] l o (back-simple (local_in l n) l o)))
+comes family.Switch a c next l o = stays-comes _ (needs-stays (keys_in a) _ l o (λ keys. switch-stays keys (int_of o) (targets_of a) l o))
+comes (family.Return k) a c next l o = left-comes
+comes family.Elsewhere a c next l o = left-comes
+
+rule-comes : (f : Family) (a : Arg) (c : Option Value) (next : ℕ) (l : Locals) (o : Operands)
+    → Comes (rule_by f a (option_and_then datum_in c) next l o) (other f) (divides_by_zero f o)
+rule-comes f a c next l o = subst (λ x. Comes x (other f) (divides_by_zero f o)) (does-is f a c next l o) (comes f a c next l o)
 
 -- ---- as an effect
 
@@ -273,20 +248,20 @@ pub other-exactly : (i : Instr) (c : Option Value) (next : ℕ) (s : FramesView)
 other-exactly i c next s h =
     let x = asked (rule_of i c next) s.frames in
     let is : is_other (effect_in x s.frames) ≡ is_elsewhere i.op =
-    effect-other x s.frames ∙ ((comes (family_of i.op) i.arg c next _ _).left ∙ elsewhere-is i.op h) in
+    effect-other x s.frames ∙ ((rule-comes (family_of i.op) i.arg c next _ _).left ∙ elsewhere-is i.op h) in
     (λ e. sym is ∙ ap is_other e, λ e. other-is (effect_in x s.frames) (is ∙ e))
 
 pub throws-only : (i : Instr) (c : Option Value) (next : ℕ) (s : FramesView) (class : ℕ)
     → effect_of (rule_of i c next) s ≡ Throws class → class ≡ arithmetic_exception
 throws-only i c next s class e =
-    (comes (family_of i.op) i.arg c next _ _).only class (effect-raises (asked (rule_of i c next) s.frames) s.frames class e)
+    (rule-comes (family_of i.op) i.arg c next _ _).only class (effect-raises (asked (rule_of i c next) s.frames) s.frames class e)
 
 pub throws-exactly : (i : Instr) (c : Option Value) (next : ℕ) (s : FramesView)
     → (effect_of (rule_of i c next) s ≡ Throws arithmetic_exception) ↔ IsTrue (divides_by_zero (family_of i.op) (top_operands s.frames))
 throws-exactly i c next s =
     let x = asked (rule_of i c next) s.frames in
     let is : is_throw (effect_in x s.frames) ≡ divides_by_zero (family_of i.op) (top_operands s.frames) =
-    effect-throws x s.frames ∙ (comes (family_of i.op) i.arg c next _ _).throws in
+    effect-throws x s.frames ∙ (rule-comes (family_of i.op) i.arg c next _ _).throws in
     (λ e. sym is ∙ ap is_throw e, λ e. thrown-is (effect_in x s.frames) (is ∙ e) (λ class. throws-only i c next s class))
   where
     thrown-is : (e : Effect) → is_throw e ≡ true → ((class : ℕ) → e ≡ Throws class → class ≡ arithmetic_exception) → e ≡ Throws arithmetic_exception

@@ -1,13 +1,17 @@
--- The result of an instruction fits where its operands stood.
-use Rattle.std.proofs.Common.{◌≡◌, ℕ, ◌≤◌, ℤ, Bool, true, List, [], ◌∷◌, drop, arith}
-use Rattle.std.specs.Prelude.{nat_le, Some, None}
+-- The result of an instruction fits where its operands stood; and the exception of a zero divisor.
+use Rattle.std.proofs.Common.{◌≡◌, ℕ, ◌≤◌, ℤ, Bool, true, List, [], ◌∷◌, drop, refl, arith}
+use Rattle.std.specs.Prelude.{nat_le, Some, None, slice_get, codes}
+use Rattle.const_pool.specs.BuiltIn.{built_in_names}
+use Rattle.jvm_model.specs.LocalRules
+use Rattle.jvm_basic.specs.Rules.{class_position, arithmetic_exception}
 use Rattle.std.proofs.lemmas.Bool.{le-leb}
 use Rattle.heap_objects.specs.declared.Value.{Value}
 use Rattle.heap_objects.specs.declared.Value.TheVariants.{Int, Long, Ref, Addr}
 use Rattle.frame_stack.specs.Widths.{height_of}
 use Rattle.frame_stack.specs.FrameLists.{PlacedFrame, AreSound, top_operands}
-use Rattle.jvm_basic.specs.Outcomes.{Operands, can_hold}
-use Rattle.jvm_basic.specs.Values.{ints_of, longs_of, long_and_int_of}
+use Rattle.jvm_model.specs.Data.{Operands}
+use Rattle.jvm_basic.specs.Outcomes.{can_hold}
+use Rattle.jvm_model.specs.Values.{ints_of, longs_of, long_and_int_of}
 
 -- the value on top of those left is within a height
 abbrev fits : Operands → ℕ → Value → Bool
@@ -46,4 +50,12 @@ pub shift-fits : (fs : List PlacedFrame) (p : ℤ × ℤ) (n : ℤ) → AreSound
 shift-fits [] p n h e = absurd (none p e)
 shift-fits (f ∷ fs) p n h e = shift-fits-in f.operands f.max_stack p n h.0.operands e
 
-pub ruleset fitting = (ints-fit, longs-fit, shift-fits)
+-- the exception of a zero divisor, among the built-in classes
+pub arithmetic-is-named : slice_get built_in_names arithmetic_exception ≡ Some (codes "java/lang/ArithmeticException")
+arithmetic-is-named = refl
+
+pub arithmetic-position : class_position LocalRules.arithmetic_exception ≡ arithmetic_exception
+unfolding class_position
+arithmetic-position = refl
+
+pub ruleset fitting = (ints-fit, longs-fit, shift-fits, arithmetic-position)

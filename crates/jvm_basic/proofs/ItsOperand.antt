@@ -1,5 +1,5 @@
 -- An instruction of a code has the operand that its family needs.
-use Rattle.std.proofs.Common.{◌≡◌, ◌<◌, Bool, true, false, pos, refl, sym, subst}
+use Rattle.std.proofs.Common.{◌≡◌, ◌<◌, Bool, true, false, refl, sym, subst}
 use Rattle.std.specs.Prelude.{is_some}
 use Rattle.std.specs.List.{list_all, range_with_len}
 use Rattle.std.proofs.lemmas.Bool.{false≢true}
@@ -11,8 +11,8 @@ use Rattle.code_model.specs.declared.instr.Instr.{Instr}
 use Rattle.code_model.specs.Operands.{form_of}
 use Rattle.code_model.proofs.Spelled.{HasShape, instruction_spelled}
 use Rattle.code_model.proofs.Readings.{stands_from}
-use Rattle.jvm_basic.specs.Families.{rows, family_of}
-use Rattle.jvm_basic.specs.Rules.{value_in, slot_in, increment_in, target_in, chosen}
+use Rattle.jvm_model.specs.Families.{rows, family_of}
+use Rattle.jvm_model.specs.Lines.{value_in, slot_in, increment_in, target_in, keys_in}
 use Rattle.jvm_basic.specs.Laws.{Need, Nothing, Number, Slot, Increment, Place, Choice, need_of, has_operand, HasItsOperand}
 use Rattle.jvm_basic.proofs.Exact.{holds-below}
 
@@ -62,9 +62,9 @@ place-suits form.Wide a h s = absurd s
 place-suits form.Unknown a h s = absurd s
 place-suits _ a h s = absurd (false≢true h)
 
-choice-suits : (f : Form) (a : Arg) → suits Choice f ≡ true → HasShape f a → is_some (chosen a (pos 0)) ≡ true
-choice-suits form.Table a h s = subst (λ x. is_some (chosen x (pos 0)) ≡ true) (sym s.3) refl
-choice-suits form.Lookup a h s = subst (λ x. is_some (chosen x (pos 0)) ≡ true) (sym s.3) refl
+choice-suits : (f : Form) (a : Arg) → suits Choice f ≡ true → HasShape f a → is_some (keys_in a) ≡ true
+choice-suits form.Table a h s = subst (λ x. is_some (keys_in x) ≡ true) (sym s.3) refl
+choice-suits form.Lookup a h s = subst (λ x. is_some (keys_in x) ≡ true) (sym s.3) refl
 choice-suits form.Wide a h s = absurd s
 choice-suits form.Unknown a h s = absurd s
 choice-suits _ a h s = absurd (false≢true h)

@@ -1,12 +1,13 @@
 -- What is left of the keys of a switch, and of their targets.
-use Rattle.std.proofs.Common.{◌≡◌, ℕ, zero, suc, ◌+◌, Bool, true, false, ℤ, List, [], ◌∷◌, drop, refl, sym, ap, ◌∙◌, arith}
-use Rattle.std.specs.Prelude.{Some, None, slice_get, if◌then◌else◌}
+use Rattle.std.proofs.Common.{◌≡◌, ℕ, zero, suc, ◌+◌, ◌≤◌, pos, Bool, true, false, ℤ, List, [], ◌∷◌, drop, length, refl, sym, ap, ◌∙◌, arith}
+use Rattle.std.specs.Prelude.{Some, None, slice_get, nat_lt, if◌then◌else◌}
 use Rattle.std.specs.Ordering.{int_eq}
 use Rattle.std.proofs.Math.Seq.{drop-cons}
+use Rattle.std.proofs.lemmas.Bool.{lt-ltb, ltb-true}
 use Rattle.std.proofs.lemmas.Bool.Decides.{Decides-int_eq}
 use Rattle.std.proofs.lemmas.Int.{to_z-of_z}
 use Rattle.std.proofs.lemmas.Option.{slice_get_within, get_or_from_slice_get}
-use Rattle.jvm_basic.specs.Rules.{target_of}
+use Rattle.jvm_model.specs.LocalRules.{target_at, target_of}
 
 none : {A : Type 0} (x : A) → Some x ≡ None → ⊥
 none x e = cc
@@ -23,25 +24,16 @@ drop-past (suc i) [] e = refl
 drop-past zero (x ∷ xs) e = absurd (none x (sym e))
 drop-past (suc i) (x ∷ xs) e = drop-past i xs e
 
-pub met : (default : ℕ) (keys : List ℤ) (targets : List ℕ) (n : ℤ) (i : ℕ) (key : ℤ) (target : ℕ)
-    → Some key ≡ slice_get keys i → Some target ≡ slice_get targets i
-    → target_of default (drop i keys) (drop i targets) n
-    ≡ (if int_eq key n then target else target_of default (drop (i + 1) keys) (drop (i + 1) targets) n)
-met default keys targets n i key target k t = rw (drop-at keys i key k, drop-at targets i target t) refl
+-- ---- what is left of the keys, from the target of the first of them on
 
-pub past-keys : (default : ℕ) (keys : List ℤ) (targets : List ℕ) (n : ℤ) (i : ℕ)
-    → None ≡ slice_get keys i → target_of default (drop i keys) targets n ≡ default
-past-keys default keys targets n i e = rw (drop-past i keys e) refl
+pub past : (keys : List ℤ) (k : ℕ) (n : ℤ) (i : ℕ) → None ≡ slice_get keys i → target_of (drop i keys) k n ≡ 0
+past keys k n i e = rw (drop-past i keys e) refl
 
-pub past-targets : (default : ℕ) (keys : List ℤ) (targets : List ℕ) (n : ℤ) (i : ℕ)
-    → None ≡ slice_get targets i → target_of default keys (drop i targets) n ≡ default
-past-targets default [] targets n i e = refl
-past-targets default (key ∷ keys) targets n i e = rw (drop-past i targets e) refl
-
-pub found : (default : ℕ) (keys : List ℤ) (targets : List ℕ) (n : ℤ) (i : ℕ) (key : ℤ) (target : ℕ)
-    → Some key ≡ slice_get keys i → Some target ≡ slice_get targets i → int_eq key n ≡ true
-    → target_of default (drop i keys) (drop i targets) n ≡ target
-found default keys targets n i key target k t same = met default keys targets n i key target k t ∙ rw same refl
+pub found : (default : ℕ) (keys : List ℤ) (targets : List ℕ) (n : ℤ) (i : ℕ) (key : ℤ) → Some key ≡ slice_get keys i → int_eq key n ≡ true
+    → slice_get (default ∷ targets) (target_of (drop i keys) (i + 1) n) ≡ slice_get targets i
+found default keys targets n i key e same =
+    let one : i + 1 ≡ suc i = omega arith in
+    rw (drop-at keys i key e) (rw same (ap (slice_get (default ∷ targets)) one))
 
 other : (key n : ℤ) → (key ≡ n → ⊥) → int_eq key n ≡ false
 other key n apart = by (int_eq key n) refl
@@ -50,9 +42,33 @@ other key n apart = by (int_eq key n) refl
     by false e = e
     by true e = absurd (apart ((Decides-int_eq key n).0 e))
 
-pub passed : (default : ℕ) (keys : List ℤ) (targets : List ℕ) (n : ℤ) (i : ℕ) (key : ℤ) (target : ℕ)
-    → Some key ≡ slice_get keys i → Some target ≡ slice_get targets i → (key ≡ n → ⊥)
-    → target_of default (drop i keys) (drop i targets) n ≡ target_of default (drop (i + 1) keys) (drop (i + 1) targets) n
-passed default keys targets n i key target k t apart = met default keys targets n i key target k t ∙ rw (other key n apart) refl
+pub passed : (keys : List ℤ) (n : ℤ) (i : ℕ) (key : ℤ) → Some key ≡ slice_get keys i → (key ≡ n → ⊥)
+    → target_of (drop i keys) (i + 1) n ≡ target_of (drop (i + 1) keys) (i + 1 + 1) n
+passed keys n i key e apart =
+    let one : suc (i + 1) ≡ i + 1 + 1 = omega arith in
+    rw (drop-at keys i key e) (rw (other key n apart) (ap (λ k. target_of (drop (i + 1) keys) k n) one))
 
-pub ruleset keys = (found, passed, past-keys, past-targets, to_z-of_z)
+pub ruleset keys = (found, passed, past, to_z-of_z)
+
+-- ---- a target at a distance
+
+none-past : (targets : List ℕ) (k : ℕ) → None ≡ slice_get targets k → length targets ≤ k
+none-past [] k e = omega arith
+none-past (t ∷ targets) zero e = absurd (none t (sym e))
+none-past (t ∷ targets) (suc k) e = let rest = none-past targets k e in omega (arith, rest)
+
+pub at-there : (default : ℕ) (targets : List ℕ) (k target : ℕ) → Some target ≡ slice_get targets k
+    → slice_get (default ∷ targets) (target_at (length targets) (pos k)) ≡ Some target
+at-there default targets k target e =
+    let within = slice_get_within targets k target (sym e) in
+    ap (λ b. slice_get (default ∷ targets) (if b then suc k else 0)) (lt-ltb k (length targets) within) ∙ sym e
+
+pub at-past : (default : ℕ) (targets : List ℕ) (k : ℕ) → None ≡ slice_get targets k
+    → slice_get (default ∷ targets) (target_at (length targets) (pos k)) ≡ Some default
+at-past default targets k e = by (nat_lt k (length targets)) refl
+  where
+    by : (b : Bool) → nat_lt k (length targets) ≡ b → slice_get (default ∷ targets) (if nat_lt k (length targets) then suc k else 0) ≡ Some default
+    by false is = ap (λ b. slice_get (default ∷ targets) (if b then suc k else 0)) is
+    by true is = absurd (let past = none-past targets k e in let below = ltb-true k (length targets) is in omega (arith, past, below))
+
+pub ruleset places = (at-there, at-past)

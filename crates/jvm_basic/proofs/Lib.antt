@@ -5,7 +5,7 @@ pub mod Keys
 pub mod Copied
 pub mod Forms
 pub mod ByForms
-pub mod Rows
+pub mod Asked
 pub mod Exact
 pub mod WorkedSteps
 pub mod WorkedRuns

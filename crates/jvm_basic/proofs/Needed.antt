@@ -1,27 +1,34 @@
 -- A rule breaks exactly where what the instruction needs is missing.
-use Rattle.std.proofs.Common.{◌≡◌, ◌↔◌, ℕ, Bool, true, false, not, List, [], ◌∷◌, ℤ, pos, refl, sym, ap, ◌∙◌}
-use Rattle.std.specs.Prelude.{Option, Some, None, length, drop, is_some, IsTrue, ◌&&◌, ◌||◌, if◌then◌else◌}
+use Rattle.std.proofs.Common.{◌≡◌, ◌↔◌, ℕ, Bool, true, false, not, List, [], ◌∷◌, ℤ, refl, sym, ap, ◌∙◌}
+use Rattle.std.specs.Prelude.{Option, Some, None, length, drop, slice_get, is_some, IsTrue, ◌&&◌, ◌||◌, if◌then◌else◌}
 use Rattle.std.specs.List.{list_any}
-use Rattle.std.specs.Option.{option_map}
+use Rattle.std.specs.Option.{option_map, option_and_then, option_flatten}
 use Rattle.std.proofs.lemmas.Bool.{false≢true}
 use Rattle.heap_objects.specs.declared.Value.{Value}
 use Rattle.heap_objects.specs.declared.Value.TheVariants.{Int, Long, Ref, Addr}
 use Rattle.frame_stack.specs.FrameLists.{PlacedFrame, FramesView, top_operands}
 use Rattle.code_model.specs.declared.instr.Arg.{Arg}
-use Rattle.code_model.specs.declared.instr.Arg.TheVariants as arg
 use Rattle.code_model.specs.declared.instr.Instr.{Instr}
 use Rattle.jvm_basic.specs.declared.effect.Effect.{Effect}
 use Rattle.jvm_basic.specs.declared.effect.Effect.TheVariants.{Next, Throws, Bad, Other}
-use Rattle.jvm_basic.specs.declared.family.Kind.{Kind}
-use Rattle.jvm_basic.specs.declared.family.Test.{Test}
-use Rattle.jvm_basic.specs.declared.family.Test.TheVariants.{WithZero, OfInts, OfReferences, IsNull}
-use Rattle.jvm_basic.specs.declared.family.Family.{Family}
-use Rattle.jvm_basic.specs.declared.family.Family.TheVariants as family
-use Rattle.jvm_basic.specs.Families.{family_of}
-use Rattle.jvm_basic.specs.Outcomes.{Locals, Operands, Outcome, GoesOn, Raises, Breaks, Leaves, top_locals, can_hold, effect_in, asked, effect_of}
-use Rattle.jvm_basic.specs.Values.{int_of, long_of, ref_of, ints_of, longs_of, long_and_int_of, refs_of, local_in, has_kind, is_storable, has_slots, stored}
-use Rattle.jvm_basic.specs.StackForms.{StackForm, forms_of, has_form, puts_on, arranged}
-use Rattle.jvm_basic.specs.Rules.{replaces, divides_these, loads_value, loads, stores, increments_value, increments, leaves, goes_if, branches, holds, tests, goes_to, chosen, switches_on, calls_subroutine, goes_back_to, goes_back, value_in, slot_in, increment_in, target_in, does, rule_of}
+use Rattle.const_pool.specs.declared.descriptor.Kind.{Kind}
+use Rattle.jvm_model.specs.declared.family.Test.{Test}
+use Rattle.jvm_model.specs.declared.family.Test.TheVariants.{WithZero, OfInts, OfReferences, IsNull}
+use Rattle.jvm_model.specs.declared.family.Family.{Family}
+use Rattle.jvm_model.specs.declared.family.Family.TheVariants as family
+use Rattle.jvm_model.specs.Families.{family_of}
+use Rattle.jvm_model.specs.Data.{Locals, Operands}
+use Rattle.jvm_basic.specs.Outcomes.{Rule, Outcome, GoesOn, Raises, Breaks, Leaves, top_locals, can_hold, effect_in, asked, effect_of}
+use Rattle.jvm_model.specs.Values.{int_of, long_of, ref_of, ints_of, longs_of, long_and_int_of, refs_of, local_in, has_kind, loaded, is_storable, has_slots, stored}
+use Rattle.jvm_model.specs.Data.{StackForm}
+use Rattle.jvm_model.specs.StackForms.{forms_of}
+use Rattle.jvm_model.specs.Values.{has_form, puts_on, arranged}
+use Rattle.jvm_model.specs.Data.{Keys, Next as Behind}
+use Rattle.jvm_model.specs.Data.{GoesOn as AsksOn, Breaks as AsksBreak}
+use Rattle.jvm_model.specs.Lines.{value_in, slot_in, increment_in, target_in, keys_in, targets_of}
+use Rattle.jvm_model.specs.LocalRules
+use Rattle.jvm_basic.specs.Rules.{datum_in, goes_at, placed, going, needs, loads, stores, increments, branches, chosen, switches, goes_back, does, rule_by, rule_of}
+use Rattle.jvm_basic.proofs.Asked.{does-is}
 use Rattle.jvm_basic.specs.Needs.{int, long, reference, address, stand, is_as, reads, takes_slots, fits_form, operands_of, has_needs, too_deep}
 
 abbrev breaks : Outcome → Bool
@@ -75,34 +82,45 @@ is-some-map f (Some x) = refl
 
 -- ---- each rule
 
-replaces-breaks : (n : ℕ) (v : Option Value) (next : ℕ) (l : Locals) (o : Operands) → breaks (replaces n v next l o) ≡ not (is_some v)
+replaces-breaks : (n : ℕ) (v : Option Value) (next : ℕ) (l : Locals) (o : Operands) → breaks (placed next [] l o (LocalRules.replaces n v l o)) ≡ not (is_some v)
 replaces-breaks n None next l o = refl
 replaces-breaks n (Some v) next l o = refl
 
 calculated-breaks : {A : Type 0} (n : ℕ) (f : A → Value) (x : Option A) (b : Bool) (next : ℕ) (l : Locals) (o : Operands) → is_some x ≡ b
-    → breaks (replaces n (option_map f x) next l o) ≡ not b
+    → breaks (placed next [] l o (LocalRules.replaces n (option_map f x) l o)) ≡ not b
 calculated-breaks n f x b next l o e = replaces-breaks n (option_map f x) next l o ∙ ap not (is-some-map f x ∙ e)
 
 divides-breaks : {A : Type 0} (f : A → Option Value) (x : Option A) (b : Bool) (next : ℕ) (l : Locals) (o : Operands) → is_some x ≡ b
-    → breaks (divides_these (option_map f x) next l o) ≡ not b
+    → breaks (placed next [] l o (LocalRules.divides_these (option_map f x) l o)) ≡ not b
 divides-breaks f x b next l o e = by (option_map f x) ∙ ap not (is-some-map f x ∙ e)
   where
-    by : (y : Option (Option Value)) → breaks (divides_these y next l o) ≡ not (is_some y)
+    by : (y : Option (Option Value)) → breaks (placed next [] l o (LocalRules.divides_these y l o)) ≡ not (is_some y)
     by None = refl
     by (Some None) = refl
     by (Some (Some v)) = refl
 
-choice-breaks : (b : Bool) (x : Outcome) → breaks x ≡ false → breaks (if b then x else Breaks) ≡ not b
-choice-breaks true x h = h
-choice-breaks false x h = refl
+-- what is needed of the operand
+given-breaks : {A : Type 0} (v : Option A) (rule : A → Rule) (l : Locals) (o : Operands) → ((x : A) → breaks (rule x l o) ≡ false)
+    → breaks (needs v rule l o) ≡ not (is_some v)
+given-breaks None rule l o each = refl
+given-breaks (Some x) rule l o each = each x
+
+choice-breaks : (b : Bool) (next : ℕ) (m l : Locals) (p o : Operands) → breaks (placed next [] l o (if b then AsksOn m p Behind else AsksBreak false)) ≡ not b
+choice-breaks true next m l p o = refl
+choice-breaks false next m l p o = refl
 
 loads-breaks : (k : Kind) (slot : Option ℕ) (next : ℕ) (l : Locals) (o : Operands) → breaks (loads k slot next l o) ≡ not (reads (has_kind k) slot l)
 loads-breaks k None next l o = refl
-loads-breaks k (Some slot) next l o = by (local_in l slot)
+loads-breaks k (Some slot) next l o = by (slice_get l slot)
   where
-    by : (v : Option Value) → breaks (loads_value k v next l o) ≡ not (is_as (has_kind k) v)
+    kept : (b : Bool) (v : Value) → breaks (placed next [] l o (LocalRules.pushes (if b then Some v else None) l o)) ≡ not b
+    kept true v = refl
+    kept false v = refl
+
+    by : (x : Option (Option Value)) → breaks (placed next [] l o (LocalRules.pushes (loaded k x) l o)) ≡ not (is_as (has_kind k) (option_flatten x))
     by None = refl
-    by (Some v) = choice-breaks (has_kind k v) (GoesOn l (v ∷ o) next) refl
+    by (Some None) = refl
+    by (Some (Some v)) = kept (has_kind k v) v
 
 alone : (b c : Bool) → (b && c) ≡ ((b && true) && c)
 alone true c = refl
@@ -117,7 +135,7 @@ stores-breaks : (k : Kind) (slot : Option ℕ) (next : ℕ) (l : Locals) (o : Op
 stores-breaks k None next l o = ap not (and-false (stand (is_storable k ∷ []) o))
 stores-breaks k (Some slot) next l [] = refl
 stores-breaks k (Some slot) next l (v ∷ o) =
-    choice-breaks (is_storable k v && has_slots l slot v) (GoesOn (stored l slot v) o next) refl
+    choice-breaks (is_storable k v && has_slots l slot v) next (stored l slot v) l o (v ∷ o)
     ∙ ap not (alone (is_storable k v) (has_slots l slot v))
 
 increments-breaks : (x : Option (ℕ × ℤ)) (next : ℕ) (l : Locals) (o : Operands)
@@ -125,7 +143,7 @@ increments-breaks : (x : Option (ℕ × ℤ)) (next : ℕ) (l : Locals) (o : Ope
 increments-breaks None next l o = refl
 increments-breaks (Some (slot, d)) next l o = by (local_in l slot)
   where
-    by : (v : Option Value) → breaks (increments_value slot d v next l o) ≡ not (is_as int v)
+    by : (v : Option Value) → breaks (placed next [] l o (LocalRules.increments slot d v l o)) ≡ not (is_as int v)
     by None = refl
     by (Some (Int n)) = refl
     by (Some (Long n)) = refl
@@ -133,17 +151,17 @@ increments-breaks (Some (slot, d)) next l o = by (local_in l slot)
     by (Some (Addr n)) = refl
 
 arranges-breaks : (forms : List StackForm) (next : ℕ) (l : Locals) (o : Operands)
-    → breaks (leaves (arranged forms o) next l) ≡ not (list_any (fits_form o) forms)
+    → breaks (placed next [] l o (LocalRules.leaves (arranged forms o) l)) ≡ not (list_any (fits_form o) forms)
 arranges-breaks [] next l o = refl
 arranges-breaks (form ∷ forms) next l o =
     by (has_form form.takes o) (puts_on form.puts o (drop (length form.takes) o)) (list_any (fits_form o) forms) (arranges-breaks forms next l o)
   where
-    by : (b : Bool) (p : Operands) (c : Bool) → breaks (leaves (arranged forms o) next l) ≡ not c
-        → breaks (leaves (if b then Some p else arranged forms o) next l) ≡ not (b || c)
+    by : (b : Bool) (p : Operands) (c : Bool) → breaks (placed next [] l o (LocalRules.leaves (arranged forms o) l)) ≡ not c
+        → breaks (placed next [] l o (LocalRules.leaves (if b then Some p else arranged forms o) l)) ≡ not (b || c)
     by true p c h = refl
     by false p c h = h
 
-holds-stands : (t : Test) (o : Operands) → is_some (holds t o) ≡ stand (operands_of t) o
+holds-stands : (t : Test) (o : Operands) → is_some (LocalRules.holds t o) ≡ stand (operands_of t) o
 holds-stands (WithZero c) o = is-some-map _ (int_of o) ∙ int-stands o
 holds-stands (OfInts c) o = is-some-map _ (ints_of o) ∙ ints-stand o
 holds-stands (OfReferences same) o = is-some-map _ (refs_of o) ∙ refs-stand o
@@ -152,41 +170,39 @@ holds-stands (IsNull null) o = is-some-map _ (ref_of o) ∙ ref-stands o
 branches-breaks : (t : Test) (target : Option ℕ) (next : ℕ) (l : Locals) (o : Operands)
     → breaks (branches t target next l o) ≡ not (is_some target && stand (operands_of t) o)
 branches-breaks t None next l o = refl
-branches-breaks t (Some target) next l o = by (holds t o) ∙ ap not (holds-stands t o)
+branches-breaks t (Some target) next l o = by (LocalRules.holds t o) ∙ ap not (holds-stands t o)
   where
-    by : (b : Option Bool) → breaks (goes_if b (tests t) target next l o) ≡ not (is_some b)
+    by : (b : Option Bool) → breaks (placed next (target ∷ []) l o (LocalRules.goes_if b (LocalRules.tests t) l o)) ≡ not (is_some b)
     by None = refl
-    by (Some b) = refl
+    by (Some true) = refl
+    by (Some false) = refl
 
-goes-to-breaks : (target : Option ℕ) (l : Locals) (o : Operands) → breaks (goes_to target l o) ≡ not (is_some target)
-goes-to-breaks None l o = refl
-goes-to-breaks (Some target) l o = refl
+at-breaks : (l : Locals) (o : Operands) (place : Option ℕ) → breaks (goes_at l o place) ≡ not (is_some place)
+at-breaks l o None = refl
+at-breaks l o (Some place) = refl
 
-chosen-same : (a : Arg) (n m : ℤ) → is_some (chosen a n) ≡ is_some (chosen a m)
-chosen-same (arg.Table default low targets) n m = refl
-chosen-same (arg.Lookup default keys targets) n m = refl
-chosen-same _ n m = refl
-
-switches-breaks : (a : Arg) (l : Locals) (o : Operands) → breaks (switches_on a (int_of o) l o) ≡ not (is_some (chosen a (pos 0)) && stand (int ∷ []) o)
-switches-breaks a l o = by (int_of o) ∙ ap (λ b. not (is_some (chosen a (pos 0)) && b)) (int-stands o)
+switches-breaks : (a : Arg) (l : Locals) (o : Operands) → breaks (switches a l o) ≡ not (is_some (option_and_then (chosen a) (int_of o)))
+switches-breaks a l o = by_keys (keys_in a)
   where
-    and-true : (b : Bool) → b ≡ (b && true)
-    and-true true = refl
-    and-true false = refl
+    none : (n : Option ℤ) → true ≡ not (is_some (option_and_then (λ m. let place : Option ℕ = None in place) n))
+    none None = refl
+    none (Some n) = refl
 
-    by : (n : Option ℤ) → breaks (switches_on a n l o) ≡ not (is_some (chosen a (pos 0)) && is_some n)
-    by None = ap not (and-false (is_some (chosen a (pos 0))))
-    by (Some n) = goes-to-breaks (chosen a n) l _ ∙ ap not (chosen-same a n (pos 0) ∙ and-true (is_some (chosen a (pos 0))))
+    some : (keys : Keys) (n : Option ℤ) → breaks (placed 0 (targets_of a) l o (LocalRules.switches_on keys n l o))
+        ≡ not (is_some (option_and_then (λ m. slice_get (targets_of a) (LocalRules.target_by keys m)) n))
+    some keys None = refl
+    some keys (Some n) = at-breaks l (drop 1 o) (slice_get (targets_of a) (LocalRules.target_by keys n))
 
-subroutine-breaks : (target : Option ℕ) (next : ℕ) (l : Locals) (o : Operands) → breaks (calls_subroutine target next l o) ≡ not (is_some target)
-subroutine-breaks None next l o = refl
-subroutine-breaks (Some target) next l o = refl
+    by_keys : (keys : Option Keys) → breaks (needs keys (λ k. going (LocalRules.switches k) 0 (targets_of a)) l o)
+        ≡ not (is_some (option_and_then (λ m. option_and_then (λ k. slice_get (targets_of a) (LocalRules.target_by k m)) keys) (int_of o)))
+    by_keys None = none (int_of o)
+    by_keys (Some keys) = some keys (int_of o)
 
 back-breaks : (slot : Option ℕ) (l : Locals) (o : Operands) → breaks (goes_back slot l o) ≡ not (reads address slot l)
 back-breaks None l o = refl
 back-breaks (Some slot) l o = by (local_in l slot)
   where
-    by : (v : Option Value) → breaks (goes_back_to v l o) ≡ not (is_as address v)
+    by : (v : Option Value) → breaks (placed 0 [] l o (LocalRules.goes_back v l o)) ≡ not (is_as address v)
     by None = refl
     by (Some (Int n)) = refl
     by (Some (Long n)) = refl
@@ -197,9 +213,9 @@ back-breaks (Some slot) l o = by (local_in l slot)
 
 does-breaks : (f : Family) (a : Arg) (c : Option Value) (next : ℕ) (l : Locals) (o : Operands) → breaks (does f a c next l o) ≡ not (has_needs f a c l o)
 does-breaks family.Nop a c next l o = refl
-does-breaks (family.Constant v) a c next l o = refl
-does-breaks family.Given a c next l o = replaces-breaks 0 c next l o
-does-breaks family.Immediate a c next l o = replaces-breaks 0 (value_in a) next l o
+does-breaks (family.Constant d) a c next l o = refl
+does-breaks family.Given a c next l o = given-breaks (option_and_then datum_in c) _ l o (λ d. refl)
+does-breaks family.Immediate a c next l o = given-breaks (value_in a) _ l o (λ d. refl)
 does-breaks (family.Load k) a c next l o = loads-breaks k (slot_in a) next l o
 does-breaks (family.LoadFrom k slot) a c next l o = loads-breaks k (Some slot) next l o
 does-breaks (family.Store k) a c next l o = stores-breaks k (slot_in a) next l o
@@ -215,11 +231,16 @@ does-breaks (family.UnaryOfLong op) a c next l o = calculated-breaks 1 _ (long_o
 does-breaks family.Lcmp a c next l o = calculated-breaks 2 _ (longs_of o) _ next l o (longs-stand o)
 does-breaks family.Iinc a c next l o = increments-breaks (increment_in a) next l o
 does-breaks (family.Branch test) a c next l o = branches-breaks test (target_in a) next l o
-does-breaks family.Goto a c next l o = goes-to-breaks (target_in a) l o
-does-breaks family.Jsr a c next l o = subroutine-breaks (target_in a) next l o
+does-breaks family.Goto a c next l o = given-breaks (target_in a) _ l o (λ t. refl)
+does-breaks family.Jsr a c next l o = given-breaks (target_in a) _ l o (λ t. refl)
 does-breaks family.Ret a c next l o = back-breaks (slot_in a) l o
 does-breaks family.Switch a c next l o = switches-breaks a l o
+does-breaks (family.Return k) a c next l o = refl
 does-breaks family.Elsewhere a c next l o = refl
+
+rule-breaks : (f : Family) (a : Arg) (c : Option Value) (next : ℕ) (l : Locals) (o : Operands)
+    → breaks (rule_by f a (option_and_then datum_in c) next l o) ≡ not (has_needs f a c l o)
+rule-breaks f a c next l o = ap breaks (sym (does-is f a c next l o)) ∙ does-breaks f a c next l o
 
 -- ---- as an effect
 
@@ -251,5 +272,5 @@ pub bad-exactly : (i : Instr) (c : Option Value) (next : ℕ) (s : FramesView)
 bad-exactly i c next s =
     let x = asked (rule_of i c next) s.frames in
     let is = effect-bad x s.frames
-    ∙ ap (λ b. b || too_deep x s.frames) (does-breaks (family_of i.op) i.arg c next (top_locals s.frames) (top_operands s.frames)) in
+    ∙ ap (λ b. b || too_deep x s.frames) (rule-breaks (family_of i.op) i.arg c next (top_locals s.frames) (top_operands s.frames)) in
     (λ e. sym is ∙ ap is_bad_effect e, λ e. bad-is (effect_in x s.frames) (is ∙ e))

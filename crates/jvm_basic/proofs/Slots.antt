@@ -9,8 +9,9 @@ use Rattle.heap_objects.specs.declared.Value.TheVariants.{Int, Long, Ref, Addr}
 use Rattle.frame_stack.specs.Widths.{width}
 use Rattle.frame_stack.specs.FrameLists.{PlacedFrame, AreSound, local_of, has_slot, with_local, top_operands}
 use Rattle.jvm_basic.proofs.Tops.{tops, dropped}
-use Rattle.jvm_basic.specs.Outcomes.{Locals, Operands, top_locals, can_hold, with_top}
-use Rattle.jvm_basic.specs.Values.{local_in, has_slots, stored}
+use Rattle.jvm_model.specs.Data.{Locals, Operands}
+use Rattle.jvm_basic.specs.Outcomes.{top_locals, can_hold, with_top}
+use Rattle.jvm_model.specs.Values.{local_in, has_slots, stored}
 
 pub local_of-is : (slot : ℕ) (fs : List PlacedFrame) → local_of slot fs ≡ local_in (top_locals fs) slot
 local_of-is slot [] = refl

@@ -6,9 +6,10 @@ use Rattle.heap_objects.specs.declared.Value.{Value}
 use Rattle.heap_objects.specs.declared.Value.TheVariants.{Int, Long, Ref, Addr}
 use Rattle.code_model.specs.declared.instr.Arg.{Arg}
 use Rattle.code_model.specs.declared.instr.Arg.TheVariants as arg
-use Rattle.jvm_basic.specs.Families.{rows, family_of}
-use Rattle.jvm_basic.specs.Outcomes.{Locals, Operands, Outcome, GoesOn, Raises, Breaks, Leaves}
-use Rattle.jvm_basic.specs.Rules.{rule_of}
+use Rattle.jvm_model.specs.Families.{rows, family_of}
+use Rattle.jvm_model.specs.Data.{Locals, Operands}
+use Rattle.jvm_basic.specs.Outcomes.{Outcome, GoesOn, Raises, Breaks, Leaves}
+use Rattle.jvm_basic.specs.Rules.{class_position, rule_of}
 
 -- the instruction at 3, with 4 behind it, on these locals and operands
 abbrev step : ℕ → Arg → Locals → Operands → Outcome
@@ -99,7 +100,7 @@ conversions-are = refl
 -- idiv, irem, ldiv, lrem by 0
 zero-divisors : map done (case 108 (i 0 ∷ i 5 ∷ []) [] ∷ case 112 (i 0 ∷ i 5 ∷ []) [] ∷ case 109 (l 0 ∷ l 5 ∷ []) [] ∷ case 113 (l 0 ∷ l 5 ∷ []) [] ∷ [])
     ≡ Raises 27 ∷ Raises 27 ∷ Raises 27 ∷ Raises 27 ∷ []
-unfolding family_of rows
+unfolding family_of rows class_position
 zero-divisors = refl
 
 -- operands of another kind, or too few; an array load and a float addition

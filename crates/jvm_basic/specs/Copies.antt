@@ -2,8 +2,9 @@
 use Rattle.std.specs.Prelude.{ℕ, Bool, List, [], ◌∷◌, ◌++◌, take, drop, Option, Some, None, slice_get}
 use Rattle.heap_objects.specs.declared.Value.{Value}
 use Rattle.frame_stack.specs.FrameLists.{PlacedFrame, FramesView, with_frames, top_operands}
-use Rattle.jvm_basic.specs.Outcomes.{Operands, Rule, GoesOn, Breaks, can_hold}
-use Rattle.jvm_basic.specs.StackForms.{with_operand}
+use Rattle.jvm_model.specs.Data.{Operands}
+use Rattle.jvm_model.specs.Values.{with_value}
+use Rattle.jvm_basic.specs.Outcomes.{Rule, GoesOn, Breaks, can_hold}
 
 -- these values, below so many operands
 abbrev pub inserted : ℕ → List Value → Operands → Operands
@@ -11,7 +12,7 @@ inserted under values o = take under o ++ (values ++ drop under o)
 
 -- the first one above the second one
 abbrev pub values_of : Value → Option Value → List Value
-values_of first second = first ∷ with_operand second []
+values_of first second = first ∷ with_value second []
 
 abbrev pub inserts : ℕ → List Value → ℕ → Rule
 inserts under values place l o = GoesOn l (inserted under values o) place
@@ -50,11 +51,11 @@ abbrev pub has_room_for : List Value → FramesView → Bool
 has_room_for values s = can_hold (values ++ top_operands s.frames) s.frames
 
 abbrev pub has_room_for_some : Option Value → FramesView → Bool
-has_room_for_some value s = can_hold (with_operand value (top_operands s.frames)) s.frames
+has_room_for_some value s = can_hold (with_value value (top_operands s.frames)) s.frames
 
 -- with this value on top, where there is one
 abbrev pub with_some : Option Value → FramesView → FramesView
-with_some value s = with_frames (with_operands (with_operand value (top_operands s.frames)) s.frames) s
+with_some value s = with_frames (with_operands (with_value value (top_operands s.frames)) s.frames) s
 
 abbrev pub with_inserted : ℕ → List Value → FramesView → FramesView
 with_inserted under values s = with_frames (with_operands (inserted under values (top_operands s.frames)) s.frames) s

@@ -8,12 +8,12 @@ use Rattle.op_table.specs.Opcodes.{row_of}
 use Rattle.code_model.specs.declared.instr.Arg.{Arg}
 use Rattle.code_model.specs.declared.instr.Instr.{Instr}
 use Rattle.code_model.specs.Instructions.{instruction_at}
-use Rattle.jvm_basic.specs.declared.family.Family.{Family}
-use Rattle.jvm_basic.specs.declared.family.Family.TheVariants.{DivisionOfInts, DivisionOfLongs, Immediate, Load, Store, Ret, Iinc, Branch, Goto, Jsr, Switch}
-use Rattle.jvm_basic.specs.Families.{family_of}
-use Rattle.jvm_basic.specs.Outcomes.{Operands}
-use Rattle.jvm_basic.specs.Values.{ints_of, longs_of}
-use Rattle.jvm_basic.specs.Rules.{value_in, slot_in, increment_in, target_in, chosen}
+use Rattle.jvm_model.specs.declared.family.Family.{Family}
+use Rattle.jvm_model.specs.declared.family.Family.TheVariants.{DivisionOfInts, DivisionOfLongs, Immediate, Load, Store, Ret, Iinc, Branch, Goto, Jsr, Switch}
+use Rattle.jvm_model.specs.Data.{Operands}
+use Rattle.jvm_model.specs.Families.{family_of}
+use Rattle.jvm_model.specs.Lines.{value_in, slot_in, increment_in, target_in, keys_in}
+use Rattle.jvm_model.specs.Values.{ints_of, longs_of}
 
 abbrev pub is_no_instruction : Form → Bool
 is_no_instruction Wide = true
@@ -65,7 +65,7 @@ has_operand Number a = is_some (value_in a)
 has_operand Slot a = is_some (slot_in a)
 has_operand Increment a = is_some (increment_in a)
 has_operand Place a = is_some (target_in a)
-has_operand Choice a = is_some (chosen a (pos 0))
+has_operand Choice a = is_some (keys_in a)
 
 -- an instruction that stands in a code has the operand that its family needs, so that its rule never breaks for want of one
 abbrev pub HasItsOperand : Instr → Type 0

@@ -1,22 +1,24 @@
 -- What an instruction needs of its frame, said apart from what it does (JVM Specification 4.10, 6.5): the kinds of its topmost
 -- operands and of its local. Where it is missing, or the operands would be too deep, the code is unverifiable.
-use Rattle.std.specs.Prelude.{ℕ, Bool, true, false, not, List, [], ◌∷◌, Option, Some, None, is_some, ◌&&◌, ◌||◌, pos}
+use Rattle.std.specs.Prelude.{ℕ, Bool, true, false, not, List, [], ◌∷◌, Option, Some, None, is_some, ◌&&◌, ◌||◌}
 use Rattle.std.specs.List.{list_any}
-use Rattle.std.specs.Option.{option_map}
+use Rattle.std.specs.Option.{option_and_then, option_map}
 use Rattle.heap_objects.specs.declared.Value.{Value}
 use Rattle.heap_objects.specs.declared.Value.TheVariants.{Int, Long, Ref, Addr}
 use Rattle.frame_stack.specs.FrameLists.{PlacedFrame, FramesView, top_operands}
 use Rattle.code_model.specs.declared.instr.Arg.{Arg}
 use Rattle.code_model.specs.declared.instr.Instr.{Instr}
-use Rattle.jvm_basic.specs.declared.family.Test.{Test}
-use Rattle.jvm_basic.specs.declared.family.Test.TheVariants.{WithZero, OfInts, OfReferences, IsNull}
-use Rattle.jvm_basic.specs.declared.family.Family.{Family}
-use Rattle.jvm_basic.specs.declared.family.Family.TheVariants as family
-use Rattle.jvm_basic.specs.Families.{family_of}
-use Rattle.jvm_basic.specs.Outcomes.{Locals, Operands, Outcome, GoesOn, Raises, Breaks, Leaves, top_locals, can_hold, asked}
-use Rattle.jvm_basic.specs.Values.{local_in, has_kind, is_storable, has_slots}
-use Rattle.jvm_basic.specs.StackForms.{StackForm, forms_of, has_form}
-use Rattle.jvm_basic.specs.Rules.{value_in, slot_in, increment_in, target_in, chosen, rule_of}
+use Rattle.jvm_model.specs.declared.family.Test.{Test}
+use Rattle.jvm_model.specs.declared.family.Test.TheVariants.{WithZero, OfInts, OfReferences, IsNull}
+use Rattle.jvm_model.specs.declared.family.Family.{Family}
+use Rattle.jvm_model.specs.declared.family.Family.TheVariants as family
+use Rattle.jvm_model.specs.Data.{Locals, Operands, StackForm}
+use Rattle.jvm_model.specs.Families.{family_of}
+use Rattle.jvm_model.specs.Lines.{value_in, slot_in, increment_in, target_in}
+use Rattle.jvm_model.specs.StackForms.{forms_of}
+use Rattle.jvm_model.specs.Values.{int_of, local_in, has_kind, is_storable, has_slots, has_form}
+use Rattle.jvm_basic.specs.Outcomes.{Outcome, GoesOn, Raises, Breaks, Leaves, top_locals, can_hold, asked}
+use Rattle.jvm_basic.specs.Rules.{datum_in, chosen, rule_of}
 
 abbrev pub Wish : Type 0
 Wish = Value → Bool
@@ -68,7 +70,7 @@ operands_of (OfReferences same) = reference ∷ reference ∷ []
 operands_of (IsNull null) = reference ∷ []
 
 abbrev pub has_needs : Family → Arg → Option Value → Locals → Operands → Bool
-has_needs family.Given a c l o = is_some c
+has_needs family.Given a c l o = is_some (option_and_then datum_in c)
 has_needs family.Immediate a c l o = is_some (value_in a)
 has_needs (family.Load k) a c l o = reads (has_kind k) (slot_in a) l
 has_needs (family.LoadFrom k slot) a c l o = reads (has_kind k) (Some slot) l
@@ -88,7 +90,7 @@ has_needs (family.Branch test) a c l o = is_some (target_in a) && stand (operand
 has_needs family.Goto a c l o = is_some (target_in a)
 has_needs family.Jsr a c l o = is_some (target_in a)
 has_needs family.Ret a c l o = reads address (slot_in a) l
-has_needs family.Switch a c l o = is_some (chosen a (pos 0)) && stand (int ∷ []) o
+has_needs family.Switch a c l o = is_some (option_and_then (chosen a) (int_of o))
 has_needs _ a c l o = true
 
 -- the operands that the rule gives are too deep, or there is no frame

@@ -1,17 +1,10 @@
 -- What an instruction asks for within its frame, and what becomes of the frame (JVM Specification 2.5.1, 2.6, 4.9.2).
-use Rattle.std.specs.Prelude.{ℕ, Bool, false, List, [], ◌∷◌, Option, nat_le, if◌then◌else◌}
-use Rattle.heap_objects.specs.declared.Value.{Value}
+use Rattle.std.specs.Prelude.{ℕ, Bool, false, List, [], ◌∷◌, nat_le, if◌then◌else◌}
 use Rattle.frame_stack.specs.Widths.{height_of}
 use Rattle.frame_stack.specs.FrameLists.{PlacedFrame, FramesView, with_frames, top_operands}
+use Rattle.jvm_model.specs.Data.{Locals, Operands}
 use Rattle.jvm_basic.specs.declared.effect.Effect.{Effect}
 use Rattle.jvm_basic.specs.declared.effect.Effect.TheVariants.{Next, Throws, Bad, Other}
-
-abbrev pub Locals : Type 0
-Locals = List (Option Value)
-
--- the top first
-abbrev pub Operands : Type 0
-Operands = List Value
 
 pub data Outcome : Type 0 where
   -- the frame goes on with these locals and operands, at this place

@@ -1,287 +1,180 @@
--- What each family of instructions asks for (JVM Specification 2.11, 6.5). A rule takes the place behind the instruction and its
--- targets as arguments, and computes with none.
-use Rattle.std.specs.Prelude.{ℕ, Bool, true, false, not, List, [], ◌∷◌, drop, Option, Some, None, unwrap_or, slice_get, ◌==◌, ◌&&◌, if◌then◌else◌, ℤ, pos, negsuc, ◌-ℤ◌, int_lt, int_rem}
-use Rattle.std.specs.Option.{option_map}
-use Rattle.std.specs.Ordering.{int_eq}
-use Rattle.std.specs.Int.{Width, w8, w16, w32, w64, int_wrap, int_bit_and, int_bit_or, int_bit_xor}
+-- The rules of jvm_model with places put in (JVM Specification 2.11, 6.5): the place behind the instruction, and its targets.
+use Rattle.std.specs.Prelude.{ℕ, false, List, [], ◌∷◌, Option, Some, None, unwrap_or, position, slice_get, ℤ}
+use Rattle.std.specs.Option.{option_and_then}
+use Rattle.heap_objects.specs.declared.datum.Datum.TheVariants as datum
 use Rattle.heap_objects.specs.declared.Value.{Value}
-use Rattle.heap_objects.specs.declared.Value.TheVariants.{Int, Long, Addr}
-use Rattle.int_ops.specs.Arithmetic.{wrapped_sum, wrapped_difference, wrapped_product, wrapped_negation, wrapped_quotient, shifted_left, shifted_right, shifted_right_unsigned, comparison, zero_extended}
+use Rattle.heap_objects.specs.declared.Value.TheVariants.{Int, Long, Ref, Addr}
+use Rattle.const_pool.specs.declared.descriptor.Kind.{Kind}
+use Rattle.const_pool.specs.BuiltIn.{built_in_names}
 use Rattle.code_model.specs.declared.instr.Arg.{Arg}
-use Rattle.code_model.specs.declared.instr.Arg.TheVariants as arg
 use Rattle.code_model.specs.declared.instr.Instr.{Instr}
-use Rattle.jvm_basic.specs.declared.family.Kind.{Kind}
-use Rattle.jvm_basic.specs.declared.family.IntOperator.{IntOperator}
-use Rattle.jvm_basic.specs.declared.family.IntOperator.TheVariants.{Iadd, Isub, Imul, Ishl, Ishr, Iushr, Iand, Ior, Ixor}
-use Rattle.jvm_basic.specs.declared.family.LongOperator.{LongOperator}
-use Rattle.jvm_basic.specs.declared.family.LongOperator.TheVariants.{Ladd, Lsub, Lmul, Land, Lor, Lxor}
-use Rattle.jvm_basic.specs.declared.family.Division.{Division}
-use Rattle.jvm_basic.specs.declared.family.Division.TheVariants.{Quotient, Remainder}
-use Rattle.jvm_basic.specs.declared.family.LongShift.{LongShift}
-use Rattle.jvm_basic.specs.declared.family.LongShift.TheVariants.{Lshl, Lshr, Lushr}
-use Rattle.jvm_basic.specs.declared.family.OfInt.{OfInt}
-use Rattle.jvm_basic.specs.declared.family.OfInt.TheVariants.{Ineg, I2l, I2b, I2c, I2s}
-use Rattle.jvm_basic.specs.declared.family.OfLong.{OfLong}
-use Rattle.jvm_basic.specs.declared.family.OfLong.TheVariants.{Lneg, L2i}
-use Rattle.jvm_basic.specs.declared.family.Comparison.{Comparison}
-use Rattle.jvm_basic.specs.declared.family.Comparison.TheVariants.{Equal, NotEqual, Less, AtLeast, Greater, AtMost}
-use Rattle.jvm_basic.specs.declared.family.Test.{Test}
-use Rattle.jvm_basic.specs.declared.family.Test.TheVariants.{WithZero, OfInts, OfReferences, IsNull}
-use Rattle.jvm_basic.specs.declared.family.Family.{Family}
-use Rattle.jvm_basic.specs.declared.family.Family.TheVariants as family
-use Rattle.jvm_basic.specs.Outcomes.{Locals, Operands, Rule, Outcome, GoesOn, Raises, Breaks, Leaves}
-use Rattle.jvm_basic.specs.Values.{int_of, long_of, ref_of, ints_of, longs_of, long_and_int_of, refs_of, local_in, has_kind, is_storable, has_slots, stored}
-use Rattle.jvm_basic.specs.StackForms.{StackForm, forms_of, arranged}
-use Rattle.jvm_basic.specs.Families.{family_of}
+use Rattle.jvm_model.specs.declared.family.Family.{Family}
+use Rattle.jvm_model.specs.declared.family.Family.TheVariants as family
+use Rattle.heap_objects.specs.declared.datum.Datum.{Datum}
+use Rattle.jvm_model.specs.declared.family.IntOperator.{IntOperator}
+use Rattle.jvm_model.specs.declared.family.LongOperator.{LongOperator}
+use Rattle.jvm_model.specs.declared.family.Division.{Division}
+use Rattle.jvm_model.specs.declared.family.LongShift.{LongShift}
+use Rattle.jvm_model.specs.declared.family.OfInt.{OfInt}
+use Rattle.jvm_model.specs.declared.family.OfLong.{OfLong}
+use Rattle.jvm_model.specs.declared.family.Test.{Test}
+use Rattle.jvm_model.specs.Data.{Locals, Operands, StackForm, Constant, Load, Iinc, Goto, Jsr, Ret, Nop}
+use Rattle.jvm_model.specs.Data.{Where, Next, Target, Back, Subroutine}
+use Rattle.jvm_model.specs.Data.{Outcome as Asked, GoesOn as AsksOn, Raises as AsksRaise, Breaks as AsksBreak}
+use Rattle.jvm_model.specs.Descriptors.{same_text}
+use Rattle.jvm_model.specs.Families.{family_of}
+use Rattle.jvm_model.specs.Lines.{value_in, slot_in, increment_in, target_in, keys_in, local_of, targets_of}
+use Rattle.jvm_model.specs.LocalRules
+use Rattle.jvm_model.specs.StackForms.{forms_of}
+use Rattle.jvm_model.specs.Values.{arranged}
+use Rattle.jvm_basic.specs.Outcomes.{Rule, Outcome, GoesOn, Raises, Breaks, Leaves}
+
+-- ---- places
+
+-- what an instruction asks for, without places
+abbrev pub Asking : Type 0
+Asking = Locals → Operands → Asked
+
+-- the position of a class among the built-in ones
+unfoldable pub class_position : List ℕ → ℕ
+class_position name = unwrap_or (position (same_text name) built_in_names) 0
 
 -- the position of java/lang/ArithmeticException among the built-in classes
 abbrev pub arithmetic_exception : ℕ
 arithmetic_exception = 27
 
--- ---- so many operands give way to a value
+abbrev pub goes_at : Locals → Operands → Option ℕ → Outcome
+goes_at l o None = Breaks
+goes_at l o (Some place) = GoesOn l o place
 
-abbrev pub replaces : ℕ → Option Value → ℕ → Rule
-replaces taken None next l o = Breaks
-replaces taken (Some v) next l o = GoesOn l (v ∷ drop taken o) next
+abbrev pub place_in : ℕ → List ℕ → Where → Option ℕ
+place_in next targets Next = Some next
+place_in next targets (Target k) = slice_get targets k
+place_in next targets (Back place) = Some place
 
--- ---- locals
+-- Of a frame with these locals and operands. What ends an activation or needs more than the frame is left to others.
+abbrev pub placed : ℕ → List ℕ → Locals → Operands → Asked → Outcome
+placed next targets l o (AsksOn m p to) = goes_at m p (place_in next targets to)
+placed next targets l o Subroutine = goes_at l (Addr next ∷ o) (slice_get targets 0)
+placed next targets l o (AsksRaise name) = Raises (class_position name)
+placed next targets l o (AsksBreak false) = Breaks
+placed next targets l o _ = Leaves
 
-abbrev pub loads_value : Kind → Option Value → ℕ → Rule
-loads_value k None next l o = Breaks
-loads_value k (Some v) next l o = if has_kind k v then GoesOn l (v ∷ o) next else Breaks
+abbrev pub going : Asking → ℕ → List ℕ → Rule
+going asks next targets l o = placed next targets l o (asks l o)
 
-abbrev pub loads : Kind → Option ℕ → ℕ → Rule
-loads k None next l o = Breaks
-loads k (Some slot) next l o = loads_value k (local_in l slot) next l o
-
-abbrev pub stores_in : Kind → ℕ → ℕ → Rule
-stores_in k slot next l [] = Breaks
-stores_in k slot next l (v ∷ below) =
-    if is_storable k v && has_slots l slot v then GoesOn (stored l slot v) below next else Breaks
-
-abbrev pub stores : Kind → Option ℕ → ℕ → Rule
-stores k None next l o = Breaks
-stores k (Some slot) next l o = stores_in k slot next l o
-
-abbrev pub increments_value : ℕ → ℤ → Option Value → ℕ → Rule
-increments_value slot d (Some (Int n)) next l o = GoesOn (stored l slot (Int (wrapped_sum w32 n d))) o next
-increments_value slot d _ next l o = Breaks
-
-abbrev pub increments : Option (ℕ × ℤ) → ℕ → Rule
-increments None next l o = Breaks
-increments (Some (slot, d)) next l o = increments_value slot d (local_in l slot) next l o
-
--- ---- the operand stack
-
-abbrev pub leaves : Option Operands → ℕ → Locals → Outcome
-leaves None next l = Breaks
-leaves (Some o) next l = GoesOn l o next
-
-abbrev pub arranges : List StackForm → ℕ → Rule
-arranges forms next l o = leaves (arranged forms o) next l
-
--- ---- arithmetic (2.11.3, 2.11.4); the topmost operand is the second one
-
-abbrev pub calculated : IntOperator → ℤ → ℤ → ℤ
-calculated Iadd a b = wrapped_sum w32 a b
-calculated Isub a b = wrapped_difference w32 a b
-calculated Imul a b = wrapped_product w32 a b
-calculated Ishl a b = shifted_left w32 a b
-calculated Ishr a b = shifted_right w32 a b
-calculated Iushr a b = shifted_right_unsigned w32 a b
-calculated Iand a b = int_bit_and w32 a b
-calculated Ior a b = int_bit_or w32 a b
-calculated Ixor a b = int_bit_xor w32 a b
-
-abbrev pub calculated_long : LongOperator → ℤ → ℤ → ℤ
-calculated_long Ladd a b = wrapped_sum w64 a b
-calculated_long Lsub a b = wrapped_difference w64 a b
-calculated_long Lmul a b = wrapped_product w64 a b
-calculated_long Land a b = int_bit_and w64 a b
-calculated_long Lor a b = int_bit_or w64 a b
-calculated_long Lxor a b = int_bit_xor w64 a b
-
-abbrev pub shifted : LongShift → ℤ → ℤ → ℤ
-shifted Lshl a n = shifted_left w64 a n
-shifted Lshr a n = shifted_right w64 a n
-shifted Lushr a n = shifted_right_unsigned w64 a n
-
-abbrev pub divided_by : Division → Width → ℤ → ℤ → ℤ
-divided_by Quotient w a b = wrapped_quotient w a b
-divided_by Remainder w a b = int_rem a b
-
--- none where the divisor is 0
-abbrev pub divided : Division → Width → ℤ → ℤ → Option ℤ
-divided op w a b = if int_eq b (pos 0) then None else Some (divided_by op w a b)
-
-abbrev pub of_int : OfInt → ℤ → Value
-of_int Ineg n = Int (wrapped_negation w32 n)
-of_int I2l n = Long n
-of_int I2b n = Int (int_wrap w8 n)
-of_int I2c n = Int (zero_extended w16 n)
-of_int I2s n = Int (int_wrap w16 n)
-
-abbrev pub of_long : OfLong → ℤ → Value
-of_long Lneg n = Long (wrapped_negation w64 n)
-of_long L2i n = Int (int_wrap w32 n)
-
-abbrev pub calculates : IntOperator → ℕ → Rule
-calculates op next l o = replaces 2 (option_map (λ p. Int (calculated op p.0 p.1)) (ints_of o)) next l o
-
-abbrev pub calculates_long : LongOperator → ℕ → Rule
-calculates_long op next l o = replaces 2 (option_map (λ p. Long (calculated_long op p.0 p.1)) (longs_of o)) next l o
-
-abbrev pub shifts : LongShift → ℕ → Rule
-shifts op next l o = replaces 2 (option_map (λ p. Long (shifted op p.0 p.1)) (long_and_int_of o)) next l o
-
-abbrev pub compares_longs : ℕ → Rule
-compares_longs next l o = replaces 2 (option_map (λ p. Int (comparison p.0 p.1)) (longs_of o)) next l o
-
-abbrev pub divides_these : Option (Option Value) → ℕ → Rule
-divides_these None next l o = Breaks
-divides_these (Some None) next l o = Raises arithmetic_exception
-divides_these (Some (Some v)) next l o = GoesOn l (v ∷ drop 2 o) next
-
-abbrev pub divides_ints : Division → ℕ → Rule
-divides_ints op next l o =
-    divides_these (option_map (λ p. option_map Int (divided op w32 p.0 p.1)) (ints_of o)) next l o
-
-abbrev pub divides_longs : Division → ℕ → Rule
-divides_longs op next l o =
-    divides_these (option_map (λ p. option_map Long (divided op w64 p.0 p.1)) (longs_of o)) next l o
-
-abbrev pub converts_int : OfInt → ℕ → Rule
-converts_int op next l o = replaces 1 (option_map (of_int op) (int_of o)) next l o
-
-abbrev pub converts_long : OfLong → ℕ → Rule
-converts_long op next l o = replaces 1 (option_map (of_long op) (long_of o)) next l o
-
--- ---- branches
-
-abbrev pub compares : Comparison → ℤ → ℤ → Bool
-compares Equal a b = int_eq a b
-compares NotEqual a b = not (int_eq a b)
-compares Less a b = int_lt a b
-compares AtLeast a b = not (int_lt a b)
-compares Greater a b = int_lt b a
-compares AtMost a b = not (int_lt b a)
-
-abbrev pub is_same : Bool → Bool → Bool
-is_same true b = b
-is_same false b = not b
-
--- whether the test holds, where the operands are of its kind
-abbrev pub holds : Test → Operands → Option Bool
-holds (WithZero c) o = option_map (λ n. compares c n (pos 0)) (int_of o)
-holds (OfInts c) o = option_map (λ p. compares c p.0 p.1) (ints_of o)
-holds (OfReferences same) o = option_map (λ p. is_same same (p.0 == p.1)) (refs_of o)
-holds (IsNull null) o = option_map (λ r. is_same null (r == 0)) (ref_of o)
-
--- how many operands it takes
-abbrev pub tests : Test → ℕ
-tests (WithZero c) = 1
-tests (OfInts c) = 2
-tests (OfReferences same) = 2
-tests (IsNull null) = 1
-
-abbrev pub goes_if : Option Bool → ℕ → ℕ → ℕ → Rule
-goes_if None taken target next l o = Breaks
-goes_if (Some b) taken target next l o = GoesOn l (drop taken o) (if b then target else next)
-
-abbrev pub branches : Test → Option ℕ → ℕ → Rule
-branches test None next l o = Breaks
-branches test (Some target) next l o = goes_if (holds test o) (tests test) target next l o
-
-abbrev pub goes_to : Option ℕ → Rule
-goes_to None l o = Breaks
-goes_to (Some target) l o = GoesOn l o target
-
--- the target at this distance from the lowest number, else the default
-abbrev pub target_at : ℕ → List ℕ → ℤ → ℕ
-target_at default targets (pos k) = unwrap_or (slice_get targets k) default
-target_at default targets (negsuc k) = default
-
--- the target beside the first key that is the number, else the default
-abbrev pub target_of : ℕ → List ℤ → List ℕ → ℤ → ℕ
-target_of default [] targets n = default
-target_of default (key ∷ keys) [] n = default
-target_of default (key ∷ keys) (target ∷ targets) n =
-    if int_eq key n then target else target_of default keys targets n
-
--- where a switch goes
-abbrev pub chosen : Arg → ℤ → Option ℕ
-chosen (arg.Table default low targets) n = Some (target_at default targets (n -ℤ low))
-chosen (arg.Lookup default keys targets) n = Some (target_of default keys targets n)
-chosen _ n = None
-
-abbrev pub switches_on : Arg → Option ℤ → Rule
-switches_on a None l o = Breaks
-switches_on a (Some n) l o = goes_to (chosen a n) l (drop 1 o)
-
-abbrev pub switches : Arg → Rule
-switches a l o = switches_on a (int_of o) l o
-
--- ---- subroutines: the place behind the instruction is the return address
-
-abbrev pub calls_subroutine : Option ℕ → ℕ → Rule
-calls_subroutine None next l o = Breaks
-calls_subroutine (Some target) next l o = GoesOn l (Addr next ∷ o) target
-
-abbrev pub goes_back_to : Option Value → Rule
-goes_back_to (Some (Addr place)) l o = GoesOn l o place
-goes_back_to _ l o = Breaks
-
-abbrev pub goes_back : Option ℕ → Rule
-goes_back None l o = Breaks
-goes_back (Some slot) l o = goes_back_to (local_in l slot) l o
-
--- ---- what an instruction has of an operand
-
-abbrev pub value_in : Arg → Option Value
-value_in (arg.Value n) = Some (Int n)
-value_in _ = None
-
-abbrev pub slot_in : Arg → Option ℕ
-slot_in (arg.Local slot) = Some slot
-slot_in _ = None
-
-abbrev pub increment_in : Arg → Option (ℕ × ℤ)
-increment_in (arg.Inc slot d) = Some (slot, d)
-increment_in _ = None
-
-abbrev pub target_in : Arg → Option ℕ
-target_in (arg.Target target) = Some target
-target_in _ = None
+-- the instruction needs this of its operand
+abbrev pub needs : {A : Type 0} → Option A → (A → Rule) → Rule
+needs None rule l o = Breaks
+needs (Some x) rule l o = rule x l o
 
 -- ---- every instruction
 
--- With the instruction's operand, the constant that an ldc has, and the place behind the instruction. An operand of another form
--- than the instruction's breaks; decoded code has none.
-abbrev pub does : Family → Arg → Option Value → ℕ → Rule
-does family.Nop a c next l o = GoesOn l o next
-does (family.Constant v) a c next l o = GoesOn l (v ∷ o) next
-does family.Given a c next l o = replaces 0 c next l o
-does family.Immediate a c next l o = replaces 0 (value_in a) next l o
-does (family.Load k) a c next l o = loads k (slot_in a) next l o
-does (family.LoadFrom k slot) a c next l o = loads k (Some slot) next l o
-does (family.Store k) a c next l o = stores k (slot_in a) next l o
-does (family.StoreTo k slot) a c next l o = stores k (Some slot) next l o
-does (family.Arrange op) a c next l o = arranges (forms_of op) next l o
-does (family.BinaryOfInts op) a c next l o = calculates op next l o
-does (family.BinaryOfLongs op) a c next l o = calculates_long op next l o
-does (family.DivisionOfInts op) a c next l o = divides_ints op next l o
-does (family.DivisionOfLongs op) a c next l o = divides_longs op next l o
-does (family.ShiftOfLong op) a c next l o = shifts op next l o
-does (family.UnaryOfInt op) a c next l o = converts_int op next l o
-does (family.UnaryOfLong op) a c next l o = converts_long op next l o
-does family.Lcmp a c next l o = compares_longs next l o
-does family.Iinc a c next l o = increments (increment_in a) next l o
-does (family.Branch test) a c next l o = branches test (target_in a) next l o
-does family.Goto a c next l o = goes_to (target_in a) l o
-does family.Jsr a c next l o = calls_subroutine (target_in a) next l o
-does family.Ret a c next l o = goes_back (slot_in a) l o
-does family.Switch a c next l o = switches a l o
-does family.Elsewhere a c next l o = Leaves
+-- a return address is no constant
+abbrev pub datum_in : Value → Option Datum
+datum_in (Int n) = Some (datum.Int n)
+datum_in (Long n) = Some (datum.Long n)
+datum_in (Ref r) = Some (datum.Ref r)
+datum_in (Addr place) = None
 
+abbrev pub rule_by : Family → Arg → Option Datum → ℕ → Rule
+rule_by family.Elsewhere a c next l o = Leaves
+rule_by f a c next l o = needs (local_of f a c) (λ i. going (LocalRules.within i) next (targets_of a)) l o
+
+-- With the constant that an ldc has, and the place behind the instruction. An operand of another form than the instruction's
+-- breaks; decoded code has none.
 abbrev pub rule_of : Instr → Option Value → ℕ → Rule
-rule_of i c next = does (family_of i.op) i.arg c next
+rule_of i c next = rule_by (family_of i.op) i.arg (option_and_then datum_in c) next
+
+-- ---- the same by families, each with the targets that it has
+
+abbrev pub replaces : ℕ → Option Value → ℕ → Rule
+replaces taken v next = going (LocalRules.replaces taken v) next []
+
+abbrev pub gives : Option Value → ℕ → Rule
+gives c next = needs (option_and_then datum_in c) (λ d. going (LocalRules.within (Constant d)) next [])
+
+abbrev pub pushes_number : Arg → ℕ → Rule
+pushes_number a next = needs (value_in a) (λ d. going (LocalRules.within (Constant d)) next [])
+
+abbrev pub loads : Kind → Option ℕ → ℕ → Rule
+loads k slot next = needs slot (λ n. going (LocalRules.within (Load k n)) next [])
+
+abbrev pub stores : Kind → Option ℕ → ℕ → Rule
+stores k slot next = needs slot (λ n. going (LocalRules.stores k n) next [])
+
+abbrev pub increments : Option (ℕ × ℤ) → ℕ → Rule
+increments x next = needs x (λ p. going (LocalRules.within (Iinc p.0 p.1)) next [])
+
+abbrev pub arranges : List StackForm → ℕ → Rule
+arranges forms next = going (λ l o. LocalRules.leaves (arranged forms o) l) next []
+
+abbrev pub calculates : IntOperator → ℕ → Rule
+calculates op next = going (LocalRules.calculates op) next []
+
+abbrev pub calculates_long : LongOperator → ℕ → Rule
+calculates_long op next = going (LocalRules.calculates_long op) next []
+
+abbrev pub shifts : LongShift → ℕ → Rule
+shifts op next = going (LocalRules.shifts op) next []
+
+abbrev pub compares_longs : ℕ → Rule
+compares_longs next = going LocalRules.compares_longs next []
+
+abbrev pub divides_ints : Division → ℕ → Rule
+divides_ints op next = going (LocalRules.divides_ints op) next []
+
+abbrev pub divides_longs : Division → ℕ → Rule
+divides_longs op next = going (LocalRules.divides_longs op) next []
+
+abbrev pub converts_int : OfInt → ℕ → Rule
+converts_int op next = going (LocalRules.converts_int op) next []
+
+abbrev pub converts_long : OfLong → ℕ → Rule
+converts_long op next = going (LocalRules.converts_long op) next []
+
+abbrev pub branches : Test → Option ℕ → ℕ → Rule
+branches test target next = needs target (λ t. going (LocalRules.branches test) next (t ∷ []))
+
+abbrev pub goes_to : Option ℕ → Rule
+goes_to target = needs target (λ t. going (LocalRules.within Goto) 0 (t ∷ []))
+
+-- where a switch goes by a number
+abbrev pub chosen : Arg → ℤ → Option ℕ
+chosen a n = option_and_then (λ keys. slice_get (targets_of a) (LocalRules.target_by keys n)) (keys_in a)
+
+abbrev pub switches : Arg → Rule
+switches a = needs (keys_in a) (λ keys. going (LocalRules.switches keys) 0 (targets_of a))
+
+abbrev pub calls_subroutine : Option ℕ → ℕ → Rule
+calls_subroutine target next = needs target (λ t. going (LocalRules.within Jsr) next (t ∷ []))
+
+abbrev pub goes_back : Option ℕ → Rule
+goes_back slot = needs slot (λ n. going (LocalRules.within (Ret n)) 0 [])
+
+abbrev pub does : Family → Arg → Option Value → ℕ → Rule
+does family.Nop a c next = going (LocalRules.within Nop) next []
+does (family.Constant d) a c next = going (LocalRules.within (Constant d)) next []
+does family.Given a c next = gives c next
+does family.Immediate a c next = pushes_number a next
+does (family.Load k) a c next = loads k (slot_in a) next
+does (family.LoadFrom k slot) a c next = loads k (Some slot) next
+does (family.Store k) a c next = stores k (slot_in a) next
+does (family.StoreTo k slot) a c next = stores k (Some slot) next
+does (family.Arrange op) a c next = arranges (forms_of op) next
+does (family.BinaryOfInts op) a c next = calculates op next
+does (family.BinaryOfLongs op) a c next = calculates_long op next
+does (family.DivisionOfInts op) a c next = divides_ints op next
+does (family.DivisionOfLongs op) a c next = divides_longs op next
+does (family.ShiftOfLong op) a c next = shifts op next
+does (family.UnaryOfInt op) a c next = converts_int op next
+does (family.UnaryOfLong op) a c next = converts_long op next
+does family.Lcmp a c next = compares_longs next
+does family.Iinc a c next = increments (increment_in a) next
+does (family.Branch test) a c next = branches test (target_in a) next
+does family.Goto a c next = goes_to (target_in a)
+does family.Jsr a c next = calls_subroutine (target_in a) next
+does family.Ret a c next = goes_back (slot_in a)
+does family.Switch a c next = switches a
+does (family.Return k) a c next = λ l o. Leaves
+does family.Elsewhere a c next = λ l o. Leaves

@@ -3,13 +3,13 @@
 ghost use Rattle.std.specs.Prelude.{◌≡◌};
 ghost use Rattle.std.specs.Int.{w32, w64};
 ghost use Rattle.jvm_basic.specs.Outcomes.{effect_of, after};
-ghost use Rattle.jvm_basic.specs.Rules.{calculated, calculated_long, shifted, divided};
-ghost use Rattle.jvm_basic.specs.Rules.{of_int, of_long, compares_longs, divides_ints};
+ghost use Rattle.jvm_model.specs.LocalRules.{calculated, calculated_long, shifted, divided};
+ghost use Rattle.jvm_model.specs.LocalRules.{of_int, of_long};
+ghost use Rattle.jvm_basic.specs.Rules.{compares_longs, divides_ints};
 ghost use Rattle.jvm_basic.specs.Rules.{calculates, calculates_long, shifts};
 ghost use Rattle.jvm_basic.specs.Rules.{divides_longs, converts_int, converts_long};
 
 use crate::effect::{ARITHMETIC_EXCEPTION, Effect};
-use crate::family::{Division, IntOperator, LongOperator, LongShift, OfInt, OfLong};
 use crate::moving::{replace, replace_two};
 use crate::reading::{int_of, ints_of, long_and_int_of, long_of, longs_of};
 use frame_stack::Frames;
@@ -19,6 +19,7 @@ use int_ops::{
     mul_i32, mul_i64, neg_i32, neg_i64, or_i32, or_i64, rem_i32, rem_i64, shl_i32, shl_i64,
     shr_i32, shr_i64, sub_i32, sub_i64, ushr_i32, ushr_i64, xor_i32, xor_i64,
 };
+use jvm_model::{Division, IntOperator, LongOperator, LongShift, OfInt, OfLong};
 
 // ---- results
 

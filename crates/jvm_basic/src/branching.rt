@@ -1,21 +1,22 @@
 //! Branches, switches and subroutines (JVM Specification 2.11.7, 6.5).
 
-ghost use Rattle.std.specs.Prelude.{◌≡◌, ℤ, ◌-ℤ◌, Some};
+ghost use Rattle.std.specs.Prelude.{◌≡◌, ℤ, ◌-ℤ◌, ◌∷◌, Some, length, slice_get};
 ghost use Rattle.frame_stack.specs.FrameLists.{AreSound, top_operands};
-ghost use Rattle.jvm_basic.specs.Values.{int_of};
+ghost use Rattle.jvm_model.specs.Values.{int_of};
 ghost use Rattle.jvm_basic.specs.Outcomes.{effect_of, after};
-ghost use Rattle.jvm_basic.specs.Rules.{compares, is_same, holds, tests, branches, goes_to};
-ghost use Rattle.jvm_basic.specs.Rules.{target_at, target_of, chosen, switches};
-ghost use Rattle.jvm_basic.specs.Rules.{calls_subroutine, target_in};
+ghost use Rattle.jvm_model.specs.Lines.{target_in};
+ghost use Rattle.jvm_model.specs.LocalRules.{compares, is_same, holds, target_at, target_of};
+ghost use Rattle.jvm_basic.specs.Rules.{branches, goes_to, calls_subroutine};
+ghost use Rattle.jvm_basic.specs.Rules.{chosen, switches};
 
 use crate::effect::Effect;
-use crate::family::{Comparison, Test};
 use crate::moving::{drop_one, drop_two, go_on, put};
 use crate::reading::{int_of, ints_of, recall, ref_of, refs_of};
 use code_model::Arg;
 use frame_stack::Frames;
 use heap_objects::Value;
 use jf_bytes::Seq;
+use jvm_model::{Comparison, Test};
 
 // ---- branches
 
@@ -116,8 +117,10 @@ pub fn call_subroutine(frames: &mut Frames, arg: &Arg, next: u16) -> Effect
 // ---- switches
 
 /// The target at a number's distance from the lowest one, else the default.
+#[tactic(auto, using(crate::proofs::Keys::places))]
 fn target_at(default: u16, targets: &Seq<u16>, low: i32, n: i32) -> u16
-    ensures { result ≡ target_at default targets.now (n -ℤ low) }
+    ensures { Some result
+        ≡ slice_get (default ∷ targets.now) (target_at (length targets.now) (n -ℤ low)) }
 {
     if n < low {
         return default;
@@ -131,18 +134,18 @@ fn target_at(default: u16, targets: &Seq<u16>, low: i32, n: i32) -> u16
 
 /// The target beside the first key that is the number, else the default.
 #[tactic(auto, using(crate::proofs::Keys::keys))]
-fn target_of(default: u16, keys: &Seq<i32>, targets: &Seq<u16>, n: i32) -> u16
-    ensures { result ≡ target_of default keys.now targets.now n }
+fn target_of(default: u16, keys: &Seq<i32>, targets: &Seq<u16>, n: i32) -> Option<u16>
+    ensures { result ≡ slice_get (default ∷ targets.now) (target_of keys.now 1 n) }
 {
     for index in 0..keys.len() {
-        let (Some(key), Some(target)) = (keys.at(index), targets.at(index)) else {
-            return default;
+        let Some(key) = keys.at(index) else {
+            return Some(default);
         };
         if key == n {
-            return target;
+            return targets.at(index);
         }
     }
-    default
+    Some(default)
 }
 
 /// Where a switch goes.
@@ -151,7 +154,7 @@ fn chosen(arg: &Arg, n: i32) -> Option<u16>
 {
     match arg {
         Arg::Table(default, low, targets) => Some(target_at(*default, targets, *low, n)),
-        Arg::Lookup(default, keys, targets) => Some(target_of(*default, keys, targets, n)),
+        Arg::Lookup(default, keys, targets) => target_of(*default, keys, targets, n),
         _ => None,
     }
 }

@@ -4,11 +4,12 @@ ghost use Rattle.std.specs.Prelude.{◌≡◌, ◌≢◌, ◌↔◌, ℕ, IsTrue
 ghost use Rattle.const_pool.specs.BuiltIn.{built_in_names};
 ghost use Rattle.frame_stack.specs.FrameLists.{top_operands};
 ghost use Rattle.jvm_basic.specs.declared.effect.Effect.TheVariants.{Next, Throws, Bad, Other};
-ghost use Rattle.jvm_basic.specs.Families.{family_of};
+ghost use Rattle.jvm_model.specs.Families.{family_of};
 ghost use Rattle.jvm_basic.specs.Needs.{is_bad};
 ghost use Rattle.jvm_basic.specs.Laws.{is_elsewhere, divides_by_zero, HasItsOperand};
 ghost use Rattle.jvm_basic.specs.Outcomes.{GoesOn, effect_of, after};
-ghost use Rattle.jvm_basic.specs.Rules.{arithmetic_exception, does, replaces, rule_of, value_in};
+ghost use Rattle.jvm_model.specs.Values.{as_value};
+ghost use Rattle.jvm_basic.specs.Rules.{arithmetic_exception, does, gives, pushes_number, rule_of};
 
 use crate::arithmetic::{
     calculate, calculate_long, compare_longs, convert_int, convert_long, divide_ints, divide_longs,
@@ -16,15 +17,14 @@ use crate::arithmetic::{
 };
 use crate::branching::{branch, call_subroutine, go_to, switch};
 use crate::effect::Effect;
-use crate::families::family_of;
-use crate::family::Family;
 use crate::locals::{go_back, increment, load, load_from, store, store_to};
 use crate::moving::{go_on, put};
 use crate::reading::recall;
 use crate::stack::arrange;
 use code_model::{Arg, Instr};
 use frame_stack::Frames;
-use heap_objects::Value;
+use heap_objects::{Datum, Value};
+use jvm_model::{Family, family_of};
 
 /// nop.
 fn pass(frames: &mut Frames, next: u16) -> Effect
@@ -37,19 +37,31 @@ fn pass(frames: &mut Frames, next: u16) -> Effect
 
 /// ldc, ldc_w, ldc2_w.
 fn put_given(frames: &mut Frames, constant: Option<Value>, next: u16) -> Effect
-    ensures effect { result ≡ effect_of (replaces 0 constant next) frames.old }
-    ensures frames { frames.new ≡ after (replaces 0 constant next) frames.old }
+    ensures effect { result ≡ effect_of (gives constant next) frames.old }
+    ensures frames { frames.new ≡ after (gives constant next) frames.old }
 {
-    let Some(value) = constant else {
-        return Effect::Bad;
-    };
-    put(frames, value, next)
+    match constant {
+        Some(Value::Int(n)) => put(frames, Value::Int(n), next),
+        Some(Value::Long(n)) => put(frames, Value::Long(n), next),
+        Some(Value::Ref(reference)) => put(frames, Value::Ref(reference), next),
+        Some(Value::Addr(_)) | None => Effect::Bad,
+    }
+}
+
+fn value_of(datum: Datum) -> Value
+    ensures { result ≡ as_value datum }
+{
+    match datum {
+        Datum::Int(n) => Value::Int(n),
+        Datum::Long(n) => Value::Long(n),
+        Datum::Ref(reference) => Value::Ref(reference),
+    }
 }
 
 /// bipush, sipush.
 fn put_immediate(frames: &mut Frames, arg: &Arg, next: u16) -> Effect
-    ensures effect { result ≡ effect_of (replaces 0 (value_in arg.now) next) frames.old }
-    ensures frames { frames.new ≡ after (replaces 0 (value_in arg.now) next) frames.old }
+    ensures effect { result ≡ effect_of (pushes_number arg.now next) frames.old }
+    ensures frames { frames.new ≡ after (pushes_number arg.now next) frames.old }
 {
     match arg {
         Arg::Value(n) => put(frames, Value::Int(*n), next),
@@ -70,7 +82,7 @@ fn do_family(
 {
     match family {
         Family::Nop => pass(frames, next),
-        Family::Constant(value) => put(frames, value, next),
+        Family::Constant(datum) => put(frames, value_of(datum), next),
         Family::Given => put_given(frames, constant, next),
         Family::Immediate => put_immediate(frames, arg, next),
         Family::Load(kind) => load(frames, kind, arg, next),
@@ -92,7 +104,7 @@ fn do_family(
         Family::Jsr => call_subroutine(frames, arg, next),
         Family::Ret => go_back(frames, arg),
         Family::Switch => switch(frames, arg),
-        Family::Elsewhere => Effect::Other,
+        Family::Return(_) | Family::Elsewhere => Effect::Other,
     }
 }
 

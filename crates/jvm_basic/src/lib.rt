@@ -5,8 +5,6 @@
 mod arithmetic;
 mod branching;
 mod effect;
-mod families;
-mod family;
 mod instruction;
 mod locals;
 mod moving;

@@ -1,16 +1,16 @@
 //! Loads and stores, iinc, and ret, which reads a local too (JVM Specification 2.6.1, 6.5).
 
 ghost use Rattle.std.specs.Prelude.{◌≡◌, Some};
-ghost use Rattle.jvm_basic.specs.Values.{has_kind, is_storable};
+ghost use Rattle.jvm_model.specs.Values.{has_kind, is_storable};
 ghost use Rattle.jvm_basic.specs.Outcomes.{effect_of, after};
+ghost use Rattle.jvm_model.specs.Lines.{slot_in, increment_in};
 ghost use Rattle.jvm_basic.specs.Rules.{loads, stores, increments, goes_back};
-ghost use Rattle.jvm_basic.specs.Rules.{slot_in, increment_in};
 
 use crate::effect::Effect;
-use crate::family::Kind;
 use crate::moving::{drop_one, go_on, put};
 use crate::reading::recall;
 use code_model::Arg;
+use const_pool::Kind;
 use frame_stack::Frames;
 use heap_objects::Value;
 use int_ops::add_i32;
@@ -19,9 +19,12 @@ fn has_kind(kind: Kind, value: Value) -> bool
     ensures { result ≡ has_kind kind value }
 {
     match kind {
-        Kind::Int => matches!(value, Value::Int(_)),
+        Kind::Int | Kind::Bool | Kind::Byte | Kind::Char | Kind::Short => {
+            matches!(value, Value::Int(_))
+        }
         Kind::Long => matches!(value, Value::Long(_)),
         Kind::Ref => matches!(value, Value::Ref(_)),
+        Kind::Float | Kind::Double => false,
     }
 }
 
@@ -31,7 +34,7 @@ fn is_storable(kind: Kind, value: Value) -> bool
 {
     match kind {
         Kind::Ref => matches!(value, Value::Ref(_) | Value::Addr(_)),
-        Kind::Int | Kind::Long => has_kind(kind, value),
+        _ => has_kind(kind, value),
     }
 }
 

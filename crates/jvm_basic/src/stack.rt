@@ -4,20 +4,21 @@ ghost use Rattle.std.specs.Prelude.{◌≡◌, ◌∷◌, ◌≤◌, [], IsTrue,
 ghost use Rattle.frame_stack.specs.Widths.{is_long};
 ghost use Rattle.frame_stack.specs.FrameLists.{AreSound, top_operands};
 ghost use Rattle.jvm_basic.specs.Outcomes.{effect_of, after};
-ghost use Rattle.jvm_basic.specs.StackForms.{has_form, forms_of};
+ghost use Rattle.jvm_model.specs.Values.{has_form};
+ghost use Rattle.jvm_model.specs.StackForms.{forms_of};
 ghost use Rattle.jvm_basic.specs.Copies.{values_of, has_room_for, has_room_for_some, with_some};
 ghost use Rattle.jvm_basic.specs.Copies.{with_inserted, inserts, copies_one, copies_two, swaps};
 ghost use Rattle.jvm_basic.specs.Rules.{arranges};
-ghost use Rattle.jvm_basic.specs.declared.family.Arrangement.TheVariants.{Pop, Pop2, Dup, DupX1};
-ghost use Rattle.jvm_basic.specs.declared.family.Arrangement.TheVariants.{DupX2, Dup2, Dup2X1};
-ghost use Rattle.jvm_basic.specs.declared.family.Arrangement.TheVariants.{Dup2X2, Swap};
+ghost use Rattle.jvm_model.specs.declared.family.Arrangement.TheVariants.{Pop, Pop2, Dup, DupX1};
+ghost use Rattle.jvm_model.specs.declared.family.Arrangement.TheVariants.{DupX2, Dup2, Dup2X1};
+ghost use Rattle.jvm_model.specs.declared.family.Arrangement.TheVariants.{Dup2X2, Swap};
 
 use crate::effect::Effect;
-use crate::family::Arrangement;
 use crate::moving::{drop_one, drop_two};
 use crate::reading::recall;
 use frame_stack::Frames;
 use heap_objects::Value;
+use jvm_model::Arrangement;
 
 fn is_long(value: Value) -> bool
     ensures { result ≡ is_long value }

@@ -5,7 +5,7 @@ use Rattle.std.proofs.lemmas.Option.{same_Some, none-some}
 use Rattle.heap_objects.specs.declared.Value.{Value}
 use Rattle.heap_objects.specs.declared.Value.TheVariants.{Int, Long, Ref, Addr}
 use Rattle.jvm_model.specs.Data.{Locals, Operands}
-use Rattle.jvm_model.specs.Values.{width, depth}
+use Rattle.frame_stack.specs.Widths.{width, height_of}
 use Rattle.jvm_machine.specs.Arguments.{spread_values}
 
 pub drop-at : {X : Type 0} (xs : List X) (i : ℕ) (x : X) → slice_get xs i ≡ Some x → drop i xs ≡ x ∷ drop (i + 1) xs
@@ -16,14 +16,14 @@ drop-at (y ∷ ys) (suc i) x e = drop-at ys i x e ∙ ap (λ n. x ∷ drop n (y 
 -- ---- depth
 
 -- a value that fits, and what is below it
-pub depth-below : (o : Operands) (i left : ℕ) (v : Value) → slice_get o i ≡ Some v → width v ≤ left → nat_le (depth (drop (i + 1) o)) (left - width v) ≡ nat_le (depth (drop i o)) left
-depth-below o i left v e fits = rw (drop-at o i v e) (same_test (depth (drop (i + 1) o)) (width v) left fits) where
+pub depth-below : (o : Operands) (i left : ℕ) (v : Value) → slice_get o i ≡ Some v → width v ≤ left → nat_le (height_of (drop (i + 1) o)) (left - width v) ≡ nat_le (height_of (drop i o)) left
+depth-below o i left v e fits = rw (drop-at o i v e) (same_test (height_of (drop (i + 1) o)) (width v) left fits) where
   same_test : (d w left : ℕ) → w ≤ left → nat_le d (left - w) ≡ nat_le (w + d) left
   same_test d w left fits = grind arith
 
 -- a value that does not fit
-pub depth-over : (o : Operands) (i left : ℕ) (v : Value) → slice_get o i ≡ Some v → left < width v → nat_le (depth (drop i o)) left ≡ false
-depth-over o i left v e over = rw (drop-at o i v e) (no_room (depth (drop (i + 1) o)) (width v) left over) where
+pub depth-over : (o : Operands) (i left : ℕ) (v : Value) → slice_get o i ≡ Some v → left < width v → nat_le (height_of (drop i o)) left ≡ false
+depth-over o i left v e over = rw (drop-at o i v e) (no_room (height_of (drop (i + 1) o)) (width v) left over) where
   no_room : (d w left : ℕ) → left < w → nat_le (w + d) left ≡ false
   no_room d w left over = grind arith
 

@@ -10,3 +10,4 @@ pub mod DescriptorTexts
 pub mod Steps
 pub mod Machines
 mod Within
+mod Families

@@ -3,7 +3,7 @@ use Rattle.std.specs.Prelude.{◌≡◌, ℕ, Some, slice_get, Result, IfOk}
 use Rattle.jf_bytes.specs.declared.error.NoMemory.{NoMemory}
 use Rattle.jvm_model.specs.declared.program.Program.{Program}
 use Rattle.const_pool.specs.declared.descriptor.Kind.TheVariants as kind
-use Rattle.jvm_model.specs.declared.operation.IntOperator.{IntOperator}
+use Rattle.jvm_model.specs.declared.family.IntOperator.{IntOperator}
 use Rattle.jvm_model.specs.declared.operation.Resolved.{Resolved}
 use Rattle.jvm_model.specs.declared.state.Frame.{Frame}
 use Rattle.jvm_model.specs.Data.{Next, Outcome, GoesOn, Returns, Breaks}

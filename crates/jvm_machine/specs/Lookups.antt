@@ -6,8 +6,14 @@ use Rattle.const_pool.specs.declared.pool.Const.{Const}
 use Rattle.const_pool.specs.References.{named_field, named_method}
 use Rattle.jvm_model.specs.declared.operation.Resolved.{Resolved}
 use Rattle.jvm_model.specs.Data.{Invokestatic}
-use Rattle.jvm_model.specs.Lines.{getstatic_of, invokevirtual_of}
-use Rattle.jvm_model.specs.Resolved.{resolved_in}
+use Rattle.code_model.specs.declared.instr.Arg.{Arg}
+use Rattle.jvm_model.specs.declared.family.Family.{Family}
+use Rattle.jvm_model.specs.Lines.{local_of, constant_in, getstatic_of, invokevirtual_of}
+use Rattle.jvm_model.specs.Resolved.{resolved_local, resolved_in}
+
+-- what an instruction of a family does that sees its frame alone, with the pool of its class
+abbrev pub resolved_by : Family → Arg → List Const → Option Resolved
+resolved_by f a pool = option_and_then resolved_local (local_of f a (constant_in pool a))
 
 abbrev pub resolved_getstatic : ClassFile → List Const → ℕ → Option Resolved
 resolved_getstatic c pool index = option_and_then (resolved_in c) (option_and_then getstatic_of (named_field pool index))

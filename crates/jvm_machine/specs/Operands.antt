@@ -3,11 +3,7 @@ use Rattle.std.specs.Prelude.{ℕ, ℤ, List, ◌∷◌, Option, Some, None}
 use Rattle.heap_objects.specs.declared.Value.{Value}
 use Rattle.heap_objects.specs.declared.Value.TheVariants.{Int, Ref}
 
--- two ints, the deeper one first
-abbrev pub ints_of : List Value → Option (ℤ × ℤ)
-ints_of (Int b ∷ Int a ∷ below) = Some (a, b)
-ints_of _ = None
-
+-- below two ints
 abbrev pub below_ints : List Value → List Value
 below_ints (Int b ∷ Int a ∷ below) = below
 below_ints operands = operands

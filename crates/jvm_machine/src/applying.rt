@@ -1,7 +1,8 @@
 //! What becomes of a state by what an instruction asked for: the state is without the current frame, which is given.
 
 ghost use Rattle.std.specs.Prelude.{◌≡◌, nat_le, OnOk, IfOk};
-ghost use Rattle.jvm_model.specs.Values.{as_value, width, depth};
+ghost use Rattle.frame_stack.specs.Widths.{width, height_of};
+ghost use Rattle.jvm_model.specs.Values.{as_value};
 ghost use Rattle.jvm_model.specs.Applies.{with_frame, breaks, lands, breaks_or_ends};
 ghost use Rattle.jvm_model.specs.Installed.{world_in};
 ghost use Rattle.jvm_machine.specs.Applied.{Becomes, TellsBegun, flows, goes_to, with_result, resumes_at, gives_back_in};
@@ -42,7 +43,7 @@ fn width(value: Value) -> usize
 
 /// Whether the operands are at most so deep.
 fn is_within(operands: &Stack<Value>, most: u16) -> bool
-    ensures { result ≡ nat_le (depth operands.now) most }
+    ensures { result ≡ nat_le (height_of operands.now) most }
 {
     let mut left = most as usize;
     for above in 0..operands.len() {

@@ -1,7 +1,8 @@
 //! What the top of the operand stack has.
 
 ghost use Rattle.std.specs.Prelude.{◌≡◌};
-ghost use Rattle.jvm_machine.specs.Operands.{ints_of, below_ints, print_of, below_print};
+ghost use Rattle.jvm_model.specs.Values.{ints_of};
+ghost use Rattle.jvm_machine.specs.Operands.{below_ints, print_of, below_print};
 
 use heap_objects::Value;
 use jf_bytes::Stack;

@@ -6,15 +6,18 @@ ghost use Rattle.const_pool.specs.References.{name_type_of, named_field, named_m
 ghost use Rattle.jvm_model.specs.Methods.{same_text_at, is_member, method_named};
 ghost use Rattle.std.specs.Option.{option_and_then, option_map};
 ghost use Rattle.jvm_model.specs.Rules.{is_reference, is_out, is_println};
-ghost use Rattle.jvm_model.specs.Lines.{plain_operation, pool_operation};
+ghost use Rattle.jvm_model.specs.Lines.{constant_in, pool_operation, named_operation};
 ghost use Rattle.const_pool.specs.declared.class.ClassFile.{ClassFile as Class};
-ghost use Rattle.jvm_model.specs.Resolved.{own_method, resolved_in, resolved_of};
+ghost use Rattle.jvm_model.specs.Resolved.{own_method, resolved_constant, resolved_binary};
+ghost use Rattle.jvm_model.specs.Resolved.{resolved_in, resolved_of};
+ghost use Rattle.jvm_machine.specs.Lookups.{resolved_by};
 ghost use Rattle.jvm_machine.specs.Lookups.{resolved_getstatic, resolved_invokevirtual, resolved_invokestatic};
 
 use code_model::{Arg, Instr};
-use const_pool::{ClassFile, Const, Member, MemberRef, Pool};
+use const_pool::{ClassFile, Const, Kind, Member, MemberRef, Pool};
+use heap_objects::Datum;
 use jf_bytes::Text16;
-use jvm_model::{IntOperator, Resolved};
+use jvm_model::{Family, IntOperator, Resolved, family_of};
 
 /// Whether an entry is this text.
 fn is_text_at(pool: &Pool, index: u16, text: &Text16) -> bool
@@ -106,19 +109,49 @@ pub fn method_at(pool: &Pool, index: u16) -> Option<MemberRef<'_>>
     }
 }
 
-/// What an instruction without operand does.
-fn plain_operation(op: u8) -> Option<Resolved>
-    ensures { (c : Class) → result ≡ option_and_then (resolved_in c) (plain_operation op) }
+/// The constant that an ldc names, where it is an int.
+fn named_int(pool: &Pool, arg: &Arg) -> Option<Resolved>
+    ensures { result ≡ option_and_then resolved_constant (constant_in pool.now arg.now) }
+{
+    match arg {
+        Arg::Pool(index) => match pool.get(*index)? {
+            Const::Integer(n) => Some(Resolved::Constant(*n)),
+            _ => None,
+        },
+        _ => None,
+    }
+}
+
+/// The operators that run so far.
+fn binary(op: IntOperator) -> Option<Resolved>
+    ensures { result ≡ resolved_binary op }
 {
     match op {
-        0 => Some(Resolved::Nop),
-        2..=8 => Some(Resolved::Constant(i32::from(op) - 3)),
-        26..=29 => Some(Resolved::Iload(u16::from(op) - 26)),
-        96 => Some(Resolved::Binary(IntOperator::Iadd)),
-        100 => Some(Resolved::Binary(IntOperator::Isub)),
-        104 => Some(Resolved::Binary(IntOperator::Imul)),
-        172 => Some(Resolved::Ireturn),
-        177 => Some(Resolved::Return),
+        IntOperator::Iadd | IntOperator::Isub | IntOperator::Imul => Some(Resolved::Binary(op)),
+        _ => None,
+    }
+}
+
+/// What an instruction of a family does that sees its frame alone.
+fn local_operation(family: Family, pool: &Pool, arg: &Arg) -> Option<Resolved>
+    ensures { result ≡ resolved_by family arg.now pool.now }
+{
+    match family {
+        Family::Nop => Some(Resolved::Nop),
+        Family::Constant(Datum::Int(n)) => Some(Resolved::Constant(n)),
+        Family::Given => named_int(pool, arg),
+        Family::Immediate => match arg {
+            Arg::Value(n) => Some(Resolved::Constant(*n)),
+            _ => None,
+        },
+        Family::Load(Kind::Int) => match arg {
+            Arg::Local(slot) => Some(Resolved::Iload(*slot)),
+            _ => None,
+        },
+        Family::LoadFrom(Kind::Int, slot) => Some(Resolved::Iload(slot)),
+        Family::BinaryOfInts(op) => binary(op),
+        Family::Return(None) => Some(Resolved::Return),
+        Family::Return(Some(Kind::Int)) => Some(Resolved::Ireturn),
         _ => None,
     }
 }
@@ -170,15 +203,24 @@ fn pool_operation(class: &ClassFile, op: u8, index: u16) -> Option<Resolved>
     }
 }
 
+/// What an instruction does that names a member.
+fn named_operation(class: &ClassFile, op: u8, arg: &Arg) -> Option<Resolved>
+    requires { length class.now.methods < 2 ^ 32 }
+    ensures { result ≡ option_and_then (resolved_in class.now) (named_operation class.now op arg.now) }
+{
+    match arg {
+        Arg::Pool(index) => pool_operation(class, op, *index),
+        _ => None,
+    }
+}
+
 /// What an instruction does, its names looked up, where it is of the part that runs so far.
 pub fn resolved_of(class: &ClassFile, instr: &Instr) -> Option<Resolved>
     requires { length class.now.methods < 2 ^ 32 }
     ensures { result ≡ resolved_of class.now instr.now }
 {
-    match &instr.arg {
-        Arg::Plain => plain_operation(instr.op),
-        Arg::Value(n) => Some(Resolved::Constant(*n)),
-        Arg::Pool(index) => pool_operation(class, instr.op, *index),
-        _ => None,
+    match family_of(instr.op) {
+        Family::Elsewhere => named_operation(class, instr.op, &instr.arg),
+        family => local_operation(family, &class.pool, &instr.arg),
     }
 }

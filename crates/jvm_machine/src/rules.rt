@@ -11,6 +11,9 @@ ghost use Rattle.jvm_machine.specs.Flows.{loads_int, calculates_in, returns_int,
 use crate::flow::Flow;
 use crate::frames::{take_ints, take_print};
 use heap_objects::{Datum, Value};
+use int_ops::{
+    add_i32, and_i32, mul_i32, or_i32, shl_i32, shr_i32, sub_i32, ushr_i32, xor_i32,
+};
 use jf_bytes::{NoMemory, Seq};
 use jvm_model::{Frame, IntOperator, Resolved};
 use std::alloc::Global;
@@ -45,9 +48,15 @@ fn calculate(op: IntOperator, a: i32, b: i32) -> i32
     ensures { result ≡ calculated op a b }
 {
     match op {
-        IntOperator::Iadd => a.wrapping_add(b),
-        IntOperator::Isub => a.wrapping_sub(b),
-        IntOperator::Imul => a.wrapping_mul(b),
+        IntOperator::Iadd => add_i32(a, b),
+        IntOperator::Isub => sub_i32(a, b),
+        IntOperator::Imul => mul_i32(a, b),
+        IntOperator::Ishl => shl_i32(a, b),
+        IntOperator::Ishr => shr_i32(a, b),
+        IntOperator::Iushr => ushr_i32(a, b),
+        IntOperator::Iand => and_i32(a, b),
+        IntOperator::Ior => or_i32(a, b),
+        IntOperator::Ixor => xor_i32(a, b),
     }
 }
 

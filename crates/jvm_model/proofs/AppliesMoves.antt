@@ -6,7 +6,8 @@ use Rattle.std.proofs.lemmas.List.{map-append}
 use Rattle.heap_objects.specs.declared.datum.Datum.TheVariants as datum
 use Rattle.heap_objects.specs.declared.Value.TheVariants.{Int, Long, Ref, Addr}
 use Rattle.jvm_model.specs.Data.{Datum, Locals, Operands, Frame, Entry, Active, Initializing, State, Began, Left, Turn, Instruction, Text, Where, Next, Target, Back, Outcome, GoesOn, Subroutine, Invokes, Returns, Throws, Raises, Initializes, Exits, Breaks, World}
-use Rattle.jvm_model.specs.Values.{as_value, width, depth, spread, locals_with, with_value}
+use Rattle.frame_stack.specs.Widths.{width, height_of}
+use Rattle.jvm_model.specs.Values.{as_value, spread, locals_with, with_value}
 use Rattle.jvm_model.specs.Programs.{max_stack_of, max_locals_of}
 use Rattle.jvm_model.specs.Applies.{still, with_frame, breaks, goes, place_of, enters_subroutine, new_frame, has_room, begins, invokes, resumes, gives_back, applies}
 use Rattle.jvm_model.specs.Moved.{Moving, moved_slot, moved_locals, moved_operands, moved_where, moved_outcome, moved_frame, moved_stack, moved, moved_turn, moved_instruction, ArePlaces, Agrees}
@@ -15,9 +16,9 @@ use Rattle.jvm_model.proofs.WithinMoves.{found-moves, long-moves, with-moves}
 -- ---- parts of a frame
 
 module _ (h : ℕ → ℕ) where
-  pub depth-moves : (o : Operands) → depth (moved_operands h o) ≡ depth o
+  pub depth-moves : (o : Operands) → height_of (moved_operands h o) ≡ height_of o
   depth-moves [] = refl
-  depth-moves (v ∷ below) = ap (λ b. (if b then 2 else 1) + depth (moved_operands h below)) (long-moves h v) ∙ ap (λ n. width v + n) (depth-moves below)
+  depth-moves (v ∷ below) = ap (λ b. (if b then 2 else 1) + height_of (moved_operands h below)) (long-moves h v) ∙ ap (λ n. width v + n) (depth-moves below)
 
   spread-moves : (args : List Datum) → spread args ≡ moved_locals h (spread args)
   spread-moves [] = refl
@@ -61,7 +62,7 @@ module _ (w : World) (m : Moving) where
   goes-moves s f own l o (Some place) =
       let there : Frame = record f { place = place; locals = l; operands = o } in
       ap (λ n. if nat_le n (max_stack_of w f.method) then with_frame (moved m s) (moved_frame m there) else breaks (moved m s) (moved_frame m there) own) (depth-moves (m.home f.version) o)
-      ∙ chosen-moves (nat_le (depth o) (max_stack_of w f.method)) (with_frame s there) _ (breaks s there own) _ refl refl
+      ∙ chosen-moves (nat_le (height_of o) (max_stack_of w f.method)) (with_frame s there) _ (breaks s there own) _ refl refl
 
   subroutine-moves : (s : State) (f : Frame) (i : Instruction) (next : Option ℕ)
       → enters_subroutine w (moved m s) (moved_frame m f) (moved_instruction (m.home f.version) i) (option_map (m.home f.version) next) ≡ moved m (enters_subroutine w s f i next)

@@ -8,7 +8,8 @@ use Rattle.std.proofs.lemmas.Bool.{both_ways, cases_lt, false_from_ne_true}
 use Rattle.std.proofs.lemmas.List.{append-nil, take_at}
 use Rattle.heap_objects.specs.declared.Value.TheVariants.{Ref, Addr}
 use Rattle.jvm_model.specs.Data.{Datum, Locals, Operands, Frame, Entry, Active, Initializing, Constants, Superclass, Initializer, Finish, Phase, Fresh, Erroneous, Ending, State, Turn, Instruction, Text, Outcome, GoesOn, Subroutine, Invokes, Returns, Throws, Raises, Initializes, Exits, Breaks, Done, World}
-use Rattle.jvm_model.specs.Values.{as_value, depth, with_value}
+use Rattle.frame_stack.specs.Widths.{height_of}
+use Rattle.jvm_model.specs.Values.{as_value, with_value}
 use Rattle.jvm_model.specs.Programs.{super_of, initializer_of, max_stack_of}
 use Rattle.jvm_model.specs.SharedState.{phase_of, class_of}
 use Rattle.jvm_model.specs.Rules.{does, loads}
@@ -46,7 +47,7 @@ chosen_turn-keeps kept false x y p q = q
 
 goes-keeps : (w : World) (s : State) (f : Frame) (own : ℕ) (l : Locals) (o : Operands) (place : Option ℕ) → (goes w s f own l o place).output ≡ s.output
 goes-keeps w s f own l o None = refl
-goes-keeps w s f own l o (Some place) = chosen-keeps s.output (nat_le (depth o) (max_stack_of w f.method)) _ _ refl refl
+goes-keeps w s f own l o (Some place) = chosen-keeps s.output (nat_le (height_of o) (max_stack_of w f.method)) _ _ refl refl
 
 enters-keeps : (w : World) (s : State) (f : Frame) (i : Instruction) (next : Option ℕ) → (enters_subroutine w s f i next).output ≡ s.output
 enters-keeps w s f i None = refl

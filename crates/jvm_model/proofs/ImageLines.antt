@@ -38,7 +38,7 @@ use Rattle.jvm_model.proofs.ImageMethods.{LooksAlike, operation_of-kept, resolve
 use Rattle.jvm_model.proofs.ImagePools.{named_class-more, root-named, enter-named, leave-named}
 use Rattle.jvm_model.proofs.ImageProbes.{sipush_at, probe_stands, no_probe-op, no_probe-invoked, invoked-none}
 pub use Rattle.jvm_model.proofs.Starts.{bytes-each}
-use Rattle.jvm_model.proofs.Opcodes.{StaysAlike, StaysAlike-operation, sipush-size}
+use Rattle.jvm_model.proofs.Opcodes.{StaysAlike, sipush-size}
 use Rattle.jvm_model.proofs.Starts.{HasLine, HasLine-start, IsStart-first, Reads-first, Reads-nth, first-instr, HasCode-method_code, HasSmallCode-small, IsCode-method_code}
 
 -- ---- codes and groups
@@ -244,7 +244,7 @@ module _ (c image : ClassFile) (marks : List Mark) (homes : List (Option Homes))
       let stands = (laid-stands m at start laid).1 in
       let moved = home_of (laid_version (length c.pool) m laid.mark laid.reading.instrs).homes in
       let place : ℕ = place_of (laid-stands m at start laid).0 (group_of (leave_probe (length c.pool) m) i) in
-      let alike : StaysAlike i.arg = StaysAlike-operation image i with.has.operation with.operated in
+      let alike : StaysAlike i.arg = with.has.alike in
       let made : Arg → Option Instr = λ a. Some (record i { at = place; arg = a }) in
       stands.instr_is (alike.leads moved place (width_of i)) ∙ ap made (alike.kept moved)
 

@@ -21,14 +21,17 @@ use Rattle.jvm_model.specs.declared.event.Mark.{Mark}
 use Rattle.jvm_model.specs.declared.event.Mark.TheVariants.{Off, Plain, Root}
 use Rattle.jvm_model.specs.declared.operation.Resolved.{Resolved}
 use Rattle.jvm_model.specs.declared.operation.Resolved.TheVariants as resolved
-use Rattle.jvm_model.specs.Data.{Operation, Within, Getstatic, Putstatic, Invokestatic, Invokevirtual, Athrow}
+use Rattle.jvm_model.specs.declared.family.Family.{Family}
+use Rattle.jvm_model.specs.declared.family.Family.TheVariants as family
+use Rattle.jvm_model.specs.Data.{Datum, Constant, Operation, Within, Getstatic, Putstatic, Invokestatic, Invokevirtual, Athrow}
+use Rattle.jvm_model.specs.Families.{family_of}
 use Rattle.jvm_model.specs.Descriptors.{same_text}
 use Rattle.jvm_model.specs.Images.{with_code_at, IsMarkedMember, IsMemberImage, next_number, AreMemberImages, IsRewritten}
-use Rattle.jvm_model.specs.Lines.{getstatic_of, invokevirtual_of, pool_operation, operation_with, operation_of}
+use Rattle.jvm_model.specs.Lines.{number_of, constant_in, getstatic_of, invokevirtual_of, pool_operation, named_operation, operation_by, operation_of}
 use Rattle.jvm_model.specs.Resolved.{own_method, resolved_in}
 use Rattle.jvm_model.specs.Methods.{code_among, code_of, same_text_at, is_member, method_from, method_named}
 use Rattle.jvm_model.specs.SmallClass.{IsSmallMethod, IsSmallClass, is_plain_member, is_free_name, member_of}
-use Rattle.jvm_model.proofs.ImagePools.{named_text-more, named_class-more, named_field-more, named_method-more}
+use Rattle.jvm_model.proofs.ImagePools.{slice_get-more, named_text-more, named_class-more, named_field-more, named_method-more}
 
 -- ---- one method
 
@@ -199,15 +202,26 @@ pool_operation-kept c image op index o alike e =
     (chosen-kept (op == 182) _ _ _ _ o (then-kept invokevirtual_of invokevirtual_of (named_method c.pool index) (named_method image.pool index) o method (λ r is. is))
     (chosen-kept (op == 184) _ None _ None o (map-kept Invokestatic (named_method c.pool index) (named_method image.pool index) o method) (λ none. none))) e
 
-operation_with-kept : (c image : ClassFile) (op : ℕ) (a : Arg) (o : Operation) → LooksAlike c image → operation_with c op a ≡ Some o → operation_with image op a ≡ Some o
-operation_with-kept c image op arg.Plain o alike e = e
-operation_with-kept c image op (arg.Value n) o alike e = e
-operation_with-kept c image op (arg.Pool index) o alike e = pool_operation-kept c image op index o alike e
-operation_with-kept c image op _ o alike e = absurd (none-some o e)
+named_operation-kept : (c image : ClassFile) (op : ℕ) (a : Arg) (o : Operation) → LooksAlike c image → named_operation c op a ≡ Some o → named_operation image op a ≡ Some o
+named_operation-kept c image op (arg.Pool index) o alike e = pool_operation-kept c image op index o alike e
+named_operation-kept c image op _ o alike e = absurd (none-some o e)
+
+constant_in-kept : (c image : ClassFile) (a : Arg) (d : Datum) → LooksAlike c image → constant_in c.pool a ≡ Some d → constant_in image.pool a ≡ Some d
+constant_in-kept c image (arg.Pool index) d alike e =
+    then-kept number_of number_of (slice_get c.pool index) (slice_get image.pool index) d
+    (λ x is. ap (λ p. slice_get p index) alike.pool ∙ slice_get-more c.pool alike.more index x is) (λ x is. is) e
+constant_in-kept c image _ d alike e = absurd (none-some d e)
+
+operation_by-kept : (c image : ClassFile) (op : ℕ) (a : Arg) (f : Family) (o : Operation) → LooksAlike c image → operation_by c op a f ≡ Some o → operation_by image op a f ≡ Some o
+operation_by-kept c image op a family.Elsewhere o alike e = named_operation-kept c image op a o alike e
+operation_by-kept c image op a family.Given o alike e =
+    map-kept Within (option_map Constant (constant_in c.pool a)) (option_map Constant (constant_in image.pool a)) o
+    (λ i. map-kept Constant (constant_in c.pool a) (constant_in image.pool a) i (λ d is. constant_in-kept c image a d alike is)) e
+operation_by-kept c image op a f o alike e = e
 
 -- an instruction does in the image what it does in the class
 pub operation_of-kept : (c image : ClassFile) (i : Instr) (o : Operation) → LooksAlike c image → operation_of c i ≡ Some o → operation_of image i ≡ Some o
-operation_of-kept c image i o alike e = operation_with-kept c image i.op i.arg o alike e
+operation_of-kept c image i o alike e = operation_by-kept c image i.op i.arg (family_of i.op) o alike e
 
 -- and so with its names looked up
 pub resolved_in-kept : (c image : ClassFile) (o : Operation) (q : Resolved) → LooksAlike c image → resolved_in c o ≡ Some q → resolved_in image o ≡ Some q

@@ -34,7 +34,7 @@ refl-keeps r x e = e
 
 -- ---- entries
 
-slice_get-more : {A : Type 0} (xs ys : List A) (i : ℕ) (x : A) → slice_get xs i ≡ Some x → slice_get (xs ++ ys) i ≡ Some x
+pub slice_get-more : {A : Type 0} (xs ys : List A) (i : ℕ) (x : A) → slice_get xs i ≡ Some x → slice_get (xs ++ ys) i ≡ Some x
 slice_get-more [] ys i x e = absurd (none-some x e)
 slice_get-more (y ∷ xs) ys zero x e = e
 slice_get-more (y ∷ xs) ys (suc i) x e = slice_get-more xs ys i x e

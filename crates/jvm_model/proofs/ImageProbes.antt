@@ -25,7 +25,9 @@ use Rattle.jvm_model.specs.StandsFor.{ProbeCall, probe_kind, invoked_kind, invok
 use Rattle.jvm_model.specs.Versions.{probe_bytes}
 use Rattle.jvm_model.specs.Descriptors.{same_text}
 use Rattle.jvm_model.specs.Data.{Operation, Invokestatic}
-use Rattle.jvm_model.specs.Lines.{pool_operation, operation_with, operation_of}
+use Rattle.jvm_model.specs.declared.family.Family.TheVariants as family
+use Rattle.jvm_model.specs.Families.{rows, family_of}
+use Rattle.jvm_model.specs.Lines.{operation_by, operation_of}
 use Rattle.jvm_model.specs.Resolved.{own_method, resolved_in}
 use Rattle.jvm_model.specs.Rules.{is_reference}
 use Rattle.jvm_model.specs.Methods.{method_named}
@@ -140,15 +142,20 @@ in_map : {A B : Type 0} (f : A → B) (o : Option A) (y : B) → option_map f o 
 in_map f None y e = absurd (none-some y e)
 in_map f (Some x) y e = (x, refl, same_Some (f x) y e)
 
+invokestatic-elsewhere : family_of 184 ≡ family.Elsewhere
+unfolding family_of rows
+invokestatic-elsewhere = refl
+
 invoked_by : (image : ClassFile) (own : List ℕ) (op : ℕ) (a : Arg) (o : Operation) (q : Resolved) → named_class image.pool image.this_class ≡ Some own → is_free_name own ≡ true
-    → operation_with image op a ≡ Some o → resolved_in image o ≡ Some q → invoked_kind image op a ≡ None
+    → operation_by image op a (family_of op) ≡ Some o → resolved_in image o ≡ Some q → invoked_kind image op a ≡ None
 invoked_by image own op (arg.Pool index) o q named free e resolves = by_opcode (op == 184) refl
   where
     by_opcode : (b : Bool) → (op == 184) ≡ b → invoked_kind image op (arg.Pool index) ≡ None
     by_opcode false is = ap (λ b. cond b (option_and_then probe_kind (named_method image.pool index)) None) is
     by_opcode true is =
         let op_is : op ≡ 184 = eqb-true op 184 is in
-        let called : option_map Invokestatic (named_method image.pool index) ≡ Some o = ap (λ n. pool_operation image n index) (sym op_is) ∙ e in
+        let called : option_map Invokestatic (named_method image.pool index) ≡ Some o =
+        ap (operation_by image 184 (arg.Pool index)) (sym invokestatic-elsewhere) ∙ (ap (λ n. operation_by image n (arg.Pool index) (family_of n)) (sym op_is) ∙ e) in
         let found = in_map Invokestatic (named_method image.pool index) o called in
         let own_found = in_map resolved.Invokestatic (own_method image found.0) q (ap (resolved_in image) found.2 ∙ resolves) in
         let same : found.0.class ≡ own = called-own image found.0 own own_found.0 named own_found.1 in

@@ -2,12 +2,9 @@
 use Rattle.std.proofs.Common.{◌≡◌, ℕ, suc, ◌+◌, ◌*◌, ◌<◌, ◌≤◌, ◌^◌, Bool, true, false, cond, List, [], ◌∷◌, length, Option, Some, None, refl, sym, ap, subst, ◌∙◌, arith}
 use Rattle.std.specs.Prelude.{map, IfSome, MatchBool}
 use Rattle.std.specs.List.{AllByRecursion}
-use Rattle.std.proofs.lemmas.Option.{same_Some}
 use Rattle.const_pool.specs.declared.class.ClassFile.{ClassFile}
 use Rattle.const_pool.specs.declared.class.Member.{Member}
 use Rattle.const_pool.specs.declared.class.CodeAttribute.{CodeAttribute}
-use Rattle.const_pool.specs.declared.class.Attribute.{Attribute}
-use Rattle.const_pool.specs.declared.class.Attribute.TheVariants.{ConstantValue, Code, Other}
 use Rattle.jvm_model.specs.PlainShape.{IsPlainCode, HasPlainCode}
 use Rattle.code_model.specs.declared.instr.Instr.{Instr}
 use Rattle.code_model.specs.declared.instr.Code.{Code as Reading}
@@ -21,7 +18,7 @@ use Rattle.code_model.proofs.Walks.{length-laid_of}
 use Rattle.jvm_model.specs.declared.event.Mark.{Mark}
 use Rattle.jvm_model.specs.declared.event.Mark.TheVariants.{Off, Plain, Root}
 use Rattle.jvm_model.specs.Images.{all_off, IsMarkedMember, IsMemberImage, next_number, AreMemberImages, IsOriginal, IsRewritten, IsImage}
-use Rattle.jvm_model.specs.Methods.{code_among, code_of}
+use Rattle.jvm_model.specs.Methods.{code_of}
 use Rattle.jvm_model.specs.StandsFor.{IsBuilt}
 use Rattle.jvm_model.specs.Versions.{is_return_opcode, group_of, entry_probe, leave_probe, unwind_code}
 use Rattle.jvm_model.proofs.ImageMethods.{code_of-marked}

@@ -1,3 +1,4 @@
+pub mod FamilyRows
 pub mod Opcodes
 pub mod Starts
 pub mod ImagePools
@@ -46,3 +47,4 @@ pub mod WorkedRuns
 pub mod WorkedThrows
 pub mod WorkedInitializers
 pub mod WorkedLimits
+pub mod WorkedFamilies

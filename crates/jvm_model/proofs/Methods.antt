@@ -4,7 +4,8 @@ use Rattle.std.specs.Option.{IfSome, option_map}
 use Rattle.std.proofs.lemmas.Option.{IfSome_then}
 use Rattle.heap_objects.specs.declared.Value.TheVariants.{Ref, Addr}
 use Rattle.jvm_model.specs.Data.{Datum, Locals, Operands, Frame, Entry, Active, Initializing, Constants, Superclass, Initializer, Finish, Phase, Fresh, Erroneous, Ending, State, Change, Turn, Instruction, Text, Outcome, GoesOn, Subroutine, Invokes, Returns, Throws, Raises, Initializes, Exits, Breaks, Done, World}
-use Rattle.jvm_model.specs.Values.{as_value, depth, with_value}
+use Rattle.frame_stack.specs.Widths.{height_of}
+use Rattle.jvm_model.specs.Values.{as_value, with_value}
 use Rattle.jvm_model.specs.Programs.{super_of, initializer_of, max_stack_of}
 use Rattle.jvm_model.specs.SharedState.{phase_of, class_of}
 use Rattle.jvm_model.specs.Rules.{does, loads}
@@ -34,7 +35,7 @@ chosen-tells ms false x y p q = q
 
 goes-methods : (w : World) (s : State) (f : Frame) (own : ℕ) (l : Locals) (o : Operands) (place : Option ℕ) → methods (goes w s f own l o place).stack ≡ f.method ∷ methods s.stack
 goes-methods w s f own l o None = refl
-goes-methods w s f own l o (Some place) = by (nat_le (depth o) (max_stack_of w f.method)) where
+goes-methods w s f own l o (Some place) = by (nat_le (height_of o) (max_stack_of w f.method)) where
   moved : Frame
   moved = record f { place = place; locals = l; operands = o }
 

@@ -1,7 +1,7 @@
 -- Which opcodes and operations return: those that a leave probe goes before.
-use Rattle.std.proofs.Common.{◌≡◌, ℕ, zero, suc, ◌+◌, ◌<◌, ◌⊎◌, inl, inr, Bool, true, false, List, [], cond, Option, Some, None, refl, sym, ap, subst, ◌∙◌, arith}
-use Rattle.std.specs.Prelude.{ℤ, ◌==◌, ◌||◌, ◌&&◌, not, is_none, length}
-use Rattle.std.specs.Option.{option_map, option_map_or}
+use Rattle.std.proofs.Common.{◌≡◌, ℕ, zero, suc, ◌+◌, ◌<◌, ◌⊎◌, inl, inr, Bool, true, false, List, [], cond, Option, Some, None, refl, sym, ap, subst, ◌∙◌, eqb-true, arith}
+use Rattle.std.specs.Prelude.{ℤ, ◌==◌, ◌||◌, ◌&&◌, not, length}
+use Rattle.std.specs.Option.{option_map}
 use Rattle.std.proofs.lemmas.Bool.{cases_lt}
 use Rattle.std.proofs.lemmas.Option.{same_Some, none-some, option_and_then_some}
 use Rattle.code_model.specs.declared.instr.Arg.{Arg}
@@ -21,10 +21,14 @@ use Rattle.code_model.proofs.Readings.{known_at}
 use Rattle.const_pool.specs.declared.class.ClassFile.{ClassFile}
 use Rattle.jvm_model.specs.Agreement.{is_return_operation}
 use Rattle.heap_objects.specs.declared.datum.Datum.TheVariants as datum
+use Rattle.const_pool.specs.declared.descriptor.Kind.{Kind}
 use Rattle.const_pool.specs.declared.descriptor.Kind.TheVariants as kind
 use Rattle.const_pool.specs.References.{named_field, named_method}
-use Rattle.jvm_model.specs.Data.{Nop, Constant, Load, Binary, Return, Operation, Within, Getstatic, Putstatic, Invokestatic, Invokevirtual, Athrow}
-use Rattle.jvm_model.specs.Lines.{plain_operation, getstatic_of, invokevirtual_of, pool_operation, operation_of, operation_with, int_constant, ends}
+use Rattle.jvm_model.specs.declared.family.Family.{Family}
+use Rattle.jvm_model.specs.declared.family.Family.TheVariants as family
+use Rattle.jvm_model.specs.Data.{Datum, IntOperator, Iadd, Isub, Imul, Local, Nop, Constant, Load, Store, Arrange, BinaryOfInts, BinaryOfLongs, DivisionOfInts, DivisionOfLongs, ShiftOfLong, UnaryOfInt, UnaryOfLong, Lcmp, Iinc, Branch, Goto, Switch, Jsr, Ret, Return, Operation, Within, Getstatic, Putstatic, Invokestatic, Invokevirtual, Athrow}
+use Rattle.jvm_model.specs.Families.{rows, family_of}
+use Rattle.jvm_model.specs.Lines.{value_in, slot_in, increment_in, target_in, keys_in, local_of, constant_in, getstatic_of, invokevirtual_of, pool_operation, named_operation, operation_by, operation_of, targets_of as offsets_of, ends}
 use Rattle.jvm_model.specs.Resolved.{own_method, resolved_local, resolved_in, resolved_of}
 use Rattle.jvm_model.specs.Rules.{is_out, is_println}
 use Rattle.jvm_model.specs.SmallClass.{is_return}
@@ -67,101 +71,182 @@ agree-same true false e = sym e
 agree-same false true e = absurd cc
 agree-same false false e = refl
 
--- an operation stays within its frame, and, where it runs so far, it returns or not as is said
-abbrev local_agrees : Bool → Operation → Bool
-local_agrees returns (Within i) = option_map_or (λ q. agree (is_return_operation q) returns) (resolved_local i) true
-local_agrees returns _ = false
+-- the families of which operations run so far, and those that return
+abbrev runs : Family → Bool
+runs family.Nop = true
+runs (family.Constant d) = true
+runs family.Given = true
+runs family.Immediate = true
+runs (family.Load k) = true
+runs (family.LoadFrom k slot) = true
+runs (family.BinaryOfInts op) = true
+runs (family.Return None) = true
+runs (family.Return (Some kind.Int)) = true
+runs _ = false
 
--- at an opcode without operand the operation and both tests of the opcode agree; no other opcode returns
-abbrev agrees_by : ℕ → Form → Bool
-agrees_by op form.Plain = option_map_or (local_agrees (is_return_opcode op)) (plain_operation op) true && agree (op == 172 || op == 177) (is_return_opcode op) || is_none (plain_operation op)
-agrees_by op form.Unknown = true
-agrees_by op _ = agree false (is_return_opcode op) && agree (op == 172 || op == 177) (is_return_opcode op)
+abbrev returns : Family → Bool
+returns (family.Return k) = true
+returns _ = false
 
-abbrev agrees_at : Bool → ℕ → Bool
-agrees_at wide op = agrees_by op (form_of wide op)
+-- where a family runs so far, both tests of the opcode say whether it returns
+abbrev agrees_by : ℕ → Family → Bool
+agrees_by op f = not (runs f) || (agree (returns f) (is_return_opcode op) && agree (returns f) (op == 172 || op == 177))
 
-all_agree : all_below (agrees_at false) 256 ≡ true
-unfolding row_of groups
+all_agree : all_below (λ op. agrees_by op (family_of op)) 256 ≡ true
+unfolding family_of rows
 all_agree = refl
 
-all_agree_wide : all_below (agrees_at true) 256 ≡ true
-unfolding wide_row_of wide_groups
-all_agree_wide = refl
+-- and an instruction has an operand that leads nowhere else
+abbrev is_straight : Form → Bool
+is_straight form.Plain = true
+is_straight form.Byte = true
+is_straight form.Short = true
+is_straight form.PoolByte = true
+is_straight form.Pool = true
+is_straight form.Local = true
+is_straight form.Wide = true
+is_straight form.Unknown = true
+is_straight _ = false
 
-agrees : (wide : Bool) (op : ℕ) → op < 256 → agrees_at wide op ≡ true
-agrees false op lt = all_below-each (agrees_at false) 256 op all_agree lt
-agrees true op lt = all_below-each (agrees_at true) 256 op all_agree_wide lt
+abbrev straight_at : Bool → ℕ → Bool
+straight_at wide op = not (runs (family_of op)) || is_straight (form_of wide op)
+
+all_straight : all_below (straight_at false) 256 ≡ true
+unfolding family_of rows row_of groups
+all_straight = refl
+
+all_straight_wide : all_below (straight_at true) 256 ≡ true
+unfolding family_of rows wide_row_of wide_groups
+all_straight_wide = refl
+
+or-second : (a b : Bool) → (not a || b) ≡ true → a ≡ true → b ≡ true
+or-second true b e is = e
+or-second false b e is = absurd cc
+
+straight-form : (wide : Bool) (op : ℕ) → op < 256 → runs (family_of op) ≡ true → is_straight (form_of wide op) ≡ true
+straight-form false op lt is = or-second (runs (family_of op)) _ (all_below-each (straight_at false) 256 op all_straight lt) is
+straight-form true op lt is = or-second (runs (family_of op)) _ (all_below-each (straight_at true) 256 op all_straight_wide lt) is
 
 in_map : {A B : Type 0} (f : A → B) (o : Option A) (y : B) → option_map f o ≡ Some y → (x : A) × (f x ≡ y)
 in_map f None y e = absurd (none-some y e)
 in_map f (Some x) y e = (x, same_Some (f x) y e)
 
--- ---- returns
-
-abbrev returns_alike : ℕ → Resolved → Type 0
-returns_alike op q = (is_return_operation q ≡ is_return_opcode op) × ((op == 172 || op == 177) ≡ is_return_opcode op)
-
-not-true : (b : Bool) → not b ≡ true → b ≡ false
-not-true true e = absurd cc
-not-true false e = refl
-
-local-returns : (c : ClassFile) (returns : Bool) (o : Operation) (q : Resolved) → local_agrees returns o ≡ true → resolved_in c o ≡ Some q → is_return_operation q ≡ returns
-local-returns c returns (Within i) q test e = agree-same (is_return_operation q) returns (ap (λ (found : Option Resolved). option_map_or (λ x. agree (is_return_operation x) returns) found true) (sym e) ∙ test)
-local-returns c returns (Getstatic r) q test e = absurd cc
-local-returns c returns (Putstatic r) q test e = absurd cc
-local-returns c returns (Invokestatic r) q test e = absurd cc
-local-returns c returns (Invokevirtual r) q test e = absurd cc
-local-returns c returns Athrow q test e = absurd cc
-
-or-first : (a b : Bool) → (a || b) ≡ true → b ≡ false → a ≡ true
-or-first true b e none = refl
-or-first false b e none = absurd cc
-
-plain-returns : (c : ClassFile) (op : ℕ) (o : Operation) (q : Resolved) → agrees_by op form.Plain ≡ true → plain_operation op ≡ Some o → resolved_in c o ≡ Some q → returns_alike op q
-plain-returns c op o q test is e =
-    let P : Option Operation → Bool = λ x. option_map_or (local_agrees (is_return_opcode op)) x true && agree (op == 172 || op == 177) (is_return_opcode op) in
-    let both : (P (Some o) || false) ≡ true = subst (λ (x : Option Operation). (P x || is_none x) ≡ true) is test in
-    let first = or-first (P (Some o)) false both refl in (
-      local-returns c (is_return_opcode op) o q (and-first _ (agree (op == 172 || op == 177) (is_return_opcode op)) first) e,
-      agree-same (op == 172 || op == 177) (is_return_opcode op) (and-second (local_agrees (is_return_opcode op) o) _ first),
-    )
-
--- ---- instructions with a pool index do not return
+-- ---- what an operation of a family does, where it runs so far
 
 abbrev goes_on : Resolved → Type 0
 goes_on q = is_return_operation q ≡ false
+
+only : (o p : Resolved) → goes_on o → Some o ≡ Some p → goes_on p
+only o p is e = subst goes_on (same_Some o p e) is
+
+-- the family runs so far, and the operation returns where the family does
+abbrev Fits : Family → Local → Type 0
+Fits f i = (q : Resolved) → resolved_local i ≡ Some q → (runs f ≡ true) × (is_return_operation q ≡ returns f)
+
+going : (f : Family) (i : Local) (o : Resolved) → resolved_local i ≡ Some o → goes_on o → runs f ≡ true → returns f ≡ false → Fits f i
+going f i o is goes r s = λ q e. (r, only o q goes (sym is ∙ e) ∙ sym s)
+
+never : (f : Family) (i : Local) → resolved_local i ≡ None → Fits f i
+never f i none = λ q e. absurd (none-some q (sym none ∙ e))
+
+constant-fits : (f : Family) (d : Datum) → runs f ≡ true → returns f ≡ false → Fits f (Constant d)
+constant-fits f (datum.Int n) r s = going f (Constant (datum.Int n)) (resolved.Constant n) refl refl r s
+constant-fits f (datum.Long n) r s = never f (Constant (datum.Long n)) refl
+constant-fits f (datum.Ref n) r s = never f (Constant (datum.Ref n)) refl
+
+load-fits : (f : Family) (k : Kind) (slot : ℕ) → runs f ≡ true → returns f ≡ false → Fits f (Load k slot)
+load-fits f kind.Int slot r s = going f (Load kind.Int slot) (resolved.Iload slot) refl refl r s
+load-fits f k slot r s = never f (Load k slot) refl
+
+binary-fits : (op : IntOperator) → Fits (family.BinaryOfInts op) (BinaryOfInts op)
+binary-fits Iadd = going (family.BinaryOfInts Iadd) (BinaryOfInts Iadd) (resolved.Binary Iadd) refl refl refl refl
+binary-fits Isub = going (family.BinaryOfInts Isub) (BinaryOfInts Isub) (resolved.Binary Isub) refl refl refl refl
+binary-fits Imul = going (family.BinaryOfInts Imul) (BinaryOfInts Imul) (resolved.Binary Imul) refl refl refl refl
+binary-fits op = never (family.BinaryOfInts op) (BinaryOfInts op) refl
+
+return-fits : (k : Option Kind) → Fits (family.Return k) (Return k)
+return-fits None = λ q e. (refl, ap is_return_operation (sym (same_Some resolved.Return q e)))
+return-fits (Some kind.Int) = λ q e. (refl, ap is_return_operation (sym (same_Some resolved.Ireturn q e)))
+return-fits k = never (family.Return k) (Return k) refl
+
+is-fits : (f : Family) (j i : Local) → Some j ≡ Some i → Fits f j → Fits f i
+is-fits f j i e fits = subst (Fits f) (same_Some j i e) fits
+
+made-fits : {A : Type 0} (f : Family) (make : A → Local) (o : Option A) (i : Local) → option_map make o ≡ Some i → ((x : A) → Fits f (make x)) → Fits f i
+made-fits f make o i e fits = let x = in_map make o i e in subst (Fits f) x.1 (fits x.0)
+
+family-fits : (f : Family) (a : Arg) (d : Option Datum) (i : Local) → local_of f a d ≡ Some i → Fits f i
+family-fits family.Nop a d i e = is-fits family.Nop Nop i e (going family.Nop Nop resolved.Nop refl refl refl refl)
+family-fits (family.Constant n) a d i e = is-fits (family.Constant n) (Constant n) i e (constant-fits (family.Constant n) n refl refl)
+family-fits family.Given a d i e = made-fits family.Given Constant d i e (λ x. constant-fits family.Given x refl refl)
+family-fits family.Immediate a d i e = made-fits family.Immediate Constant (value_in a) i e (λ x. constant-fits family.Immediate x refl refl)
+family-fits (family.Load k) a d i e = made-fits (family.Load k) (Load k) (slot_in a) i e (λ slot. load-fits (family.Load k) k slot refl refl)
+family-fits (family.LoadFrom k slot) a d i e = is-fits (family.LoadFrom k slot) (Load k slot) i e (load-fits (family.LoadFrom k slot) k slot refl refl)
+family-fits (family.Store k) a d i e = made-fits (family.Store k) (Store k) (slot_in a) i e (λ slot. never (family.Store k) (Store k slot) refl)
+family-fits (family.StoreTo k slot) a d i e = is-fits (family.StoreTo k slot) (Store k slot) i e (never (family.StoreTo k slot) (Store k slot) refl)
+family-fits (family.Arrange op) a d i e = is-fits (family.Arrange op) (Arrange op) i e (never (family.Arrange op) (Arrange op) refl)
+family-fits (family.BinaryOfInts op) a d i e = is-fits (family.BinaryOfInts op) (BinaryOfInts op) i e (binary-fits op)
+family-fits (family.BinaryOfLongs op) a d i e = is-fits (family.BinaryOfLongs op) (BinaryOfLongs op) i e (never (family.BinaryOfLongs op) (BinaryOfLongs op) refl)
+family-fits (family.DivisionOfInts op) a d i e = is-fits (family.DivisionOfInts op) (DivisionOfInts op) i e (never (family.DivisionOfInts op) (DivisionOfInts op) refl)
+family-fits (family.DivisionOfLongs op) a d i e = is-fits (family.DivisionOfLongs op) (DivisionOfLongs op) i e (never (family.DivisionOfLongs op) (DivisionOfLongs op) refl)
+family-fits (family.ShiftOfLong op) a d i e = is-fits (family.ShiftOfLong op) (ShiftOfLong op) i e (never (family.ShiftOfLong op) (ShiftOfLong op) refl)
+family-fits (family.UnaryOfInt op) a d i e = is-fits (family.UnaryOfInt op) (UnaryOfInt op) i e (never (family.UnaryOfInt op) (UnaryOfInt op) refl)
+family-fits (family.UnaryOfLong op) a d i e = is-fits (family.UnaryOfLong op) (UnaryOfLong op) i e (never (family.UnaryOfLong op) (UnaryOfLong op) refl)
+family-fits family.Lcmp a d i e = is-fits family.Lcmp Lcmp i e (never family.Lcmp Lcmp refl)
+family-fits family.Iinc a d i e = made-fits family.Iinc (λ p. Iinc p.0 p.1) (increment_in a) i e (λ p. never family.Iinc (Iinc p.0 p.1) refl)
+family-fits (family.Branch test) a d i e = made-fits (family.Branch test) (λ target. Branch test) (target_in a) i e (λ target. never (family.Branch test) (Branch test) refl)
+family-fits family.Goto a d i e = made-fits family.Goto (λ target. Goto) (target_in a) i e (λ target. never family.Goto Goto refl)
+family-fits family.Jsr a d i e = made-fits family.Jsr (λ target. Jsr) (target_in a) i e (λ target. never family.Jsr Jsr refl)
+family-fits family.Ret a d i e = made-fits family.Ret Ret (slot_in a) i e (λ slot. never family.Ret (Ret slot) refl)
+family-fits family.Switch a d i e = made-fits family.Switch Switch (keys_in a) i e (λ keys. never family.Switch (Switch keys) refl)
+family-fits (family.Return k) a d i e = is-fits (family.Return k) (Return k) i e (return-fits k)
+family-fits family.Elsewhere a d i e = absurd (none-some i e)
+
+-- ---- instructions with a pool index do not return
 
 abbrev IsNamed : Operation → Type 0
 IsNamed (Within i) = ⊥
 IsNamed Athrow = ⊥
 IsNamed _ = Unit {0}
 
-chosen : {A : Type 0} (b : Bool) (x y : Option A) (z : A) → cond b x y ≡ Some z → (x ≡ Some z) ⊎ (y ≡ Some z)
-chosen true x y z e = inl e
+chosen : {A : Type 0} (b : Bool) (x y : Option A) (z : A) → cond b x y ≡ Some z → ((b ≡ true) × (x ≡ Some z)) ⊎ (y ≡ Some z)
+chosen true x y z e = inl (refl, e)
 chosen false x y z e = inr e
-
-only : (o p : Resolved) → goes_on o → Some o ≡ Some p → goes_on p
-only o p is e = subst goes_on (same_Some o p e) is
 
 named-goes_on : (c : ClassFile) (o : Operation) (q : Resolved) → IsNamed o → resolved_in c o ≡ Some q → goes_on q
 named-goes_on c (Within i) q named e = absurd named
 named-goes_on c Athrow q named e = absurd named
-named-goes_on c (Getstatic r) q named e = elim (chosen (is_out r) (Some resolved.Out) None q e) [ inl is ↦ only resolved.Out q refl is | inr is ↦ absurd (none-some q is) ]
+named-goes_on c (Getstatic r) q named e = elim (chosen (is_out r) (Some resolved.Out) None q e) [ inl is ↦ only resolved.Out q refl is.1 | inr is ↦ absurd (none-some q is) ]
 named-goes_on c (Putstatic r) q named e = absurd (none-some q e)
 named-goes_on c (Invokestatic r) q named e = let k = in_map resolved.Invokestatic (own_method c r) q e in subst goes_on k.1 refl
-named-goes_on c (Invokevirtual r) q named e = elim (chosen (is_println r) (Some resolved.Println) None q e) [ inl is ↦ only resolved.Println q refl is | inr is ↦ absurd (none-some q is) ]
+named-goes_on c (Invokevirtual r) q named e = elim (chosen (is_println r) (Some resolved.Println) None q e) [ inl is ↦ only resolved.Println q refl is.1 | inr is ↦ absurd (none-some q is) ]
 
 some-named : (o p : Operation) → IsNamed o → Some o ≡ Some p → IsNamed p
 some-named o p is e = subst IsNamed (same_Some o p e) is
 
-pool-named : (c : ClassFile) (op index : ℕ) (o : Operation) → pool_operation c op index ≡ Some o → IsNamed o
+-- both tests of the opcode say that it goes on
+abbrev stays_at : ℕ → Type 0
+stays_at op = (is_return_opcode op ≡ false) × ((op == 172 || op == 177) ≡ false)
+
+stays : (op n : ℕ) → (op == n) ≡ true → stays_at n → stays_at op
+stays op n is at = subst stays_at (sym (eqb-true op n is)) at
+
+pool-named : (c : ClassFile) (op index : ℕ) (o : Operation) → pool_operation c op index ≡ Some o → IsNamed o × stays_at op
 pool-named c op index o e = elim (chosen (op == 178) _ _ o e) [
-  | inl out ↦ option_and_then_some getstatic_of (named_field c.pool index) o out (λ r is rest. by_test (is_out r) (Getstatic r) tt rest)
+  | inl out ↦ (
+    option_and_then_some getstatic_of (named_field c.pool index) o out.1 (λ r is rest. by_test (is_out r) (Getstatic r) tt rest),
+    stays op 178 out.0 (refl, refl),
+  )
   | inr other ↦ elim (chosen (op == 182) _ _ o other) [
-    | inl println ↦ option_and_then_some invokevirtual_of (named_method c.pool index) o println (λ r is rest. by_test (is_println r) (Invokevirtual r) tt rest)
+    | inl println ↦ (
+      option_and_then_some invokevirtual_of (named_method c.pool index) o println.1 (λ r is rest. by_test (is_println r) (Invokevirtual r) tt rest),
+      stays op 182 println.0 (refl, refl),
+    )
     | inr more ↦ elim (chosen (op == 184) _ None o more) [
-      | inl called ↦ (let k = in_map Invokestatic (named_method c.pool index) o called in subst IsNamed k.1 tt)
+      | inl called ↦ (
+        (let k = in_map Invokestatic (named_method c.pool index) o called.1 in subst IsNamed k.1 tt),
+        stays op 184 called.0 (refl, refl),
+      )
       | inr none ↦ absurd (none-some o none)
     ]
   ]
@@ -171,48 +256,57 @@ pool-named c op index o e = elim (chosen (op == 178) _ _ o e) [
     by_test true x named e = some-named x o named e
     by_test false x named e = absurd (none-some o e)
 
--- ---- all forms
+-- ---- every operation
 
-other-returns : (op : ℕ) (q : Resolved) → (agree false (is_return_opcode op) && agree (op == 172 || op == 177) (is_return_opcode op)) ≡ true → goes_on q → returns_alike op q
-other-returns op q test goes =
-    let isnt : false ≡ is_return_opcode op = agree-same false (is_return_opcode op) (and-first _ (agree (op == 172 || op == 177) (is_return_opcode op)) test) in
-    (goes ∙ isnt, agree-same (op == 172 || op == 177) (is_return_opcode op) (and-second (agree false (is_return_opcode op)) _ test))
+abbrev returns_alike : ℕ → Resolved → Type 0
+returns_alike op q = (is_return_operation q ≡ is_return_opcode op) × ((op == 172 || op == 177) ≡ is_return_opcode op)
 
-value-goes_on : (c : ClassFile) (op : ℕ) (n : ℤ) (o : Operation) (q : Resolved) → operation_with c op (arg.Value n) ≡ Some o → resolved_in c o ≡ Some q → goes_on q
-value-goes_on c op n o q is e = only (resolved.Constant n) q refl (ap (resolved_in c) (same_Some (int_constant n) o is) ∙ e)
+named-returns : (c : ClassFile) (op : ℕ) (a : Arg) (o : Operation) (q : Resolved) → named_operation c op a ≡ Some o → resolved_in c o ≡ Some q → returns_alike op q
+named-returns c op (arg.Pool index) o q is e =
+    let named = pool-named c op index o is in
+    (named-goes_on c o q named.0 e ∙ sym named.1.0, named.1.1 ∙ sym named.1.0)
+named-returns c op _ o q is e = absurd (none-some o is)
 
--- what an instruction with this operand does, where its operand is known
-by_shape : (c : ClassFile) (op : ℕ) (f : Form) (a : Arg) (o : Operation) (q : Resolved) → agrees_by op f ≡ true → HasShape f a → operation_with c op a ≡ Some o → resolved_in c o ≡ Some q → returns_alike op q
-by_shape c op form.Plain a o q test s is e = plain-returns c op o q test (ap (operation_with c op) (sym s) ∙ is) e
-by_shape c op form.Byte a o q test s is e = other-returns op q test (value-goes_on c op s.0 o q (ap (operation_with c op) (sym s.1) ∙ is) e)
-by_shape c op form.Short a o q test s is e = other-returns op q test (value-goes_on c op s.0 o q (ap (operation_with c op) (sym s.1) ∙ is) e)
-by_shape c op form.PoolByte a o q test s is e = other-returns op q test (named-goes_on c o q (pool-named c op s.0 o (ap (operation_with c op) (sym s.1) ∙ is)) e)
-by_shape c op form.Pool a o q test s is e = other-returns op q test (named-goes_on c o q (pool-named c op s.0 o (ap (operation_with c op) (sym s.1) ∙ is)) e)
-by_shape c op form.Local a o q test s is e = absurd (none-some o (ap (operation_with c op) (sym s.1) ∙ is))
-by_shape c op form.Inc a o q test s is e = absurd (none-some o (ap (operation_with c op) (sym s.2) ∙ is))
-by_shape c op form.Jump a o q test s is e = absurd (none-some o (ap (operation_with c op) (sym s.1) ∙ is))
-by_shape c op form.JumpWide a o q test s is e = absurd (none-some o (ap (operation_with c op) (sym s.1) ∙ is))
-by_shape c op form.Table a o q test s is e = absurd (none-some o (ap (operation_with c op) (sym s.3) ∙ is))
-by_shape c op form.Lookup a o q test s is e = absurd (none-some o (ap (operation_with c op) (sym s.3) ∙ is))
-by_shape c op form.Interface a o q test s is e = absurd (none-some o (ap (operation_with c op) (sym s.3) ∙ is))
-by_shape c op form.Multi a o q test s is e = absurd (none-some o (ap (operation_with c op) (sym s.2) ∙ is))
-by_shape c op form.Array a o q test s is e = absurd (none-some o (ap (operation_with c op) (sym s.1) ∙ is))
-by_shape c op form.Wide a o q test s is e = absurd s
-by_shape c op form.Unknown a o q test s is e = absurd s
+within-returns : (op : ℕ) (f : Family) (i : Local) (q : Resolved) → agrees_by op f ≡ true → Fits f i → resolved_local i ≡ Some q → returns_alike op q
+within-returns op f i q test fits e =
+    let is = fits q e in
+    let both = or-second (runs f) _ test is.0 in
+    let opcode : returns f ≡ is_return_opcode op = agree-same (returns f) (is_return_opcode op) (and-first _ (agree (returns f) (op == 172 || op == 177)) both) in
+    let listed : returns f ≡ (op == 172 || op == 177) = agree-same (returns f) (op == 172 || op == 177) (and-second (agree (returns f) (is_return_opcode op)) _ both) in
+    (is.1 ∙ opcode, sym listed ∙ opcode)
+
+-- an operation by a family: it stays within its frame, or has a name
+abbrev IsWithin : Family → Arg → Option Datum → Operation → Type 0
+IsWithin f a d o = (i : Local) × (local_of f a d ≡ Some i) × (Within i ≡ o)
+
+local-within : (f : Family) (a : Arg) (d : Option Datum) (o : Operation) → option_map Within (local_of f a d) ≡ Some o → IsWithin f a d o
+local-within f a d o e = by (local_of f a d) refl e where
+  by : (x : Option Local) → local_of f a d ≡ x → option_map Within x ≡ Some o → IsWithin f a d o
+  by None is e = absurd (none-some o e)
+  by (Some i) is e = (i, is, same_Some (Within i) o e)
+
+operation-within : (c : ClassFile) (op : ℕ) (a : Arg) (f : Family) (o : Operation) → operation_by c op a f ≡ Some o → (named_operation c op a ≡ Some o) ⊎ IsWithin f a (constant_in c.pool a) o
+operation-within c op a family.Elsewhere o e = inl e
+operation-within c op a f o e = inr (local-within f a (constant_in c.pool a) o e)
 
 -- An operation returns exactly where its opcode is a return's.
-pub returns-instr : (c : ClassFile) (bytes : List ℕ) (at : ℕ) (i : Instr) (q : Resolved) → i.op < 256 → instruction_at bytes at ≡ Some i → resolved_of c i ≡ Some q
-    → (is_return_operation q ≡ is_return_opcode i.op) × (is_return i ≡ is_return_opcode i.op)
-returns-instr c bytes at i q lt stands e =
-    let known = known_at bytes at i stands in
-    option_and_then_some (resolved_in c) (operation_of c i) q e (λ o is rest. by_shape c i.op (form_of i.wide i.op) i.arg o q (agrees i.wide i.op lt) known.1.shape is rest)
+pub returns-instr : (c : ClassFile) (i : Instr) (q : Resolved) → i.op < 256 → resolved_of c i ≡ Some q → (is_return_operation q ≡ is_return_opcode i.op) × (is_return i ≡ is_return_opcode i.op)
+returns-instr c i q lt e =
+    let f = family_of i.op in
+    option_and_then_some (resolved_in c) (operation_of c i) q e (λ o is rest. elim (operation-within c i.op i.arg f o is) [
+      | inl named ↦ named-returns c i.op i.arg o q named rest
+      | inr local ↦ within-returns i.op f local.0 q (all_below-each (λ op. agrees_by op (family_of op)) 256 i.op all_agree lt) (family-fits f i.arg (constant_in c.pool i.arg) local.0 local.1)
+          (ap (resolved_in c) local.2 ∙ rest)
+    ])
 
 -- Control ends behind an operation of the part that runs so far exactly where it returns.
 pub ends-resolved : (c : ClassFile) (o : Operation) (q : Resolved) → resolved_in c o ≡ Some q → ends o ≡ is_return_operation q
 ends-resolved c (Within Nop) q e = ap is_return_operation (same_Some resolved.Nop q e)
 ends-resolved c (Within (Constant (datum.Int n))) q e = ap is_return_operation (same_Some (resolved.Constant n) q e)
 ends-resolved c (Within (Load kind.Int slot)) q e = ap is_return_operation (same_Some (resolved.Iload slot) q e)
-ends-resolved c (Within (Binary op)) q e = ap is_return_operation (same_Some (resolved.Binary op) q e)
+ends-resolved c (Within (BinaryOfInts Iadd)) q e = ap is_return_operation (same_Some (resolved.Binary Iadd) q e)
+ends-resolved c (Within (BinaryOfInts Isub)) q e = ap is_return_operation (same_Some (resolved.Binary Isub) q e)
+ends-resolved c (Within (BinaryOfInts Imul)) q e = ap is_return_operation (same_Some (resolved.Binary Imul) q e)
 ends-resolved c (Within (Return None)) q e = ap is_return_operation (same_Some resolved.Return q e)
 ends-resolved c (Within (Return (Some kind.Int))) q e = ap is_return_operation (same_Some resolved.Ireturn q e)
 ends-resolved c (Within i) q e = absurd (none-some q e)
@@ -224,27 +318,50 @@ ends-resolved c Athrow q e = absurd (none-some q e)
 
 -- ---- instructions that lead nowhere else
 
--- an instruction that does something has no targets, and so it stays as it is wherever it stands
+-- an instruction of the part that runs so far has no targets, and so it stays as it is wherever it stands
 pub record StaysAlike (a : Arg) : Type 0 where
   pub leads : (home : ℕ → ℕ) (place : ℕ) (w : Width) → CanBranch home place w a
   pub kept : (home : ℕ → ℕ) → moved_arg home a ≡ a
   pub straight : targets_of a ≡ []
+  pub nowhere : offsets_of a ≡ []
 
-stays-alike : (c : ClassFile) (op : ℕ) (a : Arg) (o : Operation) → operation_with c op a ≡ Some o → StaysAlike a
-stays-alike c op arg.Plain o e = record { leads = λ home place w. tt; kept = λ home. refl; straight = refl }
-stays-alike c op (arg.Value n) o e = record { leads = λ home place w. tt; kept = λ home. refl; straight = refl }
-stays-alike c op (arg.Pool index) o e = record { leads = λ home place w. tt; kept = λ home. refl; straight = refl }
-stays-alike c op (arg.Local slot) o e = absurd (none-some o e)
-stays-alike c op (arg.Inc slot n) o e = absurd (none-some o e)
-stays-alike c op (arg.Target t) o e = absurd (none-some o e)
-stays-alike c op (arg.Table default low targets) o e = absurd (none-some o e)
-stays-alike c op (arg.Lookup default keys targets) o e = absurd (none-some o e)
-stays-alike c op (arg.Interface index count last) o e = absurd (none-some o e)
-stays-alike c op (arg.Multi index dimensions) o e = absurd (none-some o e)
-stays-alike c op (arg.Array kind) o e = absurd (none-some o e)
+plain-alike : StaysAlike arg.Plain
+plain-alike = record { leads = λ home place w. tt; kept = λ home. refl; straight = refl; nowhere = refl }
 
-pub StaysAlike-operation : (c : ClassFile) (i : Instr) (o : Operation) → operation_of c i ≡ Some o → StaysAlike i.arg
-StaysAlike-operation c i o e = stays-alike c i.op i.arg o e
+value-alike : (n : ℤ) → StaysAlike (arg.Value n)
+value-alike n = record { leads = λ home place w. tt; kept = λ home. refl; straight = refl; nowhere = refl }
+
+pool-alike : (index : ℕ) → StaysAlike (arg.Pool index)
+pool-alike index = record { leads = λ home place w. tt; kept = λ home. refl; straight = refl; nowhere = refl }
+
+slot-alike : (slot : ℕ) → StaysAlike (arg.Local slot)
+slot-alike slot = record { leads = λ home place w. tt; kept = λ home. refl; straight = refl; nowhere = refl }
+
+form-alike : (f : Form) (a : Arg) → is_straight f ≡ true → HasShape f a → StaysAlike a
+form-alike form.Plain a is s = subst StaysAlike (sym s) plain-alike
+form-alike form.Byte a is s = subst StaysAlike (sym s.1) (value-alike s.0)
+form-alike form.Short a is s = subst StaysAlike (sym s.1) (value-alike s.0)
+form-alike form.PoolByte a is s = subst StaysAlike (sym s.1) (pool-alike s.0)
+form-alike form.Pool a is s = subst StaysAlike (sym s.1) (pool-alike s.0)
+form-alike form.Local a is s = subst StaysAlike (sym s.1) (slot-alike s.0)
+form-alike form.Wide a is s = absurd s
+form-alike form.Unknown a is s = absurd s
+form-alike _ a is s = absurd cc
+
+named-alike : (c : ClassFile) (op : ℕ) (a : Arg) (o : Operation) → named_operation c op a ≡ Some o → StaysAlike a
+named-alike c op (arg.Pool index) o e = pool-alike index
+named-alike c op _ o e = absurd (none-some o e)
+
+pub StaysAlike-operation : (c : ClassFile) (bytes : List ℕ) (at : ℕ) (i : Instr) (o : Operation) (q : Resolved) → i.op < 256 → instruction_at bytes at ≡ Some i
+    → operation_of c i ≡ Some o → resolved_in c o ≡ Some q → StaysAlike i.arg
+StaysAlike-operation c bytes at i o q lt stands is e =
+    let f = family_of i.op in
+    elim (operation-within c i.op i.arg f o is) [
+      | inl named ↦ named-alike c i.op i.arg o named
+      | inr local ↦ (
+          let runs_so = (family-fits f i.arg (constant_in c.pool i.arg) local.0 local.1 q (ap (resolved_in c) local.2 ∙ e)).0 in
+          form-alike (form_of i.wide i.op) i.arg (straight-form i.wide i.op lt runs_so) (known_at bytes at i stands).1.shape)
+    ]
 
 -- ---- sipush
 

@@ -9,19 +9,15 @@ use Rattle.std.proofs.lemmas.Option.{same_Some, none-some}
 use Rattle.const_pool.specs.declared.class.ClassFile.{ClassFile}
 use Rattle.const_pool.specs.declared.class.Member.{Member}
 use Rattle.const_pool.specs.declared.class.CodeAttribute.{CodeAttribute}
-use Rattle.const_pool.specs.declared.class.Attribute.{Attribute}
-use Rattle.const_pool.specs.declared.class.Attribute.TheVariants.{ConstantValue, Code, Other}
 use Rattle.jvm_model.specs.PlainShape.{IsPlainCode, HasPlainCode}
-use Rattle.code_model.specs.declared.instr.Arg.{Arg}
-use Rattle.code_model.specs.declared.instr.Arg.TheVariants as arg
 use Rattle.code_model.specs.declared.instr.Instr.{Instr}
 use Rattle.code_model.specs.Instructions.{end_of, Reads}
 use Rattle.code_model.specs.Layout.{size_at}
 use Rattle.code_model.proofs.Lengths.{size_at-some}
 use Rattle.code_model.proofs.Readings.{at-instruction_at, instruction_at-past}
-use Rattle.jvm_model.specs.Data.{Operation, Instruction, Catcher, Program}
-use Rattle.jvm_model.specs.Methods.{code_among, code_of, method_code}
-use Rattle.jvm_model.specs.Lines.{operation_with, next_of, targets_of, ends, method_instruction}
+use Rattle.jvm_model.specs.Data.{Instruction, Catcher, Program}
+use Rattle.jvm_model.specs.Methods.{code_of, method_code}
+use Rattle.jvm_model.specs.Lines.{next_of, targets_of, ends, method_instruction}
 use Rattle.jvm_model.specs.Originals.{catcher_of, method_handlers, original}
 use Rattle.jvm_model.specs.OneClass.{IsProgramOf}
 use Rattle.jvm_model.specs.Closed.{IsWithin, IsClosed}
@@ -136,12 +132,6 @@ handlers-original c p v built of code = by_member (slice_get c.methods v) refl w
       ap (λ o. unwrap_or o []) (by_number-first c p method_handlers v m built.small of e)
       ∙ (ap (λ o. unwrap_or (option_map (λ (k : CodeAttribute). map (catcher_of c) k.handlers) (option_and_then code_of o)) []) e ∙ by_code m (code_of m) e refl)
 
-no-targets : (c : ClassFile) (op : ℕ) (a : Arg) (o : Operation) → operation_with c op a ≡ Some o → targets_of a ≡ []
-no-targets c op arg.Plain o e = refl
-no-targets c op (arg.Value n) o e = refl
-no-targets c op (arg.Pool index) o e = refl
-no-targets c op _ o e = absurd (none-some o e)
-
 -- an instruction that stands at a place
 pub record StandsAt (c : ClassFile) (v at : ℕ) (i : Instruction) : Type 0 where
   pub start : IsStart c v at
@@ -204,7 +194,7 @@ original-closed c p built of = record {
   targets_by v at i place e true coded =
       let found = stands-at c p v at i built of coded place e in
       subst (λ (x : Instruction). AllByRecursion (λ k. is_place c v k ≡ true) x.targets) (sym found.is)
-      (subst (AllByRecursion (λ k. is_place c v k ≡ true)) (sym (no-targets c found.start.instr.op found.start.instr.arg found.has.operation found.has.operated)) tt)
+      (subst (AllByRecursion (λ k. is_place c v k ≡ true)) (sym found.has.alike.nowhere) tt)
 
   handlers_by : (v : ℕ) (b : Bool) → is_some (method_code c v) ≡ b → AllByRecursion (IsWithin (is_place c) v) ((original p).handlers v)
   handlers_by v false none = elsewhere-handlers c v ((original p).handlers v) none

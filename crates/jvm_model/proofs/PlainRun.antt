@@ -8,11 +8,13 @@ use Rattle.const_pool.specs.declared.class.ClassFile.{ClassFile}
 use Rattle.const_pool.specs.declared.class.Member.{Member}
 use Rattle.const_pool.specs.declared.class.CodeAttribute.{CodeAttribute}
 use Rattle.const_pool.specs.declared.class.Attribute.TheVariants.{Code}
+use Rattle.std.specs.Int.{int_wrap}
 use Rattle.op_table.specs.Opcodes.{row_of, groups}
 use Rattle.code_model.specs.Instructions.{instruction_at}
 use Rattle.code_model.specs.Reading.{read_instruction, behind_opcode_at, operand_at, value_at, index_at, signed_at, number_at}
 use Rattle.jvm_model.specs.Data.{World, Returned, Unverifiable}
 use Rattle.jvm_model.specs.Programs.{world_of}
+use Rattle.jvm_model.specs.Families.{rows, family_of}
 use Rattle.jvm_model.specs.Run.{turn_in, output_of, ending_of}
 
 abbrev pub p1_pool : List Const
@@ -55,24 +57,24 @@ plain = world_of p1 1 []
 
 -- nothing is written up to the seventh step, and then the line
 pub before_println : output_of plain 7 ≡ []
-unfolding turn_in digits instruction_at read_instruction behind_opcode_at operand_at value_at index_at signed_at number_at row_of groups
+unfolding turn_in digits instruction_at read_instruction behind_opcode_at operand_at value_at index_at signed_at number_at row_of groups family_of rows int_wrap
 before_println = refl
 
 pub after_println : output_of plain 8 ≡ codes "42\n"
-unfolding turn_in digits instruction_at read_instruction behind_opcode_at operand_at value_at index_at signed_at number_at row_of groups
+unfolding turn_in digits instruction_at read_instruction behind_opcode_at operand_at value_at index_at signed_at number_at row_of groups family_of rows int_wrap
 after_println = refl
 
 -- the run goes on up to the eighth step, and returns in the ninth
 pub goes_on : ending_of plain 8 ≡ None
-unfolding turn_in digits instruction_at read_instruction behind_opcode_at operand_at value_at index_at signed_at number_at row_of groups
+unfolding turn_in digits instruction_at read_instruction behind_opcode_at operand_at value_at index_at signed_at number_at row_of groups family_of rows int_wrap
 goes_on = refl
 
 pub has_returned : ending_of plain 9 ≡ Some Returned
-unfolding turn_in digits instruction_at read_instruction behind_opcode_at operand_at value_at index_at signed_at number_at row_of groups
+unfolding turn_in digits instruction_at read_instruction behind_opcode_at operand_at value_at index_at signed_at number_at row_of groups family_of rows int_wrap
 has_returned = refl
 
 pub stays_returned : ending_of plain 12 ≡ Some Returned
-unfolding turn_in digits instruction_at read_instruction behind_opcode_at operand_at value_at index_at signed_at number_at row_of groups
+unfolding turn_in digits instruction_at read_instruction behind_opcode_at operand_at value_at index_at signed_at number_at row_of groups family_of rows int_wrap
 stays_returned = refl
 
 -- ---- arithmetic, wrapped to 32 bits
@@ -83,15 +85,15 @@ printing bytes = world_of (class_with (member_with 21 22 (record (code_with (pri
 
 -- sipush -32768, iconst_3, isub, nop, iconst_m1, imul: the second operand of isub is the topmost
 pub subtracts : output_of (printing (17 ∷ 128 ∷ 0 ∷ 6 ∷ 100 ∷ 0 ∷ 2 ∷ 104 ∷ [])) 8 ≡ codes "32771\n"
-unfolding turn_in digits instruction_at read_instruction behind_opcode_at operand_at value_at index_at signed_at number_at row_of groups
+unfolding turn_in digits instruction_at read_instruction behind_opcode_at operand_at value_at index_at signed_at number_at row_of groups family_of rows int_wrap
 subtracts = refl
 
 -- sipush 32767, sipush 32767, imul, iconst_3, imul: 3221028867, less 2 ^ 32
 pub wraps : output_of (printing (17 ∷ 127 ∷ 255 ∷ 17 ∷ 127 ∷ 255 ∷ 104 ∷ 6 ∷ 104 ∷ [])) 7 ≡ codes "-1073938429\n"
-unfolding turn_in digits instruction_at read_instruction behind_opcode_at operand_at value_at index_at signed_at number_at row_of groups
+unfolding turn_in digits instruction_at read_instruction behind_opcode_at operand_at value_at index_at signed_at number_at row_of groups family_of rows int_wrap
 wraps = refl
 
 -- iadd of an int and a reference: at its offset, in the second step
 pub breaks : ending_of (printing (96 ∷ 0 ∷ [])) 2 ≡ Some (Unverifiable 0 3)
-unfolding turn_in digits instruction_at read_instruction behind_opcode_at operand_at value_at index_at signed_at number_at row_of groups
+unfolding turn_in digits instruction_at read_instruction behind_opcode_at operand_at value_at index_at signed_at number_at row_of groups family_of rows int_wrap
 breaks = refl

@@ -11,7 +11,8 @@ use Rattle.const_pool.specs.declared.descriptor.Kind.TheVariants as kind
 use Rattle.jvm_model.specs.declared.operation.Resolved.{Resolved}
 use Rattle.jvm_model.specs.declared.operation.Resolved.TheVariants as resolved
 use Rattle.jvm_model.specs.Data.{Datum, Value, IntOperator, Locals, Operands, Frame, Entry, Active, Initializing, Unverifiable, State, Began, Left, Turn, Instruction, Text, Next, Outcome, GoesOn, Invokes, Returns, Breaks, Program, World}
-use Rattle.jvm_model.specs.Values.{as_value, datum_of, arguments, depth, with_value, loaded}
+use Rattle.frame_stack.specs.Widths.{height_of}
+use Rattle.jvm_model.specs.Values.{as_value, datum_of, arguments, with_value, loaded}
 use Rattle.jvm_model.specs.LocalRules.{pushes, calculates, returns_datum, returns}
 use Rattle.jvm_model.specs.Methods.{method_code}
 use Rattle.jvm_model.specs.Programs.{max_stack_of, params_of_method}
@@ -95,7 +96,7 @@ breaks-quiet : (c : ClassFile) (s : State) (f : Frame) (own : ℕ) → IsQuiet c
 breaks-quiet c s f own quiet coded = record { thrown = quiet.thrown; begun = λ e. absurd (none-some (Unverifiable f.method own) (sym e)); ready = quiet.ready; coded = (coded, quiet.coded) }
 
 lands-quiet : (c : ClassFile) (w : World) (s : State) (f : Frame) (own : ℕ) → IsQuiet c s → IsCoded c f.method f.version → IsQuiet c (lands w s f own)
-lands-quiet c w s f own quiet coded = chosen-quiet c (nat_le (depth f.operands) (max_stack_of w f.method)) _ _ (frame-quiet c s f quiet coded) (breaks-quiet c s f own quiet coded)
+lands-quiet c w s f own quiet coded = chosen-quiet c (nat_le (height_of f.operands) (max_stack_of w f.method)) _ _ (frame-quiet c s f quiet coded) (breaks-quiet c s f own quiet coded)
 
 goes-quiet : (c : ClassFile) (w : World) (s : State) (f : Frame) (own : ℕ) (l : Locals) (o : Operands) (place : Option ℕ) → IsQuiet c s → IsCoded c f.method f.version → IsQuiet c (goes w s f own l o place)
 goes-quiet c w s f own l o None quiet coded = breaks-quiet c s f own quiet coded

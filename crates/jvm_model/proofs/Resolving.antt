@@ -12,7 +12,7 @@ use Rattle.const_pool.specs.declared.descriptor.Kind.TheVariants as kind
 use Rattle.const_pool.specs.References.{Reference, named_class}
 use Rattle.jvm_model.specs.declared.operation.Resolved.{Resolved}
 use Rattle.jvm_model.specs.declared.operation.Resolved.TheVariants as resolved
-use Rattle.jvm_model.specs.Data.{Locals, Operands, Nop, Constant, Load, Binary, Return, Operation, Within, Getstatic, Putstatic, Invokestatic, Invokevirtual, Athrow, Local, Ready, Shared, Next, GoesOn, Breaks, Done, Program, World}
+use Rattle.jvm_model.specs.Data.{Locals, Operands, Iadd, Isub, Imul, Nop, Constant, Load, BinaryOfInts, Return, Operation, Within, Getstatic, Putstatic, Invokestatic, Invokevirtual, Athrow, Local, Ready, Shared, Next, GoesOn, Breaks, Done, Program, World}
 use Rattle.jvm_model.specs.Descriptors.{same_text}
 use Rattle.jvm_model.specs.Methods.{method_named}
 use Rattle.jvm_model.specs.LocalRules.{within}
@@ -37,7 +37,9 @@ local-done : (g : Program) (i : Local) (q : Resolved) (s : Shared) (l : Locals) 
 local-done g Nop q s l o e = same-done g resolved.Nop q s l o e
 local-done g (Constant (datum.Int n)) q s l o e = same-done g (resolved.Constant n) q s l o e
 local-done g (Load kind.Int slot) q s l o e = same-done g (resolved.Iload slot) q s l o e
-local-done g (Binary op) q s l o e = same-done g (resolved.Binary op) q s l o e
+local-done g (BinaryOfInts Iadd) q s l o e = same-done g (resolved.Binary Iadd) q s l o e
+local-done g (BinaryOfInts Isub) q s l o e = same-done g (resolved.Binary Isub) q s l o e
+local-done g (BinaryOfInts Imul) q s l o e = same-done g (resolved.Binary Imul) q s l o e
 local-done g (Return None) q s l o e = same-done g resolved.Return q s l o e
 local-done g (Return (Some kind.Int)) q s l o e = same-done g resolved.Ireturn q s l o e
 local-done g i q s l o e = absurd (none-some q e)

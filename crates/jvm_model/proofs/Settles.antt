@@ -4,7 +4,7 @@ use Rattle.std.specs.Option.{IfSome, option_map_or}
 use Rattle.heap_objects.specs.declared.datum.Datum.TheVariants as datum
 use Rattle.heap_objects.specs.declared.Value.TheVariants.{Ref}
 use Rattle.jvm_model.specs.Data.{Frame, Entry, Active, Initializing, Part, Constants, Superclass, Initializer, Finish, Phase, Fresh, Running, Ready, Erroneous, Instance, Shared, Ending, State, Turn, Text, World}
-use Rattle.jvm_model.specs.Values.{depth}
+use Rattle.frame_stack.specs.Widths.{height_of}
 use Rattle.jvm_model.specs.Programs.{class_named, is_subclass, super_of, initializer_of, max_stack_of}
 use Rattle.jvm_model.specs.SharedState.{error, no_class_definition, in_initializer, phase_of, with_phase, class_of, allocated, raised}
 use Rattle.jvm_model.specs.Applies.{with_frame, lands, breaks, has_room}
@@ -68,7 +68,7 @@ chosen-less k false x y p q = q
 
 -- a frame that lands is one more at most
 lands-left : (w : World) (s : State) (f : Frame) (own : ℕ) → left (lands w s f own) ≤ left s + 1
-lands-left w s f own = by (nat_le (depth f.operands) (max_stack_of w f.method)) where
+lands-left w s f own = by (nat_le (height_of f.operands) (max_stack_of w f.method)) where
   by : (b : Bool) → left (if b then with_frame s f else breaks s f own) ≤ left s + 1
   by true = omega arith
   by false = omega arith

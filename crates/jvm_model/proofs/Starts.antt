@@ -30,8 +30,8 @@ use Rattle.jvm_model.specs.Resolved.{resolved_in, resolved_of, line_of}
 use Rattle.jvm_model.specs.StandsFor.{IsBuilt, code_line, line_at}
 use Rattle.jvm_model.specs.Versions.{is_return_opcode}
 use Rattle.jvm_model.specs.Methods.{code_among, code_of, method_code}
-use Rattle.jvm_model.proofs.Opcodes.{and-first, and-second, returns-instr, ends-resolved}
-use Rattle.jvm_model.specs.SmallClass.{IsSmallClass, IsSmallCode, is_small_instr, fits_method, ends_in_return, is_return}
+use Rattle.jvm_model.proofs.Opcodes.{and-first, and-second, returns-instr, ends-resolved, StaysAlike, StaysAlike-operation}
+use Rattle.jvm_model.specs.SmallClass.{IsSmallClass, IsSmallCode, is_small_opcode, is_small_instr, fits_method, ends_in_return, is_return}
 
 -- ---- readings, by number
 
@@ -136,6 +136,7 @@ pub record HasLine (c : ClassFile) (m at : ℕ) (i : Instr) : Type 0 where
   pub instructed : method_instruction c m at ≡ Some (record { operation = operation; own = i.at; next = next_of operation (end_of i); targets = targets_of i.arg })
   pub lined : line_at c m at ≡ Some (record { operation = resolved; own = i.at; next = next_of operation (end_of i) })
   pub returns : is_return_operation resolved ≡ is_return_opcode i.op
+  pub alike : StaysAlike i.arg
   pub stops : ends operation ≡ is_return_operation resolved
   pub next : is_return_operation resolved ≡ false → IsStart c m (end_of i)
   pub callee : (k : ℕ) → resolved ≡ Invokestatic k → IsStart c k 0
@@ -175,10 +176,11 @@ HasLine-start c m at built start =
     let code = HasSmallCode-small c m start.code start.reading built.small start.coded start.reads in
     let stands : instruction_at bytes i.at ≡ Some i = Reads-nth bytes 0 start.reading.instrs start.nth i start.reads.instrs start.stands in
     let here : instruction_at bytes at ≡ Some i = subst (λ (n : ℕ). instruction_at bytes n ≡ Some i) start.here stands in
-    let fits = some-of (fits_method m start.code.max_locals code.shape) (resolved_of c i) (nth-passes (is_small_instr c m start.code.max_locals code.shape) start.reading.instrs start.nth i code.small start.stands) in
+    let small = nth-passes (is_small_instr c m start.code.max_locals code.shape) start.reading.instrs start.nth i code.small start.stands in
+    let fits = some-of (fits_method m start.code.max_locals code.shape) (resolved_of c i) (and-second (is_small_opcode i.op) _ small) in
     let q = fits.0 in
     let byte = (known bytes at i here (bytes-each bytes (IsCode-method_code c m start.code built.formed start.coded).code)).op in
-    let returns = returns-instr c bytes at i q byte here fits.1 in
+    let returns = returns-instr c i q byte fits.1 in
     option_and_then_some (resolved_in c) (operation_of c i) q fits.1
     (λ o is rest. (
     let made : Operation → Instruction = λ op. record { operation = op; own = i.at; next = next_of op (end_of i); targets = targets_of i.arg } in
@@ -193,6 +195,7 @@ HasLine-start c m at built start =
       instructed = ap (option_and_then (λ (k : CodeAttribute). code_instruction c k.code at)) start.coded ∙ coded;
       lined = ap (option_and_then (λ (k : CodeAttribute). code_line c k.code at)) start.coded ∙ (ap (option_and_then (line_of c)) coded ∙ ap (option_map line) rest);
       returns = returns.0;
+      alike = StaysAlike-operation c bytes at i o q byte here is rest;
       stops = ends-resolved c o q rest;
       next = λ stays. (
           let j = next-instr start.reading.instrs start.nth i code.ends start.stands (returns.1 ∙ (sym returns.0 ∙ stays)) in

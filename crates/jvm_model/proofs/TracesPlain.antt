@@ -1,12 +1,14 @@
 -- The activations, events and projections of the worked run: main invokes f in its third step, f returns in the seventh,
 -- and main in the ninth. And those of a throw, of changes that are written out.
 use Rattle.std.specs.Prelude.{◌≡◌, ℕ, true, List, [], ◌∷◌, Some, None, refl}
+use Rattle.std.specs.Int.{int_wrap}
 use Rattle.op_table.specs.Opcodes.{row_of, groups}
 use Rattle.code_model.specs.Instructions.{instruction_at}
 use Rattle.code_model.specs.Reading.{read_instruction, behind_opcode_at, operand_at, value_at, index_at, signed_at, number_at}
 use Rattle.jvm_model.specs.declared.event.Act.{Act}
 use Rattle.jvm_model.specs.declared.event.EventKind.TheVariants as kind
 use Rattle.jvm_model.specs.Data.{Change, Loads, Began, Left, Unwound}
+use Rattle.jvm_model.specs.Families.{rows, family_of}
 use Rattle.jvm_model.specs.Run.{turn_in}
 use Rattle.jvm_model.specs.Activations.{Trace, no_trace, all_changed, trace_in, trace}
 use Rattle.jvm_model.specs.Projection.{paths_made, projection}
@@ -21,57 +23,57 @@ pub in_the_third_step : trace plain 3 ≡ record {
   activations = record { method = 1; parent = None; begin = 0; «end» = None } ∷ record { method = 0; parent = Some 0; begin = 3; «end» = None } ∷ [];
   live = 1 ∷ 0 ∷ [];
 }
-unfolding trace_in turn_in instruction_at read_instruction behind_opcode_at operand_at value_at index_at signed_at number_at row_of groups
+unfolding trace_in turn_in instruction_at read_instruction behind_opcode_at operand_at value_at index_at signed_at number_at row_of groups family_of rows int_wrap
 in_the_third_step = refl
 
 pub after_all_steps : trace plain 9 ≡ record {
   activations = record { method = 1; parent = None; begin = 0; «end» = Some 9 } ∷ record { method = 0; parent = Some 0; begin = 3; «end» = Some 7 } ∷ [];
   live = [];
 }
-unfolding trace_in turn_in instruction_at read_instruction behind_opcode_at operand_at value_at index_at signed_at number_at row_of groups
+unfolding trace_in turn_in instruction_at read_instruction behind_opcode_at operand_at value_at index_at signed_at number_at row_of groups family_of rows int_wrap
 after_all_steps = refl
 
 -- ---- events
 
 pub f_as_root : events_of (full_marking (selected 0)) plain 9 ≡ record { kind = kind.Enter; method = 1; clock = 0 } ∷ record { kind = kind.Root; method = 0; clock = 3 }
     ∷ record { kind = kind.Leave; method = 0; clock = 7 } ∷ record { kind = kind.Leave; method = 1; clock = 9 } ∷ []
-unfolding events_of trace_in turn_in instruction_at read_instruction behind_opcode_at operand_at value_at index_at signed_at number_at row_of groups
+unfolding events_of trace_in turn_in instruction_at read_instruction behind_opcode_at operand_at value_at index_at signed_at number_at row_of groups family_of rows int_wrap
 f_as_root = refl
 
 pub main_as_root : events_of (full_marking (selected 1)) plain 9 ≡ record { kind = kind.Root; method = 1; clock = 0 } ∷ record { kind = kind.Enter; method = 0; clock = 3 }
     ∷ record { kind = kind.Leave; method = 0; clock = 7 } ∷ record { kind = kind.Leave; method = 1; clock = 9 } ∷ []
-unfolding events_of trace_in turn_in instruction_at read_instruction behind_opcode_at operand_at value_at index_at signed_at number_at row_of groups
+unfolding events_of trace_in turn_in instruction_at read_instruction behind_opcode_at operand_at value_at index_at signed_at number_at row_of groups family_of rows int_wrap
 main_as_root = refl
 
 -- ---- projections
 
 pub f_before_its_call : projection (selected 0) plain 2 ≡ []
-unfolding paths_made trace_in turn_in instruction_at read_instruction behind_opcode_at operand_at value_at index_at signed_at number_at row_of groups
+unfolding paths_made trace_in turn_in instruction_at read_instruction behind_opcode_at operand_at value_at index_at signed_at number_at row_of groups family_of rows int_wrap
 f_before_its_call = refl
 
 pub f_when_called : projection (selected 0) plain 3 ≡ record { path = 0 ∷ []; calls = 1; own = 0 } ∷ []
-unfolding paths_made trace_in turn_in instruction_at read_instruction behind_opcode_at operand_at value_at index_at signed_at number_at row_of groups
+unfolding paths_made trace_in turn_in instruction_at read_instruction behind_opcode_at operand_at value_at index_at signed_at number_at row_of groups family_of rows int_wrap
 f_when_called = refl
 
 pub f_before_its_return : projection (selected 0) plain 6 ≡ record { path = 0 ∷ []; calls = 1; own = 3 } ∷ []
-unfolding paths_made trace_in turn_in instruction_at read_instruction behind_opcode_at operand_at value_at index_at signed_at number_at row_of groups
+unfolding paths_made trace_in turn_in instruction_at read_instruction behind_opcode_at operand_at value_at index_at signed_at number_at row_of groups family_of rows int_wrap
 f_before_its_return = refl
 
 pub f_when_left : projection (selected 0) plain 7 ≡ record { path = 0 ∷ []; calls = 1; own = 4 } ∷ []
-unfolding paths_made trace_in turn_in instruction_at read_instruction behind_opcode_at operand_at value_at index_at signed_at number_at row_of groups
+unfolding paths_made trace_in turn_in instruction_at read_instruction behind_opcode_at operand_at value_at index_at signed_at number_at row_of groups family_of rows int_wrap
 f_when_left = refl
 
 pub f_at_the_end : projection (selected 0) plain 9 ≡ record { path = 0 ∷ []; calls = 1; own = 4 } ∷ []
-unfolding paths_made trace_in turn_in instruction_at read_instruction behind_opcode_at operand_at value_at index_at signed_at number_at row_of groups
+unfolding paths_made trace_in turn_in instruction_at read_instruction behind_opcode_at operand_at value_at index_at signed_at number_at row_of groups family_of rows int_wrap
 f_at_the_end = refl
 
 pub main_at_the_end : projection (selected 1) plain 9 ≡ record { path = 1 ∷ []; calls = 1; own = 5 } ∷ record { path = 1 ∷ 0 ∷ []; calls = 1; own = 4 } ∷ []
-unfolding paths_made trace_in turn_in instruction_at read_instruction behind_opcode_at operand_at value_at index_at signed_at number_at row_of groups
+unfolding paths_made trace_in turn_in instruction_at read_instruction behind_opcode_at operand_at value_at index_at signed_at number_at row_of groups family_of rows int_wrap
 main_at_the_end = refl
 
 -- nothing is counted where the run has ended
 pub main_after_the_end : projection (selected 1) plain 12 ≡ record { path = 1 ∷ []; calls = 1; own = 5 } ∷ record { path = 1 ∷ 0 ∷ []; calls = 1; own = 4 } ∷ []
-unfolding paths_made trace_in turn_in instruction_at read_instruction behind_opcode_at operand_at value_at index_at signed_at number_at row_of groups
+unfolding paths_made trace_in turn_in instruction_at read_instruction behind_opcode_at operand_at value_at index_at signed_at number_at row_of groups family_of rows int_wrap
 main_after_the_end = refl
 
 -- ---- a throw through two frames, behind which an initializer begins

@@ -1,16 +1,20 @@
 -- What an instruction asks for does not depend on what its return addresses are: it moves with them.
-use Rattle.std.proofs.Common.{◌≡◌, ℕ, zero, suc, ◌+◌, slice_get, slice_set, drop, length, map, Bool, true, false, List, [], ◌∷◌, Option, Some, None, ◌==◌, ◌&&◌, if◌then◌else◌, ℤ, pos, refl, ap, ◌∙◌}
-use Rattle.std.specs.Option.{option_map}
-use Rattle.std.specs.Int.{w32, int_wrapping_add}
-use Rattle.std.proofs.lemmas.List.{drop-map}
+use Rattle.std.proofs.Common.{◌≡◌, ℕ, zero, suc, ◌+◌, slice_get, slice_set, drop, length, map, Bool, true, false, List, [], ◌∷◌, Option, Some, None, is_some, nat_le, ◌&&◌, if◌then◌else◌, ℤ, refl, ap, ◌∙◌}
+use Rattle.std.specs.Option.{option_map, option_flatten}
+use Rattle.std.specs.Int.{w32, w64}
+use Rattle.std.proofs.lemmas.List.{drop-map, length-map}
 use Rattle.std.proofs.lemmas.Option.{slice_get-map}
 use Rattle.heap_objects.specs.declared.datum.Datum.TheVariants as datum
 use Rattle.heap_objects.specs.declared.Value.TheVariants.{Int, Long, Ref, Addr}
 use Rattle.const_pool.specs.declared.descriptor.Kind.{Kind}
 use Rattle.const_pool.specs.declared.descriptor.Kind.TheVariants as kind
-use Rattle.jvm_model.specs.Data.{Datum, Value, Locals, Operands, IntOperator, Test, WithZero, OfInts, OfReferences, IsNull, StackForm, Local, Nop, Constant, Load, Store, Arrange, Binary, Iinc, Branch, Goto, Switch, Jsr, Ret, Return, Next, Outcome, GoesOn}
-use Rattle.jvm_model.specs.Values.{as_value, datum_of, is_long, loaded, storable, holds_long, unpaired, with_half, stored, with_value, same_width, has_form, puts_on, arranged}
-use Rattle.jvm_model.specs.LocalRules.{pushes, leaves, stores_value, stores, calculates, increments, compares, where_if, is_same, branches, switches, goes_back, returns_datum, returns, within}
+use Rattle.int_ops.specs.Arithmetic.{wrapped_sum}
+use Rattle.frame_stack.specs.Widths.{is_long, width}
+use Rattle.frame_stack.specs.FrameLists.{is_long_slot, without_long_before, with_value as with_slot}
+use Rattle.jvm_model.specs.Data.{Datum, Value, Locals, Operands, IntOperator, LongOperator, Division, LongShift, OfInt, Ineg, I2l, I2b, I2c, I2s, OfLong, Lneg, L2i, Test, WithZero, OfInts, OfReferences, IsNull, StackForm, Keys, Local, Nop, Constant, Load, Store, Arrange, BinaryOfInts, BinaryOfLongs, DivisionOfInts, DivisionOfLongs, ShiftOfLong, UnaryOfInt, UnaryOfLong, Lcmp, Iinc, Branch, Goto, Switch, Jsr, Ret, Return, Next, Outcome, GoesOn, Breaks}
+use Rattle.jvm_model.specs.Values.{as_value, datum_of, has_kind, loaded, is_storable, local_in, has_slots, stored, with_value, same_width, has_form, puts_on, arranged}
+use Rattle.jvm_model.specs.StackForms.{forms_of}
+use Rattle.jvm_model.specs.LocalRules.{pushes, leaves, stores, increments, divided, of_int, of_long, calculates, calculates_long, shifts, compares_longs, divides_these, divides_ints, divides_longs, converts_int, converts_long, where_if, holds, tests, goes_if, branches, switches, goes_back, returns_datum, returns, within}
 use Rattle.jvm_model.specs.Moved.{moved_value, moved_slot, moved_locals, moved_operands, moved_where, moved_outcome}
 
 set-moves : {A B : Type 0} (f : A → B) (xs : List A) (i : ℕ) (x : A) → slice_set (map f xs) i (f x) ≡ map f (slice_set xs i x)
@@ -38,12 +42,19 @@ module _ (h : ℕ → ℕ) where
   kind-moves kind.Int (Addr t) = refl
   kind-moves _ (Addr t) = refl
 
-  value-moves : (k : Kind) (v : Value) → option_map as_value (datum_of k (moved_value h v)) ≡ option_map (moved_value h) (option_map as_value (datum_of k v))
-  value-moves k v = ap (option_map as_value) (kind-moves k v) ∙ found-moves (datum_of k v)
+  has_kind-moves : (k : Kind) (v : Value) → has_kind k (moved_value h v) ≡ has_kind k v
+  has_kind-moves k v = ap is_some (kind-moves k v)
+
+  kept-moves : (b : Bool) (v : Value) → (if b then Some (moved_value h v) else None) ≡ option_map (moved_value h) (if b then Some v else None)
+  kept-moves true v = refl
+  kept-moves false v = refl
 
   pub long-moves : (v : Value) → is_long (moved_value h v) ≡ is_long v
   long-moves (Long n) = refl
   long-moves _ = refl
+
+  width-moves : (v : Value) → width (moved_value h v) ≡ width v
+  width-moves v = ap (λ b. if b then 2 else 1) (long-moves v)
 
   pub with-moves : (v : Option Value) (o : Operands) → with_value (option_map (moved_value h) v) (moved_operands h o) ≡ moved_operands h (with_value v o)
   with-moves None o = refl
@@ -60,7 +71,7 @@ module _ (h : ℕ → ℕ) where
   pushed-moves d l o = ap (λ v. pushes v (moved_locals h l) (moved_operands h o)) (found-moves d) ∙ pushes-moves (option_map as_value d) l o
 
   loaded-moves : (k : Kind) (found : Option (Option Value)) → loaded k (option_map (moved_slot h) found) ≡ option_map (moved_value h) (loaded k found)
-  loaded-moves k (Some (Some v)) = value-moves k v
+  loaded-moves k (Some (Some v)) = ap (λ b. if b then Some (moved_value h v) else None) (has_kind-moves k v) ∙ kept-moves (has_kind k v) v
   loaded-moves k (Some None) = refl
   loaded-moves k None = refl
 
@@ -73,46 +84,55 @@ module _ (h : ℕ → ℕ) where
 
   -- ---- stores
 
-  storable-moves : (k : Kind) (v : Value) → storable k (moved_value h v) ≡ option_map (moved_value h) (storable k v)
+  storable-moves : (k : Kind) (v : Value) → is_storable k (moved_value h v) ≡ is_storable k v
   storable-moves kind.Ref (Addr t) = refl
-  storable-moves k v = value-moves k v
+  storable-moves k v = has_kind-moves k v
 
-  holds-moves : (found : Option (Option Value)) → holds_long (option_map (moved_slot h) found) ≡ holds_long found
-  holds-moves (Some (Some v)) = long-moves v
-  holds-moves (Some None) = refl
-  holds-moves None = refl
+  read-moves : (found : Option (Option Value)) → option_flatten (option_map (moved_slot h) found) ≡ option_map (moved_value h) (option_flatten found)
+  read-moves None = refl
+  read-moves (Some v) = refl
 
-  chosen_locals-moves : (b : Bool) (x y : Locals) → (if b then moved_locals h x else moved_locals h y) ≡ moved_locals h (if b then x else y)
-  chosen_locals-moves true x y = refl
-  chosen_locals-moves false x y = refl
+  local-moves : (l : Locals) (slot : ℕ) → local_in (moved_locals h l) slot ≡ option_map (moved_value h) (local_in l slot)
+  local-moves l slot = ap option_flatten (slice_get-map (moved_slot h) l slot) ∙ read-moves (slice_get l slot)
 
-  unpaired-moves : (l : Locals) (slot : ℕ) → unpaired (moved_locals h l) slot ≡ moved_locals h (unpaired l slot)
-  unpaired-moves l zero = refl
-  unpaired-moves l (suc k) =
-      ap (λ b. if b then slice_set (moved_locals h l) k None else moved_locals h l) (ap holds_long (slice_get-map (moved_slot h) l k) ∙ holds-moves (slice_get l k))
-      ∙ (ap (λ x. if holds_long (slice_get l k) then x else moved_locals h l) (set-moves (moved_slot h) l k None)
-      ∙ chosen_locals-moves (holds_long (slice_get l k)) (slice_set l k None) l)
+  long_slot-moves : (v : Option Value) → is_long_slot (option_map (moved_value h) v) ≡ is_long_slot v
+  long_slot-moves None = refl
+  long_slot-moves (Some v) = long-moves v
 
-  half-moves : (b : Bool) (l : Locals) (slot : ℕ) → with_half b (moved_locals h l) slot ≡ moved_locals h (with_half b l slot)
-  half-moves true l slot = set-moves (moved_slot h) l (slot + 1) None
-  half-moves false l slot = refl
+  chosen_locals-moves : (b : Bool) (x x' y y' : Locals) → x' ≡ moved_locals h x → y' ≡ moved_locals h y → (if b then x' else y') ≡ moved_locals h (if b then x else y)
+  chosen_locals-moves true x x' y y' p q = p
+  chosen_locals-moves false x x' y y' p q = q
+
+  before-moves : (slot : ℕ) (l : Locals) → without_long_before slot (moved_locals h l) ≡ moved_locals h (without_long_before slot l)
+  before-moves zero l = refl
+  before-moves (suc k) l =
+      ap (λ b. if b then slice_set (moved_locals h l) k None else moved_locals h l) (ap is_long_slot (local-moves l k) ∙ long_slot-moves (local_in l k))
+      ∙ chosen_locals-moves (is_long_slot (local_in l k)) (slice_set l k None) _ l _ (set-moves (moved_slot h) l k None) refl
+
+  slot-moves : (slot : ℕ) (v : Value) (l : Locals) → with_slot slot (moved_value h v) (moved_locals h l) ≡ moved_locals h (with_slot slot v l)
+  slot-moves slot v l =
+      let set : slice_set (moved_locals h l) slot (Some (moved_value h v)) ≡ moved_locals h (slice_set l slot (Some v)) = set-moves (moved_slot h) l slot (Some v) in
+      ap (λ b. if b then slice_set (slice_set (moved_locals h l) slot (Some (moved_value h v))) (slot + 1) None else slice_set (moved_locals h l) slot (Some (moved_value h v))) (long-moves v)
+      ∙ chosen_locals-moves (is_long v) (slice_set (slice_set l slot (Some v)) (slot + 1) None) _ (slice_set l slot (Some v)) _
+      (ap (λ x. slice_set x (slot + 1) None) set ∙ set-moves (moved_slot h) (slice_set l slot (Some v)) (slot + 1) None) set
 
   stored-moves : (l : Locals) (slot : ℕ) (v : Value) → stored (moved_locals h l) slot (moved_value h v) ≡ moved_locals h (stored l slot v)
-  stored-moves l slot v =
-      ap (λ b. with_half b (slice_set (unpaired (moved_locals h l) slot) slot (Some (moved_value h v))) slot) (long-moves v)
-      ∙ (ap (λ x. with_half (is_long v) (slice_set x slot (Some (moved_value h v))) slot) (unpaired-moves l slot)
-      ∙ (ap (λ x. with_half (is_long v) x slot) (set-moves (moved_slot h) (unpaired l slot) slot (Some v))
-      ∙ half-moves (is_long v) (slice_set (unpaired l slot) slot (Some v)) slot))
+  stored-moves l slot v = ap (with_slot slot (moved_value h v)) (before-moves slot l) ∙ slot-moves slot v (without_long_before slot l)
 
-  stores_value-moves : (slot : ℕ) (v : Option Value) (l : Locals) (o : Operands)
-      → stores_value slot (option_map (moved_value h) v) (moved_locals h l) (moved_operands h o) ≡ moved_outcome h (stores_value slot v l o)
-  stores_value-moves slot None l o = refl
-  stores_value-moves slot (Some v) l o = ap (λ x. GoesOn x (moved_operands h o) Next) (stored-moves l slot v)
+  slots-moves : (l : Locals) (slot : ℕ) (v : Value) → has_slots (moved_locals h l) slot (moved_value h v) ≡ has_slots l slot v
+  slots-moves l slot v = ap (λ n. nat_le (slot + width (moved_value h v)) n) (length-map l (moved_slot h)) ∙ ap (λ n. nat_le (slot + n) (length l)) (width-moves v)
+
+  chosen_outcome-moves : (b : Bool) (x x' y y' : Outcome) → x' ≡ moved_outcome h x → y' ≡ moved_outcome h y → (if b then x' else y') ≡ moved_outcome h (if b then x else y)
+  chosen_outcome-moves true x x' y y' p q = p
+  chosen_outcome-moves false x x' y y' p q = q
 
   stores-moves : (k : Kind) (slot : ℕ) (l : Locals) (o : Operands) → stores k slot (moved_locals h l) (moved_operands h o) ≡ moved_outcome h (stores k slot l o)
   stores-moves k slot l [] = refl
   stores-moves k slot l (v ∷ below) =
-      ap (λ x. stores_value slot x (moved_locals h l) (moved_operands h below)) (storable-moves k v) ∙ stores_value-moves slot (storable k v) l below
+      ap (λ b. if b then GoesOn (stored (moved_locals h l) slot (moved_value h v)) (moved_operands h below) Next else Breaks false)
+      (ap (λ b. b && has_slots (moved_locals h l) slot (moved_value h v)) (storable-moves k v) ∙ ap (λ b. is_storable k v && b) (slots-moves l slot v))
+      ∙ chosen_outcome-moves (is_storable k v && has_slots l slot v) (GoesOn (stored l slot v) below Next) _ (Breaks false) _
+      (ap (λ x. GoesOn x (moved_operands h below) Next) (stored-moves l slot v)) refl
 
   -- ---- stack instructions, all nine
 
@@ -149,16 +169,66 @@ module _ (h : ℕ → ℕ) where
   leaves-moves None l = refl
   leaves-moves (Some o) l = refl
 
-  -- ---- int arithmetic, all operators
+  -- ---- arithmetic, all operators
 
   calculates-moves : (op : IntOperator) (l : Locals) (o : Operands) → calculates op (moved_locals h l) (moved_operands h o) ≡ moved_outcome h (calculates op l o)
   calculates-moves op l (Int b ∷ Int a ∷ below) = refl
   calculates-moves op l _ = refl
 
-  increments-moves : (d : ℤ) (slot : ℕ) (found : Option (Option Value)) (l : Locals) (o : Operands)
-      → increments d slot (option_map (moved_slot h) found) (moved_locals h l) (moved_operands h o) ≡ moved_outcome h (increments d slot found l o)
-  increments-moves d slot (Some (Some (Int n))) l o = ap (λ x. GoesOn x (moved_operands h o) Next) (set-moves (moved_slot h) l slot (Some (Int (int_wrapping_add w32 n d))))
-  increments-moves d slot _ l o = refl
+  calculates_long-moves : (op : LongOperator) (l : Locals) (o : Operands) → calculates_long op (moved_locals h l) (moved_operands h o) ≡ moved_outcome h (calculates_long op l o)
+  calculates_long-moves op l (Long b ∷ Long a ∷ below) = refl
+  calculates_long-moves op l _ = refl
+
+  shifts-moves : (op : LongShift) (l : Locals) (o : Operands) → shifts op (moved_locals h l) (moved_operands h o) ≡ moved_outcome h (shifts op l o)
+  shifts-moves op l (Int n ∷ Long a ∷ below) = refl
+  shifts-moves op l _ = refl
+
+  compares_longs-moves : (l : Locals) (o : Operands) → compares_longs (moved_locals h l) (moved_operands h o) ≡ moved_outcome h (compares_longs l o)
+  compares_longs-moves l (Long b ∷ Long a ∷ below) = refl
+  compares_longs-moves l _ = refl
+
+  -- a quotient takes the place of two operands
+  int_quotient-moves : (q : Option ℤ) (v w : Value) (l : Locals) (o : Operands)
+      → divides_these (Some (option_map Int q)) (moved_locals h l) (moved_operands h (v ∷ w ∷ o)) ≡ moved_outcome h (divides_these (Some (option_map Int q)) l (v ∷ w ∷ o))
+  int_quotient-moves None v w l o = refl
+  int_quotient-moves (Some n) v w l o = refl
+
+  long_quotient-moves : (q : Option ℤ) (v w : Value) (l : Locals) (o : Operands)
+      → divides_these (Some (option_map Long q)) (moved_locals h l) (moved_operands h (v ∷ w ∷ o)) ≡ moved_outcome h (divides_these (Some (option_map Long q)) l (v ∷ w ∷ o))
+  long_quotient-moves None v w l o = refl
+  long_quotient-moves (Some n) v w l o = refl
+
+  divides_ints-moves : (op : Division) (l : Locals) (o : Operands) → divides_ints op (moved_locals h l) (moved_operands h o) ≡ moved_outcome h (divides_ints op l o)
+  divides_ints-moves op l (Int b ∷ Int a ∷ below) = int_quotient-moves (divided op w32 a b) (Int b) (Int a) l below
+  divides_ints-moves op l _ = refl
+
+  divides_longs-moves : (op : Division) (l : Locals) (o : Operands) → divides_longs op (moved_locals h l) (moved_operands h o) ≡ moved_outcome h (divides_longs op l o)
+  divides_longs-moves op l (Long b ∷ Long a ∷ below) = long_quotient-moves (divided op w64 a b) (Long b) (Long a) l below
+  divides_longs-moves op l _ = refl
+
+  of_int-moves : (op : OfInt) (n : ℤ) → of_int op n ≡ moved_value h (of_int op n)
+  of_int-moves Ineg n = refl
+  of_int-moves I2l n = refl
+  of_int-moves I2b n = refl
+  of_int-moves I2c n = refl
+  of_int-moves I2s n = refl
+
+  of_long-moves : (op : OfLong) (n : ℤ) → of_long op n ≡ moved_value h (of_long op n)
+  of_long-moves Lneg n = refl
+  of_long-moves L2i n = refl
+
+  converts_int-moves : (op : OfInt) (l : Locals) (o : Operands) → converts_int op (moved_locals h l) (moved_operands h o) ≡ moved_outcome h (converts_int op l o)
+  converts_int-moves op l (Int n ∷ below) = ap (λ v. GoesOn (moved_locals h l) (v ∷ moved_operands h below) Next) (of_int-moves op n)
+  converts_int-moves op l _ = refl
+
+  converts_long-moves : (op : OfLong) (l : Locals) (o : Operands) → converts_long op (moved_locals h l) (moved_operands h o) ≡ moved_outcome h (converts_long op l o)
+  converts_long-moves op l (Long n ∷ below) = ap (λ v. GoesOn (moved_locals h l) (v ∷ moved_operands h below) Next) (of_long-moves op n)
+  converts_long-moves op l _ = refl
+
+  increments-moves : (slot : ℕ) (d : ℤ) (found : Option Value) (l : Locals) (o : Operands)
+      → increments slot d (option_map (moved_value h) found) (moved_locals h l) (moved_operands h o) ≡ moved_outcome h (increments slot d found l o)
+  increments-moves slot d (Some (Int n)) l o = ap (λ x. GoesOn x (moved_operands h o) Next) (stored-moves l slot (Int (wrapped_sum w32 n d)))
+  increments-moves slot d _ l o = refl
 
   -- ---- branches, all tests, and switches
 
@@ -166,22 +236,33 @@ module _ (h : ℕ → ℕ) where
   where-moves true = refl
   where-moves false = refl
 
-  branches-moves : (test : Test) (l : Locals) (o : Operands) → branches test (moved_locals h l) (moved_operands h o) ≡ moved_outcome h (branches test l o)
-  branches-moves (WithZero c) l (Int n ∷ below) = ap (GoesOn (moved_locals h l) (moved_operands h below)) (where-moves (compares c n (pos 0)))
-  branches-moves (OfInts c) l (Int b ∷ Int a ∷ below) = ap (GoesOn (moved_locals h l) (moved_operands h below)) (where-moves (compares c a b))
-  branches-moves (OfReferences same) l (Ref b ∷ Ref a ∷ below) = ap (GoesOn (moved_locals h l) (moved_operands h below)) (where-moves (is_same same (a == b)))
-  branches-moves (IsNull null) l (Ref r ∷ below) = ap (GoesOn (moved_locals h l) (moved_operands h below)) (where-moves (is_same null (r == 0)))
-  branches-moves _ l _ = refl
+  -- no test sees a return address
+  holds-moves : (test : Test) (o : Operands) → holds test (moved_operands h o) ≡ holds test o
+  holds-moves (WithZero c) (Int n ∷ below) = refl
+  holds-moves (OfInts c) (Int b ∷ Int a ∷ below) = refl
+  holds-moves (OfReferences same) (Ref b ∷ Ref a ∷ below) = refl
+  holds-moves (IsNull null) (Ref r ∷ below) = refl
+  holds-moves _ _ = refl
 
-  switches-moves : (keys : List ℤ) (l : Locals) (o : Operands) → switches keys (moved_locals h l) (moved_operands h o) ≡ moved_outcome h (switches keys l o)
+  goes_if-moves : (b : Option Bool) (taken : ℕ) (l : Locals) (o : Operands) → goes_if b taken (moved_locals h l) (moved_operands h o) ≡ moved_outcome h (goes_if b taken l o)
+  goes_if-moves None taken l o = refl
+  goes_if-moves (Some b) taken l o =
+      ap (λ below. GoesOn (moved_locals h l) below (where_if b)) (drop-map (moved_value h) taken o)
+      ∙ ap (GoesOn (moved_locals h l) (moved_operands h (drop taken o))) (where-moves b)
+
+  branches-moves : (test : Test) (l : Locals) (o : Operands) → branches test (moved_locals h l) (moved_operands h o) ≡ moved_outcome h (branches test l o)
+  branches-moves test l o =
+      ap (λ b. goes_if b (tests test) (moved_locals h l) (moved_operands h o)) (holds-moves test o) ∙ goes_if-moves (holds test o) (tests test) l o
+
+  switches-moves : (keys : Keys) (l : Locals) (o : Operands) → switches keys (moved_locals h l) (moved_operands h o) ≡ moved_outcome h (switches keys l o)
   switches-moves keys l (Int n ∷ below) = refl
   switches-moves keys l _ = refl
 
   -- ---- subroutines and returns
 
-  back-moves : (found : Option (Option Value)) (l : Locals) (o : Operands)
-      → goes_back (option_map (moved_slot h) found) (moved_locals h l) (moved_operands h o) ≡ moved_outcome h (goes_back found l o)
-  back-moves (Some (Some (Addr t))) l o = refl
+  back-moves : (found : Option Value) (l : Locals) (o : Operands)
+      → goes_back (option_map (moved_value h) found) (moved_locals h l) (moved_operands h o) ≡ moved_outcome h (goes_back found l o)
+  back-moves (Some (Addr t)) l o = refl
   back-moves _ l o = refl
 
   returned-moves : (d : Option Datum) → returns_datum d ≡ moved_outcome h (returns_datum d)
@@ -200,14 +281,21 @@ module _ (h : ℕ → ℕ) where
   within-moves (Constant d) l o = ap (λ v. GoesOn (moved_locals h l) (v ∷ moved_operands h o) Next) (datum-moves d)
   within-moves (Load k slot) l o = load-moves k slot l o
   within-moves (Store k slot) l o = stores-moves k slot l o
-  within-moves (Arrange forms) l o = ap (λ x. leaves x (moved_locals h l)) (arranged-moves forms o) ∙ leaves-moves (arranged forms o) l
-  within-moves (Binary op) l o = calculates-moves op l o
+  within-moves (Arrange op) l o = ap (λ x. leaves x (moved_locals h l)) (arranged-moves (forms_of op) o) ∙ leaves-moves (arranged (forms_of op) o) l
+  within-moves (BinaryOfInts op) l o = calculates-moves op l o
+  within-moves (BinaryOfLongs op) l o = calculates_long-moves op l o
+  within-moves (DivisionOfInts op) l o = divides_ints-moves op l o
+  within-moves (DivisionOfLongs op) l o = divides_longs-moves op l o
+  within-moves (ShiftOfLong op) l o = shifts-moves op l o
+  within-moves (UnaryOfInt op) l o = converts_int-moves op l o
+  within-moves (UnaryOfLong op) l o = converts_long-moves op l o
+  within-moves Lcmp l o = compares_longs-moves l o
   within-moves (Iinc slot d) l o =
-      ap (λ x. increments d slot x (moved_locals h l) (moved_operands h o)) (slice_get-map (moved_slot h) l slot) ∙ increments-moves d slot (slice_get l slot) l o
+      ap (λ x. increments slot d x (moved_locals h l) (moved_operands h o)) (local-moves l slot) ∙ increments-moves slot d (local_in l slot) l o
   within-moves (Branch test) l o = branches-moves test l o
   within-moves Goto l o = refl
   within-moves (Switch keys) l o = switches-moves keys l o
   within-moves Jsr l o = refl
   within-moves (Ret slot) l o =
-      ap (λ x. goes_back x (moved_locals h l) (moved_operands h o)) (slice_get-map (moved_slot h) l slot) ∙ back-moves (slice_get l slot) l o
+      ap (λ x. goes_back x (moved_locals h l) (moved_operands h o)) (local-moves l slot) ∙ back-moves (local_in l slot) l o
   within-moves (Return k) l o = returns-moves k o

@@ -2,11 +2,11 @@
 use Rattle.std.specs.Prelude.{◌≡◌, List, [], ◌∷◌, Some, None, pos, refl, codes}
 use Rattle.heap_objects.specs.declared.datum.Datum.TheVariants as datum
 use Rattle.heap_objects.specs.declared.Value.TheVariants.{Int, Long, Ref, Addr}
-use Rattle.jvm_model.specs.Data.{Operation, Nop, Constant, Within, Athrow, Unverifiable, Loads, Left, Unwound}
+use Rattle.jvm_model.specs.Data.{Pop, DupX1, Dup2X2, Operation, Nop, Constant, Within, Athrow, Unverifiable, Loads, Left, Unwound}
 use Rattle.jvm_model.specs.Run.{turn_in}
 use Rattle.jvm_model.specs.Activations.{trace_in}
 use Rattle.jvm_model.specs.Values.{arranged}
-use Rattle.jvm_model.specs.StackForms
+use Rattle.jvm_model.specs.StackForms.{forms_of}
 use Rattle.jvm_model.proofs.WorkedPrograms.{Routine, Sketches, after, changes_of, trace_by, member, main_member, routine, main_routine, alone, at, int, null, ireturn, returns, call}
 
 -- one class, whose main comes first
@@ -111,11 +111,11 @@ no_local_there-changes = refl
 
 -- ---- stack instructions, by which of the topmost operands are long
 
-pub dup_x1-puts : arranged StackForms.dup_x1 (Int (pos 1) ∷ Ref 2 ∷ Int (pos 3) ∷ []) ≡ Some (Int (pos 1) ∷ Ref 2 ∷ Int (pos 1) ∷ Int (pos 3) ∷ [])
+pub dup_x1-puts : arranged (forms_of DupX1) (Int (pos 1) ∷ Ref 2 ∷ Int (pos 3) ∷ []) ≡ Some (Int (pos 1) ∷ Ref 2 ∷ Int (pos 1) ∷ Int (pos 3) ∷ [])
 dup_x1-puts = refl
 
-pub dup2_x2-puts : arranged StackForms.dup2_x2 (Long (pos 1) ∷ Int (pos 2) ∷ Addr 3 ∷ []) ≡ Some (Long (pos 1) ∷ Int (pos 2) ∷ Addr 3 ∷ Long (pos 1) ∷ [])
+pub dup2_x2-puts : arranged (forms_of Dup2X2) (Long (pos 1) ∷ Int (pos 2) ∷ Addr 3 ∷ []) ≡ Some (Long (pos 1) ∷ Int (pos 2) ∷ Addr 3 ∷ Long (pos 1) ∷ [])
 dup2_x2-puts = refl
 
-pub pop-refuses : arranged StackForms.pop (Long (pos 1) ∷ []) ≡ None
+pub pop-refuses : arranged (forms_of Pop) (Long (pos 1) ∷ []) ≡ None
 pop-refuses = refl

@@ -10,8 +10,7 @@ use Rattle.const_pool.specs.declared.class.ClassFile.{ClassFile}
 use Rattle.const_pool.specs.declared.class.Member.{Member}
 use Rattle.const_pool.specs.declared.class.Attribute.TheVariants.{Code}
 use Rattle.const_pool.specs.References.{NameAndType, Reference}
-use Rattle.jvm_model.specs.Data.{Ending, Uncaught, Entry, Active, Initializing, Constant, Load, Arrange, Return, Operation, Within, Getstatic, Putstatic, Invokestatic, Invokevirtual, Instruction, Catcher, Text, World, Change, State, Turn}
-use Rattle.jvm_model.specs.StackForms
+use Rattle.jvm_model.specs.Data.{Pop, Ending, Uncaught, Entry, Active, Initializing, Constant, Load, Arrange, Return, Operation, Within, Getstatic, Putstatic, Invokestatic, Invokevirtual, Instruction, Catcher, Text, World, Change, State, Turn}
 use Rattle.jvm_model.specs.Lines.{next_of}
 use Rattle.jvm_model.specs.Programs.{numbered, class_named}
 use Rattle.jvm_model.specs.Run.{turn_in}
@@ -201,7 +200,7 @@ abbrev pub iload : ℕ → Operation
 iload slot = Within (Load kind.Int slot)
 
 abbrev pub pop : Operation
-pop = Within (Arrange StackForms.pop)
+pop = Within (Arrange Pop)
 
 abbrev pub ireturn : Operation
 ireturn = Within (Return (Some kind.Int))

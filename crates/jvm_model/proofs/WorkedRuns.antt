@@ -1,11 +1,12 @@
 -- Worked runs over lists of instructions: a loop, a subroutine, recursion.
 use Rattle.std.specs.Prelude.{◌≡◌, ℕ, zero, suc, true, false, List, [], ◌∷◌, ◌++◌, Option, Some, None, pos, negsuc, refl, codes, ◌==◌, if◌then◌else◌}
 use Rattle.std.specs.Fmt.{digits}
+use Rattle.std.specs.Int.{int_wrap}
 use Rattle.const_pool.specs.declared.descriptor.Kind.TheVariants as kind
 use Rattle.heap_objects.specs.declared.Value.TheVariants.{Int, Ref, Addr}
 use Rattle.code_model.specs.declared.laying.Homes.{Homes}
 use Rattle.code_model.specs.Layout.{found_beside}
-use Rattle.jvm_model.specs.Data.{Entry, Active, Text, Isub, Store, Binary, Iinc, WithZero, Equal, Greater, Branch, Jsr, Ret, Within, Returned}
+use Rattle.jvm_model.specs.Data.{Entry, Active, Text, Isub, Store, BinaryOfInts, Iinc, WithZero, Equal, Greater, Branch, Jsr, Ret, Within, Returned}
 use Rattle.jvm_model.specs.declared.event.Act.{Act}
 use Rattle.jvm_model.specs.Run.{turn_in}
 use Rattle.jvm_model.specs.Activations.{current, trace_in}
@@ -27,15 +28,15 @@ p2 = record {
 }
 
 pub p2-goes_on : (after p2 15).ending ≡ None
-unfolding turn_in digits
+unfolding turn_in digits int_wrap
 p2-goes_on = refl
 
 pub p2-returns : (after p2 16).ending ≡ Some Returned
-unfolding turn_in digits
+unfolding turn_in digits int_wrap
 p2-returns = refl
 
 pub p2-output : (after p2 16).output ≡ codes "0\n"
-unfolding turn_in digits
+unfolding turn_in digits int_wrap
 p2-output = refl
 
 -- ---- a subroutine: main prints s(41), which adds 1 in it
@@ -49,15 +50,15 @@ p3 = record {
 }
 
 pub p3-goes_on : (after p3 10).ending ≡ None
-unfolding turn_in digits
+unfolding turn_in digits int_wrap
 p3-goes_on = refl
 
 pub p3-returns : (after p3 11).ending ≡ Some Returned
-unfolding turn_in digits
+unfolding turn_in digits int_wrap
 p3-returns = refl
 
 pub p3-output : (after p3 11).output ≡ codes "42\n"
-unfolding turn_in digits
+unfolding turn_in digits int_wrap
 p3-output = refl
 
 -- ---- the same by homes: s behind an entry probe, with a leave probe before its return; main as it was
@@ -80,19 +81,19 @@ p3_stack = Active (record { method = 0; version = 0; place = 18; locals = Some (
     ∷ Active (record { method = 1; version = 1; place = 5; locals = Some (Ref 5) ∷ []; operands = Ref 3 ∷ [] }) ∷ []
 
 pub p3-laid_stack : (turn_in (world_by p3) p3_laid 5).after.stack ≡ p3_stack
-unfolding turn_in
+unfolding turn_in int_wrap
 p3-laid_stack = refl
 
 pub p3-moved_stack : (moved (by_homes p3_homes) (after p3 5)).stack ≡ p3_stack
-unfolding turn_in
+unfolding turn_in int_wrap
 p3-moved_stack = refl
 
 pub p3-laid_returns : (turn_in (world_by p3) p3_laid 11).after.ending ≡ Some Returned
-unfolding turn_in digits
+unfolding turn_in digits int_wrap
 p3-laid_returns = refl
 
 pub p3-laid_output : (turn_in (world_by p3) p3_laid 11).after.output ≡ codes "42\n"
-unfolding turn_in digits
+unfolding turn_in digits int_wrap
 p3-laid_output = refl
 
 -- ---- recursion: main calls r(2), which calls itself down to 0
@@ -101,18 +102,18 @@ abbrev pub recursive : Sketches
 recursive = record {
   classes = alone (codes "R") (
       routine (member (codes "r") (codes "(I)V")) 2 1 (
-      at 0 1 (iload 0) ∷ at_to 1 3 (Within (Branch (WithZero Equal))) 10 ∷ at 4 1 (iload 0) ∷ at 5 1 (int 1) ∷ at 6 1 (Within (Binary Isub))
+      at 0 1 (iload 0) ∷ at_to 1 3 (Within (Branch (WithZero Equal))) 10 ∷ at 4 1 (iload 0) ∷ at 5 1 (int 1) ∷ at 6 1 (Within (BinaryOfInts Isub))
       ∷ at 7 3 (call (codes "R") (codes "r") (codes "(I)V")) ∷ at 10 1 returns ∷ [])
       ∷ main_routine 1 (at 0 1 (int 2) ∷ at 1 3 (call (codes "R") (codes "r") (codes "(I)V")) ∷ at 4 1 returns ∷ []) ∷ []) ∷ [];
   main = 1;
 }
 
 pub recursive-goes_on : (after recursive 19).ending ≡ None
-unfolding turn_in
+unfolding turn_in int_wrap
 recursive-goes_on = refl
 
 pub recursive-returns : (after recursive 20).ending ≡ Some Returned
-unfolding turn_in
+unfolding turn_in int_wrap
 recursive-returns = refl
 
 pub recursive-trace : trace_by recursive 20 ≡ record {
@@ -122,7 +123,7 @@ pub recursive-trace : trace_by recursive 20 ≡ record {
       ∷ record { method = 0; parent = Some 2; begin = 14; «end» = Some 17 } ∷ [];
   live = [];
 }
-unfolding trace_in turn_in
+unfolding trace_in turn_in int_wrap
 recursive-trace = refl
 
 -- r is selected before the start, and deselected after the fourth step: its first activation is the root of the others
@@ -136,5 +137,5 @@ paths_by s acts (suc n) = paths_by s acts n ++ path_at acts (trace_by s (suc n))
 
 pub recursive-contexts : contexts_of (paths_of selecting_r (trace_by recursive 20).activations) (paths_by recursive selecting_r 20)
     ≡ record { path = 0 ∷ []; calls = 1; own = 7 } ∷ record { path = 0 ∷ 0 ∷ []; calls = 1; own = 7 } ∷ record { path = 0 ∷ 0 ∷ 0 ∷ []; calls = 1; own = 3 } ∷ []
-unfolding trace_in turn_in
+unfolding trace_in turn_in int_wrap
 recursive-contexts = refl

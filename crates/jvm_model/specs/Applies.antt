@@ -2,8 +2,9 @@
 use Rattle.std.specs.Prelude.{ℕ, Bool, true, false, List, [], ◌∷◌, length, Option, Some, None, slice_get, nat_le, if◌then◌else◌}
 use Rattle.std.specs.Option.{option_map}
 use Rattle.heap_objects.specs.declared.Value.TheVariants.{Addr}
+use Rattle.frame_stack.specs.Widths.{height_of}
 use Rattle.jvm_model.specs.Data.{Datum, Locals, Operands, Frame, Entry, Active, Initializing, Constants, Running, Exited, Unverifiable, State, Began, Left, Turn, Instruction, Text, Where, Next, Target, Back, Outcome, GoesOn, Subroutine, Invokes, Returns, Throws, Raises, Initializes, Exits, Breaks, World}
-use Rattle.jvm_model.specs.Values.{as_value, depth, spread, locals_with, with_value}
+use Rattle.jvm_model.specs.Values.{as_value, spread, locals_with, with_value}
 use Rattle.jvm_model.specs.Programs.{max_stack_of, max_locals_of}
 use Rattle.jvm_model.specs.SharedState.{with_phase, Allocated, raised}
 
@@ -21,7 +22,7 @@ breaks s f own = record s { stack = Active f ∷ s.stack; ending = Some (Unverif
 -- instruction at which it stood before, whose original offset is given.
 abbrev pub lands : World → State → Frame → ℕ → State
 lands w s f own =
-    if nat_le (depth f.operands) (max_stack_of w f.method) then with_frame s f else breaks s f own
+    if nat_le (height_of f.operands) (max_stack_of w f.method) then with_frame s f else breaks s f own
 
 -- with these locals and operands, at a place
 abbrev pub goes : World → State → Frame → ℕ → Locals → Operands → Option ℕ → State

@@ -8,8 +8,24 @@ pub use Rattle.jvm_model.specs.declared.ending.Ending.{Ending}
 pub use Rattle.jvm_model.specs.declared.ending.Ending.TheVariants.{Returned, Exited, Uncaught, Unverifiable}
 pub use Rattle.jvm_model.specs.declared.program.MethodPlace.{MethodPlace}
 pub use Rattle.jvm_model.specs.declared.program.Program.{Program}
-pub use Rattle.jvm_model.specs.declared.operation.IntOperator.{IntOperator}
-pub use Rattle.jvm_model.specs.declared.operation.IntOperator.TheVariants.{Iadd, Isub, Imul}
+pub use Rattle.jvm_model.specs.declared.family.IntOperator.{IntOperator}
+pub use Rattle.jvm_model.specs.declared.family.IntOperator.TheVariants.{Iadd, Isub, Imul, Ishl, Ishr, Iushr, Iand, Ior, Ixor}
+pub use Rattle.jvm_model.specs.declared.family.LongOperator.{LongOperator}
+pub use Rattle.jvm_model.specs.declared.family.LongOperator.TheVariants.{Ladd, Lsub, Lmul, Land, Lor, Lxor}
+pub use Rattle.jvm_model.specs.declared.family.Division.{Division}
+pub use Rattle.jvm_model.specs.declared.family.Division.TheVariants.{Quotient, Remainder}
+pub use Rattle.jvm_model.specs.declared.family.LongShift.{LongShift}
+pub use Rattle.jvm_model.specs.declared.family.LongShift.TheVariants.{Lshl, Lshr, Lushr}
+pub use Rattle.jvm_model.specs.declared.family.OfInt.{OfInt}
+pub use Rattle.jvm_model.specs.declared.family.OfInt.TheVariants.{Ineg, I2l, I2b, I2c, I2s}
+pub use Rattle.jvm_model.specs.declared.family.OfLong.{OfLong}
+pub use Rattle.jvm_model.specs.declared.family.OfLong.TheVariants.{Lneg, L2i}
+pub use Rattle.jvm_model.specs.declared.family.Comparison.{Comparison}
+pub use Rattle.jvm_model.specs.declared.family.Comparison.TheVariants.{Equal, NotEqual, Less, AtLeast, Greater, AtMost}
+pub use Rattle.jvm_model.specs.declared.family.Test.{Test}
+pub use Rattle.jvm_model.specs.declared.family.Test.TheVariants.{WithZero, OfInts, OfReferences, IsNull}
+pub use Rattle.jvm_model.specs.declared.family.Arrangement.{Arrangement}
+pub use Rattle.jvm_model.specs.declared.family.Arrangement.TheVariants.{Pop, Pop2, Dup, DupX1, DupX2, Dup2, Dup2X1, Dup2X2, Swap}
 pub use Rattle.jvm_model.specs.declared.state.Frame.{Frame}
 pub use Rattle.jvm_model.specs.declared.state.Part.{Part}
 pub use Rattle.jvm_model.specs.declared.state.Part.TheVariants.{Constants, Superclass, Initializer, Finish}
@@ -35,49 +51,51 @@ pub record World : Type 0 where
 
 -- ---- instructions
 
--- a comparison of two ints
-pub data Comparison : Type 0 where
-  Equal : Comparison
-  NotEqual : Comparison
-  Less : Comparison
-  AtLeast : Comparison
-  Greater : Comparison
-  AtMost : Comparison
-
--- what a branch tests: an int against zero, two ints, whether two references are the same, whether one is null
-pub data Test : Type 0 where
-  WithZero : Comparison → Test
-  OfInts : Comparison → Test
-  OfReferences : Bool → Test
-  IsNull : Bool → Test
-
 -- one form of a stack instruction: which of the topmost operands are long, and which of them are put in their place
 pub record StackForm : Type 0 where
   pub takes : List Bool
   pub puts : List ℕ
 
+-- The numbers that a switch tells apart, in the order of the targets behind the default: so many from the lowest one on, or these.
+pub data Keys : Type 0 where
+  Consecutive : ℤ → ℕ → Keys
+  Listed : List ℤ → Keys
+
 -- An instruction that sees nothing but the locals and operands of its frame, in families: those of one family differ in a
 -- constant, a kind or an operator.
 pub data Local : Type 0 where
   Nop : Local
-  -- iconst, bipush, sipush, lconst, aconst_null, ldc of a number
+  -- aconst_null, iconst, lconst, bipush, sipush, ldc of a number
   Constant : Datum → Local
   -- iload, lload, aload
   Load : Kind → ℕ → Local
   -- istore, lstore, astore
   Store : Kind → ℕ → Local
   -- pop, pop2, dup, .., swap: by the first form that fits
-  Arrange : List StackForm → Local
-  -- iadd, isub, imul
-  Binary : IntOperator → Local
-  -- iinc
+  Arrange : Arrangement → Local
+  -- iadd, .., ixor: from two ints an int
+  BinaryOfInts : IntOperator → Local
+  -- ladd, .., lxor but for the shifts: from two longs a long
+  BinaryOfLongs : LongOperator → Local
+  -- idiv, irem
+  DivisionOfInts : Division → Local
+  -- ldiv, lrem
+  DivisionOfLongs : Division → Local
+  -- lshl, lshr, lushr: of a long by an int
+  ShiftOfLong : LongShift → Local
+  -- ineg, i2l, i2b, i2c, i2s
+  UnaryOfInt : OfInt → Local
+  -- lneg, l2i
+  UnaryOfLong : OfLong → Local
+  Lcmp : Local
   Iinc : ℕ → ℤ → Local
   -- ifeq, .., if_icmpeq, .., if_acmpeq, .., ifnull, ifnonnull
   Branch : Test → Local
-  -- goto
+  -- goto, goto_w
   Goto : Local
-  -- tableswitch, lookupswitch: the keys, in the order of the targets behind the default
-  Switch : List ℤ → Local
+  -- tableswitch, lookupswitch
+  Switch : Keys → Local
+  -- jsr, jsr_w
   Jsr : Local
   Ret : ℕ → Local
   -- ireturn, lreturn, areturn, return

@@ -1,6 +1,7 @@
 pub mod Descriptors
 pub mod Methods
 pub mod Data
+pub mod Families
 pub mod Values
 pub mod StackForms
 pub mod Programs

@@ -1,47 +1,86 @@
 -- What the instruction at an offset is: its operand as a value, a slot, or the names that it refers to (JVM Specification
 -- 4.7.3, 5.4.3, 6.5). No name is looked up here.
-use Rattle.std.specs.Prelude.{ℕ, Bool, true, false, List, [], ◌∷◌, Option, Some, None, pos, negsuc, ℤ, ◌==◌, if◌then◌else◌}
+use Rattle.std.specs.Prelude.{ℕ, Bool, true, false, List, [], ◌∷◌, length, Option, Some, None, slice_get, ℤ, ◌==◌, if◌then◌else◌}
 use Rattle.std.specs.Option.{option_and_then, option_map}
 use Rattle.heap_objects.specs.declared.datum.Datum.TheVariants as datum
+use Rattle.const_pool.specs.declared.pool.Const.{Const}
+use Rattle.const_pool.specs.declared.pool.Const.TheVariants as const
 use Rattle.const_pool.specs.declared.class.ClassFile.{ClassFile}
-use Rattle.const_pool.specs.declared.descriptor.Kind.TheVariants as kind
 use Rattle.const_pool.specs.References.{Reference, named_field, named_method}
 use Rattle.code_model.specs.declared.instr.Instr.{Instr}
 use Rattle.code_model.specs.declared.instr.Arg.{Arg}
 use Rattle.code_model.specs.declared.instr.Arg.TheVariants as arg
 use Rattle.code_model.specs.Instructions.{instruction_at, end_of}
-use Rattle.jvm_model.specs.Data.{Iadd, Isub, Imul, Local, Nop, Constant, Load, Binary, Goto, Switch, Ret, Return, Operation, Within, Getstatic, Invokestatic, Invokevirtual, Athrow, Instruction}
+use Rattle.jvm_model.specs.declared.family.Family.{Family}
+use Rattle.jvm_model.specs.declared.family.Family.TheVariants as family
+use Rattle.jvm_model.specs.Data.{Datum, Keys, Consecutive, Listed, Local, Nop, Constant, Load, Store, Arrange, BinaryOfInts, BinaryOfLongs, DivisionOfInts, DivisionOfLongs, ShiftOfLong, UnaryOfInt, UnaryOfLong, Lcmp, Iinc, Branch, Goto, Switch, Jsr, Ret, Return, Operation, Within, Getstatic, Invokestatic, Invokevirtual, Athrow, Instruction}
+use Rattle.jvm_model.specs.Families.{family_of}
 use Rattle.jvm_model.specs.Methods.{method_code}
 use Rattle.jvm_model.specs.Rules.{is_out, is_println}
 
--- ---- operations
+-- ---- instructions that see their frame alone: their family with what they have of an operand
 
--- pushing an int
-abbrev pub int_constant : ℤ → Operation
-int_constant n = Within (Constant (datum.Int n))
+abbrev pub value_in : Arg → Option Datum
+value_in (arg.Value n) = Some (datum.Int n)
+value_in _ = None
 
--- The instructions without operand: nop; iconst_m1, which pushes -1, to iconst_5; iload_0 to iload_3; iadd, isub and imul;
--- ireturn and return.
-abbrev pub plain_operation : ℕ → Option Operation
-plain_operation op =
-    if op == 0 then Some (Within Nop)
-    else if op == 2 then Some (int_constant (negsuc 0))
-    else if op == 3 then Some (int_constant (pos 0))
-    else if op == 4 then Some (int_constant (pos 1))
-    else if op == 5 then Some (int_constant (pos 2))
-    else if op == 6 then Some (int_constant (pos 3))
-    else if op == 7 then Some (int_constant (pos 4))
-    else if op == 8 then Some (int_constant (pos 5))
-    else if op == 26 then Some (Within (Load kind.Int 0))
-    else if op == 27 then Some (Within (Load kind.Int 1))
-    else if op == 28 then Some (Within (Load kind.Int 2))
-    else if op == 29 then Some (Within (Load kind.Int 3))
-    else if op == 96 then Some (Within (Binary Iadd))
-    else if op == 100 then Some (Within (Binary Isub))
-    else if op == 104 then Some (Within (Binary Imul))
-    else if op == 172 then Some (Within (Return (Some kind.Int)))
-    else if op == 177 then Some (Within (Return None))
-    else None
+abbrev pub slot_in : Arg → Option ℕ
+slot_in (arg.Local slot) = Some slot
+slot_in _ = None
+
+abbrev pub increment_in : Arg → Option (ℕ × ℤ)
+increment_in (arg.Inc slot d) = Some (slot, d)
+increment_in _ = None
+
+abbrev pub target_in : Arg → Option ℕ
+target_in (arg.Target target) = Some target
+target_in _ = None
+
+abbrev pub keys_in : Arg → Option Keys
+keys_in (arg.Table default low targets) = Some (Consecutive low (length targets))
+keys_in (arg.Lookup default keys targets) = Some (Listed keys)
+keys_in _ = None
+
+-- With the constant that an ldc has. An instruction whose operand is of another form than its family needs is none; decoded code
+-- has none such.
+abbrev pub local_of : Family → Arg → Option Datum → Option Local
+local_of family.Nop a c = Some Nop
+local_of (family.Constant d) a c = Some (Constant d)
+local_of family.Given a c = option_map Constant c
+local_of family.Immediate a c = option_map Constant (value_in a)
+local_of (family.Load k) a c = option_map (Load k) (slot_in a)
+local_of (family.LoadFrom k slot) a c = Some (Load k slot)
+local_of (family.Store k) a c = option_map (Store k) (slot_in a)
+local_of (family.StoreTo k slot) a c = Some (Store k slot)
+local_of (family.Arrange op) a c = Some (Arrange op)
+local_of (family.BinaryOfInts op) a c = Some (BinaryOfInts op)
+local_of (family.BinaryOfLongs op) a c = Some (BinaryOfLongs op)
+local_of (family.DivisionOfInts op) a c = Some (DivisionOfInts op)
+local_of (family.DivisionOfLongs op) a c = Some (DivisionOfLongs op)
+local_of (family.ShiftOfLong op) a c = Some (ShiftOfLong op)
+local_of (family.UnaryOfInt op) a c = Some (UnaryOfInt op)
+local_of (family.UnaryOfLong op) a c = Some (UnaryOfLong op)
+local_of family.Lcmp a c = Some Lcmp
+local_of family.Iinc a c = option_map (λ p. Iinc p.0 p.1) (increment_in a)
+local_of (family.Branch test) a c = option_map (λ target. Branch test) (target_in a)
+local_of family.Goto a c = option_map (λ target. Goto) (target_in a)
+local_of family.Jsr a c = option_map (λ target. Jsr) (target_in a)
+local_of family.Ret a c = option_map Ret (slot_in a)
+local_of family.Switch a c = option_map Switch (keys_in a)
+local_of (family.Return k) a c = Some (Return k)
+local_of family.Elsewhere a c = None
+
+-- the number that an entry of the pool is; texts and classes are none, and no instruction pushes them so far
+abbrev pub number_of : Const → Option Datum
+number_of (const.Integer n) = Some (datum.Int n)
+number_of (const.Long n) = Some (datum.Long n)
+number_of _ = None
+
+abbrev pub constant_in : List Const → Arg → Option Datum
+constant_in pool (arg.Pool index) = option_and_then number_of (slice_get pool index)
+constant_in pool _ = None
+
+-- ---- instructions with names
 
 -- getstatic of System.out, invokevirtual of println(I)V: the part that runs so far has no others
 abbrev pub getstatic_of : Reference → Option Operation
@@ -58,15 +97,20 @@ pool_operation c op index =
     else if op == 184 then option_map Invokestatic (named_method c.pool index)
     else None
 
-abbrev pub operation_with : ClassFile → ℕ → Arg → Option Operation
-operation_with c op arg.Plain = plain_operation op
-operation_with c op (arg.Value n) = Some (int_constant n)
-operation_with c op (arg.Pool index) = pool_operation c op index
-operation_with c op _ = None
+abbrev pub named_operation : ClassFile → ℕ → Arg → Option Operation
+named_operation c op (arg.Pool index) = pool_operation c op index
+named_operation c op _ = None
+
+-- ---- every instruction
+
+-- by its family
+abbrev pub operation_by : ClassFile → ℕ → Arg → Family → Option Operation
+operation_by c op a family.Elsewhere = named_operation c op a
+operation_by c op a f = option_map Within (local_of f a (constant_in c.pool a))
 
 -- what an instruction of the class does
 abbrev pub operation_of : ClassFile → Instr → Option Operation
-operation_of c i = operation_with c i.op i.arg
+operation_of c i = operation_by c i.op i.arg (family_of i.op)
 
 -- ---- instructions
 

@@ -12,7 +12,7 @@ use Rattle.code_model.specs.declared.instr.Instr.{Instr}
 use Rattle.jvm_model.specs.declared.operation.Resolved.{Resolved}
 use Rattle.jvm_model.specs.declared.operation.Resolved.TheVariants as resolved
 use Rattle.jvm_model.specs.declared.operation.Line.{Line}
-use Rattle.jvm_model.specs.Data.{Local, Nop, Constant, Load, Binary, Return, Operation, Within, Getstatic, Invokestatic, Invokevirtual, Instruction}
+use Rattle.jvm_model.specs.Data.{IntOperator, Iadd, Isub, Imul, Local, Nop, Constant, Load, BinaryOfInts, Return, Operation, Within, Getstatic, Invokestatic, Invokevirtual, Instruction}
 use Rattle.jvm_model.specs.Descriptors.{same_text}
 use Rattle.jvm_model.specs.Methods.{method_named}
 use Rattle.jvm_model.specs.Rules.{is_out, is_println}
@@ -35,11 +35,18 @@ resolved_return None = Some resolved.Return
 resolved_return (Some kind.Int) = Some resolved.Ireturn
 resolved_return _ = None
 
+-- so far three of the operators run
+abbrev pub resolved_binary : IntOperator → Option Resolved
+resolved_binary Iadd = Some (resolved.Binary Iadd)
+resolved_binary Isub = Some (resolved.Binary Isub)
+resolved_binary Imul = Some (resolved.Binary Imul)
+resolved_binary _ = None
+
 abbrev pub resolved_local : Local → Option Resolved
 resolved_local Nop = Some resolved.Nop
 resolved_local (Constant d) = resolved_constant d
 resolved_local (Load k slot) = resolved_load k slot
-resolved_local (Binary op) = Some (resolved.Binary op)
+resolved_local (BinaryOfInts op) = resolved_binary op
 resolved_local (Return k) = resolved_return k
 resolved_local _ = None
 

@@ -64,8 +64,13 @@ fits_method k max_locals shape Return = is_none shape.result
 fits_method k max_locals shape (Invokestatic method) = nat_lt method k
 fits_method k max_locals shape _ = true
 
+-- not ldc, ldc_w and iload with an operand: they come with the larger part
+abbrev pub is_small_opcode : ℕ → Bool
+is_small_opcode op = not (op == 18 || op == 19 || op == 21)
+
 abbrev pub is_small_instr : ClassFile → ℕ → ℕ → Shape → Instr → Bool
-is_small_instr c k max_locals shape i = option_map_or (fits_method k max_locals shape) (resolved_of c i) false
+is_small_instr c k max_locals shape i =
+    is_small_opcode i.op && option_map_or (fits_method k max_locals shape) (resolved_of c i) false
 
 -- ireturn or return
 abbrev pub is_return : Instr → Bool

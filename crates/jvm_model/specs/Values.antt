@@ -1,10 +1,12 @@
 -- Values, locals and operands (JVM Specification 2.3, 2.6.1, 2.6.2, 2.11.1).
-use Rattle.std.specs.Prelude.{ℕ, zero, suc, ◌+◌, ◌-◌, Bool, true, false, not, List, [], ◌∷◌, ◌++◌, length, drop, take, reverse, replicate, Option, Some, None, slice_get, slice_set, ◌&&◌, if◌then◌else◌}
-use Rattle.std.specs.Option.{option_and_then, option_map}
+use Rattle.std.specs.Prelude.{ℕ, ◌+◌, ◌-◌, Bool, true, false, not, List, [], ◌∷◌, ◌++◌, length, drop, take, reverse, replicate, Option, Some, None, is_some, slice_get, nat_le, ◌&&◌, if◌then◌else◌, ℤ}
+use Rattle.std.specs.Option.{option_and_then, option_map, option_flatten}
 use Rattle.heap_objects.specs.declared.datum.Datum.TheVariants as datum
 use Rattle.heap_objects.specs.declared.Value.TheVariants.{Int, Long, Ref, Addr}
 use Rattle.const_pool.specs.declared.descriptor.Kind.{Kind}
 use Rattle.const_pool.specs.declared.descriptor.Kind.TheVariants as kind
+use Rattle.frame_stack.specs.Widths.{is_long, width}
+use Rattle.frame_stack.specs.FrameLists.{without_long_before, with_value as with_slot}
 use Rattle.jvm_model.specs.Data.{Datum, Value, Locals, Operands, StackForm}
 
 -- ---- values
@@ -25,47 +27,64 @@ datum_of kind.Long (Long n) = Some (datum.Long n)
 datum_of kind.Ref (Ref r) = Some (datum.Ref r)
 datum_of _ _ = None
 
--- category 2 (2.11.1)
-abbrev pub is_long : Value → Bool
-is_long (Long n) = true
-is_long _ = false
+-- a value that a descriptor of this kind may have
+abbrev pub has_kind : Kind → Value → Bool
+has_kind k v = is_some (datum_of k v)
 
-abbrev pub width : Value → ℕ
-width v = if is_long v then 2 else 1
+-- ---- operands, the topmost one last
 
--- the operand depth (2.6.2)
-abbrev pub depth : Operands → ℕ
-depth [] = 0
-depth (v ∷ below) = width v + depth below
+abbrev pub int_of : Operands → Option ℤ
+int_of (Int n ∷ below) = Some n
+int_of _ = None
+
+abbrev pub long_of : Operands → Option ℤ
+long_of (Long n ∷ below) = Some n
+long_of _ = None
+
+abbrev pub ref_of : Operands → Option ℕ
+ref_of (Ref r ∷ below) = Some r
+ref_of _ = None
+
+abbrev pub ints_of : Operands → Option (ℤ × ℤ)
+ints_of (Int b ∷ Int a ∷ below) = Some (a, b)
+ints_of _ = None
+
+abbrev pub longs_of : Operands → Option (ℤ × ℤ)
+longs_of (Long b ∷ Long a ∷ below) = Some (a, b)
+longs_of _ = None
+
+-- a long and how far it is shifted
+abbrev pub long_and_int_of : Operands → Option (ℤ × ℤ)
+long_and_int_of (Int n ∷ Long a ∷ below) = Some (a, n)
+long_and_int_of _ = None
+
+abbrev pub refs_of : Operands → Option (ℕ × ℕ)
+refs_of (Ref b ∷ Ref a ∷ below) = Some (a, b)
+refs_of _ = None
 
 -- ---- locals
 
 -- the value in a local, where it is of this kind
 abbrev pub loaded : Kind → Option (Option Value) → Option Value
-loaded k (Some (Some v)) = option_map as_value (datum_of k v)
+loaded k (Some (Some v)) = if has_kind k v then Some v else None
 loaded k _ = None
 
--- astore also takes a return address
-abbrev pub storable : Kind → Value → Option Value
-storable kind.Ref (Addr t) = Some (Addr t)
-storable k v = option_map as_value (datum_of k v)
+-- astore also takes a return address, which aload does not give back
+abbrev pub is_storable : Kind → Value → Bool
+is_storable kind.Ref (Addr t) = true
+is_storable k v = has_kind k v
 
-abbrev pub holds_long : Option (Option Value) → Bool
-holds_long (Some (Some v)) = is_long v
-holds_long _ = false
+-- what can be read from a local
+abbrev pub local_in : Locals → ℕ → Option Value
+local_in l slot = option_flatten (slice_get l slot)
 
--- a long in the slot before is unreadable from now on
-abbrev pub unpaired : Locals → ℕ → Locals
-unpaired l zero = l
-unpaired l (suc k) = if holds_long (slice_get l k) then slice_set l k None else l
+-- the frame has the slots that the value takes
+abbrev pub has_slots : Locals → ℕ → Value → Bool
+has_slots l slot v = nat_le (slot + width v) (length l)
 
--- a long takes the next slot too
-abbrev pub with_half : Bool → Locals → ℕ → Locals
-with_half true l slot = slice_set l (slot + 1) None
-with_half false l slot = l
-
+-- A long takes the next slot too. A long whose second slot is written can no longer be read.
 abbrev pub stored : Locals → ℕ → Value → Locals
-stored l slot v = with_half (is_long v) (slice_set (unpaired l slot) slot (Some v)) slot
+stored l slot v = with_slot slot v (without_long_before slot l)
 
 -- arguments from slot 0 on, a long in two
 abbrev pub spread : List Datum → Locals
@@ -78,7 +97,7 @@ spread (datum.Ref r ∷ args) = Some (Ref r) ∷ spread args
 abbrev pub locals_with : List Datum → ℕ → Locals
 locals_with args most = spread args ++ replicate (most - length (spread args)) None
 
--- ---- operands
+-- ---- arguments and stack instructions
 
 -- each value is of its parameter's kind
 abbrev pub data_of : List Kind → List Value → Option (List Datum)

@@ -6,12 +6,19 @@
 
 mod ending;
 mod event;
+mod families;
+mod family;
 mod operation;
 mod program;
 mod state;
 
 pub use ending::Ending;
 pub use event::{Act, Event, EventKind, Mark};
-pub use operation::{IntOperator, Line, Resolved};
+pub use families::family_of;
+pub use family::{
+    Arrangement, Comparison, Division, Family, IntOperator, LongOperator, LongShift, OfInt, OfLong,
+    Test,
+};
+pub use operation::{Line, Resolved};
 pub use program::{MethodPlace, Program};
 pub use state::{Entry, Frame, Made, Object, Part, Phase, Shared, State};

@@ -1,12 +1,6 @@
 //! Instructions whose names are looked up.
 
-/// An arithmetic instruction over two ints (JVM Specification 2.11.3, 6.5).
-#[derive(Clone, Copy, Debug, PartialEq, Eq)]
-pub enum IntOperator {
-    Iadd,
-    Isub,
-    Imul,
-}
+use crate::family::IntOperator;
 
 /// What an instruction of the part that runs so far does, once the names that it gives are looked up (5.4.3, 6.5).
 #[derive(Clone, Copy, Debug, PartialEq, Eq)]

@@ -4,23 +4,32 @@ use Rattle.std.specs.Prelude.{IsTrue, ◌↔◌}
 use Rattle.frame_stack.specs.FrameLists.{top_operands}
 use Rattle.jvm_basic.specs.declared.effect.Effect.{Effect}
 use Rattle.jvm_basic.specs.declared.effect.Effect.TheVariants.{Throws, Bad, Other}
-use Rattle.jvm_basic.specs.Families.{family_of}
+use Rattle.jvm_model.specs.Families.{family_of}
 use Rattle.jvm_basic.specs.Laws.{is_elsewhere, divides_by_zero}
 use Rattle.jvm_basic.specs.Needs.{is_bad}
 use Rattle.jvm_basic.specs.Outcomes.{effect_of, after}
-use Rattle.jvm_basic.specs.Rules.{arithmetic_exception, rule_of}
+use Rattle.jvm_basic.specs.Rules.{arithmetic_exception, does, rule_of}
+use Rattle.jvm_basic.proofs.Asked.{effect-is, after-is}
 use Rattle.jvm_basic.proofs.Exact.{other-exactly, throws-exactly, throws-only, kept-unless-next}
 use Rattle.jvm_basic.proofs.ItsOperand.{has-its-operand}
+use Rattle.jvm_basic.proofs.Fitting.{arithmetic-is-named}
 use Rattle.jvm_basic.proofs.Needed.{bad-exactly}
-use Rattle.jvm_basic.proofs.Rows.{arithmetic-is-named}
 use Rattle.jvm_basic.proofs.instruction.basic.Goals as goal
 
 -- the effect and the frames are the rule's
 told : (c : goal.After-do_family) → c.do_family.result ≡ effect_of (rule_of c.args.instr.now c.args.constant c.args.next) c.args.frames.now
-told c = search rules
+told c =
+    effect_told c ∙ effect-is (family_of c.args.instr.now.op) c.args.instr.now.arg c.args.constant c.args.next c.args.frames.now
+  where
+    effect_told : (c : goal.After-do_family) → c.do_family.result ≡ effect_of (does (family_of c.args.instr.now.op) c.args.instr.now.arg c.args.constant c.args.next) c.args.frames.now
+    effect_told c = search rules
 
 made : (c : goal.After-do_family) → c.do_family.new.frames ≡ after (rule_of c.args.instr.now c.args.constant c.args.next) c.args.frames.now
-made c = search rules
+made c =
+    frames_made c ∙ after-is (family_of c.args.instr.now.op) c.args.instr.now.arg c.args.constant c.args.next c.args.frames.now
+  where
+    frames_made : (c : goal.After-do_family) → c.do_family.new.frames ≡ after (does (family_of c.args.instr.now.op) c.args.instr.now.arg c.args.constant c.args.next) c.args.frames.now
+    frames_made c = search rules
 
 pub returns : goal.returns
 returns c =

@@ -1,18 +1,18 @@
 -- Which family an opcode is of, a row each (JVM Specification 6.5, 7). Behind `wide` an opcode is of the same family.
-use Rattle.std.specs.Prelude.{ℕ, true, false, List, [], ◌∷◌, pos, negsuc, ◌==◌, if◌then◌else◌}
-use Rattle.heap_objects.specs.declared.Value.TheVariants.{Int, Long, Ref}
-use Rattle.jvm_basic.specs.declared.family.Kind.TheVariants as kind
-use Rattle.jvm_basic.specs.declared.family.IntOperator.TheVariants.{Iadd, Isub, Imul, Ishl, Ishr, Iushr, Iand, Ior, Ixor}
-use Rattle.jvm_basic.specs.declared.family.LongOperator.TheVariants.{Ladd, Lsub, Lmul, Land, Lor, Lxor}
-use Rattle.jvm_basic.specs.declared.family.Division.TheVariants.{Quotient, Remainder}
-use Rattle.jvm_basic.specs.declared.family.LongShift.TheVariants.{Lshl, Lshr, Lushr}
-use Rattle.jvm_basic.specs.declared.family.OfInt.TheVariants.{Ineg, I2l, I2b, I2c, I2s}
-use Rattle.jvm_basic.specs.declared.family.OfLong.TheVariants.{Lneg, L2i}
-use Rattle.jvm_basic.specs.declared.family.Comparison.TheVariants.{Equal, NotEqual, Less, AtLeast, Greater, AtMost}
-use Rattle.jvm_basic.specs.declared.family.Test.TheVariants.{WithZero, OfInts, OfReferences, IsNull}
-use Rattle.jvm_basic.specs.declared.family.Arrangement.TheVariants.{Pop, Pop2, Dup, DupX1, DupX2, Dup2, Dup2X1, Dup2X2, Swap}
-use Rattle.jvm_basic.specs.declared.family.Family.{Family}
-use Rattle.jvm_basic.specs.declared.family.Family.TheVariants.{Nop, Constant, Given, Immediate, Load, LoadFrom, Store, StoreTo, Arrange, BinaryOfInts, BinaryOfLongs, DivisionOfInts, DivisionOfLongs, ShiftOfLong, UnaryOfInt, UnaryOfLong, Lcmp, Iinc, Branch, Goto, Jsr, Ret, Switch, Elsewhere}
+use Rattle.std.specs.Prelude.{ℕ, Some, None, true, false, List, [], ◌∷◌, pos, negsuc, ◌==◌, if◌then◌else◌}
+use Rattle.heap_objects.specs.declared.datum.Datum.TheVariants.{Int, Long, Ref}
+use Rattle.const_pool.specs.declared.descriptor.Kind.TheVariants as kind
+use Rattle.jvm_model.specs.declared.family.IntOperator.TheVariants.{Iadd, Isub, Imul, Ishl, Ishr, Iushr, Iand, Ior, Ixor}
+use Rattle.jvm_model.specs.declared.family.LongOperator.TheVariants.{Ladd, Lsub, Lmul, Land, Lor, Lxor}
+use Rattle.jvm_model.specs.declared.family.Division.TheVariants.{Quotient, Remainder}
+use Rattle.jvm_model.specs.declared.family.LongShift.TheVariants.{Lshl, Lshr, Lushr}
+use Rattle.jvm_model.specs.declared.family.OfInt.TheVariants.{Ineg, I2l, I2b, I2c, I2s}
+use Rattle.jvm_model.specs.declared.family.OfLong.TheVariants.{Lneg, L2i}
+use Rattle.jvm_model.specs.declared.family.Comparison.TheVariants.{Equal, NotEqual, Less, AtLeast, Greater, AtMost}
+use Rattle.jvm_model.specs.declared.family.Test.TheVariants.{WithZero, OfInts, OfReferences, IsNull}
+use Rattle.jvm_model.specs.declared.family.Arrangement.TheVariants.{Pop, Pop2, Dup, DupX1, DupX2, Dup2, Dup2X1, Dup2X2, Swap}
+use Rattle.jvm_model.specs.declared.family.Family.{Family}
+use Rattle.jvm_model.specs.declared.family.Family.TheVariants.{Nop, Constant, Given, Immediate, Load, LoadFrom, Store, StoreTo, Arrange, BinaryOfInts, BinaryOfLongs, DivisionOfInts, DivisionOfLongs, ShiftOfLong, UnaryOfInt, UnaryOfLong, Lcmp, Iinc, Branch, Goto, Jsr, Ret, Switch, Return, Elsewhere}
 
 pub record Row : Type 0 where
   pub op : ℕ
@@ -21,7 +21,7 @@ pub record Row : Type 0 where
 abbrev pub row : ℕ → Family → Row
 row op family = record { op = op; family = family }
 
--- An opcode without a row is done elsewhere, or stands for no instruction.
+-- An opcode without a row sees more than its frame, takes or gives a float or a double, or is no instruction.
 abbrev pub family_among : List Row → ℕ → Family
 family_among [] op = Elsewhere
 family_among (r ∷ rs) op = if op == r.op then r.family else family_among rs op
@@ -92,6 +92,8 @@ rows =
     row 165 (Branch (OfReferences true)) ∷ row 166 (Branch (OfReferences false)) ∷
     -- goto, jsr, ret, tableswitch, lookupswitch
     row 167 Goto ∷ row 168 Jsr ∷ row 169 Ret ∷ row 170 Switch ∷ row 171 Switch ∷
+    -- ireturn, lreturn, areturn, return
+    row 172 (Return (Some kind.Int)) ∷ row 173 (Return (Some kind.Long)) ∷ row 176 (Return (Some kind.Ref)) ∷ row 177 (Return None) ∷
     -- ifnull, ifnonnull
     row 198 (Branch (IsNull true)) ∷ row 199 (Branch (IsNull false)) ∷
     -- goto_w, jsr_w

@@ -1,18 +1,11 @@
 //! What an instruction does within its frame, by families (JVM Specification 2.11, 6.5): those of one family differ in a
 //! constant, a kind or an operator.
 
-use heap_objects::Value;
-
-/// The kinds of values that loads and stores tell apart.
-#[derive(Clone, Copy)]
-pub enum Kind {
-    Int,
-    Long,
-    Ref,
-}
+use const_pool::Kind;
+use heap_objects::Datum;
 
 /// From two ints an int.
-#[derive(Clone, Copy)]
+#[derive(Clone, Copy, Debug, PartialEq, Eq)]
 pub enum IntOperator {
     Iadd,
     Isub,
@@ -107,7 +100,7 @@ pub enum Arrangement {
 pub enum Family {
     Nop,
     /// aconst_null, iconst, lconst
-    Constant(Value),
+    Constant(Datum),
     /// ldc, ldc_w, ldc2_w: the constant that is given
     Given,
     /// bipush, sipush: the operand
@@ -144,6 +137,8 @@ pub enum Family {
     Ret,
     /// tableswitch, lookupswitch
     Switch,
+    /// ireturn, lreturn, areturn, return: the kind of the result, where there is one
+    Return(Option<Kind>),
     /// It needs more than its frame, takes or gives a float or a double, or is no instruction.
     Elsewhere,
 }

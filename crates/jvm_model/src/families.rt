@@ -1,15 +1,16 @@
-//! The families by opcode. A row reads `[mnemonic family]`, and `-` is an opcode that a frame does not do by itself.
+//! The families by opcode. A row reads `[mnemonic family]`, and `-` is an opcode that sees more than its frame, or none.
 
 ghost use Rattle.std.specs.Prelude.{◌≡◌, ◌<◌, Some, slice_get};
-ghost use Rattle.jvm_basic.specs.Families.{family_of};
+ghost use Rattle.jvm_model.specs.Families.{family_of};
 
 use crate::family::Arrangement::{Dup, Dup2, Dup2X1, Dup2X2, DupX1, DupX2, Pop, Pop2, Swap};
 use crate::family::Comparison::{AtLeast, AtMost, Equal, Greater, Less, NotEqual};
 use crate::family::Division::{Quotient, Remainder};
+use crate::family::Family;
 use crate::family::Family::{
     Arrange, BinaryOfInts, BinaryOfLongs, Branch, Constant, DivisionOfInts, DivisionOfLongs,
-    Elsewhere, Given, Goto, Iinc, Immediate, Jsr, Lcmp, Load, LoadFrom, Nop, Ret, ShiftOfLong,
-    Store, StoreTo, Switch, UnaryOfInt, UnaryOfLong,
+    Elsewhere, Given, Goto, Iinc, Immediate, Jsr, Lcmp, Load, LoadFrom, Nop, Ret, Return,
+    ShiftOfLong, Store, StoreTo, Switch, UnaryOfInt, UnaryOfLong,
 };
 use crate::family::IntOperator::{Iadd, Iand, Imul, Ior, Ishl, Ishr, Isub, Iushr, Ixor};
 use crate::family::LongOperator::{Ladd, Land, Lmul, Lor, Lsub, Lxor};
@@ -17,8 +18,8 @@ use crate::family::LongShift::{Lshl, Lshr, Lushr};
 use crate::family::OfInt::{I2b, I2c, I2l, I2s, Ineg};
 use crate::family::OfLong::{L2i, Lneg};
 use crate::family::Test::{IsNull, OfInts, OfReferences, WithZero};
-use crate::family::{Family, Kind};
-use heap_objects::Value::{Int, Long, Ref};
+use const_pool::Kind;
+use heap_objects::Datum::{Int, Long, Ref};
 
 macro_rules! family_row {
     (-) => {
@@ -89,9 +90,9 @@ const FAMILIES: [Family; 256] = family_rows![
     [if_icmpge Branch(OfInts(AtLeast))] [if_icmpgt Branch(OfInts(Greater))]
     [if_icmple Branch(OfInts(AtMost))] [if_acmpeq Branch(OfReferences(true))]
     [if_acmpne Branch(OfReferences(false))] [goto Goto] [jsr Jsr] [ret Ret] [tableswitch Switch]
-    [lookupswitch Switch] - - - -
+    [lookupswitch Switch] [ireturn Return(Some(Kind::Int))] [lreturn Return(Some(Kind::Long))] - -
     // 176 to 191
-    - - - - - - - - - - - - - - - -
+    [areturn Return(Some(Kind::Ref))] [return Return(None)] - - - - - - - - - - - - - -
     // 192 to 207
     - - - - - - [ifnull Branch(IsNull(true))] [ifnonnull Branch(IsNull(false))] [goto_w Goto]
     [jsr_w Jsr] - - - - - -

@@ -1,14 +1,12 @@
 -- The table of families is the definition's, row by row.
 use Rattle.std.proofs.Common.{◌≡◌, ℕ, ◌<◌, map, Some, sym, ◌∙◌, subst, refl, arith}
-use Rattle.std.specs.Prelude.{slice_get, codes}
+use Rattle.std.specs.Prelude.{slice_get}
 use Rattle.std.specs.List.{range_with_len}
 use Rattle.std.proofs.lemmas.List.FromFn.{length-map-range_with_len, get_or-map-range_with_len}
 use Rattle.std.proofs.lemmas.Option.{slice_get_within, get_or_from_slice_get}
-use Rattle.jvm_basic.specs.declared.family.Family.{Family}
-use Rattle.jvm_basic.specs.declared.families.TheConstants.{FAMILIES}
-use Rattle.const_pool.specs.BuiltIn.{built_in_names}
-use Rattle.jvm_basic.specs.Families.{rows, family_of}
-use Rattle.jvm_basic.specs.Rules.{arithmetic_exception}
+use Rattle.jvm_model.specs.declared.family.Family.{Family}
+use Rattle.jvm_model.specs.declared.families.TheConstants.{FAMILIES}
+use Rattle.jvm_model.specs.Families.{rows, family_of}
 
 families_are : FAMILIES ≡ map family_of (range_with_len 0 256)
 unfolding family_of rows
@@ -22,7 +20,3 @@ entry_of f n i r h =
 
 pub family_at : (op : ℕ) (r : Family) → slice_get FAMILIES op ≡ Some r → r ≡ family_of op
 family_at op r h = entry_of family_of 256 op r (subst (λ rows. slice_get rows op ≡ Some r) families_are h)
-
--- the exception of a zero divisor, among the built-in classes
-pub arithmetic-is-named : slice_get built_in_names arithmetic_exception ≡ Some (codes "java/lang/ArithmeticException")
-arithmetic-is-named = refl

@@ -1,5 +1,0 @@
-use Rattle.jvm_basic.proofs.Rows.{family_at}
-use Rattle.jvm_basic.proofs.families.family_of.Goals as goal
-
-pub returns : goal.returns
-returns c = family_at c.args.op c.at.result c.at.ensures
