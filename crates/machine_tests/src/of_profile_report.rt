@@ -1,9 +1,11 @@
 //! Reports over classes that are spelled as bytes.
 
 use crate::trees::{enter, leave, root, tree_of};
+use base_classes::built_in;
 use class_reader::read_class;
 use const_pool::ClassFile;
-use jvm_model::{Ending, Event};
+use jf_bytes::Seq;
+use jvm_model::{Ending, Event, MethodPlace, Program};
 use profile_report::{Facts, report};
 use std::alloc::Global;
 use std::test::Fail;
@@ -40,14 +42,42 @@ fn class_of(alloc: Global, name: &'static [u8], texts: &'static [u8]) -> Result<
     Ok(read_class(alloc, bytes.as_slice())?)
 }
 
+/// The program of such a class and the built-in ones, its three methods numbered in their order.
+fn program_of(alloc: Global, name: &'static [u8], texts: &'static [u8]) -> Result<Program, Fail> {
+    let mut classes = Seq::new(alloc);
+    classes.push(class_of(alloc, name, texts)?)?;
+    for class in built_in(alloc)? {
+        classes.push(class)?;
+    }
+    let mut methods = Seq::new(alloc);
+    for position in 0..3 {
+        methods.push(MethodPlace { class: 0, position })?;
+    }
+    Ok(Program {
+        classes,
+        methods,
+        main: M,
+        acts: Seq::new(alloc),
+        args: Seq::new(alloc),
+        heap: 4_194_304,
+    })
+}
+
 const F: u32 = 0;
 
 const M: u32 = 1;
 
-/// The report over a class and these events.
-fn over(alloc: Global, class: &ClassFile, facts: Facts, events: &[Event]) -> Result<Vec<u8>, Fail> {
+/// The report over a program and these events.
+fn over(
+    alloc: Global,
+    program: &Program,
+    facts: Facts,
+    events: &[Event],
+) -> Result<Vec<u8>, Fail> {
     let tree = tree_of(alloc, events, facts.steps)?;
-    Ok(report(alloc, &facts, &tree, class).ok().ok_or("no report")?)
+    Ok(report(alloc, &facts, &tree, program)
+        .ok()
+        .ok_or("no report")?)
 }
 
 #[test]
@@ -82,7 +112,7 @@ fn reports_each_ending(rt: HostRuntime) -> Result<(), Fail> {
             "ending unverifiable P1.main([Ljava/lang/String;)V 3\nsteps 3\nswaps 1\ntree\n1 0 0 P1.f(I)I\n",
         ),
     ];
-    let class = class_of(rt.alloc(), P1, F_MAIN_G)?;
+    let program = program_of(rt.alloc(), P1, F_MAIN_G)?;
     for (ending, expected) in table {
         let facts = Facts {
             ending,
@@ -90,7 +120,7 @@ fn reports_each_ending(rt: HostRuntime) -> Result<(), Fail> {
             swaps: 1,
             summary: false,
         };
-        let text = over(rt.alloc(), &class, facts, &[root(F, 3)])?;
+        let text = over(rt.alloc(), &program, facts, &[root(F, 3)])?;
         assert!(rt; text.as_slice() == expected.as_bytes(), "{expected}");
     }
     Ok(())
@@ -100,7 +130,7 @@ fn reports_each_ending(rt: HostRuntime) -> Result<(), Fail> {
 #[test]
 fn reports_sums_and_names_in_utf8(rt: HostRuntime) -> Result<(), Fail> {
     let alloc = rt.alloc();
-    let class = class_of(alloc, SURROGATES, F_MAIN_G)?;
+    let program = program_of(alloc, SURROGATES, F_MAIN_G)?;
     let facts = Facts {
         ending: Some(Ending::Uncaught(0)),
         steps: 12,
@@ -108,7 +138,7 @@ fn reports_sums_and_names_in_utf8(rt: HostRuntime) -> Result<(), Fail> {
         summary: true,
     };
     let events = [root(M, 0), enter(F, 3), leave(F, 7), leave(M, 11)];
-    let text = over(alloc, &class, facts, &events)?;
+    let text = over(alloc, &program, facts, &events)?;
     assert!(rt;
         text.as_slice()
             == "ending uncaught A\u{1F600}?\u{E9}\0\nsteps 12\nswaps 2\ncontexts 2\ncalls 2\nown 11\n".as_bytes()
@@ -120,7 +150,7 @@ fn reports_sums_and_names_in_utf8(rt: HostRuntime) -> Result<(), Fail> {
 #[test]
 fn reports_a_thousand_levels(rt: HostRuntime) -> Result<(), Fail> {
     let alloc = rt.alloc();
-    let class = class_of(alloc, Z, Z_MAIN_G)?;
+    let program = program_of(alloc, Z, Z_MAIN_G)?;
     let mut events = Vec::new(alloc);
     for clock in 1..1_024u64 {
         events.push(root(0, clock))?;
@@ -131,7 +161,7 @@ fn reports_a_thousand_levels(rt: HostRuntime) -> Result<(), Fail> {
         swaps: 1,
         summary: false,
     };
-    let text = over(alloc, &class, facts, events.as_slice())?;
+    let text = over(alloc, &program, facts, events.as_slice())?;
     let front =
         "ending uncaught java/lang/StackOverflowError\nsteps 1024\nswaps 1\ntree\n1 1 1023 Z.z()V\n  1 1 1022 Z.z()V\n    1 1 1021 Z.z()V\n";
     assert!(rt; text.starts_with(front.as_bytes()));
