@@ -16,17 +16,15 @@ use jvm_model::Program;
 use std::alloc::Global;
 use std::test::Fail;
 
-/// A field or a method: its flags, its name and its descriptor.
-pub(super) type Item = (u16, &'static str, &'static str);
-
-/// A class: its flags, its name, its superclass's, its superinterfaces', its fields and its methods.
+/// A class: its flags, its name, its superclass's, its superinterfaces', its fields and its methods. A field or a method is its
+/// flags, its name and its descriptor with spaces between.
 pub(super) type Shape = (
     u16,
     &'static str,
     &'static str,
     &'static [&'static str],
-    &'static [Item],
-    &'static [Item],
+    &'static [&'static str],
+    &'static [&'static str],
 );
 
 pub(super) const OBJECT: &str = "java/lang/Object";
@@ -72,9 +70,18 @@ fn put_classes(bytes: &mut Vec<u8>, at: u16, names: &[&str]) -> Result<u16, NoMe
     Ok(at)
 }
 
+/// The flags, the name and the descriptor of a member.
+fn parts_of(item: &str) -> (u16, &str, &str) {
+    let mut words = item.split(' ');
+    let access = words.next().unwrap_or("").parse().unwrap_or(0);
+    let name = words.next().unwrap_or("");
+    (access, name, words.next().unwrap_or(""))
+}
+
 /// Puts the names and descriptors of members.
-fn put_texts(bytes: &mut Vec<u8>, items: &[Item]) -> Result<(), NoMemory> {
-    for (_, name, descriptor) in items {
+fn put_texts(bytes: &mut Vec<u8>, items: &[&str]) -> Result<(), NoMemory> {
+    for item in items {
+        let (_, name, descriptor) = parts_of(item);
         put_text(bytes, name)?;
         put_text(bytes, descriptor)?;
     }
@@ -93,11 +100,12 @@ fn put_indices(bytes: &mut Vec<u8>, count: usize) -> Result<(), NoMemory> {
 }
 
 /// Puts members, of which the first one's name stands at this index. Gives the index behind their texts.
-fn put_members(bytes: &mut Vec<u8>, at: u16, items: &[Item]) -> Result<u16, NoMemory> {
+fn put_members(bytes: &mut Vec<u8>, at: u16, items: &[&str]) -> Result<u16, NoMemory> {
     let mut at = at;
     put_count(bytes, items.len())?;
-    for (access, _, _) in items {
-        put_number(bytes, *access)?;
+    for item in items {
+        let (access, _, _) = parts_of(item);
+        put_number(bytes, access)?;
         put_number(bytes, at)?;
         put_number(bytes, at.saturating_add(1))?;
         put_number(bytes, 0)?;

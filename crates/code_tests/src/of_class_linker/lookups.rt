@@ -1,7 +1,7 @@
 //! Fields, methods and layouts of loaded classes, and subtypes.
 
 use super::classes::{
-    CLASS, INTERFACE, Item, OBJECT, Shape, class_named, is_loaded, is_named, linker_of, text,
+    CLASS, INTERFACE, OBJECT, Shape, class_named, is_loaded, is_named, linker_of, text,
 };
 use base_classes::built_in_name;
 use class_linker::{Linker, Loaded, Resolved};
@@ -9,40 +9,27 @@ use const_pool::Kind;
 use std::alloc::Global;
 use std::test::Fail;
 
-const F: Item = (0, "f", "I");
-
-const V: Item = (1, "v", "()I");
-
-const W: Item = (1, "w", "()I");
-
 /// D has f above it twice; A is the superclass of an interface; S has the methods of H and implements it not.
 static SHAPES: [Shape; 12] = [
-    (CLASS, "A", OBJECT, &[], &[F], &[]),
+    (CLASS, "A", OBJECT, &[], &["0 f I"], &[]),
     (INTERFACE, "I", "A", &[], &[], &[]),
-    (CLASS, "C", OBJECT, &["I"], &[(0, "g", "J")], &[]),
-    (INTERFACE, "G", OBJECT, &[], &[(25, "f", "I")], &[]),
+    (CLASS, "C", OBJECT, &["I"], &["0 g J"], &[]),
+    (INTERFACE, "G", OBJECT, &[], &["25 f I"], &[]),
     (INTERFACE, "G2", OBJECT, &["G"], &[], &[]),
-    (
-        CLASS,
-        "D",
-        "A",
-        &["G2"],
-        &[(8, "s", "I"), (2, "o", "[I")],
-        &[],
-    ),
+    (CLASS, "D", "A", &["G2"], &["8 s I", "2 o [I"], &[]),
     (
         INTERFACE,
         "H",
         OBJECT,
         &[],
         &[],
-        &[(1025, "v", "()I"), (1025, "w", "()I"), (1025, "x", "()I")],
+        &["1025 v ()I", "1025 w ()I", "1025 x ()I"],
     ),
-    (CLASS, "S", OBJECT, &[], &[], &[V, W]),
+    (CLASS, "S", OBJECT, &[], &[], &["1 v ()I", "1 w ()I"]),
     (CLASS, "T", "S", &["H"], &[], &[]),
-    (CLASS, "U", "T", &[], &[], &[(9, "v", "()I"), (1, "v", "()J")]),
+    (CLASS, "U", "T", &[], &[], &["9 v ()I", "1 v ()J"]),
     (INTERFACE, "H2", OBJECT, &["H"], &[], &[]),
-    (CLASS, "E", "D", &[], &[(0, "g", "B"), (0, "z", "Z")], &[]),
+    (CLASS, "E", "D", &[], &["0 g B", "0 z Z"], &[]),
 ];
 
 fn shapes() -> &'static [Shape] {
@@ -103,7 +90,14 @@ static ROWS: [Row; 24] = [
     ("D", Sought::Field, "f", "I", "G", Some(0)),
     ("D", Sought::Field, "o", "[I", "D", Some(1)),
     ("D", Sought::Field, "s", "I", "D", Some(0)),
-    ("java/lang/System", Sought::Field, "nope", "I", NO_FIELD, None),
+    (
+        "java/lang/System",
+        Sought::Field,
+        "nope",
+        "I",
+        NO_FIELD,
+        None,
+    ),
     (
         "java/lang/System",
         Sought::Field,
@@ -121,9 +115,23 @@ static ROWS: [Row; 24] = [
     ("U", Sought::InterfaceMethod, "v", "()I", INCOMPATIBLE, None),
     ("H", Sought::Method, "v", "()I", INCOMPATIBLE, None),
     ("H2", Sought::InterfaceMethod, "w", "()I", "H", Some(1)),
-    ("H2", Sought::InterfaceMethod, "hashCode", "()I", OBJECT, Some(2)),
+    (
+        "H2",
+        Sought::InterfaceMethod,
+        "hashCode",
+        "()I",
+        OBJECT,
+        Some(2),
+    ),
     ("H2", Sought::InterfaceMethod, "y", "()I", NO_METHOD, None),
-    (OBJECT, Sought::InterfaceMethod, "length", "()I", INCOMPATIBLE, None),
+    (
+        OBJECT,
+        Sought::InterfaceMethod,
+        "length",
+        "()I",
+        INCOMPATIBLE,
+        None,
+    ),
     (
         OBJECT,
         Sought::Method,
@@ -185,7 +193,10 @@ fn members_by_name_and_descriptor(rt: HostRuntime) -> Result<(), Fail> {
     for (name, sought, member, descriptor, wanted, place) in rows() {
         let class = class_named(&linker, name);
         let given = found(alloc, &linker, class, sought, member, descriptor)?;
-        assert!(rt; is_wanted(&linker, given, wanted, *place), "{member} of {name}");
+        assert!(rt;
+            is_wanted(&linker, given, wanted, *place),
+            "{member} of {name}"
+        );
     }
     Ok(())
 }

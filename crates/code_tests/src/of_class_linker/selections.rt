@@ -4,23 +4,23 @@ ghost use Rattle.std.specs.Prelude.{IsTrue};
 ghost use Rattle.class_linker.specs.Linkers.{IsKnown};
 
 use super::classes::{
-    CLASS, INTERFACE, Item, OBJECT, Shape, class_named, is_loaded, is_named, linker_of, text,
+    CLASS, INTERFACE, OBJECT, Shape, class_named, is_loaded, is_named, linker_of, text,
 };
 use class_linker::{Linker, Loaded};
 use std::alloc::Global;
 use std::test::Fail;
 
-const PACKAGE: Item = (0, "v", "()I");
+const PACKAGE: &str = "0 v ()I";
 
-const PUBLIC: Item = (1, "v", "()I");
+const PUBLIC: &str = "1 v ()I";
 
-const PRIVATE: Item = (2, "v", "()I");
+const PRIVATE: &str = "2 v ()I";
 
-const PROTECTED: Item = (4, "v", "()I");
+const PROTECTED: &str = "4 v ()I";
 
-const STATIC: Item = (9, "v", "()I");
+const STATIC: &str = "9 v ()I";
 
-const ABSTRACT: Item = (1025, "v", "()I");
+const ABSTRACT: &str = "1025 v ()I";
 
 /// Most of them have v.
 static SHAPES: [Shape; 16] = [
@@ -78,12 +78,7 @@ static SELECTIONS: [(&str, &str, bool, Option<&str>); 18] = [
     ("N", "T", true, None),
 ];
 
-fn selections() -> &'static [(
-    &'static str,
-    &'static str,
-    bool,
-    Option<&'static str>,
-)] {
+fn selections() -> &'static [(&'static str, &'static str, bool, Option<&'static str>)] {
     &SELECTIONS
 }
 
@@ -189,12 +184,13 @@ fn subtypes() -> &'static [(&'static str, &'static str, bool)] {
     &SUBTYPES
 }
 
-/// The kind of a name that can be loaded.
-fn kind_of(alloc: Global, linker: &mut Linker, name: &str) -> Result<u32, Fail> {
-    match linker.load(&text(alloc, name)?) {
-        Loaded::New(kind, _) => Ok(kind),
-        Loaded::Already(kind) => Ok(kind),
-        _ => Err("not loaded".into()),
+/// The kind of a name, which is loaded.
+fn kind_of(alloc: Global, linker: &mut Linker, name: &str) -> Option<u32> {
+    let name = text(alloc, name).ok()?;
+    match linker.load(&name) {
+        Loaded::New(kind, _) => Some(kind),
+        Loaded::Already(kind) => Some(kind),
+        _ => None,
     }
 }
 
@@ -213,8 +209,10 @@ fn is_known(linker: &Linker, kind: u32) -> bool
     users <= 4096 && is_loaded(linker, users as u32 + (base - 16))
 }
 
-/// Whether one kind is a subtype of another; None where it is not known.
-fn subtype(linker: &Linker, lower: u32, upper: u32) -> Option<bool> {
+/// Whether what has the one name's kind also has the other's; None where that is not known.
+fn subtype(alloc: Global, linker: &mut Linker, below: &str, above: &str) -> Option<bool> {
+    let lower = kind_of(alloc, linker, below)?;
+    let upper = kind_of(alloc, linker, above)?;
     if !is_known(linker, lower) {
         return None;
     }
@@ -226,9 +224,7 @@ fn subtypes_of_kinds(rt: HostRuntime) -> Result<(), Fail> {
     let alloc = rt.alloc();
     let mut linker = loaded(alloc)?;
     for (below, above, wanted) in subtypes() {
-        let lower = kind_of(alloc, &mut linker, below)?;
-        let upper = kind_of(alloc, &mut linker, above)?;
-        let given = subtype(&linker, lower, upper);
+        let given = subtype(alloc, &mut linker, below, above);
         assert!(rt; given == Some(*wanted), "{below} and {above}");
     }
     Ok(())
