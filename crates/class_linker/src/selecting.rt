@@ -91,7 +91,14 @@ fn candidate(
 {
     let wanted = signature_of(index, m)?;
     let position = method_at(index, &wanted, class)?;
-    if fits(index, rows, interface, m, Place { class, position }, passing) {
+    if fits(
+        index,
+        rows,
+        interface,
+        m,
+        Place { class, position },
+        passing,
+    ) {
         Some(position)
     } else {
         None
