@@ -7,4 +7,7 @@ mod Begun
 pub mod Subtypes
 mod OverridingLaws
 pub mod OverridingTest
+mod Chains
+mod PassedOn
+mod Searches
 mod WorkedAnswers

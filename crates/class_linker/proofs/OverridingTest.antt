@@ -64,7 +64,7 @@ any_of test (x ∷ xs) c there h = by (either (c == x) (is_among c xs) there) (�
     by (inr k) rest = ap (λ b. test x || b) (rest k) ∙ or_true (test x)
 
 module _ (p : Program) where
-  stands : (m1 m2 : MemberPlace) → IsBelow p m1 m2 → stands_below p m1 m2 ≡ true
+  pub stands : (m1 m2 : MemberPlace) → IsBelow p m1 m2 → stands_below p m1 m2 ≡ true
   stands m1 m2 b = joined (m1.class == m2.class) (is_subtype p m1.class m2.class) (is_declared_as p m1 m2) b.other b.sub b.declared
 
   -- ---- what a class reaches
@@ -115,7 +115,7 @@ module _ (p : Program) where
       all_five (stands_below p m1 i.m3) (stands_below p i.m3 m2) (not (is_private p i.m3)) (is_open p i.m3) (is_reached p i.m3.class m2)
       (stands m1 i.m3 i.lower) (stands i.m3 m2 i.upper) (not_false (is_private p i.m3) i.own) i.free i.reaches
 
-  passed_if : (m1 m2 : MemberPlace) → list_any (passed_at p m1 m2) (supertypes p m1.class) ≡ true → IsPassed m1 m2
+  pub passed_if : (m1 m2 : MemberPlace) → list_any (passed_at p m1 m2) (supertypes p m1.class) ≡ true → IsPassed m1 m2
   passed_if m1 m2 h =
       let one = one_of (passed_at p m1 m2) (supertypes p m1.class) h in
       by one.class (signature_of p m2) one.passes
@@ -130,7 +130,7 @@ module _ (p : Program) where
       by class None h = absurd (false_true h)
       by class (Some w) h = at class (method_at p w class) h
 
-  if_passed : (m1 m2 : MemberPlace) → IsPassed m1 m2 → list_any (passed_at p m1 m2) (supertypes p m1.class) ≡ true
+  pub if_passed : (m1 m2 : MemberPlace) → IsPassed m1 m2 → list_any (passed_at p m1 m2) (supertypes p m1.class) ≡ true
   if_passed m1 m2 i =
       let d = declared p i.m3 m2 i.upper.declared in
       any_of (passed_at p m1 m2) (supertypes p m1.class) i.m3.class i.lower.sub

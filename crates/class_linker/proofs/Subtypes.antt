@@ -39,7 +39,7 @@ found_behind : (f : ℕ → List ℕ) (d : ℕ) (ds : List ℕ) (x : ℕ) → Is
 found_behind f d ds x i =
     record { class = i.class; there = ap (λ b. (i.class == d) || b) i.there ∙ or_true (i.class == d); within = i.within }
 
-among_flat : (f : ℕ → List ℕ) (ds : List ℕ) (x : ℕ) → is_among x (flat_map f ds) ≡ true → IsIn f ds x
+pub among_flat : (f : ℕ → List ℕ) (ds : List ℕ) (x : ℕ) → is_among x (flat_map f ds) ≡ true → IsIn f ds x
 among_flat f [] x h = absurd (false_true h)
 among_flat f (d ∷ ds) x h =
     by (either (is_among x (f d)) (is_among x (flat_map f ds)) (sym (among-append x (f d) (flat_map f ds)) ∙ h)) (among_flat f ds x)
@@ -129,13 +129,13 @@ module _ (p : Program) (rows : Rows) (are : AreRows p rows) where
   nonempty : (c : ℕ) → has_row rows c ≡ true → 0 < length p.classes
   nonempty c has = subst (λ n. 0 < n) are.places (rows_nonempty rows c has)
 
-  above_direct : (c d x : ℕ) → has_row rows c ≡ true → is_among d (interfaces_of p c ++ superclass_of p c) ≡ true
+  pub above_direct : (c d x : ℕ) → has_row rows c ≡ true → is_among d (interfaces_of p c ++ superclass_of p c) ≡ true
       → is_among x (supertypes p d) ≡ true → is_among x (supertypes p c) ≡ true
   above_direct c d x has there h =
       ap (is_among x) (stepped c has)
       ∙ (ap (λ b. (x == c) || b) (flat_among (supertypes p) (interfaces_of p c ++ superclass_of p c) d x there h) ∙ or_true (x == c))
 
-  direct_has : (c d : ℕ) → has_row rows c ≡ true → is_among d (interfaces_of p c ++ superclass_of p c) ≡ true → has_row rows d ≡ true
+  pub direct_has : (c d : ℕ) → has_row rows c ≡ true → is_among d (interfaces_of p c ++ superclass_of p c) ≡ true → has_row rows d ≡ true
   direct_has c d has there =
       above_has c d has (above_direct c d d has there (among_own (length p.classes) d (nonempty c has)))
 

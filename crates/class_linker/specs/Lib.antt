@@ -2,3 +2,4 @@ pub mod Rows
 pub mod States
 pub mod Linkers
 pub mod Places
+pub mod Passing

@@ -146,7 +146,7 @@ impl Linker {
     /// The method that an object of the receiver's class has for a method of a class: by class and position. With `interface` it is
     /// the nearest instance method of the same name and descriptor, as invokeinterface takes it, and invokespecial from the direct
     /// superclass; else the nearest one that is the method or overrides it, as invokevirtual takes it. None where there is none or
-    /// it is abstract.
+    /// it is abstract. It looks into each superclass of the receiver once, and goes through supertypes once at most.
     pub fn select(
         &self,
         receiver: u32,

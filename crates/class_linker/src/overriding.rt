@@ -112,7 +112,7 @@ fn is_declared_as(index: &Index, m1: Place, m2: Place) -> bool
 }
 
 /// Whether the class of the first method is a proper subtype of the second one's, with the same name and descriptor.
-fn stands_below(index: &Index, rows: &[Option<Row>], m1: Place, m2: Place) -> bool
+pub fn stands_below(index: &Index, rows: &[Option<Row>], m1: Place, m2: Place) -> bool
     requires rows { AreRows index.now rows.now }
     requires has { has_row rows.now m1.class ≡ true }
     ensures { result ≡ stands_below index.now (at_place m1) (at_place m2) }
@@ -123,7 +123,7 @@ fn stands_below(index: &Index, rows: &[Option<Row>], m1: Place, m2: Place) -> bo
 }
 
 /// Whether the method can be overridden from the class itself.
-fn is_reached(index: &Index, class: u32, m: Place) -> bool
+pub fn is_reached(index: &Index, class: u32, m: Place) -> bool
     ensures { result ≡ is_reached index.now class (at_place m) }
 {
     !is_private(index, m) && (is_open(index, m) || same_package(index, class, m.class))
@@ -175,7 +175,7 @@ fn passed_among(index: &Index, rows: &[Option<Row>], m1: Place, m2: Place, class
 }
 
 /// Whether such a method is declared above the first one.
-fn is_passed(index: &Index, rows: &[Option<Row>], m1: Place, m2: Place) -> bool
+pub fn is_passed(index: &Index, rows: &[Option<Row>], m1: Place, m2: Place) -> bool
     requires rows { AreRows index.now rows.now }
     requires first { has_row rows.now m1.class ≡ true }
     ensures { result ≡ list_any (passed_at index.now (at_place m1) (at_place m2))

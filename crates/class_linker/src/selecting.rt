@@ -1,13 +1,17 @@
 //! Which method is invoked (JVM Specification chapter 6, invokevirtual, invokeinterface and invokespecial).
 
-ghost use Rattle.std.specs.Prelude.{◌≡◌, true};
+ghost use Rattle.std.specs.Prelude.{◌≡◌, false, true};
 ghost use Rattle.std.specs.Option.{option_map};
 ghost use Rattle.class_index.specs.Lookup.{first_in};
-ghost use Rattle.class_index.specs.Selection.{candidate, fits, nearest, same_member, selected};
+ghost use Rattle.class_index.specs.Selection.{candidate, fits, nearest, overrides, same_member};
+ghost use Rattle.class_index.specs.Selection.{selected};
+ghost use Rattle.class_linker.specs.Passing.{IsChain, IsUnpassed};
 ghost use Rattle.class_linker.specs.Places.{at_place};
 ghost use Rattle.class_linker.specs.Rows.{AreRows, all_rows, has_row};
 
-use crate::overriding::{is_abstract, is_static, overrides, signature_of};
+use crate::overriding::{
+    is_abstract, is_passed, is_reached, is_static, signature_of, stands_below,
+};
 use crate::place::Place;
 use crate::rows::Row;
 use crate::walks::superclasses_of;
@@ -19,13 +23,55 @@ fn same_member(a: Place, b: Place) -> bool
     a.class == b.class && a.position == b.position
 }
 
-/// Whether a class may have the method for the resolved one.
-fn fits(index: &Index, rows: &[Option<Row>], interface: bool, m: Place, own: Place) -> bool
+/// Whether the first method overrides the second. That some method passes the second on is asked while it is not known that none
+/// does.
+fn overrides_while(
+    index: &Index,
+    rows: &[Option<Row>],
+    own: Place,
+    m: Place,
+    passing: &mut bool,
+) -> bool
     requires rows { AreRows index.now rows.now }
     requires has { has_row rows.now own.class ≡ true }
-    ensures { result ≡ fits index.now interface (at_place m) (at_place own) }
+    requires known { passing.old ≡ false → IsUnpassed index.now (at_place m) own.class }
+    ensures test { result ≡ overrides index.now (at_place own) (at_place m) }
+    ensures known { passing.new ≡ false → IsUnpassed index.now (at_place m) own.class }
 {
-    !is_static(index, own) && (interface || (same_member(own, m) || overrides(index, rows, own, m)))
+    if !stands_below(index, rows, own, m) {
+        return false;
+    }
+    if is_reached(index, own.class, m) {
+        return true;
+    }
+    if *passing {
+        *passing = is_passed(index, rows, own, m);
+    }
+    *passing
+}
+
+/// Whether a class may have the method for the resolved one.
+fn fits(
+    index: &Index,
+    rows: &[Option<Row>],
+    interface: bool,
+    m: Place,
+    own: Place,
+    passing: &mut bool,
+) -> bool
+    requires rows { AreRows index.now rows.now }
+    requires has { has_row rows.now own.class ≡ true }
+    requires known { passing.old ≡ false → IsUnpassed index.now (at_place m) own.class }
+    ensures test { result ≡ fits index.now interface (at_place m) (at_place own) }
+    ensures known { passing.new ≡ false → IsUnpassed index.now (at_place m) own.class }
+{
+    if is_static(index, own) {
+        return false;
+    }
+    if interface || same_member(own, m) {
+        return true;
+    }
+    overrides_while(index, rows, own, m, passing)
 }
 
 /// What the class has for the resolved method.
@@ -35,21 +81,31 @@ fn candidate(
     interface: bool,
     m: Place,
     class: u32,
+    passing: &mut bool,
 ) -> Option<u16>
     requires rows { AreRows index.now rows.now }
     requires has { has_row rows.now class ≡ true }
-    ensures { result ≡ candidate index.now interface (at_place m) class }
+    requires known { passing.old ≡ false → IsUnpassed index.now (at_place m) class }
+    ensures found { result ≡ candidate index.now interface (at_place m) class }
+    ensures known { passing.new ≡ false → IsUnpassed index.now (at_place m) class }
 {
     let wanted = signature_of(index, m)?;
     let position = method_at(index, &wanted, class)?;
-    if fits(index, rows, interface, m, Place { class, position }) {
+    if fits(
+        index,
+        rows,
+        interface,
+        m,
+        Place { class, position },
+        passing,
+    ) {
         Some(position)
     } else {
         None
     }
 }
 
-/// The first that one of the classes has.
+/// The first that one of the classes has. Where nothing passes the method on to a class, nothing does to those behind it.
 fn first_candidate(
     index: &Index,
     rows: &[Option<Row>],
@@ -59,11 +115,13 @@ fn first_candidate(
 ) -> Option<Place>
     requires rows { AreRows index.now rows.now }
     requires have { all_rows rows.now classes.now ≡ true }
+    requires chain { IsChain index.now classes.now }
     ensures { option_map at_place result
         ≡ first_in (candidate index.now interface (at_place m)) classes.now }
 {
+    let mut passing = true;
     for class in classes {
-        if let Some(position) = candidate(index, rows, interface, m, *class) {
+        if let Some(position) = candidate(index, rows, interface, m, *class, &mut passing) {
             return Some(Place {
                 class: *class,
                 position,

@@ -4,6 +4,7 @@ ghost use Rattle.std.specs.Prelude.{◌≡◌, true};
 ghost use Rattle.class_index.specs.Layouts.{layout};
 ghost use Rattle.class_index.specs.Lookup.{is_subtype, superclasses, superinterfaces, supertypes};
 ghost use Rattle.class_index.specs.Orders.{IsSearchedAs};
+ghost use Rattle.class_linker.specs.Passing.{IsChain};
 ghost use Rattle.class_linker.specs.Rows.{AreRows, all_rows, has_row};
 
 use crate::rows::{
@@ -18,6 +19,7 @@ pub fn superclasses_of<'a>(index: &Index, rows: &'a [Option<Row>], class: u32) -
     requires has { has_row rows.now class ≡ true }
     ensures all { result.now ≡ superclasses index.now class }
     ensures rows { all_rows rows.now result.now ≡ true }
+    ensures chain { IsChain index.now result.now }
 {
     superclasses_in(rows, class)
 }

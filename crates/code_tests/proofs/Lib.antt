@@ -1,1 +1,2 @@
 mod WorkedRecords
+mod Lists

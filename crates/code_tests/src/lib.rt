@@ -5,6 +5,8 @@
 #[cfg(test)]
 mod of_base_classes;
 #[cfg(test)]
+mod of_class_linker;
+#[cfg(test)]
 mod of_code_model;
 #[cfg(test)]
 mod of_event_buffer;

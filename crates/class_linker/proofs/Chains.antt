@@ -1,0 +1,58 @@
+-- The superclasses of a loaded class are each below those behind it.
+use Rattle.std.proofs.Common.{◌≡◌, ℕ, zero, suc, true, false, List, ◌++◌, ap, sym, subst, refl, ◌∙◌, arith, inl, inr}
+use Rattle.std.specs.Prelude.{Option, Some, None, flat_map, ◌⊎◌, ◌==◌, ◌||◌}
+use Rattle.std.specs.Option.{option_to_list}
+use Rattle.std.proofs.lemmas.List.{append-nil}
+use Rattle.jvm_model.specs.declared.program.Program.{Program}
+use Rattle.jvm_model.specs.Programs.{super_of}
+use Rattle.class_index.specs.Load.{is_among}
+use Rattle.class_index.specs.Lookup.{interfaces_of, is_subtype, superclass_of, superclasses_within}
+use Rattle.class_index.proofs.OrderLemmas.{equal}
+use Rattle.class_linker.specs.Passing.{IsChain}
+use Rattle.class_linker.specs.Rows.{AreRows, Rows, has_row}
+use Rattle.class_linker.proofs.LoadLemmas.{among-append}
+use Rattle.class_linker.proofs.OverridingLaws.{either, or_true}
+use Rattle.class_linker.proofs.Subtypes.{IsIn, above_direct, among_flat, direct_has, itself}
+
+false_true : false ≡ true → ⊥
+false_true e = cc
+
+equals_itself : (n : ℕ) → (n == n) ≡ true
+equals_itself n = grind (arith)
+
+-- what stands in the second of two lists
+among_second : (x : ℕ) (xs ys : List ℕ) → is_among x ys ≡ true → is_among x (xs ++ ys) ≡ true
+among_second x xs ys h = among-append x xs ys ∙ (ap (λ b. is_among x xs || b) h ∙ or_true (is_among x xs))
+
+module _ (p : Program) (rows : Rows) (are : AreRows p rows) where
+  -- a superclass is a direct supertype
+  direct : (c s : ℕ) → is_among s (superclass_of p c) ≡ true → is_among s (interfaces_of p c ++ superclass_of p c) ≡ true
+  direct c s there = among_second s (interfaces_of p c) (superclass_of p c) there
+
+  -- each superclass is a supertype
+  supers_above : (n c d : ℕ) → has_row rows c ≡ true → is_among d (superclasses_within p n c) ≡ true → is_subtype p c d ≡ true
+  supers_above zero c d has h = absurd (false_true h)
+  supers_above (suc n) c d has h =
+      by (either (d == c) (is_among d (flat_map (superclasses_within p n) (superclass_of p c))) h) (supers_above n)
+    where
+      behind : IsIn (superclasses_within p n) (superclass_of p c) d
+          → ((s x : ℕ) → has_row rows s ≡ true → is_among x (superclasses_within p n s) ≡ true → is_subtype p s x ≡ true) → is_subtype p c d ≡ true
+      behind i rest =
+          let there = direct c i.class i.there in
+          above_direct p rows are c i.class d has there (rest i.class d (direct_has p rows are c i.class has there) i.within)
+
+      by : ((d == c) ≡ true) ⊎ (is_among d (flat_map (superclasses_within p n) (superclass_of p c)) ≡ true)
+          → ((s x : ℕ) → has_row rows s ≡ true → is_among x (superclasses_within p n s) ≡ true → is_subtype p s x ≡ true) → is_subtype p c d ≡ true
+      by (inl same) rest = ap (is_subtype p c) (equal d c same) ∙ itself p rows are c has
+      by (inr k) rest = behind (among_flat (superclasses_within p n) (superclass_of p c) d k) rest
+
+  pub chain : (n c : ℕ) → has_row rows c ≡ true → IsChain p (superclasses_within p n c)
+  chain zero c has = tt
+  chain (suc n) c has = (λ d there. supers_above (suc n) c d has (ap (λ b. (d == c) || b) there ∙ or_true (d == c)), by (super_of p c) refl (chain n))
+    where
+      by : (o : Option ℕ) → super_of p c ≡ o → ((s : ℕ) → has_row rows s ≡ true → IsChain p (superclasses_within p n s))
+          → IsChain p (flat_map (superclasses_within p n) (option_to_list o))
+      by None is rest = tt
+      by (Some s) is rest =
+          let there : is_among s (superclass_of p c) ≡ true = ap (λ o. is_among s (option_to_list o)) is ∙ ap (λ b. b || false) (equals_itself s) in
+          subst (IsChain p) (sym (append-nil (superclasses_within p n s))) (rest s (direct_has p rows are c s has (direct c s there)))

@@ -1,0 +1,38 @@
+-- A search upwards: what is known of the classes that are left.
+use Rattle.std.proofs.Common.{◌≡◌, ℕ, ◌+◌, ◌<◌, true, List, ◌∷◌, length, drop, get_or, add-one, ap, sym, subst, ◌∙◌, arith}
+use Rattle.std.specs.Prelude.{Option, Some, None, ◌==◌, ◌||◌}
+use Rattle.std.specs.Option.{option_map_or}
+use Rattle.std.proofs.Math.Seq.{drop-cons}
+use Rattle.jvm_model.specs.declared.program.Program.{Program}
+use Rattle.class_index.specs.Load.{is_among}
+use Rattle.class_index.specs.Lookup.{MemberPlace, first_in, place_in}
+use Rattle.class_index.proofs.MemberTexts.{both}
+use Rattle.class_linker.specs.Passing.{AreUnpassed, IsChain, IsUnpassed}
+use Rattle.class_linker.specs.Rows.{AreRows, Rows, all_rows, has_row}
+use Rattle.class_linker.proofs.PassedOn.{unpassed_above}
+
+equals_itself : (n : ℕ) → (n == n) ≡ true
+equals_itself n = grind (arith)
+
+-- those that are left
+pub left : (xs : List ℕ) (i : ℕ) → i < length xs → drop i xs ≡ get_or xs i 0 ∷ drop (i + 1) xs
+left xs i within = rw (add-one, drop-cons xs i 0 within)
+
+-- a class that has none is passed over
+pub passed_over : (at : ℕ → Option ℕ) (cs : List ℕ) (c : ℕ) (rest : List ℕ) → cs ≡ c ∷ rest → at c ≡ None → first_in at rest ≡ first_in at cs
+passed_over at cs c rest e none =
+    sym (ap (first_in at) e ∙ ap (λ o. option_map_or (λ position. Some (place_in c position)) o (first_in at rest)) none)
+
+pub first_has : (rows : Rows) (cs : List ℕ) (c : ℕ) (rest : List ℕ) → cs ≡ c ∷ rest → all_rows rows cs ≡ true
+    → (has_row rows c ≡ true) × (all_rows rows rest ≡ true)
+first_has rows cs c rest e have = both (has_row rows c) (all_rows rows rest) (sym (ap (all_rows rows) e) ∙ have)
+
+pub first : (p : Program) (m : MemberPlace) (cs : List ℕ) (c : ℕ) (rest : List ℕ) → cs ≡ c ∷ rest → AreUnpassed p m cs → IsUnpassed p m c
+first p m cs c rest e all = all c (ap (is_among c) e ∙ ap (λ b. b || is_among c rest) (equals_itself c))
+
+pub chain_behind : (p : Program) (cs : List ℕ) (c : ℕ) (rest : List ℕ) → cs ≡ c ∷ rest → IsChain p cs → IsChain p rest
+chain_behind p cs c rest e chain = (subst (IsChain p) e chain).1
+
+pub behind : (p : Program) (rows : Rows) → AreRows p rows → (m : MemberPlace) (cs : List ℕ) (c : ℕ) (rest : List ℕ) → cs ≡ c ∷ rest → IsChain p cs
+    → has_row rows c ≡ true → IsUnpassed p m c → AreUnpassed p m rest
+behind p rows are m cs c rest e chain has none d there = unpassed_above p rows are m c d has ((subst (IsChain p) e chain).0 d there) none

@@ -1,0 +1,23 @@
+use Rattle.std.proofs.Common.{sym, ◌∙◌}
+use Rattle.class_index.specs.Selection.{candidate}
+use Rattle.class_linker.specs.Places.{at_place}
+use Rattle.class_linker.proofs.Searches.{behind, chain_behind, first, first_has, left, passed_over}
+use Rattle.class_linker.proofs.selecting.first_candidate.Goals as goal
+
+pub candidate-requires-clause-known : goal.candidate-requires-clause-known
+candidate-requires-clause-known c =
+    λ none. first c.args.index.now (at_place c.args.m) _ _ _ (left c.args.classes.now c.loop-class.class-index c.loop-class-test.true)
+    (c.loop-class.invariant.known none)
+
+pub loop-class-preserved : goal.loop-class-preserved
+loop-class-preserved c =
+    let e = left c.args.classes.now c.loop-class.class-index c.loop-class-test.true in
+    let have = first_has c.args.rows.now _ _ _ e c.loop-class.invariant.rows in
+    record {
+      decides = passed_over (candidate c.args.index.now c.args.interface (at_place c.args.m)) _ _ _ e (sym c.candidate.ensures.found ∙ c.in_default.is)
+          ∙ c.loop-class.invariant.decides;
+      rows = have.1;
+      chain = chain_behind c.args.index.now _ _ _ e c.loop-class.invariant.chain;
+      known = λ none. behind c.args.index.now c.args.rows.now c.requires.rows (at_place c.args.m) _ _ _ e c.loop-class.invariant.chain have.0
+          (c.candidate.ensures.known none);
+    }

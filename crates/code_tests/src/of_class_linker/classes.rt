@@ -1,0 +1,238 @@
+//! Classes that are written out: made as bytes, read, and put before the built-in ones.
+
+ghost use Rattle.std.specs.Prelude.{◌≡◌, ◌++◌, IfSome, IsTrue};
+ghost use Rattle.std.specs.List.{AllByRecursion};
+ghost use Rattle.const_pool.specs.ClassFile.{IsClassFile};
+ghost use Rattle.class_index.specs.Indices.{IsLinkable};
+ghost use Rattle.class_index.specs.Load.{is_among};
+ghost use Rattle.class_linker.specs.Linkers.{IsLoaded};
+
+use base_classes::built_in;
+use class_linker::Linker;
+use class_reader::read_class;
+use const_pool::ClassFile;
+use jf_bytes::{NoMemory, Seq, Text16, from_utf8};
+use jvm_model::Program;
+use std::alloc::Global;
+use std::test::Fail;
+
+/// A class: its flags, its name, its superclass's, its superinterfaces', its fields and its methods. A field or a method is its
+/// flags, its name and its descriptor with spaces between.
+pub(super) type Shape = (
+    u16,
+    &'static str,
+    &'static str,
+    &'static [&'static str],
+    &'static [&'static str],
+    &'static [&'static str],
+);
+
+pub(super) const OBJECT: &str = "java/lang/Object";
+
+/// The flags of a class, and of an interface.
+pub(super) const CLASS: u16 = 0x21;
+
+pub(super) const INTERFACE: u16 = 0x601;
+
+// ---- a class as bytes
+
+fn put_number(bytes: &mut Vec<u8>, number: u16) -> Result<(), NoMemory> {
+    bytes.extend_from_slice(&number.to_be_bytes())?;
+    Ok(())
+}
+
+fn put_count(bytes: &mut Vec<u8>, count: usize) -> Result<(), NoMemory> {
+    put_number(bytes, u16::try_from(count).unwrap_or(u16::MAX))
+}
+
+/// Puts a Utf8 entry.
+fn put_text(bytes: &mut Vec<u8>, text: &str) -> Result<(), NoMemory> {
+    bytes.push(1)?;
+    put_count(bytes, text.len())?;
+    bytes.extend_from_slice(text.as_bytes())?;
+    Ok(())
+}
+
+/// Puts a name, which stands at this index, and the class of that name. Gives the index behind both.
+fn put_class(bytes: &mut Vec<u8>, at: u16, name: &str) -> Result<u16, NoMemory> {
+    put_text(bytes, name)?;
+    bytes.push(7)?;
+    put_number(bytes, at)?;
+    Ok(at.saturating_add(2))
+}
+
+/// Puts names and the classes of those names. Gives the index behind all of them.
+fn put_classes(bytes: &mut Vec<u8>, at: u16, names: &[&str]) -> Result<u16, NoMemory> {
+    let mut at = at;
+    for name in names {
+        at = put_class(bytes, at, name)?;
+    }
+    Ok(at)
+}
+
+/// The flags, the name and the descriptor of a member.
+fn parts_of(item: &str) -> (u16, &str, &str) {
+    let mut words = item.split(' ');
+    let access = words.next().unwrap_or("").parse().unwrap_or(0);
+    let name = words.next().unwrap_or("");
+    (access, name, words.next().unwrap_or(""))
+}
+
+/// Puts the names and descriptors of members.
+fn put_texts(bytes: &mut Vec<u8>, items: &[&str]) -> Result<(), NoMemory> {
+    for item in items {
+        let (_, name, descriptor) = parts_of(item);
+        put_text(bytes, name)?;
+        put_text(bytes, descriptor)?;
+    }
+    Ok(())
+}
+
+/// Puts the indices of so many classes, from the third one of the pool on.
+fn put_indices(bytes: &mut Vec<u8>, count: usize) -> Result<(), NoMemory> {
+    let mut index: u16 = 6;
+    put_count(bytes, count)?;
+    for _ in 0..count {
+        put_number(bytes, index)?;
+        index = index.saturating_add(2);
+    }
+    Ok(())
+}
+
+/// Puts members, of which the first one's name stands at this index. Gives the index behind their texts.
+fn put_members(bytes: &mut Vec<u8>, at: u16, items: &[&str]) -> Result<u16, NoMemory> {
+    let mut at = at;
+    put_count(bytes, items.len())?;
+    for item in items {
+        let (access, _, _) = parts_of(item);
+        put_number(bytes, access)?;
+        put_number(bytes, at)?;
+        put_number(bytes, at.saturating_add(1))?;
+        put_number(bytes, 0)?;
+        at = at.saturating_add(2);
+    }
+    Ok(at)
+}
+
+/// The bytes of a class of version 49.0.
+fn bytes_of(alloc: Global, shape: &Shape) -> Result<Vec<u8>, NoMemory> {
+    let (access, name, above, interfaces, fields, methods) = shape;
+    let mut pool = Vec::new(alloc);
+    let at = put_classes(&mut pool, 1, &[name, above])?;
+    let at = put_classes(&mut pool, at, interfaces)?;
+    put_texts(&mut pool, fields)?;
+    put_texts(&mut pool, methods)?;
+    let mut body = Vec::new(alloc);
+    for number in [*access, 2, 4] {
+        put_number(&mut body, number)?;
+    }
+    put_indices(&mut body, interfaces.len())?;
+    let at = put_members(&mut body, at, fields)?;
+    let at = put_members(&mut body, at, methods)?;
+    put_number(&mut body, 0)?;
+    let mut bytes = Vec::from_slice(alloc, b"\xCA\xFE\xBA\xBE\0\0\0\x31")?;
+    put_number(&mut bytes, at)?;
+    bytes.extend_from_slice(pool.as_slice())?;
+    bytes.extend_from_slice(body.as_slice())?;
+    Ok(bytes)
+}
+
+// ---- a program
+
+fn class_of(alloc: Global, shape: &Shape) -> Option<ClassFile>
+    ensures { IfSome result IsClassFile }
+{
+    let bytes = bytes_of(alloc, shape).ok()?;
+    read_class(alloc, bytes.as_slice()).ok()
+}
+
+#[tactic(auto, using(crate::proofs::Lists::all_more))]
+fn classes_of(alloc: Global, shapes: &[Shape]) -> Option<Vec<ClassFile>>
+    ensures { IfSome result (λ classes. AllByRecursion IsClassFile classes.items) }
+{
+    let mut classes = Vec::new(alloc);
+    for shape in shapes {
+        classes.push(class_of(alloc, shape)?).ok()?;
+    }
+    Some(classes)
+}
+
+/// The classes, and the built-in ones behind them.
+#[tactic(auto, using(crate::proofs::Lists::all_both))]
+fn all_of(alloc: Global, shapes: &[Shape]) -> Option<Vec<ClassFile>>
+    ensures { IfSome result (λ classes. AllByRecursion IsClassFile classes.items) }
+{
+    let mut classes = classes_of(alloc, shapes)?;
+    let mut more = built_in(alloc).ok()?;
+    classes.append(&mut more).ok()?;
+    Some(classes)
+}
+
+fn program_of(alloc: Global, shapes: &[Shape]) -> Option<Program>
+    ensures { IfSome result IsLinkable }
+{
+    let classes = all_of(alloc, shapes)?;
+    if classes.len() > 4149 {
+        return None;
+    }
+    Some(Program {
+        classes: Seq::from_vec(classes),
+        methods: Seq::new(alloc),
+        main: 0,
+        acts: Seq::new(alloc),
+        args: Seq::new(alloc),
+        heap: 0,
+    })
+}
+
+/// A linker for these classes and the built-in ones.
+pub(super) fn linker_of(alloc: Global, shapes: &[Shape]) -> Result<Linker, Fail> {
+    let program = program_of(alloc, shapes).ok_or("a program")?;
+    Ok(Linker::new(alloc, program)?)
+}
+
+// ---- names
+
+pub(super) fn text(alloc: Global, ascii: &str) -> Result<Text16, NoMemory> {
+    from_utf8(alloc, ascii)
+}
+
+/// Whether the class at this position has this name.
+pub(super) fn is_named(linker: &Linker, class: u32, name: &str) -> bool {
+    match linker.program().classes.get(class as usize) {
+        Some(file) => match file.pool.class_name(file.this_class) {
+            Ok(own) => own.is_bytes(name.as_bytes()),
+            Err(_) => false,
+        },
+        None => false,
+    }
+}
+
+/// Whether these are the classes of these names, in order.
+pub(super) fn are_named(linker: &Linker, classes: &[u32], names: &[&str]) -> bool {
+    if classes.len() != names.len() {
+        return false;
+    }
+    for (class, name) in classes.iter().zip(names) {
+        if !is_named(linker, *class, name) {
+            return false;
+        }
+    }
+    true
+}
+
+/// The position of the loaded class of this name, or one that no class has.
+pub(super) fn class_named(linker: &Linker, name: &str) -> u32 {
+    for class in linker.loaded() {
+        if is_named(linker, *class, name) {
+            return *class;
+        }
+    }
+    u32::MAX
+}
+
+pub(super) fn is_loaded(linker: &Linker, class: u32) -> bool
+    ensures { IsTrue result → IsLoaded linker.now class }
+{
+    linker.loaded().contains(&class)
+}
