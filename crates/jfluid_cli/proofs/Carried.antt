@@ -37,7 +37,7 @@ pub carried-early : (c : Call) (r : Refusal) → c.kept ≡ None
     → IsUntold c.streams.out c.streams.out_after → IsUntold c.streams.report c.streams.report_after
     → IsEarly (given_of c) r
     → HasFetchCause (file_word c.words) c.files c.files_after (status_of r)
-    → (status_of r ≡ 3 → (k : ClassFile) (main : ℕ) → IsAccepted (given_of c) k main → ⊥)
+    → (status_of r ≡ 3 → (p : Program) → IsAccepted (given_of c) p → ⊥)
     → IsCarried c (Err r)
 carried-early c r none out report early fetch file = record {
   always = record {

@@ -5,10 +5,12 @@ use Rattle.std.specs.Prelude.{◌⊎◌}
 use Rattle.jf_bytes.specs.Streams.{Told, HasTold, IsFetched}
 use Rattle.class_reader.specs.declared.error.ReadError.{ReadError}
 use Rattle.const_pool.specs.declared.class.ClassFile.{ClassFile}
+use Rattle.jvm_model.specs.declared.program.Program.{Program}
 use Rattle.class_reader.specs.Files.{IsFile, IsFirstFault, most_bytes}
 use Rattle.admit_check.specs.declared.error.AdmitError.{AdmitError}
 use Rattle.small_program.specs.declared.admission.Refused.{Refused}
 use Rattle.small_program.specs.declared.admission.Refused.TheVariants as refused
+use Rattle.jvm_model.specs.Programs.{first_class}
 use Rattle.jfluid_cli.specs.declared.asking.Asked.{Asked}
 use Rattle.jfluid_cli.specs.declared.refusal.Refusal.{Refusal}
 use Rattle.jfluid_cli.specs.declared.refusal.Refusal.TheVariants.{Words, BadRoot, NotRead, NotAdmitted, NotBuilt, NotBuiltPlan, NotFetched, NoMemory}

@@ -5,6 +5,7 @@ use Rattle.std.proofs.lemmas.Bool.{cases_eq}
 use Rattle.std.proofs.lemmas.Option.{same_Some, none-some}
 use Rattle.jf_bytes.specs.Streams.{Told, IsToldAs, PutsAll, PutsFront, Rose, contents_at}
 use Rattle.const_pool.specs.declared.class.ClassFile.{ClassFile}
+use Rattle.jvm_model.specs.declared.program.Program.{Program}
 use Rattle.class_reader.specs.Files.{IsFile}
 use Rattle.jvm_model.specs.Programs.{first_class}
 use Rattle.jvm_model.specs.Run.{ending_of}
@@ -137,7 +138,7 @@ answered-run c status carried =
       words_only = λ none. absurd (no-command c none (k.1.command, origin-accepts c k.0 k.1));
       plan_only = λ words. absurd (not-fine c words (k.1.command, origin-accepts c k.0 k.1));
       file_only = λ unfit calm. absurd (kept-fit c k.0 k.1 unfit);
-      complete = λ class main a calm. inl (run-complete c status k.0 class main k.1 k.2 k.3 a calm);
+      complete = λ p a calm. inl (run-complete c status k.0 p k.1 k.2 k.3 a calm);
     }
 
 -- ---- a refusal
@@ -186,17 +187,17 @@ file-only c r known always refused unfit calm =
     (refused.made six) always.origin always.only in kept-fit c k.0 k.1 unfit)
     (λ seven. calm_not_rose c.files.faults c.files_after.faults calm (refused.not_fetched seven))
 
-refused-complete : (c : Call) (r : Refusal) (class : ClassFile) (main : ℕ)
-    → IsRefusalStatus (status_of r) → IsRefused c r → IsAccepted (given_of c) class main → AllCalm c
+refused-complete : (c : Call) (r : Refusal) (p : Program)
+    → IsRefusalStatus (status_of r) → IsRefused c r → IsAccepted (given_of c) p → AllCalm c
     → status_of r ≡ 9
-refused-complete c r class main known refused a calm =
+refused-complete c r p known refused a calm =
     elim (else-memory (status_of r) known
     (λ two. refused.due.words two a.command a.accepts)
     (λ six. calm_not_rose c.streams.out.faults c.streams.out_after.faults calm.out
     (refused.stopped six))
     (λ seven. calm_not_rose c.files.faults c.files_after.faults calm.files
     (refused.not_fetched seven))) [
-      | inl three ↦ absurd (refused.file three class main a)
+      | inl three ↦ absurd (refused.file three p a)
       | inr nine ↦ nine
     ]
 
@@ -215,8 +216,7 @@ answered-refusal c r status is known always refused line =
           (none-accepted c r refused (not-fine c words));
       file_only = λ unfit calm. subst (λ (s : ℕ). (s ≡ 3) ⊎ (s ≡ 9)) (sym is)
           (file-only c r here always refused unfit calm);
-      complete = λ class main a calm. inr
-          (is ∙ refused-complete c r class main here refused a calm);
+      complete = λ p a calm. inr (is ∙ refused-complete c r p here refused a calm);
     }
 
 -- the call once the line was put
