@@ -1,6 +1,5 @@
 -- Records of events byte by byte, each behind an event of the clock that is named first.
 use Rattle.std.proofs.Common.{◌≡◌, ℕ, ◌/◌, ◌%◌, ◌+◌, ◌≤◌, List, [], ◌∷◌, ◌++◌, drop, refl, ap, ◌∙◌, arith}
-use Rattle.jvm_model.specs.declared.event.Event.{Event}
 use Rattle.jvm_model.specs.declared.event.EventKind.TheVariants.{Root, Enter, Leave, Unwind}
 use Rattle.event_buffer.specs.Records.{record_of, leb128}
 use Rattle.event_buffer.proofs.Leb128.{leb128-small, leb128-large}
