@@ -11,9 +11,7 @@ ghost use Rattle.jvm_machine.specs.Flows.{loads_int, calculates_in, returns_int,
 use crate::flow::Flow;
 use crate::frames::{take_ints, take_print};
 use heap_objects::{Datum, Value};
-use int_ops::{
-    add_i32, and_i32, mul_i32, or_i32, shl_i32, shr_i32, sub_i32, ushr_i32, xor_i32,
-};
+use int_ops::{add_i32, and_i32, mul_i32, or_i32, shl_i32, shr_i32, sub_i32, ushr_i32, xor_i32};
 use jf_bytes::{NoMemory, Seq};
 use jvm_model::{Frame, IntOperator, Resolved};
 use std::alloc::Global;
