@@ -5,3 +5,5 @@ pub mod Framing
 pub mod InstrsIn
 pub mod Tabling
 pub mod Causes
+pub mod Rooms
+pub mod SoundMoves

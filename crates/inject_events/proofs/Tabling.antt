@@ -30,7 +30,7 @@ length-handlers (h ∷ hs) =
     let others = length-handlers hs in
     omega arith
 
-length-code_bytes : (c : CodeAttribute) → length (code_bytes c) ≡ 12 + length c.code + 8 * length c.handlers + length (flat_map raw_bytes c.attributes)
+pub length-code_bytes : (c : CodeAttribute) → length (code_bytes c) ≡ 12 + length c.code + 8 * length c.handlers + length (flat_map raw_bytes c.attributes)
 length-code_bytes c =
     let tables = counted raw_bytes c.attributes in
     let behind = counted handler_bytes c.handlers ++ tables in

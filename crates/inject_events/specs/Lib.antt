@@ -4,3 +4,4 @@ pub mod Settings
 pub mod Tables
 pub mod Rewriting
 pub mod Answers
+pub mod SoundTables

@@ -5,6 +5,7 @@ ghost use Rattle.const_pool.specs.declared.tail.TailError.{TailError as TheTailE
 ghost use Rattle.inject_events.specs.Answers.{IsReadableClass, IsImageAnswer};
 ghost use Rattle.inject_events.specs.Rewriting.{original_of, image_with_methods, image_of_marked, refused_of_marked, image_of, refused_of};
 ghost use Rattle.inject_events.specs.Settings.{setting_of};
+ghost use Rattle.inject_events.specs.SoundTables.{MovesSoundTables};
 
 use crate::copying::copy_members;
 use crate::error::{Cause, InjectError};
@@ -98,8 +99,10 @@ pub fn image_of(
     requires class { IsReadableClass class.now }
     requires first { first ≤ 2147418112 }
     requires marks { length marks.now ≡ length class.now.methods }
-    ensures { IsImageAnswer result (refused_of class.now first marks.now)
+    ensures answer { IsImageAnswer result (refused_of class.now first marks.now)
         (image_of class.now first marks.now) }
+    // Tables that keep to their grammars are moved.
+    ensures moves { MovesSoundTables (setting_of class.now) }
 {
     if all_off(marks) {
         Ok(original_of(alloc, class)?)
