@@ -1,6 +1,7 @@
 pub mod Acts
 pub mod Admitted
 pub mod CodeLengths
+pub mod CodesRead
 pub mod Completed
 pub mod Decoded
 pub mod Entries

@@ -135,6 +135,15 @@ read_as decoded = option_map (λ (code : Code). Ok code.instrs) decoded
 abbrev pub readings_of : ClassFile → List (Option (Result (List Instr) CodeError))
 readings_of c = map reading_of c.methods
 
+-- the bytes of a code are instructions
+pub record IsRead (bytes : List ℕ) : Type 0 where
+  pub instrs : List Instr
+  pub read : instructions_of bytes ≡ Ok instrs
+
+-- the codes of methods are
+abbrev pub AreRead : List Member → Type 0
+AreRead methods = (k : ℕ) (m : Member) (code : CodeAttribute) → slice_get methods k ≡ Some m → code_of m ≡ Some code → IsRead code.code
+
 -- a code has 1 to 65,535 bytes (4.7.3)
 abbrev pub HasCodeLength : CodeAttribute → Type 0
 HasCodeLength code = (0 < length code.code) × (length code.code ≤ 65535)

@@ -5,7 +5,8 @@ ghost use Rattle.std.specs.List.{AllByRecursion};
 ghost use Rattle.const_pool.specs.ClassFile.{IsClassFile};
 ghost use Rattle.admit_check.specs.Admission.{admission_of, IsSoundProgram};
 ghost use Rattle.admit_check.specs.Stages.{Answers, AreBuiltIn, HasNumbers, Passes};
-ghost use Rattle.admit_check.specs.Admission.{classes_fault};
+ghost use Rattle.admit_check.specs.Admission.{class_fault, classes_fault};
+ghost use Rattle.admit_check.specs.Codes.{AreRead};
 ghost use Rattle.admit_check.specs.Stages.{code_fault_of, class_fault_among, with_name_of};
 ghost use Rattle.admit_check.specs.Admission.{program_with, completed, admission};
 
@@ -33,7 +34,8 @@ const USUAL_HEAP: u32 = 4_194_304;
 /// The faults of a class's codes.
 fn check_code(alloc: Global, number: u32, class: &ClassFile) -> Result<(), AdmitError>
     requires { IsClassFile class.now }
-    ensures { Passes result (code_fault_of number class.now) }
+    ensures passes { Passes result (code_fault_of number class.now) }
+    ensures read { OnOk result (AreRead class.now.methods) }
 {
     match check_codes(alloc, number, class) {
         Ok(codes) => pass(floating_fault(number, class, codes.as_slice())),
@@ -59,7 +61,8 @@ fn check_class(
     names: &NameSet,
 ) -> Result<(), AdmitError>
     requires { IsClassFile class.now }
-    ensures { Passes result (class_fault_among names.now number class.now) }
+    ensures passes { Passes result (class_fault_among names.now number class.now) }
+    ensures read { OnOk result (AreRead class.now.methods) }
 {
     if let Some(fault) = name_fault(number, class, names) {
         return Err(fault);
@@ -68,6 +71,15 @@ fn check_class(
         return Err(fault);
     }
     check_code(alloc, number, class)
+}
+
+/// Whether admission takes a class where it is the first one, or its fault: its name, its shape, its codes, its floating point.
+pub fn admit_class(alloc: Global, class: &ClassFile) -> Result<(), AdmitError>
+    requires { IsClassFile class.now }
+    ensures admitted { Passes result (class_fault [] 0 class.now) }
+    ensures read { OnOk result (AreRead class.now.methods) }
+{
+    check_class(alloc, 0, class, &NameSet::new(alloc))
 }
 
 /// Adds the class's name.

@@ -13,5 +13,5 @@ mod texts;
 mod twins;
 mod uses;
 
-pub use admission::admit;
+pub use admission::{admit, admit_class};
 pub use error::{AdmitError, CodeCause, Place, ShapeCause};

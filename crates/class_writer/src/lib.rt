@@ -8,4 +8,4 @@ mod numbers;
 mod room;
 mod writer;
 
-pub use writer::write_class;
+pub use writer::{write_class, write_fitting};

@@ -70,6 +70,16 @@ fn push_class(alloc: Global, out: &mut Vec<u8>, class: &ClassFile) -> Result<(),
     push_body(out, class)
 }
 
+/// The bytes of a class whose counts and lengths fit their fields (JVM Specification 4), whatever its indices name.
+pub fn write_fitting(alloc: Global, class: &ClassFile) -> Result<Vec<u8>, NoMemory>
+    requires { FitsClass class.now }
+    ensures { IfOk result (λ bytes. bytes.items ≡ class_bytes class.now) }
+{
+    let mut bytes = Vec::with_capacity(alloc, class_len(class))?;
+    push_class(alloc, &mut bytes, class)?;
+    Ok(bytes)
+}
+
 /// The bytes of a class file (JVM Specification 4), from which a reader makes this class again. The bytes are written
 /// into memory that is taken in one piece; beside it each text of the constant pool takes its own length for a moment.
 #[tactic(auto, using(crate::proofs::Fitting::fits_class))]

@@ -36,7 +36,7 @@ no_fault (why.BadSwitch at) code none = absurd none
 
 -- ---- they are groups
 
-instrs_of-groups : (leave : List ℕ) (instrs : List Instr) → instrs_of (map (group_of leave) instrs) ≡ instrs
+pub instrs_of-groups : (leave : List ℕ) (instrs : List Instr) → instrs_of (map (group_of leave) instrs) ≡ instrs
 instrs_of-groups leave [] = refl
 instrs_of-groups leave (i ∷ rest) = ap (λ (is : List Instr). i ∷ is) (instrs_of-groups leave rest)
 

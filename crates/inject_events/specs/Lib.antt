@@ -1,2 +1,7 @@
 pub mod Instrumentable
 pub mod Probing
+pub mod Settings
+pub mod Tables
+pub mod Rewriting
+pub mod Answers
+pub mod SoundTables

@@ -24,7 +24,7 @@ pub struct Image {
 }
 
 /// The class with this pool and these methods.
-fn class_with(
+pub(crate) fn class_with(
     alloc: Global,
     class: &ClassFile,
     pool: Pool,
@@ -47,7 +47,7 @@ fn class_with(
 }
 
 /// No homes, for so many methods.
-fn no_homes(alloc: Global, methods: &[Member]) -> Result<Seq<Option<Homes>>, NoMemory>
+pub(crate) fn no_homes(alloc: Global, methods: &[Member]) -> Result<Seq<Option<Homes>>, NoMemory>
     ensures { IfOk result (λ homes. homes ≡ map (λ m. None) methods.now) }
 {
     let mut homes = Seq::with_capacity(alloc, methods.len())?;
@@ -71,7 +71,7 @@ fn original(alloc: Global, class: &ClassFile) -> Result<Image, NoMemory>
 }
 
 /// The position of the first marked method: so many are not, in front of it.
-fn first_marked(marks: &[Mark]) -> u16
+pub(crate) fn first_marked(marks: &[Mark]) -> u16
     requires { length marks.now ≤ 65535 }
     ensures { result ≡ first_marked marks.now }
 {

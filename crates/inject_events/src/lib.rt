@@ -1,12 +1,19 @@
 //! Rewrites the methods of a class with probes: at their entry, before each return, and where an exception leaves them.
 #![tactic(auto)]
 
+mod classes;
 mod copying;
 mod error;
+mod frame_tables;
 mod image;
+mod members;
 mod methods;
 mod probes;
+mod rewriting;
+mod settings;
+mod tables;
 mod versions;
 
+pub use classes::image_of;
 pub use error::{Cause, InjectError};
 pub use image::{Image, instrument};

@@ -35,7 +35,7 @@ pub fn all_off(marks: &[Mark]) -> bool
 }
 
 /// A method's code, where it has one.
-fn code_of(member: &Member) -> Option<&CodeAttribute>
+pub(crate) fn code_of(member: &Member) -> Option<&CodeAttribute>
     ensures { option_copied result ≡ code_of member.now }
 {
     for attribute in member.attributes.as_slice() {
@@ -47,7 +47,7 @@ fn code_of(member: &Member) -> Option<&CodeAttribute>
 }
 
 /// The number of the next method that has code, where this one would have this number.
-fn next_number(number: u32, member: &Member) -> u32
+pub(crate) fn next_number(number: u32, member: &Member) -> u32
     requires { number < 4294967295 }
     ensures { result ≡ next_number number member.now }
 {
@@ -73,7 +73,11 @@ fn with_code_at(
 }
 
 /// A method with this code in place of its own.
-fn with_code(alloc: Global, code: &CodeAttribute, member: &Member) -> Result<Member, NoMemory>
+pub(crate) fn with_code(
+    alloc: Global,
+    code: &CodeAttribute,
+    member: &Member,
+) -> Result<Member, NoMemory>
     ensures { IfOk result (λ new. new ≡ with_code code.now member.now) }
 {
     let mut attributes = Seq::with_capacity(alloc, member.attributes.len())?;
@@ -96,7 +100,7 @@ pub struct MethodImage {
 }
 
 /// The original method.
-fn original_image(alloc: Global, member: &Member) -> Result<MethodImage, NoMemory>
+pub(crate) fn original_image(alloc: Global, member: &Member) -> Result<MethodImage, NoMemory>
     ensures { IfOk result (λ image. image ≡ record { member = member.now; homes = None }) }
 {
     Ok(MethodImage {
@@ -143,7 +147,7 @@ fn method_image(
 }
 
 /// What is told where the method at this position gets no version.
-fn refusal(position: u16, reason: NoVersion) -> InjectError
+pub(crate) fn refusal(position: u16, reason: NoVersion) -> InjectError
     ensures { result ≡ refusal position reason }
 {
     match reason {

@@ -3,6 +3,7 @@
 ghost use Rattle.std.specs.Prelude.{◌≡◌, ℕ, [], ◌∷◌, ◌++◌};
 ghost use Rattle.jvm_model.specs.Versions.{probe_bytes, entry_index};
 ghost use Rattle.inject_events.specs.Probing.{IsTailBehind, probes_of};
+ghost use Rattle.inject_events.specs.Settings.{entry_in, probes_in};
 
 use const_pool::Tail;
 use jvm_model::Mark;
@@ -72,6 +73,27 @@ pub fn probes_of(tail: &Tail, number: u32, mark: Mark) -> Probes
 {
     Probes {
         entry: probe(number, entry_index(tail, mark)),
+        leave: probe(number, tail.leave),
+        unwind: unwind(number, tail.unwind),
+    }
+}
+
+/// Which method of the probe class is told at the entry.
+fn entry_in(tail: &Tail, mark: Mark) -> u16
+    ensures { result ≡ entry_in tail.now mark }
+{
+    match mark {
+        Mark::Root => tail.root,
+        Mark::Plain | Mark::Off => tail.enter,
+    }
+}
+
+/// The probes of the method with this number.
+pub(crate) fn probes_in(tail: &Tail, number: u32, mark: Mark) -> Probes
+    ensures { result ≡ probes_in tail.now number mark }
+{
+    Probes {
+        entry: probe(number, entry_in(tail, mark)),
         leave: probe(number, tail.leave),
         unwind: unwind(number, tail.unwind),
     }

@@ -45,7 +45,11 @@ fn group_of(alloc: Global, leave: &[u8], instr: Instr) -> Result<Group, NoMemory
 }
 
 /// The instructions with what goes in front of them.
-fn groups_of(alloc: Global, leave: &[u8], instrs: Seq<Instr>) -> Result<Seq<Group>, NoMemory>
+pub(crate) fn groups_of(
+    alloc: Global,
+    leave: &[u8],
+    instrs: Seq<Instr>,
+) -> Result<Seq<Group>, NoMemory>
     ensures { IfOk result (λ groups. groups ≡ map (group_of leave.now) instrs) }
 {
     let mut groups = Seq::with_capacity(alloc, instrs.len())?;
@@ -56,7 +60,7 @@ fn groups_of(alloc: Global, leave: &[u8], instrs: Seq<Instr>) -> Result<Seq<Grou
 }
 
 /// The only fault that a code can have which is one.
-fn want_of_memory(_fault: CodeError) -> NoMemory
+pub(crate) fn want_of_memory(_fault: CodeError) -> NoMemory
     requires { _fault ≡ CodeError.NoMemory }
 {
     NoMemory
@@ -96,7 +100,7 @@ fn lay_version(alloc: Global, probes: &Probes, code: &[u8]) -> Result<Laid, LayE
 }
 
 /// Why there is no version, where there is no layout.
-fn no_version(error: LayError) -> NoVersion
+pub(crate) fn no_version(error: LayError) -> NoVersion
     ensures { result ≡ no_version error }
 {
     match error {
@@ -134,7 +138,7 @@ fn catch_all(homes: &Homes, end: u16) -> Handler
 }
 
 /// The exception table of a version, of a code that ends here.
-fn version_handlers(
+pub(crate) fn version_handlers(
     alloc: Global,
     homes: &Homes,
     handlers: &[Handler],

@@ -1,0 +1,3 @@
+pub mod ImageFits
+pub mod Readable
+pub mod Puts

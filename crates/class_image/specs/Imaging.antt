@@ -1,0 +1,114 @@
+-- When a class file is rewritten, what was put of its image, and how a refusal is told.
+use Rattle.std.specs.Prelude.{◌≡◌, ◌≢◌, ◌⊎◌, ℕ, List, [], length, Option, Some, None, Result, Ok, Err, codes}
+use Rattle.jf_bytes.specs.Streams.{Told, IsFetched}
+use Rattle.const_pool.specs.declared.class.ClassFile.{ClassFile}
+use Rattle.const_pool.specs.ClassFile.{class_bytes}
+use Rattle.class_reader.specs.declared.error.ReadError.{ReadError}
+use Rattle.class_reader.specs.Files.{IsFile, IsFirstFault, most_bytes}
+use Rattle.jvm_model.specs.declared.event.Mark.{Mark}
+use Rattle.admit_check.specs.Admission.{class_fault}
+use Rattle.inject_events.specs.Rewriting.{image_of, refused_of}
+use Rattle.class_image.specs.declared.imaging.ImageError.{ImageError}
+use Rattle.class_image.specs.declared.imaging.ImageError.TheVariants.{NotNumbered, NotMarked, NotFetched, NotRead, NotAdmitted, NotProfilable, NotPut, NoMemory}
+use Rattle.class_image.specs.Words.{first_said, marks_said}
+
+-- the bytes are a class file, and admission takes its class
+pub record IsAdmittedFile (bytes : List ℕ) (class : ClassFile) : Type 0 where
+  pub file : IsFile bytes class
+  pub fine : class_fault [] 0 class ≡ None
+
+-- The bytes are those of the image of the class that the file has, for these marks.
+pub record IsImageOf (bytes : List ℕ) (first : ℕ) (marks : List Mark) (out : List ℕ) : Type 0 where
+  pub class : ClassFile
+  pub admitted : IsAdmittedFile bytes class
+  pub counted : length marks ≡ length class.methods
+  pub profilable : refused_of class first marks ≡ None
+  pub image : out ≡ class_bytes (image_of class first marks).class
+
+-- ---- refusals
+
+abbrev pub IsNoFile : List ℕ → Type 0
+IsNoFile bytes = (fault : ReadError) × IsFirstFault bytes fault
+
+abbrev pub IsNotAdmitted : List ℕ → Type 0
+IsNotAdmitted bytes = (class : ClassFile) × IsFile bytes class × (class_fault [] 0 class ≢ None)
+
+abbrev pub IsNotMarked : List ℕ → List Mark → Type 0
+IsNotMarked bytes marks = (class : ClassFile) × IsFile bytes class × (length marks ≢ length class.methods)
+
+abbrev pub IsNotProfilable : List ℕ → ℕ → List Mark → Type 0
+IsNotProfilable bytes first marks = (class : ClassFile) × IsFile bytes class × (refused_of class first marks ≢ None)
+
+-- what a refusal says of the bytes of a file
+abbrev pub IsRefusal : List ℕ → ℕ → List Mark → ImageError → Type 0
+IsRefusal bytes first marks NotNumbered = ⊥
+IsRefusal bytes first marks NotMarked = IsNotMarked bytes marks
+IsRefusal bytes first marks NotFetched = ⊥
+IsRefusal bytes first marks NotRead = IsNoFile bytes
+IsRefusal bytes first marks NotAdmitted = IsNotAdmitted bytes
+IsRefusal bytes first marks NotProfilable = IsNotProfilable bytes first marks
+IsRefusal bytes first marks NotPut = ⊥
+IsRefusal bytes first marks NoMemory = Unit {0}
+
+-- of these only the first two come of the class alone
+abbrev pub IsClassRefusal : List ℕ → ImageError → Type 0
+IsClassRefusal bytes NotRead = IsNoFile bytes
+IsClassRefusal bytes NotAdmitted = IsNotAdmitted bytes
+IsClassRefusal bytes NoMemory = Unit {0}
+IsClassRefusal bytes NotNumbered = ⊥
+IsClassRefusal bytes NotMarked = ⊥
+IsClassRefusal bytes NotFetched = ⊥
+IsClassRefusal bytes NotProfilable = ⊥
+IsClassRefusal bytes NotPut = ⊥
+
+-- ---- files
+
+-- what was fetched of the file of that name has this image
+pub record HasImage (told : Option Told) (name : List ℕ) (first : ℕ) (marks : List Mark) (out : List ℕ) : Type 0 where
+  pub bytes : List ℕ
+  pub fetched : IsFetched told name most_bytes bytes
+  pub image : IsImageOf bytes first marks out
+
+-- what was fetched is refused so, or nothing was
+abbrev pub IsFileRefusal : Option Told → List ℕ → ℕ → List Mark → ImageError → Type 0
+IsFileRefusal told name first marks error =
+    (error ≡ NotFetched) ⊎ ((error ≡ NoMemory) ⊎ ((bytes : List ℕ) × IsFetched told name most_bytes bytes × IsRefusal bytes first marks error))
+
+-- The image for the number and the marks that two words say was put in that way.
+pub record PutsImage (Way : Option (List ℕ) → Option (List ℕ) → List ℕ → Type 0) (told : Option Told) (name first marks : List ℕ) (old new : Option (List ℕ)) : Type 0 where
+  pub number : ℕ
+  pub numbered : first_said first ≡ Some number
+  pub letters : List Mark
+  pub lettered : marks_said marks ≡ Some letters
+  pub out : List ℕ
+  pub image : HasImage told name number letters out
+  pub put : Way old new out
+
+-- a word is refused, or the file
+pub record IsFileRefused (told : Option Told) (name first marks : List ℕ) (error : ImageError) : Type 0 where
+  pub number : ℕ
+  pub numbered : first_said first ≡ Some number
+  pub letters : List Mark
+  pub lettered : marks_said marks ≡ Some letters
+  pub refused : IsFileRefusal told name number letters error
+
+abbrev pub IsTold : Option Told → List ℕ → List ℕ → List ℕ → ImageError → Type 0
+IsTold told name first marks NotNumbered = first_said first ≡ None
+IsTold told name first marks NotMarked = (marks_said marks ≡ None) ⊎ IsFileRefused told name first marks NotMarked
+IsTold told name first marks NotFetched = Unit {0}
+IsTold told name first marks NotRead = IsFileRefused told name first marks NotRead
+IsTold told name first marks NotAdmitted = IsFileRefused told name first marks NotAdmitted
+IsTold told name first marks NotProfilable = IsFileRefused told name first marks NotProfilable
+IsTold told name first marks NotPut = Unit {0}
+IsTold told name first marks NoMemory = Unit {0}
+
+-- what standard error tells of a refusal
+abbrev pub reason_of : ImageError → List ℕ
+reason_of NotNumbered = codes "its first method has no number"
+reason_of NotMarked = codes "it has other methods than marks"
+reason_of NotFetched = codes "it could not be fetched"
+reason_of NotRead = codes "it is no class file"
+reason_of NotAdmitted = codes "it is not admitted"
+reason_of NotProfilable = codes "a method of it cannot be rewritten"
+reason_of NotPut = codes "it could not be put"
+reason_of NoMemory = codes "no memory"
