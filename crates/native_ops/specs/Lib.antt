@@ -1,0 +1,10 @@
+pub mod Numbers
+pub mod Arguments
+pub mod Objects
+pub mod Texts
+pub mod Places
+pub mod Effects
+pub mod Shown
+pub mod Strings
+pub mod Builders
+pub mod Making
