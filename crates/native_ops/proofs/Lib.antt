@@ -1,3 +1,5 @@
+pub mod KindLemmas
 pub mod ListLemmas
 pub mod ObjectLemmas
 pub mod TextLemmas
+pub mod DigitLemmas

@@ -1,4 +1,5 @@
 pub mod Numbers
+pub mod KindsViews
 pub mod Arguments
 pub mod Objects
 pub mod Texts
@@ -7,4 +8,15 @@ pub mod Effects
 pub mod Shown
 pub mod Strings
 pub mod Builders
+pub mod Streams
+pub mod MadeViews
+pub mod Roots
+pub mod Copying
+pub mod Parsing
+pub mod Boxes
+pub mod Integers
+pub mod Longs
+pub mod Characters
+pub mod Enums
+pub mod Throwables
 pub mod Making

@@ -16,6 +16,10 @@ text_at object h = unwrap_or (units_at object h) []
 abbrev pub size_at : ℕ → HeapView → ℕ
 size_at object h = unwrap_or (length_at object h) 0
 
+-- its kind, and 0, which is none, where there is no object
+abbrev pub kind_or_none : ℕ → HeapView → ℕ
+kind_or_none object h = unwrap_or (kind_at object h) 0
+
 -- it is of this kind
 abbrev pub has_kind : ℕ → ℕ → HeapView → Bool
 has_kind kind object h = option_map_or (λ k. k == kind) (kind_at object h) false

@@ -16,6 +16,8 @@ pub enum Effect {
     MakesText(Seq<u16>),
     /// A new array of this kind with these values is made, and is the answer.
     MakesArray(u32, Seq<Datum>),
+    /// A new instance of this kind with these fields is made, and is the answer.
+    MakesInstance(u32, Seq<Datum>),
     /// Units are added to a text, which is the answer.
     Appends(u32, Seq<u16>),
     /// A text gets units in place of its own.
@@ -24,6 +26,18 @@ pub enum Effect {
     Resizes(u32, u32),
     /// The text that units are interned as is the answer.
     Interns(Seq<u16>),
+    /// A text is printed.
+    Prints(Seq<u16>),
+    /// The next byte of the input is the answer, and -1 at its end.
+    Reads,
+    /// Values are put into an array from a place on, and then this is the answer.
+    Stores(u32, usize, Seq<Datum>, Answer),
+    /// The first two fields of an object are set.
+    SetsFields(u32, Datum, Datum),
+    /// The Class object of a kind is the answer.
+    GivesClass(u32),
+    /// The object that is made once of this kind for this value, which has this place, is the answer.
+    GivesBox(u32, u32, Datum),
 }
 
 pub fn gives_nothing() -> Effect

@@ -3,15 +3,31 @@
 
 mod answer;
 mod arguments;
+mod boxes;
 mod builders;
+mod characters;
+mod copying;
 mod effect;
+mod enums;
+mod integers;
+mod kept;
+
+mod kinds;
+mod longs;
+mod made;
 mod making;
 mod method;
 mod numbers;
+mod parsing;
 mod places;
 mod reading;
+mod roots;
 mod shown;
+mod streams;
 mod strings;
 mod texts;
+mod throwables;
 
 pub use answer::Answer;
+pub use kinds::Kinds;
+pub use made::Made;

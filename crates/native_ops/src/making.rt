@@ -1,6 +1,6 @@
 //! What is made of the heap.
 
-ghost use Rattle.std.specs.Prelude.{◌≡◌, IfOk, is_ok};
+ghost use Rattle.std.specs.Prelude.{◌≡◌, ◌≤◌, ◌<◌, IfOk, is_ok, length, drop};
 ghost use Rattle.heap_objects.specs.Changes.{changed_if};
 ghost use Rattle.native_ops.specs.Making.{answer_of_text, heap_with_text, answer_of_append, heap_with_append};
 

@@ -52,3 +52,145 @@ pub enum BuilderMethod {
     /// toString.
     ToText,
 }
+
+/// Those of java/lang/Object.
+#[derive(Clone, Copy, Debug, PartialEq, Eq)]
+pub enum ObjectMethod {
+    Init,
+    Equals,
+    HashCode,
+    /// toString.
+    ToText,
+    GetClass,
+    Clone,
+}
+
+/// Those of java/lang/Class.
+#[derive(Clone, Copy, Debug, PartialEq, Eq)]
+pub enum ClassMethod {
+    GetName,
+    DesiredAssertionStatus,
+}
+
+/// Those of java/io/InputStream.
+#[derive(Clone, Copy, Debug, PartialEq, Eq)]
+pub enum InputMethod {
+    Read,
+    Close,
+}
+
+/// Those of java/io/PrintStream.
+#[derive(Clone, Copy, Debug, PartialEq, Eq)]
+pub enum PrintMethod {
+    Print(Printable),
+    Println(Printable),
+    /// println without an argument.
+    EndLine,
+    Flush,
+}
+
+/// Those of java/lang/System.
+#[derive(Clone, Copy, Debug, PartialEq, Eq)]
+pub enum SystemMethod {
+    Exit,
+    Arraycopy,
+    IdentityHashCode,
+}
+
+/// Those of java/lang/Integer.
+#[derive(Clone, Copy, Debug, PartialEq, Eq)]
+pub enum IntegerMethod {
+    ValueOf,
+    Parse,
+    /// The static toString.
+    TextOf,
+    HexOf,
+    IntValue,
+    LongValue,
+    Equals,
+    HashCode,
+    /// toString.
+    ToText,
+    CompareTo,
+}
+
+/// Those of java/lang/Long.
+#[derive(Clone, Copy, Debug, PartialEq, Eq)]
+pub enum LongMethod {
+    ValueOf,
+    Parse,
+    /// The static toString.
+    TextOf,
+    IntValue,
+    LongValue,
+    Equals,
+    HashCode,
+    /// toString.
+    ToText,
+    CompareTo,
+}
+
+/// Those of java/lang/Character.
+#[derive(Clone, Copy, Debug, PartialEq, Eq)]
+pub enum CharacterMethod {
+    ValueOf,
+    /// The static toString.
+    TextOf,
+    IsDigit,
+    IsLetter,
+    IsWhitespace,
+    CharValue,
+    Equals,
+    HashCode,
+    /// toString.
+    ToText,
+}
+
+/// Those of java/lang/Boolean.
+#[derive(Clone, Copy, Debug, PartialEq, Eq)]
+pub enum BooleanMethod {
+    ValueOf,
+    Parse,
+    BooleanValue,
+    Equals,
+    HashCode,
+    /// toString.
+    ToText,
+}
+
+/// Those of java/lang/Math.
+#[derive(Clone, Copy, Debug, PartialEq, Eq)]
+pub enum MathMethod {
+    AbsInt,
+    MaxInt,
+    MinInt,
+    AbsLong,
+    MaxLong,
+    MinLong,
+}
+
+/// Those of java/lang/Enum.
+#[derive(Clone, Copy, Debug, PartialEq, Eq)]
+pub enum EnumMethod {
+    Init,
+    /// name, and toString.
+    Name,
+    Ordinal,
+    Equals,
+    HashCode,
+    CompareTo,
+    CompareToObject,
+}
+
+/// Those of java/lang/Throwable and the classes below it.
+#[derive(Clone, Copy, Debug, PartialEq, Eq)]
+pub enum ThrowableMethod {
+    Init,
+    InitMessage,
+    InitMessageCause,
+    InitCause,
+    /// The constructor of java/lang/AssertionError that takes an Object.
+    InitDetail,
+    GetMessage,
+    GetCause,
+}

@@ -1,7 +1,8 @@
 //! What rules read of objects.
 
-ghost use Rattle.std.specs.Prelude.{◌≡◌, IfOk, map, slice_get};
-ghost use Rattle.native_ops.specs.Objects.{text_at, size_at, has_kind, values_at, chars_at, char_in_datum, number_as_int};
+ghost use Rattle.std.specs.Prelude.{◌≡◌, ◌≤◌, IfOk, map, slice_get};
+ghost use Rattle.native_ops.specs.Objects.{text_at, size_at, kind_or_none, has_kind, values_at, chars_at, char_in_datum, number_as_int};
+ghost use Rattle.native_ops.specs.Places.{between};
 ghost use Rattle.native_ops.specs.Objects.{int_field, long_field, reference_field};
 
 use crate::arguments::char_of;
@@ -21,6 +22,13 @@ pub fn size_at(object: u32, heap: &Heap) -> u32
     ensures { result ≡ size_at object heap.now }
 {
     heap.len(object).unwrap_or(0)
+}
+
+/// An object's kind, and 0, which is none, where there is no object.
+pub fn kind_or_none(object: u32, heap: &Heap) -> u32
+    ensures { result ≡ kind_or_none object heap.now }
+{
+    heap.kind(object).unwrap_or(0)
 }
 
 /// Whether an object is of a kind.
@@ -92,6 +100,29 @@ pub fn values_at(alloc: Global, object: u32, heap: &Heap) -> Result<Seq<Datum>, 
     let mut values = Seq::with_capacity(alloc, size as usize)?;
     for slot in 0..size {
         let Some(value) = value_at(object, slot, heap) else {
+            return Ok(values);
+        };
+        values.push(value)?;
+    }
+    Ok(values)
+}
+
+/// The values of an object's fields or elements from one place to another.
+pub fn values_between(
+    alloc: Global,
+    object: u32,
+    from: usize,
+    to: usize,
+    heap: &Heap,
+) -> Result<Seq<Datum>, NoMemory>
+    requires order { from ≤ to }
+    requires within { to ≤ size_at object heap.now }
+    ensures { IfOk result (λ values. values ≡ between from to (values_at object heap.now)) }
+{
+    let mut values = Seq::with_capacity(alloc, to - from)?;
+    let _size = size_at(object, heap);
+    for slot in from..to {
+        let Some(value) = value_at(object, slot as u32, heap) else {
             return Ok(values);
         };
         values.push(value)?;

@@ -26,7 +26,7 @@ pub fn is_null_array(what: Printable, place: usize, args: &[Datum]) -> bool
 }
 
 /// One unit.
-fn unit_alone(alloc: Global, unit: u16) -> Result<Seq<u16>, NoMemory>
+pub fn unit_alone(alloc: Global, unit: u16) -> Result<Seq<u16>, NoMemory>
     ensures { IfOk result (λ units. units ≡ unit ∷ []) }
 {
     let mut units = Seq::new(alloc);
