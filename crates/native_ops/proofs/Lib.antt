@@ -3,3 +3,4 @@ pub mod ListLemmas
 pub mod ObjectLemmas
 pub mod TextLemmas
 pub mod DigitLemmas
+pub mod StoreLemmas

@@ -1,8 +1,17 @@
 -- What a loop over a list has gone over.
 use Rattle.std.proofs.Common.{◌≡◌, ℕ, zero, suc, ◌+◌, ◌-◌, ◌<◌, ◌≤◌, refl, arith, drop, List, [], ◌∷◌, ◌++◌, length, sym, ap, ◌∙◌, add-one, get_or, take}
 use Rattle.std.specs.Prelude.{Some, slice_get}
-use Rattle.std.proofs.Math.Seq.{take-suc}
+use Rattle.std.proofs.Math.Seq.{take-suc, drop-cons}
 use Rattle.std.proofs.lemmas.Option.{slice_get_within, get_or_from_slice_get}
+
+-- the items from a place on are the one there and those that follow
+pub drop_is : {A : Type 0} (i : ℕ) (xs : List A) (x d : A) → i < length xs → x ≡ get_or xs i d → drop i xs ≡ x ∷ drop (i + 1) xs
+drop_is i xs x d within h =
+    drop-cons xs i d within ∙ (ap (λ y. y ∷ drop (suc i) xs) (sym h) ∙ ap (λ n. x ∷ drop n xs) (sym (add-one i)))
+
+pub drop_found : {A : Type 0} (i : ℕ) (xs : List A) (x : A) → Some x ≡ slice_get xs i → drop i xs ≡ x ∷ drop (i + 1) xs
+drop_found i xs x h =
+    drop_is i xs x x (slice_get_within xs i x (sym h)) (sym (get_or_from_slice_get xs i x x (sym h)))
 
 -- one item more
 pub take_more : {A : Type 0} (xs : List A) (i : ℕ) (x : A) (done more : List A) → Some x ≡ slice_get xs i → done ≡ take i xs

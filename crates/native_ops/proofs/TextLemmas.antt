@@ -6,13 +6,9 @@ use Rattle.std.proofs.Math.Seq.{drop-cons}
 use Rattle.std.proofs.lemmas.Nat.{mul-mod_first}
 use Rattle.std.proofs.lemmas.List.{drop_all, length-drop}
 use Rattle.std.proofs.lemmas.Option.{slice_get_within, get_or_from_slice_get}
+use Rattle.native_ops.proofs.ListLemmas.{drop_is}
 use Rattle.native_ops.specs.Texts.{weighted, first_difference}
 use Rattle.native_ops.specs.Places.{pair_from}
-
--- the units from a place on are the one there and those that follow
-pub drop_is : (i : ℕ) (xs : List ℕ) (x d : ℕ) → i < length xs → x ≡ get_or xs i d → drop i xs ≡ x ∷ drop (i + 1) xs
-drop_is i xs x d within h =
-    drop-cons xs i d within ∙ (ap (λ y. y ∷ drop (suc i) xs) (sym h) ∙ ap (λ n. x ∷ drop n xs) (sym (add-one i)))
 
 reduced : (a w r m : ℕ) → (a % m * w + r) % m ≡ (a * w + r) % m
 reduced a w r m =

@@ -20,3 +20,5 @@ pub mod Characters
 pub mod Enums
 pub mod Throwables
 pub mod Making
+pub mod Ports
+pub mod Worlds

@@ -1,11 +1,11 @@
 -- What the heap becomes by what a rule asks of it, and what the call answers. Where the heap is full nothing changes.
-use Rattle.std.specs.Prelude.{◌≡◌, ◌≢◌, Result, Err, ℕ, ◌+◌, ◌-◌, ℤ, pos, negsuc, Bool, List, [], ◌∷◌, ◌++◌, Option, Some, None, length, take, replicate, nat_lt, nat_le, is_some, slice_get, unwrap_or, if◌then◌else◌}
+use Rattle.std.specs.Prelude.{◌≡◌, ◌≢◌, Result, Ok, Err, ℕ, ◌+◌, ◌-◌, ℤ, pos, negsuc, Bool, List, [], ◌∷◌, ◌++◌, Option, Some, None, length, take, replicate, nat_lt, nat_le, is_some, slice_get, unwrap_or, if◌then◌else◌}
 use Rattle.std.specs.Option.{option_map_or}
 use Rattle.jf_bytes.specs.Unicode.{utf8_of}
 use Rattle.heap_objects.specs.declared.datum.Datum.{Datum}
 use Rattle.heap_objects.specs.declared.datum.Datum.TheVariants.{Int, Long, Ref}
 use Rattle.heap_objects.specs.declared.error.HeapError.{HeapError}
-use Rattle.heap_objects.specs.declared.error.HeapError.TheVariants.{NoMemory}
+use Rattle.heap_objects.specs.declared.error.HeapError.TheVariants.{HeapFull, NoMemory}
 use Rattle.heap_objects.specs.Changes.{changed_if}
 use Rattle.heap_objects.specs.Interning.{number_of}
 use Rattle.heap_objects.specs.Heaps.{HeapView, ExceedsLimit, IsFullExactly, next_number, with_text, with_array, with_instance, with_units_added, with_units_replaced, with_interned, interned_number, growth_of, units_at, has_slot_at, with_slot_at}
@@ -26,6 +26,17 @@ unless_full asked answer h = if is_full asked h then Throws out_of_memory_error 
 -- a reference to the object that is made next, where it costs so much
 abbrev pub new_object : ℕ → HeapView → Answer
 new_object asked h = unless_full asked (Value (Some (Ref (next_number h)))) h
+
+-- what is answered where an object was made or found, and where something was changed; nothing where memory was wanting
+abbrev pub object_answer : Result ℕ HeapError → Option Answer
+object_answer (Ok object) = Some (Value (Some (Ref object)))
+object_answer (Err HeapFull) = Some (Throws out_of_memory_error)
+object_answer (Err NoMemory) = None
+
+abbrev pub change_answer : Result (Unit {0}) HeapError → Option Datum → Option Answer
+change_answer (Ok done) value = Some (Value value)
+change_answer (Err HeapFull) value = Some (Throws out_of_memory_error)
+change_answer (Err NoMemory) value = None
 
 -- ---- new objects
 
@@ -129,3 +140,35 @@ heap_with_box kind place value m h =
 abbrev pub made_with_box : ℕ → ℕ → HeapView → MadeView → MadeView
 made_with_box kind place h m =
     if is_some (object_of_box kind place m.boxes) then m else box_made kind place (next_number h) m
+
+-- ---- what a call leaves of these
+
+abbrev pub answer_of_class : ℕ → MadeView → HeapView → Answer
+answer_of_class kind m h = found_or_new (object_of_class kind m.classes) 1 h
+
+abbrev pub heap_after_class : ℕ → MadeView → HeapView → HeapView
+heap_after_class kind m h =
+    if is_some (object_of_class kind m.classes) then h else
+    if is_full 1 h then h else with_instance class_kind [] h
+
+abbrev pub made_after_class : ℕ → HeapView → MadeView → MadeView
+made_after_class kind h m =
+    if is_some (object_of_class kind m.classes) then m else
+    if is_full 1 h then m else class_made kind (next_number h) m
+
+abbrev pub answer_of_box : ℕ → ℕ → MadeView → HeapView → Answer
+answer_of_box kind place m h = found_or_new (object_of_box kind place m.boxes) 2 h
+
+abbrev pub heap_after_box : ℕ → ℕ → Datum → MadeView → HeapView → HeapView
+heap_after_box kind place value m h =
+    if is_some (object_of_box kind place m.boxes) then h else
+    if is_full 2 h then h else with_instance kind (value ∷ []) h
+
+abbrev pub made_after_box : ℕ → ℕ → HeapView → MadeView → MadeView
+made_after_box kind place h m =
+    if is_some (object_of_box kind place m.boxes) then m else
+    if is_full 2 h then m else box_made kind place (next_number h) m
+
+-- the first two fields of an object
+abbrev pub with_fields : ℕ → Datum → Datum → HeapView → HeapView
+with_fields object first second h = put_at object 1 second (put_at object 0 first h)

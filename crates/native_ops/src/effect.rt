@@ -8,7 +8,7 @@ use heap_objects::Datum;
 use jf_bytes::Seq;
 
 /// What is to be done, and answered.
-#[derive(Debug, Drop)]
+#[derive(Drop)]
 pub enum Effect {
     /// Nothing but an answer.
     Answers(Answer),

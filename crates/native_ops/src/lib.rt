@@ -5,13 +5,14 @@ mod answer;
 mod arguments;
 mod boxes;
 mod builders;
+mod carrying;
 mod characters;
 mod copying;
 mod effect;
 mod enums;
 mod integers;
+mod io;
 mod kept;
-
 mod kinds;
 mod longs;
 mod made;
@@ -29,5 +30,6 @@ mod texts;
 mod throwables;
 
 pub use answer::Answer;
+pub use io::Io;
 pub use kinds::Kinds;
 pub use made::Made;

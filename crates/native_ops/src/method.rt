@@ -1,7 +1,7 @@
 //! The native methods, as the table of them names them.
 
 /// What is made a text of: an argument of this type.
-#[derive(Clone, Copy, Debug, PartialEq, Eq)]
+#[derive(Clone, Copy)]
 pub enum Printable {
     Boolean,
     Char,
@@ -12,7 +12,7 @@ pub enum Printable {
 }
 
 /// Those of java/lang/String.
-#[derive(Clone, Copy, Debug, PartialEq, Eq)]
+#[derive(Clone, Copy)]
 pub enum StringMethod {
     Init,
     InitText,
@@ -38,7 +38,7 @@ pub enum StringMethod {
 }
 
 /// Those of java/lang/StringBuilder and java/lang/StringBuffer.
-#[derive(Clone, Copy, Debug, PartialEq, Eq)]
+#[derive(Clone, Copy)]
 pub enum BuilderMethod {
     Init,
     InitCapacity,
@@ -54,7 +54,7 @@ pub enum BuilderMethod {
 }
 
 /// Those of java/lang/Object.
-#[derive(Clone, Copy, Debug, PartialEq, Eq)]
+#[derive(Clone, Copy)]
 pub enum ObjectMethod {
     Init,
     Equals,
@@ -66,21 +66,21 @@ pub enum ObjectMethod {
 }
 
 /// Those of java/lang/Class.
-#[derive(Clone, Copy, Debug, PartialEq, Eq)]
+#[derive(Clone, Copy)]
 pub enum ClassMethod {
     GetName,
     DesiredAssertionStatus,
 }
 
 /// Those of java/io/InputStream.
-#[derive(Clone, Copy, Debug, PartialEq, Eq)]
+#[derive(Clone, Copy)]
 pub enum InputMethod {
     Read,
     Close,
 }
 
 /// Those of java/io/PrintStream.
-#[derive(Clone, Copy, Debug, PartialEq, Eq)]
+#[derive(Clone, Copy)]
 pub enum PrintMethod {
     Print(Printable),
     Println(Printable),
@@ -90,7 +90,7 @@ pub enum PrintMethod {
 }
 
 /// Those of java/lang/System.
-#[derive(Clone, Copy, Debug, PartialEq, Eq)]
+#[derive(Clone, Copy)]
 pub enum SystemMethod {
     Exit,
     Arraycopy,
@@ -98,7 +98,7 @@ pub enum SystemMethod {
 }
 
 /// Those of java/lang/Integer.
-#[derive(Clone, Copy, Debug, PartialEq, Eq)]
+#[derive(Clone, Copy)]
 pub enum IntegerMethod {
     ValueOf,
     Parse,
@@ -115,7 +115,7 @@ pub enum IntegerMethod {
 }
 
 /// Those of java/lang/Long.
-#[derive(Clone, Copy, Debug, PartialEq, Eq)]
+#[derive(Clone, Copy)]
 pub enum LongMethod {
     ValueOf,
     Parse,
@@ -131,7 +131,7 @@ pub enum LongMethod {
 }
 
 /// Those of java/lang/Character.
-#[derive(Clone, Copy, Debug, PartialEq, Eq)]
+#[derive(Clone, Copy)]
 pub enum CharacterMethod {
     ValueOf,
     /// The static toString.
@@ -147,7 +147,7 @@ pub enum CharacterMethod {
 }
 
 /// Those of java/lang/Boolean.
-#[derive(Clone, Copy, Debug, PartialEq, Eq)]
+#[derive(Clone, Copy)]
 pub enum BooleanMethod {
     ValueOf,
     Parse,
@@ -159,7 +159,7 @@ pub enum BooleanMethod {
 }
 
 /// Those of java/lang/Math.
-#[derive(Clone, Copy, Debug, PartialEq, Eq)]
+#[derive(Clone, Copy)]
 pub enum MathMethod {
     AbsInt,
     MaxInt,
@@ -170,7 +170,7 @@ pub enum MathMethod {
 }
 
 /// Those of java/lang/Enum.
-#[derive(Clone, Copy, Debug, PartialEq, Eq)]
+#[derive(Clone, Copy)]
 pub enum EnumMethod {
     Init,
     /// name, and toString.
@@ -183,7 +183,7 @@ pub enum EnumMethod {
 }
 
 /// Those of java/lang/Throwable and the classes below it.
-#[derive(Clone, Copy, Debug, PartialEq, Eq)]
+#[derive(Clone, Copy)]
 pub enum ThrowableMethod {
     Init,
     InitMessage,
@@ -193,4 +193,23 @@ pub enum ThrowableMethod {
     InitDetail,
     GetMessage,
     GetCause,
+}
+
+/// A native method.
+#[derive(Clone, Copy)]
+pub enum Method {
+    Object(ObjectMethod),
+    Class(ClassMethod),
+    Text(StringMethod),
+    Builder(BuilderMethod),
+    Input(InputMethod),
+    Output(PrintMethod),
+    System(SystemMethod),
+    Integer(IntegerMethod),
+    Long(LongMethod),
+    Character(CharacterMethod),
+    Boolean(BooleanMethod),
+    Math(MathMethod),
+    Enum(EnumMethod),
+    Throwable(ThrowableMethod),
 }
