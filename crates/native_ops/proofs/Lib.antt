@@ -4,3 +4,5 @@ pub mod ObjectLemmas
 pub mod TextLemmas
 pub mod DigitLemmas
 pub mod StoreLemmas
+pub mod WorldLemmas
+pub mod RowLemmas

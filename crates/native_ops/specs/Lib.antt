@@ -22,3 +22,5 @@ pub mod Throwables
 pub mod Making
 pub mod Ports
 pub mod Worlds
+pub mod Signatures
+pub mod Rows

@@ -56,6 +56,9 @@ boolean_kind = 33
 abbrev pub enum_kind : ℕ
 enum_kind = 35
 
+abbrev pub throwable_kind : ℕ
+throwable_kind = 36
+
 -- one dimension of char
 abbrev pub chars_kind : ℕ
 chars_kind = 16777221

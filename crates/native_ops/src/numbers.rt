@@ -21,6 +21,7 @@ pub const LONG_KIND: u32 = 31;
 pub const CHARACTER_KIND: u32 = 32;
 pub const BOOLEAN_KIND: u32 = 33;
 pub const ENUM_KIND: u32 = 35;
+pub const THROWABLE_KIND: u32 = 36;
 
 /// The kinds from here on are arrays'.
 pub const FIRST_ARRAY_KIND: u32 = 16777216;
