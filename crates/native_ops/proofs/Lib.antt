@@ -6,3 +6,4 @@ pub mod DigitLemmas
 pub mod StoreLemmas
 pub mod WorldLemmas
 pub mod RowLemmas
+pub mod FitLemmas

@@ -24,3 +24,4 @@ pub mod Ports
 pub mod Worlds
 pub mod Signatures
 pub mod Rows
+pub mod Calls

@@ -5,6 +5,7 @@ mod answer;
 mod arguments;
 mod boxes;
 mod builders;
+mod calls;
 mod carrying;
 mod characters;
 mod copying;
@@ -32,7 +33,8 @@ mod strings;
 mod texts;
 mod throwables;
 
-pub use answer::Answer;
+pub use answer::Native;
+pub use calls::call;
 pub use io::Io;
 pub use kinds::Kinds;
 pub use made::Made;
