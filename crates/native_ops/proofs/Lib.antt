@@ -7,3 +7,4 @@ pub mod StoreLemmas
 pub mod WorldLemmas
 pub mod RowLemmas
 pub mod FitLemmas
+pub mod NameLemmas

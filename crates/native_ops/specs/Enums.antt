@@ -9,7 +9,7 @@ use Rattle.heap_objects.specs.Heaps.{HeapView}
 use Rattle.native_ops.specs.declared.effect.Effect.{Effect}
 use Rattle.native_ops.specs.declared.effect.Effect.TheVariants.{SetsFields}
 use Rattle.native_ops.specs.declared.method.EnumMethod.{EnumMethod}
-use Rattle.native_ops.specs.declared.method.EnumMethod.TheVariants.{Init, Name, Ordinal, Equals, HashCode, CompareTo, CompareToObject}
+use Rattle.native_ops.specs.declared.method.EnumMethod.TheVariants.{Init, Name, Ordinal, TextOf, Equals, HashCode, CompareTo, CompareToObject}
 use Rattle.native_ops.specs.Numbers.{class_cast_exception, enum_kind}
 use Rattle.native_ops.specs.Arguments.{int_in, reference_in}
 use Rattle.native_ops.specs.Objects.{kind_or_none, int_field, reference_field, number_as_int}
@@ -36,10 +36,10 @@ compare_to_any kinds object other h =
     then compare_constants kinds object other h
     else throws class_cast_exception)
 
--- toString gives the name too
 abbrev pub enum_effect : EnumMethod → KindsView → List Datum → HeapView → Effect
 enum_effect Init kinds args h = SetsFields (reference_in args 0) (Ref (reference_in args 1)) (Int (int_in args 2))
 enum_effect Name kinds args h = gives_reference (reference_field (reference_in args 0) 0 h)
+enum_effect TextOf kinds args h = gives_reference (reference_field (reference_in args 0) 0 h)
 enum_effect Ordinal kinds args h = gives_int (int_field (reference_in args 0) 1 h)
 enum_effect Equals kinds args h = gives_boolean (reference_in args 0 == reference_in args 1)
 enum_effect HashCode kinds args h = gives_int (number_as_int (reference_in args 0))

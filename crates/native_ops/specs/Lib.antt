@@ -24,4 +24,5 @@ pub mod Ports
 pub mod Worlds
 pub mod Signatures
 pub mod Rows
+pub mod Named
 pub mod Calls

@@ -166,7 +166,7 @@ rows =
     takes (receiver.Extending 35) (method.Enum enum.Init) StringAndInt ∷
     takes (receiver.Extending 35) (method.Enum enum.Name) Nothing ∷
     takes (receiver.Extending 35) (method.Enum enum.Ordinal) Nothing ∷
-    takes (receiver.Extending 35) (method.Enum enum.Name) Nothing ∷
+    takes (receiver.Extending 35) (method.Enum enum.TextOf) Nothing ∷
     takes (receiver.Extending 35) (method.Enum enum.Equals) OneObject ∷
     takes (receiver.Extending 35) (method.Enum enum.HashCode) Nothing ∷
     takes (receiver.Extending 35) (method.Enum enum.CompareTo) OneConstant ∷

@@ -1,6 +1,5 @@
 //! What a native method answers.
 
-
 use heap_objects::Datum;
 
 /// What a call answers where memory was enough: a value or none, an exception that is thrown, told by its class's place among the

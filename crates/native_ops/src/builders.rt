@@ -29,12 +29,7 @@ fn init_capacity(alloc: Global, object: u32, capacity: i32) -> Effect
 }
 
 /// append, but for append(O), which has code.
-fn append(
-    alloc: Global,
-    what: Printable,
-    args: &[Datum],
-    heap: &Heap,
-) -> Result<Effect, NoMemory>
+fn append(alloc: Global, what: Printable, args: &[Datum], heap: &Heap) -> Result<Effect, NoMemory>
     ensures { IfOk result (λ e. e ≡ append what args.now heap.now) }
 {
     if is_null_array(what, 1, args) {
@@ -81,12 +76,7 @@ fn without(alloc: Global, place: usize, units: &[u16]) -> Result<Seq<u16>, NoMem
 }
 
 /// deleteCharAt(I).
-fn delete_char_at(
-    alloc: Global,
-    object: u32,
-    place: i32,
-    heap: &Heap,
-) -> Result<Effect, NoMemory>
+fn delete_char_at(alloc: Global, object: u32, place: i32, heap: &Heap) -> Result<Effect, NoMemory>
     ensures { IfOk result (λ e. e ≡ delete_char_at object place heap.now) }
 {
     let units = text_at(object, heap);

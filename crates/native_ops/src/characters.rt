@@ -46,8 +46,7 @@ fn char_value(object: u32, heap: &Heap) -> u16
 fn same_boxes<K: Kinds>(kinds: &K, kind: u32, object: u32, other: u32, heap: &Heap) -> bool
     ensures { result ≡ same_boxes (K.seen kinds.now) kind object other heap.now }
 {
-    is_instance(kinds, kind, other, heap)
-        && int_field(object, 0, heap) == int_field(other, 0, heap)
+    is_instance(kinds, kind, other, heap) && int_field(object, 0, heap) == int_field(other, 0, heap)
 }
 
 /// What a method of java/lang/Character does.
@@ -74,13 +73,7 @@ pub fn character_effect<K: Kinds>(
         CharacterMethod::CharValue => Ok(gives_int(i32::from(char_value(this, heap)))),
         CharacterMethod::Equals => {
             let other = reference_in(args, 1);
-            Ok(gives_boolean(same_boxes(
-                kinds,
-                CHARACTER_KIND,
-                this,
-                other,
-                heap,
-            )))
+            Ok(gives_boolean(same_boxes(kinds, CHARACTER_KIND, this, other, heap)))
         }
         CharacterMethod::HashCode => Ok(gives_int(i32::from(char_value(this, heap)))),
         CharacterMethod::ToText => {
@@ -134,13 +127,7 @@ pub fn boolean_effect<K: Kinds>(
         BooleanMethod::BooleanValue => Ok(gives_boolean(boolean_value(this, heap))),
         BooleanMethod::Equals => {
             let other = reference_in(args, 1);
-            Ok(gives_boolean(same_boxes(
-                kinds,
-                BOOLEAN_KIND,
-                this,
-                other,
-                heap,
-            )))
+            Ok(gives_boolean(same_boxes(kinds, BOOLEAN_KIND, this, other, heap)))
         }
         BooleanMethod::HashCode => Ok(gives_int(hash_of_boolean(boolean_value(this, heap)))),
         BooleanMethod::ToText => {

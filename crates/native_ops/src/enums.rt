@@ -17,13 +17,7 @@ fn declaring_class<K: Kinds>(kinds: &K, kind: u32) -> u32
     ensures { result ≡ declaring_class (K.seen kinds.now) kind }
 {
     match kinds.above(kind) {
-        Some(above) => {
-            if above == ENUM_KIND {
-                kind
-            } else {
-                above
-            }
-        }
+        Some(above) => { if above == ENUM_KIND { kind } else { above } }
         None => 0,
     }
 }
@@ -63,12 +57,7 @@ fn compare_to_any<K: Kinds>(kinds: &K, object: u32, other: u32, heap: &Heap) -> 
 }
 
 /// What a method does.
-pub fn enum_effect<K: Kinds>(
-    method: EnumMethod,
-    kinds: &K,
-    args: &[Datum],
-    heap: &Heap,
-) -> Effect
+pub fn enum_effect<K: Kinds>(method: EnumMethod, kinds: &K, args: &[Datum], heap: &Heap) -> Effect
     ensures { result ≡ enum_effect method (K.seen kinds.now) args.now heap.now }
 {
     let this = reference_in(args, 0);
@@ -79,6 +68,7 @@ pub fn enum_effect<K: Kinds>(
             Datum::Int(int_in(args, 2)),
         ),
         EnumMethod::Name => gives_reference(reference_field(this, 0, heap)),
+        EnumMethod::TextOf => gives_reference(reference_field(this, 0, heap)),
         EnumMethod::Ordinal => gives_int(int_field(this, 1, heap)),
         EnumMethod::Equals => gives_boolean(this == reference_in(args, 1)),
         EnumMethod::HashCode => gives_int(number_as_int(this as usize)),

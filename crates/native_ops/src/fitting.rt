@@ -24,7 +24,11 @@ fn parameters_of(parameters: Parameters) -> &'static [Parameter]
         Parameters::OneString => &[Parameter::Exactly(STRING_KIND)],
         Parameters::OneArray => &[Parameter::Exactly(CHARS_KIND)],
         Parameters::ArrayAndRange => {
-            &[Parameter::Exactly(CHARS_KIND), Parameter::Int, Parameter::Int]
+            &[
+                Parameter::Exactly(CHARS_KIND),
+                Parameter::Int,
+                Parameter::Int,
+            ]
         }
         Parameters::TwoArrays => &[
             Parameter::Reference,

@@ -28,10 +28,7 @@ pub fn object_answer(made: Result<u32, HeapError>) -> Result<Answer, NoMemory>
 }
 
 /// The answer where something was changed.
-fn change_answer(
-    changed: Result<(), HeapError>,
-    value: Option<Datum>,
-) -> Result<Answer, NoMemory>
+fn change_answer(changed: Result<(), HeapError>, value: Option<Datum>) -> Result<Answer, NoMemory>
     ensures answer { IfOk result (λ a. Some a ≡ change_answer changed value) }
     ensures done { is_ok result ≡ is_some (change_answer changed value) }
 {
@@ -150,12 +147,7 @@ fn resized(alloc: Global, size: usize, units: &[u16]) -> Result<Seq<u16>, NoMemo
 }
 
 /// Cuts a text, or adds units of 0, until it has so many.
-pub fn resize(
-    alloc: Global,
-    object: u32,
-    size: u32,
-    heap: &mut Heap,
-) -> Result<Answer, NoMemory>
+pub fn resize(alloc: Global, object: u32, size: u32, heap: &mut Heap) -> Result<Answer, NoMemory>
     requires { heap.old.limit ≤ 67108864 }
     ensures answer { IfOk result (λ a. a ≡ answer_of_resize object size heap.old) }
     ensures heap { heap.new ≡ changed_if (is_ok result) (heap_with_resize object size) heap.old }

@@ -173,9 +173,10 @@ pub enum MathMethod {
 #[derive(Clone, Copy)]
 pub enum EnumMethod {
     Init,
-    /// name, and toString.
     Name,
     Ordinal,
+    /// toString, which gives the name.
+    TextOf,
     Equals,
     HashCode,
     CompareTo,

@@ -23,7 +23,11 @@ pub fn range_in(from: i32, to: i32, size: usize) -> Option<(usize, usize)>
         return None;
     }
     let (from, to) = (from.cast_unsigned() as usize, to.cast_unsigned() as usize);
-    if from <= to && to <= size { Some((from, to)) } else { None }
+    if from <= to && to <= size {
+        Some((from, to))
+    } else {
+        None
+    }
 }
 
 /// From one place to the end.
@@ -34,7 +38,11 @@ pub fn range_from(from: i32, size: usize) -> Option<(usize, usize)>
         return None;
     }
     let from = from.cast_unsigned() as usize;
-    if from <= size { Some((from, size)) } else { None }
+    if from <= size {
+        Some((from, size))
+    } else {
+        None
+    }
 }
 
 /// So many from one place on, where they are within so many.

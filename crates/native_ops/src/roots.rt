@@ -163,10 +163,7 @@ fn clone<K: Kinds>(
     if !kinds.subtype(kind, CLONEABLE_KIND) {
         return Ok(throws(CLONE_NOT_SUPPORTED_EXCEPTION));
     }
-    Ok(Effect::MakesInstance(
-        kind,
-        values_at(alloc, object, heap)?,
-    ))
+    Ok(Effect::MakesInstance(kind, values_at(alloc, object, heap)?))
 }
 
 /// What a method of java/lang/Object does.

@@ -224,7 +224,7 @@ const ROWS: [Row; 265] = rows![
         [Enum EnumMethod::Init, StringAndInt]
         [Enum EnumMethod::Name, Nothing]
         [Enum EnumMethod::Ordinal, Nothing]
-        [Enum EnumMethod::Name, Nothing]
+        [Enum EnumMethod::TextOf, Nothing]
         [Enum EnumMethod::Equals, OneObject]
         [Enum EnumMethod::HashCode, Nothing]
         [Enum EnumMethod::CompareTo, OneConstant]

@@ -222,12 +222,7 @@ fn to_char_array(alloc: Global, object: u32, heap: &Heap) -> Result<Effect, NoMe
 }
 
 /// valueOf.
-fn value_of(
-    alloc: Global,
-    what: Printable,
-    args: &[Datum],
-    heap: &Heap,
-) -> Result<Effect, NoMemory>
+fn value_of(alloc: Global, what: Printable, args: &[Datum], heap: &Heap) -> Result<Effect, NoMemory>
     ensures { IfOk result (λ e. e ≡ value_of what args.now heap.now) }
 {
     if is_null_array(what, 0, args) {
@@ -237,12 +232,7 @@ fn value_of(
 }
 
 /// substring(I)S.
-fn substring_from(
-    alloc: Global,
-    object: u32,
-    from: i32,
-    heap: &Heap,
-) -> Result<Effect, NoMemory>
+fn substring_from(alloc: Global, object: u32, from: i32, heap: &Heap) -> Result<Effect, NoMemory>
     ensures { IfOk result (λ e. e ≡ substring object (text_at object heap.now) (range_from from (length (text_at object heap.now)))) }
 {
     let units = text_at(object, heap);
