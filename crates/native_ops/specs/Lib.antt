@@ -25,4 +25,5 @@ pub mod Worlds
 pub mod Signatures
 pub mod Rows
 pub mod Named
+pub mod Described
 pub mod Calls

@@ -1,6 +1,10 @@
 //! Calls of native methods.
 
-ghost use Rattle.std.specs.Prelude.{◌≡◌, ◌≤◌, ◌<◌, IfOk, true};
+ghost use Rattle.std.specs.Prelude.{◌≡◌, ◌≤◌, ◌<◌, IfOk, IsSome, slice_get, true};
+ghost use Rattle.std.specs.Option.{option_map};
+ghost use Rattle.base_classes.specs.Natives.{native_methods};
+ghost use Rattle.native_ops.specs.Named.{reference_of};
+ghost use Rattle.native_ops.specs.Rows.{rows};
 ghost use Rattle.native_ops.specs.declared.io.Io.{Io};
 ghost use Rattle.heap_objects.specs.Changes.{changed_if};
 ghost use Rattle.native_ops.specs.Worlds.{world, answer_of, after};
@@ -108,6 +112,7 @@ fn native_of_answer(answer: Answer) -> Native
 
 /// Calls the native method of a number that `native_of` gives, with the arguments, the receiver first where it has one. What it
 /// throws is left to the caller to make. After NoMemory nothing is changed.
+#[tactic(auto, using(crate::proofs::NameLemmas::numbered, crate::proofs::NameLemmas::named_at))]
 pub fn call<K: Kinds>(
     alloc: Global,
     native: u16,
@@ -117,8 +122,10 @@ pub fn call<K: Kinds>(
     made: &mut Made,
     io: &mut Io,
 ) -> Native
-    requires number { native < 265 }
+    requires number { IsSome (slice_get native_methods native) }
     requires limit { heap.old.limit ≤ 67108864 }
+    ensures named { option_map reference_of (slice_get rows native)
+        ≡ slice_get native_methods native }
     ensures answer { IsAnswer result
         (answer_by native (K.seen kinds.now) args.now (world heap.old made.old io.old)) }
     ensures world { world heap.new made.new io.new ≡ changed_if (is_done result)
