@@ -8,3 +8,4 @@ pub mod WorldLemmas
 pub mod RowLemmas
 pub mod FitLemmas
 pub mod NameLemmas
+pub mod WorkedCalls
