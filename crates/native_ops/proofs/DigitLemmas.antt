@@ -1,6 +1,6 @@
 -- Numbers that digits write.
-use Rattle.std.proofs.Common.{◌≡◌, ℕ, suc, ◌+◌, ◌-◌, ◌*◌, ◌<◌, ◌≤◌, List, [], ◌∷◌, Bool, true, false, if◌then◌else◌, length, refl, sym, ap, ◌∙◌, arith, get_or, drop}
-use Rattle.std.specs.Prelude.{Option, Some, None, option_and_then, nat_le}
+use Rattle.std.proofs.Common.{◌≡◌, ℕ, ◌+◌, ◌-◌, ◌*◌, ◌<◌, List, [], ◌∷◌, Bool, true, false, if◌then◌else◌, length, refl, ap, ◌∙◌, arith, get_or, drop}
+use Rattle.std.specs.Prelude.{Some, None, nat_le}
 use Rattle.native_ops.specs.Parsing.{is_digit, read_digits, up_to}
 use Rattle.native_ops.proofs.ListLemmas.{drop_is}
 

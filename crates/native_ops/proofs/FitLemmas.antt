@@ -1,5 +1,5 @@
 -- Arguments that are missing.
-use Rattle.std.proofs.Common.{◌≡◌, ℕ, ◌<◌, ◌≤◌, List, [], ◌∷◌, Bool, false, length, refl, ap, ◌∙◌, drop, get_or}
+use Rattle.std.proofs.Common.{◌≡◌, ℕ, ◌<◌, ◌≤◌, List, [], false, length, refl, ap, ◌∙◌, drop, get_or}
 use Rattle.std.proofs.lemmas.List.{drop_all}
 use Rattle.heap_objects.specs.declared.datum.Datum.{Datum}
 use Rattle.heap_objects.specs.Heaps.{HeapView}

@@ -1,5 +1,5 @@
 -- The rows are those of the native methods, one for each and in their order.
-use Rattle.std.proofs.Common.{◌≡◌, ℕ, ◌<◌, List, length, map, Some, subst, refl, sym, ap, ◌∙◌, arith}
+use Rattle.std.proofs.Common.{◌≡◌, ℕ, ◌<◌, length, map, Some, subst, refl, sym, ap, ◌∙◌}
 use Rattle.std.specs.Prelude.{Option, None, IsSome, slice_get}
 use Rattle.std.specs.Option.{option_map}
 use Rattle.std.proofs.lemmas.Option.{slice_get_within, slice_get-map}

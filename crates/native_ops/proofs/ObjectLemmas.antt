@@ -1,11 +1,11 @@
 -- What is read of an object.
-use Rattle.std.proofs.Common.{◌≡◌, ℕ, ◌≤◌, List, [], length, refl, arith}
+use Rattle.std.proofs.Common.{◌≡◌, ℕ, ◌≤◌, [], length, refl, arith}
 use Rattle.std.specs.Prelude.{Option, Some, None, slice_get, option_and_then, unwrap_or}
 use Rattle.std.specs.Option.{option_map, option_map_or}
 use Rattle.heap_objects.specs.declared.object.Object.{Object}
 use Rattle.heap_objects.specs.declared.object.Object.TheVariants.{Instance, Array, Text}
 use Rattle.heap_objects.specs.Objects.{slots_of, length_of, object_at}
-use Rattle.heap_objects.specs.Heaps.{HeapView, slot_at, length_at}
+use Rattle.heap_objects.specs.Heaps.{HeapView, slot_at}
 use Rattle.native_ops.specs.Objects.{values_at, size_at}
 
 slot_of : (o : Option Object) (slot : ℕ) → option_and_then (λ o. slice_get (slots_of o) slot) o ≡ slice_get (option_map_or slots_of o []) slot

@@ -1,11 +1,9 @@
 -- The hash of a text, unit by unit, and texts of which one has ended.
-use Rattle.std.proofs.Common.{◌≡◌, ℕ, zero, suc, ◌+◌, ◌*◌, ◌^◌, ◌<◌, ◌≤◌, List, [], ◌∷◌, length, refl, sym, ap, ◌∙◌, arith, add-one, get_or, drop}
-use Rattle.std.specs.Prelude.{◌%◌, Some, None, slice_get}
+use Rattle.std.proofs.Common.{◌≡◌, ℕ, ◌+◌, ◌*◌, ◌^◌, ◌<◌, ◌≤◌, List, [], ◌∷◌, length, refl, sym, ap, ◌∙◌, arith, get_or, drop}
+use Rattle.std.specs.Prelude.{◌%◌, None}
 use Rattle.std.proofs.Math.Nat.{add-mul, mod-add-mod, pow-succ'}
-use Rattle.std.proofs.Math.Seq.{drop-cons}
 use Rattle.std.proofs.lemmas.Nat.{mul-mod_first}
 use Rattle.std.proofs.lemmas.List.{drop_all, length-drop}
-use Rattle.std.proofs.lemmas.Option.{slice_get_within, get_or_from_slice_get}
 use Rattle.native_ops.proofs.ListLemmas.{drop_is}
 use Rattle.native_ops.specs.Texts.{weighted, first_difference}
 use Rattle.native_ops.specs.Places.{pair_from}

@@ -1,5 +1,5 @@
 -- What calls do on small worlds, computed. Objects are told by their numbers, and methods by theirs.
-use Rattle.std.proofs.Common.{◌≡◌, ℕ, List, [], ◌∷◌, ◌++◌, Bool, true, false, Some, None, refl, ◌==◌, if◌then◌else◌, pos, negsuc}
+use Rattle.std.proofs.Common.{◌≡◌, ℕ, List, [], ◌∷◌, ◌++◌, Some, None, refl, ◌==◌, if◌then◌else◌, pos, negsuc}
 use Rattle.std.specs.Prelude.{Option, codes, ◌||◌}
 use Rattle.std.specs.Fmt.{digits}
 use Rattle.std.specs.Int.{int_wrap}
@@ -31,8 +31,11 @@ classes = record { name = names; above = supers; subtype = λ lower upper. lower
 -- a world with these objects, room for so many slots, and this input
 abbrev with : List Object → ℕ → List ℕ → World
 with objects room input =
-    record { heap = record { limit = room; used = 0; objects = objects; interned = [] }; made = nothing_made;
-        io = record { input = input; at = 0; output = [] } }
+    record {
+      heap = record { limit = room; used = 0; objects = objects; interned = [] };
+      made = nothing_made;
+      io = record { input = input; at = 0; output = [] };
+    }
 
 abbrev abc : World
 abc = with (Text 23 (codes "abc") ∷ Text 23 (codes "abd") ∷ Text 24 (codes "ab") ∷ []) 100 []
@@ -173,9 +176,9 @@ copied_too_far = refl
 -- an array of String, of which one element may not stand in an array of Integer
 copied_in_part : objects_after 79 (Ref 1 ∷ Int (pos 0) ∷ Ref 2 ∷ Int (pos 0) ∷ Int (pos 2) ∷ [])
     (with (Array (record { kind = 16777239; items = Ref 0 ∷ Ref 3 ∷ [] }) ∷ Array (record { kind = 16777246; items = Ref 4 ∷ Ref 4 ∷ [] })
-        ∷ Text 23 [] ∷ Instance 30 (Int (pos 5) ∷ []) ∷ []) 9 [])
+    ∷ Text 23 [] ∷ Instance 30 (Int (pos 5) ∷ []) ∷ []) 9 [])
     ≡ Array (record { kind = 16777239; items = Ref 0 ∷ Ref 3 ∷ [] }) ∷ Array (record { kind = 16777246; items = Ref 0 ∷ Ref 4 ∷ [] })
-        ∷ Text 23 [] ∷ Instance 30 (Int (pos 5) ∷ []) ∷ []
+    ∷ Text 23 [] ∷ Instance 30 (Int (pos 5) ∷ []) ∷ []
 unfolding rows
 copied_in_part = refl
 

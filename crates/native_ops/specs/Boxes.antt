@@ -1,8 +1,7 @@
 -- The classes of single values: what their methods have in common. The value of a box is its first field.
-use Rattle.std.specs.Prelude.{ℕ, ◌+◌, ◌-◌, ◌==◌, ℤ, pos, negsuc, Bool, List, [], ◌∷◌, Option, Some, None, nat_le, if◌then◌else◌}
+use Rattle.std.specs.Prelude.{ℕ, ◌+◌, ◌-◌, ◌==◌, ℤ, pos, negsuc, Bool, [], ◌∷◌, Option, Some, None, nat_le, if◌then◌else◌}
 use Rattle.std.specs.Option.{option_map_or}
 use Rattle.heap_objects.specs.declared.datum.Datum.{Datum}
-use Rattle.heap_objects.specs.declared.datum.Datum.TheVariants.{Int, Long}
 use Rattle.native_ops.specs.declared.effect.Effect.{Effect}
 use Rattle.native_ops.specs.declared.effect.Effect.TheVariants.{MakesInstance, GivesBox}
 use Rattle.native_ops.specs.Numbers.{number_format_exception, class_cast_exception, null_pointer_exception}

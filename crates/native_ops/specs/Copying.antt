@@ -1,5 +1,5 @@
 -- java/lang/System: what its native methods do.
-use Rattle.std.specs.Prelude.{ℕ, ◌-◌, ◌==◌, ℤ, Bool, true, List, [], ◌∷◌, length, Option, Some, None, nat_lt, nat_le, if◌then◌else◌, ◌&&◌, ◌||◌}
+use Rattle.std.specs.Prelude.{ℕ, ◌-◌, ◌==◌, ℤ, Bool, List, [], ◌∷◌, length, Option, Some, None, nat_lt, nat_le, if◌then◌else◌, ◌&&◌, ◌||◌}
 use Rattle.heap_objects.specs.declared.datum.Datum.{Datum}
 use Rattle.heap_objects.specs.Heaps.{HeapView}
 use Rattle.heap_objects.specs.Kept.{reference_of}

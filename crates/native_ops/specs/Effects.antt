@@ -1,6 +1,5 @@
 -- Effects that are nothing but an answer.
 use Rattle.std.specs.Prelude.{ℕ, ◌==◌, ℤ, pos, Bool, Some, None, if◌then◌else◌}
-use Rattle.heap_objects.specs.declared.datum.Datum.{Datum}
 use Rattle.heap_objects.specs.declared.datum.Datum.TheVariants.{Int, Long, Ref}
 use Rattle.native_ops.specs.declared.answer.Answer.TheVariants.{Value, Throws}
 use Rattle.native_ops.specs.declared.effect.Effect.{Effect}

@@ -1,5 +1,5 @@
 -- java/lang/Enum: what its native methods do. The receiver is the argument at place 0; its fields are its name and its ordinal.
-use Rattle.std.specs.Prelude.{ℕ, ◌==◌, List, unwrap_or, Option, if◌then◌else◌}
+use Rattle.std.specs.Prelude.{ℕ, ◌==◌, List, if◌then◌else◌}
 use Rattle.std.specs.Option.{option_map_or}
 use Rattle.std.specs.Int.{w32}
 use Rattle.int_ops.specs.Arithmetic.{wrapped_difference}

@@ -1,5 +1,5 @@
 -- java/lang/Long: what its native methods do. The receiver of those that are not static is the argument at place 0.
-use Rattle.std.specs.Prelude.{ℕ, ◌/◌, ◌%◌, ◌==◌, ℤ, Bool, List, [], ◌∷◌, None, if◌then◌else◌, ◌&&◌}
+use Rattle.std.specs.Prelude.{ℕ, ◌/◌, ◌%◌, ◌==◌, ℤ, Bool, List, None, if◌then◌else◌, ◌&&◌}
 use Rattle.std.specs.Int.{w32, w64, cast_signed, cast_unsigned, int_wrap}
 use Rattle.std.specs.Int.Bits.{bit_xor}
 use Rattle.std.specs.Ordering.{int_eq}

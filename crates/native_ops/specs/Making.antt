@@ -1,14 +1,12 @@
 -- What the heap becomes by what a rule asks of it, and what the call answers. Where the heap is full nothing changes.
-use Rattle.std.specs.Prelude.{◌≡◌, ◌≢◌, Result, Ok, Err, ℕ, ◌+◌, ◌-◌, ℤ, pos, negsuc, Bool, List, [], ◌∷◌, ◌++◌, Option, Some, None, length, take, replicate, nat_lt, nat_le, is_some, slice_get, unwrap_or, if◌then◌else◌}
-use Rattle.std.specs.Option.{option_map_or}
-use Rattle.jf_bytes.specs.Unicode.{utf8_of}
+use Rattle.std.specs.Prelude.{◌≡◌, ◌≢◌, Result, Ok, Err, ℕ, ◌+◌, ◌-◌, pos, Bool, List, [], ◌∷◌, ◌++◌, Option, Some, None, length, take, replicate, nat_lt, is_some, unwrap_or, if◌then◌else◌}
 use Rattle.heap_objects.specs.declared.datum.Datum.{Datum}
-use Rattle.heap_objects.specs.declared.datum.Datum.TheVariants.{Int, Long, Ref}
+use Rattle.heap_objects.specs.declared.datum.Datum.TheVariants.{Int, Ref}
 use Rattle.heap_objects.specs.declared.error.HeapError.{HeapError}
 use Rattle.heap_objects.specs.declared.error.HeapError.TheVariants.{HeapFull, NoMemory}
 use Rattle.heap_objects.specs.Changes.{changed_if}
 use Rattle.heap_objects.specs.Interning.{number_of}
-use Rattle.heap_objects.specs.Heaps.{HeapView, ExceedsLimit, IsFullExactly, next_number, with_text, with_array, with_instance, with_units_added, with_units_replaced, with_interned, interned_number, growth_of, units_at, has_slot_at, with_slot_at}
+use Rattle.heap_objects.specs.Heaps.{HeapView, ExceedsLimit, IsFullExactly, next_number, with_text, with_array, with_instance, with_units_added, with_units_replaced, with_interned, growth_of, units_at, has_slot_at, with_slot_at}
 use Rattle.native_ops.specs.declared.answer.Answer.{Answer}
 use Rattle.native_ops.specs.declared.answer.Answer.TheVariants.{Value, Throws, Bad}
 use Rattle.native_ops.specs.Numbers.{out_of_memory_error, string_kind, class_kind}

@@ -1,5 +1,5 @@
 -- Places in a text or an array.
-use Rattle.std.specs.Prelude.{ℕ, ◌+◌, ◌-◌, ◌*◌, ◌/◌, ◌%◌, ◌==◌, ℤ, pos, negsuc, Bool, List, [], ◌∷◌, Option, Some, None, nat_lt, nat_le, take, drop, if◌then◌else◌, ◌&&◌}
+use Rattle.std.specs.Prelude.{ℕ, ◌+◌, ◌-◌, ◌/◌, ◌%◌, ◌==◌, ℤ, pos, negsuc, List, [], ◌∷◌, Option, Some, None, nat_lt, nat_le, take, drop, if◌then◌else◌, ◌&&◌}
 use Rattle.std.specs.List.{position_from}
 
 -- the place, where it is one of so many

@@ -1,5 +1,5 @@
 -- What a read and a print do to the input and the output.
-use Rattle.std.specs.Prelude.{ℕ, ◌+◌, ◌++◌, pos, negsuc, List, Option, Some, None, slice_get, is_some, if◌then◌else◌}
+use Rattle.std.specs.Prelude.{ℕ, ◌+◌, ◌++◌, pos, negsuc, List, Some, slice_get, is_some, if◌then◌else◌}
 use Rattle.std.specs.Option.{option_map_or}
 use Rattle.jf_bytes.specs.Unicode.{utf8_of}
 use Rattle.heap_objects.specs.declared.datum.Datum.TheVariants.{Int}

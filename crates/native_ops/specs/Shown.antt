@@ -1,5 +1,5 @@
 -- Arguments as texts: what String.valueOf, append, print and println make of one of their type.
-use Rattle.std.specs.Prelude.{ℕ, ◌==◌, Bool, true, false, List, [], ◌∷◌}
+use Rattle.std.specs.Prelude.{ℕ, ◌==◌, Bool, false, List, [], ◌∷◌}
 use Rattle.heap_objects.specs.declared.datum.Datum.{Datum}
 use Rattle.heap_objects.specs.Heaps.{HeapView}
 use Rattle.native_ops.specs.declared.method.Printable.{Printable}

@@ -1,6 +1,6 @@
 -- Texts of things that are no text, and tests of texts.
-use Rattle.std.specs.Prelude.{ℕ, ◌+◌, ◌*◌, ◌%◌, ◌^◌, ◌==◌, ℤ, pos, ◌-ℤ◌, Bool, List, [], ◌∷◌, length, take, drop, Option, Some, None, unwrap_or, nat_le, if◌then◌else◌, ◌&&◌, codes}
-use Rattle.std.specs.Fmt.{digits, signed_decimal}
+use Rattle.std.specs.Prelude.{ℕ, ◌+◌, ◌*◌, ◌%◌, ◌^◌, ◌==◌, ℤ, pos, ◌-ℤ◌, Bool, List, [], ◌∷◌, length, take, Option, Some, None, unwrap_or, nat_le, if◌then◌else◌, ◌&&◌, codes}
+use Rattle.std.specs.Fmt.{signed_decimal}
 use Rattle.std.specs.Str.{bytes_eq}
 use Rattle.std.specs.Int.{w32, cast_signed}
 use Rattle.int_ops.specs.Arithmetic.{wrapped_difference}

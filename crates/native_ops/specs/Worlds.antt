@@ -1,7 +1,5 @@
 -- What a native method may change, and what becomes of it by an effect. Where the heap is full nothing changes.
-use Rattle.std.specs.Prelude.{ℕ, List, Option, Some, None}
-use Rattle.heap_objects.specs.declared.datum.Datum.{Datum}
-use Rattle.heap_objects.specs.declared.datum.Datum.TheVariants.{Ref}
+use Rattle.std.specs.Prelude.{None}
 use Rattle.heap_objects.specs.Heaps.{HeapView}
 use Rattle.native_ops.specs.declared.answer.Answer.{Answer}
 use Rattle.native_ops.specs.declared.answer.Answer.TheVariants.{Value}

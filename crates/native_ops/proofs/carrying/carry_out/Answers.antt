@@ -1,4 +1,4 @@
-use Rattle.std.proofs.Common.{◌≡◌, ◌∙◌, sym, ap, is_ok}
+use Rattle.std.proofs.Common.{◌∙◌, sym, ap, is_ok}
 use Rattle.heap_objects.specs.Changes.{changed_if}
 use Rattle.native_ops.specs.Making.{heap_with_append, heap_with_replace}
 use Rattle.native_ops.specs.Worlds.{World, world, after}

@@ -1,4 +1,4 @@
-use Rattle.std.proofs.Common.{◌≡◌, ◌∙◌, refl, sym, ap, arith, get_or}
+use Rattle.std.proofs.Common.{◌∙◌, refl, sym, ap, arith, get_or}
 use Rattle.native_ops.specs.Parsing.{up_to}
 use Rattle.native_ops.proofs.DigitLemmas.{digit_too_great}
 use Rattle.native_ops.proofs.parsing.digits_up_to.Goals as goal
