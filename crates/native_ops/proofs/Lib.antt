@@ -9,3 +9,4 @@ pub mod RowLemmas
 pub mod FitLemmas
 pub mod NameLemmas
 pub mod WorkedCalls
+pub mod LimitLemmas

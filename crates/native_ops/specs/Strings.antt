@@ -78,6 +78,15 @@ part_of object units range =
 abbrev pub substring : ℕ → List ℕ → Option (ℕ × ℕ) → Effect
 substring object units range = option_map_or (part_of object units) range (throws string_index_out_of_bounds_exception)
 
+-- from a place to the end, and from a place to another
+abbrev pub substring_from : ℕ → ℤ → HeapView → Effect
+substring_from object from h =
+    substring object (text_at object h) (range_from from (length (text_at object h)))
+
+abbrev pub substring_to : ℕ → ℤ → ℤ → HeapView → Effect
+substring_to object from to h =
+    substring object (text_at object h) (range_in from to (length (text_at object h)))
+
 abbrev pub to_char_array : ℕ → HeapView → Effect
 to_char_array object h = MakesArray chars_kind (map char_datum (text_at object h))
 
@@ -101,12 +110,8 @@ string_effect Same args h = gives_reference (reference_in args 0)
 string_effect CompareTo args h = compare_to (reference_in args 0) (reference_in args 1) h
 string_effect CompareToObject args h = compare_to_object (reference_in args 0) (reference_in args 1) h
 string_effect Concat args h = concat (reference_in args 0) (reference_in args 1) h
-string_effect SubstringFrom args h =
-    let units = text_at (reference_in args 0) h in
-    substring (reference_in args 0) units (range_from (int_in args 1) (length units))
-string_effect Substring args h =
-    let units = text_at (reference_in args 0) h in
-    substring (reference_in args 0) units (range_in (int_in args 1) (int_in args 2) (length units))
+string_effect SubstringFrom args h = substring_from (reference_in args 0) (int_in args 1) h
+string_effect Substring args h = substring_to (reference_in args 0) (int_in args 1) (int_in args 2) h
 string_effect IndexOf args h = index_of (reference_in args 0) (int_in args 1) h
 string_effect StartsWith args h = starts_with (reference_in args 0) (reference_in args 1) h
 string_effect Intern args h = Interns (text_at (reference_in args 0) h)

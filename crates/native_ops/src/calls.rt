@@ -124,6 +124,7 @@ pub fn call<K: Kinds>(
 ) -> Native
     requires number { IsSome (slice_get native_methods native) }
     requires limit { heap.old.limit ≤ 67108864 }
+    ensures limit { heap.new.limit ≡ heap.old.limit }
     ensures named { option_map reference_of (slice_get rows native)
         ≡ slice_get native_methods native }
     ensures answer { IsAnswer result

@@ -167,7 +167,8 @@ pub fn fit<K: Kinds>(
     args: &[Datum],
     heap: &Heap,
 ) -> bool
-    ensures { result ≡ fit receiver (parameters_of parameters) (K.seen kinds.now) args.now heap.now }
+    ensures { result
+        ≡ fit receiver (parameters_of parameters) (K.seen kinds.now) args.now heap.now }
 {
     let parameters = parameters_of(parameters);
     match receiver {

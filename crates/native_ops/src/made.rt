@@ -96,8 +96,10 @@ impl Made {
     pub fn class_object(&mut self, kind: u32, heap: &mut Heap) -> Result<u32, HeapError>
         ensures full { IsFullFor result (object_of_class kind self.old.classes) 1 heap.old }
         ensures number { IfOk result (λ n. n ≡ class_number kind self.old heap.old) }
-        ensures heap { heap.new ≡ changed_if (is_ok result) (heap_with_class kind self.old) heap.old }
-        ensures made { self.new ≡ changed_if (is_ok result) (made_with_class kind heap.old) self.old }
+        ensures heap { heap.new
+            ≡ changed_if (is_ok result) (heap_with_class kind self.old) heap.old }
+        ensures made { self.new
+            ≡ changed_if (is_ok result) (made_with_class kind heap.old) self.old }
     {
         if let Some(object) = object_of_class(kind, &self.classes) {
             return Ok(object);

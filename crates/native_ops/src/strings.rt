@@ -5,7 +5,7 @@ ghost use Rattle.native_ops.specs.Objects.{text_at};
 ghost use Rattle.native_ops.specs.Places.{place_in, range_in, range_from};
 ghost use Rattle.heap_objects.specs.Cells.{char_datum};
 ghost use Rattle.native_ops.specs.Strings.{init_text, init_chars, init_range, init_part, char_at, equals, compare_to, compare_to_object};
-ghost use Rattle.native_ops.specs.Strings.{index_of, starts_with, concat, part_of, substring, to_char_array, value_of, string_effect};
+ghost use Rattle.native_ops.specs.Strings.{index_of, starts_with, concat, part_of, substring, substring_from, substring_to, to_char_array, value_of, string_effect};
 
 use crate::arguments::{int_in, reference_in};
 use crate::effect::{Effect, gives_boolean, gives_int, gives_reference, throws};
@@ -233,7 +233,7 @@ fn value_of(alloc: Global, what: Printable, args: &[Datum], heap: &Heap) -> Resu
 
 /// substring(I)S.
 fn substring_from(alloc: Global, object: u32, from: i32, heap: &Heap) -> Result<Effect, NoMemory>
-    ensures { IfOk result (λ e. e ≡ substring object (text_at object heap.now) (range_from from (length (text_at object heap.now)))) }
+    ensures { IfOk result (λ e. e ≡ substring_from object from heap.now) }
 {
     let units = text_at(object, heap);
     substring(alloc, object, units, range_from(from, units.len()))
@@ -247,7 +247,7 @@ fn substring_to(
     to: i32,
     heap: &Heap,
 ) -> Result<Effect, NoMemory>
-    ensures { IfOk result (λ e. e ≡ substring object (text_at object heap.now) (range_in from to (length (text_at object heap.now)))) }
+    ensures { IfOk result (λ e. e ≡ substring_to object from to heap.now) }
 {
     let units = text_at(object, heap);
     substring(alloc, object, units, range_in(from, to, units.len()))
