@@ -1,0 +1,56 @@
+-- What a native method may change, and what becomes of it by an effect. Where the heap is full nothing changes.
+use Rattle.std.specs.Prelude.{None}
+use Rattle.heap_objects.specs.Heaps.{HeapView}
+use Rattle.native_ops.specs.declared.answer.Answer.{Answer}
+use Rattle.native_ops.specs.declared.answer.Answer.TheVariants.{Value}
+use Rattle.native_ops.specs.declared.effect.Effect.{Effect}
+use Rattle.native_ops.specs.declared.effect.Effect.TheVariants.{Answers, MakesText, MakesArray, MakesInstance, Appends, Replaces, Resizes, Interns, Prints, Reads, Stores, SetsFields, GivesClass, GivesBox}
+use Rattle.native_ops.specs.declared.io.Io.{Io}
+use Rattle.native_ops.specs.MadeViews.{MadeView}
+use Rattle.native_ops.specs.Ports.{answer_of_read, after_read, with_output}
+use Rattle.native_ops.specs.Making.{answer_of_text, heap_with_text, answer_of_array, heap_with_array, answer_of_instance, heap_with_instance, answer_of_append, heap_with_append, answer_of_replace, heap_with_replace, answer_of_resize, heap_with_resize, answer_of_intern, heap_with_interned, with_values, with_fields, answer_of_class, heap_after_class, made_after_class, answer_of_box, heap_after_box, made_after_box}
+
+-- the heap, what was made once, and the input and output
+pub record World : Type 0 where
+  pub heap : HeapView
+  pub made : MadeView
+  pub io : Io
+
+abbrev pub world : HeapView → MadeView → Io → World
+world heap made io = record { heap = heap; made = made; io = io }
+
+-- what is answered
+abbrev pub answer_of : Effect → World → Answer
+answer_of (Answers answer) w = answer
+answer_of (MakesText units) w = answer_of_text units w.heap
+answer_of (MakesArray kind values) w = answer_of_array values w.heap
+answer_of (MakesInstance kind fields) w = answer_of_instance fields w.heap
+answer_of (Appends object units) w = answer_of_append object units w.heap
+answer_of (Replaces object units value) w = answer_of_replace object units value w.heap
+answer_of (Resizes object size) w = answer_of_resize object size w.heap
+answer_of (Interns units) w = answer_of_intern units w.heap
+answer_of (Prints units) w = Value None
+answer_of Reads w = answer_of_read w.io
+answer_of (Stores array place values answer) w = answer
+answer_of (SetsFields object first second) w = Value None
+answer_of (GivesClass kind) w = answer_of_class kind w.made w.heap
+answer_of (GivesBox kind place value) w = answer_of_box kind place w.made w.heap
+
+-- what is changed
+abbrev pub after : Effect → World → World
+after (Answers answer) w = w
+after (MakesText units) w = record w { heap = heap_with_text units w.heap }
+after (MakesArray kind values) w = record w { heap = heap_with_array kind values w.heap }
+after (MakesInstance kind fields) w = record w { heap = heap_with_instance kind fields w.heap }
+after (Appends object units) w = record w { heap = heap_with_append object units w.heap }
+after (Replaces object units value) w = record w { heap = heap_with_replace object units w.heap }
+after (Resizes object size) w = record w { heap = heap_with_resize object size w.heap }
+after (Interns units) w = record w { heap = heap_with_interned units w.heap }
+after (Prints units) w = record w { io = with_output units w.io }
+after Reads w = record w { io = after_read w.io }
+after (Stores array place values answer) w = record w { heap = with_values array place values w.heap }
+after (SetsFields object first second) w = record w { heap = with_fields object first second w.heap }
+after (GivesClass kind) w =
+    record w { heap = heap_after_class kind w.made w.heap; made = made_after_class kind w.heap w.made }
+after (GivesBox kind place value) w =
+    record w { heap = heap_after_box kind place value w.made w.heap; made = made_after_box kind place w.heap w.made }

@@ -1,0 +1,142 @@
+//! Calls of native methods.
+
+ghost use Rattle.std.specs.Prelude.{◌≡◌, ◌≤◌, ◌<◌, IfOk, IsSome, slice_get, true};
+ghost use Rattle.std.specs.Option.{option_map};
+ghost use Rattle.base_classes.specs.Natives.{native_methods};
+ghost use Rattle.native_ops.specs.Named.{reference_of};
+ghost use Rattle.native_ops.specs.Rows.{rows};
+ghost use Rattle.native_ops.specs.declared.io.Io.{Io};
+ghost use Rattle.heap_objects.specs.Changes.{changed_if};
+ghost use Rattle.native_ops.specs.Worlds.{world, answer_of, after};
+ghost use Rattle.native_ops.specs.Calls.{method_effect, row_effect, effect_of, native_of_answer, is_done};
+ghost use Rattle.native_ops.specs.Calls.{answer_by, world_by, IsAnswer};
+
+use crate::answer::{Answer, Native};
+use crate::builders::builder_effect;
+use crate::carrying::carry_out;
+use crate::characters::{boolean_effect, character_effect, math_effect};
+use crate::copying::system_effect;
+use crate::effect::Effect;
+use crate::enums::enum_effect;
+use crate::fitting::fit;
+use crate::integers::integer_effect;
+use crate::io::Io;
+use crate::kinds::Kinds;
+use crate::longs::long_effect;
+use crate::made::Made;
+use crate::method::Method;
+use crate::roots::{class_effect, object_effect};
+use crate::rows::{Row, row_of};
+use crate::streams::{input_effect, print_effect};
+use crate::strings::string_effect;
+use crate::throwables::throwable_effect;
+use heap_objects::{Datum, Heap};
+use jf_bytes::NoMemory;
+use std::alloc::Global;
+
+/// What a method does by arguments that fit.
+fn method_effect<K: Kinds>(
+    alloc: Global,
+    method: Method,
+    kinds: &K,
+    args: &[Datum],
+    heap: &Heap,
+    made: &Made,
+) -> Result<Effect, NoMemory>
+    ensures { IfOk result (λ e. e
+        ≡ method_effect method (K.seen kinds.now) args.now heap.now made.now) }
+{
+    match method {
+        Method::Object(own) => object_effect(alloc, own, kinds, args, heap),
+        Method::Class(own) => class_effect(alloc, own, kinds, args, made),
+        Method::Text(own) => string_effect(alloc, own, args, heap),
+        Method::Builder(own) => builder_effect(alloc, own, args, heap),
+        Method::Input(own) => Ok(input_effect(own)),
+        Method::Output(own) => print_effect(alloc, own, args, heap),
+        Method::System(own) => system_effect(alloc, own, kinds, args, heap),
+        Method::Integer(own) => integer_effect(alloc, own, kinds, args, heap),
+        Method::Long(own) => long_effect(alloc, own, kinds, args, heap),
+        Method::Character(own) => character_effect(alloc, own, kinds, args, heap),
+        Method::Boolean(own) => boolean_effect(alloc, own, kinds, args, heap),
+        Method::Math(own) => Ok(math_effect(own, args)),
+        Method::Enum(own) => Ok(enum_effect(own, kinds, args, heap)),
+        Method::Throwable(own) => Ok(throwable_effect(own, args, heap)),
+    }
+}
+
+/// What a method does by any arguments.
+fn row_effect<K: Kinds>(
+    alloc: Global,
+    row: Row,
+    kinds: &K,
+    args: &[Datum],
+    heap: &Heap,
+    made: &Made,
+) -> Result<Effect, NoMemory>
+    ensures { IfOk result (λ e. e
+        ≡ row_effect row (K.seen kinds.now) args.now heap.now made.now) }
+{
+    if !fit(row.receiver, row.parameters, kinds, args, heap) {
+        return Ok(Effect::Answers(Answer::Bad));
+    }
+    method_effect(alloc, row.method, kinds, args, heap, made)
+}
+
+/// What the method of a number does by any arguments.
+fn effect_of<K: Kinds>(
+    alloc: Global,
+    native: u16,
+    args: &[Datum],
+    kinds: &K,
+    heap: &Heap,
+    made: &Made,
+) -> Result<Effect, NoMemory>
+    requires { native < 265 }
+    ensures { (io : Io) → IfOk result (λ e. e
+        ≡ effect_of native (K.seen kinds.now) args.now (world heap.now made.now io)) }
+{
+    row_effect(alloc, row_of(native), kinds, args, heap, made)
+}
+
+fn native_of_answer(answer: Answer) -> Native
+    ensures value { result ≡ native_of_answer answer }
+    ensures done { is_done result ≡ true }
+{
+    match answer {
+        Answer::Value(value) => Native::Value(value),
+        Answer::Throws(class) => Native::Throws(class),
+        Answer::Exit(status) => Native::Exit(status),
+        Answer::Bad => Native::Bad,
+    }
+}
+
+/// Calls the native method of a number that `native_of` gives, with the arguments, the receiver first where it has one. What it
+/// throws is left to the caller to make. After NoMemory nothing is changed.
+#[tactic(auto, using(crate::proofs::NameLemmas::numbered, crate::proofs::NameLemmas::named_at))]
+pub fn call<K: Kinds>(
+    alloc: Global,
+    native: u16,
+    args: &[Datum],
+    kinds: &K,
+    heap: &mut Heap,
+    made: &mut Made,
+    io: &mut Io,
+) -> Native
+    requires number { IsSome (slice_get native_methods native) }
+    requires limit { heap.old.limit ≤ 67108864 }
+    ensures limit { heap.new.limit ≡ heap.old.limit }
+    ensures named { option_map reference_of (slice_get rows native)
+        ≡ slice_get native_methods native }
+    ensures answer { IsAnswer result
+        (answer_by native (K.seen kinds.now) args.now (world heap.old made.old io.old)) }
+    ensures world { world heap.new made.new io.new ≡ changed_if (is_done result)
+        (world_by native (K.seen kinds.now) args.now) (world heap.old made.old io.old) }
+{
+    let Ok(effect) = effect_of(alloc, native, args, kinds, heap, made) else {
+        return Native::NoMemory;
+    };
+    match carry_out(alloc, effect, heap, made, io) {
+        Ok(answer) => native_of_answer(answer),
+        Err(NoMemory) => Native::NoMemory,
+    }
+}
