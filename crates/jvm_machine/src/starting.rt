@@ -15,7 +15,9 @@ use std::alloc::Global;
 
 /// The letters with which the descriptors of longs, objects and arrays begin.
 const LONG: u16 = 74;
+
 const CLASS: u16 = 76;
+
 const ARRAY: u16 = 91;
 
 /// Whether a class has the name of a built-in one.

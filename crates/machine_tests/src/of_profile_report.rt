@@ -68,16 +68,13 @@ const F: u32 = 0;
 const M: u32 = 1;
 
 /// The report over a program and these events.
-fn over(
-    alloc: Global,
-    program: &Program,
-    facts: Facts,
-    events: &[Event],
-) -> Result<Vec<u8>, Fail> {
+fn over(alloc: Global, program: &Program, facts: Facts, events: &[Event]) -> Result<Vec<u8>, Fail> {
     let tree = tree_of(alloc, events, facts.steps)?;
-    Ok(report(alloc, &facts, &tree, program)
-        .ok()
-        .ok_or("no report")?)
+    Ok(
+        report(alloc, &facts, &tree, program)
+            .ok()
+            .ok_or("no report")?,
+    )
 }
 
 #[test]
