@@ -1,5 +1,5 @@
 -- What is accepted and calm: the ending at the budget, of the one program.
-use Rattle.std.proofs.Common.{◌≡◌, ℕ, ◌+◌, ◌<◌, ◌≤◌, List, Option, Some, None, sym, ap, ◌∙◌, arith, inl, inr}
+use Rattle.std.proofs.Common.{◌≡◌, ℕ, ◌+◌, ◌<◌, ◌≤◌, List, Option, sym, ap, ◌∙◌, arith, inl, inr}
 use Rattle.std.specs.Prelude.{min, Result, Ok}
 use Rattle.jf_bytes.specs.Streams.{Rose, greatest}
 use Rattle.const_pool.specs.declared.class.ClassFile.{ClassFile}

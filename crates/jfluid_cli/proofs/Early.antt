@@ -2,7 +2,7 @@
 use Rattle.std.proofs.Common.{◌≡◌, ℕ, List, Option, Some, None, refl, sym, ap, subst, ◌∙◌, true, inl, inr}
 use Rattle.std.proofs.lemmas.Option.{same_Some}
 use Rattle.std.specs.Prelude.{◌⊎◌}
-use Rattle.jf_bytes.specs.Streams.{Told, HasTold, IsFetched}
+use Rattle.jf_bytes.specs.Streams.{Told, IsFetched}
 use Rattle.class_reader.specs.declared.error.ReadError.{ReadError}
 use Rattle.const_pool.specs.declared.class.ClassFile.{ClassFile}
 use Rattle.jvm_model.specs.declared.program.Program.{Program}

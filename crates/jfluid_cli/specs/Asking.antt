@@ -1,5 +1,5 @@
 -- What a command asks of a program: its main class, and the plan that the root's word stands for.
-use Rattle.std.specs.Prelude.{◌≡◌, ℕ, List, [], Option, Some, None}
+use Rattle.std.specs.Prelude.{ℕ, List, [], Option, Some, None}
 use Rattle.std.specs.Option.{option_map_or}
 use Rattle.jf_bytes.specs.Unicode.{utf16_of}
 use Rattle.plan_text.specs.declared.plan.Plan.{Plan}

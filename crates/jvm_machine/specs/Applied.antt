@@ -1,13 +1,13 @@
 -- What the code that applies what an instruction asked for says of a state: the definitions over the tables of versions, from the
 -- state without the current frame.
-use Rattle.std.specs.Prelude.{◌≡◌, ℕ, ◌-◌, Bool, List, ◌++◌, length, replicate, Option, None, Result, IfOk, OnOk}
+use Rattle.std.specs.Prelude.{◌≡◌, ℕ, ◌-◌, Bool, ◌++◌, length, replicate, Option, None, Result, IfOk, OnOk}
 use Rattle.std.specs.Option.{option_map, option_map_or}
 use Rattle.jf_bytes.specs.declared.error.NoMemory.{NoMemory}
 use Rattle.heap_objects.specs.declared.datum.Datum.{Datum}
 use Rattle.jvm_model.specs.declared.operation.Line.{Line}
 use Rattle.jvm_model.specs.declared.state.Frame.{Frame}
 use Rattle.jvm_model.specs.declared.state.State.{State}
-use Rattle.jvm_model.specs.Data.{Locals, Change, Turn}
+use Rattle.jvm_model.specs.Data.{Locals, Turn}
 use Rattle.jvm_model.specs.Values.{as_value, with_value}
 use Rattle.jvm_model.specs.Programs.{params_of_method}
 use Rattle.jvm_model.specs.Rules.{invokes_with}

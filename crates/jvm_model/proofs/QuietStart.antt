@@ -1,6 +1,6 @@
 -- The start of a small class: the class is loaded and made ready, and `main` begins, where its argument fits.
 use Rattle.std.proofs.Common.{◌≡◌, ℕ, zero, suc, ◌+◌, ◌*◌, ◌<◌, get_or, arith, Bool, true, false, List, [], ◌∷◌, slice_get, cond, Option, Some, None, refl, sym, ap, subst, ◌∙◌}
-use Rattle.std.specs.Prelude.{codes, not, is_some, nat_le, length, map, slice_set, ◌&&◌, ◌||◌, ◌==◌}
+use Rattle.std.specs.Prelude.{codes, not, is_some, length, map, slice_set, ◌&&◌, ◌||◌, ◌==◌}
 use Rattle.std.specs.Option.{option_map, option_map_or, option_and_then}
 use Rattle.std.specs.List.{list_any, AllByRecursion}
 use Rattle.std.proofs.lemmas.List.Quantifiers.{position-Some}
@@ -21,7 +21,7 @@ use Rattle.jvm_model.specs.Quiet.{IsQuiet}
 use Rattle.jvm_model.specs.Run.{before, with_loaded, loaded_turn, main_class, starts_with, start}
 use Rattle.jvm_model.specs.SharedState.{phase_of, with_phase, phase_before}
 use Rattle.jvm_model.specs.SmallClass.{begins_with, is_free_name, is_plain_name, is_plain_member, member_of, IsSmallClass}
-use Rattle.jvm_model.proofs.ImageMethods.{small-coded, each-nth}
+use Rattle.jvm_model.proofs.ImageMethods.{each-nth}
 use Rattle.jvm_model.proofs.Numbers.{first-at, place-first, main-first}
 use Rattle.jvm_model.proofs.QuietSettles.{stops, one-move}
 

@@ -1,5 +1,5 @@
 -- An admitted program of one small class is of the part that runs.
-use Rattle.std.proofs.Common.{◌≡◌, ℕ, zero, suc, ◌+◌, ◌<◌, ◌≤◌, ◌^◌, Bool, true, false, List, [], ◌∷◌, ◌++◌, length, slice_get, cond, Option, Some, None, refl, sym, ap, subst, ◌∙◌, arith}
+use Rattle.std.proofs.Common.{◌≡◌, ℕ, zero, suc, ◌+◌, ◌<◌, ◌≤◌, Bool, true, false, List, [], ◌∷◌, length, slice_get, cond, Option, Some, None, refl, sym, ap, subst, ◌∙◌, arith}
 use Rattle.std.specs.Prelude.{map, nat_lt, unwrap_or}
 use Rattle.std.specs.Option.{option_and_then, option_map_or}
 use Rattle.std.proofs.lemmas.Bool.{ltb-true}
@@ -18,7 +18,7 @@ use Rattle.base_classes.specs.Making.{class_file_of}
 use Rattle.jvm_model.specs.declared.program.Program.{Program}
 use Rattle.jvm_model.specs.Methods.{is_member, method_from, method_named}
 use Rattle.jvm_model.specs.OneClass.{IsProgramOf, IsBuiltProgram}
-use Rattle.jvm_model.specs.Programs.{class_at, class_named, first_class, no_class, number_of_method}
+use Rattle.jvm_model.specs.Programs.{class_named, first_class, no_class, number_of_method}
 use Rattle.jvm_model.specs.SmallClass.{main_member, is_public_static, public_static, IsSmallClass}
 use Rattle.jvm_model.specs.StandsFor.{IsBuilt}
 use Rattle.jvm_model.proofs.Numbers.{number-first}

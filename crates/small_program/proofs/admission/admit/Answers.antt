@@ -1,7 +1,5 @@
 use Rattle.std.proofs.Common.{◌≡◌, List, Ok, Err, sym, subst}
-use Rattle.std.specs.Prelude.{◌≢◌}
 use Rattle.const_pool.specs.declared.class.ClassFile.{ClassFile}
-use Rattle.admit_check.specs.declared.error.AdmitError.TheVariants.{NoMemory}
 use Rattle.admit_check.specs.Admission.{admission_of, IsSoundProgram}
 use Rattle.small_program.specs.Admission.{IsRefusedFor}
 use Rattle.small_program.proofs.Answered.{outside, refuses, runs-as, foreign-as, built-as}

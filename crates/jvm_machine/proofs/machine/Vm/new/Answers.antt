@@ -1,5 +1,3 @@
-use Rattle.std.proofs.Common.{ap, subst, sym}
-use Rattle.std.specs.Prelude.{length}
 use Rattle.jvm_machine.proofs.FitsLemmas.{FitsTables-class_file}
 use Rattle.jvm_machine.proofs.Machines.{is_made, seen-made, some-classes}
 use Rattle.jvm_machine.proofs.machine.Vm.new.Goals as goal
