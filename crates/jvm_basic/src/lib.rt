@@ -11,8 +11,12 @@ mod moving;
 mod reading;
 mod stack;
 
+pub use arithmetic::calculate;
 pub use effect::Effect;
 pub use instruction::basic;
+pub use locals::load_from;
+pub use moving::{drop_two, go_on, put};
+pub use reading::recall;
 
 #[cfg(test)]
 mod tests;

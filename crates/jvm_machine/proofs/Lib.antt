@@ -3,9 +3,9 @@ pub mod FitsLemmas
 pub mod Tabled
 pub mod Entries
 pub mod Images
+pub mod Lined
 pub mod Callees
-pub mod Depths
-pub mod Ends
+pub mod MainFrames
 pub mod DescriptorTexts
 pub mod Steps
 pub mod Machines

@@ -1,11 +1,11 @@
 pub mod Prepared
 pub mod Before
-pub mod Operands
 pub mod Shapes
 pub mod TableEntries
 pub mod Probes
 pub mod Arguments
-pub mod Flows
+pub mod States
+pub mod Going
 pub mod Applied
 pub mod Lookups
 pub mod Moves

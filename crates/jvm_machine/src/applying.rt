@@ -1,179 +1,136 @@
-//! What becomes of a state by what an instruction asked for: the state is without the current frame, which is given.
+//! What becomes of the parts of a machine by the line of the current frame (JVM Specification 2.6.4, 2.6.5, 6.5).
 
-ghost use Rattle.std.specs.Prelude.{◌≡◌, nat_le, OnOk, IfOk};
-ghost use Rattle.frame_stack.specs.Widths.{width, height_of};
-ghost use Rattle.jvm_model.specs.Values.{as_value};
-ghost use Rattle.jvm_model.specs.Applies.{with_frame, breaks, lands, breaks_or_ends};
-ghost use Rattle.jvm_model.specs.Installed.{world_in};
-ghost use Rattle.jvm_machine.specs.Applied.{Becomes, TellsBegun, flows, goes_to, with_result, resumes_at, gives_back_in};
+ghost use Rattle.std.specs.Prelude.{◌≡◌, ◌++◌, false, OnOk};
+ghost use Rattle.jvm_model.specs.Rules.{line_text};
+ghost use Rattle.jvm_machine.specs.States.{state_in};
+ghost use Rattle.jvm_machine.specs.Going.{is_own, ended, settled};
+ghost use Rattle.jvm_machine.specs.Applied.{Becomes, TellsBegun, IsTop, does_here, gives_back_in};
+ghost use Rattle.jvm_machine.specs.Applied.{left_by, returned_by, printed_by};
 
-use crate::flow::Flow;
+use crate::going::{drop_printed, is_other, operate_at, printable, resume, top_int};
 use crate::invoking::invoke;
+use crate::parts::{Parts, where_now};
 use crate::tables::Tables;
-use heap_objects::{Datum, Value};
-use jf_bytes::{NoMemory, Stack};
-use jvm_model::{Ending, Entry, Frame, Line, State};
+use heap_objects::Datum;
+use jf_bytes::{NoMemory, Seq};
+use jvm_basic::Effect;
+use jvm_model::{Ending, Line, Resolved};
 use std::alloc::Global;
 
-/// Puts a frame on top.
-pub fn put_frame(state: &mut State, frame: Frame) -> Result<(), NoMemory>
-    ensures { OnOk result (state.new ≡ with_frame state.old frame) }
+/// Ends the run at this instruction; the frame stays as it was.
+pub fn break_off(parts: &mut Parts, method: u32, own: u16)
+    ensures { parts.new ≡ ended method own parts.old }
 {
-    state.stack.push(Entry::Active(frame))?;
+    parts.ending = Some(Ending::Unverifiable(method, own));
+}
+
+/// Ends the run at this instruction, unless the frame has gone on.
+pub fn settle(parts: &mut Parts, method: u32, own: u16, effect: Effect)
+    ensures { parts.new ≡ settled method own effect parts.old }
+{
+    match effect {
+        Effect::Next => {}
+        Effect::Bad | Effect::Other | Effect::Throws(_) => break_off(parts, method, own),
+    }
+}
+
+/// What is on top goes on behind its instruction, with the result.
+fn give_back(tables: &Tables, parts: &mut Parts, datum: Option<Datum>)
+    ensures { state_in parts.new ≡ gives_back_in tables.now datum (state_in parts.old) }
+{
+    let Some(caller) = where_now(&parts.frames) else {
+        return;
+    };
+    let Some(line) = tables.line(caller.version, caller.place) else {
+        return break_off(parts, caller.method, 0);
+    };
+    let effect = resume(&mut parts.frames, datum, line.next);
+    settle(parts, caller.method, line.own, effect);
+}
+
+/// The current activation ends with this result.
+fn return_with(tables: &Tables, parts: &mut Parts, datum: Option<Datum>)
+    ensures { state_in parts.new ≡ gives_back_in tables.now datum (left_by parts.old) }
+{
+    parts.frames.leave();
+    give_back(tables, parts, datum);
+}
+
+/// ireturn: where its operand is no int, the activation ends with the run.
+fn return_int(tables: &Tables, parts: &mut Parts, method: u32, own: u16)
+    ensures { state_in parts.new ≡ returned_by tables.now method own parts.old }
+{
+    match top_int(&parts.frames) {
+        Some(n) => return_with(tables, parts, Some(Datum::Int(n))),
+        None => {
+            parts.frames.leave();
+            break_off(parts, method, own);
+        }
+    }
+}
+
+/// The text of a number, and the end of the line.
+fn write_line(alloc: Global, output: &mut Seq<u8>, n: i32) -> Result<(), NoMemory>
+    ensures { OnOk result (output.new ≡ output.old ++ line_text n) }
+{
+    let text = format!(in alloc; "{n}\n")?;
+    output.extend_from_slice(text.as_bytes())?;
     Ok(())
 }
 
-/// Ends the run at this frame's instruction; its activation stays live.
-pub fn break_off(state: &mut State, frame: Frame, own: u16) -> Result<(), NoMemory>
-    ensures { OnOk result (state.new ≡ breaks state.old frame own) }
+/// println(I)V.
+fn println(alloc: Global, parts: &mut Parts, method: u32, line: Line) -> Result<(), NoMemory>
+    ensures { OnOk result (parts.new ≡ printed_by method line parts.old) }
 {
-    state.ending = Some(Ending::Unverifiable(frame.method, own));
-    put_frame(state, frame)
-}
-
-/// How many units of depth a value has (2.6.2).
-fn width(value: Value) -> usize
-    ensures { result ≡ width value }
-{
-    match value {
-        Value::Long(_) => 2,
-        _ => 1,
-    }
-}
-
-/// Whether the operands are at most so deep.
-fn is_within(operands: &Stack<Value>, most: u16) -> bool
-    ensures { result ≡ nat_le (height_of operands.now) most }
-{
-    let mut left = most as usize;
-    for above in 0..operands.len() {
-        let Some(value) = operands.peek(above) else {
-            return true;
-        };
-        let units = width(value);
-        if units > left {
-            return false;
-        }
-        left -= units;
-    }
-    true
-}
-
-/// The frame has moved on, unless its operands are deeper than its method allows (4.9.2).
-fn land(tables: &Tables, state: &mut State, frame: Frame, own: u16) -> Result<(), NoMemory>
-    ensures { OnOk result (state.new ≡ lands (world_in tables.now) state.old frame own) }
-{
-    if is_within(&frame.operands, tables.max_stack(frame.method)) {
-        put_frame(state, frame)
-    } else {
-        break_off(state, frame, own)
-    }
-}
-
-/// The frame goes on at this place, if there is one.
-fn go(
-    tables: &Tables,
-    state: &mut State,
-    mut frame: Frame,
-    own: u16,
-    place: Option<u16>,
-) -> Result<(), NoMemory>
-    ensures { OnOk result (state.new ≡ goes_to tables.now state.old frame own place) }
-{
-    let Some(place) = place else {
-        return break_off(state, frame, own);
+    let Some(n) = printable(&parts.frames) else {
+        break_off(parts, method, line.own);
+        return Ok(());
     };
-    frame.place = place;
-    land(tables, state, frame, own)
+    write_line(alloc, &mut parts.output, n)?;
+    let effect = drop_printed(&mut parts.frames, line.next);
+    settle(parts, method, line.own, effect);
+    Ok(())
 }
 
-/// The value that a datum is.
-fn value_of(datum: Datum) -> Value
-    ensures { result ≡ as_value datum }
-{
-    match datum {
-        Datum::Int(n) => Value::Int(n),
-        Datum::Long(n) => Value::Long(n),
-        Datum::Ref(r) => Value::Ref(r),
-    }
-}
-
-/// Puts the result of a method on top, where it has one.
-fn put_result(caller: &mut Frame, datum: Option<Datum>) -> Result<(), NoMemory>
-    ensures { OnOk result (caller.new ≡ with_result datum caller.old) }
-{
-    match datum {
-        None => Ok(()),
-        Some(datum) => {
-            caller.operands.push(value_of(datum))?;
-            Ok(())
-        }
-    }
-}
-
-/// The caller goes on behind its instruction, with the result on top.
-fn resume(
-    tables: &Tables,
-    state: &mut State,
-    mut caller: Frame,
-    datum: Option<Datum>,
-) -> Result<(), NoMemory>
-    ensures { OnOk result (state.new ≡ resumes_at tables.now state.old caller datum) }
-{
-    let Some(line) = tables.line(caller.version, caller.place) else {
-        return break_off(state, caller, 0);
-    };
-    let Some(next) = line.next else {
-        return break_off(state, caller, line.own);
-    };
-    put_result(&mut caller, datum)?;
-    caller.place = next;
-    land(tables, state, caller, line.own)
-}
-
-/// The current frame is off: what is below it goes on.
-fn give_back(tables: &Tables, state: &mut State, datum: Option<Datum>) -> Result<(), NoMemory>
-    ensures { OnOk result (state.new ≡ gives_back_in tables.now state.old datum) }
-{
-    match state.stack.pop() {
-        None => Ok(()),
-        Some(Entry::Initializing(class, part)) => {
-            state.stack.push(Entry::Initializing(class, part))?;
-            Ok(())
-        }
-        Some(Entry::Active(caller)) => resume(tables, state, caller, datum),
-    }
-}
-
-/// The run ends as unverifiable; at a return the activation ends too.
-fn break_at(state: &mut State, frame: Frame, own: u16, ends: bool) -> Result<(), NoMemory>
-    ensures { OnOk result (state.new ≡ (breaks_or_ends ends state.old frame own).after) }
-{
-    if ends {
-        state.ending = Some(Ending::Unverifiable(frame.method, own));
-        Ok(())
-    } else {
-        break_off(state, frame, own)
-    }
-}
-
-/// Does what an instruction asked for, and answers whether an activation began.
-pub fn apply(
+/// Does an operation that sees more than its frame. Answers whether an activation began.
+fn do_other(
     alloc: Global,
     tables: &Tables,
-    state: &mut State,
-    frame: Frame,
+    parts: &mut Parts,
+    method: u32,
     line: Line,
-    flow: Flow,
 ) -> Result<bool, NoMemory>
-    ensures state { Becomes result state.new (flows tables.now line flow state.old frame) }
-    ensures begun { TellsBegun result (flows tables.now line flow state.old frame) }
+    requires top { IsTop method parts.old.frames.frames }
+    requires other { is_own line.operation ≡ false }
+    ensures state { Becomes result parts.new (does_here tables.now line parts.old) }
+    ensures begun { TellsBegun result (does_here tables.now line parts.old) }
 {
-    match flow {
-        Flow::GoesOn => go(tables, state, frame, line.own, line.next)?,
-        Flow::Invokes(method) => return invoke(alloc, tables, state, frame, method, line),
-        Flow::Returns(datum) => give_back(tables, state, datum)?,
-        Flow::Breaks(ends) => break_at(state, frame, line.own, ends)?,
+    match line.operation {
+        Resolved::Ireturn => return_int(tables, parts, method, line.own),
+        Resolved::Return => return_with(tables, parts, None),
+        Resolved::Println => println(alloc, parts, method, line)?,
+        Resolved::Invokestatic(callee) => return invoke(tables, parts, method, callee, line),
+        _ => {}
     }
+    Ok(false)
+}
+
+/// Does the line of the current frame. Answers whether an activation began.
+pub fn do_line(
+    alloc: Global,
+    tables: &Tables,
+    parts: &mut Parts,
+    method: u32,
+    line: Line,
+) -> Result<bool, NoMemory>
+    requires top { IsTop method parts.old.frames.frames }
+    ensures state { Becomes result parts.new (does_here tables.now line parts.old) }
+    ensures begun { TellsBegun result (does_here tables.now line parts.old) }
+{
+    let effect = operate_at(&mut parts.frames, line.operation, line.next);
+    if is_other(effect) {
+        return do_other(alloc, tables, parts, method, line);
+    }
+    settle(parts, method, line.own, effect);
     Ok(false)
 }

@@ -1,17 +1,19 @@
 //! Invocation (JVM Specification 2.6, 2.6.1, 2.6.4).
 
-ghost use Rattle.std.specs.Prelude.{◌≡◌, ◌≤◌, ◌++◌, [], ◌∷◌, length, is_some, OnOk, IfOk};
+ghost use Rattle.std.specs.Prelude.{◌≡◌, ◌<◌, ◌^◌, length, is_some, IfOk};
+ghost use Rattle.jvm_machine.specs.Arguments.{with_callee};
 ghost use Rattle.jvm_model.specs.Values.{datum_of, data_of};
-ghost use Rattle.jvm_machine.specs.Applied.{Becomes, TellsBegun, filled, invokes, param_count, with_callee};
-ghost use Rattle.jvm_machine.specs.Arguments.{spread_values, fitting_frame, callee_frame};
+ghost use Rattle.jvm_machine.specs.Applied.{Becomes, TellsBegun, IsTop, invokes_here};
+ghost use Rattle.jvm_machine.specs.Arguments.{arguments_of, can_begin, with_begun, fits_params};
 
-use crate::applying::{break_off, put_frame};
+use crate::applying::break_off;
+use crate::parts::Parts;
 use crate::tables::Tables;
 use const_pool::Kind;
+use frame_stack::Frames;
 use heap_objects::Value;
-use jf_bytes::{NoMemory, Seq, Stack};
-use jvm_model::{Frame, Line, State};
-use std::alloc::Global;
+use jf_bytes::NoMemory;
+use jvm_model::Line;
 
 /// Whether an argument of this kind may be the value: boolean, byte, char and short are ints.
 fn is_of_kind(kind: Kind, value: Value) -> bool
@@ -25,151 +27,82 @@ fn is_of_kind(kind: Kind, value: Value) -> bool
     }
 }
 
-/// Whether there are as many values as parameters, each of its kind.
-fn are_of_kinds(params: &[Kind], values: &[Value]) -> bool
-    ensures { result ≡ is_some (data_of params.now values.now) }
+/// Whether the topmost operands are as many as the parameters, each of its kind, the first parameter's the deepest.
+fn are_of_kinds(params: &[Kind], frames: &Frames) -> bool
+    requires { length params.now < 2 ^ 16 }
+    ensures { result ≡ is_some (data_of params.now
+        (arguments_of (length params.now) frames.now.frames)) }
 {
-    if params.len() != values.len() {
-        return false;
-    }
-    for i in 0..params.len() {
-        if !is_of_kind(params[i], values[i]) {
+    let count = params.len();
+    for i in 0..count {
+        let Some(value) = frames.peek((count - 1 - i) as u16) else {
+            return false;
+        };
+        if !is_of_kind(params[i], value) {
             return false;
         }
     }
     true
 }
 
-/// Adds the locals that an argument takes: a long takes two.
-fn add(locals: &mut Seq<Option<Value>>, arg: Value) -> Result<(), NoMemory>
-    ensures { OnOk result (locals.new ≡ locals.old ++ spread_values (arg ∷ [])) }
-{
-    locals.push(Some(arg))?;
-    match arg {
-        Value::Long(_) => {
-            locals.push(None)?;
-            Ok(())
-        }
-        _ => Ok(()),
-    }
-}
-
-/// The locals that arguments take, from slot 0 on.
-fn spread(alloc: Global, args: &[Value]) -> Result<Seq<Option<Value>>, NoMemory>
-    ensures { IfOk result (λ locals. locals ≡ spread_values args.now) }
-{
-    let mut locals = Seq::new(alloc);
-    for arg in args {
-        add(&mut locals, *arg)?;
-    }
-    Ok(locals)
-}
-
-/// Adds unwritten locals up to this number.
-fn fill(locals: &mut Seq<Option<Value>>, max_locals: usize) -> Result<(), NoMemory>
-    requires { length locals.old ≤ max_locals }
-    ensures { OnOk result (locals.new ≡ filled max_locals locals.old) }
-{
-    for _slot in locals.len()..max_locals {
-        locals.push(None)?;
-    }
-    Ok(())
-}
-
-/// A frame at the beginning of a method, with room for its operands; None where the arguments do not fit into its locals.
-pub fn frame_with(
-    alloc: Global,
+/// Begins a frame of a method on the current one, which gives it so many arguments. False, with nothing changed, where they
+/// are fewer or do not fit into the locals. There are fewer than 2^32 frames, or memory runs out.
+pub fn begin_frame(
     tables: &Tables,
+    frames: &mut Frames,
     method: u32,
-    args: &[Value],
-) -> Result<Option<Frame>, NoMemory>
-    ensures { IfOk result (λ found. found ≡ fitting_frame tables.now method args.now) }
+    args: u16,
+) -> Result<bool, NoMemory>
+    ensures answer { IfOk result (λ b. b ≡ can_begin tables.now method args frames.old.frames) }
+    ensures frames { IfOk result (λ b. frames.new.frames ≡
+        with_begun b tables.now method args frames.old.frames) }
 {
-    let max_locals = tables.max_locals(method) as usize;
-    let mut locals = spread(alloc, args)?;
-    if locals.len() > max_locals {
-        return Ok(None);
+    let max_locals = tables.max_locals(method);
+    let max_stack = tables.max_stack(method);
+    if frames.depth() == u32::MAX {
+        return Err(NoMemory);
     }
-    fill(&mut locals, max_locals)?;
-    let operands = Stack::with_capacity(alloc, tables.max_stack(method) as usize)?;
-    Ok(Some(Frame {
-        method,
-        version: method,
-        place: tables.first(method),
-        locals,
-        operands,
-    }))
+    frames.reserve(max_locals, max_stack)?;
+    if !frames.enter(method as usize, method, max_locals, max_stack, args) {
+        return Ok(false);
+    }
+    frames.go(tables.first(method));
+    Ok(true)
 }
 
-/// The frame that a method begins with, where its arguments are on top of the caller and fit.
-fn callee_of(
-    alloc: Global,
-    tables: &Tables,
-    caller: &Frame,
-    method: u32,
-) -> Result<Option<Frame>, NoMemory>
-    ensures { IfOk result (λ found. found ≡ callee_frame tables.now method caller.now.operands) }
+/// Begins a method, where its arguments are there and fit.
+fn begin_callee(tables: &Tables, frames: &mut Frames, method: u32) -> Result<bool, NoMemory>
+    ensures answer { IfOk result (λ b. b ≡ fits_params tables.now method frames.old.frames) }
+    ensures frames { IfOk result (λ b. frames.new.frames ≡
+        with_callee b tables.now method frames.old.frames) }
 {
     let Some(params) = tables.params(method) else {
-        return Ok(None);
+        return Ok(false);
     };
-    let count = params.len();
-    if caller.operands.len() < count {
-        return Ok(None);
+    if params.len() > tables.max_locals(method) as usize {
+        return Ok(false);
     }
-    let args = caller.operands.topmost(count);
-    if !are_of_kinds(params.as_slice(), args) {
-        return Ok(None);
+    if !are_of_kinds(params.as_slice(), frames) {
+        return Ok(false);
     }
-    frame_with(alloc, tables, method, args)
-}
-
-/// How many arguments a method takes.
-fn count_of(tables: &Tables, method: u32) -> usize
-    ensures { result ≡ param_count tables.now method }
-{
-    match tables.params(method) {
-        Some(params) => params.len(),
-        None => 0,
-    }
-}
-
-/// The callee goes on top of its caller, whose arguments are taken off.
-fn put_callee(
-    tables: &Tables,
-    state: &mut State,
-    mut caller: Frame,
-    callee: Frame,
-    method: u32,
-) -> Result<(), NoMemory>
-    requires { param_count tables.now method ≤ length caller.operands }
-    ensures { OnOk result (state.new ≡ with_callee tables.now state.old method caller callee) }
-{
-    caller.operands.discard(count_of(tables, method));
-    put_frame(state, caller)?;
-    put_frame(state, callee)
+    begin_frame(tables, frames, method, params.len() as u16)
 }
 
 /// Begins a method: its caller stays at the instruction without the arguments. Answers whether it began.
 pub fn invoke(
-    alloc: Global,
     tables: &Tables,
-    state: &mut State,
-    frame: Frame,
+    parts: &mut Parts,
     method: u32,
+    callee: u32,
     line: Line,
 ) -> Result<bool, NoMemory>
-    ensures state { Becomes result state.new (invokes tables.now line method state.old frame) }
-    ensures begun { TellsBegun result (invokes tables.now line method state.old frame) }
+    requires { IsTop method parts.old.frames.frames }
+    ensures state { Becomes result parts.new (invokes_here tables.now line callee parts.old) }
+    ensures begun { TellsBegun result (invokes_here tables.now line callee parts.old) }
 {
-    match callee_of(alloc, tables, &frame, method)? {
-        None => {
-            break_off(state, frame, line.own)?;
-            Ok(false)
-        }
-        Some(callee) => {
-            put_callee(tables, state, frame, callee, method)?;
-            Ok(true)
-        }
+    let begun = begin_callee(tables, &mut parts.frames, callee)?;
+    if !begun {
+        break_off(parts, method, line.own);
     }
+    Ok(begun)
 }

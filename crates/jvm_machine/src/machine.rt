@@ -8,15 +8,16 @@ ghost use Rattle.jvm_machine.specs.Advances.{Advances, broken_in};
 ghost use Rattle.jvm_machine.specs.Turns.{Turns, IsGoingOn};
 ghost use Rattle.jvm_machine.specs.View.{made, shown, live_of, with_image, is_resting, has_ended};
 
+use crate::parts::Parts;
 use crate::probes::Probe;
-use crate::starting::state_before;
+use crate::starting::parts_before;
 use crate::stepping::{clock_in, move_on};
 use crate::tables::Tables;
 use crate::turn::Turn;
 use code_model::Homes;
 use const_pool::ClassFile;
 use jf_bytes::{NoMemory, Seq};
-use jvm_model::{Ending, Event, Mark, Program, State};
+use jvm_model::{Ending, Event, Mark, Program};
 use std::alloc::Global;
 use std::marker::Model;
 
@@ -26,7 +27,7 @@ use std::marker::Model;
 pub struct Vm {
     alloc: Global,
     tables: Tables,
-    state: State,
+    parts: Parts,
     told: u32,
     started: bool,
     broken: bool,
@@ -36,12 +37,13 @@ pub struct Vm {
 impl Model for Vm {
     ghost use Rattle.jvm_machine.specs.View.{View};
     ghost use Rattle.jvm_machine.specs.Running.{AreRunning, seen};
+    ghost use Rattle.jvm_machine.specs.States.{state_in};
 
     ghost Value = { View };
 
-    ghost view = { λ v. seen v.tables v.state v.told v.started v.broken v.clock };
+    ghost view = { λ v. seen v.tables (state_in v.parts) v.told v.started v.broken v.clock };
 
-    ghost invariant = { λ v. AreRunning v.tables v.state v.told v.started v.broken v.clock };
+    ghost invariant = { λ v. AreRunning v.tables (state_in v.parts) v.told v.started v.broken v.clock };
 }
 
 impl Vm {
@@ -50,12 +52,12 @@ impl Vm {
         requires { IsBuiltProgram program }
         ensures { IfOk result (λ vm. vm ≡ made program input.items) }
     {
-        let state = state_before(alloc, &program)?;
+        let parts = parts_before(alloc, &program)?;
         let tables = Tables::new(alloc, program, Seq::from_vec(input))?;
         Ok(Vm {
             alloc,
             tables,
-            state,
+            parts,
             told: 0,
             started: false,
             broken: false,
@@ -88,7 +90,7 @@ impl Vm {
     fn is_over(&self) -> bool
         ensures { self.now.broken ≡ false → result ≡ (is_resting self.now && has_ended self.now) }
     {
-        self.told == 0 && self.state.ending.is_some()
+        self.told == 0 && self.parts.ending.is_some()
     }
 
     /// Goes on to the next event of the step, or to its end; the answer is the probe that has told the event.
@@ -107,7 +109,7 @@ impl Vm {
         let advance = move_on(
             self.alloc,
             &self.tables,
-            &mut self.state,
+            &mut self.parts,
             started,
             self.told,
         )?;
@@ -139,7 +141,7 @@ impl Vm {
                 method: probe.number,
                 clock: self.clock,
             }),
-            None if self.state.ending.is_some() => Turn::Ended,
+            None if self.parts.ending.is_some() => Turn::Ended,
             None => Turn::Settled,
         }
     }
@@ -169,20 +171,20 @@ impl Vm {
     pub fn output(&self) -> &[u8]
         ensures { self.now.broken ≡ false → result.now ≡ (shown self.now).output }
     {
-        self.state.output.as_slice()
+        self.parts.output.as_slice()
     }
 
     /// How the run has ended, if it has: in the step in hand only once its instruction was done.
     pub fn ending(&self) -> Option<Ending>
         ensures { self.now.broken ≡ false → result ≡ (shown self.now).ending }
     {
-        self.state.ending
+        self.parts.ending
     }
 
     /// The number of live activations, with that of a return whose event was told and which is still to come, where it is below 2^32; a larger number is given as 2^32 - 1.
     pub fn live(&self) -> u32
         ensures { self.now.broken ≡ false → result ≡ live_of self.now }
     {
-        u32::try_from(self.state.stack.len()).unwrap_or(u32::MAX)
+        self.parts.frames.depth()
     }
 }

@@ -1,15 +1,15 @@
 //! Frames that stand at probes, or behind them.
 
-ghost use Rattle.std.specs.Prelude.{◌≡◌, Some, OnOk};
+ghost use Rattle.std.specs.Prelude.{◌≡◌, Some};
 ghost use Rattle.jvm_machine.specs.Moves.{entry_here, leave_here, leave_behind, leave_passed, state_at};
 ghost use Rattle.jvm_machine.specs.Probes.{probe_of_kind};
+ghost use Rattle.jvm_machine.specs.States.{state_in};
 ghost use Rattle.jvm_model.specs.Agreement.{is_entry_kind, is_leave_kind};
 
-use crate::applying::put_frame;
+use crate::parts::{Parts, where_now};
 use crate::probes::Probe;
 use crate::tables::Tables;
-use jf_bytes::NoMemory;
-use jvm_model::{Entry, EventKind, State};
+use jvm_model::EventKind;
 
 /// How many bytes a probe has.
 const PROBE: u16 = 6;
@@ -35,27 +35,23 @@ fn as_leave(probe: Probe) -> Option<Probe>
 }
 
 /// The probe at the entry of the current frame's version.
-pub fn entry_here(tables: &Tables, state: &State) -> Option<Probe>
-    ensures { result ≡ entry_here tables.now.image state.now.stack }
+pub fn entry_here(tables: &Tables, parts: &Parts) -> Option<Probe>
+    ensures { result ≡ entry_here tables.now.image (state_in parts.now).stack }
 {
-    match state.stack.top()? {
-        Entry::Active(frame) => as_entry(tables.probe(frame.version, 0)?),
-        Entry::Initializing(_, _) => None,
-    }
+    let here = where_now(&parts.frames)?;
+    as_entry(tables.probe(here.version, 0)?)
 }
 
 /// The probe before a return that the current frame stands at.
-pub fn leave_here(tables: &Tables, state: &State) -> Option<Probe>
-    ensures { result ≡ leave_here tables.now.image state.now.stack }
+pub fn leave_here(tables: &Tables, parts: &Parts) -> Option<Probe>
+    ensures { result ≡ leave_here tables.now.image (state_in parts.now).stack }
 {
-    match state.stack.top()? {
-        Entry::Active(frame) => as_leave(tables.probe(frame.version, frame.place)?),
-        Entry::Initializing(_, _) => None,
-    }
+    let here = where_now(&parts.frames)?;
+    as_leave(tables.probe(here.version, here.place)?)
 }
 
 /// The probe before a return that ends at a place.
-fn leave_behind(tables: &Tables, version: u32, place: u16) -> Option<Probe>
+fn leave_behind(tables: &Tables, version: usize, place: u16) -> Option<Probe>
     ensures { result ≡ leave_behind tables.now.image version place }
 {
     let place = place.checked_sub(PROBE)?;
@@ -63,28 +59,16 @@ fn leave_behind(tables: &Tables, version: u32, place: u16) -> Option<Probe>
 }
 
 /// The probe before a return that the current frame stands behind.
-pub fn leave_passed(tables: &Tables, state: &State) -> Option<Probe>
-    ensures { result ≡ leave_passed tables.now.image state.now.stack }
+pub fn leave_passed(tables: &Tables, parts: &Parts) -> Option<Probe>
+    ensures { result ≡ leave_passed tables.now.image (state_in parts.now).stack }
 {
-    match state.stack.top()? {
-        Entry::Active(frame) => leave_behind(tables, frame.version, frame.place),
-        Entry::Initializing(_, _) => None,
-    }
+    let here = where_now(&parts.frames)?;
+    leave_behind(tables, here.version, here.place)
 }
 
 /// The current frame stands at this place now.
-pub fn stand_at(state: &mut State, place: u16) -> Result<(), NoMemory>
-    ensures { OnOk result (state.new ≡ state_at place state.old) }
+pub fn stand_at(parts: &mut Parts, place: u16)
+    ensures { state_in parts.new ≡ state_at place (state_in parts.old) }
 {
-    match state.stack.pop() {
-        None => Ok(()),
-        Some(Entry::Initializing(class, part)) => {
-            state.stack.push(Entry::Initializing(class, part))?;
-            Ok(())
-        }
-        Some(Entry::Active(mut frame)) => {
-            frame.place = place;
-            put_frame(state, frame)
-        }
-    }
+    parts.frames.go(place);
 }

@@ -4,13 +4,16 @@ ghost use Rattle.std.specs.Prelude.{◌≡◌, ◌<◌, ◌^◌, [], IfOk, lengt
 ghost use Rattle.const_pool.specs.References.{named_text};
 ghost use Rattle.jvm_model.specs.Programs.{has_built_in_name};
 ghost use Rattle.jvm_model.specs.SharedState.{built_in_from, phase_before, shared_before, zero_for, zeros};
+ghost use Rattle.jvm_machine.specs.States.{state_in};
 ghost use Rattle.jvm_machine.specs.Before.{BeforeEach};
 
+use crate::parts::Parts;
 use base_classes::is_built_in;
 use const_pool::{ClassFile, Member, Pool};
+use frame_stack::Frames;
 use heap_objects::Datum;
-use jf_bytes::{NoMemory, Seq, Stack};
-use jvm_model::{Phase, Program, Shared, State};
+use jf_bytes::{NoMemory, Seq};
+use jvm_model::{Phase, Program, Shared};
 use std::alloc::Global;
 
 /// The letters with which the descriptors of longs, objects and arrays begin.
@@ -126,13 +129,13 @@ fn shared_before(alloc: Global, program: &Program) -> Result<Shared, NoMemory>
     })
 }
 
-/// The state before the start of a program.
-pub fn state_before(alloc: Global, program: &Program) -> Result<State, NoMemory>
+/// The parts before the start of a program.
+pub fn parts_before(alloc: Global, program: &Program) -> Result<Parts, NoMemory>
     requires { length program.now.classes < 2 ^ 32 }
-    ensures { BeforeEach program.now (λ before. IfOk result (λ s. s ≡ before)) }
+    ensures { BeforeEach program.now (λ before. IfOk result (λ p. state_in p ≡ before)) }
 {
-    Ok(State {
-        stack: Stack::new(alloc),
+    Ok(Parts {
+        frames: Frames::new(alloc),
         thrown: None,
         begun: false,
         shared: shared_before(alloc, program)?,

@@ -1,22 +1,26 @@
 //! One call of `step` over the parts of a machine: what it does to the state, and which probe is passed.
 
-ghost use Rattle.std.specs.Prelude.{◌≡◌, ◌^◌, ◌<◌, false, OnOk, IfOk};
+ghost use Rattle.std.specs.Prelude.{◌≡◌, ◌^◌, ◌<◌, [], false, map, OnOk, IfOk};
+ghost use Rattle.jvm_model.specs.Applies.{has_room};
+ghost use Rattle.jvm_model.specs.Moves.{argument_array};
 ghost use Rattle.jvm_model.specs.Run.{before};
 ghost use Rattle.jvm_model.specs.Attempts.{closed_state, attempt_placed, start_placed, ready};
 ghost use Rattle.jvm_model.specs.Installed.{world_in};
-ghost use Rattle.jvm_machine.specs.Applied.{Becomes, TellsBegun, attempts_top, does_here};
+ghost use Rattle.jvm_machine.specs.Applied.{Becomes, TellsBegun, attempts_top};
+ghost use Rattle.jvm_machine.specs.States.{active, state_in, main_frames};
 ghost use Rattle.jvm_machine.specs.Moves.{told_by, move_with, EachWith, stepped, begun_move, rest_of};
 ghost use Rattle.jvm_machine.specs.Moves.{moved_on, probe_on, clock_in};
 
-use crate::applying::{apply, break_off};
-use crate::invoking::frame_with;
+use crate::applying::{break_off, do_line};
+use crate::invoking::begin_frame;
+use crate::parts::{Parts, where_now};
 use crate::passing::{entry_here, leave_here, leave_passed, stand_at};
 use crate::probes::Probe;
-use crate::rules::execute;
 use crate::tables::Tables;
+use frame_stack::Frames;
 use heap_objects::Value;
 use jf_bytes::NoMemory;
-use jvm_model::{Ending, Entry, Frame, Phase, State};
+use jvm_model::{Ending, Phase};
 use std::alloc::Global;
 
 /// The argument array's object.
@@ -31,83 +35,82 @@ pub struct Advance {
 }
 
 /// The main class is loaded and made ready: it has no initializer, and its superclass is no class of the program.
-fn make_ready(tables: &Tables, state: &mut State) -> Result<(), NoMemory>
-    requires { state.old ≡ before (world_in tables.now) }
-    ensures { OnOk result (state.new ≡ ready tables.now) }
+fn make_ready(tables: &Tables, parts: &mut Parts) -> Result<(), NoMemory>
+    requires { state_in parts.old ≡ before (world_in tables.now) }
+    ensures { OnOk result (state_in parts.new ≡ ready tables.now) }
 {
-    state.shared.loaded.push(0)?;
-    if !state.shared.phases.is_empty() {
-        state.shared.phases.set(0, Phase::Ready);
+    parts.shared.loaded.push(0)?;
+    if !parts.shared.phases.is_empty() {
+        parts.shared.phases.set(0, Phase::Ready);
     }
     Ok(())
 }
 
-/// The start (5.2, 5.5): `main` begins with its argument array, if it has a local for it.
-fn begin(alloc: Global, tables: &Tables, state: &mut State) -> Result<bool, NoMemory>
-    requires { state.old ≡ before (world_in tables.now) }
-    ensures state { Becomes result state.new (start_placed tables.now) }
-    ensures begun { TellsBegun result (start_placed tables.now) }
+/// The frame of `main`, which has its argument array, if it has a local for it.
+fn begin_main(tables: &Tables, frames: &mut Frames) -> Result<bool, NoMemory>
+    requires { frames.old.frames ≡ [] }
+    ensures answer { IfOk result (λ b. b ≡ has_room (world_in tables.now)
+        tables.now.program.main argument_array) }
+    ensures frames { IfOk result (λ b. map active frames.new.frames ≡ main_frames b tables.now) }
 {
     let main = tables.main();
-    make_ready(tables, state)?;
-    let Some(frame) = frame_with(alloc, tables, main, &[Value::Ref(ARGUMENTS)])? else {
-        state.ending = Some(Ending::Unverifiable(main, 0));
+    if tables.max_locals(main) == 0 {
         return Ok(false);
-    };
-    state.begun = true;
-    state.stack.push(Entry::Active(frame))?;
+    }
+    if !begin_frame(tables, frames, main, 0)? {
+        return Ok(false);
+    }
+    frames.set_local(0, Value::Ref(ARGUMENTS));
     Ok(true)
 }
 
-/// What stands at the frame's place is done, where the state is without that frame.
-fn attempt_frame(
-    alloc: Global,
-    tables: &Tables,
-    state: &mut State,
-    mut frame: Frame,
-) -> Result<bool, NoMemory>
-    ensures state { Becomes result state.new (does_here tables.now state.old frame) }
-    ensures begun { TellsBegun result (does_here tables.now state.old frame) }
+/// The start (5.2, 5.5): `main` begins, if it can.
+fn begin(tables: &Tables, parts: &mut Parts) -> Result<bool, NoMemory>
+    requires { state_in parts.old ≡ before (world_in tables.now) }
+    ensures state { Becomes result parts.new (start_placed tables.now) }
+    ensures begun { TellsBegun result (start_placed tables.now) }
 {
-    let Some(line) = tables.line(frame.version, frame.place) else {
-        break_off(state, frame, 0)?;
-        return Ok(false);
-    };
-    let flow = execute(alloc, &mut state.output, &mut frame, line.operation)?;
-    apply(alloc, tables, state, frame, line, flow)
+    make_ready(tables, parts)?;
+    let begun = begin_main(tables, &mut parts.frames)?;
+    if begun {
+        parts.begun = true;
+    } else {
+        break_off(parts, tables.main(), 0);
+    }
+    Ok(begun)
 }
 
 /// One attempt of an instruction, up to what follows from it without another instruction.
-fn attempt_top(alloc: Global, tables: &Tables, state: &mut State) -> Result<bool, NoMemory>
-    ensures state { Becomes result state.new (attempts_top tables.now state.old) }
-    ensures begun { TellsBegun result (attempts_top tables.now state.old) }
+fn attempt_top(alloc: Global, tables: &Tables, parts: &mut Parts) -> Result<bool, NoMemory>
+    ensures state { Becomes result parts.new (attempts_top tables.now (state_in parts.old)) }
+    ensures begun { TellsBegun result (attempts_top tables.now (state_in parts.old)) }
 {
-    match state.stack.pop() {
-        None => Ok(false),
-        Some(Entry::Initializing(class, part)) => {
-            state.stack.push(Entry::Initializing(class, part))?;
-            Ok(false)
-        }
-        Some(Entry::Active(frame)) => attempt_frame(alloc, tables, state, frame),
-    }
+    let Some(here) = where_now(&parts.frames) else {
+        return Ok(false);
+    };
+    let Some(line) = tables.line(here.version, here.place) else {
+        break_off(parts, here.method, 0);
+        return Ok(false);
+    };
+    do_line(alloc, tables, parts, here.method, line)
 }
 
 /// Where nothing is left, the run has returned.
-fn close(state: &mut State)
-    ensures { state.new ≡ closed_state state.old }
+fn close(parts: &mut Parts)
+    ensures { state_in parts.new ≡ closed_state (state_in parts.old) }
 {
-    if state.stack.is_empty() && state.ending.is_none() {
-        state.ending = Some(Ending::Returned);
+    if parts.frames.depth() == 0 && parts.ending.is_none() {
+        parts.ending = Some(Ending::Returned);
     }
 }
 
 /// One attempt of an instruction, and what follows from it; the answer is whether an activation began.
-fn attempt_one(alloc: Global, tables: &Tables, state: &mut State) -> Result<bool, NoMemory>
-    ensures state { Becomes result state.new (attempt_placed tables.now state.old) }
-    ensures begun { TellsBegun result (attempt_placed tables.now state.old) }
+fn attempt_one(alloc: Global, tables: &Tables, parts: &mut Parts) -> Result<bool, NoMemory>
+    ensures state { Becomes result parts.new (attempt_placed tables.now (state_in parts.old)) }
+    ensures begun { TellsBegun result (attempt_placed tables.now (state_in parts.old)) }
 {
-    let begun = attempt_top(alloc, tables, state)?;
-    close(state);
+    let begun = attempt_top(alloc, tables, parts)?;
+    close(parts);
     Ok(begun)
 }
 
@@ -122,12 +125,12 @@ fn told_by(probe: &Option<Probe>) -> u32
 }
 
 /// Behind an instruction: a method that began has passed its entry probe.
-fn enter(tables: &Tables, state: &State, begun: bool) -> Advance
-    ensures told { EachWith begun (λ c. result.told ≡ (move_with tables.now state.now c).told) }
-    ensures probe { EachWith begun (λ c. result.probe ≡ (move_with tables.now state.now c).probe) }
+fn enter(tables: &Tables, parts: &Parts, begun: bool) -> Advance
+    ensures told { EachWith begun (λ c. result.told ≡ (move_with tables.now (state_in parts.now) c).told) }
+    ensures probe { EachWith begun (λ c. result.probe ≡ (move_with tables.now (state_in parts.now) c).probe) }
 {
     let probe = if begun {
-        entry_here(tables, state)
+        entry_here(tables, parts)
     } else {
         None
     };
@@ -136,27 +139,27 @@ fn enter(tables: &Tables, state: &State, begun: bool) -> Advance
 }
 
 /// The start.
-fn make_start(alloc: Global, tables: &Tables, state: &mut State) -> Result<Advance, NoMemory>
-    requires { state.old ≡ before (world_in tables.now) }
-    ensures moved { OnOk result (state.new ≡ (begun_move tables.now false state.old).state) }
-    ensures told { IfOk result (λ a. a.told ≡ (begun_move tables.now false state.old).told) }
-    ensures probe { IfOk result (λ a. a.probe ≡ (begun_move tables.now false state.old).probe) }
+fn make_start(tables: &Tables, parts: &mut Parts) -> Result<Advance, NoMemory>
+    requires { state_in parts.old ≡ before (world_in tables.now) }
+    ensures moved { OnOk result (state_in parts.new ≡ (begun_move tables.now false (state_in parts.old)).state) }
+    ensures told { IfOk result (λ a. a.told ≡ (begun_move tables.now false (state_in parts.old)).told) }
+    ensures probe { IfOk result (λ a. a.probe ≡ (begun_move tables.now false (state_in parts.old)).probe) }
 {
-    let begun = begin(alloc, tables, state)?;
-    Ok(enter(tables, state, begun))
+    let begun = begin(tables, parts)?;
+    Ok(enter(tables, parts, begun))
 }
 
 /// A step, up to the event that it tells first.
-fn make_step(alloc: Global, tables: &Tables, state: &mut State) -> Result<Advance, NoMemory>
-    ensures moved { OnOk result (state.new ≡ (stepped tables.now state.old).state) }
-    ensures told { IfOk result (λ a. a.told ≡ (stepped tables.now state.old).told) }
-    ensures probe { IfOk result (λ a. a.probe ≡ (stepped tables.now state.old).probe) }
+fn make_step(alloc: Global, tables: &Tables, parts: &mut Parts) -> Result<Advance, NoMemory>
+    ensures moved { OnOk result (state_in parts.new ≡ (stepped tables.now (state_in parts.old)).state) }
+    ensures told { IfOk result (λ a. a.told ≡ (stepped tables.now (state_in parts.old)).told) }
+    ensures probe { IfOk result (λ a. a.probe ≡ (stepped tables.now (state_in parts.old)).probe) }
 {
-    let Some(probe) = leave_here(tables, state) else {
-        let begun = attempt_one(alloc, tables, state)?;
-        return Ok(enter(tables, state, begun));
+    let Some(probe) = leave_here(tables, parts) else {
+        let begun = attempt_one(alloc, tables, parts)?;
+        return Ok(enter(tables, parts, begun));
     };
-    stand_at(state, probe.next)?;
+    stand_at(parts, probe.next);
     Ok(Advance {
         told: 1,
         probe: Some(probe),
@@ -167,27 +170,27 @@ fn make_step(alloc: Global, tables: &Tables, state: &mut State) -> Result<Advanc
 fn begin_step(
     alloc: Global,
     tables: &Tables,
-    state: &mut State,
+    parts: &mut Parts,
     started: bool,
 ) -> Result<Advance, NoMemory>
-    requires { started ≡ false → state.old ≡ before (world_in tables.now) }
-    ensures moved { OnOk result (state.new ≡ (begun_move tables.now started state.old).state) }
-    ensures told { IfOk result (λ a. a.told ≡ (begun_move tables.now started state.old).told) }
-    ensures probe { IfOk result (λ a. a.probe ≡ (begun_move tables.now started state.old).probe) }
+    requires { started ≡ false → state_in parts.old ≡ before (world_in tables.now) }
+    ensures moved { OnOk result (state_in parts.new ≡ (begun_move tables.now started (state_in parts.old)).state) }
+    ensures told { IfOk result (λ a. a.told ≡ (begun_move tables.now started (state_in parts.old)).told) }
+    ensures probe { IfOk result (λ a. a.probe ≡ (begun_move tables.now started (state_in parts.old)).probe) }
 {
     if started {
-        make_step(alloc, tables, state)
+        make_step(alloc, tables, parts)
     } else {
-        make_start(alloc, tables, state)
+        make_start(tables, parts)
     }
 }
 
 /// Does what is left of the step in hand.
-fn finish_step(alloc: Global, tables: &Tables, state: &mut State) -> Result<(), NoMemory>
-    ensures { OnOk result (state.new ≡ rest_of tables.now state.old) }
+fn finish_step(alloc: Global, tables: &Tables, parts: &mut Parts) -> Result<(), NoMemory>
+    ensures { OnOk result (state_in parts.new ≡ rest_of tables.now (state_in parts.old)) }
 {
-    if leave_passed(tables, state).is_some() {
-        attempt_one(alloc, tables, state)?;
+    if leave_passed(tables, parts).is_some() {
+        attempt_one(alloc, tables, parts)?;
     }
     Ok(())
 }
@@ -196,19 +199,19 @@ fn finish_step(alloc: Global, tables: &Tables, state: &mut State) -> Result<(), 
 pub fn move_on(
     alloc: Global,
     tables: &Tables,
-    state: &mut State,
+    parts: &mut Parts,
     started: bool,
     told: u32,
 ) -> Result<Advance, NoMemory>
-    requires { started ≡ false → state.old ≡ before (world_in tables.now) }
-    ensures moved { OnOk result (state.new ≡ (moved_on tables.now started told state.old).state) }
-    ensures told { IfOk result (λ a. a.told ≡ (moved_on tables.now started told state.old).told) }
-    ensures probe { IfOk result (λ a. a.probe ≡ probe_on tables.now started told state.old) }
+    requires { started ≡ false → state_in parts.old ≡ before (world_in tables.now) }
+    ensures moved { OnOk result (state_in parts.new ≡ (moved_on tables.now started told (state_in parts.old)).state) }
+    ensures told { IfOk result (λ a. a.told ≡ (moved_on tables.now started told (state_in parts.old)).told) }
+    ensures probe { IfOk result (λ a. a.probe ≡ probe_on tables.now started told (state_in parts.old)) }
 {
     if told == 0 {
-        return begin_step(alloc, tables, state, started);
+        return begin_step(alloc, tables, parts, started);
     }
-    finish_step(alloc, tables, state)?;
+    finish_step(alloc, tables, parts)?;
     Ok(Advance {
         told: 0,
         probe: None,

@@ -159,15 +159,15 @@ impl Tables {
     }
 
     /// What stands at a place of a method's version, by two look-ups.
-    fn line_at(&self, method: u32, place: usize) -> Option<Line>
+    fn line_at(&self, method: usize, place: usize) -> Option<Line>
         ensures { result ≡ version_line self.now.image self.now.homes method place }
     {
-        let version = self.versions.get(method as usize)?;
+        let version = self.versions.get(method)?;
         version.lines.at(place)?
     }
 
     /// Whether a leave probe stands at a place of a method's version.
-    fn leaves(&self, method: u32, place: u16) -> bool
+    fn leaves(&self, method: usize, place: u16) -> bool
         ensures { result ≡ is_leave (probe_at self.now.image method place) }
     {
         match self.probe(method, place) {
@@ -177,7 +177,7 @@ impl Tables {
     }
 
     /// The line that goes with a place of a method's version: behind the leave probe, if one stands there.
-    pub fn line(&self, method: u32, place: u16) -> Option<Line>
+    pub fn line(&self, method: usize, place: u16) -> Option<Line>
         ensures { result ≡ line_in self.now method place }
     {
         if self.leaves(method, place) {
@@ -191,7 +191,7 @@ impl Tables {
     pub fn first(&self, method: u32) -> u16
         ensures { result ≡ first_place self.now.image method }
     {
-        let enters = match self.probe(method, 0) {
+        let enters = match self.probe(method as usize, 0) {
             Some(probe) => is_entry_kind(probe.kind),
             None => false,
         };
@@ -199,10 +199,10 @@ impl Tables {
     }
 
     /// The probe at a place of a method's version, by two look-ups.
-    pub fn probe(&self, method: u32, place: u16) -> Option<Probe>
+    pub fn probe(&self, method: usize, place: u16) -> Option<Probe>
         ensures { result ≡ placed_probe_at self.now.image method place }
     {
-        let version = self.versions.get(method as usize)?;
+        let version = self.versions.get(method)?;
         version.probes.at(place as usize)?
     }
 

@@ -57,27 +57,27 @@ module _ (w : World) (m : Moving) where
   -- ---- a frame goes on
 
   pub goes-moves : (s : State) (f : Frame) (own : ℕ) (l : Locals) (o : Operands) (place : Option ℕ)
-      → goes w (moved m s) (moved_frame m f) own (moved_locals (m.home f.version) l) (moved_operands (m.home f.version) o) (option_map (m.home f.version) place) ≡ moved m (goes w s f own l o place)
+      → goes (moved m s) (moved_frame m f) own (moved_locals (m.home f.version) l) (moved_operands (m.home f.version) o) (option_map (m.home f.version) place) ≡ moved m (goes s f own l o place)
   goes-moves s f own l o None = refl
   goes-moves s f own l o (Some place) =
       let there : Frame = record f { place = place; locals = l; operands = o } in
-      ap (λ n. if nat_le n (max_stack_of w f.method) then with_frame (moved m s) (moved_frame m there) else breaks (moved m s) (moved_frame m there) own) (depth-moves (m.home f.version) o)
-      ∙ chosen-moves (nat_le (height_of o) (max_stack_of w f.method)) (with_frame s there) _ (breaks s there own) _ refl refl
+      ap (λ n. if nat_le n f.max_stack then with_frame (moved m s) (moved_frame m there) else breaks (moved m s) (moved_frame m f) own) (depth-moves (m.home f.version) o)
+      ∙ chosen-moves (nat_le (height_of o) f.max_stack) (with_frame s there) _ (breaks s f own) _ refl refl
 
   subroutine-moves : (s : State) (f : Frame) (i : Instruction) (next : Option ℕ)
-      → enters_subroutine w (moved m s) (moved_frame m f) (moved_instruction (m.home f.version) i) (option_map (m.home f.version) next) ≡ moved m (enters_subroutine w s f i next)
+      → enters_subroutine (moved m s) (moved_frame m f) (moved_instruction (m.home f.version) i) (option_map (m.home f.version) next) ≡ moved m (enters_subroutine s f i next)
   subroutine-moves s f i None = refl
   subroutine-moves s f i (Some next) =
       let h : ℕ → ℕ = m.home f.version in
-      ap (goes w (moved m s) (moved_frame m f) i.own (moved_locals h f.locals) (Addr (h next) ∷ moved_operands h f.operands)) (slice_get-map h i.targets 0)
+      ap (goes (moved m s) (moved_frame m f) i.own (moved_locals h f.locals) (Addr (h next) ∷ moved_operands h f.operands)) (slice_get-map h i.targets 0)
       ∙ goes-moves s f i.own f.locals (Addr next ∷ f.operands) (slice_get i.targets 0)
 
   resumes-moves : (s : State) (f : Frame) (d : Option Datum) (i : Option Instruction)
-      → resumes w (moved m s) (moved_frame m f) d (option_map (moved_instruction (m.home f.version)) i) ≡ moved m (resumes w s f d i)
+      → resumes (moved m s) (moved_frame m f) d (option_map (moved_instruction (m.home f.version)) i) ≡ moved m (resumes s f d i)
   resumes-moves s f d None = refl
   resumes-moves s f d (Some i) =
       let h : ℕ → ℕ = m.home f.version in
-      ap (λ o. goes w (moved m s) (moved_frame m f) i.own (moved_locals h f.locals) o (option_map h i.next)) (result-moves h d f.operands)
+      ap (λ o. goes (moved m s) (moved_frame m f) i.own (moved_locals h f.locals) o (option_map h i.next)) (result-moves h d f.operands)
       ∙ goes-moves s f i.own f.locals (with_value (option_map as_value d) f.operands) i.next
 
   -- ---- invocation and return
@@ -86,7 +86,7 @@ module _ (w : World) (m : Moving) where
     pub frame-moves : (k : ℕ) (args : List Datum) → new_frame w u k args ≡ moved_frame m (new_frame w t k args)
     frame-moves k args =
         let v : ℕ = t.current k in
-        let at : ℕ → ℕ → Locals → Frame = λ version place l. record { method = k; version = version; place = place; locals = l; operands = [] } in
+        let at : ℕ → ℕ → Locals → Frame = λ version place l. record { method = k; version = version; place = place; locals = l; operands = []; max_locals = max_locals_of w k; max_stack = max_stack_of w k } in
         let l : Locals = locals_with args (max_locals_of w k) in
         ap (λ version. at version (u.first version) l) (agrees.current k)
         ∙ (ap (λ place. at (m.version v) place l) (agrees.first v)
@@ -100,11 +100,11 @@ module _ (w : World) (m : Moving) where
         (ap (λ (g : Frame). record { after = with_frame (moved m waiting) g; changes = Began k ∷ [] }) (frame-moves k args))
         refl
 
-    gives_back-moves : (s : State) (d : Option Datum) (stack : List Entry) → ArePlaces norm stack → gives_back w u (moved m s) d (moved_stack m stack) ≡ moved m (gives_back w t s d stack)
+    gives_back-moves : (s : State) (d : Option Datum) (stack : List Entry) → ArePlaces norm stack → gives_back u (moved m s) d (moved_stack m stack) ≡ moved m (gives_back t s d stack)
     gives_back-moves s d [] are = refl
     gives_back-moves s d (Initializing c part ∷ below) are = refl
     gives_back-moves s d (Active f ∷ below) are =
-        ap (resumes w (moved m (record s { stack = below })) (moved_frame m f) d) (agrees.lines f.version f.place are.0)
+        ap (resumes (moved m (record s { stack = below })) (moved_frame m f) d) (agrees.lines f.version f.place are.0)
         ∙ resumes-moves (record s { stack = below }) f d (t.at f.version f.place)
 
     -- ---- every outcome
@@ -113,7 +113,7 @@ module _ (w : World) (m : Moving) where
         → applies w u (moved_instruction (m.home f.version) i) (moved_outcome (m.home f.version) outcome) (moved m s) (moved_frame m f) ≡ moved_turn m (applies w t i outcome s f)
     applies-moves i (GoesOn l o to) s f are =
         let h : ℕ → ℕ = m.home f.version in
-        ap (λ p. still (goes w (moved m s) (moved_frame m f) i.own (moved_locals h l) (moved_operands h o) p)) (place-moves h i to)
+        ap (λ p. still (goes (moved m s) (moved_frame m f) i.own (moved_locals h l) (moved_operands h o) p)) (place-moves h i to)
         ∙ ap still (goes-moves s f i.own l o (place_of i to))
     applies-moves i Subroutine s f are = ap still (subroutine-moves s f i i.next)
     applies-moves i (Invokes k args below) s f are = invokes-moves i s f k args below

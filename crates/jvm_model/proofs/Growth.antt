@@ -10,7 +10,7 @@ use Rattle.heap_objects.specs.declared.Value.TheVariants.{Ref, Addr}
 use Rattle.jvm_model.specs.Data.{Datum, Locals, Operands, Frame, Entry, Active, Initializing, Constants, Superclass, Initializer, Finish, Phase, Fresh, Erroneous, Ending, State, Turn, Instruction, Text, Outcome, GoesOn, Subroutine, Invokes, Returns, Throws, Raises, Initializes, Exits, Breaks, Done, World}
 use Rattle.frame_stack.specs.Widths.{height_of}
 use Rattle.jvm_model.specs.Values.{as_value, with_value}
-use Rattle.jvm_model.specs.Programs.{super_of, initializer_of, max_stack_of}
+use Rattle.jvm_model.specs.Programs.{super_of, initializer_of}
 use Rattle.jvm_model.specs.SharedState.{phase_of, class_of}
 use Rattle.jvm_model.specs.Rules.{does, loads}
 use Rattle.jvm_model.specs.Applies.{still, goes, place_of, enters_subroutine, has_room, resumes, gives_back, applies}
@@ -45,28 +45,28 @@ chosen_turn-keeps kept false x y p q = q
 
 -- ---- outcomes leave the output
 
-goes-keeps : (w : World) (s : State) (f : Frame) (own : ℕ) (l : Locals) (o : Operands) (place : Option ℕ) → (goes w s f own l o place).output ≡ s.output
-goes-keeps w s f own l o None = refl
-goes-keeps w s f own l o (Some place) = chosen-keeps s.output (nat_le (height_of o) (max_stack_of w f.method)) _ _ refl refl
+goes-keeps : (s : State) (f : Frame) (own : ℕ) (l : Locals) (o : Operands) (place : Option ℕ) → (goes s f own l o place).output ≡ s.output
+goes-keeps s f own l o None = refl
+goes-keeps s f own l o (Some place) = chosen-keeps s.output (nat_le (height_of o) f.max_stack) _ _ refl refl
 
-enters-keeps : (w : World) (s : State) (f : Frame) (i : Instruction) (next : Option ℕ) → (enters_subroutine w s f i next).output ≡ s.output
-enters-keeps w s f i None = refl
-enters-keeps w s f i (Some next) = goes-keeps w s f i.own f.locals (Addr next ∷ f.operands) (slice_get i.targets 0)
+enters-keeps : (s : State) (f : Frame) (i : Instruction) (next : Option ℕ) → (enters_subroutine s f i next).output ≡ s.output
+enters-keeps s f i None = refl
+enters-keeps s f i (Some next) = goes-keeps s f i.own f.locals (Addr next ∷ f.operands) (slice_get i.targets 0)
 
-resumes-keeps : (w : World) (s : State) (f : Frame) (d : Option Datum) (found : Option Instruction) → (resumes w s f d found).output ≡ s.output
-resumes-keeps w s f d None = refl
-resumes-keeps w s f d (Some i) = goes-keeps w s f i.own f.locals (with_value (option_map as_value d) f.operands) i.next
+resumes-keeps : (s : State) (f : Frame) (d : Option Datum) (found : Option Instruction) → (resumes s f d found).output ≡ s.output
+resumes-keeps s f d None = refl
+resumes-keeps s f d (Some i) = goes-keeps s f i.own f.locals (with_value (option_map as_value d) f.operands) i.next
 
-gives_back-keeps : (w : World) (t : Text) (s : State) (d : Option Datum) (stack : List Entry) → (gives_back w t s d stack).output ≡ s.output
-gives_back-keeps w t s d [] = refl
-gives_back-keeps w t s d (Initializing c part ∷ below) = refl
-gives_back-keeps w t s d (Active f ∷ below) = resumes-keeps w (record s { stack = below }) f d (t.at f.version f.place)
+gives_back-keeps : (t : Text) (s : State) (d : Option Datum) (stack : List Entry) → (gives_back t s d stack).output ≡ s.output
+gives_back-keeps t s d [] = refl
+gives_back-keeps t s d (Initializing c part ∷ below) = refl
+gives_back-keeps t s d (Active f ∷ below) = resumes-keeps (record s { stack = below }) f d (t.at f.version f.place)
 
 pub applies-keeps : (w : World) (t : Text) (i : Instruction) (outcome : Outcome) (s : State) (f : Frame) → (applies w t i outcome s f).after.output ≡ s.output
-applies-keeps w t i (GoesOn l o to) s f = goes-keeps w s f i.own l o (place_of i to)
-applies-keeps w t i Subroutine s f = enters-keeps w s f i i.next
+applies-keeps w t i (GoesOn l o to) s f = goes-keeps s f i.own l o (place_of i to)
+applies-keeps w t i Subroutine s f = enters-keeps s f i i.next
 applies-keeps w t i (Invokes m args below) s f = chosen_turn-keeps s.output (has_room w m args) _ _ refl refl
-applies-keeps w t i (Returns d) s f = gives_back-keeps w t s d s.stack
+applies-keeps w t i (Returns d) s f = gives_back-keeps t s d s.stack
 applies-keeps w t i (Throws r) s f = refl
 applies-keeps w t i (Raises c) s f = refl
 applies-keeps w t i (Initializes c) s f = refl
@@ -78,7 +78,7 @@ applies-keeps w t i (Breaks false) s f = refl
 
 caught-keeps : (w : World) (t : Text) (s : State) (r : ℕ) (f : Frame) (h : Option ℕ) → (caught w t s r f h).after.output ≡ s.output
 caught-keeps w t s r f None = refl
-caught-keeps w t s r f (Some target) = goes-keeps w (record s { thrown = None }) f (own_at t f) f.locals (Ref r ∷ []) (Some target)
+caught-keeps w t s r f (Some target) = goes-keeps (record s { thrown = None }) f (own_at t f) f.locals (Ref r ∷ []) (Some target)
 
 super-keeps : (w : World) (s : State) (c d : ℕ) (p : Option Phase) → (after_super w s c d p).output ≡ s.output
 super-keeps w s c d (Some Erroneous) = refl

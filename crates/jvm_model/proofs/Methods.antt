@@ -6,7 +6,7 @@ use Rattle.heap_objects.specs.declared.Value.TheVariants.{Ref, Addr}
 use Rattle.jvm_model.specs.Data.{Datum, Locals, Operands, Frame, Entry, Active, Initializing, Constants, Superclass, Initializer, Finish, Phase, Fresh, Erroneous, Ending, State, Change, Turn, Instruction, Text, Outcome, GoesOn, Subroutine, Invokes, Returns, Throws, Raises, Initializes, Exits, Breaks, Done, World}
 use Rattle.frame_stack.specs.Widths.{height_of}
 use Rattle.jvm_model.specs.Values.{as_value, with_value}
-use Rattle.jvm_model.specs.Programs.{super_of, initializer_of, max_stack_of}
+use Rattle.jvm_model.specs.Programs.{super_of, initializer_of}
 use Rattle.jvm_model.specs.SharedState.{phase_of, class_of}
 use Rattle.jvm_model.specs.Rules.{does, loads}
 use Rattle.jvm_model.specs.Applies.{still, with_frame, breaks, goes, place_of, enters_subroutine, has_room, resumes, gives_back, applies}
@@ -33,34 +33,34 @@ chosen-tells ms false x y p q = q
 
 -- ---- outcomes
 
-goes-methods : (w : World) (s : State) (f : Frame) (own : ℕ) (l : Locals) (o : Operands) (place : Option ℕ) → methods (goes w s f own l o place).stack ≡ f.method ∷ methods s.stack
-goes-methods w s f own l o None = refl
-goes-methods w s f own l o (Some place) = by (nat_le (height_of o) (max_stack_of w f.method)) where
+goes-methods : (s : State) (f : Frame) (own : ℕ) (l : Locals) (o : Operands) (place : Option ℕ) → methods (goes s f own l o place).stack ≡ f.method ∷ methods s.stack
+goes-methods s f own l o None = refl
+goes-methods s f own l o (Some place) = by (nat_le (height_of o) f.max_stack) where
   moved : Frame
   moved = record f { place = place; locals = l; operands = o }
 
-  by : (b : Bool) → methods (if b then with_frame s moved else breaks s moved own).stack ≡ f.method ∷ methods s.stack
+  by : (b : Bool) → methods (if b then with_frame s moved else breaks s f own).stack ≡ f.method ∷ methods s.stack
   by true = refl
   by false = refl
 
-enters-methods : (w : World) (s : State) (f : Frame) (i : Instruction) (next : Option ℕ) → methods (enters_subroutine w s f i next).stack ≡ f.method ∷ methods s.stack
-enters-methods w s f i None = refl
-enters-methods w s f i (Some next) = goes-methods w s f i.own f.locals (Addr next ∷ f.operands) (slice_get i.targets 0)
+enters-methods : (s : State) (f : Frame) (i : Instruction) (next : Option ℕ) → methods (enters_subroutine s f i next).stack ≡ f.method ∷ methods s.stack
+enters-methods s f i None = refl
+enters-methods s f i (Some next) = goes-methods s f i.own f.locals (Addr next ∷ f.operands) (slice_get i.targets 0)
 
-resumes-methods : (w : World) (s : State) (f : Frame) (d : Option Datum) (found : Option Instruction) → methods (resumes w s f d found).stack ≡ f.method ∷ methods s.stack
-resumes-methods w s f d None = refl
-resumes-methods w s f d (Some i) = goes-methods w s f i.own f.locals (with_value (option_map as_value d) f.operands) i.next
+resumes-methods : (s : State) (f : Frame) (d : Option Datum) (found : Option Instruction) → methods (resumes s f d found).stack ≡ f.method ∷ methods s.stack
+resumes-methods s f d None = refl
+resumes-methods s f d (Some i) = goes-methods s f i.own f.locals (with_value (option_map as_value d) f.operands) i.next
 
-gives_back-methods : (w : World) (t : Text) (s : State) (d : Option Datum) (stack : List Entry) → s.stack ≡ stack → methods (gives_back w t s d stack).stack ≡ methods stack
-gives_back-methods w t s d [] e = ap methods e
-gives_back-methods w t s d (Initializing c part ∷ below) e = ap methods e
-gives_back-methods w t s d (Active f ∷ below) e = resumes-methods w (record s { stack = below }) f d (t.at f.version f.place)
+gives_back-methods : (t : Text) (s : State) (d : Option Datum) (stack : List Entry) → s.stack ≡ stack → methods (gives_back t s d stack).stack ≡ methods stack
+gives_back-methods t s d [] e = ap methods e
+gives_back-methods t s d (Initializing c part ∷ below) e = ap methods e
+gives_back-methods t s d (Active f ∷ below) e = resumes-methods (record s { stack = below }) f d (t.at f.version f.place)
 
 pub applies-tells : (w : World) (t : Text) (i : Instruction) (outcome : Outcome) (s : State) (f : Frame) → Tells (f.method ∷ methods s.stack) (applies w t i outcome s f)
-applies-tells w t i (GoesOn l o to) s f = goes-methods w s f i.own l o (place_of i to)
-applies-tells w t i Subroutine s f = enters-methods w s f i i.next
+applies-tells w t i (GoesOn l o to) s f = goes-methods s f i.own l o (place_of i to)
+applies-tells w t i Subroutine s f = enters-methods s f i i.next
 applies-tells w t i (Invokes m args below) s f = chosen-tells (f.method ∷ methods s.stack) (has_room w m args) _ _ refl refl
-applies-tells w t i (Returns d) s f = gives_back-methods w t s d s.stack refl
+applies-tells w t i (Returns d) s f = gives_back-methods t s d s.stack refl
 applies-tells w t i (Throws r) s f = refl
 applies-tells w t i (Raises c) s f = refl
 applies-tells w t i (Initializes c) s f = refl
@@ -72,7 +72,7 @@ applies-tells w t i (Breaks false) s f = refl
 
 caught-tells : (w : World) (t : Text) (s : State) (r : ℕ) (f : Frame) (h : Option ℕ) → Tells (f.method ∷ methods s.stack) (caught w t s r f h)
 caught-tells w t s r f None = refl
-caught-tells w t s r f (Some target) = goes-methods w (record s { thrown = None }) f (own_at t f) f.locals (Ref r ∷ []) (Some target)
+caught-tells w t s r f (Some target) = goes-methods (record s { thrown = None }) f (own_at t f) f.locals (Ref r ∷ []) (Some target)
 
 super-methods : (w : World) (s : State) (c d : ℕ) (p : Option Phase) → methods (after_super w s c d p).stack ≡ methods s.stack
 super-methods w s c d (Some Fresh) = refl

@@ -73,7 +73,7 @@ module _ (w : World) (m : Moving) (norm : ℕ → ℕ → ℕ) (t u : Text) (agr
   caught-moves s r f here (Some target) =
       let h : ℕ → ℕ = m.home f.version in
       let free : State = record s { thrown = None } in
-      ap (λ own. still (goes w (moved m free) (moved_frame m f) own (moved_locals h f.locals) (Ref r ∷ []) (Some (h target)))) (own-moves f here)
+      ap (λ own. still (goes (moved m free) (moved_frame m f) own (moved_locals h f.locals) (Ref r ∷ []) (Some (h target)))) (own-moves f here)
       ∙ ap still (goes-moves w m free f (own_at t f) f.locals (Ref r ∷ []) (Some target))
 
   unwound-moves : (s : State) (r : ℕ) (f : Frame) → IsPlace norm f.version f.place

@@ -15,9 +15,9 @@ use Rattle.frame_stack.specs.Widths.{height_of}
 use Rattle.jvm_model.specs.Values.{as_value, datum_of, arguments, with_value, loaded}
 use Rattle.jvm_model.specs.LocalRules.{pushes, calculates, returns_datum, returns}
 use Rattle.jvm_model.specs.Methods.{method_code}
-use Rattle.jvm_model.specs.Programs.{max_stack_of, params_of_method}
+use Rattle.jvm_model.specs.Programs.{params_of_method}
 use Rattle.jvm_model.specs.Rules.{is_print_stream, invokes, invokes_with}
-use Rattle.jvm_model.specs.Applies.{still, with_frame, breaks, lands, goes, new_frame, has_room, begins, resumes, gives_back, breaks_or_ends, applies}
+use Rattle.jvm_model.specs.Applies.{still, with_frame, breaks, goes, new_frame, has_room, begins, resumes, gives_back, breaks_or_ends, applies}
 use Rattle.jvm_model.specs.Quiet.{IsCoded, AreCoded, IsQuiet}
 use Rattle.jvm_model.specs.Attempts.{asks_println, asks}
 
@@ -95,23 +95,21 @@ frame-quiet c s f quiet coded = record { thrown = quiet.thrown; begun = quiet.be
 breaks-quiet : (c : ClassFile) (s : State) (f : Frame) (own : ℕ) → IsQuiet c s → IsCoded c f.method f.version → IsQuiet c (breaks s f own)
 breaks-quiet c s f own quiet coded = record { thrown = quiet.thrown; begun = λ e. absurd (none-some (Unverifiable f.method own) (sym e)); ready = quiet.ready; coded = (coded, quiet.coded) }
 
-lands-quiet : (c : ClassFile) (w : World) (s : State) (f : Frame) (own : ℕ) → IsQuiet c s → IsCoded c f.method f.version → IsQuiet c (lands w s f own)
-lands-quiet c w s f own quiet coded = chosen-quiet c (nat_le (height_of f.operands) (max_stack_of w f.method)) _ _ (frame-quiet c s f quiet coded) (breaks-quiet c s f own quiet coded)
+goes-quiet : (c : ClassFile) (s : State) (f : Frame) (own : ℕ) (l : Locals) (o : Operands) (place : Option ℕ) → IsQuiet c s → IsCoded c f.method f.version → IsQuiet c (goes s f own l o place)
+goes-quiet c s f own l o None quiet coded = breaks-quiet c s f own quiet coded
+goes-quiet c s f own l o (Some place) quiet coded =
+    chosen-quiet c (nat_le (height_of o) f.max_stack) _ _ (frame-quiet c s (record f { place = place; locals = l; operands = o }) quiet coded) (breaks-quiet c s f own quiet coded)
 
-goes-quiet : (c : ClassFile) (w : World) (s : State) (f : Frame) (own : ℕ) (l : Locals) (o : Operands) (place : Option ℕ) → IsQuiet c s → IsCoded c f.method f.version → IsQuiet c (goes w s f own l o place)
-goes-quiet c w s f own l o None quiet coded = breaks-quiet c s f own quiet coded
-goes-quiet c w s f own l o (Some place) quiet coded = lands-quiet c w s (record f { place = place; locals = l; operands = o }) own quiet coded
-
-resumes-quiet : (c : ClassFile) (w : World) (s : State) (caller : Frame) (d : Option Datum) (i : Option Instruction) → IsQuiet c s → IsCoded c caller.method caller.version → IsQuiet c (resumes w s caller d i)
-resumes-quiet c w s caller d None quiet coded = breaks-quiet c s caller 0 quiet coded
-resumes-quiet c w s caller d (Some i) quiet coded = goes-quiet c w s caller i.own caller.locals (with_value (option_map as_value d) caller.operands) i.next quiet coded
+resumes-quiet : (c : ClassFile) (s : State) (caller : Frame) (d : Option Datum) (i : Option Instruction) → IsQuiet c s → IsCoded c caller.method caller.version → IsQuiet c (resumes s caller d i)
+resumes-quiet c s caller d None quiet coded = breaks-quiet c s caller 0 quiet coded
+resumes-quiet c s caller d (Some i) quiet coded = goes-quiet c s caller i.own caller.locals (with_value (option_map as_value d) caller.operands) i.next quiet coded
 
 -- from the stack of a quiet state
-back-quiet : (c : ClassFile) (w : World) (t : Text) (s : State) (d : Option Datum) (stack : List Entry) → IsQuiet c s → AreCoded c stack → IsQuiet c (gives_back w t s d stack)
-back-quiet c w t s d [] quiet coded = quiet
-back-quiet c w t s d (Initializing class part ∷ below) quiet coded = absurd coded
-back-quiet c w t s d (Active caller ∷ below) quiet coded =
-    resumes-quiet c w (record s { stack = below }) caller d (t.at caller.version caller.place)
+back-quiet : (c : ClassFile) (t : Text) (s : State) (d : Option Datum) (stack : List Entry) → IsQuiet c s → AreCoded c stack → IsQuiet c (gives_back t s d stack)
+back-quiet c t s d [] quiet coded = quiet
+back-quiet c t s d (Initializing class part ∷ below) quiet coded = absurd coded
+back-quiet c t s d (Active caller ∷ below) quiet coded =
+    resumes-quiet c (record s { stack = below }) caller d (t.at caller.version caller.place)
     (record { thrown = quiet.thrown; begun = quiet.begun; ready = quiet.ready; coded = coded.1 }) coded.0
 
 ends-quiet : (c : ClassFile) (ends : Bool) (s : State) (f : Frame) (own : ℕ) → IsQuiet c s → IsCoded c f.method f.version → IsQuiet c (breaks_or_ends ends s f own).after
@@ -124,12 +122,12 @@ IsOneVersion t = (m : ℕ) → t.current m ≡ m
 
 pub applies-quiet : (c : ClassFile) (w : World) (t : Text) (i : Instruction) (outcome : Outcome) (s : State) (f : Frame) → IsOneVersion t → IsSimple c outcome → IsQuiet c s → IsCoded c f.method f.version
     → IsQuiet c (applies w t i outcome s f).after
-applies-quiet c w t i (GoesOn l o Next) s f one simple quiet coded = goes-quiet c w s f i.own l o i.next quiet coded
+applies-quiet c w t i (GoesOn l o Next) s f one simple quiet coded = goes-quiet c s f i.own l o i.next quiet coded
 applies-quiet c w t i (Invokes m args below) s f one simple quiet coded =
     chosen_turn-quiet c (has_room w m args) (begins w t s f m args below) (still (breaks s f i.own))
     (frame-quiet c (with_frame s (record f { operands = below })) (new_frame w t m args) (frame-quiet c s (record f { operands = below }) quiet coded) (record { same = one m; code = simple }))
     (breaks-quiet c s f i.own quiet coded)
-applies-quiet c w t i (Returns d) s f one simple quiet coded = back-quiet c w t s d s.stack quiet quiet.coded
+applies-quiet c w t i (Returns d) s f one simple quiet coded = back-quiet c t s d s.stack quiet quiet.coded
 applies-quiet c w t i (Breaks ends) s f one simple quiet coded = ends-quiet c ends s f i.own quiet coded
 applies-quiet c w t i _ s f one simple quiet coded = absurd simple
 
@@ -153,28 +151,28 @@ new_frame-same c w t u s m args says code =
     let current : t.current m ≡ m = says.current m ∙ says.one m in
     ap (λ version. made version (t.first version)) current ∙ (ap (made m) (says.first m code) ∙ sym (ap (λ version. made version (u.first version)) (says.one m)))
 
-resumes-by : (w : World) (s : State) (caller : Frame) (d : Option Datum) (i j : Option Instruction)
-    → option_map places_of i ≡ option_map places_of j → resumes w s caller d i ≡ resumes w s caller d j
-resumes-by w s caller d None None e = refl
-resumes-by w s caller d None (Some j) e = absurd (none-some (places_of j) e)
-resumes-by w s caller d (Some i) None e = absurd (none-some (places_of i) (sym e))
-resumes-by w s caller d (Some i) (Some j) e =
+resumes-by : (s : State) (caller : Frame) (d : Option Datum) (i j : Option Instruction)
+    → option_map places_of i ≡ option_map places_of j → resumes s caller d i ≡ resumes s caller d j
+resumes-by s caller d None None e = refl
+resumes-by s caller d None (Some j) e = absurd (none-some (places_of j) e)
+resumes-by s caller d (Some i) None e = absurd (none-some (places_of i) (sym e))
+resumes-by s caller d (Some i) (Some j) e =
     let pair : places_of i ≡ places_of j = same_Some (places_of i) (places_of j) e in
-    ap (λ (x : ℕ × Option ℕ). goes w s caller x.0 caller.locals (with_value (option_map as_value d) caller.operands) x.1) pair
+    ap (λ (x : ℕ × Option ℕ). goes s caller x.0 caller.locals (with_value (option_map as_value d) caller.operands) x.1) pair
 
-back-same : (c : ClassFile) (w : World) (t u : Text) (s : State) (d : Option Datum) (stack : List Entry) → s.stack ≡ stack → SaysTheSame c t u s → gives_back w t s d stack ≡ gives_back w u s d stack
-back-same c w t u s d [] is says = refl
-back-same c w t u s d (Initializing class part ∷ below) is says = refl
-back-same c w t u s d (Active caller ∷ below) is says =
-    resumes-by w (record s { stack = below }) caller d (t.at caller.version caller.place) (u.at caller.version caller.place) (says.caller caller below is)
+back-same : (c : ClassFile) (t u : Text) (s : State) (d : Option Datum) (stack : List Entry) → s.stack ≡ stack → SaysTheSame c t u s → gives_back t s d stack ≡ gives_back u s d stack
+back-same c t u s d [] is says = refl
+back-same c t u s d (Initializing class part ∷ below) is says = refl
+back-same c t u s d (Active caller ∷ below) is says =
+    resumes-by (record s { stack = below }) caller d (t.at caller.version caller.place) (u.at caller.version caller.place) (says.caller caller below is)
 
 -- the same instruction, as far as its places go
 pub applies-same : (c : ClassFile) (w : World) (t u : Text) (i j : Instruction) (outcome : Outcome) (s : State) (f : Frame) → SaysTheSame c t u s → IsSimple c outcome → i.own ≡ j.own → i.next ≡ j.next
     → applies w t i outcome s f ≡ applies w u j outcome s f
-applies-same c w t u i j (GoesOn l o Next) s f says simple own next = ap (λ k. still (goes w s f k l o i.next)) own ∙ ap (λ k. still (goes w s f j.own l o k)) next
+applies-same c w t u i j (GoesOn l o Next) s f says simple own next = ap (λ k. still (goes s f k l o i.next)) own ∙ ap (λ k. still (goes s f j.own l o k)) next
 applies-same c w t u i j (Invokes m args below) s f says simple own next =
     ap (λ g. let x : Turn = (cond (has_room w m args) (record { after = with_frame (with_frame s (record f { operands = below })) g; changes = Began m ∷ [] }) (still (breaks s f i.own))) in x) (new_frame-same c w t u s m args says simple)
     ∙ ap (λ k. let x : Turn = (cond (has_room w m args) (begins w u s f m args below) (still (breaks s f k))) in x) own
-applies-same c w t u i j (Returns d) s f says simple own next = ap (λ x. let a : Turn = record { after = x; changes = Left ∷ [] } in a) (back-same c w t u s d s.stack refl says)
+applies-same c w t u i j (Returns d) s f says simple own next = ap (λ x. let a : Turn = record { after = x; changes = Left ∷ [] } in a) (back-same c t u s d s.stack refl says)
 applies-same c w t u i j (Breaks ends) s f says simple own next = ap (λ k. breaks_or_ends ends s f k) own
 applies-same c w t u i j _ s f says simple own next = absurd simple

@@ -3,11 +3,11 @@ use Rattle.std.proofs.Common.{◌≡◌, ℕ, zero, suc, ◌+◌, ◌*◌, ◌<�
 use Rattle.std.specs.Option.{IfSome, option_map_or}
 use Rattle.heap_objects.specs.declared.datum.Datum.TheVariants as datum
 use Rattle.heap_objects.specs.declared.Value.TheVariants.{Ref}
-use Rattle.jvm_model.specs.Data.{Frame, Entry, Active, Initializing, Part, Constants, Superclass, Initializer, Finish, Phase, Fresh, Running, Ready, Erroneous, Instance, Shared, Ending, State, Turn, Text, World}
+use Rattle.jvm_model.specs.Data.{Locals, Operands, Frame, Entry, Active, Initializing, Part, Constants, Superclass, Initializer, Finish, Phase, Fresh, Running, Ready, Erroneous, Instance, Shared, Ending, State, Turn, Text, World}
 use Rattle.frame_stack.specs.Widths.{height_of}
-use Rattle.jvm_model.specs.Programs.{class_named, is_subclass, super_of, initializer_of, max_stack_of}
+use Rattle.jvm_model.specs.Programs.{class_named, is_subclass, super_of, initializer_of}
 use Rattle.jvm_model.specs.SharedState.{error, no_class_definition, in_initializer, phase_of, with_phase, class_of, allocated, raised}
-use Rattle.jvm_model.specs.Applies.{with_frame, lands, breaks, has_room}
+use Rattle.jvm_model.specs.Applies.{with_frame, goes, breaks, has_room}
 use Rattle.jvm_model.specs.Moves.{handler_for, own_at, caught, wrapped, raises, after_super, with_super, runs_initializer, initializes, argument_array, main_or_end, moves, move, weights, fresh, unless, left, then_turn, settles, settled}
 
 -- ---- phases
@@ -66,10 +66,10 @@ chosen-less : (k : ℕ) (b : Bool) (x y : Turn) → left x.after < k → left y.
 chosen-less k true x y p q = p
 chosen-less k false x y p q = q
 
--- a frame that lands is one more at most
-lands-left : (w : World) (s : State) (f : Frame) (own : ℕ) → left (lands w s f own) ≤ left s + 1
-lands-left w s f own = by (nat_le (height_of f.operands) (max_stack_of w f.method)) where
-  by : (b : Bool) → left (if b then with_frame s f else breaks s f own) ≤ left s + 1
+-- a frame that goes on is one more at most
+goes-left : (s : State) (f : Frame) (own : ℕ) (l : Locals) (o : Operands) (place : ℕ) → left (goes s f own l o (Some place)) ≤ left s + 1
+goes-left s f own l o place = by (nat_le (height_of o) f.max_stack) where
+  by : (b : Bool) → left (if b then with_frame s (record f { place = place; locals = l; operands = o }) else breaks s f own) ≤ left s + 1
   by true = omega arith
   by false = omega arith
 
@@ -77,7 +77,7 @@ caught-less : (w : World) (t : Text) (below : List Entry) (r : ℕ) (begun : Boo
     → left (caught w t (state below (Some r) begun output shared None) r f h).after < left (state (Active f ∷ below) (Some r) begun output shared None)
 caught-less w t below r begun output shared f None = omega arith
 caught-less w t below r begun output shared f (Some target) =
-    let h = lands-left w (state below None begun output shared None) (record f { place = target; operands = Ref r ∷ [] }) (own_at t f) in omega arith
+    let h = goes-left (state below None begun output shared None) f (own_at t f) f.locals (Ref r ∷ []) target in omega arith
 
 -- a phase that is no more fresh, with an exception or without
 fails-phases : (w : World) (s : Shared) (c r : ℕ) → fresh (with_phase (wrapped w s r).shared c Erroneous).phases ≤ fresh s.phases

@@ -77,8 +77,8 @@ p3_laid = laid_out (home_at p3_homes) origin (text_by p3)
 
 -- within the subroutine, when the return address was stored: 9, where the original code has 3
 abbrev pub p3_stack : List Entry
-p3_stack = Active (record { method = 0; version = 0; place = 18; locals = Some (Int (pos 41)) ∷ Some (Addr 9) ∷ []; operands = [] })
-    ∷ Active (record { method = 1; version = 1; place = 5; locals = Some (Ref 5) ∷ []; operands = Ref 3 ∷ [] }) ∷ []
+p3_stack = Active (record { method = 0; version = 0; place = 18; locals = Some (Int (pos 41)) ∷ Some (Addr 9) ∷ []; operands = []; max_locals = 2; max_stack = 1 })
+    ∷ Active (record { method = 1; version = 1; place = 5; locals = Some (Ref 5) ∷ []; operands = Ref 3 ∷ []; max_locals = 1; max_stack = 2 }) ∷ []
 
 pub p3-laid_stack : (turn_in (world_by p3) p3_laid 5).after.stack ≡ p3_stack
 unfolding turn_in int_wrap

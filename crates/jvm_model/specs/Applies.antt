@@ -18,16 +18,12 @@ with_frame s f = record s { stack = Active f ∷ s.stack }
 abbrev pub breaks : State → Frame → ℕ → State
 breaks s f own = record s { stack = Active f ∷ s.stack; ending = Some (Unverifiable f.method own) }
 
--- The frame has moved on, unless its operands are deeper than its method allows (4.9.2): then the run ends at the
--- instruction at which it stood before, whose original offset is given.
-abbrev pub lands : World → State → Frame → ℕ → State
-lands w s f own =
-    if nat_le (height_of f.operands) (max_stack_of w f.method) then with_frame s f else breaks s f own
-
--- with these locals and operands, at a place
-abbrev pub goes : World → State → Frame → ℕ → Locals → Operands → Option ℕ → State
-goes w s f own l o None = breaks s f own
-goes w s f own l o (Some place) = lands w s (record f { place = place; locals = l; operands = o }) own
+-- The frame goes on with these locals and operands, at a place, unless they are deeper than its limit (4.9.2): then the run ends
+-- at the instruction at which it stood before, whose original offset is given, and the frame stays as it was.
+abbrev pub goes : State → Frame → ℕ → Locals → Operands → Option ℕ → State
+goes s f own l o None = breaks s f own
+goes s f own l o (Some place) =
+    if nat_le (height_of o) f.max_stack then with_frame s (record f { place = place; locals = l; operands = o }) else breaks s f own
 
 abbrev pub place_of : Instruction → Where → Option ℕ
 place_of i Next = i.next
@@ -35,9 +31,9 @@ place_of i (Target k) = slice_get i.targets k
 place_of i (Back place) = Some place
 
 -- the place behind the instruction is the return address
-abbrev pub enters_subroutine : World → State → Frame → Instruction → Option ℕ → State
-enters_subroutine w s f i None = breaks s f i.own
-enters_subroutine w s f i (Some next) = goes w s f i.own f.locals (Addr next ∷ f.operands) (slice_get i.targets 0)
+abbrev pub enters_subroutine : State → Frame → Instruction → Option ℕ → State
+enters_subroutine s f i None = breaks s f i.own
+enters_subroutine s f i (Some next) = goes s f i.own f.locals (Addr next ∷ f.operands) (slice_get i.targets 0)
 
 -- ---- invocation and return (2.6, 2.6.4)
 
@@ -48,6 +44,8 @@ new_frame w t m args = record {
   place = t.first (t.current m);
   locals = locals_with args (max_locals_of w m);
   operands = [];
+  max_locals = max_locals_of w m;
+  max_stack = max_stack_of w m;
 }
 
 abbrev pub throws_at : State → Frame → Allocated → State
@@ -65,15 +63,15 @@ invokes w t i s f m args below =
     if has_room w m args then begins w t s f m args below else still (breaks s f i.own)
 
 -- the caller goes on behind its instruction, with the result on top
-abbrev pub resumes : World → State → Frame → Option Datum → Option Instruction → State
-resumes w s caller d None = breaks s caller 0
-resumes w s caller d (Some i) = goes w s caller i.own caller.locals (with_value (option_map as_value d) caller.operands) i.next
+abbrev pub resumes : State → Frame → Option Datum → Option Instruction → State
+resumes s caller d None = breaks s caller 0
+resumes s caller d (Some i) = goes s caller i.own caller.locals (with_value (option_map as_value d) caller.operands) i.next
 
 -- the current frame is off; an initialization goes on by itself
-abbrev pub gives_back : World → Text → State → Option Datum → List Entry → State
-gives_back w t s d [] = s
-gives_back w t s d (Initializing c part ∷ below) = s
-gives_back w t s d (Active caller ∷ below) = resumes w (record s { stack = below }) caller d (t.at caller.version caller.place)
+abbrev pub gives_back : Text → State → Option Datum → List Entry → State
+gives_back t s d [] = s
+gives_back t s d (Initializing c part ∷ below) = s
+gives_back t s d (Active caller ∷ below) = resumes (record s { stack = below }) caller d (t.at caller.version caller.place)
 
 -- ---- every outcome
 
@@ -84,10 +82,10 @@ breaks_or_ends false s f own = still (breaks s f own)
 
 -- from the state without the current frame, and that frame
 abbrev pub applies : World → Text → Instruction → Outcome → State → Frame → Turn
-applies w t i (GoesOn l o to) s f = still (goes w s f i.own l o (place_of i to))
-applies w t i Subroutine s f = still (enters_subroutine w s f i i.next)
+applies w t i (GoesOn l o to) s f = still (goes s f i.own l o (place_of i to))
+applies w t i Subroutine s f = still (enters_subroutine s f i i.next)
 applies w t i (Invokes m args below) s f = invokes w t i s f m args below
-applies w t i (Returns d) s f = record { after = gives_back w t s d s.stack; changes = Left ∷ [] }
+applies w t i (Returns d) s f = record { after = gives_back t s d s.stack; changes = Left ∷ [] }
 applies w t i (Throws r) s f = still (throws_at s f (record { shared = s.shared; reference = r }))
 applies w t i (Raises c) s f = still (throws_at s f (raised w s.shared c))
 applies w t i (Initializes c) s f = still (record s { stack = Initializing c Constants ∷ Active f ∷ s.stack; shared = with_phase s.shared c Running })

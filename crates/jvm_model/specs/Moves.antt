@@ -24,7 +24,7 @@ own_at t f = option_map_or (λ (i : Instruction). i.own) (t.at f.version f.place
 
 abbrev pub caught : World → Text → State → ℕ → Frame → Option ℕ → Turn
 caught w t s r f None = record { after = s; changes = Unwound ∷ [] }
-caught w t s r f (Some target) = still (goes w (record s { thrown = None }) f (own_at t f) f.locals (Ref r ∷ []) (Some target))
+caught w t s r f (Some target) = still (goes (record s { thrown = None }) f (own_at t f) f.locals (Ref r ∷ []) (Some target))
 
 -- ---- a throw meets an initialization
 

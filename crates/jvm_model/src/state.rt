@@ -6,8 +6,8 @@ use jf_bytes::{Seq, Stack};
 
 /// A frame (JVM Specification 2.6): the number of its method, the version of it that the frame runs, the place in that
 /// version of the instruction that is executed next (or, while a callee runs, of the invoking one), its locals, of which
-/// each is unwritten at first, and its operand stack, the top first. Original code is the version whose number is the
-/// method's, and its places are offsets.
+/// each is unwritten at first, its operand stack, the top first, and the sizes of both, which come with the method. Original
+/// code is the version whose number is the method's, and its places are offsets.
 #[derive(Debug, Drop)]
 pub struct Frame {
     pub method: u32,
@@ -15,6 +15,8 @@ pub struct Frame {
     pub place: u16,
     pub locals: Seq<Option<Value>>,
     pub operands: Stack<Value>,
+    pub max_locals: u16,
+    pub max_stack: u16,
 }
 
 /// Which part of a class's initialization is done next (5.5): its constants, its superclass, its static initializer, or

@@ -1,27 +1,21 @@
-use Rattle.std.proofs.Common.{sym, ap, ◌∙◌}
-use Rattle.jvm_model.specs.Data.{Turn}
-use Rattle.jvm_model.specs.Attempts.{has_begun}
-use Rattle.jvm_model.specs.Installed.{placed}
-use Rattle.jvm_machine.proofs.Callees.{invokes-none, invokes-some, callee-enough}
+use Rattle.std.proofs.Common.{ap, ◌∙◌}
+use Rattle.jvm_machine.specs.States.{state_in}
+use Rattle.jvm_machine.proofs.Callees.{is-invoked}
 use Rattle.jvm_machine.proofs.invoking.invoke.Goals as goal
 
-pub put_callee-requires : goal.put_callee-requires
-put_callee-requires c = callee-enough c.args.tables.now c.args.method c.args.frame.operands c.in-Some.callee (sym c.in_ok-callee_of.ensures ∙ c.in-Some.is)
+pub returns-then-not-begun-clause-state : goal.returns-then-not-begun-clause-state
+returns-then-not-begun-clause-state c =
+    ap state_in c.break_off.ensures
+    ∙ (is-invoked c.args.tables.now c.args.line c.args.method c.args.callee c.args.parts.now c.begin_callee.new.frames c.in_ok-begun.begun c.requires c.in_ok-begun.ensures.answer c.in_ok-begun.ensures.frames).ends c.if-not-begun.true
 
-pub returns-in_ok-break_off-in-None-clause-state : goal.returns-in_ok-break_off-in-None-clause-state
-returns-in_ok-break_off-in-None-clause-state c =
-    c.in_ok-break_off-in-None.ensures
-    ∙ ap (λ (turn : Turn). turn.after) (sym (invokes-none c.args.tables.now (placed c.args.line) c.args.state.now c.args.frame c.args.method (sym c.in_ok-callee_of.ensures ∙ c.in-None.is)))
+pub returns-then-not-begun-clause-begun : goal.returns-then-not-begun-clause-begun
+returns-then-not-begun-clause-begun c =
+    (is-invoked c.args.tables.now c.args.line c.args.method c.args.callee c.args.parts.now c.begin_callee.new.frames c.in_ok-begun.begun c.requires c.in_ok-begun.ensures.answer c.in_ok-begun.ensures.frames).tells
 
-pub returns-in_ok-break_off-in-None-clause-begun : goal.returns-in_ok-break_off-in-None-clause-begun
-returns-in_ok-break_off-in-None-clause-begun c =
-    ap (λ (turn : Turn). has_begun turn.changes) (sym (invokes-none c.args.tables.now (placed c.args.line) c.args.state.now c.args.frame c.args.method (sym c.in_ok-callee_of.ensures ∙ c.in-None.is)))
+pub returns-else-not-begun-clause-state : goal.returns-else-not-begun-clause-state
+returns-else-not-begun-clause-state c =
+    (is-invoked c.args.tables.now c.args.line c.args.method c.args.callee c.args.parts.now c.begin_callee.new.frames c.in_ok-begun.begun c.requires c.in_ok-begun.ensures.answer c.in_ok-begun.ensures.frames).begins c.if-not-begun.false
 
-pub returns-in_ok-put_callee-in-Some-clause-state : goal.returns-in_ok-put_callee-in-Some-clause-state
-returns-in_ok-put_callee-in-Some-clause-state c =
-    c.in_ok-put_callee-in-Some.ensures
-    ∙ ap (λ (turn : Turn). turn.after) (sym (invokes-some c.args.tables.now (placed c.args.line) c.args.state.now c.args.frame c.args.method c.in-Some.callee (sym c.in_ok-callee_of.ensures ∙ c.in-Some.is)))
-
-pub returns-in_ok-put_callee-in-Some-clause-begun : goal.returns-in_ok-put_callee-in-Some-clause-begun
-returns-in_ok-put_callee-in-Some-clause-begun c =
-    ap (λ (turn : Turn). has_begun turn.changes) (sym (invokes-some c.args.tables.now (placed c.args.line) c.args.state.now c.args.frame c.args.method c.in-Some.callee (sym c.in_ok-callee_of.ensures ∙ c.in-Some.is)))
+pub returns-else-not-begun-clause-begun : goal.returns-else-not-begun-clause-begun
+returns-else-not-begun-clause-begun c =
+    (is-invoked c.args.tables.now c.args.line c.args.method c.args.callee c.args.parts.now c.begin_callee.new.frames c.in_ok-begun.begun c.requires c.in_ok-begun.ensures.answer c.in_ok-begun.ensures.frames).tells

@@ -4,7 +4,7 @@ use Rattle.std.specs.Option.{option_and_then}
 use Rattle.code_model.proofs.Readings.{end_of-within}
 use Rattle.jvm_model.specs.Lines.{instruction_of}
 use Rattle.jvm_model.specs.Resolved.{line_of}
-use Rattle.jvm_machine.proofs.Ends.{line-resolved}
+use Rattle.jvm_machine.proofs.Lined.{line-resolved}
 use Rattle.jvm_machine.proofs.versions.code_line.Goals as goal
 
 pub line_of-requires-clause-ends : goal.line_of-requires-clause-ends

@@ -6,6 +6,7 @@ use Rattle.jvm_model.specs.Programs.{first_class}
 use Rattle.jvm_model.specs.StandsFor.{IsBuilt}
 use Rattle.jvm_machine.specs.View.{View}
 use Rattle.jvm_machine.proofs.Images.{FitsVersions-image}
+use Rattle.jvm_machine.specs.States.{state_in}
 use Rattle.jvm_machine.proofs.Machines.{is_installed}
 use Rattle.jvm_machine.proofs.machine.Vm.install.Goals as goal
 
@@ -19,7 +20,7 @@ invariant_of-self c =
     let class : first_class c.args.self.now.program ≡ first_class c.self.inside.tables.program = ap (λ (v : View). first_class v.program) (sym c.self.view_is) in
     let started : c.self.inside.started ≡ false = ap (λ (v : View). v.started) c.self.view_is ∙ c.requires.early in
     let whole : c.self.inside.broken ≡ false = ap (λ (v : View). v.broken) c.self.view_is ∙ c.requires.whole in
-    is_installed c.install.result c.self.inside.tables c.install.new.self c.self.inside.state c.self.inside.told c.self.inside.started c.self.inside.broken c.self.inside.clock
+    is_installed c.install.result c.self.inside.tables c.install.new.self (state_in c.self.inside.parts) c.self.inside.told c.self.inside.started c.self.inside.broken c.self.inside.clock
     c.args.marks.now c.args.image c.args.homes.now c.self.invariant started whole
     (c.requires.marks ∙ ap (λ (k : ClassFile). length k.methods) class)
     (subst (λ (k : ClassFile). IsImage k 0 c.args.marks.now c.args.image c.args.homes.now) class c.requires.image)

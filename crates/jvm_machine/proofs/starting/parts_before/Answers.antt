@@ -1,7 +1,7 @@
 use Rattle.std.proofs.Common.{ap, [], false, None}
 use Rattle.jvm_model.specs.declared.state.Shared.{Shared}
 use Rattle.jvm_model.specs.declared.state.State.{State}
-use Rattle.jvm_machine.proofs.starting.state_before.Goals as goal
+use Rattle.jvm_machine.proofs.starting.parts_before.Goals as goal
 
 pub returns : goal.returns
 returns c = λ input.
