@@ -11,7 +11,7 @@ use Rattle.const_pool.specs.declared.class.ClassFile.{ClassFile}
 use Rattle.jvm_model.specs.declared.program.Program.{Program}
 use Rattle.jvm_model.specs.Programs.{class_named, has_name, name_of}
 use Rattle.const_pool.specs.References.{named_class}
-use Rattle.class_index.specs.Lookup.{interface_names}
+use Rattle.jvm_model.specs.Lookup.{interface_names}
 use Rattle.class_index.specs.Indices.{interfaces_in}
 use Rattle.class_index.specs.Names.{Entries, named_from, position_of, with_first, with_name}
 

@@ -4,8 +4,3 @@ pub mod Members
 pub mod Buckets
 pub mod Indices
 pub mod Meanings
-pub mod Kinds
-pub mod Layouts
-pub mod Load
-pub mod Lookup
-pub mod Selection

@@ -2,7 +2,7 @@
 
 ghost use Rattle.std.specs.Prelude.{◌≡◌, ◌≤◌, length};
 ghost use Rattle.jvm_model.specs.Descriptors.{same_text};
-ghost use Rattle.class_index.specs.Selection.{package_end, package_of};
+ghost use Rattle.jvm_model.specs.Selection.{package_end, package_of};
 
 /// The unit between the parts of a name.
 const SLASH: u16 = 47;

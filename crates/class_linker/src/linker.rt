@@ -3,10 +3,10 @@
 ghost use Rattle.std.specs.Prelude.{◌≡◌, ◌↔◌, None, replicate, IfOk, IsTrue};
 ghost use Rattle.std.specs.Option.{option_map};
 ghost use Rattle.const_pool.specs.References.{name_type_of};
-ghost use Rattle.class_index.specs.Kinds.{is_subkind};
-ghost use Rattle.class_index.specs.Layouts.{layout};
-ghost use Rattle.class_index.specs.Lookup.{place_in, resolved_field, resolved_method};
-ghost use Rattle.class_index.specs.Selection.{Overrides, overrides, selected};
+ghost use Rattle.jvm_model.specs.Kinds.{is_subkind};
+ghost use Rattle.jvm_model.specs.Layouts.{layout};
+ghost use Rattle.jvm_model.specs.Lookup.{place_in, resolved_field, resolved_method};
+ghost use Rattle.jvm_model.specs.Selection.{Overrides, overrides, selected};
 ghost use Rattle.class_index.specs.Indices.{IsLinkable};
 ghost use Rattle.class_index.specs.Members.{place_view};
 ghost use Rattle.class_linker.specs.Linkers.{IsAnswer, IsKnown, IsLoaded, linker_of, load_answer};

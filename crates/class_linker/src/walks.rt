@@ -1,8 +1,8 @@
 //! The walks over the supertypes of classes that were loaded.
 
 ghost use Rattle.std.specs.Prelude.{◌≡◌, true};
-ghost use Rattle.class_index.specs.Layouts.{layout};
-ghost use Rattle.class_index.specs.Lookup.{is_subtype, superclasses, superinterfaces, supertypes};
+ghost use Rattle.jvm_model.specs.Layouts.{layout};
+ghost use Rattle.jvm_model.specs.Lookup.{is_subtype, superclasses, superinterfaces, supertypes};
 ghost use Rattle.class_index.specs.Orders.{IsSearchedAs};
 ghost use Rattle.class_linker.specs.Passing.{IsChain};
 ghost use Rattle.class_linker.specs.Rows.{AreRows, all_rows, has_row};

@@ -5,6 +5,11 @@ pub mod Families
 pub mod Values
 pub mod StackForms
 pub mod Programs
+pub mod Lookup
+pub mod Selection
+pub mod Layouts
+pub mod Kinds
+pub mod Load
 pub mod SharedState
 pub mod LocalRules
 pub mod Rules

@@ -6,7 +6,7 @@ use Rattle.std.specs.Option.{option_and_then, option_map}
 use Rattle.const_pool.specs.BuiltIn.{built_in_names}
 use Rattle.jvm_model.specs.declared.program.Program.{Program}
 use Rattle.jvm_model.specs.Programs.{class_named}
-use Rattle.class_index.specs.Lookup.{is_subtype}
+use Rattle.jvm_model.specs.Lookup.{is_subtype}
 
 -- ---- classes as bases
 

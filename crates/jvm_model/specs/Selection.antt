@@ -10,7 +10,7 @@ use Rattle.jvm_model.specs.declared.program.Program.{Program}
 use Rattle.jvm_model.specs.Descriptors.{same_text}
 use Rattle.jvm_model.specs.Programs.{class_at, name_at}
 use Rattle.jvm_model.specs.SmallClass.{has_flag}
-use Rattle.class_index.specs.Lookup.{MemberPlace, place_in, first_in, is_subtype, method_at, superclasses, supertypes}
+use Rattle.jvm_model.specs.Lookup.{MemberPlace, place_in, first_in, is_subtype, method_at, superclasses, supertypes}
 
 -- ---- packages
 

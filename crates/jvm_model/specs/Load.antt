@@ -10,8 +10,8 @@ use Rattle.const_pool.specs.References.{named_class}
 use Rattle.jvm_model.specs.declared.program.Program.{Program}
 use Rattle.jvm_model.specs.SharedState.{no_class_definition}
 use Rattle.jvm_model.specs.Programs.{class_at, class_named}
-use Rattle.class_index.specs.Lookup.{incompatible_change, interface_names, is_interface}
-use Rattle.class_index.specs.Kinds.{Element, Primitive, Named, is_array_name, meaning_of}
+use Rattle.jvm_model.specs.Lookup.{incompatible_change, interface_names, is_interface}
+use Rattle.jvm_model.specs.Kinds.{Element, Primitive, Named, is_array_name, meaning_of}
 
 -- ---- what loading gives
 

@@ -8,7 +8,7 @@ use Rattle.const_pool.specs.declared.descriptor.Kind.TheVariants.{Int, Long, Ref
 use Rattle.const_pool.specs.References.{named_text}
 use Rattle.jvm_model.specs.declared.program.Program.{Program}
 use Rattle.jvm_model.specs.Programs.{class_at}
-use Rattle.class_index.specs.Lookup.{superclass_of}
+use Rattle.jvm_model.specs.Lookup.{superclass_of}
 use Rattle.jvm_model.specs.SmallClass.{has_flag}
 
 -- what a field of this descriptor holds, which its first unit tells (4.3.2)
