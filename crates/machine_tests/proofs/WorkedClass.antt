@@ -12,6 +12,7 @@ use Rattle.const_pool.specs.declared.descriptor.Kind.TheVariants.{Int, Ref}
 use Rattle.const_pool.specs.declared.class.Member.{Member}
 use Rattle.const_pool.specs.Pool.{is_utf8, is_class, is_name_type, Names, IsEntry, AreEntries}
 use Rattle.const_pool.specs.ClassFile.{code_bytes, class_bytes, IsByte, IsCode, IsMember, IsMethodAttribute, IsClassFile}
+use Rattle.jvm_model.specs.Families.{family_of, rows}
 use Rattle.jvm_model.specs.PlainShape.{IsPlainCode, HasPlainShape}
 use Rattle.code_model.specs.declared.instr.Arg.TheVariants.{Plain as no_operand, Value, Pool as index}
 use Rattle.code_model.specs.declared.instr.Code.{Code}
@@ -183,6 +184,7 @@ unfolding instruction_at read_instruction behind_opcode_at operand_at value_at i
 main_reads = record { instrs = (refl, (refl, (refl, (refl, (refl, refl))))); len = refl }
 
 f_small : IsSmallMethod p1 0 f_member
+unfolding family_of rows
 f_small = record {
   access = refl;
   named = refl;
@@ -195,6 +197,7 @@ f_small = record {
 }
 
 main_small : IsSmallMethod p1 1 main_member
+unfolding family_of rows
 main_small = record {
   access = refl;
   named = refl;
