@@ -83,12 +83,7 @@ fn make_objects(alloc: Global, heap: &mut Heap) -> Result<(), HeapError>
 }
 
 /// What a call answers, or None where there is no such method or no memory.
-fn answer(
-    alloc: Global,
-    row: &Row,
-    heap: &mut Heap,
-    io: &mut Io,
-) -> Option<Native>
+fn answer(alloc: Global, row: &Row, heap: &mut Heap, io: &mut Io) -> Option<Native>
     requires { heap.old.limit ≤ 67108864 }
 {
     let native = native_of(
