@@ -11,7 +11,7 @@ use Rattle.native_ops.specs.declared.effect.Effect.TheVariants.{Answers, MakesTe
 use Rattle.native_ops.specs.Numbers.{string_kind, class_kind}
 use Rattle.native_ops.specs.Objects.{size_at, text_at}
 use Rattle.native_ops.specs.MadeViews.{MadeView, object_of_class, object_of_box}
-use Rattle.native_ops.specs.Making.{is_full, put_at, with_values, with_fields, heap_with_append, heap_with_replace, heap_with_interned, resized}
+use Rattle.native_ops.specs.Making.{is_full, put_at, with_values, heap_with_append, heap_with_replace, heap_with_interned, resized}
 use Rattle.native_ops.specs.declared.io.Io.{Io}
 use Rattle.native_ops.specs.Worlds.{World, world, after}
 
