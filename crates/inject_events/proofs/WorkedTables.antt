@@ -1,13 +1,12 @@
 -- The definitions of a version's tables, computed: on the code of P1's method f (iload_0, iconst_1, iadd, ireturn), whose version has
 -- its added handler at 16, and on that of a method h (0 iload_0, 1 ifeq 6, 4 iconst_1, 5 ireturn, 6 iconst_2, 7 ireturn), whose
 -- version has it at 26.
-use Rattle.std.specs.Prelude.{◌≡◌, ℕ, Bool, true, false, List, [], ◌∷◌, Some, None, codes, refl}
+use Rattle.std.specs.Prelude.{◌≡◌, ℕ, Bool, true, false, [], ◌∷◌, Some, None, codes, refl}
 use Rattle.const_pool.specs.declared.class.CodeAttribute.{CodeAttribute}
-use Rattle.const_pool.specs.declared.class.Raw.{Raw}
 use Rattle.const_pool.specs.declared.pool.Const.TheVariants.{Gap, Utf8}
 use Rattle.code_model.specs.declared.laying.Homes.{Homes}
 use Rattle.stackmap_shift.specs.DebugTables.{line_at, variable_at, lines_of, variables_of, shifted_lines, shifted_variables}
-use Rattle.stackmap_shift.specs.Frames.{object_at, uninit_at, behind_tag, type_at, one_item_at, append_at, full_at, kind_at, frame_at, frames_at, table_at, frames_of}
+use Rattle.stackmap_shift.specs.Frames.{uninit_at, behind_tag, type_at, one_item_at, kind_at, frame_at, frames_at, table_at, frames_of}
 use Rattle.stackmap_shift.specs.Tables.{number_at, many_at, counted_at}
 use Rattle.inject_events.specs.declared.error.Cause.TheVariants as cause
 use Rattle.inject_events.specs.declared.settings.Setting.{Setting}
