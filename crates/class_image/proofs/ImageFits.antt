@@ -1,8 +1,7 @@
 -- The counts and lengths of an image fit their fields.
-use Rattle.std.proofs.Common.{◌≡◌, ℕ, ◌+◌, ◌<◌, ◌≤◌, ◌^◌, Bool, true, false, cond, eqb, List, [], ◌∷◌, ◌++◌, length, Option, Some, None, refl, sym, ap, subst, ◌∙◌, arith}
-use Rattle.std.specs.Prelude.{All, map, ◌==◌, ◌&&◌, nat_lt}
+use Rattle.std.proofs.Common.{◌≡◌, ℕ, ◌+◌, ◌<◌, ◌≤◌, ◌^◌, Bool, true, false, cond, List, [], ◌∷◌, length, Option, Some, None, refl, ap, subst, ◌∙◌, arith}
+use Rattle.std.specs.Prelude.{map, ◌==◌, ◌&&◌}
 use Rattle.std.specs.List.{AllByRecursion, flat_map}
-use Rattle.std.specs.Option.{option_or}
 use Rattle.std.proofs.lemmas.Bool.{eqb-false}
 use Rattle.std.proofs.lemmas.List.{length-append, length-map}
 use Rattle.std.proofs.lemmas.List.Elements.{All-append, All-from_recursion, recursion_from_All}
@@ -14,8 +13,8 @@ use Rattle.const_pool.specs.declared.class.Handler.{Handler}
 use Rattle.const_pool.specs.declared.class.Raw.{Raw}
 use Rattle.const_pool.specs.declared.class.Attribute.{Attribute}
 use Rattle.const_pool.specs.declared.class.Attribute.TheVariants.{ConstantValue, Code, Other}
-use Rattle.const_pool.specs.ClassFile.{code_bytes, raw_bytes, IsClassFile}
-use Rattle.const_pool.specs.Tail.{tail_entries, with_tail}
+use Rattle.const_pool.specs.ClassFile.{raw_bytes, IsClassFile}
+use Rattle.const_pool.specs.Tail.{tail_entries}
 use Rattle.class_writer.specs.Fits.{FitsEntry, FitsRaw, FitsCode, FitsAttribute, FitsMember, FitsClass}
 use Rattle.class_writer.proofs.Fitting.{fits_class}
 use Rattle.code_model.specs.declared.laying.Homes.{Homes}
@@ -31,8 +30,8 @@ use Rattle.inject_events.specs.declared.settings.Setting.{Setting}
 use Rattle.inject_events.specs.Probing.{first_marked}
 use Rattle.inject_events.specs.Rewriting.{Refused, version_cause, version_of, image_of_coded, image_of_method, cause_of_coded, cause_of_method, images_from, refused_here, refused_from, is_full_pool, refused_of_marked, refused_of, image_of, image_of_marked, original_of}
 use Rattle.inject_events.specs.Settings.{setting_of}
-use Rattle.inject_events.specs.Tables.{lacks_frames, added_table, added_tables, moved_raw, version_tables}
-use Rattle.inject_events.proofs.Rooms.{HasRoom, IsMadeWhole, IsMadeWhole-none, and_fails, none_of}
+use Rattle.inject_events.specs.Tables.{lacks_frames, added_table, added_tables, moved_raw}
+use Rattle.inject_events.proofs.Rooms.{IsMadeWhole-none, none_of}
 use Rattle.inject_events.proofs.Tabling.{length-code_bytes}
 
 -- ---- a Code

@@ -1,5 +1,5 @@
 -- The codes of a class that admission takes can be read.
-use Rattle.std.proofs.Common.{◌≡◌, ℕ, zero, suc, ◌+◌, ◌<◌, ◌≤◌, ◌^◌, List, [], ◌∷◌, length, Option, Some, None, refl, sym, ap, subst, ◌∙◌, arith}
+use Rattle.std.proofs.Common.{◌≡◌, ℕ, zero, suc, List, [], ◌∷◌, length, Option, Some, None, refl, subst, arith}
 use Rattle.std.specs.Prelude.{slice_get, IfSome}
 use Rattle.std.specs.List.{AllByRecursion}
 use Rattle.std.proofs.lemmas.Option.{same_Some, none-some}
@@ -13,7 +13,7 @@ use Rattle.const_pool.specs.ClassFile.{IsCode, IsMember, IsMethodAttribute, IsCl
 use Rattle.jvm_model.specs.Methods.{code_among, code_of}
 use Rattle.admit_check.specs.Codes.{IsRead, AreRead}
 use Rattle.admit_check.proofs.Decoded.{reading_found}
-use Rattle.inject_events.specs.Answers.{IsReadableCode, IsReadableBody, HasReadableBody, IsReadableClass}
+use Rattle.inject_events.specs.Answers.{IsReadableBody, IsReadableClass}
 
 nth : {A : Type 0} (P : A → Type 0) (xs : List A) (k : ℕ) (x : A) → AllByRecursion P xs → slice_get xs k ≡ Some x → P x
 nth P [] k x all at = absurd (none-some x at)

@@ -1,5 +1,5 @@
 -- When a class file is rewritten, what was put of its image, and how a refusal is told.
-use Rattle.std.specs.Prelude.{◌≡◌, ◌≢◌, ◌⊎◌, ℕ, List, [], length, Option, Some, None, Result, Ok, Err, codes}
+use Rattle.std.specs.Prelude.{◌≡◌, ◌≢◌, ◌⊎◌, ℕ, List, [], length, Option, Some, None, codes}
 use Rattle.jf_bytes.specs.Streams.{Told, IsFetched}
 use Rattle.const_pool.specs.declared.class.ClassFile.{ClassFile}
 use Rattle.const_pool.specs.ClassFile.{class_bytes}

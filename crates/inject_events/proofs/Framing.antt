@@ -1,6 +1,6 @@
 -- Frames that were moved, with one more, can be written where they rise.
-use Rattle.std.proofs.Common.{◌≡◌, ℕ, ◌<◌, ◌≤◌, Bool, true, List, [], ◌∷◌, ◌++◌, length, Option, Some, None, refl, arith}
-use Rattle.std.specs.Prelude.{All, map, nat_le}
+use Rattle.std.proofs.Common.{◌≡◌, ℕ, true, List, [], ◌∷◌, length, Option, Some, None, arith}
+use Rattle.std.specs.Prelude.{All, nat_le}
 use Rattle.std.specs.List.{AllByRecursion}
 use Rattle.std.proofs.lemmas.Bool.{and_parts, ltb-true, leb-true}
 use Rattle.std.proofs.lemmas.List.{length-map}
@@ -10,9 +10,9 @@ use Rattle.stackmap_shift.specs.declared.frames.Frame.{Frame}
 use Rattle.stackmap_shift.specs.declared.frames.FrameKind.{FrameKind}
 use Rattle.stackmap_shift.specs.declared.frames.FrameKind.TheVariants.{Same, OneItem, Chop, Append, Full}
 use Rattle.stackmap_shift.specs.Conditions.{FitsKind, FitsFrame, IsBehind, Rise, AreWritable}
-use Rattle.stackmap_shift.specs.Moves.{moved_type, moved_kind, moved_frames}
+use Rattle.stackmap_shift.specs.Moves.{moved_type, moved_kind}
 use Rattle.inject_events.specs.declared.settings.Setting.{Setting}
-use Rattle.inject_events.specs.Tables.{is_behind, rise_from, is_writable, last_frame, version_frames}
+use Rattle.inject_events.specs.Tables.{is_behind, rise_from, is_writable, version_frames}
 
 -- ---- whether they rise
 

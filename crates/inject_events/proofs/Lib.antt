@@ -7,3 +7,4 @@ pub mod Tabling
 pub mod Causes
 pub mod Rooms
 pub mod SoundMoves
+mod WorkedTables

@@ -1,19 +1,16 @@
 -- What it means that a version passes no limit.
-use Rattle.std.proofs.Common.{◌≡◌, ℕ, ◌+◌, ◌<◌, ◌≤◌, Bool, true, false, cond, eqb, List, [], ◌∷◌, length, Option, Some, None, refl, arith}
-use Rattle.std.specs.Prelude.{◌&&◌, ◌||◌, ◌==◌, nat_lt}
-use Rattle.std.specs.List.{list_any}
+use Rattle.std.proofs.Common.{◌≡◌, ℕ, ◌≤◌, Bool, true, false, cond, eqb, length, Option, Some, None, refl}
+use Rattle.std.specs.Prelude.{◌&&◌, ◌||◌, ◌==◌}
 use Rattle.std.specs.Option.{option_or}
-use Rattle.std.proofs.lemmas.Bool.{eqb-false, ltb-false}
+use Rattle.std.proofs.lemmas.Bool.{ltb-false}
 use Rattle.const_pool.specs.declared.class.CodeAttribute.{CodeAttribute}
-use Rattle.const_pool.specs.declared.class.Raw.{Raw}
 use Rattle.const_pool.specs.ClassFile.{code_bytes}
-use Rattle.stackmap_shift.specs.Frames.{frames_of}
 use Rattle.jvm_model.specs.declared.event.Mark.{Mark}
 use Rattle.inject_events.specs.declared.error.Cause.{Cause}
 use Rattle.inject_events.specs.declared.error.Cause.TheVariants as cause
 use Rattle.inject_events.specs.declared.settings.Setting.{Setting}
 use Rattle.inject_events.specs.Settings.{probes_in}
-use Rattle.inject_events.specs.Tables.{table_of, is_frame_table, frame_count, is_full_table, has_full_table, lacks_frames, are_frames_full}
+use Rattle.inject_events.specs.Tables.{has_full_table, lacks_frames, are_frames_full}
 use Rattle.inject_events.specs.Rewriting.{instrs_in, room_cause, layout_cause, size_cause, is_too_large, code_cause, version_cause, version_of}
 
 -- ---- options and tests

@@ -1,22 +1,19 @@
 -- Sound tables are moved.
-use Rattle.std.proofs.Common.{◌≡◌, ℕ, ◌+◌, ◌<◌, ◌≤◌, get_or, Bool, true, false, cond, eqb, leb, List, [], ◌∷◌, ◌++◌, length, Option, Some, None, Result, Ok, Err, refl, sym, ap, subst, ◌∙◌, arith}
-use Rattle.std.specs.Prelude.{All, map, Contains, ◌&&◌, ◌||◌, ◌==◌, nat_le, nat_lt, is_ok}
-use Rattle.std.specs.List.{AllByRecursion, list_any}
+use Rattle.std.proofs.Common.{◌≡◌, ℕ, ◌<◌, get_or, true, false, List, [], ◌∷◌, ◌++◌, length, Option, Some, None, Result, Ok, Err, refl, sym, ap, subst, ◌∙◌, arith}
+use Rattle.std.specs.Prelude.{All, map, Contains, ◌&&◌, ◌==◌, is_ok}
+use Rattle.std.specs.List.{AllByRecursion}
 use Rattle.std.proofs.lemmas.Bool.{lt-ltb, le-leb, eqb-false}
 use Rattle.std.proofs.lemmas.List.{length-map}
 use Rattle.std.proofs.lemmas.List.Elements.{All-contains, All-contains_itself, All-from_recursion, Contains-append_left, Contains-append_right}
-use Rattle.const_pool.specs.declared.class.CodeAttribute.{CodeAttribute}
 use Rattle.const_pool.specs.declared.class.Raw.{Raw}
 use Rattle.code_model.specs.declared.instr.Instr.{Instr}
 use Rattle.code_model.specs.declared.laying.Group.{Group}
 use Rattle.code_model.specs.declared.laying.Homes.{Homes}
-use Rattle.code_model.specs.Groups.{instrs_of}
 use Rattle.code_model.specs.Instructions.{end_of, Reads}
 use Rattle.code_model.specs.Layout.{Spot, group_end, spots_from, all_spots, source_end, end_from, homes_of}
 use Rattle.code_model.proofs.Among.{source_end-reads}
 use Rattle.code_model.proofs.Layouts.{homes-increasing}
 use Rattle.code_model.proofs.Readings.{at-instruction_at, instruction_at_within}
-use Rattle.jvm_model.specs.declared.event.Mark.{Mark}
 use Rattle.jvm_model.specs.Versions.{group_of}
 use Rattle.stackmap_shift.specs.declared.error.FrameError.{FrameError}
 use Rattle.stackmap_shift.specs.declared.frames.Frame.{Frame}
@@ -32,13 +29,13 @@ use Rattle.inject_events.specs.declared.settings.Setting.{Setting}
 use Rattle.inject_events.specs.declared.settings.Table.{Table}
 use Rattle.inject_events.specs.declared.settings.Table.TheVariants as table
 use Rattle.inject_events.specs.Answers.{IsReadableCode}
-use Rattle.inject_events.specs.Rewriting.{instrs_in, laid_version_of, version_cause}
+use Rattle.inject_events.specs.Rewriting.{instrs_in, laid_version_of}
 use Rattle.inject_events.specs.Settings.{probes_in}
-use Rattle.inject_events.specs.SoundTables.{starts_of, HasSoundFrames, IsSoundTable, HasSoundTables, IsMovedTable, IsMovedRaw, MovesSoundTables}
-use Rattle.inject_events.specs.Tables.{table_of, moved_or_kept, moved_lines, moved_variables, is_behind, rise_from, is_writable, written_or_kept, version_frames, framed_or_kept, moved_frame_table, moved_table, is_frame_table, frame_count, is_full_table, has_full_table}
+use Rattle.inject_events.specs.SoundTables.{starts_of, HasSoundFrames, IsSoundTable, IsMovedTable, IsMovedRaw, MovesSoundTables}
+use Rattle.inject_events.specs.Tables.{table_of, moved_or_kept, moved_lines, moved_variables, is_behind, rise_from, is_writable, version_frames, framed_or_kept, moved_frame_table, moved_table, is_frame_table, frame_count, is_full_table, has_full_table}
 use Rattle.inject_events.proofs.InstrsIn.{instrs_in-is, rise-in}
 use Rattle.inject_events.proofs.Laying.{instrs_of-groups}
-use Rattle.inject_events.proofs.Rooms.{IsMadeWhole-none, neither_is, and_fails}
+use Rattle.inject_events.proofs.Rooms.{IsMadeWhole-none, neither_is}
 
 -- ---- rows
 

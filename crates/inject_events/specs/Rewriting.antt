@@ -1,7 +1,7 @@
 -- Versions and images of any class, as functions: what becomes of a method's Code, of a method and of the class, and the first
 -- limit that is passed (JVM Specification 4.1, 4.7.3).
-use Rattle.std.specs.Prelude.{ℕ, zero, suc, ◌+◌, Bool, List, [], ◌∷◌, length, map, max, Option, Some, None, nat_le, nat_lt, is_some, ◌==◌, if◌then◌else◌}
-use Rattle.std.specs.Option.{option_map_or, option_or, option_and_then}
+use Rattle.std.specs.Prelude.{ℕ, zero, suc, ◌+◌, Bool, List, [], ◌∷◌, length, map, max, Option, Some, None, nat_lt, ◌==◌, if◌then◌else◌}
+use Rattle.std.specs.Option.{option_map_or, option_or}
 use Rattle.const_pool.specs.declared.class.ClassFile.{ClassFile}
 use Rattle.const_pool.specs.declared.class.CodeAttribute.{CodeAttribute}
 use Rattle.const_pool.specs.declared.class.Member.{Member}

@@ -115,8 +115,9 @@ fn rewritten(
     })
 }
 
-/// The image of a class for these marks, one for each method. `first` is the number of the class's first method that has
-/// Code. It is the class itself where no method is marked.
+/// The image of a small class for these marks, one for each method, as the machine takes it: without the frames and debug tables
+/// of what is rewritten, which `image_of` moves. `first` is the number of the class's first method that has Code. It is the class
+/// itself where no method is marked.
 pub fn instrument(
     alloc: Global,
     class: &ClassFile,

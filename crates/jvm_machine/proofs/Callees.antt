@@ -109,9 +109,9 @@ too-many most count fs over =
     ⊎_elim
     (λ (few : length (top_operands fs) < count). ap (λ b. b && nat_le (height_of (take count (top_operands fs))) most) (lt-leb _ _ few))
     (λ (enough : count ≤ length (top_operands fs)).
-      let long = length-height (take count (top_operands fs)) in
-      let len : length (take count (top_operands fs)) ≡ min count (length (top_operands fs)) = length-take count (top_operands fs) in
-      ap (λ b. b && nat_le (height_of (take count (top_operands fs))) most) (le-leb _ _ enough) ∙ lt-leb _ _ (omega arith))
+    let long = length-height (take count (top_operands fs)) in
+    let len : length (take count (top_operands fs)) ≡ min count (length (top_operands fs)) = length-take count (top_operands fs) in
+    ap (λ b. b && nat_le (height_of (take count (top_operands fs))) most) (le-leb _ _ enough) ∙ lt-leb _ _ (omega arith))
     (cases_lt (length (top_operands fs)) count)
 
 -- ---- the test of the values
@@ -178,9 +178,9 @@ enough-data : (ks : List Kind) (o : Operands) (args : List Datum) → data_of ks
 enough-data ks o args e =
     ⊎_elim
     (λ (few : length o < length ks).
-      let values : List Value = reverse (take (length ks) o) in
-      let len : length values ≡ min (length ks) (length o) = length-reverse (take (length ks) o) ∙ length-take (length ks) o in
-      absurd (none-some args (sym (data_of-unequal ks values (λ same. absurd (omega arith))) ∙ e)))
+    let values : List Value = reverse (take (length ks) o) in
+    let len : length values ≡ min (length ks) (length o) = length-reverse (take (length ks) o) ∙ length-take (length ks) o in
+    absurd (none-some args (sym (data_of-unequal ks values (λ same. absurd (omega arith))) ∙ e)))
     (λ (enough : length ks ≤ length o). le-leb _ _ enough)
     (cases_lt (length o) (length ks))
 

@@ -1,6 +1,5 @@
 -- the class can be rewritten, and its image written
-use Rattle.std.proofs.Common.{◌≡◌, sym, ap, subst, ◌∙◌}
-use Rattle.const_pool.specs.declared.class.ClassFile.{ClassFile}
+use Rattle.std.proofs.Common.{sym, ap, subst, ◌∙◌}
 use Rattle.const_pool.specs.ClassFile.{class_bytes}
 use Rattle.class_writer.specs.Fits.{FitsClass}
 use Rattle.inject_events.specs.declared.image.Image.{Image}

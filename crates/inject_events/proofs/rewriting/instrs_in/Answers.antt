@@ -1,7 +1,5 @@
 -- the code has a reading, so there is no fault in it, and its instructions are those that were read
-use Rattle.std.proofs.Common.{◌≡◌, sym, ap, ◌∙◌}
-use Rattle.code_model.specs.declared.instr.Code.{Code}
-use Rattle.code_model.proofs.Readings.{IsReading-unique}
+use Rattle.std.proofs.Common.{sym}
 use Rattle.inject_events.proofs.Laying.{no_fault}
 use Rattle.inject_events.proofs.InstrsIn.{instrs_in-is}
 use Rattle.inject_events.proofs.rewriting.instrs_in.Goals as goal

@@ -1,5 +1,5 @@
 -- the instructions are those of a reading
-use Rattle.std.proofs.Common.{◌≡◌, ◌≤◌, List, length, sym, ap, ◌∙◌, arith}
+use Rattle.std.proofs.Common.{List, ap, ◌∙◌, arith}
 use Rattle.std.specs.Prelude.{map}
 use Rattle.code_model.specs.declared.laying.Group.{Group}
 use Rattle.code_model.specs.declared.laying.Laid.{Laid}

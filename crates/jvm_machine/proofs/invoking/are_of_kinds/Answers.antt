@@ -15,9 +15,10 @@ returns-then-not-is_of_kind c =
     ∙ c.loop-i.invariant.0
 
 pub loop-i-preserved : goal.loop-i-preserved
-loop-i-preserved c =
-    (sym
-    (kinds-by c.args.params.now (top_operands c.args.frames.now.frames) c.loop-i.i Int c.in-Some.value _ c.loop-i-test.true c.loop-i.invariant.1 (sym c.peek.ensures.found ∙ c.in-Some.is)
-    (sym c.is_of_kind.ensures ∙ c.if-not-is_of_kind.false))
-    ∙ c.loop-i.invariant.0,
-    λ more. enough-found (top_operands c.args.frames.now.frames) _ c.loop-i.i c.in-Some.value (sym c.peek.ensures.found ∙ c.in-Some.is) c.loop-i-test.true c.loop-i.invariant.1)
+loop-i-preserved c = (
+  sym
+      (kinds-by c.args.params.now (top_operands c.args.frames.now.frames) c.loop-i.i Int c.in-Some.value _ c.loop-i-test.true c.loop-i.invariant.1 (sym c.peek.ensures.found ∙ c.in-Some.is)
+      (sym c.is_of_kind.ensures ∙ c.if-not-is_of_kind.false))
+      ∙ c.loop-i.invariant.0,
+  λ more. enough-found (top_operands c.args.frames.now.frames) _ c.loop-i.i c.in-Some.value (sym c.peek.ensures.found ∙ c.in-Some.is) c.loop-i-test.true c.loop-i.invariant.1,
+)
