@@ -40,3 +40,5 @@ pub mod Installed
 pub mod Attempts
 pub mod OneClass
 pub mod Quiet
+pub mod Starting
+pub mod StaticClass

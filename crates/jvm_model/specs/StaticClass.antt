@@ -1,0 +1,49 @@
+-- A class of static methods: the part of the language that runs without a root.
+use Rattle.std.specs.Prelude.{◌≡◌, ℕ, ◌≤◌, ◌<◌, ◌^◌, Bool, true, false, [], length, slice_get, codes, nat_lt, Option, List}
+use Rattle.std.specs.Option.{option_map_or}
+use Rattle.std.specs.List.{list_all}
+use Rattle.const_pool.specs.declared.class.ClassFile.{ClassFile}
+use Rattle.const_pool.specs.declared.class.CodeAttribute.{CodeAttribute}
+use Rattle.const_pool.specs.declared.class.Member.{Member}
+use Rattle.const_pool.specs.References.{named_class, named_text}
+use Rattle.code_model.specs.declared.instr.Code.{Code}
+use Rattle.code_model.specs.declared.instr.Instr.{Instr}
+use Rattle.code_model.specs.Instructions.{IsReading}
+use Rattle.jvm_model.specs.Data.{Operation, Invokestatic}
+use Rattle.jvm_model.specs.Descriptors.{same_text}
+use Rattle.jvm_model.specs.Lines.{operation_of}
+use Rattle.jvm_model.specs.Methods.{code_of}
+use Rattle.jvm_model.specs.Resolved.{own_method}
+use Rattle.jvm_model.specs.SmallClass.{is_plain_static, is_plain_name, is_free_name}
+
+-- An invocation is one of a method that stands earlier in the class, until the number of live activations has its limit.
+abbrev pub calls_earlier : ClassFile → ℕ → Operation → Bool
+calls_earlier c k (Invokestatic r) = option_map_or (λ method. nat_lt method k) (own_method c r) false
+calls_earlier c k _ = true
+
+-- an instruction that has a rule
+abbrev pub runs_in : ClassFile → ℕ → Instr → Bool
+runs_in c k i = option_map_or (calls_earlier c k) (operation_of c i) false
+
+-- no code has handlers yet
+pub record IsStaticCode (c : ClassFile) (k : ℕ) (code : CodeAttribute) : Type 0 where
+  pub reading : Code
+  pub reads : IsReading code.code reading
+  pub runs : list_all (runs_in c k) reading.instrs ≡ true
+  pub handlers : code.handlers ≡ []
+
+-- the method with this number
+pub record IsStaticMethod (c : ClassFile) (k : ℕ) (m : Member) : Type 0 where
+  pub access : is_plain_static m.access ≡ true
+  pub named : option_map_or is_plain_name (named_text c.pool m.name) false ≡ true
+  pub code : CodeAttribute
+  pub coded : code_of m ≡ Some code
+  pub static : IsStaticCode c k code
+
+pub record IsStaticClass (c : ClassFile) : Type 0 where
+  pub name : option_map_or is_free_name (named_class c.pool c.this_class) false ≡ true
+  pub super : option_map_or (same_text (codes "java/lang/Object")) (named_class c.pool c.super_class) false ≡ true
+  pub interfaces : c.interfaces ≡ []
+  pub fields : c.fields ≡ []
+  pub few : length c.methods ≤ 1000
+  pub methods : (k : ℕ) (m : Member) → slice_get c.methods k ≡ Some m → IsStaticMethod c k m

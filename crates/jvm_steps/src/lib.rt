@@ -1,0 +1,15 @@
+//! One step of original code (JVM Specification 2.6, 2.10, 2.11, 6.5): what the current frame's instruction does to the parts of a
+//! machine, with all that follows from it.
+#![tactic(auto)]
+
+mod line;
+mod originals;
+mod parts;
+mod settling;
+mod stepping;
+
+pub use line::{Action, Line};
+pub use originals::{Exception, Originals};
+pub use parts::{Here, Parts, where_now};
+pub use settling::settle;
+pub use stepping::step;

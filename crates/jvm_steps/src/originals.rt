@@ -1,0 +1,122 @@
+//! The original code of a program, prepared: what stands at each offset is looked up once, and found by its offset from then on.
+
+ghost use Rattle.std.specs.Prelude.{◌≡◌, IfOk};
+ghost use Rattle.std.specs.Option.{option_copied};
+ghost use Rattle.jvm_model.specs.Programs.{max_stack_of, max_locals_of, params_of_method};
+ghost use Rattle.jvm_steps.specs.Lines.{line_at};
+ghost use Rattle.jvm_steps.specs.Prepared.{FitsOriginals, exception_class};
+
+use crate::line::Line;
+use const_pool::Kind;
+use jf_bytes::{NoMemory, Seq};
+use jvm_model::Program;
+use std::alloc::Global;
+use std::marker::Model;
+
+/// What is kept of a method: what it takes, its limits, and the line at each offset of its code.
+#[derive(Drop)]
+pub struct Method {
+    pub params: Option<Seq<Kind>>,
+    pub max_stack: u16,
+    pub max_locals: u16,
+    pub lines: Seq<Option<Line>>,
+}
+
+/// An exception that an instruction raises.
+#[derive(Clone, Copy, Debug, PartialEq, Eq)]
+pub enum Exception {
+    Arithmetic,
+    NoClassDefinition,
+    NoSuchMethod,
+}
+
+/// The positions of the classes of those exceptions.
+#[derive(Clone, Copy, Debug, PartialEq, Eq)]
+pub struct Exceptions {
+    pub arithmetic: u32,
+    pub no_class_definition: u32,
+    pub no_such_method: u32,
+}
+
+/// A program on an input, with its original code prepared. A clause sees the program and the input.
+#[derive(Drop)]
+pub struct Originals {
+    program: Program,
+    input: Seq<u8>,
+    methods: Seq<Method>,
+    exceptions: Exceptions,
+}
+
+impl Model for Originals {
+    ghost use Rattle.jvm_model.specs.Data.{World};
+    ghost use Rattle.jvm_steps.specs.Prepared.{IsPrepared};
+
+    ghost Value = { World };
+
+    ghost view = { λ o. record { program = o.program; input = o.input } };
+
+    ghost invariant = { λ o. IsPrepared o.program o.methods o.exceptions };
+}
+
+impl Originals {
+    /// Prepares a program: each offset of each code is looked up once.
+    pub fn new(alloc: Global, program: Program, input: Seq<u8>) -> Result<Originals, NoMemory>
+        requires { FitsOriginals program }
+        ensures program { IfOk result (λ o. o.program ≡ program) }
+        ensures input { IfOk result (λ o. o.input ≡ input) }
+    {
+        Err(NoMemory)
+    }
+
+    /// The program that it was made of.
+    pub fn program(&self) -> &Program
+        ensures { result.now ≡ self.now.program }
+    {
+        &self.program
+    }
+
+    /// The line at an offset of a method's code, by two look-ups.
+    pub fn line(&self, method: usize, place: u16) -> Option<&Line>
+        ensures { option_copied result ≡ line_at self.now.program method place }
+    {
+        self.methods.get(method)?.lines.get(place as usize)?.as_ref()
+    }
+
+    /// The greatest depth of a method's operands; 0 where it has no code.
+    pub fn max_stack(&self, method: u32) -> u16
+        ensures { result ≡ max_stack_of self.now method }
+    {
+        match self.methods.get(method as usize) {
+            Some(method) => method.max_stack,
+            None => 0,
+        }
+    }
+
+    /// The number of a method's locals; 0 where it has no code.
+    pub fn max_locals(&self, method: u32) -> u16
+        ensures { result ≡ max_locals_of self.now method }
+    {
+        match self.methods.get(method as usize) {
+            Some(method) => method.max_locals,
+            None => 0,
+        }
+    }
+
+    /// What a method takes, where it has a method descriptor.
+    pub fn params(&self, method: u32) -> Option<&Seq<Kind>>
+        ensures { option_copied result ≡ params_of_method self.now.program method }
+    {
+        self.methods.get(method as usize)?.params.as_ref()
+    }
+
+    /// The position in the program of an exception's class.
+    pub fn class_of(&self, exception: Exception) -> u32
+        ensures { result ≡ exception_class self.now.program exception }
+    {
+        match exception {
+            Exception::Arithmetic => self.exceptions.arithmetic,
+            Exception::NoClassDefinition => self.exceptions.no_class_definition,
+            Exception::NoSuchMethod => self.exceptions.no_such_method,
+        }
+    }
+}
