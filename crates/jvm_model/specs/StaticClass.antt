@@ -1,5 +1,5 @@
 -- A class of static methods: the part of the language that runs without a root.
-use Rattle.std.specs.Prelude.{◌≡◌, ℕ, ◌≤◌, ◌<◌, ◌^◌, Bool, true, false, [], length, slice_get, codes, nat_lt, Option, List}
+use Rattle.std.specs.Prelude.{◌≡◌, ℕ, ◌≤◌, ◌<◌, ◌^◌, Bool, true, false, [], length, slice_get, codes, nat_lt, Some}
 use Rattle.std.specs.Option.{option_map_or}
 use Rattle.std.specs.List.{list_all}
 use Rattle.const_pool.specs.declared.class.ClassFile.{ClassFile}

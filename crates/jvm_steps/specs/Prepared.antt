@@ -58,4 +58,4 @@ pub record IsPrepared (p : Program) (methods : List Method) (exceptions : Except
   pub max_stack : (k : ℕ) → option_map_or (λ m. m.max_stack) (slice_get methods k) 0 ≡ max_stack_of (record { program = p; input = [] }) k
   pub max_locals : (k : ℕ) → option_map_or (λ m. m.max_locals) (slice_get methods k) 0 ≡ max_locals_of (record { program = p; input = [] }) k
   pub lines : (k place : ℕ) → option_and_then (line_in place) (slice_get methods k) ≡ line_at p k place
-  pub exceptions : (e : Exception) → exception_in exceptions e ≡ exception_class p e
+  pub raised : (e : Exception) → exception_in exceptions e ≡ exception_class p e
