@@ -5,7 +5,8 @@ use Rattle.std.specs.Str.{bytes_eq}
 use Rattle.const_pool.specs.BuiltIn.{built_in_names}
 use Rattle.const_pool.specs.References.{NameAndType}
 use Rattle.jvm_model.specs.declared.program.Program.{Program}
-use Rattle.jvm_model.specs.Kinds.{KindParts, class_of_base, kind_named}
+use Rattle.jvm_model.specs.KindNumbers.{KindParts, class_of_base}
+use Rattle.jvm_model.specs.Kinds.{kind_named}
 use Rattle.jvm_model.specs.Load as load
 use Rattle.jvm_model.specs.Lookup as lookup
 use Rattle.jvm_model.specs.Programs.{class_named}

@@ -100,7 +100,7 @@ main-keeps w t s false = chosen_turn-keeps s.output (has_room w w.program.main a
 moves-keep : (w : World) (t : Text) (s : State) (ending : Option Ending) (thrown : Option ℕ) (stack : List Entry) → IfSome (moves w t s ending thrown stack) (λ next. next.after.output ≡ s.output)
 moves-keep w t s (Some e) thrown stack = tt
 moves-keep w t s None (Some r) [] = refl
-moves-keep w t s None (Some r) (Active f ∷ below) = caught-keeps w t (record s { stack = below }) r f (handler_for w (class_of s.shared r) f.place (t.handlers f.version))
+moves-keep w t s None (Some r) (Active f ∷ below) = caught-keeps w t (record s { stack = below }) r f (handler_for w (class_of w.program s.shared r) f.place (t.handlers f.version))
 moves-keep w t s None (Some r) (Initializing c part ∷ below) = refl
 moves-keep w t s None None [] = main-keeps w t s s.begun
 moves-keep w t s None None (Active f ∷ below) = tt

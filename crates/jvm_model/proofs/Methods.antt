@@ -94,7 +94,7 @@ main-tells w t s false e = chosen-tells [] (has_room w w.program.main argument_a
 moves-tell : (w : World) (t : Text) (s : State) (ending : Option Ending) (thrown : Option ℕ) (stack : List Entry) → s.stack ≡ stack → IfSome (moves w t s ending thrown stack) (Tells (methods stack))
 moves-tell w t s (Some e) thrown stack same = tt
 moves-tell w t s None (Some r) [] same = ap methods same
-moves-tell w t s None (Some r) (Active f ∷ below) same = caught-tells w t (record s { stack = below }) r f (handler_for w (class_of s.shared r) f.place (t.handlers f.version))
+moves-tell w t s None (Some r) (Active f ∷ below) same = caught-tells w t (record s { stack = below }) r f (handler_for w (class_of w.program s.shared r) f.place (t.handlers f.version))
 moves-tell w t s None (Some r) (Initializing c part ∷ below) same = refl
 moves-tell w t s None None [] same = main-tells w t s s.begun (ap methods same)
 moves-tell w t s None None (Active f ∷ below) same = tt

@@ -77,10 +77,10 @@ module _ (w : World) (m : Moving) (norm : ℕ → ℕ → ℕ) (t u : Text) (agr
       ∙ ap still (goes-moves w m free f (own_at t f) f.locals (Ref r ∷ []) (Some target))
 
   unwound-moves : (s : State) (r : ℕ) (f : Frame) → IsPlace norm f.version f.place
-      → caught w u (moved m s) r (moved_frame m f) (handler_for w (class_of s.shared r) (m.home f.version f.place) (u.handlers (m.version f.version)))
-      ≡ moved_turn m (caught w t s r f (handler_for w (class_of s.shared r) f.place (t.handlers f.version)))
+      → caught w u (moved m s) r (moved_frame m f) (handler_for w (class_of w.program s.shared r) (m.home f.version f.place) (u.handlers (m.version f.version)))
+      ≡ moved_turn m (caught w t s r f (handler_for w (class_of w.program s.shared r) f.place (t.handlers f.version)))
   unwound-moves s r f here =
-      let class : ℕ = class_of s.shared r in
+      let class : ℕ = class_of w.program s.shared r in
       ap (λ hs. caught w u (moved m s) r (moved_frame m f) (handler_for w class (m.home f.version f.place) hs)) (agrees.handlers f.version)
       ∙ (ap (caught w u (moved m s) r (moved_frame m f)) (handlers-move f.version class f.place here (t.handlers f.version) refl)
       ∙ caught-moves s r f here (handler_for w class f.place (t.handlers f.version)))

@@ -108,7 +108,7 @@ module _ (h : ℕ → ℕ) where
 
   throws-moves : (w : World) (s : Shared) (o : Operands) → throws w s (moved_operands h o) ≡ moved_outcome h (throws w s o)
   throws-moves w s (Ref r ∷ below) =
-      let is_throwable : Bool = is_subclass w.program (class_of s r) throwable in
+      let is_throwable : Bool = is_subclass w.program (class_of w.program s r) throwable in
       chosen_outcome-moves (r == 0) (Raises null_pointer) _ (if is_throwable then Throws r else Breaks false) _ refl
       (chosen_outcome-moves is_throwable (Throws r) _ (Breaks false) _ refl refl)
   throws-moves w s _ = refl

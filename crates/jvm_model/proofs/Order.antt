@@ -101,7 +101,7 @@ moves-well : (w : World) (t : Text) (s : State) (ending : Option Ending) (thrown
     → IfSome (moves w t s ending thrown stack) (GoesWell w t)
 moves-well w t s (Some e) thrown stack open' calm = tt
 moves-well w t s None (Some r) [] open' calm = inl tt
-moves-well w t s None (Some r) (Active f ∷ below) open' calm = caught-well w t (record s { stack = below }) r f (handler_for w (class_of s.shared r) f.place (t.handlers f.version))
+moves-well w t s None (Some r) (Active f ∷ below) open' calm = caught-well w t (record s { stack = below }) r f (handler_for w (class_of w.program s.shared r) f.place (t.handlers f.version))
 moves-well w t s None (Some r) (Initializing c part ∷ below) open' calm = inl tt
 moves-well w t s None None [] open' calm = main-well w t s open' calm s.begun
 moves-well w t s None None (Active f ∷ below) open' calm = tt

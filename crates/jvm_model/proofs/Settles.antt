@@ -3,10 +3,11 @@ use Rattle.std.proofs.Common.{◌≡◌, ℕ, zero, suc, ◌+◌, ◌*◌, ◌<�
 use Rattle.std.specs.Option.{IfSome, option_map_or}
 use Rattle.heap_objects.specs.declared.datum.Datum.TheVariants as datum
 use Rattle.heap_objects.specs.declared.Value.TheVariants.{Ref}
-use Rattle.jvm_model.specs.Data.{Locals, Operands, Frame, Entry, Active, Initializing, Part, Constants, Superclass, Initializer, Finish, Phase, Fresh, Running, Ready, Erroneous, Instance, Shared, Ending, State, Turn, Text, World}
+use Rattle.jvm_model.specs.Data.{Locals, Operands, Frame, Entry, Active, Initializing, Part, Constants, Superclass, Initializer, Finish, Phase, Fresh, Running, Ready, Erroneous, Shared, Ending, State, Turn, Text, World}
 use Rattle.frame_stack.specs.Widths.{height_of}
 use Rattle.jvm_model.specs.Programs.{class_named, is_subclass, super_of, initializer_of}
-use Rattle.jvm_model.specs.SharedState.{error, no_class_definition, in_initializer, phase_of, with_phase, class_of, allocated, raised}
+use Rattle.jvm_model.specs.SharedState.{error, no_class_definition, in_initializer, phase_of, with_phase, class_of, kind_for, null, allocated, raised}
+use Rattle.heap_objects.specs.Heaps.{with_instance}
 use Rattle.jvm_model.specs.Applies.{with_frame, goes, breaks, has_room}
 use Rattle.jvm_model.specs.Moves.{handler_for, own_at, caught, wrapped, raises, after_super, with_super, runs_initializer, initializes, argument_array, main_or_end, moves, move, weights, fresh, unless, left, then_turn, settles, settled}
 
@@ -56,8 +57,8 @@ abbrev state : List Entry → Option ℕ → Bool → List ℕ → Shared → Op
 state stack thrown begun output shared ending = record { stack = stack; thrown = thrown; begun = begun; shared = shared; output = output; ending = ending }
 
 raised-phases : (w : World) (s : Shared) (name : List ℕ) → (raised w s name).shared.phases ≡ s.phases
-raised-phases w s name = by (nat_le (s.used + 3) w.program.heap) where
-  by : (b : Bool) → (if b then allocated s 3 (Instance (unwrap_or (class_named w.program name) 0) (datum.Ref 0 ∷ datum.Ref 0 ∷ [])) else record { shared = s; reference = 1 }).shared.phases ≡ s.phases
+raised-phases w s name = by (nat_le (s.heap.used + 3) s.heap.limit) where
+  by : (b : Bool) → (if b then allocated s (with_instance (kind_for w.program name) (null ∷ null ∷ []) s.heap) else record { shared = s; reference = 1 }).shared.phases ≡ s.phases
   by true = refl
   by false = refl
 
@@ -81,7 +82,7 @@ caught-less w t below r begun output shared f (Some target) =
 
 -- a phase that is no more fresh, with an exception or without
 fails-phases : (w : World) (s : Shared) (c r : ℕ) → fresh (with_phase (wrapped w s r).shared c Erroneous).phases ≤ fresh s.phases
-fails-phases w s c r = by (is_subclass w.program (class_of s r) error) where
+fails-phases w s c r = by (is_subclass w.program (class_of w.program s r) error) where
   by : (b : Bool) → fresh (with_phase (if b then record { shared = s; reference = r } else raised w s in_initializer).shared c Erroneous).phases ≤ fresh s.phases
   by true = started-fewer s.phases c Erroneous erroneous
   by false = subst (λ ps. fresh (slice_set ps c Erroneous) ≤ fresh s.phases) (sym (raised-phases w s in_initializer)) (started-fewer s.phases c Erroneous erroneous)
@@ -124,7 +125,7 @@ moves-less : (w : World) (t : Text) (stack : List Entry) (thrown : Option ℕ) (
     → IfSome (moves w t (state stack thrown begun output shared ending) ending thrown stack) (λ next. left next.after < left (state stack thrown begun output shared ending))
 moves-less w t stack thrown begun output shared (Some e) = tt
 moves-less w t [] (Some r) begun output shared None = omega arith
-moves-less w t (Active f ∷ below) (Some r) begun output shared None = caught-less w t below r begun output shared f (handler_for w (class_of shared r) f.place (t.handlers f.version))
+moves-less w t (Active f ∷ below) (Some r) begun output shared None = caught-less w t below r begun output shared f (handler_for w (class_of w.program shared r) f.place (t.handlers f.version))
 moves-less w t (Initializing c Constants ∷ below) (Some r) begun output shared None = let h = fails-phases w shared c r in omega arith
 moves-less w t (Initializing c Superclass ∷ below) (Some r) begun output shared None = let h = fails-phases w shared c r in omega arith
 moves-less w t (Initializing c Initializer ∷ below) (Some r) begun output shared None = let h = fails-phases w shared c r in omega arith

@@ -1,12 +1,13 @@
 -- Worked runs over lists of instructions: classes that are initialized, with and without a static initializer, and initializers
 -- that throw (JVM Specification 5.5).
 use Rattle.std.specs.Prelude.{◌≡◌, ℕ, List, [], ◌∷◌, Some, None, pos, refl, codes, take, drop, map}
+use Rattle.heap_objects.specs.Objects.{kind_of}
 use Rattle.heap_objects.specs.declared.datum.Datum.TheVariants as datum
 use Rattle.jvm_model.specs.Data.{Instruction, Athrow, Ready, Erroneous, Returned, Loads, Began, Left, Unwound}
 use Rattle.jvm_model.specs.Programs.{name_at}
 use Rattle.jvm_model.specs.Run.{turn_in}
 use Rattle.jvm_model.specs.Activations.{trace_in}
-use Rattle.jvm_model.specs.SharedState.{null_pointer, in_initializer, no_class_definition, phase_of, class_of_object}
+use Rattle.jvm_model.specs.SharedState.{null_pointer, in_initializer, no_class_definition, phase_of, class_of_kind}
 use Rattle.jvm_model.proofs.WorkedPrograms.{Routine, Sketch, Sketches, object_name, world_by, places_of, uncaught_of, after, changes_of, trace_by, main_routine, initializer, alone, at, int, null, pop, returns, getstatic, putstatic}
 
 -- a class with one static field
@@ -172,7 +173,7 @@ pub used_by_subclass-classes : take 2 (drop 1 (after used_by_subclass 3).shared.
 unfolding turn_in
 used_by_subclass-classes = refl
 
--- the NullPointerException and its one wrapper
-pub used_by_subclass-objects : map (λ o. name_at (world_by used_by_subclass).program (class_of_object o)) (after used_by_subclass 3).shared.heap ≡ Some null_pointer ∷ Some in_initializer ∷ []
+-- the NullPointerException and its one wrapper, behind the objects of the start
+pub used_by_subclass-objects : map (λ o. name_at (world_by used_by_subclass).program (class_of_kind (world_by used_by_subclass).program (kind_of o))) (drop 5 (after used_by_subclass 3).shared.heap.objects) ≡ Some null_pointer ∷ Some in_initializer ∷ []
 unfolding turn_in
 used_by_subclass-objects = refl

@@ -20,7 +20,7 @@ use Rattle.jvm_model.specs.Rules.{is_print_stream, line_text, invokes_with}
 use Rattle.jvm_model.specs.Applies.{still, breaks, applies, new_frame, has_room}
 use Rattle.jvm_model.specs.Moves.{argument_array}
 use Rattle.jvm_model.specs.SharedState.{with_phase}
-use Rattle.jvm_model.specs.Run.{before, with_loaded}
+use Rattle.jvm_model.specs.Run.{before, arguments_made, with_loaded}
 use Rattle.jvm_model.specs.Installed.{Installed, world_in, line_in, placed, tabled}
 
 -- ---- what an operation asks for, and what it writes
@@ -80,7 +80,7 @@ attempt_placed t s = closed (attempts t s s.stack)
 -- the class is loaded and made ready, and nothing of it runs
 abbrev pub ready : Installed → State
 ready t =
-    let loaded = with_loaded (0 ∷ []) (before (world_in t)) in
+    let loaded = with_loaded (0 ∷ []) (arguments_made (world_in t) (before (world_in t))) in
     record loaded { shared = with_phase loaded.shared 0 Ready }
 
 -- `main` begins, where it has a local for its arguments

@@ -33,8 +33,6 @@ pub use Rattle.jvm_model.specs.declared.state.Entry.{Entry}
 pub use Rattle.jvm_model.specs.declared.state.Entry.TheVariants.{Active, Initializing}
 pub use Rattle.jvm_model.specs.declared.state.Phase.{Phase}
 pub use Rattle.jvm_model.specs.declared.state.Phase.TheVariants.{Fresh, Running, Ready, Erroneous}
-pub use Rattle.jvm_model.specs.declared.state.Object.{Object}
-pub use Rattle.jvm_model.specs.declared.state.Object.TheVariants.{Instance, Array, Text as Chars}
 pub use Rattle.jvm_model.specs.declared.state.Shared.{Shared}
 pub use Rattle.jvm_model.specs.declared.state.State.{State}
 

@@ -1,36 +1,10 @@
--- Kinds of classes and arrays as numbers, and the names of arrays (JVM Specification 4.3.2, 4.4.1, 4.10.1.2). A kind is the
--- number d * 2 ^ 24 + b: d is how many dimensions there are, 0 for what is no array; b is the code of newarray for a primitive
--- element, 16 and the place among the built-in classes, or 256 and the position among the others, which stand before them.
-use Rattle.std.specs.Prelude.{ℕ, ◌+◌, ◌-◌, ◌*◌, Bool, false, not, List, [], ◌∷◌, length, Option, Some, None, nat_lt, nat_le, unwrap_or, take, position, ◌==◌, ◌&&◌, ◌||◌, if◌then◌else◌}
+-- Subtypes of arrays, and the names of arrays (JVM Specification 4.3.2, 4.4.1, 4.10.1.2), by the numbers of kinds.
+use Rattle.std.specs.Prelude.{ℕ, ◌+◌, Bool, false, not, List, [], ◌∷◌, length, Option, Some, None, nat_lt, nat_le, unwrap_or, take, position, ◌==◌, ◌&&◌, ◌||◌, if◌then◌else◌}
 use Rattle.std.specs.Option.{option_and_then, option_map}
-use Rattle.const_pool.specs.BuiltIn.{built_in_names}
 use Rattle.jvm_model.specs.declared.program.Program.{Program}
 use Rattle.jvm_model.specs.Programs.{class_named}
+use Rattle.jvm_model.specs.KindNumbers.{base_of_class, class_of_base, KindParts, kind_number}
 use Rattle.jvm_model.specs.Lookup.{is_subtype}
-
--- ---- classes as bases
-
--- how many classes stand before the built-in ones
-abbrev pub user_count : Program → ℕ
-user_count p = length p.classes - length built_in_names
-
-abbrev pub base_of_class : Program → ℕ → ℕ
-base_of_class p class = if nat_lt class (user_count p) then 256 + class else 16 + (class - user_count p)
-
--- the position of the class; a primitive element has none
-abbrev pub class_of_base : Program → ℕ → Option ℕ
-class_of_base p base =
-    if nat_lt base 16 then None else
-    if nat_lt base 256 then Some (user_count p + (base - 16)) else Some (base - 256)
-
--- ---- kinds
-
-pub record KindParts : Type 0 where
-  pub dimensions : ℕ
-  pub base : ℕ
-
-abbrev pub kind_number : KindParts → ℕ
-kind_number k = k.dimensions * 16777216 + k.base
 
 -- java/lang/Object, java/lang/Cloneable and java/io/Serializable stand first among the built-in classes: what an array also is
 abbrev pub is_above_arrays : ℕ → Bool

@@ -8,6 +8,7 @@ pub mod Programs
 pub mod Lookup
 pub mod Selection
 pub mod Layouts
+pub mod KindNumbers
 pub mod Kinds
 pub mod Load
 pub mod SharedState

@@ -29,7 +29,7 @@ caught w t s r f (Some target) = still (goes (record s { thrown = None }) f (own
 -- ---- a throw meets an initialization
 
 abbrev pub wrapped : World → Shared → ℕ → Allocated
-wrapped w s r = if is_subclass w.program (class_of s r) error then record { shared = s; reference = r } else raised w s in_initializer
+wrapped w s r = if is_subclass w.program (class_of w.program s r) error then record { shared = s; reference = r } else raised w s in_initializer
 
 abbrev pub fails : World → State → ℕ → ℕ → State
 fails w s c r = let a = wrapped w s.shared r in record s { shared = with_phase a.shared c Erroneous; thrown = Some a.reference }
@@ -81,8 +81,8 @@ main_or_end w t s false =
 -- by the ending, what is thrown, and the stack
 abbrev pub moves : World → Text → State → Option Ending → Option ℕ → List Entry → Option Turn
 moves w t s (Some e) thrown stack = None
-moves w t s None (Some r) [] = Some (still (record s { ending = Some (Uncaught (class_of s.shared r)) }))
-moves w t s None (Some r) (Active f ∷ below) = Some (caught w t (record s { stack = below }) r f (handler_for w (class_of s.shared r) f.place (t.handlers f.version)))
+moves w t s None (Some r) [] = Some (still (record s { ending = Some (Uncaught (class_of w.program s.shared r)) }))
+moves w t s None (Some r) (Active f ∷ below) = Some (caught w t (record s { stack = below }) r f (handler_for w (class_of w.program s.shared r) f.place (t.handlers f.version)))
 moves w t s None (Some r) (Initializing c part ∷ below) = Some (still (fails w (record s { stack = below }) c r))
 moves w t s None None [] = Some (main_or_end w t s s.begun)
 moves w t s None None (Active f ∷ below) = None

@@ -119,7 +119,7 @@ invokes_virtual r s l o = if is_println r then prints s l o else done s (Breaks 
 abbrev pub throws : World → Shared → Operands → Outcome
 throws w s (Ref r ∷ below) =
     if r == 0 then Raises null_pointer
-    else if is_subclass w.program (class_of s r) throwable then Throws r
+    else if is_subclass w.program (class_of w.program s r) throwable then Throws r
     else Breaks false
 throws w s _ = Breaks false
 

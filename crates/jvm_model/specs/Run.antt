@@ -4,7 +4,7 @@ use Rattle.std.specs.Option.{option_map_or}
 use Rattle.std.proofs.Common.{ap, ◌∙◌, add-one}
 use Rattle.jvm_model.specs.Data.{Frame, Entry, Active, Initializing, Constants, MethodPlace, Phase, Running, Ready, Ending, State, Change, Loads, Turn, Outcome, Initializes, Done, Instruction, Program, Text, World}
 use Rattle.jvm_model.specs.Programs.{place_of_method}
-use Rattle.jvm_model.specs.SharedState.{phase_of, with_phase, shared_before}
+use Rattle.jvm_model.specs.SharedState.{phase_of, with_phase, shared_before, with_arguments}
 use Rattle.jvm_model.specs.Rules.{does, loads}
 use Rattle.jvm_model.specs.Applies.{still, breaks, applies}
 use Rattle.jvm_model.specs.Moves.{then_turn, settled}
@@ -80,9 +80,13 @@ before w = record { stack = []; thrown = None; begun = false; shared = shared_be
 abbrev pub main_class : Program → ℕ
 main_class p = option_map_or (λ (place : MethodPlace). place.class) (place_of_method p p.main) 0
 
+-- the array of the arguments, object 5, and then their texts
+abbrev pub arguments_made : World → State → State
+arguments_made w s = record s { shared = record s.shared { heap = with_arguments w.program s.shared.heap } }
+
 abbrev pub starts_with : World → ℕ → State
 starts_with w class =
-    let loaded = with_loaded (class ∷ []) (before w) in
+    let loaded = with_loaded (class ∷ []) (arguments_made w (before w)) in
     record loaded { stack = Initializing class Constants ∷ []; shared = with_phase loaded.shared class Running }
 
 -- the main class is loaded, and then initialized

@@ -1,12 +1,15 @@
 -- What all activations share: phases and static fields of classes, objects (JVM Specification 2.5.3, 5.5), and the exceptions
 -- that the machine makes (2.10).
-use Rattle.std.specs.Prelude.{ℕ, ◌+◌, ◌-◌, List, [], ◌∷◌, ◌++◌, length, map, Option, unwrap_or, position, pos, slice_get, slice_set, nat_le, codes, ◌==◌, ◌||◌, if◌then◌else◌}
+use Rattle.std.specs.Prelude.{ℕ, ◌+◌, List, [], ◌∷◌, ◌++◌, length, map, Option, unwrap_or, position, pos, slice_get, slice_set, nat_le, nat_lt, codes, ◌==◌, ◌||◌, if◌then◌else◌}
 use Rattle.std.specs.Option.{option_and_then, option_map, option_map_or}
 use Rattle.heap_objects.specs.declared.datum.Datum.TheVariants as datum
 use Rattle.const_pool.specs.declared.class.ClassFile.{ClassFile}
 use Rattle.const_pool.specs.declared.class.Member.{Member}
 use Rattle.const_pool.specs.References.{NameAndType, Reference, named_text}
-use Rattle.jvm_model.specs.Data.{Datum, Phase, Fresh, Ready, Object, Instance, Array, Chars, Program, Shared, World}
+use Rattle.heap_objects.specs.Heaps.{HeapView, empty_heap, with_instance, with_array, with_text, with_slot_at, next_number}
+use Rattle.heap_objects.specs.Objects.{kind_of, object_at}
+use Rattle.jvm_model.specs.Data.{Datum, Phase, Fresh, Ready, Program, Shared, World}
+use Rattle.jvm_model.specs.KindNumbers.{user_count, base_of_class, class_of_base, first_array, kind_number}
 use Rattle.jvm_model.specs.Methods.{is_member}
 use Rattle.jvm_model.specs.Programs.{class_at, class_named, class_of_reference, has_built_in_name}
 
@@ -41,28 +44,34 @@ with_static s f d = record s { statics = option_map_or (λ fields. slice_set s.s
 
 -- ---- objects
 
-abbrev pub class_of_object : Object → ℕ
-class_of_object (Instance class fields) = class
-class_of_object (Array class items) = class
-class_of_object (Chars class units) = class
+abbrev pub null : Datum
+null = datum.Ref 0
 
--- objects are numbered from 1
-abbrev pub class_of : Shared → ℕ → ℕ
-class_of s r = option_map_or class_of_object (slice_get s.heap (r - 1)) 0
+-- the kind of the instances of the class with this name
+abbrev pub kind_for : Program → List ℕ → ℕ
+kind_for p name = base_of_class p (unwrap_or (class_named p name) 0)
 
--- a new object
+-- the position of the class of objects of this kind; arrays are objects of java/lang/Object
+abbrev pub class_of_kind : Program → ℕ → ℕ
+class_of_kind p kind = if nat_lt kind first_array then unwrap_or (class_of_base p kind) 0 else user_count p
+
+abbrev pub class_of : Program → Shared → ℕ → ℕ
+class_of p s r = option_map_or (λ o. class_of_kind p (kind_of o)) (object_at r s.heap.objects) 0
+
+-- what is shared, and a reference to an object
 pub record Allocated : Type 0 where
   pub shared : Shared
   pub reference : ℕ
 
-abbrev pub allocated : Shared → ℕ → Object → Allocated
-allocated s slots o = record { shared = record s { heap = s.heap ++ o ∷ []; used = s.used + slots }; reference = length s.heap + 1 }
+-- an object is made
+abbrev pub allocated : Shared → HeapView → Allocated
+allocated s heap = record { shared = record s { heap = heap }; reference = next_number s.heap }
 
 -- An exception that the machine makes, with Throwable's two fields; object 1 where it does not fit into the heap.
 abbrev pub raised : World → Shared → List ℕ → Allocated
 raised w s name =
-    if nat_le (s.used + 3) w.program.heap
-    then allocated s 3 (Instance (unwrap_or (class_named w.program name) 0) (datum.Ref 0 ∷ datum.Ref 0 ∷ []))
+    if nat_le (s.heap.used + 3) s.heap.limit
+    then allocated s (with_instance (kind_for w.program name) (null ∷ null ∷ []) s.heap)
     else record { shared = s; reference = 1 }
 
 -- ---- names of classes that the rules speak of
@@ -107,13 +116,47 @@ abbrev pub built_in_from : ℕ → List ClassFile → List ℕ
 built_in_from at [] = []
 built_in_from at (c ∷ rest) = if has_built_in_name c then at ∷ built_in_from (at + 1) rest else built_in_from (at + 1) rest
 
+abbrev pub out_of_memory : List ℕ
+out_of_memory = codes "java/lang/OutOfMemoryError"
+
+abbrev pub input_stream : List ℕ
+input_stream = codes "java/io/InputStream"
+
+abbrev pub print_stream : List ℕ
+print_stream = codes "java/io/PrintStream"
+
+-- objects 1 to 4: the OutOfMemoryError that the machine throws, System.in, System.out and System.err
+abbrev pub heap_before : Program → HeapView
+heap_before p =
+    with_instance (kind_for p print_stream) []
+    (with_instance (kind_for p print_stream) []
+    (with_instance (kind_for p input_stream) []
+    (with_instance (kind_for p out_of_memory) (null ∷ null ∷ []) (empty_heap p.heap))))
+
 abbrev pub shared_before : Program → Shared
 shared_before p = record {
   loaded = built_in_from 0 p.classes;
   phases = map phase_before p.classes;
   statics = map zeros p.classes;
-  heap = [];
-  used = 0;
+  heap = heap_before p;
   made = [];
   read = 0;
 }
+
+-- ---- the arguments of `main`
+
+abbrev pub string : List ℕ
+string = codes "java/lang/String"
+
+-- the kind of String[]
+abbrev pub strings_kind : Program → ℕ
+strings_kind p = kind_number (record { dimensions = 1; base = kind_for p string })
+
+-- the texts of these arguments are elements of an array, from a place on
+abbrev pub with_texts : Program → ℕ → ℕ → List (List ℕ) → HeapView → HeapView
+with_texts p array at [] h = h
+with_texts p array at (arg ∷ args) h = with_texts p array (at + 1) args (with_slot_at array at (datum.Ref (next_number h)) (with_text (kind_for p string) arg h))
+
+-- There is room for them: so far there are none.
+abbrev pub with_arguments : Program → HeapView → HeapView
+with_arguments p h = with_texts p (next_number h) 0 p.args (with_array (strings_kind p) null (length p.args) h)

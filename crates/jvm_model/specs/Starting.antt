@@ -5,7 +5,7 @@ use Rattle.jvm_model.specs.Data.{Active, Phase, Fresh, Running, Ready, Erroneous
 use Rattle.jvm_model.specs.Applies.{new_frame, has_room}
 use Rattle.jvm_model.specs.Moves.{argument_array, fresh}
 use Rattle.jvm_model.specs.Programs.{super_of, initializer_of}
-use Rattle.jvm_model.specs.Run.{before, with_loaded, main_class}
+use Rattle.jvm_model.specs.Run.{before, arguments_made, with_loaded, main_class}
 use Rattle.jvm_model.specs.SharedState.{with_phase, phase_before, phase_of, shared_before}
 
 -- the phases once the first class is initialized
@@ -26,7 +26,7 @@ pub record StartsReady (p : Program) : Type 0 where
 -- the main class is loaded and made ready, and nothing of it runs
 abbrev pub ready_in : World → State
 ready_in w =
-    let loaded = with_loaded (0 ∷ []) (before w) in
+    let loaded = with_loaded (0 ∷ []) (arguments_made w (before w)) in
     record loaded { shared = with_phase loaded.shared 0 Ready }
 
 -- `main` has begun

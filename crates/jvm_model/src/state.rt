@@ -1,7 +1,7 @@
 //! The state of a run.
 
 use crate::ending::Ending;
-use heap_objects::{Datum, Value};
+use heap_objects::{Datum, Heap, Value};
 use jf_bytes::{Seq, Stack};
 
 /// A frame (JVM Specification 2.6): the number of its method, the version of it that the frame runs, the place in that
@@ -45,15 +45,6 @@ pub enum Phase {
     Erroneous,
 }
 
-/// An object: an instance of the class at this position with its fields, an array with the position of its class and its
-/// elements, or a text with the position of its class and its units.
-#[derive(Debug, Drop)]
-pub enum Object {
-    Instance(u32, Seq<Datum>),
-    Array(u32, Seq<Datum>),
-    Text(u32, Seq<u16>),
-}
-
 /// Objects that the machine makes once and finds again: the text with the same units that was interned, the Class object
 /// of a class, and the object that valueOf gave for a number of a class.
 #[derive(Clone, Copy, Debug, PartialEq, Eq)]
@@ -64,22 +55,20 @@ pub enum Made {
 }
 
 /// What all activations share: the positions of the loaded classes in the order in which they were loaded; the phase and
-/// the static fields of each class; the objects, numbered from 1, and how many slots they use; the objects that are made
-/// once; and how many bytes of the input were read.
-#[derive(Debug, Drop)]
+/// the static fields of each class; the heap; the objects that are made once; and how many bytes of the input were read.
+#[derive(Drop)]
 pub struct Shared {
     pub loaded: Seq<u32>,
     pub phases: Seq<Phase>,
     pub statics: Seq<Seq<Datum>>,
-    pub heap: Seq<Object>,
-    pub used: u32,
+    pub heap: Heap,
     pub made: Seq<Made>,
     pub read: usize,
 }
 
 /// The state of a run: the frames and initializations, the current one first; the object that is thrown, if one is;
 /// whether `main` has begun; what is shared; what was written; and how the run ended, if it has.
-#[derive(Debug, Drop)]
+#[derive(Drop)]
 pub struct State {
     pub stack: Stack<Entry>,
     pub thrown: Option<u32>,

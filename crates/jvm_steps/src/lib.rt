@@ -3,6 +3,7 @@
 #![tactic(auto)]
 
 mod line;
+mod objects;
 mod originals;
 mod parts;
 mod settling;
