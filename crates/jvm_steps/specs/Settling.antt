@@ -4,7 +4,9 @@ use Rattle.std.specs.Option.{option_map_or}
 use Rattle.heap_objects.specs.declared.Value.TheVariants.{Ref}
 use Rattle.frame_stack.specs.FrameLists.{PlacedFrame}
 use Rattle.jvm_model.specs.declared.state.State.{State}
-use Rattle.jvm_model.specs.Data.{Entry, Active, Instruction, Turn, World}
+use Rattle.jvm_model.specs.declared.state.Entry.{Entry}
+use Rattle.jvm_model.specs.declared.state.Entry.TheVariants.{Active}
+use Rattle.jvm_model.specs.Data.{Instruction, Turn, World}
 use Rattle.jvm_model.specs.Applies.{goes, new_frame}
 use Rattle.jvm_model.specs.Moves.{argument_array, caught, handler_for, move, own_at}
 use Rattle.jvm_model.specs.Originals.{original}

@@ -159,7 +159,7 @@ fn make_move(originals: &Originals, parts: &mut Parts) -> Result<bool, NoMemory>
         meet_throw(originals, parts, object);
         return Ok(true);
     }
-    if parts.frames.depth() > 0 {
+    if where_now(&parts.frames).is_some() {
         return Ok(false);
     }
     begin_or_end(originals, parts)?;
