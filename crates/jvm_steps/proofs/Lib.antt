@@ -1,0 +1,3 @@
+pub mod MovesOn
+pub mod OperandsAlone
+pub mod MainFrames
