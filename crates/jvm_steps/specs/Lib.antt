@@ -1,3 +1,6 @@
 pub mod States
 pub mod Lines
 pub mod Prepared
+pub mod Acts
+pub mod Going
+pub mod Returning

@@ -2,9 +2,12 @@
 //! machine, with all that follows from it.
 #![tactic(auto)]
 
+mod going;
 mod line;
 mod originals;
 mod parts;
+mod raising;
+mod returning;
 mod settling;
 mod stepping;
 
