@@ -2,3 +2,6 @@ pub mod States
 pub mod Lines
 pub mod Prepared
 pub mod Settling
+pub mod Acts
+pub mod Going
+pub mod Returning

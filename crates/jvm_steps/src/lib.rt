@@ -3,10 +3,13 @@
 #![tactic(auto)]
 
 mod handlers;
+mod going;
 mod line;
 mod objects;
 mod originals;
 mod parts;
+mod raising;
+mod returning;
 mod settling;
 mod stepping;
 

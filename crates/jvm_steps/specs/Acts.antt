@@ -1,0 +1,168 @@
+-- What becomes of a state by the line of its current frame (JVM Specification 2.6.4, 2.6.5, 2.10, 6.5): what `applies` of the model
+-- says of the instruction that the line stands for. From the state without that frame, and the frame.
+use Rattle.std.specs.Prelude.{◌≡◌, ℕ, ◌+◌, nat_le, ℤ, Bool, true, false, List, [], ◌∷◌, ◌++◌, drop, Option, Some, None, if◌then◌else◌}
+use Rattle.std.specs.Option.{option_map}
+use Rattle.heap_objects.specs.declared.datum.Datum.{Datum}
+use Rattle.heap_objects.specs.declared.datum.Datum.TheVariants as datum
+use Rattle.heap_objects.specs.declared.Value.TheVariants.{Int, Ref}
+use Rattle.const_pool.specs.declared.descriptor.Kind.{Kind}
+use Rattle.frame_stack.specs.FrameLists.{PlacedFrame}
+use Rattle.jvm_model.specs.declared.family.Family.{Family}
+use Rattle.jvm_model.specs.declared.family.Family.TheVariants as family
+use Rattle.jvm_model.specs.declared.ending.Ending.TheVariants.{Unverifiable}
+use Rattle.jvm_model.specs.declared.program.Program.{Program}
+use Rattle.jvm_model.specs.declared.state.Entry.{Entry}
+use Rattle.jvm_model.specs.declared.state.Entry.TheVariants.{Active, Initializing}
+use Rattle.jvm_model.specs.declared.state.Frame.{Frame}
+use Rattle.jvm_model.specs.declared.state.Object.TheVariants.{Instance}
+use Rattle.jvm_model.specs.declared.state.Shared.{Shared}
+use Rattle.jvm_model.specs.declared.state.State.{State}
+use Rattle.jvm_model.specs.Data.{Operands, World, Nop, Within, Instruction, Outcome, Returns}
+use Rattle.jvm_model.specs.Applies.{breaks, goes, throws_at, applies}
+use Rattle.jvm_model.specs.Families.{family_of}
+use Rattle.jvm_model.specs.Lines.{targets_of}
+use Rattle.jvm_model.specs.LocalRules.{returns, arithmetic_exception}
+use Rattle.jvm_model.specs.Originals.{original}
+use Rattle.jvm_model.specs.Rules.{is_print_stream, line_text, invokes_static}
+use Rattle.jvm_model.specs.SharedState.{Allocated, allocated, raised}
+use Rattle.jvm_model.specs.Values.{as_value, with_value}
+use Rattle.jvm_basic.specs.declared.effect.Effect.{Effect}
+use Rattle.jvm_basic.specs.declared.effect.Effect.TheVariants.{Next, Throws, Bad, Other}
+use Rattle.jvm_basic.specs.Outcomes.{Outcome as Comes, GoesOn, Raises, Breaks, Leaves}
+use Rattle.jvm_basic.specs.Rules.{rule_of}
+use Rattle.jvm_steps.specs.declared.line.Action.{Action}
+use Rattle.jvm_steps.specs.declared.line.Action.TheVariants as action
+use Rattle.jvm_steps.specs.declared.line.Line.{Line}
+use Rattle.jvm_steps.specs.declared.originals.Exception.{Exception}
+use Rattle.jvm_steps.specs.declared.parts.Parts.{Parts}
+use Rattle.jvm_steps.specs.Lines.{line_at}
+use Rattle.jvm_steps.specs.Prepared.{exception_name}
+use Rattle.jvm_steps.specs.States.{frame_in, state_with, state_in}
+
+-- ---- where a frame goes on behind its line
+
+-- control never goes on behind these families (6.5)
+abbrev pub is_last_family : Family → Bool
+is_last_family family.Goto = true
+is_last_family family.Switch = true
+is_last_family family.Ret = true
+is_last_family (family.Return k) = true
+is_last_family _ = false
+
+abbrev pub next_in : Line → Option ℕ
+next_in line = if is_last_family (family_of line.instr.op) then None else Some line.next
+
+-- the instruction that the line stands for, where control goes on behind it
+abbrev pub placed_line : Line → Instruction
+placed_line line = record { operation = Within Nop; own = line.instr.at; next = Some line.next; targets = targets_of line.instr.arg }
+
+-- ---- what sees the frame alone
+
+abbrev pub comes_to : World → Line → State → Frame → Comes → State
+comes_to w line s f (GoesOn l o place) = goes s f line.instr.at l o (Some place)
+comes_to w line s f (Raises class) = throws_at s f (raised w s.shared arithmetic_exception)
+comes_to w line s f Breaks = breaks s f line.instr.at
+comes_to w line s f Leaves = breaks s f line.instr.at
+
+abbrev pub acts_alone : World → Line → State → Frame → State
+acts_alone w line s f = comes_to w line s f (rule_of line.instr line.constant line.next f.locals f.operands)
+
+-- ---- returns
+
+-- a caller goes on behind its own line, with the result on top
+abbrev pub resumes_line : State → Frame → Option Datum → Option Line → State
+resumes_line s caller d None = breaks s caller 0
+resumes_line s caller d (Some line) = goes s caller line.instr.at caller.locals (with_value (option_map as_value d) caller.operands) (next_in line)
+
+abbrev pub gives_back_line : Program → State → Option Datum → List Entry → State
+gives_back_line p s d [] = s
+gives_back_line p s d (Initializing c part ∷ below) = s
+gives_back_line p s d (Active caller ∷ below) = resumes_line (record s { stack = below }) caller d (line_at p caller.version caller.place)
+
+-- where its operand is missing or of another kind the activation ends with the run
+abbrev pub returns_or_ends : World → Line → State → Frame → Outcome → State
+returns_or_ends w line s f (Returns d) = gives_back_line w.program s d s.stack
+returns_or_ends w line s f _ = record s { ending = Some (Unverifiable f.method line.instr.at) }
+
+abbrev pub acts_return : World → Line → Option Kind → State → Frame → State
+acts_return w line k s f = returns_or_ends w line s f (returns k f.operands)
+
+-- ---- System.out and println
+
+abbrev pub acts_out : Line → State → Frame → State
+acts_out line s f = goes s f line.instr.at f.locals (Ref 3 ∷ f.operands) (Some line.next)
+
+-- the number that println prints
+abbrev pub printable : Operands → Option ℤ
+printable (Int n ∷ Ref r ∷ below) = if is_print_stream r then Some n else None
+printable _ = None
+
+abbrev pub prints_number : Line → State → Frame → Option ℤ → State
+prints_number line s f None = breaks s f line.instr.at
+prints_number line s f (Some n) =
+    goes (record s { output = s.output ++ line_text n }) f line.instr.at f.locals (drop 2 f.operands) (Some line.next)
+
+abbrev pub acts_println : Line → State → Frame → State
+acts_println line s f = prints_number line s f (printable f.operands)
+
+-- ---- invokestatic
+
+abbrev pub acts_invokestatic : World → Line → Option ℕ → Option ℕ → State → Frame → State
+acts_invokestatic w line class method s f =
+    (applies w (original w.program) (placed_line line) (invokes_static w class method s.shared f.operands).outcome s f).after
+
+-- ---- every line
+
+abbrev pub acts_by : World → Line → State → Frame → Action → State
+acts_by w line s f action.Local = acts_alone w line s f
+acts_by w line s f (action.Return k) = acts_return w line k s f
+acts_by w line s f action.Out = acts_out line s f
+acts_by w line s f action.Println = acts_println line s f
+acts_by w line s f (action.Invokestatic class method) = acts_invokestatic w line class method s f
+
+abbrev pub acts : World → Line → State → Frame → State
+acts w line s f = acts_by w line s f line.action
+
+-- what stands at the frame's place is attempted; where nothing does the run ends
+abbrev pub attempts_line : World → State → Frame → Option Line → State
+attempts_line w s f None = breaks s f 0
+attempts_line w s f (Some line) = acts w line s f
+
+abbrev pub attempts_on : World → State → List Entry → State
+attempts_on w s (Active f ∷ below) = attempts_line w (record s { stack = below }) f (line_at w.program f.version f.place)
+attempts_on w s _ = s
+
+-- ---- the parts of a machine
+
+-- what becomes of the top frame and the state without it, if there is a frame
+abbrev pub on_top : (State → Frame → State) → Parts → List PlacedFrame → State
+on_top does p [] = state_in p
+on_top does p (f ∷ fs) = does (state_with fs p) (frame_in f)
+
+abbrev pub on_parts : (State → Frame → State) → Parts → State
+on_parts does p = on_top does p p.frames.frames
+
+-- the current frame is one of this method
+abbrev pub IsTop : ℕ → List PlacedFrame → Type 0
+IsTop method [] = ⊥
+IsTop method (f ∷ fs) = method ≡ f.method
+
+-- the run ends at this offset of this method
+abbrev pub ended : ℕ → ℕ → Parts → Parts
+ended method own p = record p { ending = Some (Unverifiable method own) }
+
+-- it ends, unless the frame has gone on
+abbrev pub ended_unless : ℕ → ℕ → Effect → Parts → Parts
+ended_unless method own Next p = p
+ended_unless method own (Throws class) p = ended method own p
+ended_unless method own Bad p = ended method own p
+ended_unless method own Other p = ended method own p
+
+-- an exception of the class at this position, in a heap of so many slots; object 1 where it does not fit
+abbrev pub exception_made : ℕ → ℕ → Shared → Allocated
+exception_made class limit s =
+    if nat_le (s.used + 3) limit then allocated s 3 (Instance class (datum.Ref 0 ∷ datum.Ref 0 ∷ [])) else record { shared = s; reference = 1 }
+
+-- an exception that the machine makes is thrown
+abbrev pub raising : World → Exception → Parts → Parts
+raising w e p = let a = raised w p.shared (exception_name e) in record p { shared = a.shared; thrown = Some a.reference }

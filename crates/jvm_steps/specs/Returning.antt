@@ -1,0 +1,23 @@
+-- Returns over the parts of a machine.
+use Rattle.std.specs.Prelude.{ℕ, Option, Some, None}
+use Rattle.heap_objects.specs.declared.datum.Datum.{Datum}
+use Rattle.const_pool.specs.declared.descriptor.Kind.{Kind}
+use Rattle.frame_stack.specs.FrameLists.{top_operands, without_frame}
+use Rattle.jvm_model.specs.declared.program.Program.{Program}
+use Rattle.jvm_model.specs.declared.state.State.{State}
+use Rattle.jvm_steps.specs.declared.parts.Parts.{Parts}
+use Rattle.jvm_steps.specs.Acts.{ended, gives_back_line}
+use Rattle.jvm_steps.specs.Going.{top_datum}
+use Rattle.jvm_steps.specs.States.{state_in}
+
+-- without the current frame
+abbrev pub left_by : Parts → State
+left_by p = state_in (record p { frames = without_frame p.frames })
+
+-- with this operand, if it has one
+abbrev pub returns_found : Program → ℕ → ℕ → Option Datum → Parts → State
+returns_found p method own None parts = left_by (ended method own parts)
+returns_found p method own (Some d) parts = let s = left_by parts in gives_back_line p s (Some d) s.stack
+
+abbrev pub returns_given : Program → ℕ → ℕ → Kind → Parts → State
+returns_given p method own k parts = returns_found p method own (top_datum k (top_operands parts.frames.frames)) parts
