@@ -6,8 +6,7 @@ use Rattle.heap_objects.specs.declared.datum.Datum.TheVariants as datum
 use Rattle.const_pool.specs.declared.class.ClassFile.{ClassFile}
 use Rattle.const_pool.specs.declared.class.Member.{Member}
 use Rattle.const_pool.specs.References.{NameAndType, Reference, named_text}
-use Rattle.heap_objects.specs.Heaps.{HeapView, empty_heap, with_instance, with_array, with_text, with_slot_at, next_number}
-use Rattle.heap_objects.specs.Objects.{kind_of, object_at}
+use Rattle.heap_objects.specs.Heaps.{HeapView, empty_heap, kind_at, with_instance, with_array, with_text, with_slot_at, next_number}
 use Rattle.jvm_model.specs.Data.{Datum, Phase, Fresh, Ready, Program, Shared, World}
 use Rattle.jvm_model.specs.KindNumbers.{user_count, base_of_class, class_of_base, first_array, kind_number}
 use Rattle.jvm_model.specs.Methods.{is_member}
@@ -56,7 +55,7 @@ abbrev pub class_of_kind : Program → ℕ → ℕ
 class_of_kind p kind = if nat_lt kind first_array then unwrap_or (class_of_base p kind) 0 else user_count p
 
 abbrev pub class_of : Program → Shared → ℕ → ℕ
-class_of p s r = option_map_or (λ o. class_of_kind p (kind_of o)) (object_at r s.heap.objects) 0
+class_of p s r = option_map_or (class_of_kind p) (kind_at r s.heap) 0
 
 -- what is shared, and a reference to an object
 pub record Allocated : Type 0 where

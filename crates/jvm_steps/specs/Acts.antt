@@ -3,7 +3,7 @@
 use Rattle.std.specs.Prelude.{◌≡◌, ℕ, ◌+◌, nat_le, ℤ, Bool, true, false, List, [], ◌∷◌, ◌++◌, drop, Option, Some, None, if◌then◌else◌}
 use Rattle.std.specs.Option.{option_map}
 use Rattle.heap_objects.specs.declared.datum.Datum.{Datum}
-use Rattle.heap_objects.specs.declared.datum.Datum.TheVariants as datum
+use Rattle.heap_objects.specs.Heaps.{HeapView, with_instance, next_number}
 use Rattle.heap_objects.specs.declared.Value.TheVariants.{Int, Ref}
 use Rattle.const_pool.specs.declared.descriptor.Kind.{Kind}
 use Rattle.frame_stack.specs.FrameLists.{PlacedFrame}
@@ -14,8 +14,6 @@ use Rattle.jvm_model.specs.declared.program.Program.{Program}
 use Rattle.jvm_model.specs.declared.state.Entry.{Entry}
 use Rattle.jvm_model.specs.declared.state.Entry.TheVariants.{Active, Initializing}
 use Rattle.jvm_model.specs.declared.state.Frame.{Frame}
-use Rattle.jvm_model.specs.declared.state.Object.TheVariants.{Instance}
-use Rattle.jvm_model.specs.declared.state.Shared.{Shared}
 use Rattle.jvm_model.specs.declared.state.State.{State}
 use Rattle.jvm_model.specs.Data.{Operands, World, Nop, Within, Instruction, Outcome, Returns}
 use Rattle.jvm_model.specs.Applies.{breaks, goes, throws_at, applies}
@@ -24,7 +22,7 @@ use Rattle.jvm_model.specs.Lines.{targets_of}
 use Rattle.jvm_model.specs.LocalRules.{returns, arithmetic_exception}
 use Rattle.jvm_model.specs.Originals.{original}
 use Rattle.jvm_model.specs.Rules.{is_print_stream, line_text, invokes_static}
-use Rattle.jvm_model.specs.SharedState.{Allocated, allocated, raised}
+use Rattle.jvm_model.specs.SharedState.{null, raised}
 use Rattle.jvm_model.specs.Values.{as_value, with_value}
 use Rattle.jvm_basic.specs.declared.effect.Effect.{Effect}
 use Rattle.jvm_basic.specs.declared.effect.Effect.TheVariants.{Next, Throws, Bad, Other}
@@ -158,10 +156,12 @@ ended_unless method own (Throws class) p = ended method own p
 ended_unless method own Bad p = ended method own p
 ended_unless method own Other p = ended method own p
 
--- an exception of the class at this position, in a heap of so many slots; object 1 where it does not fit
-abbrev pub exception_made : ℕ → ℕ → Shared → Allocated
-exception_made class limit s =
-    if nat_le (s.used + 3) limit then allocated s 3 (Instance class (datum.Ref 0 ∷ datum.Ref 0 ∷ [])) else record { shared = s; reference = 1 }
+-- an exception of this kind; object 1 where it does not fit
+abbrev pub reference_made : HeapView → ℕ
+reference_made h = if nat_le (h.used + 3) h.limit then next_number h else 1
+
+abbrev pub heap_made : ℕ → HeapView → HeapView
+heap_made kind h = if nat_le (h.used + 3) h.limit then with_instance kind (null ∷ null ∷ []) h else h
 
 -- an exception that the machine makes is thrown
 abbrev pub raising : World → Exception → Parts → Parts

@@ -48,7 +48,7 @@ abbrev pub caught_top : World → ℕ → List PlacedFrame → Parts → State
 caught_top w r [] p = state_in p
 caught_top w r (f ∷ fs) p =
     let t = original w.program in
-    (caught w t (state_with fs p) r (frame_in f) (handler_for w (class_of p.shared r) f.place (t.handlers f.version))).after
+    (caught w t (state_with fs p) r (frame_in f) (handler_for w (class_of w.program p.shared r) f.place (t.handlers f.version))).after
 
 -- ---- `main` begins
 

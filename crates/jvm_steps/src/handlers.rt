@@ -1,18 +1,21 @@
 //! Which handler a throw goes to (JVM Specification 2.10, 4.7.3).
 
-ghost use Rattle.std.specs.Prelude.{◌≡◌, false, true, map, position};
+ghost use Rattle.std.specs.Prelude.{◌≡◌, ◌<◌, ◌^◌, false, true, length, map, position};
 ghost use Rattle.std.specs.Option.{option_copied, option_map_or};
 ghost use Rattle.jvm_model.specs.Descriptors.{same_text};
 ghost use Rattle.jvm_model.specs.Methods.{code_of};
 ghost use Rattle.jvm_model.specs.Moves.{covers, handler_for};
 ghost use Rattle.jvm_model.specs.Originals.{catcher_of, original};
 ghost use Rattle.jvm_model.specs.Programs.{has_name, is_subclass, name_at, super_of};
-ghost use Rattle.jvm_model.specs.SharedState.{class_of, class_of_object};
+ghost use Rattle.heap_objects.specs.Heaps.{kind_at};
+ghost use Rattle.jvm_model.specs.SharedState.{class_of_kind};
 
+use crate::objects::class_of_kind;
 use crate::originals::Originals;
 use const_pool::{Attribute, ClassFile, CodeAttribute, Handler, Member};
+use heap_objects::Heap;
 use jf_bytes::Text16;
-use jvm_model::{Object, Program, Shared};
+use jvm_model::Program;
 
 // ---- classes by their names
 
@@ -156,23 +159,13 @@ pub fn handler_for(
 
 // ---- objects
 
-/// The position of an object's class.
-fn class_of_object(object: &Object) -> u32
-    ensures { result ≡ class_of_object object.now }
+/// The position of the class of an object; 0 where there is no object.
+pub fn class_of(program: &Program, heap: &Heap, reference: u32) -> u32
+    requires { length program.now.classes < 2 ^ 24 }
+    ensures { result ≡ option_map_or (class_of_kind program.now) (kind_at reference heap.now) 0 }
 {
-    match object {
-        Object::Instance(class, _) => *class,
-        Object::Array(class, _) => *class,
-        Object::Text(class, _) => *class,
-    }
-}
-
-/// The position of the class of the object that a reference is to; 0 where there is none.
-pub fn class_of(shared: &Shared, reference: u32) -> u32
-    ensures { result ≡ class_of shared.now reference }
-{
-    match shared.heap.get(reference.saturating_sub(1) as usize) {
-        Some(object) => class_of_object(object),
+    match heap.kind(reference) {
+        Some(kind) => class_of_kind(program, kind),
         None => 0,
     }
 }

@@ -1,10 +1,10 @@
 //! The original code of a program, prepared: what stands at each offset is looked up once, and found by its offset from then on.
 
-ghost use Rattle.std.specs.Prelude.{◌≡◌, IfOk};
+ghost use Rattle.std.specs.Prelude.{◌≡◌, ◌<◌, ◌^◌, length, IfOk};
 ghost use Rattle.std.specs.Option.{option_copied};
 ghost use Rattle.jvm_model.specs.Programs.{max_stack_of, max_locals_of, params_of_method};
 ghost use Rattle.jvm_steps.specs.Lines.{line_at};
-ghost use Rattle.jvm_steps.specs.Prepared.{FitsOriginals, exception_class};
+ghost use Rattle.jvm_steps.specs.Prepared.{FitsOriginals, exception_kind};
 
 use crate::line::Line;
 use const_pool::Kind;
@@ -30,7 +30,7 @@ pub enum Exception {
     NoSuchMethod,
 }
 
-/// The positions of the classes of those exceptions.
+/// The kinds of their classes.
 #[derive(Clone, Copy, Debug, PartialEq, Eq)]
 pub struct Exceptions {
     pub arithmetic: u32,
@@ -70,7 +70,8 @@ impl Originals {
 
     /// The program that it was made of.
     pub fn program(&self) -> &Program
-        ensures { result.now ≡ self.now.program }
+        ensures program { result.now ≡ self.now.program }
+        ensures few { length result.now.classes < 2 ^ 24 }
     {
         &self.program
     }
@@ -109,9 +110,9 @@ impl Originals {
         self.methods.get(method as usize)?.params.as_ref()
     }
 
-    /// The position in the program of an exception's class.
-    pub fn class_of(&self, exception: Exception) -> u32
-        ensures { result ≡ exception_class self.now.program exception }
+    /// The kind of an exception's class.
+    pub fn kind_of(&self, exception: Exception) -> u32
+        ensures { result ≡ exception_kind self.now.program exception }
     {
         match exception {
             Exception::Arithmetic => self.exceptions.arithmetic,

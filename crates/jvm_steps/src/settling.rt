@@ -71,7 +71,7 @@ fn meet_frame(originals: &Originals, parts: &mut Parts, object: u32, here: Here)
         caught_top originals.now object parts.old.frames.frames parts.old }
     ensures shared { parts.new.shared ≡ parts.old.shared }
 {
-    let class = class_of(&parts.shared, object) as usize;
+    let class = class_of(originals.program(), &parts.shared.heap, object) as usize;
     match handler_for(originals, here.version, class, here.place) {
         Some(target) => go_to_handler(originals, parts, object, here, target),
         None => {
@@ -89,7 +89,7 @@ fn meet_throw(originals: &Originals, parts: &mut Parts, object: u32)
 {
     match where_now(&parts.frames) {
         Some(here) => meet_frame(originals, parts, object, here),
-        None => parts.ending = Some(Ending::Uncaught(class_of(&parts.shared, object))),
+        None => parts.ending = Some(Ending::Uncaught(class_of(originals.program(), &parts.shared.heap, object))),
     }
 }
 
