@@ -2,3 +2,4 @@ pub mod States
 pub mod Lines
 pub mod Prepared
 pub mod Settling
+pub mod Before
