@@ -8,7 +8,7 @@ use Rattle.heap_objects.specs.Changes.{changed_if}
 use Rattle.frame_stack.specs.FrameLists.{PlacedFrame, FramesView, can_enter, has_slot, with_local, with_new_frame, with_room, with_written, new_frame as placed_frame}
 use Rattle.jvm_model.specs.declared.state.Entry.{Entry}
 use Rattle.jvm_model.specs.declared.state.Entry.TheVariants.{Active}
-use Rattle.jvm_model.specs.Data.{Locals, Text, World}
+use Rattle.jvm_model.specs.Data.{Locals, World}
 use Rattle.jvm_model.specs.Applies.{new_frame}
 use Rattle.jvm_model.specs.Moves.{argument_array}
 use Rattle.jvm_model.specs.Originals.{original}

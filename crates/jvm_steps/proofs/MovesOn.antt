@@ -1,5 +1,5 @@
 -- A move keeps the state that all moves lead to, and makes what is left less; where none applies that state is reached.
-use Rattle.std.proofs.Common.{◌≡◌, ◌<◌, ◌++◌, ℕ, zero, suc, Bool, true, false, List, [], Option, Some, None, refl, ap, ◌∙◌, sym}
+use Rattle.std.proofs.Common.{◌≡◌, ◌<◌, ◌++◌, ℕ, zero, suc, true, false, List, [], Option, Some, None, refl, ap, ◌∙◌}
 use Rattle.std.specs.Prelude.{is_some}
 use Rattle.std.specs.Option.{option_map_or}
 use Rattle.jvm_model.specs.declared.state.State.{State}
@@ -17,6 +17,7 @@ settles-after w t zero s c d = refl
 settles-after w t (suc n) s c d = by (move w t s) (λ next. settles-after w t n next.after (c ++ next.changes) (d ++ next.changes)) where
   turn_of : List Change → Turn
   turn_of changes = record { after = s; changes = changes }
+
   by : (found : Option Turn) → ((next : Turn) → (settles w t n (then_turn (turn_of c) next)).after ≡ (settles w t n (then_turn (turn_of d) next)).after)
       → (option_map_or (λ next. settles w t n (then_turn (turn_of c) next)) found (turn_of c)).after ≡ (option_map_or (λ next. settles w t n (then_turn (turn_of d) next)) found (turn_of d)).after
   by None rest = refl

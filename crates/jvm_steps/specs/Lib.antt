@@ -5,3 +5,4 @@ pub mod Settling
 pub mod Acts
 pub mod Going
 pub mod Returning
+pub mod Before
