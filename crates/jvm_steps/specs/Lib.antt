@@ -4,3 +4,5 @@ pub mod Prepared
 pub mod Acts
 pub mod Going
 pub mod Returning
+pub mod Arguments
+pub mod Invoking

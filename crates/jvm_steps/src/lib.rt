@@ -2,7 +2,9 @@
 //! machine, with all that follows from it.
 #![tactic(auto)]
 
+mod attempting;
 mod going;
+mod invoking;
 mod line;
 mod originals;
 mod parts;
