@@ -1,3 +1,4 @@
 pub mod Callees
 pub mod Alone
 pub mod Phases
+pub mod Tied
