@@ -1,5 +1,5 @@
 -- How a program starts that starts without any code but `main`, and which classes such programs have.
-use Rattle.std.proofs.Common.{◌≡◌, ℕ, zero, suc, ◌+◌, ◌*◌, ◌<◌, get_or, arith, Bool, true, false, List, [], ◌∷◌, slice_get, cond, Option, Some, None, refl, sym, ap, subst, ◌∙◌}
+use Rattle.std.proofs.Common.{◌≡◌, ℕ, zero, suc, ◌+◌, ◌*◌, ◌<◌, ◌≤◌, get_or, arith, Bool, true, false, List, [], ◌∷◌, slice_get, cond, Option, Some, None, refl, sym, ap, subst, ◌∙◌}
 use Rattle.std.specs.Prelude.{codes, not, is_some, length, map, slice_set, ◌&&◌, ◌||◌, ◌==◌}
 use Rattle.std.specs.Option.{option_map, option_map_or, option_and_then}
 use Rattle.std.specs.List.{list_any, AllByRecursion}
@@ -134,12 +134,14 @@ none-fresh (k ∷ cs) all = ap (λ b. fresh (cond b Ready Fresh ∷ map phase_be
 others-ready : (p : Program) (c : ClassFile) (rest : List ClassFile) → p.classes ≡ c ∷ rest → AllByRecursion (λ k. has_built_in_name k ≡ true) rest → fresh (phases_ready p) ≡ 0
 others-ready p c rest is all = ap (λ cs. fresh (slice_set (map phase_before cs) 0 Ready)) is ∙ none-fresh rest all
 
-pub StartsReady-alone : (c : ClassFile) (p : Program) → IsAlone c → (of : IsProgramOf c p) → AllByRecursion (λ k. has_built_in_name k ≡ true) of.rest → StartsReady p
-StartsReady-alone c p alone of built_in = record {
+pub StartsReady-alone : (c : ClassFile) (p : Program) → IsAlone c → (of : IsProgramOf c p) → AllByRecursion (λ k. has_built_in_name k ≡ true) of.rest → p.args ≡ [] → 1024 ≤ p.heap → StartsReady p
+StartsReady-alone c p alone of built_in plain room = record {
   first = main-class c p alone of;
   above = super-ready c p alone of;
   none = no-initializer c p alone of;
   others = others-ready p c of.rest of.classes built_in;
+  plain = plain;
+  room = room;
 }
 
 -- ---- a class of static methods is such a class
@@ -163,8 +165,8 @@ IsAlone-static c static = record {
   coded = each-nth has_code c.methods (λ k m e. ap is_some (static.methods k m e).coded);
 }
 
-pub StartsReady-static : (c : ClassFile) (p : Program) → IsStaticClass c → (of : IsProgramOf c p) → AllByRecursion (λ k. has_built_in_name k ≡ true) of.rest → StartsReady p
-StartsReady-static c p static of built_in = StartsReady-alone c p (IsAlone-static c static) of built_in
+pub StartsReady-static : (c : ClassFile) (p : Program) → IsStaticClass c → (of : IsProgramOf c p) → AllByRecursion (λ k. has_built_in_name k ≡ true) of.rest → p.args ≡ [] → 1024 ≤ p.heap → StartsReady p
+StartsReady-static c p static of built_in plain room = StartsReady-alone c p (IsAlone-static c static) of built_in plain room
 
 -- ---- the start
 

@@ -1,6 +1,6 @@
 -- Programs that start without any code but `main`: the main class is the first one, its superclass is ready, it has no static initializer,
 -- and all other classes are ready before (JVM Specification 5.2, 5.5).
-use Rattle.std.specs.Prelude.{◌≡◌, ℕ, true, List, [], ◌∷◌, map, slice_set, Option, Some, None, if◌then◌else◌}
+use Rattle.std.specs.Prelude.{◌≡◌, ◌≤◌, ℕ, true, List, [], ◌∷◌, map, slice_set, Option, Some, None, if◌then◌else◌}
 use Rattle.jvm_model.specs.Data.{Active, Phase, Fresh, Running, Ready, Erroneous, Unverifiable, Program, State, Loads, Began, Turn, Text, World}
 use Rattle.jvm_model.specs.Applies.{new_frame, has_room}
 use Rattle.jvm_model.specs.Moves.{argument_array, fresh}
@@ -22,6 +22,9 @@ pub record StartsReady (p : Program) : Type 0 where
   pub above : IsReadyAbove p (super_of p 0)
   pub none : initializer_of p 0 ≡ None
   pub others : fresh (phases_ready p) ≡ 0
+  -- so far no program has arguments, and the heap has room for the objects of the start
+  pub plain : p.args ≡ []
+  pub room : 1024 ≤ p.heap
 
 -- the main class is loaded and made ready, and nothing of it runs
 abbrev pub ready_in : World → State

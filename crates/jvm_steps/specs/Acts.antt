@@ -1,12 +1,12 @@
 -- What becomes of a state by the line of its current frame (JVM Specification 2.6.4, 2.6.5, 2.10, 6.5): what `applies` of the model
 -- says of the instruction that the line stands for. From the state without that frame, and the frame.
-use Rattle.std.specs.Prelude.{◌≡◌, ℕ, ◌+◌, nat_le, ℤ, Bool, true, false, List, [], ◌∷◌, ◌++◌, drop, Option, Some, None, if◌then◌else◌}
+use Rattle.std.specs.Prelude.{◌≡◌, ℕ, ◌+◌, nat_le, ℤ, Bool, true, false, ◌&&◌, ◌||◌, is_some, is_none, List, [], ◌∷◌, ◌++◌, drop, Option, Some, None, if◌then◌else◌}
 use Rattle.std.specs.Option.{option_map}
 use Rattle.heap_objects.specs.declared.datum.Datum.{Datum}
 use Rattle.heap_objects.specs.Heaps.{HeapView, with_instance, next_number}
 use Rattle.heap_objects.specs.declared.Value.TheVariants.{Int, Ref}
 use Rattle.const_pool.specs.declared.descriptor.Kind.{Kind}
-use Rattle.frame_stack.specs.FrameLists.{PlacedFrame}
+use Rattle.frame_stack.specs.FrameLists.{PlacedFrame, has_frame}
 use Rattle.jvm_model.specs.declared.family.Family.{Family}
 use Rattle.jvm_model.specs.declared.family.Family.TheVariants as family
 use Rattle.jvm_model.specs.declared.ending.Ending.TheVariants.{Unverifiable}
@@ -166,3 +166,11 @@ heap_made kind h = if nat_le (h.used + 3) h.limit then with_instance kind (null 
 -- an exception that the machine makes is thrown
 abbrev pub raising : World → Exception → Parts → Parts
 raising w e p = let a = raised w p.shared (exception_name e) in record p { shared = a.shared; thrown = Some a.reference }
+
+-- nothing follows by itself: the run has ended, or there is a frame, and nothing is thrown
+abbrev pub is_at_rest : Parts → Bool
+is_at_rest p = is_some p.ending || (is_none p.thrown && has_frame p.frames.frames)
+
+-- the run has not ended, and there is a frame
+abbrev pub goes_on_in : Parts → Bool
+goes_on_in p = is_none p.ending && has_frame p.frames.frames

@@ -6,3 +6,5 @@ pub mod Acts
 pub mod Going
 pub mod Returning
 pub mod Before
+pub mod Arguments
+pub mod Invoking

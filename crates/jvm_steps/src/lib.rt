@@ -3,7 +3,9 @@
 #![tactic(auto)]
 
 mod handlers;
+mod attempting;
 mod going;
+mod invoking;
 mod line;
 mod objects;
 mod originals;

@@ -1,7 +1,7 @@
 //! The state before the start, in which the built-in classes are loaded and ready, and the start of a program that starts without any code
 //! but `main` (JVM Specification 5.2, 5.3, 5.5).
 
-ghost use Rattle.std.specs.Prelude.{◌≡◌, ◌<◌, ◌^◌, [], IfOk, OnOk, length, map, unwrap_or};
+ghost use Rattle.std.specs.Prelude.{◌≡◌, ◌<◌, ◌≤◌, ◌^◌, [], IfOk, OnOk, length, map, unwrap_or};
 ghost use Rattle.const_pool.specs.References.{named_text};
 ghost use Rattle.jvm_model.specs.Programs.{has_built_in_name};
 ghost use Rattle.jvm_model.specs.SharedState.{built_in_from, phase_before, shared_before, zero_for, zeros};
@@ -12,6 +12,7 @@ ghost use Rattle.jvm_model.specs.Starting.{StartsReady};
 ghost use Rattle.jvm_steps.specs.Before.{BeforeEach, with_ready};
 ghost use Rattle.jvm_steps.specs.States.{state_in};
 
+use crate::objects::{heap_before, make_arguments};
 use crate::originals::Originals;
 use crate::parts::Parts;
 use crate::settling::begin_main;
@@ -121,7 +122,8 @@ fn statics_of(alloc: Global, classes: &[ClassFile]) -> Result<Seq<Seq<Datum>>, N
 
 /// What is shared before the start.
 fn shared_before(alloc: Global, program: &Program) -> Result<Shared, NoMemory>
-    requires { length program.now.classes < 2 ^ 32 }
+    requires few { length program.now.classes < 2 ^ 24 }
+    requires room { 1024 ≤ program.now.heap }
     ensures { IfOk result (λ shared. shared ≡ shared_before program.now) }
 {
     let classes = program.classes.as_slice();
@@ -129,8 +131,7 @@ fn shared_before(alloc: Global, program: &Program) -> Result<Shared, NoMemory>
         loaded: loaded_of(alloc, classes)?,
         phases: phases_of(alloc, classes)?,
         statics: statics_of(alloc, classes)?,
-        heap: Seq::new(alloc),
-        used: 0,
+        heap: heap_before(alloc, program)?,
         made: Seq::new(alloc),
         read: 0,
     })
@@ -138,7 +139,8 @@ fn shared_before(alloc: Global, program: &Program) -> Result<Shared, NoMemory>
 
 /// The parts before the start of a program.
 pub fn parts_before(alloc: Global, program: &Program) -> Result<Parts, NoMemory>
-    requires { length program.now.classes < 2 ^ 32 }
+    requires few { length program.now.classes < 2 ^ 24 }
+    requires room { 1024 ≤ program.now.heap }
     ensures { BeforeEach program.now (λ before. IfOk result (λ p. state_in p ≡ before)) }
 {
     Ok(Parts {
@@ -170,6 +172,7 @@ pub fn start(originals: &Originals, parts: &mut Parts) -> Result<(), NoMemory>
         OnOk result (state_in parts.new ≡ (start w (original w.program)).after) }
     ensures phases { OnOk result (fresh parts.new.shared.phases ≡ 0) }
 {
+    make_arguments(originals.program(), &mut parts.shared.heap)?;
     make_ready(&mut parts.shared)?;
     begin_main(originals, parts)
 }

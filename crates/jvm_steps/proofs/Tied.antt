@@ -1,0 +1,232 @@
+-- What stands at an offset of the prepared code is what the text of original code has there.
+use Rattle.std.proofs.Common.{◌≡◌, ℕ, Bool, true, false, cond, List, Option, Some, None, refl, sym, ap, subst, ◌∙◌}
+use Rattle.std.specs.Prelude.{◌==◌}
+use Rattle.std.specs.Option.{option_and_then, option_map}
+use Rattle.std.proofs.lemmas.Option.{same_Some, none-some}
+use Rattle.heap_objects.specs.declared.datum.Datum.{Datum}
+use Rattle.heap_objects.specs.declared.datum.Datum.TheVariants as datum
+use Rattle.const_pool.specs.declared.class.ClassFile.{ClassFile}
+use Rattle.const_pool.specs.References.{Reference, named_field, named_method}
+use Rattle.code_model.specs.declared.instr.Arg.{Arg}
+use Rattle.code_model.specs.declared.instr.Arg.TheVariants as arg
+use Rattle.code_model.specs.declared.instr.Instr.{Instr}
+use Rattle.code_model.specs.Instructions.{instruction_at, end_of}
+use Rattle.jvm_model.specs.declared.family.Family.{Family}
+use Rattle.jvm_model.specs.declared.family.Family.TheVariants as family
+use Rattle.jvm_model.specs.declared.program.Program.{Program}
+use Rattle.jvm_model.specs.Data.{Locals, Operands, Local, Nop, Constant, Load, Store, Arrange, BinaryOfInts, BinaryOfLongs, DivisionOfInts, DivisionOfLongs, ShiftOfLong, UnaryOfInt, UnaryOfLong, Lcmp, Iinc, Branch, Goto, Switch, Jsr, Ret, Return, Operation, Within, Getstatic, Invokestatic, Invokevirtual, Instruction}
+use Rattle.jvm_model.specs.Families.{family_of}
+use Rattle.jvm_model.specs.Lines.{value_in, slot_in, increment_in, target_in, keys_in, local_of, constant_in, getstatic_of, invokevirtual_of, pool_operation, named_operation, operation_by, operation_of, is_last, next_of, targets_of, instruction_of}
+use Rattle.jvm_model.specs.LocalRules.{within}
+use Rattle.jvm_model.specs.Methods.{method_code}
+use Rattle.jvm_model.specs.Originals.{original}
+use Rattle.jvm_model.specs.Programs.{class_at, place_of_method}
+use Rattle.jvm_model.specs.Rules.{is_out, is_println}
+use Rattle.jvm_model.specs.Values.{as_value}
+use Rattle.jvm_basic.specs.Rules.{datum_in, placed, going, needs, rule_by, rule_of}
+use Rattle.jvm_steps.specs.declared.line.Action.{Action}
+use Rattle.jvm_steps.specs.declared.line.Action.TheVariants as action
+use Rattle.jvm_steps.specs.declared.line.Line.{Line}
+use Rattle.jvm_steps.specs.Acts.{is_last_family, next_in}
+use Rattle.jvm_steps.specs.Lines.{local_action, action_of, line_with, line_of, line_at}
+
+-- ---- a line and what it does
+
+-- the instruction with this operation
+abbrev pub instruction_by : Operation → Line → Instruction
+instruction_by op line = record { operation = op; own = line.instr.at; next = next_of op line.next; targets = targets_of line.instr.arg }
+
+-- the rule of jvm_basic is that of the model with the line's places put in
+abbrev pub IsRuleOf : Line → Local → Type 0
+IsRuleOf line l =
+    (m : Locals) (o : Operands) → rule_of line.instr line.constant line.next m o ≡ placed line.next (targets_of line.instr.arg) m o (within l m o)
+
+pub record IsTied (p : Program) (line : Line) (op : Operation) : Type 0 where
+  pub action : action_of p op ≡ Some line.action
+  pub next : next_of op line.next ≡ next_in line
+  pub alone : (l : Local) → op ≡ Within l → IsRuleOf line l
+
+-- with its operation
+pub record Stands (p : Program) (line : Line) (i : Instruction) : Type 0 where
+  pub op : Operation
+  pub is : i ≡ instruction_by op line
+  pub tied : IsTied p line op
+
+abbrev pub Tie : Program → Option Line → Option Instruction → Type 0
+Tie p None None = Unit {0}
+Tie p None (Some i) = ⊥
+Tie p (Some line) None = ⊥
+Tie p (Some line) (Some i) = Stands p line i
+
+-- ---- instructions that see their frame alone
+
+made-last : {A : Type 0} (make : A → Local) (b : Bool) → ((x : A) → is_last (make x) ≡ b) → (o : Option A) (l : Local) → option_map make o ≡ Some l → is_last l ≡ b
+made-last make b each None l e = absurd (none-some l e)
+made-last make b each (Some x) l e = ap is_last (sym (same_Some (make x) l e)) ∙ each x
+
+known-last : (k l : Local) (b : Bool) → is_last k ≡ b → Some k ≡ Some l → is_last l ≡ b
+known-last k l b is e = ap is_last (sym (same_Some k l e)) ∙ is
+
+-- control goes on behind an instruction as behind its family
+last-same : (f : Family) (a : Arg) (c : Option Datum) (l : Local) → local_of f a c ≡ Some l → is_last l ≡ is_last_family f
+last-same family.Nop a c l e = known-last Nop l false refl e
+last-same (family.Constant d) a c l e = known-last (Constant d) l false refl e
+last-same family.Given a c l e = made-last Constant false (λ d. refl) c l e
+last-same family.Immediate a c l e = made-last Constant false (λ d. refl) (value_in a) l e
+last-same (family.Load k) a c l e = made-last (Load k) false (λ n. refl) (slot_in a) l e
+last-same (family.LoadFrom k slot) a c l e = known-last (Load k slot) l false refl e
+last-same (family.Store k) a c l e = made-last (Store k) false (λ n. refl) (slot_in a) l e
+last-same (family.StoreTo k slot) a c l e = known-last (Store k slot) l false refl e
+last-same (family.Arrange op) a c l e = known-last (Arrange op) l false refl e
+last-same (family.BinaryOfInts op) a c l e = known-last (BinaryOfInts op) l false refl e
+last-same (family.BinaryOfLongs op) a c l e = known-last (BinaryOfLongs op) l false refl e
+last-same (family.DivisionOfInts op) a c l e = known-last (DivisionOfInts op) l false refl e
+last-same (family.DivisionOfLongs op) a c l e = known-last (DivisionOfLongs op) l false refl e
+last-same (family.ShiftOfLong op) a c l e = known-last (ShiftOfLong op) l false refl e
+last-same (family.UnaryOfInt op) a c l e = known-last (UnaryOfInt op) l false refl e
+last-same (family.UnaryOfLong op) a c l e = known-last (UnaryOfLong op) l false refl e
+last-same family.Lcmp a c l e = known-last Lcmp l false refl e
+last-same family.Iinc a c l e = made-last (λ p. Iinc p.0 p.1) false (λ p. refl) (increment_in a) l e
+last-same (family.Branch test) a c l e = made-last (λ target. Branch test) false (λ t. refl) (target_in a) l e
+last-same family.Goto a c l e = made-last (λ target. Goto) true (λ t. refl) (target_in a) l e
+last-same family.Jsr a c l e = made-last (λ target. Jsr) false (λ t. refl) (target_in a) l e
+last-same family.Ret a c l e = made-last Ret true (λ n. refl) (slot_in a) l e
+last-same family.Switch a c l e = made-last Switch true (λ keys. refl) (keys_in a) l e
+last-same (family.Return k) a c l e = known-last (Return k) l true refl e
+last-same family.Elsewhere a c l e = absurd (none-some l e)
+
+-- a datum as a value is that datum
+datum-back : (c : Option Datum) → option_and_then datum_in (option_map as_value c) ≡ c
+datum-back None = refl
+datum-back (Some (datum.Int n)) = refl
+datum-back (Some (datum.Long n)) = refl
+datum-back (Some (datum.Ref r)) = refl
+
+rule-by-is : (f : Family) → (f ≡ family.Elsewhere → ⊥) → (a : Arg) (c : Option Datum) (next : ℕ) (m : Locals) (o : Operands)
+    → rule_by f a c next m o ≡ needs (local_of f a c) (λ l. going (within l) next (targets_of a)) m o
+rule-by-is family.Elsewhere apart a c next m o = absurd (apart refl)
+rule-by-is f apart a c next m o = refl
+
+module _ (p : Program) (c : ClassFile) (i : Instr) where
+  abbrev constant : Option Datum
+  constant = constant_in c.pool i.arg
+
+  -- the line and the instruction of an operation
+  abbrev the_line : Option Operation → Option Line
+  the_line o = option_map (line_with c i) (option_and_then (action_of p) o)
+
+  abbrev the_instruction : Option Operation → Option Instruction
+  the_instruction o = option_map (λ op. record { operation = op; own = i.at; next = next_of op (end_of i); targets = targets_of i.arg }) o
+
+  next-same : (f : Family) → family_of i.op ≡ f → (l : Local) → local_of f i.arg constant ≡ Some l
+      → next_of (Within l) (end_of i) ≡ cond (is_last_family (family_of i.op)) None (Some (end_of i))
+  next-same f is l e =
+      ap (λ b. cond b None (Some (end_of i))) (last-same f i.arg constant l e)
+      ∙ ap (λ x. cond (is_last_family x) None (Some (end_of i))) (sym is)
+
+  rule-same : (f : Family) → (f ≡ family.Elsewhere → ⊥) → family_of i.op ≡ f → (l : Local) → local_of f i.arg constant ≡ Some l → (m : Locals) (o : Operands)
+      → rule_of i (option_map as_value constant) (end_of i) m o ≡ placed (end_of i) (targets_of i.arg) m o (within l m o)
+  rule-same f apart is l e m o =
+      ap (λ x. rule_by x i.arg (option_and_then datum_in (option_map as_value constant)) (end_of i) m o) is
+      ∙ (ap (λ d. rule_by f i.arg d (end_of i) m o) (datum-back constant)
+      ∙ (rule-by-is f apart i.arg constant (end_of i) m o
+      ∙ ap (λ x. needs x (λ k. going (within k) (end_of i) (targets_of i.arg)) m o) e))
+
+  within-is : (l k : Local) (P : Local → Type 0) → P l → Within l ≡ Within k → P k
+  within-is l k P h e = subst P (ap local e) h where
+    local : Operation → Local
+    local (Within x) = x
+    local _ = l
+
+  tied-local : (f : Family) → (f ≡ family.Elsewhere → ⊥) → family_of i.op ≡ f → (x : Option Local) → local_of f i.arg constant ≡ x
+      → Tie p (the_line (option_map Within x)) (the_instruction (option_map Within x))
+  tied-local f apart is None e = tt
+  tied-local f apart is (Some l) e = record {
+    op = Within l;
+    is = refl;
+    tied = record {
+      action = refl;
+      next = next-same f is l e;
+      alone = λ k same. within-is l k (IsRuleOf (line_with c i (local_action l))) (rule-same f apart is l e) same;
+    };
+  }
+
+  -- ---- instructions with names
+
+  -- control goes on behind each of them
+  behind : family_of i.op ≡ family.Elsewhere → Some (end_of i) ≡ cond (is_last_family (family_of i.op)) None (Some (end_of i))
+  behind is = ap (λ x. cond (is_last_family x) None (Some (end_of i))) (sym is)
+
+  tied-getstatic : family_of i.op ≡ family.Elsewhere → (o : Option Reference) → Tie p (the_line (option_and_then getstatic_of o)) (the_instruction (option_and_then getstatic_of o))
+  tied-getstatic is None = tt
+  tied-getstatic is (Some r) = by (is_out r) refl where
+    by : (b : Bool) → is_out r ≡ b → Tie p (the_line (cond b (Some (Getstatic r)) None)) (the_instruction (cond b (Some (Getstatic r)) None))
+    by false e = tt
+    by true e =
+        subst (λ (a : Option Action). Tie p (option_map (line_with c i) a) (the_instruction (Some (Getstatic r)))) (sym (ap (λ x. cond x (Some action.Out) None) e))
+        (record {
+          op = Getstatic r;
+          is = refl;
+          tied = record { action = ap (λ x. cond x (Some action.Out) None) e; next = behind is; alone = λ k same. absurd cc };
+        })
+
+  tied-invokevirtual : family_of i.op ≡ family.Elsewhere → (o : Option Reference) → Tie p (the_line (option_and_then invokevirtual_of o)) (the_instruction (option_and_then invokevirtual_of o))
+  tied-invokevirtual is None = tt
+  tied-invokevirtual is (Some r) = by (is_println r) refl where
+    by : (b : Bool) → is_println r ≡ b → Tie p (the_line (cond b (Some (Invokevirtual r)) None)) (the_instruction (cond b (Some (Invokevirtual r)) None))
+    by false e = tt
+    by true e =
+        subst (λ (a : Option Action). Tie p (option_map (line_with c i) a) (the_instruction (Some (Invokevirtual r)))) (sym (ap (λ x. cond x (Some action.Println) None) e))
+        (record {
+          op = Invokevirtual r;
+          is = refl;
+          tied = record { action = ap (λ x. cond x (Some action.Println) None) e; next = behind is; alone = λ k same. absurd cc };
+        })
+
+  tied-invokestatic : family_of i.op ≡ family.Elsewhere → (o : Option Reference) → Tie p (the_line (option_map Invokestatic o)) (the_instruction (option_map Invokestatic o))
+  tied-invokestatic is None = tt
+  tied-invokestatic is (Some r) = record {
+    op = Invokestatic r;
+    is = refl;
+    tied = record { action = refl; next = behind is; alone = λ k same. absurd cc };
+  }
+
+  abbrev TiedOperation : Option Operation → Type 0
+  TiedOperation o = Tie p (the_line o) (the_instruction o)
+
+  either : (b : Bool) (x y : Option Operation) → TiedOperation x → TiedOperation y → TiedOperation (cond b x y)
+  either true x y tx ty = tx
+  either false x y tx ty = ty
+
+  tied-pool : family_of i.op ≡ family.Elsewhere → (index : ℕ) → TiedOperation (pool_operation c i.op index)
+  tied-pool is index =
+      either (i.op == 178) _ _ (tied-getstatic is (named_field c.pool index))
+      (either (i.op == 182) _ _ (tied-invokevirtual is (named_method c.pool index))
+      (either (i.op == 184) _ _ (tied-invokestatic is (named_method c.pool index)) tt))
+
+  tied-named : family_of i.op ≡ family.Elsewhere → (a : Arg) → TiedOperation (named_operation c i.op a)
+  tied-named is (arg.Pool index) = tied-pool is index
+  tied-named is _ = tt
+
+  -- ---- every instruction
+
+  tied-by : (f : Family) → family_of i.op ≡ f → TiedOperation (operation_by c i.op i.arg f)
+  tied-by family.Elsewhere is = tied-named is i.arg
+  tied-by f is = tied-local f (λ e. absurd cc) is (local_of f i.arg constant) refl
+
+  tied-instruction : Tie p (line_of p c i) (instruction_of c i)
+  tied-instruction = tied-by (family_of i.op) refl
+
+-- ---- at an offset
+
+lifted : {A : Type 0} (p : Program) (o : Option A) (f : A → Option Line) (g : A → Option Instruction) → ((x : A) → Tie p (f x) (g x)) → Tie p (option_and_then f o) (option_and_then g o)
+lifted p None f g each = tt
+lifted p (Some x) f g each = each x
+
+pub tied-at : (p : Program) (method at : ℕ) → Tie p (line_at p method at) ((original p).at method at)
+tied-at p method at =
+    lifted p (place_of_method p method) _ _
+    (λ place. lifted p (class_at p place.class) _ _
+    (λ c. lifted p (method_code c place.position) _ _
+    (λ code. lifted p (instruction_at code.code at) _ _
+    (λ i. tied-instruction p c i))))

@@ -1,0 +1,37 @@
+-- The frame that a method begins with, by the values on top of its caller (JVM Specification 2.6.1).
+use Rattle.std.specs.Prelude.{ℕ, Bool, false, List, ◌∷◌, length, take, reverse, Option, Some, None, is_some, ◌&&◌, if◌then◌else◌}
+use Rattle.std.specs.Option.{option_map_or}
+use Rattle.heap_objects.specs.declared.Value.{Value}
+use Rattle.const_pool.specs.declared.descriptor.Kind.{Kind}
+use Rattle.frame_stack.specs.FrameLists.{PlacedFrame, top_operands, arguments, without_arguments, can_enter, new_frame}
+use Rattle.jvm_model.specs.Data.{World}
+use Rattle.jvm_model.specs.Programs.{max_stack_of, max_locals_of, params_of_method}
+use Rattle.jvm_model.specs.Values.{data_of}
+
+-- so many of the topmost operands, the deepest first
+abbrev pub arguments_of : ℕ → List PlacedFrame → List Value
+arguments_of count fs = reverse (take count (top_operands fs))
+
+abbrev pub can_begin : World → ℕ → ℕ → List PlacedFrame → Bool
+can_begin w method args fs = can_enter (max_locals_of w method) args fs
+
+-- a frame of the method at its first offset, which has taken its arguments from the caller
+abbrev pub begun_frame : World → ℕ → ℕ → List PlacedFrame → PlacedFrame
+begun_frame w method args fs = new_frame method method (max_locals_of w method) (max_stack_of w method) (arguments args fs)
+
+abbrev pub with_begun : Bool → World → ℕ → ℕ → List PlacedFrame → List PlacedFrame
+with_begun b w method args fs = if b then begun_frame w method args fs ∷ without_arguments args fs else fs
+
+abbrev pub param_count : World → ℕ → ℕ
+param_count w method = option_map_or length (params_of_method w.program method) 0
+
+-- the operands are the method's arguments, and fit into its locals
+abbrev pub fits_with : World → ℕ → List PlacedFrame → Option (List Kind) → Bool
+fits_with w method fs None = false
+fits_with w method fs (Some ks) = is_some (data_of ks (arguments_of (length ks) fs)) && can_begin w method (length ks) fs
+
+abbrev pub fits_params : World → ℕ → List PlacedFrame → Bool
+fits_params w method fs = fits_with w method fs (params_of_method w.program method)
+
+abbrev pub with_callee : Bool → World → ℕ → List PlacedFrame → List PlacedFrame
+with_callee b w method fs = with_begun b w method (param_count w method) fs
