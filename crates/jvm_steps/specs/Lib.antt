@@ -1,3 +1,5 @@
 pub mod States
 pub mod Lines
 pub mod Prepared
+pub mod Shapes
+pub mod Entries
