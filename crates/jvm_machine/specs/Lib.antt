@@ -1,6 +1,5 @@
 pub mod Prepared
 pub mod Before
-pub mod Shapes
 pub mod TableEntries
 pub mod Probes
 pub mod Arguments

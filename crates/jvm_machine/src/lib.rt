@@ -4,7 +4,6 @@
 
 mod applying;
 mod copies;
-mod descriptor;
 mod going;
 mod invoking;
 mod lookup;
@@ -20,8 +19,6 @@ mod tables;
 mod turn;
 mod versions;
 
-pub use descriptor::shape_of;
-pub use lookup::{method_named, resolved_of};
+pub use lookup::resolved_of;
 pub use machine::Vm;
-pub use prepare::code_of;
 pub use turn::Turn;

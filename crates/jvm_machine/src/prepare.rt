@@ -1,28 +1,14 @@
 //! What the machine keeps of each method of the program: its parameters and its limits.
 
 ghost use Rattle.std.specs.Prelude.{◌≡◌, map, IfOk};
-ghost use Rattle.std.specs.Option.{option_copied};
-ghost use Rattle.jvm_model.specs.Methods.{code_of};
 ghost use Rattle.jvm_machine.specs.TableEntries.{params_of, entry_of, no_method, entry_at};
 
-use crate::descriptor::shape_of;
 use crate::tables::Method;
-use const_pool::{Attribute, ClassFile, CodeAttribute, Kind, Member};
+use const_pool::{ClassFile, Kind, Member};
 use jf_bytes::{NoMemory, Seq};
 use jvm_model::{MethodPlace, Program};
+use jvm_steps::{code_of, shape_of};
 use std::alloc::Global;
-
-/// A method's code, where it has one.
-pub fn code_of(member: &Member) -> Option<&CodeAttribute>
-    ensures { option_copied result ≡ code_of member.now }
-{
-    for attribute in member.attributes.as_slice() {
-        if let Attribute::Code(_, code) = attribute {
-            return Some(code);
-        }
-    }
-    None
-}
 
 /// The kinds of a method's parameters, where its descriptor is of the built part.
 fn params_of(

@@ -6,3 +6,8 @@ pub mod Callees
 pub mod Alone
 pub mod Phases
 pub mod Tied
+pub mod Tabled
+pub mod Positions
+pub mod Entries
+pub mod DescriptorTexts
+mod Actions

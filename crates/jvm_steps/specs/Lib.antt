@@ -8,3 +8,5 @@ pub mod Returning
 pub mod Before
 pub mod Arguments
 pub mod Invoking
+pub mod Shapes
+pub mod Entries

@@ -12,11 +12,18 @@ mod originals;
 mod parts;
 mod raising;
 mod returning;
+mod descriptor;
+mod lookup;
+mod members;
+mod preparing;
+mod resolving;
 mod settling;
 mod starting;
 mod stepping;
 
+pub use descriptor::shape_of;
 pub use line::{Action, Line};
+pub use members::{code_of, field_at, is_out, is_println, is_reference, method_at, method_named};
 pub use originals::{Exception, Originals};
 pub use parts::{Here, Parts, where_now};
 pub use settling::settle;
