@@ -2,3 +2,5 @@ pub mod Callees
 pub mod Alone
 pub mod Phases
 pub mod Tied
+pub mod LineActs
+pub mod LineSteps
