@@ -1,8 +1,7 @@
 -- What a line does is what applies by the instruction that it stands for.
 use Rattle.std.proofs.Common.{◌≡◌, ℕ, Bool, true, false, cond, List, [], ◌∷◌, ◌++◌, Option, Some, None, refl, sym, ap, subst, ◌∙◌}
-use Rattle.std.specs.Prelude.{slice_get, drop, length, ℤ, if◌then◌else◌}
+use Rattle.std.specs.Prelude.{slice_get, length, ℤ}
 use Rattle.std.specs.Option.{option_map}
-use Rattle.std.specs.Int.{w32, w64}
 use Rattle.std.proofs.lemmas.Bool.{false≢true}
 use Rattle.std.proofs.lemmas.List.{append-nil}
 use Rattle.std.proofs.lemmas.Option.{same_Some, none-some}
@@ -17,12 +16,11 @@ use Rattle.jvm_model.specs.declared.state.Entry.TheVariants.{Active, Initializin
 use Rattle.jvm_model.specs.declared.state.Frame.{Frame}
 use Rattle.jvm_model.specs.declared.state.Phase.{Phase}
 use Rattle.jvm_model.specs.declared.state.Phase.TheVariants.{Fresh, Running, Ready, Erroneous}
-use Rattle.jvm_model.specs.declared.state.Shared.{Shared}
 use Rattle.jvm_model.specs.declared.state.State.{State}
-use Rattle.jvm_model.specs.Applies.{still, breaks, goes, throws_at, resumes, gives_back, applies}
-use Rattle.jvm_model.specs.Data.{Locals, Operands, World, Text, Local, Nop, Constant, Load, Store, Arrange, BinaryOfInts, BinaryOfLongs, DivisionOfInts, DivisionOfLongs, ShiftOfLong, UnaryOfInt, UnaryOfLong, Lcmp, Iinc, Branch, Goto, Switch, Jsr, Ret, Return, Operation, Within, Getstatic, Putstatic, Invokestatic, Invokevirtual, Athrow, Instruction, Outcome, GoesOn, Subroutine, Invokes, Returns, Throws, Raises, Initializes, Exits, Breaks, Next, Target, Back, Done, Keys, Turn}
-use Rattle.jvm_model.specs.Lines.{is_last, next_of, targets_of}
-use Rattle.jvm_model.specs.LocalRules.{arithmetic_exception, pushes, replaces, leaves, stores, increments, divides_these, goes_if, holds, tests, switches_on, goes_back, returns, returns_datum, within}
+use Rattle.jvm_model.specs.Applies.{breaks, goes, throws_at, resumes, gives_back, applies}
+use Rattle.jvm_model.specs.Data.{Locals, Operands, World, Text, Local, Nop, Constant, Load, Store, Arrange, BinaryOfInts, BinaryOfLongs, DivisionOfInts, DivisionOfLongs, ShiftOfLong, UnaryOfInt, UnaryOfLong, Lcmp, Iinc, Branch, Goto, Switch, Jsr, Ret, Return, Operation, Within, Getstatic, Putstatic, Invokestatic, Invokevirtual, Athrow, Instruction, Outcome, GoesOn, Subroutine, Invokes, Returns, Throws, Raises, Initializes, Exits, Breaks, Next, Target, Back, Done, Keys}
+use Rattle.jvm_model.specs.Lines.{is_last, targets_of}
+use Rattle.jvm_model.specs.LocalRules.{arithmetic_exception, divides_these, goes_if, holds, tests, switches_on, goes_back, returns, returns_datum, within}
 use Rattle.jvm_model.specs.Moves.{fresh}
 use Rattle.jvm_model.specs.Originals.{original}
 use Rattle.jvm_model.specs.Programs.{class_of_reference, method_of_reference, params_of_method}
@@ -31,15 +29,15 @@ use Rattle.jvm_model.specs.Run.{starts}
 use Rattle.jvm_model.specs.SharedState.{field_of_reference, no_class_definition, no_such_method, phase_of, raised}
 use Rattle.jvm_model.specs.StackForms.{forms_of}
 use Rattle.jvm_model.specs.Values.{arguments, as_value, datum_of, loaded, local_in, int_of, arranged, with_value}
-use Rattle.jvm_basic.specs.Rules.{goes_at, placed, rule_of}
+use Rattle.jvm_basic.specs.Rules.{goes_at, placed}
 use Rattle.jvm_basic.proofs.Asked.{is_simple, pushes-simple, replaces-simple, leaves-simple, stores-simple, increments-simple}
 use Rattle.jvm_steps.specs.declared.line.Action.{Action}
 use Rattle.jvm_steps.specs.declared.line.Action.TheVariants as action
 use Rattle.jvm_steps.specs.declared.line.Line.{Line}
-use Rattle.jvm_steps.specs.Acts.{next_in, placed_line, comes_to, acts_alone, resumes_line, gives_back_line, returns_or_ends, acts_return, acts_out, printable, prints_number, acts_println, acts_invokestatic, acts_by, acts}
-use Rattle.jvm_steps.specs.Lines.{local_action, action_of, line_at}
+use Rattle.jvm_steps.specs.Acts.{placed_line, comes_to, acts_alone, resumes_line, gives_back_line, returns_or_ends, acts_return, acts_out, prints_number, acts_println, acts_by, acts}
+use Rattle.jvm_steps.specs.Lines.{local_action, line_at}
 use Rattle.jvm_steps.proofs.Phases.{none-fresh}
-use Rattle.jvm_steps.proofs.Tied.{instruction_by, IsRuleOf, IsTied, Stands, Tie, tied-at}
+use Rattle.jvm_steps.proofs.Tied.{instruction_by, IsRuleOf, IsTied, Tie, tied-at}
 
 -- ---- what an instruction asks for that its frame does by itself
 

@@ -1,5 +1,5 @@
 -- A step is an attempt of the current line, with all moves behind it.
-use Rattle.std.proofs.Common.{◌≡◌, ℕ, zero, suc, Bool, true, false, cond, List, [], ◌∷◌, ◌++◌, map, Option, Some, None, refl, sym, ap, subst, ◌∙◌}
+use Rattle.std.proofs.Common.{◌≡◌, ℕ, zero, suc, true, false, List, [], ◌∷◌, ◌++◌, map, Option, Some, None, refl, sym, ap, ◌∙◌}
 use Rattle.std.specs.Prelude.{is_some, is_none, ◌&&◌, ◌||◌}
 use Rattle.std.specs.Option.{option_map_or}
 use Rattle.std.proofs.lemmas.Bool.{false≢true}
@@ -12,7 +12,7 @@ use Rattle.jvm_model.specs.Data.{World, Text, Instruction, Done, Turn}
 use Rattle.jvm_model.specs.Moves.{fresh, move, moves, left, settles, settled, then_turn}
 use Rattle.jvm_model.specs.Originals.{original}
 use Rattle.jvm_model.specs.Rules.{does}
-use Rattle.jvm_model.specs.Run.{tries, starts, goes_again, steps_by, steps_at, steps_on, step}
+use Rattle.jvm_model.specs.Run.{tries, goes_again, steps_by, steps_at, steps_on, step}
 use Rattle.jvm_model.proofs.QuietSettles.{stops}
 use Rattle.jvm_steps.specs.declared.line.Line.{Line}
 use Rattle.jvm_steps.specs.declared.parts.Parts.{Parts}
@@ -20,7 +20,7 @@ use Rattle.jvm_steps.specs.Acts.{acts, attempts_line, attempts_on, is_at_rest, g
 use Rattle.jvm_steps.specs.Lines.{line_at}
 use Rattle.jvm_steps.specs.States.{active, frame_in, state_in}
 use Rattle.jvm_steps.proofs.LineActs.{ActsAs, op-acts}
-use Rattle.jvm_steps.proofs.Tied.{instruction_by, Stands, Tie, tied-at}
+use Rattle.jvm_steps.proofs.Tied.{instruction_by, Tie, tied-at}
 
 -- ---- the moves do not see the changes before them
 

@@ -55,7 +55,13 @@ fn return_value(originals: &Originals, parts: &mut Parts, method: u32, own: u16,
 }
 
 /// A return, with a result of this kind where there is one.
-pub fn return_by(originals: &Originals, parts: &mut Parts, method: u32, line: &Line, kind: Option<Kind>)
+pub fn return_by(
+    originals: &Originals,
+    parts: &mut Parts,
+    method: u32,
+    line: &Line,
+    kind: Option<Kind>,
+)
     requires top { IsTop method parts.old.frames.frames }
     ensures state { state_in parts.new ≡ on_parts (acts_return originals.now line.now kind) parts.old }
     ensures phases { parts.new.shared.phases ≡ parts.old.shared.phases }
