@@ -55,7 +55,8 @@ fn no_fields(alloc: Global) -> Result<Seq<Datum>, NoMemory>
 /// Makes an exception of the class at this position in a heap of so many slots, and gives its number. A u32 numbers the objects, or
 /// memory runs out.
 fn make(alloc: Global, shared: &mut Shared, class: u32, limit: u32) -> Result<u32, NoMemory>
-    ensures shared { IfOk result (λ r. shared.new ≡ (exception_made class limit shared.old).shared) }
+    ensures shared { IfOk result (λ r.
+        shared.new ≡ (exception_made class limit shared.old).shared) }
     ensures number { IfOk result (λ r. r ≡ (exception_made class limit shared.old).reference) }
 {
     if !fits(shared.used, limit) {
