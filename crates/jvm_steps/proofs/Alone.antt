@@ -5,8 +5,7 @@ use Rattle.frame_stack.specs.Widths.{height_of}
 use Rattle.frame_stack.specs.FrameLists.{PlacedFrame, FramesView}
 use Rattle.jvm_model.specs.Data.{World}
 use Rattle.jvm_model.specs.Applies.{breaks, with_frame}
-use Rattle.jvm_basic.specs.declared.effect.Effect.{Effect}
-use Rattle.jvm_basic.specs.declared.effect.Effect.TheVariants.{Next, Throws, Bad, Other}
+use Rattle.jvm_basic.specs.declared.effect.Effect.TheVariants.{Next, Bad, Other}
 use Rattle.jvm_basic.specs.Outcomes.{Outcome, GoesOn, Raises, Breaks, Leaves, effect_in, frames_in, with_top, asked, effect_of, after}
 use Rattle.jvm_basic.specs.Rules.{rule_of}
 use Rattle.jvm_steps.specs.declared.line.Line.{Line}

@@ -11,3 +11,5 @@ pub mod Positions
 pub mod Entries
 pub mod DescriptorTexts
 mod Actions
+pub mod LineActs
+pub mod LineSteps

@@ -1,6 +1,7 @@
 -- What becomes of a state by the line of its current frame (JVM Specification 2.6.4, 2.6.5, 2.10, 6.5): what `applies` of the model
 -- says of the instruction that the line stands for. From the state without that frame, and the frame.
-use Rattle.std.specs.Prelude.{◌≡◌, ℕ, ◌+◌, nat_le, ℤ, Bool, true, false, ◌&&◌, ◌||◌, is_some, is_none, List, [], ◌∷◌, ◌++◌, drop, Option, Some, None, if◌then◌else◌}
+use Rattle.std.specs.Prelude.{◌≡◌, ℕ, ◌+◌, nat_le, ℤ, Bool, true, false, ◌&&◌, ◌||◌, is_some, is_none, List, [], ◌∷◌, ◌++◌, drop, Option, Some, None, Result, OnOk, if◌then◌else◌}
+use Rattle.jf_bytes.specs.declared.error.NoMemory.{NoMemory}
 use Rattle.std.specs.Option.{option_map}
 use Rattle.heap_objects.specs.declared.datum.Datum.{Datum}
 use Rattle.heap_objects.specs.Heaps.{HeapView, with_instance, next_number}
@@ -139,6 +140,10 @@ on_top does p (f ∷ fs) = does (state_with fs p) (frame_in f)
 
 abbrev pub on_parts : (State → Frame → State) → Parts → State
 on_parts does p = on_top does p p.frames.frames
+
+-- the parts are then that state
+abbrev pub Becomes : {A : Type 0} → Result A NoMemory → Parts → (State → Frame → State) → Parts → Type 0
+Becomes result new does old = OnOk result (state_in new ≡ on_parts does old)
 
 -- the current frame is one of this method
 abbrev pub IsTop : ℕ → List PlacedFrame → Type 0

@@ -1,11 +1,10 @@
 -- Invocation over the parts of a machine (JVM Specification 2.6, 5.5, 6.5).
-use Rattle.std.specs.Prelude.{ℕ, Option}
+use Rattle.std.specs.Prelude.{ℕ}
 use Rattle.jvm_model.specs.declared.state.Frame.{Frame}
 use Rattle.jvm_model.specs.declared.state.State.{State}
 use Rattle.jvm_model.specs.Applies.{applies}
 use Rattle.jvm_model.specs.Data.{World}
 use Rattle.jvm_model.specs.Originals.{original}
-use Rattle.jvm_model.specs.Programs.{params_of_method}
 use Rattle.jvm_model.specs.Rules.{invokes_method}
 use Rattle.jvm_steps.specs.declared.line.Line.{Line}
 use Rattle.jvm_steps.specs.Acts.{placed_line}

@@ -3,7 +3,8 @@
 ghost use Rattle.std.specs.Prelude.{◌≡◌, ◌++◌, OnOk};
 ghost use Rattle.jvm_model.specs.Moves.{fresh};
 ghost use Rattle.jvm_model.specs.Rules.{line_text};
-ghost use Rattle.jvm_steps.specs.Acts.{IsTop, acts, acts_alone, acts_out, acts_println, attempts_on, ended, on_parts};
+ghost use Rattle.jvm_steps.specs.Acts.{IsTop, Becomes, on_parts, ended};
+ghost use Rattle.jvm_steps.specs.Acts.{acts, acts_alone, acts_out, acts_println, attempts_on};
 ghost use Rattle.jvm_steps.specs.States.{state_in};
 
 use crate::going::{drop_printed, printable, put_out};
@@ -33,7 +34,7 @@ fn act_alone(
     line: &Line,
 ) -> Result<(), NoMemory>
     requires top { IsTop method parts.old.frames.frames }
-    ensures state { OnOk result (state_in parts.new ≡ on_parts (acts_alone originals.now line.now) parts.old) }
+    ensures state { Becomes result parts.new (acts_alone originals.now line.now) parts.old }
     ensures phases { OnOk result (parts.new.shared.phases ≡ parts.old.shared.phases) }
 {
     match basic(&line.instr, line.constant, line.next, &mut parts.frames) {
@@ -67,7 +68,7 @@ fn write_line(alloc: Global, output: &mut Seq<u8>, n: i32) -> Result<(), NoMemor
 /// println(I)V.
 fn act_println(alloc: Global, parts: &mut Parts, method: u32, line: &Line) -> Result<(), NoMemory>
     requires top { IsTop method parts.old.frames.frames }
-    ensures state { OnOk result (state_in parts.new ≡ on_parts (acts_println line.now) parts.old) }
+    ensures state { Becomes result parts.new (acts_println line.now) parts.old }
     ensures phases { OnOk result (parts.new.shared.phases ≡ parts.old.shared.phases) }
 {
     let Some(n) = printable(&parts.frames) else {
@@ -90,7 +91,7 @@ fn act(
 ) -> Result<(), NoMemory>
     requires top { IsTop method parts.old.frames.frames }
     requires none { fresh parts.old.shared.phases ≡ 0 }
-    ensures state { OnOk result (state_in parts.new ≡ on_parts (acts originals.now line.now) parts.old) }
+    ensures state { Becomes result parts.new (acts originals.now line.now) parts.old }
     ensures phases { OnOk result (parts.new.shared.phases ≡ parts.old.shared.phases) }
 {
     match line.action {

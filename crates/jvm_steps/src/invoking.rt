@@ -3,10 +3,10 @@
 ghost use Rattle.std.specs.Prelude.{◌≡◌, ◌<◌, ◌^◌, length, is_some, IfOk, OnOk};
 ghost use Rattle.jvm_model.specs.Moves.{fresh};
 ghost use Rattle.jvm_model.specs.Values.{data_of, datum_of};
-ghost use Rattle.jvm_steps.specs.Acts.{IsTop, acts_invokestatic, on_parts};
-ghost use Rattle.jvm_steps.specs.Arguments.{arguments_of, can_begin, with_begun, fits_params, with_callee};
+ghost use Rattle.jvm_steps.specs.Acts.{IsTop, Becomes, acts_invokestatic};
+ghost use Rattle.jvm_steps.specs.Arguments.{arguments_of, can_begin, with_begun};
+ghost use Rattle.jvm_steps.specs.Arguments.{fits_params, with_callee};
 ghost use Rattle.jvm_steps.specs.Invoking.{acts_invoke};
-ghost use Rattle.jvm_steps.specs.States.{state_in};
 
 use crate::going::datum_of;
 use crate::line::Line;
@@ -92,7 +92,7 @@ fn invoke(
     callee: u32,
 ) -> Result<(), NoMemory>
     requires top { IsTop method parts.old.frames.frames }
-    ensures state { OnOk result (state_in parts.new ≡ on_parts (acts_invoke originals.now line.now callee) parts.old) }
+    ensures state { Becomes result parts.new (acts_invoke originals.now line.now callee) parts.old }
     ensures phases { OnOk result (parts.new.shared.phases ≡ parts.old.shared.phases) }
 {
     let begun = begin_callee(originals, &mut parts.frames, callee)?;
@@ -113,8 +113,8 @@ pub fn invoke_static(
 ) -> Result<(), NoMemory>
     requires top { IsTop method parts.old.frames.frames }
     requires none { fresh parts.old.shared.phases ≡ 0 }
-    ensures state { OnOk result (state_in parts.new
-        ≡ on_parts (acts_invokestatic originals.now line.now class callee) parts.old) }
+    ensures state { Becomes result parts.new
+        (acts_invokestatic originals.now line.now class callee) parts.old }
     ensures phases { OnOk result (parts.new.shared.phases ≡ parts.old.shared.phases) }
 {
     let Some(class) = class else {

@@ -42,7 +42,8 @@ fn return_with(originals: &Originals, parts: &mut Parts, datum: Option<Datum>)
 
 /// A return of a value of this kind: where its operand is missing or of another kind, the activation ends with the run.
 fn return_value(originals: &Originals, parts: &mut Parts, method: u32, own: u16, kind: Kind)
-    ensures state { state_in parts.new ≡ returns_given originals.now.program method own kind parts.old }
+    ensures state { state_in parts.new
+        ≡ returns_given originals.now.program method own kind parts.old }
     ensures phases { parts.new.shared.phases ≡ parts.old.shared.phases }
 {
     match top_datum(&parts.frames, kind) {
@@ -55,9 +56,16 @@ fn return_value(originals: &Originals, parts: &mut Parts, method: u32, own: u16,
 }
 
 /// A return, with a result of this kind where there is one.
-pub fn return_by(originals: &Originals, parts: &mut Parts, method: u32, line: &Line, kind: Option<Kind>)
+pub fn return_by(
+    originals: &Originals,
+    parts: &mut Parts,
+    method: u32,
+    line: &Line,
+    kind: Option<Kind>,
+)
     requires top { IsTop method parts.old.frames.frames }
-    ensures state { state_in parts.new ≡ on_parts (acts_return originals.now line.now kind) parts.old }
+    ensures state { state_in parts.new
+        ≡ on_parts (acts_return originals.now line.now kind) parts.old }
     ensures phases { parts.new.shared.phases ≡ parts.old.shared.phases }
 {
     match kind {

@@ -31,8 +31,8 @@ fn goes_on(parts: &Parts) -> bool
 
 /// All that follows by itself.
 fn finish(originals: &Originals, parts: &mut Parts) -> Result<(), NoMemory>
-    ensures state { let w = originals.now in
-        OnOk result (state_in parts.new ≡ (settled w (original w.program) (still (state_in parts.old))).after) }
+    ensures state { let w = originals.now in OnOk result (state_in parts.new
+        ≡ (settled w (original w.program) (still (state_in parts.old))).after) }
     ensures phases { OnOk result (parts.new.shared.phases ≡ parts.old.shared.phases) }
 {
     if is_at_rest(parts) {
@@ -45,8 +45,8 @@ fn finish(originals: &Originals, parts: &mut Parts) -> Result<(), NoMemory>
 /// or being initialized.
 pub fn step(alloc: Global, originals: &Originals, parts: &mut Parts) -> Result<(), NoMemory>
     requires { fresh parts.old.shared.phases ≡ 0 }
-    ensures state { let w = originals.now in
-        OnOk result (state_in parts.new ≡ (step w (original w.program) (state_in parts.old)).after) }
+    ensures state { let w = originals.now in OnOk result
+        (state_in parts.new ≡ (step w (original w.program) (state_in parts.old)).after) }
     ensures phases { OnOk result (parts.new.shared.phases ≡ parts.old.shared.phases) }
 {
     if !goes_on(parts) {

@@ -1,0 +1,367 @@
+-- What a line does is what applies by the instruction that it stands for.
+use Rattle.std.proofs.Common.{◌≡◌, ℕ, Bool, true, false, cond, List, [], ◌∷◌, ◌++◌, Option, Some, None, refl, sym, ap, subst, ◌∙◌}
+use Rattle.std.specs.Prelude.{slice_get, length, ℤ}
+use Rattle.std.specs.Option.{option_map}
+use Rattle.std.proofs.lemmas.Bool.{false≢true}
+use Rattle.std.proofs.lemmas.List.{append-nil}
+use Rattle.std.proofs.lemmas.Option.{same_Some, none-some}
+use Rattle.heap_objects.specs.declared.datum.Datum.{Datum}
+use Rattle.heap_objects.specs.declared.Value.{Value}
+use Rattle.heap_objects.specs.declared.Value.TheVariants.{Int, Long, Ref, Addr}
+use Rattle.const_pool.specs.declared.descriptor.Kind.{Kind}
+use Rattle.const_pool.specs.References.{Reference}
+use Rattle.jvm_model.specs.declared.program.Program.{Program}
+use Rattle.jvm_model.specs.declared.state.Entry.{Entry}
+use Rattle.jvm_model.specs.declared.state.Entry.TheVariants.{Active, Initializing}
+use Rattle.jvm_model.specs.declared.state.Frame.{Frame}
+use Rattle.jvm_model.specs.declared.state.Phase.{Phase}
+use Rattle.jvm_model.specs.declared.state.Phase.TheVariants.{Fresh, Running, Ready, Erroneous}
+use Rattle.jvm_model.specs.declared.state.State.{State}
+use Rattle.jvm_model.specs.Applies.{breaks, goes, throws_at, resumes, gives_back, applies}
+use Rattle.jvm_model.specs.Data.{Locals, Operands, World, Text, Local, Nop, Constant, Load, Store, Arrange, BinaryOfInts, BinaryOfLongs, DivisionOfInts, DivisionOfLongs, ShiftOfLong, UnaryOfInt, UnaryOfLong, Lcmp, Iinc, Branch, Goto, Switch, Jsr, Ret, Return, Operation, Within, Getstatic, Putstatic, Invokestatic, Invokevirtual, Athrow, Instruction, Outcome, GoesOn, Subroutine, Invokes, Returns, Throws, Raises, Initializes, Exits, Breaks, Next, Target, Back, Done, Keys}
+use Rattle.jvm_model.specs.Lines.{is_last, targets_of}
+use Rattle.jvm_model.specs.LocalRules.{arithmetic_exception, divides_these, goes_if, holds, tests, switches_on, goes_back, returns, returns_datum, within}
+use Rattle.jvm_model.specs.Moves.{fresh}
+use Rattle.jvm_model.specs.Originals.{original}
+use Rattle.jvm_model.specs.Programs.{class_of_reference, method_of_reference, params_of_method}
+use Rattle.jvm_model.specs.Rules.{is_out, is_println, is_print_stream, does, done, when_ready, missing_field, gets_field, invokes, invokes_method, invokes_with, invokes_static, line_text, prints}
+use Rattle.jvm_model.specs.Run.{starts}
+use Rattle.jvm_model.specs.SharedState.{field_of_reference, no_class_definition, no_such_method, phase_of, raised}
+use Rattle.jvm_model.specs.StackForms.{forms_of}
+use Rattle.jvm_model.specs.Values.{arguments, as_value, datum_of, loaded, local_in, int_of, arranged, with_value}
+use Rattle.jvm_basic.specs.Rules.{goes_at, placed}
+use Rattle.jvm_basic.proofs.Asked.{is_simple, pushes-simple, replaces-simple, leaves-simple, stores-simple, increments-simple}
+use Rattle.jvm_steps.specs.declared.line.Action.{Action}
+use Rattle.jvm_steps.specs.declared.line.Action.TheVariants as action
+use Rattle.jvm_steps.specs.declared.line.Line.{Line}
+use Rattle.jvm_steps.specs.Acts.{placed_line, comes_to, acts_alone, resumes_line, gives_back_line, returns_or_ends, acts_return, acts_out, prints_number, acts_println, acts_by, acts}
+use Rattle.jvm_steps.specs.Lines.{local_action, line_at}
+use Rattle.jvm_steps.proofs.Phases.{none-fresh}
+use Rattle.jvm_steps.proofs.Tied.{instruction_by, IsRuleOf, IsTied, Tie, tied-at}
+
+-- ---- what an instruction asks for that its frame does by itself
+
+-- it goes on, throws for a division by zero, or breaks; control goes on behind it only where it is not the last
+abbrev IsOwn : Bool → Outcome → Type 0
+IsOwn last (GoesOn m o Next) = last ≡ false
+IsOwn last (GoesOn m o (Target k)) = Unit {0}
+IsOwn last (GoesOn m o (Back t)) = Unit {0}
+IsOwn last Subroutine = last ≡ false
+IsOwn last (Raises name) = name ≡ arithmetic_exception
+IsOwn last (Breaks false) = Unit {0}
+IsOwn last (Breaks true) = ⊥
+IsOwn last (Invokes m args below) = ⊥
+IsOwn last (Returns d) = ⊥
+IsOwn last (Throws r) = ⊥
+IsOwn last (Initializes c) = ⊥
+IsOwn last (Exits n) = ⊥
+
+simple-own : (q : Outcome) → is_simple q ≡ true → IsOwn false q
+simple-own (GoesOn m o Next) h = refl
+simple-own (GoesOn m o (Back t)) h = tt
+simple-own (GoesOn m o (Target k)) h = tt
+simple-own (Breaks false) h = tt
+simple-own (Breaks true) h = absurd (false≢true h)
+simple-own _ h = absurd (false≢true h)
+
+divides-own : (x : Option (Option Value)) (m : Locals) (o : Operands) → IsOwn false (divides_these x m o)
+divides-own None m o = tt
+divides-own (Some None) m o = refl
+divides-own (Some (Some v)) m o = refl
+
+branch-own : (x : Option Bool) (taken : ℕ) (m : Locals) (o : Operands) → IsOwn false (goes_if x taken m o)
+branch-own None taken m o = tt
+branch-own (Some true) taken m o = tt
+branch-own (Some false) taken m o = refl
+
+switch-own : (keys : Keys) (x : Option ℤ) (m : Locals) (o : Operands) → IsOwn true (switches_on keys x m o)
+switch-own keys None m o = tt
+switch-own keys (Some n) m o = tt
+
+back-own : (x : Option Value) (m : Locals) (o : Operands) → IsOwn true (goes_back x m o)
+back-own (Some (Addr t)) m o = tt
+back-own (Some (Int n)) m o = tt
+back-own (Some (Long n)) m o = tt
+back-own (Some (Ref r)) m o = tt
+back-own None m o = tt
+
+-- a return is none of them
+abbrev own_kind : Local → Option (Option Kind)
+own_kind (Return k) = Some k
+own_kind _ = None
+
+within-own : (l : Local) (m : Locals) (o : Operands) → own_kind l ≡ None → IsOwn (is_last l) (within l m o)
+within-own Nop m o h = refl
+within-own (Constant d) m o h = refl
+within-own (Load k slot) m o h = simple-own _ (pushes-simple (loaded k (slice_get m slot)) m o)
+within-own (Store k slot) m o h = simple-own _ (stores-simple k slot m o)
+within-own (Arrange op) m o h = simple-own _ (leaves-simple (arranged (forms_of op) o) m)
+within-own (BinaryOfInts op) m o h = simple-own _ (replaces-simple 2 _ m o)
+within-own (BinaryOfLongs op) m o h = simple-own _ (replaces-simple 2 _ m o)
+within-own (DivisionOfInts op) m o h = divides-own _ m o
+within-own (DivisionOfLongs op) m o h = divides-own _ m o
+within-own (ShiftOfLong op) m o h = simple-own _ (replaces-simple 2 _ m o)
+within-own (UnaryOfInt op) m o h = simple-own _ (replaces-simple 1 _ m o)
+within-own (UnaryOfLong op) m o h = simple-own _ (replaces-simple 1 _ m o)
+within-own Lcmp m o h = simple-own _ (replaces-simple 2 _ m o)
+within-own (Iinc slot d) m o h = simple-own _ (increments-simple slot d (local_in m slot) m o)
+within-own (Branch test) m o h = branch-own (holds test o) (tests test) m o
+within-own Goto m o h = tt
+within-own (Switch keys) m o h = switch-own keys (int_of o) m o
+within-own Jsr m o h = refl
+within-own (Ret slot) m o h = back-own (local_in m slot) m o
+within-own (Return k) m o h = absurd (none-some k (sym h))
+
+-- nothing is initialized before
+own-starts : (last : Bool) (q : Outcome) → IsOwn last q → starts q ≡ None
+own-starts last (GoesOn m o to) h = refl
+own-starts last Subroutine h = refl
+own-starts last (Raises name) h = refl
+own-starts last (Breaks b) h = refl
+own-starts last (Invokes m args below) h = absurd h
+own-starts last (Returns d) h = absurd h
+own-starts last (Throws r) h = absurd h
+own-starts last (Initializes c) h = absurd h
+own-starts last (Exits n) h = absurd h
+
+-- ---- it applies as the line's outcome
+
+module _ (w : World) (t : Text) (line : Line) (s : State) (f : Frame) where
+  at-same : (m : Locals) (o : Operands) (place : Option ℕ) → goes s f line.instr.at m o place ≡ comes_to w line s f (goes_at m o place)
+  at-same m o None = refl
+  at-same m o (Some place) = refl
+
+  abbrev by_next : Operation → Option ℕ → Instruction
+  by_next op next = record { operation = op; own = line.instr.at; next = next; targets = targets_of line.instr.arg }
+
+  -- with the offset behind it, where it has one
+  own-same : (op : Operation) (last : Bool) (q : Outcome) → IsOwn last q
+      → (applies w t (by_next op (cond last None (Some line.next))) q s f).after ≡ comes_to w line s f (placed line.next (targets_of line.instr.arg) f.locals f.operands q)
+  own-same op last (GoesOn m o Next) h = ap (λ b. goes s f line.instr.at m o (cond b None (Some line.next))) h
+  own-same op last (GoesOn m o (Target k)) h = at-same m o (slice_get (targets_of line.instr.arg) k)
+  own-same op last (GoesOn m o (Back place)) h = refl
+  own-same op last Subroutine h =
+      ap (λ b. (applies w t (by_next op (cond b None (Some line.next))) Subroutine s f).after) h
+      ∙ at-same f.locals (Addr line.next ∷ f.operands) (slice_get (targets_of line.instr.arg) 0)
+  own-same op last (Raises name) h = ap (λ x. throws_at s f (raised w s.shared x)) h
+  own-same op last (Breaks false) h = refl
+  own-same op last (Breaks true) h = absurd h
+  own-same op last (Invokes m args below) h = absurd h
+  own-same op last (Returns d) h = absurd h
+  own-same op last (Throws r) h = absurd h
+  own-same op last (Initializes c) h = absurd h
+  own-same op last (Exits n) h = absurd h
+
+  -- by its rule
+  pub alone-same : (l : Local) → own_kind l ≡ None → IsRuleOf line l
+      → (applies w t (instruction_by (Within l) line) (within l f.locals f.operands) s f).after ≡ acts_alone w line s f
+  alone-same l own rule =
+      own-same (Within l) (is_last l) (within l f.locals f.operands) (within-own l f.locals f.operands own)
+      ∙ ap (comes_to w line s f) (sym (rule f.locals f.operands))
+
+-- ---- returns
+
+-- the caller resumes at its line
+resumes-same : (p : Program) (s : State) (caller : Frame) (d : Option Datum) (lo : Option Line) (io : Option Instruction) → Tie p lo io
+    → resumes s caller d io ≡ resumes_line s caller d lo
+resumes-same p s caller d None None tie = refl
+resumes-same p s caller d None (Some i) tie = absurd tie
+resumes-same p s caller d (Some line) None tie = absurd tie
+resumes-same p s caller d (Some line) (Some i) tie =
+    ap (λ x. resumes s caller d (Some x)) tie.is
+    ∙ ap (λ n. goes s caller line.instr.at caller.locals (with_value (option_map as_value d) caller.operands) n) tie.tied.next
+
+gives-same : (p : Program) (s : State) (d : Option Datum) (es : List Entry) → gives_back (original p) s d es ≡ gives_back_line p s d es
+gives-same p s d [] = refl
+gives-same p s d (Initializing c part ∷ below) = refl
+gives-same p s d (Active caller ∷ below) =
+    resumes-same p (record s { stack = below }) caller d (line_at p caller.version caller.place) ((original p).at caller.version caller.place) (tied-at p caller.version caller.place)
+
+-- an outcome of a return
+abbrev IsReturn : Outcome → Type 0
+IsReturn (Returns d) = Unit {0}
+IsReturn (Breaks true) = Unit {0}
+IsReturn _ = ⊥
+
+datum-return : (x : Option Datum) → IsReturn (returns_datum x)
+datum-return None = tt
+datum-return (Some d) = tt
+
+returns-return : (k : Option Kind) (o : Operands) → IsReturn (returns k o)
+returns-return None o = tt
+returns-return (Some k) [] = tt
+returns-return (Some k) (v ∷ below) = datum-return (datum_of k v)
+
+return-starts : (q : Outcome) → IsReturn q → starts q ≡ None
+return-starts (Returns d) h = refl
+return-starts (Breaks b) h = refl
+return-starts (GoesOn m o to) h = absurd h
+return-starts Subroutine h = absurd h
+return-starts (Raises name) h = absurd h
+return-starts (Invokes m args below) h = absurd h
+return-starts (Throws r) h = absurd h
+return-starts (Initializes c) h = absurd h
+return-starts (Exits n) h = absurd h
+
+return-same : (w : World) (line : Line) (op : Operation) (s : State) (f : Frame) (q : Outcome) → IsReturn q
+    → (applies w (original w.program) (instruction_by op line) q s f).after ≡ returns_or_ends w line s f q
+return-same w line op s f (Returns d) h = gives-same w.program s d s.stack
+return-same w line op s f (Breaks true) h = refl
+return-same w line op s f (Breaks false) h = absurd h
+return-same w line op s f (GoesOn m o to) h = absurd h
+return-same w line op s f Subroutine h = absurd h
+return-same w line op s f (Raises name) h = absurd h
+return-same w line op s f (Invokes m args below) h = absurd h
+return-same w line op s f (Throws r) h = absurd h
+return-same w line op s f (Initializes c) h = absurd h
+return-same w line op s f (Exits n) h = absurd h
+
+-- ---- an attempt, by what it asks for
+
+-- what applies is this state, and nothing is initialized before
+pub record ActsAs (w : World) (i : Instruction) (s : State) (f : Frame) (d : Done) (x : State) : Type 0 where
+  pub starts_none : starts d.outcome ≡ None
+  pub applied : (applies w (original w.program) i d.outcome (record s { shared = d.shared; output = s.output ++ d.wrote }) f).after ≡ x
+
+-- where nothing shared is changed, and nothing is written
+quiet-acts : (w : World) (i : Instruction) (s : State) (f : Frame) (q : Outcome) (x : State) → starts q ≡ None
+    → (applies w (original w.program) i q s f).after ≡ x → ActsAs w i s f (done s.shared q) x
+quiet-acts w i s f q x none is = record {
+  starts_none = none;
+  applied = ap (λ out. (applies w (original w.program) i q (record s { output = out }) f).after) (append-nil s.output) ∙ is;
+}
+
+alone-acts : (w : World) (line : Line) (s : State) (f : Frame) (l : Local) → own_kind l ≡ None → IsRuleOf line l
+    → ActsAs w (instruction_by (Within l) line) s f (does w (Within l) s.shared f.locals f.operands) (acts_alone w line s f)
+alone-acts w line s f l own rule =
+    quiet-acts w (instruction_by (Within l) line) s f (within l f.locals f.operands) (acts_alone w line s f)
+    (own-starts (is_last l) (within l f.locals f.operands) (within-own l f.locals f.operands own))
+    (alone-same w (original w.program) line s f l own rule)
+
+return-acts : (w : World) (line : Line) (s : State) (f : Frame) (k : Option Kind)
+    → ActsAs w (instruction_by (Within (Return k)) line) s f (does w (Within (Return k)) s.shared f.locals f.operands) (acts_return w line k s f)
+return-acts w line s f k =
+    quiet-acts w (instruction_by (Within (Return k)) line) s f (returns k f.operands) (acts_return w line k s f)
+    (return-starts (returns k f.operands) (returns-return k f.operands))
+    (return-same w line (Within (Return k)) s f (returns k f.operands) (returns-return k f.operands))
+
+within-acts : (w : World) (line : Line) (s : State) (f : Frame) (l : Local) → IsRuleOf line l
+    → ActsAs w (instruction_by (Within l) line) s f (does w (Within l) s.shared f.locals f.operands) (acts_by w line s f (local_action l))
+within-acts w line s f (Return k) rule = return-acts w line s f k
+within-acts w line s f l rule = alone-acts w line s f l refl rule
+
+-- ---- getstatic and invokevirtual
+
+chosen-acts : (w : World) (i : Instruction) (s : State) (f : Frame) (x : State) (b : Bool) (d e : Done) → b ≡ true → ActsAs w i s f d x → ActsAs w i s f (cond b d e) x
+chosen-acts w i s f x true d e is acts = acts
+chosen-acts w i s f x false d e is acts = absurd (false≢true is)
+
+out-acts : (w : World) (line : Line) (s : State) (f : Frame) (r : Reference) → is_out r ≡ true
+    → ActsAs w (instruction_by (Getstatic r) line) s f (does w (Getstatic r) s.shared f.locals f.operands) (acts_out line s f)
+out-acts w line s f r is =
+    chosen-acts w (instruction_by (Getstatic r) line) s f (acts_out line s f) (is_out r)
+    (done s.shared (GoesOn f.locals (Ref 3 ∷ f.operands) Next))
+    (gets_field (missing_field w.program r) (field_of_reference w.program r) s.shared f.locals f.operands)
+    is
+    (quiet-acts w (instruction_by (Getstatic r) line) s f (GoesOn f.locals (Ref 3 ∷ f.operands) Next) (acts_out line s f) refl refl)
+
+module _ (w : World) (line : Line) (r : Reference) (s : State) (f : Frame) where
+  abbrev prints_here : Operands → State
+  prints_here o = acts_println line s (record f { operands = o })
+
+  abbrev PrintsAs : Operands → Done → State → Type 0
+  PrintsAs o d x = ActsAs w (instruction_by (Invokevirtual r) line) s (record f { operands = o }) d x
+
+  breaks-as : (o : Operands) → PrintsAs o (done s.shared (Breaks false)) (breaks s (record f { operands = o }) line.instr.at)
+  breaks-as o = quiet-acts w (instruction_by (Invokevirtual r) line) s (record f { operands = o }) (Breaks false) (breaks s (record f { operands = o }) line.instr.at) refl refl
+
+  number-as : (n : ℤ) (object : ℕ) (below : Operands) (b : Bool)
+      → PrintsAs (Int n ∷ Ref object ∷ below)
+      (cond b (record { shared = s.shared; wrote = line_text n; outcome = GoesOn f.locals below Next }) (done s.shared (Breaks false)))
+      (prints_number line s (record f { operands = Int n ∷ Ref object ∷ below }) (cond b (Some n) None))
+  number-as n object below true = record { starts_none = refl; applied = refl }
+  number-as n object below false = breaks-as (Int n ∷ Ref object ∷ below)
+
+  prints-as : (o : Operands) → PrintsAs o (prints s.shared f.locals o) (prints_here o)
+  prints-as (Int n ∷ Ref object ∷ below) = number-as n object below (is_print_stream object)
+  prints-as o = breaks-as o
+
+  println-acts : is_println r ≡ true
+      → ActsAs w (instruction_by (Invokevirtual r) line) s f (does w (Invokevirtual r) s.shared f.locals f.operands) (acts_println line s f)
+  println-acts is =
+      chosen-acts w (instruction_by (Invokevirtual r) line) s f (acts_println line s f) (is_println r) (prints s.shared f.locals f.operands) (done s.shared (Breaks false)) is
+      (prints-as f.operands)
+
+-- ---- invokestatic
+
+-- what applies does not ask which operation it is
+placed-same : (w : World) (line : Line) (r : Reference) (s : State) (f : Frame) (q : Outcome)
+    → (applies w (original w.program) (instruction_by (Invokestatic r) line) q s f).after ≡ (applies w (original w.program) (placed_line line) q s f).after
+placed-same w line r s f (GoesOn m o Next) = refl
+placed-same w line r s f (GoesOn m o (Target k)) = refl
+placed-same w line r s f (GoesOn m o (Back t)) = refl
+placed-same w line r s f Subroutine = refl
+placed-same w line r s f (Raises name) = refl
+placed-same w line r s f (Breaks b) = refl
+placed-same w line r s f (Invokes m args below) = refl
+placed-same w line r s f (Returns d) = refl
+placed-same w line r s f (Throws x) = refl
+placed-same w line r s f (Initializes c) = refl
+placed-same w line r s f (Exits n) = refl
+
+invokes-starts : (method count : ℕ) (args : Option (List Datum)) (o : Operands) → starts (invokes method count args o) ≡ None
+invokes-starts method count None o = refl
+invokes-starts method count (Some args) o = refl
+
+method-starts : (method : ℕ) (params : Option (List Kind)) (o : Operands) → starts (invokes_with method params o) ≡ None
+method-starts method None o = refl
+method-starts method (Some params) o = invokes-starts method (length params) (arguments params o) o
+
+module _ (w : World) (line : Line) (r : Reference) (s : State) (f : Frame) (none : fresh s.shared.phases ≡ 0) where
+  abbrev StaticAs : Done → Type 0
+  StaticAs d = ActsAs w (instruction_by (Invokestatic r) line) s f d (applies w (original w.program) (placed_line line) d.outcome s f).after
+
+  asks-as : (q : Outcome) → starts q ≡ None → StaticAs (done s.shared q)
+  asks-as q starts_none =
+      quiet-acts w (instruction_by (Invokestatic r) line) s f q (applies w (original w.program) (placed_line line) q s f).after starts_none (placed-same w line r s f q)
+
+  -- no class is fresh
+  phase-as : (class : ℕ) (q : Outcome) → starts q ≡ None → (x : Option Phase) → phase_of s.shared class ≡ x → StaticAs (when_ready x class s.shared (done s.shared q))
+  phase-as class q starts_none (Some Ready) is = asks-as q starts_none
+  phase-as class q starts_none (Some Running) is = asks-as q starts_none
+  phase-as class q starts_none (Some Fresh) is = absurd (none-fresh s.shared.phases class none is)
+  phase-as class q starts_none (Some Erroneous) is = asks-as (Raises no_class_definition) refl
+  phase-as class q starts_none None is = asks-as (Raises no_class_definition) refl
+
+  static-as : (class method : Option ℕ) → StaticAs (invokes_static w class method s.shared f.operands)
+  static-as None method = asks-as (Raises no_class_definition) refl
+  static-as (Some class) None = asks-as (Raises no_such_method) refl
+  static-as (Some class) (Some method) =
+      phase-as class (invokes_method w method f.operands) (method-starts method (params_of_method w.program method) f.operands) (phase_of s.shared class) refl
+
+-- ---- every line
+
+named-action : (b : Bool) (a found : Action) → cond b (Some a) None ≡ Some found → (b ≡ true) × (a ≡ found)
+named-action true a found e = (refl, same_Some a found e)
+named-action false a found e = absurd (none-some found e)
+
+pub op-acts : (w : World) (line : Line) (s : State) (f : Frame) (op : Operation) → fresh s.shared.phases ≡ 0 → IsTied w.program line op
+    → ActsAs w (instruction_by op line) s f (does w op s.shared f.locals f.operands) (acts w line s f)
+op-acts w line s f (Within l) none tied =
+    subst (λ a. ActsAs w (instruction_by (Within l) line) s f (does w (Within l) s.shared f.locals f.operands) (acts_by w line s f a))
+    (same_Some (local_action l) line.action tied.action)
+    (within-acts w line s f l (tied.alone l refl))
+op-acts w line s f (Getstatic r) none tied =
+    let found = named-action (is_out r) action.Out line.action tied.action in
+    subst (λ a. ActsAs w (instruction_by (Getstatic r) line) s f (does w (Getstatic r) s.shared f.locals f.operands) (acts_by w line s f a)) found.1
+    (out-acts w line s f r found.0)
+op-acts w line s f (Invokevirtual r) none tied =
+    let found = named-action (is_println r) action.Println line.action tied.action in
+    subst (λ a. ActsAs w (instruction_by (Invokevirtual r) line) s f (does w (Invokevirtual r) s.shared f.locals f.operands) (acts_by w line s f a)) found.1
+    (println-acts w line r s f found.0)
+op-acts w line s f (Invokestatic r) none tied =
+    subst (λ a. ActsAs w (instruction_by (Invokestatic r) line) s f (does w (Invokestatic r) s.shared f.locals f.operands) (acts_by w line s f a))
+    (same_Some (action.Invokestatic (class_of_reference w.program r) (method_of_reference w.program r)) line.action tied.action)
+    (static-as w line r s f none (class_of_reference w.program r) (method_of_reference w.program r))
+op-acts w line s f (Putstatic r) none tied = absurd (none-some line.action tied.action)
+op-acts w line s f Athrow none tied = absurd (none-some line.action tied.action)
