@@ -30,7 +30,7 @@ fn has_name(name: &Text16, class: &ClassFile) -> bool
 }
 
 /// The position of the class with this name.
-fn class_named(classes: &[ClassFile], name: &Text16) -> Option<usize>
+fn position_of(classes: &[ClassFile], name: &Text16) -> Option<usize>
     ensures { result ≡ position (has_name name.now) classes.now }
 {
     classes.iter().position(|class| has_name(name, class))
@@ -52,7 +52,7 @@ fn super_of(program: &Program, class: usize) -> Option<usize>
 {
     let class = program.classes.get(class)?;
     match class.pool.class_name(class.super_class) {
-        Ok(name) => class_named(program.classes.as_slice(), name),
+        Ok(name) => position_of(program.classes.as_slice(), name),
         Err(_) => None,
     }
 }
