@@ -23,8 +23,8 @@ use Rattle.jvm_model.specs.Rules.{invokes_with, invokes as invokes_outcome}
 use Rattle.jvm_model.specs.Applies.{still, breaks, with_frame, applies}
 use Rattle.jvm_model.specs.Attempts.{has_begun}
 use Rattle.jvm_model.specs.Installed.{Installed, world_in, placed, tabled}
-use Rattle.jvm_machine.specs.declared.parts.Parts.{Parts}
-use Rattle.jvm_machine.specs.States.{frame_in, state_with, state_in}
+use Rattle.jvm_steps.specs.declared.parts.Parts.{Parts}
+use Rattle.jvm_steps.specs.States.{frame_in, state_with, state_in}
 use Rattle.jvm_machine.specs.Going.{ended}
 use Rattle.jvm_machine.specs.Applied.{IsTop, invokes_on, invokes_here}
 use Rattle.jvm_machine.specs.Arguments.{arguments_of, can_begin, fits_with, fits_params, with_begun, with_callee}

@@ -9,5 +9,6 @@ pub mod MainFrames
 pub mod DescriptorTexts
 pub mod Steps
 pub mod Machines
+pub mod BothWays
 mod Within
 mod Families

@@ -7,7 +7,7 @@ ghost use Rattle.jvm_machine.specs.Applied.{Becomes, TellsBegun, IsTop, invokes_
 ghost use Rattle.jvm_machine.specs.Arguments.{arguments_of, can_begin, with_begun, fits_params};
 
 use crate::applying::break_off;
-use crate::parts::Parts;
+use jvm_steps::Parts;
 use crate::tables::Tables;
 use const_pool::Kind;
 use frame_stack::Frames;

@@ -7,13 +7,14 @@ ghost use Rattle.jvm_model.specs.Run.{before};
 ghost use Rattle.jvm_model.specs.Attempts.{closed_state, attempt_placed, start_placed, ready};
 ghost use Rattle.jvm_model.specs.Installed.{world_in};
 ghost use Rattle.jvm_machine.specs.Applied.{Becomes, TellsBegun, attempts_top};
-ghost use Rattle.jvm_machine.specs.States.{active, state_in, main_frames};
+ghost use Rattle.jvm_steps.specs.States.{active, state_in};
+ghost use Rattle.jvm_machine.specs.States.{main_frames};
 ghost use Rattle.jvm_machine.specs.Moves.{told_by, move_with, EachWith, stepped, begun_move, rest_of};
 ghost use Rattle.jvm_machine.specs.Moves.{moved_on, probe_on, clock_in};
 
 use crate::applying::{break_off, do_line};
 use crate::invoking::begin_frame;
-use crate::parts::{Parts, where_now};
+use jvm_steps::{Parts, where_now};
 use crate::passing::{entry_here, leave_here, leave_passed, stand_at};
 use crate::probes::Probe;
 use crate::tables::Tables;

@@ -6,10 +6,12 @@ mod line;
 mod originals;
 mod parts;
 mod settling;
+mod starting;
 mod stepping;
 
 pub use line::{Action, Line};
 pub use originals::{Exception, Originals};
 pub use parts::{Here, Parts, where_now};
 pub use settling::settle;
+pub use starting::{parts_before, start};
 pub use stepping::step;
