@@ -27,7 +27,7 @@ use Rattle.jvm_machine.specs.Prepared.{Rewritten, installed}
 use Rattle.jvm_machine.specs.Running.{IsRunning, IsOriginal, AreRunning, seen, seen_in, shown_of}
 use Rattle.jvm_machine.specs.Turns.{IsGoingOn}
 use Rattle.jvm_machine.specs.View.{View, made, with_image, shown}
-use Rattle.jvm_machine.proofs.Machines.{GoesOn, early-state, early-running, is_advanced, shown-is}
+use Rattle.jvm_machine.proofs.Machines.{early-state, early-running, is_advanced, shown-is}
 
 -- ---- before the start
 

@@ -1,6 +1,6 @@
 -- The frame that begins on a caller is the one that a method begins with, where its arguments are data that fit.
 use Rattle.std.proofs.Common.{drop-cons, ◌≡◌, ◌≢◌, ℕ, zero, suc, ◌+◌, ◌-◌, ◌<◌, ◌≤◌, Bool, true, false, List, [], ◌∷◌, ◌++◌, length, drop, take, get_or, min, cond, Option, Some, None, refl, sym, ap, ◌∙◌, ⊎_elim, add-one, arith}
-use Rattle.std.specs.Prelude.{is_some, nat_le, slice_get, replicate, reverse, ◌&&◌, if◌then◌else◌}
+use Rattle.std.specs.Prelude.{is_some, nat_le, slice_get, replicate, reverse, ◌&&◌}
 use Rattle.std.specs.Option.{option_and_then, option_map, option_map_or}
 use Rattle.std.proofs.lemmas.Bool.{cases_lt, lt-leb, le-leb}
 use Rattle.std.proofs.lemmas.List.{length-reverse, length-take, reverse-append, get_or-reverse, get_or-take}

@@ -1,27 +1,15 @@
 -- The machine stands for the run where versions are installed: before the start, and when it goes on.
-use Rattle.std.proofs.Common.{◌≡◌, ℕ, ◌+◌, ◌-◌, Bool, true, false, cond, List, [], ◌∷◌, length, Option, Some, None, refl, sym, ap, subst, ◌∙◌, eqb-true, arith, ◌<◌}
-use Rattle.std.specs.Prelude.{map, slice_get, is_none, ◌==◌, ◌||◌}
+use Rattle.std.proofs.Common.{◌≡◌, ℕ, ◌+◌, ◌-◌, Bool, true, false, cond, List, length, Option, Some, None, refl, sym, ap, subst, ◌∙◌, eqb-true}
+use Rattle.std.specs.Prelude.{slice_get, is_none, ◌==◌, ◌||◌}
 use Rattle.std.proofs.lemmas.List.{length-map}
-use Rattle.std.specs.Result.{OnOk, OnErr}
-use Rattle.std.specs.declared.result.Result.{Result}
-use Rattle.std.specs.declared.result.Result.TheVariants.{Ok, Err}
-use Rattle.const_pool.specs.declared.class.ClassFile.{ClassFile}
-use Rattle.const_pool.specs.declared.class.Member.{Member}
-use Rattle.code_model.specs.declared.laying.Homes.{Homes}
-use Rattle.jf_bytes.specs.declared.error.NoMemory.{NoMemory}
 use Rattle.jvm_model.specs.declared.event.Event.{Event}
-use Rattle.jvm_model.specs.declared.event.Mark.{Mark}
-use Rattle.jvm_model.specs.declared.event.Mark.TheVariants.{Off}
 use Rattle.jvm_model.specs.declared.state.State.{State}
 use Rattle.jvm_model.specs.Agreement.{Agrees}
 use Rattle.jvm_model.specs.Attempts.{start_placed}
-use Rattle.jvm_model.specs.Images.{IsImage, all_off}
-use Rattle.jvm_model.specs.declared.program.Program.{Program}
-use Rattle.jvm_model.specs.Installed.{Installed, all_originals, class_in, world_in}
+use Rattle.jvm_model.specs.Installed.{Installed, class_in, world_in}
 use Rattle.jvm_model.specs.Moved.{moved_entry, moved}
 use Rattle.jvm_model.specs.Run.{before, run}
-use Rattle.jvm_model.specs.StandsFor.{IsBuilt, by_homes}
-use Rattle.jvm_model.proofs.ImageAgrees.{Agrees-image}
+use Rattle.jvm_model.specs.StandsFor.{by_homes}
 use Rattle.jvm_machine.specs.declared.probes.Probe.{Probe}
 use Rattle.jvm_machine.specs.Advances.{Advances}
 use Rattle.jvm_machine.specs.Moves.{leave_passed, rest_by, Move, entered, stepped, begun_move, rest_of, moved_on, clock_in}
@@ -29,8 +17,7 @@ use Rattle.jvm_machine.specs.Probes.{event_of}
 use Rattle.jvm_machine.specs.Running.{IsRunning, finished, is_done, seen, shown_of, top_of}
 use Rattle.jvm_machine.specs.Turns.{IsGoingOn}
 use Rattle.jvm_model.specs.OneClass.{IsBuiltProgram}
-use Rattle.jvm_model.specs.Programs.{first_class}
-use Rattle.jvm_machine.specs.View.{View, made, state_of, shown, advanced, begun, events_now}
+use Rattle.jvm_machine.specs.View.{View, state_of, shown, advanced, begun, events_now}
 use Rattle.jvm_machine.proofs.Steps.{IsStep, start-step, step-is}
 
 -- ---- before the start

@@ -1,4 +1,4 @@
-//! The machine: it runs a class in the versions of its methods, and tells what their probes tell.
+//! The machine: it runs original code, or the versions of a class's methods, and tells what their probes tell.
 
 ghost use Rattle.std.specs.Prelude.{◌≡◌, ◌^◌, ◌<◌, ◌&&◌, false, length, OnOk, OnErr, IfOk};
 ghost use Rattle.jvm_model.specs.Images.{IsImage};
@@ -72,9 +72,9 @@ impl Vm {
         })
     }
 
-    /// Makes the versions of an image current, for all methods of the class with this position, before the start. There
-    /// is a mark for each method, and the homes are those of the image. It takes all memory first: after want of memory
-    /// nothing has changed.
+    /// Makes the versions of an image current, for all methods of the class with this position, before the start. The
+    /// class is of the part that is rewritten so far; there is a mark for each method, and the homes are those of the
+    /// image. It takes all memory first: after want of memory nothing has changed.
     pub fn install(
         &mut self,
         class: u32,
@@ -192,7 +192,8 @@ impl Vm {
         self.parts.ending
     }
 
-    /// The number of live activations, with that of a return whose event was told and which is still to come, where it is below 2^32; a larger number is given as 2^32 - 1.
+    /// The number of live activations, with that of a return whose event was told and which is still to come, where it is
+    /// below 2^32; a larger number is given as 2^32 - 1.
     pub fn live(&self) -> u32
         ensures { self.now.broken ≡ false → result ≡ live_of self.now }
     {

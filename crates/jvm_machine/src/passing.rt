@@ -6,10 +6,10 @@ ghost use Rattle.jvm_machine.specs.Probes.{probe_of_kind};
 ghost use Rattle.jvm_steps.specs.States.{state_in};
 ghost use Rattle.jvm_model.specs.Agreement.{is_entry_kind, is_leave_kind};
 
-use jvm_steps::{Parts, where_now};
 use crate::probes::Probe;
 use crate::tables::Tables;
 use jvm_model::EventKind;
+use jvm_steps::{Parts, where_now};
 
 /// How many bytes a probe has.
 const PROBE: u16 = 6;

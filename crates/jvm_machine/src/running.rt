@@ -3,6 +3,7 @@
 ghost use Rattle.std.specs.Prelude.{◌≡◌, None, OnOk, IfOk};
 ghost use Rattle.jvm_model.specs.Moves.{fresh};
 ghost use Rattle.jvm_steps.specs.States.{state_in};
+ghost use Rattle.jvm_machine.specs.Moves.{MovesTo, TellsAs, PassesAs};
 ghost use Rattle.jvm_machine.specs.Original.{CanStep, CanMove, KeepsReady};
 ghost use Rattle.jvm_machine.specs.Original.{stepped_original, moved_in};
 
@@ -63,15 +64,21 @@ pub fn go_on(
 ) -> Result<Advance, NoMemory>
     requires { CanMove originals.now versions.now started (state_in parts.old) }
     ensures moved { let m = moved_in originals.now versions.now started told (state_in parts.old) in
-        OnOk result (state_in parts.new ≡ m.state) }
+        MovesTo result parts.new m }
     ensures told { let m = moved_in originals.now versions.now started told (state_in parts.old) in
-        IfOk result (λ a. a.told ≡ m.told) }
+        TellsAs result m }
     ensures probe { let m = moved_in originals.now versions.now started told (state_in parts.old) in
-        IfOk result (λ a. a.probe ≡ m.probe) }
+        PassesAs result m }
     ensures phases { OnOk result (KeepsReady versions.now parts.new.shared.phases) }
 {
     match versions {
         None => move_original(alloc, originals, parts, started),
-        Some(versions) => move_on(alloc, &Tables::new(originals, versions), parts, started, told),
+        Some(versions) => move_on(
+            alloc,
+            &Tables::new(originals, versions),
+            parts,
+            started,
+            told,
+        ),
     }
 }

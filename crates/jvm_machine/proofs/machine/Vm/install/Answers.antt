@@ -1,5 +1,4 @@
 use Rattle.std.proofs.Common.{◌≡◌, false, ap, sym, ◌∙◌, subst}
-use Rattle.const_pool.specs.declared.class.ClassFile.{ClassFile}
 use Rattle.jvm_model.specs.declared.program.Program.{Program}
 use Rattle.jvm_model.specs.Images.{IsImage}
 use Rattle.jvm_model.specs.OneClass.{IsBuiltProgram}
