@@ -31,7 +31,8 @@ use Rattle.jvm_model.specs.Originals.{original}
 use Rattle.jvm_model.specs.Quiet.{AreCoded}
 use Rattle.jvm_model.specs.Run.{turn, run, step, start, turn_in-zero, turn_in-more}
 use Rattle.jvm_model.specs.StandsFor.{IsBuilt, ProbeCall, by_homes, home_at, probe_at, mark_at, marking_of}
-use Rattle.jvm_model.proofs.QuietStart.{begun_in, unbegun_in, start-is, main-coded}
+use Rattle.jvm_model.specs.Starting.{begun_in, unbegun_in}
+use Rattle.jvm_model.proofs.QuietStart.{start-is, main-coded}
 use Rattle.jvm_model.proofs.RewrittenAgrees.{norm_in, original-agrees, rewritten-agrees}
 use Rattle.jvm_model.proofs.StepMoves.{start-moves}
 use Rattle.jvm_model.proofs.PlacedSteps.{first-home, at_return, attempt-behind, attempt-is}

@@ -29,6 +29,7 @@ pub mod QuietSettles
 pub mod QuietApplies
 pub mod QuietSteps
 pub mod PlacedSteps
+pub mod ReadyStart
 pub mod QuietStart
 pub mod Chains
 pub mod Traces

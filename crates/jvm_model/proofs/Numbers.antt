@@ -37,14 +37,18 @@ nth-append (z ∷ xs) ys (suc k) x e = nth-append xs ys k x e
 pub first-at : (c : ClassFile) (p : Program) → IsProgramOf c p → class_at p 0 ≡ Some c
 first-at c p of = ap (λ cs. slice_get cs 0) of.classes
 
--- the method at a position of the class has this number
-pub place-first : (c : ClassFile) (p : Program) (v : ℕ) (m : Member) → IsSmallClass c → IsProgramOf c p → slice_get c.methods v ≡ Some m
+-- the method at a position of the class has this number, where all methods have code
+pub place-coded : (c : ClassFile) (p : Program) (v : ℕ) (m : Member) → AllByRecursion has_code c.methods → IsProgramOf c p → slice_get c.methods v ≡ Some m
     → place_of_method p v ≡ Some (record { class = 0; position = v })
-place-first c p v m small of e =
+place-coded c p v m coded of e =
     ap (λ ms. slice_get ms v) (of.methods ∙ ap numbered of.classes)
     ∙ nth-append (coded_from 0 0 c.methods) (numbered_from 1 of.rest) v (record { class = 0; position = v })
-    (coded-nth 0 0 c.methods v (small-coded c small)
+    (coded-nth 0 0 c.methods v coded
     ∙ (ap (option_map (at_position 0 (0 + v))) e ∙ ap (λ n. let o : Option MethodPlace = Some (record { class = 0; position = n }) in o) (zero-add v)))
+
+pub place-first : (c : ClassFile) (p : Program) (v : ℕ) (m : Member) → IsSmallClass c → IsProgramOf c p → slice_get c.methods v ≡ Some m
+    → place_of_method p v ≡ Some (record { class = 0; position = v })
+place-first c p v m small of e = place-coded c p v m (small-coded c small) of e
 
 -- what is looked up by number is looked up by position, among the class's methods
 pub by_number-first : {A : Type 0} (c : ClassFile) (p : Program) (look : ClassFile → ℕ → Option A) (v : ℕ) (m : Member) → IsSmallClass c → IsProgramOf c p → slice_get c.methods v ≡ Some m

@@ -21,7 +21,8 @@ use Rattle.jvm_model.specs.StandsFor.{IsBuilt}
 use Rattle.jvm_model.proofs.Growth.{step-ended}
 use Rattle.jvm_model.proofs.QuietChanges.{Went, stays, starts, leaves}
 use Rattle.jvm_model.proofs.QuietRun.{run-quiet, run-placed, run-frame}
-use Rattle.jvm_model.proofs.QuietStart.{begun_in, unbegun_in, start-is, main-coded}
+use Rattle.jvm_model.specs.Starting.{begun_in, unbegun_in}
+use Rattle.jvm_model.proofs.QuietStart.{start-is, main-coded}
 use Rattle.jvm_model.proofs.QuietSteps.{step-of}
 use Rattle.jvm_model.proofs.TracesEvents.{IsAlways, ended_of, all_told_of, events-start}
 use Rattle.jvm_model.proofs.TracesFrames.{events-step}

@@ -1,119 +1,26 @@
 -- The start of a small class: the class is loaded and made ready, and `main` begins, where its argument fits.
-use Rattle.std.proofs.Common.{◌≡◌, ℕ, zero, suc, ◌+◌, ◌*◌, ◌<◌, get_or, arith, Bool, true, false, List, [], ◌∷◌, slice_get, cond, Option, Some, None, refl, sym, ap, subst, ◌∙◌}
-use Rattle.std.specs.Prelude.{codes, not, is_some, length, map, slice_set, ◌&&◌, ◌||◌, ◌==◌}
+use Rattle.std.proofs.Common.{◌≡◌, ℕ, Bool, true, false, List, [], ◌∷◌, slice_get, cond, Option, Some, None, refl, sym, ap, subst, ◌∙◌}
+use Rattle.std.specs.Prelude.{is_some, map, slice_set, codes, ◌&&◌}
 use Rattle.std.specs.Option.{option_map, option_map_or, option_and_then}
-use Rattle.std.specs.List.{list_any, AllByRecursion}
-use Rattle.std.proofs.lemmas.List.Quantifiers.{position-Some}
-use Rattle.std.proofs.lemmas.Option.{same_Some, none-some, option_and_then_some, slice_get-map, slice_get-get_or}
-use Rattle.std.proofs.lemmas.Slice.Eq.{bytes_eq-Decides}
+use Rattle.std.proofs.lemmas.Option.{same_Some, none-some, option_and_then_some}
 use Rattle.const_pool.specs.declared.class.ClassFile.{ClassFile}
 use Rattle.const_pool.specs.declared.class.Member.{Member}
-use Rattle.const_pool.specs.BuiltIn.{probe_class, built_in_names}
-use Rattle.const_pool.specs.References.{NameAndType, named_text, named_class}
-use Rattle.jvm_model.specs.Data.{Active, Superclass, Initializer, Finish, Phase, Fresh, Running, Ready, Unverifiable, MethodPlace, Program, State, Loads, Began, Turn, Text, World}
-use Rattle.jvm_model.specs.Applies.{still, new_frame, has_room}
+use Rattle.const_pool.specs.References.{NameAndType, named_text}
+use Rattle.jvm_model.specs.Data.{Ready, Unverifiable, Turn, Text, World}
+use Rattle.jvm_model.specs.Applies.{has_room}
 use Rattle.jvm_model.specs.Descriptors.{same_text}
-use Rattle.jvm_model.specs.Methods.{code_of, method_code, method_named, is_member, method_from, same_text_at}
-use Rattle.jvm_model.specs.Moves.{at_part, after_super, with_super, runs_initializer, argument_array, move, fresh, left, settles, settled}
+use Rattle.jvm_model.specs.Methods.{code_of, method_code, is_member, same_text_at}
+use Rattle.jvm_model.specs.Moves.{argument_array}
 use Rattle.jvm_model.specs.OneClass.{IsProgramOf}
-use Rattle.jvm_model.specs.Programs.{name_of, has_name, has_built_in_name, class_named, super_of, number_of_method, initializer_name, initializer_of}
+use Rattle.jvm_model.specs.Programs.{initializer_name}
 use Rattle.jvm_model.specs.Quiet.{IsQuiet}
-use Rattle.jvm_model.specs.Run.{before, with_loaded, loaded_turn, main_class, starts_with, start}
-use Rattle.jvm_model.specs.SharedState.{phase_of, with_phase, phase_before}
-use Rattle.jvm_model.specs.SmallClass.{begins_with, is_free_name, is_plain_name, is_plain_member, member_of, IsSmallClass}
-use Rattle.jvm_model.proofs.ImageMethods.{each-nth}
-use Rattle.jvm_model.proofs.Numbers.{first-at, place-first, main-first}
-use Rattle.jvm_model.proofs.QuietSettles.{stops, one-move}
-
--- ---- the class is the main class; its superclass is ready, and it has no initializer
-
-main-class : (c : ClassFile) (p : Program) → IsSmallClass c → IsProgramOf c p → main_class p ≡ 0
-main-class c p small of =
-    let main = main-first c p of in
-    ap (λ (o : Option MethodPlace). option_map_or (λ (place : MethodPlace). place.class) o 0) (place-first c p p.main main.0 small of main.1)
-
-abbrev object_name : List ℕ
-object_name = codes "java/lang/Object"
-
-same-is : (xs ys : List ℕ) → same_text xs ys ≡ true → xs ≡ ys
-same-is xs ys e = (bytes_eq-Decides xs ys).0 e
-
-same-refl : (xs : List ℕ) → same_text xs xs ≡ true
-same-refl xs = (bytes_eq-Decides xs xs).1 refl
-
-not-both : (b : Bool) → (b ≡ true → ⊥) → b ≡ false
-not-both true isnt = absurd (isnt refl)
-not-both false isnt = refl
-
-passed : {A : Type 0} (p : A → Bool) (o : Option A) → option_map_or p o false ≡ true → (x : A) × (o ≡ Some x) × (p x ≡ true)
-passed p None e = absurd cc
-passed p (Some x) e = (x, refl, e)
-
-second : (a b : Bool) → (a && b) ≡ true → b ≡ true
-second true b e = e
-second false b e = absurd cc
-
-first-false : (a b : Bool) → not (a || b) ≡ true → a ≡ false
-first-false true b e = absurd cc
-first-false false b e = refl
-
--- a name that is free is not Object's
-free-other : (own : List ℕ) → is_free_name own ≡ true → same_text own object_name ≡ false
-free-other own free =
-    let three = second (not (length own == 0)) _ free in
-    let two = second (not (begins_with 91 own)) _ three in
-    let names : not (list_any (same_text own) built_in_names) ≡ true = second (not (same_text own probe_class)) _ two in
-    first-false (same_text own object_name) _ names
-
--- the class itself does not have Object's name
-not-object : (c : ClassFile) (above : List ℕ) → IsSmallClass c → object_name ≡ above → has_name above c ≡ false
-not-object c above small name =
-    let own = passed is_free_name (named_class c.pool c.this_class) small.name in
-    ap (λ o. option_map_or (same_text above) o false) own.1 ∙ not-both (same_text above own.0) (λ e. (
-    let is : own.0 ≡ object_name = sym (same-is above own.0 e) ∙ sym name in
-    let yes : same_text own.0 object_name ≡ true = ap (λ t. same_text t object_name) is ∙ same-refl object_name in
-    let no : true ≡ false = sym yes ∙ free-other own.0 own.2 in cc))
-
-object-built_in : (k : ClassFile) (above : List ℕ) → object_name ≡ above → has_name above k ≡ true → has_built_in_name k ≡ true
-object-built_in k above name e =
-    let found = passed (same_text above) (name_of k) e in
-    let is : found.0 ≡ object_name = sym (same-is above found.0 found.2) ∙ sym name in
-    ap (λ o. option_map_or (λ n. list_any (same_text n) built_in_names) o false) found.1 ∙ (ap (λ n. list_any (same_text n) built_in_names) is ∙ refl)
-
--- what the phases are once the class is being initialized
-phase-behind : (cs : List ClassFile) (c : ClassFile) (rest : List ClassFile) (d : ℕ) (above : List ℕ) → cs ≡ c ∷ rest → object_name ≡ above → has_name above c ≡ false
-    → d < length cs → has_name above (get_or cs d c) ≡ true → slice_get (slice_set (map phase_before cs) 0 Running) d ≡ Some Ready
-phase-behind [] c rest d above is name other within named = absurd (omega (arith, within))
-phase-behind (x ∷ cs) c rest zero above is name other within named =
-    absurd (let same : x ≡ c = ap (λ ks. get_or ks 0 c) is in let e : true ≡ false = sym named ∙ (ap (has_name above) same ∙ other) in cc)
-phase-behind (x ∷ cs) c rest (suc k) above is name other within named =
-    slice_get-map phase_before cs k
-    ∙ (ap (option_map phase_before) (slice_get-get_or cs k c (omega (arith, within)))
-    ∙ ap (λ b. let o : Option Phase = Some (cond b Ready Fresh) in o) (object-built_in (get_or cs k c) above name named))
-
--- its superclass is ready already, or no class of the program
-super-ready : (c : ClassFile) (w : World) → IsSmallClass c → IsProgramOf c w.program → (s : State) → s.shared.phases ≡ slice_set (map phase_before w.program.classes) 0 Running
-    → with_super w s 0 (super_of w.program 0) ≡ at_part s 0 Initializer
-super-ready c w small of s phases = ap (with_super w s 0) above ∙ by_found (class_named p named.0) refl where
-  p : Program
-  p = w.program
-
-  named : (x : List ℕ) × (named_class c.pool c.super_class ≡ Some x) × (same_text object_name x ≡ true)
-  named = passed (same_text object_name) (named_class c.pool c.super_class) small.super
-
-  name : object_name ≡ named.0
-  name = same-is object_name named.0 named.2
-
-  above : super_of p 0 ≡ class_named p named.0
-  above = ap (option_and_then (class_named p)) (ap (option_and_then (λ (k : ClassFile). named_class k.pool k.super_class)) (first-at c p of) ∙ named.1)
-
-  by_found : (o : Option ℕ) → class_named p named.0 ≡ o → with_super w s 0 (class_named p named.0) ≡ at_part s 0 Initializer
-  by_found None e = ap (with_super w s 0) e
-  by_found (Some d) e =
-      let found = position-Some (has_name named.0) p.classes d c e in
-      let ready : phase_of s.shared d ≡ Some Ready =
-      ap (λ ps. slice_get ps d) phases ∙ phase-behind p.classes c of.rest d named.0 of.classes name (not-object c named.0 small name) found.0 found.1 in
-      ap (with_super w s 0) e ∙ ap (after_super w s 0 d) ready
+use Rattle.jvm_model.specs.Run.{start}
+use Rattle.jvm_model.specs.SharedState.{phase_before}
+use Rattle.jvm_model.specs.SmallClass.{is_plain_name, is_plain_member, member_of, IsSmallClass}
+use Rattle.jvm_model.specs.Starting.{begun_in, unbegun_in}
+use Rattle.jvm_model.proofs.ImageMethods.{each-nth, small-coded}
+use Rattle.jvm_model.proofs.Numbers.{main-first}
+use Rattle.jvm_model.proofs.ReadyStart.{IsAlone, same-is, not-both, passed, main-class, super-ready, no-initializer, start-by}
 
 plain-other : (c : ClassFile) (m : Member) → option_map_or is_plain_member (member_of c.pool m) false ≡ true → is_member c.pool initializer_name m ≡ false
 plain-other c m plain =
@@ -139,37 +46,15 @@ plain-other c m plain =
         ap (λ o. option_map_or (λ t. same_text t (codes "<clinit>")) o false && same_text_at c.pool m.descriptor (codes "()V")) named
         ∙ ap (λ b. b && same_text_at c.pool m.descriptor (codes "()V")) (isnt name plain_name)
 
-none-named : (c : ClassFile) (n : ℕ) (ms : List Member) → AllByRecursion (λ m. is_member c.pool initializer_name m ≡ false) ms → method_from c.pool initializer_name n ms ≡ None
-none-named c n [] all = refl
-none-named c n (m ∷ ms) all = ap (λ b. cond b (Some n) (method_from c.pool initializer_name (n + 1) ms)) all.0 ∙ none-named c (n + 1) ms all.1
-
-no-initializer : (c : ClassFile) (p : Program) → IsSmallClass c → IsProgramOf c p → initializer_of p 0 ≡ None
-no-initializer c p small of =
-    ap (option_and_then (λ k. option_and_then (number_of_method p 0) (method_named k initializer_name))) (first-at c p of)
-    ∙ ap (option_and_then (number_of_method p 0))
-    (none-named c 0 c.methods (each-nth (λ m. is_member c.pool initializer_name m ≡ false) c.methods (λ k m e. plain-other c m (small.methods k m e).named)))
-
--- ---- the start
-
--- what the start comes to over a text
-abbrev pub ready_in : World → State
-ready_in w =
-    let loaded = with_loaded (0 ∷ []) (before w) in
-    record loaded { shared = with_phase loaded.shared 0 Ready }
-
-abbrev pub begun_in : World → Text → Turn
-begun_in w t = record {
-  after = record (ready_in w) { begun = true; stack = Active (new_frame w t w.program.main argument_array) ∷ [] };
-  changes = Loads (0 ∷ []) ∷ Began w.program.main ∷ [];
+IsAlone-small : (c : ClassFile) → IsSmallClass c → IsAlone c
+IsAlone-small c small = record {
+  name = small.name;
+  super = small.super;
+  methods = each-nth (λ m. is_member c.pool initializer_name m ≡ false) c.methods (λ k m e. plain-other c m (small.methods k m e).named);
+  coded = small-coded c small;
 }
 
-abbrev pub unbegun_in : World → Turn
-unbegun_in w = record { after = record (ready_in w) { ending = Some (Unverifiable w.program.main 0) }; changes = Loads (0 ∷ []) ∷ [] }
-
--- a phase that is put twice
-put-twice : (ps : List Phase) → slice_set (slice_set ps 0 Running) 0 Ready ≡ slice_set ps 0 Ready
-put-twice [] = refl
-put-twice (x ∷ ps) = refl
+-- ---- the start
 
 first-ready : (cs : List ClassFile) (c : ClassFile) (rest : List ClassFile) → cs ≡ c ∷ rest → slice_get (slice_set (map phase_before cs) 0 Ready) 0 ≡ Some Ready
 first-ready [] c rest e = absurd (let x : [] ≡ c ∷ rest = e in cc)
@@ -179,35 +64,9 @@ module _ (c : ClassFile) (w : World) (t : Text) (small : IsSmallClass c) (of : I
   abbrev main : ℕ
   main = w.program.main
 
-  abbrev base : State
-  base = record (starts_with w 0) { stack = [] }
-
-  over : (n : ℕ) (b : Bool) → has_room w main argument_array ≡ b → loaded_turn (0 ∷ []) (settles w t (suc n) (still (ready_in w))) ≡ cond b (begun_in w t) (unbegun_in w)
-  over n true room =
-      let next : Turn = record { after = record (ready_in w) { begun = true; stack = Active (new_frame w t main argument_array) ∷ [] }; changes = Began main ∷ [] } in
-      let moves : move w t (ready_in w) ≡ Some next = ap (λ b. let o : Option Turn = Some (cond b next (still (record (ready_in w) { ending = Some (Unverifiable main 0) }))) in o) room in
-      ap (loaded_turn (0 ∷ [])) (one-move w t n (still (ready_in w)) next moves ∙ stops w t n next refl)
-  over n false room =
-      let next : Turn = still (record (ready_in w) { ending = Some (Unverifiable main 0) }) in
-      let moves : move w t (ready_in w) ≡ Some next =
-      ap (λ b. let o : Option Turn = Some (cond b (record { after = record (ready_in w) { begun = true; stack = Active (new_frame w t main argument_array) ∷ [] }; changes = Began main ∷ [] }) next) in o) room in
-      ap (loaded_turn (0 ∷ [])) (one-move w t n (still (ready_in w)) next moves ∙ stops w t n next refl)
-
-  initialized : (n : ℕ) → settles w t (suc (suc (suc (suc n)))) (still (starts_with w 0)) ≡ settles w t n (still (ready_in w))
-  initialized n =
-      one-move w t (suc (suc (suc n))) (still (starts_with w 0)) (still (at_part base 0 Superclass)) refl
-      ∙ (one-move w t (suc (suc n)) (still (at_part base 0 Superclass)) (still (at_part base 0 Initializer)) (ap (λ s. let o : Option Turn = Some (still s) in o) (super-ready c w small of base refl))
-      ∙ (one-move w t (suc n) (still (at_part base 0 Initializer)) (still (at_part base 0 Finish)) (ap (λ m. let o : Option Turn = Some (runs_initializer w t base 0 m) in o) (no-initializer c w.program small of))
-      ∙ one-move w t n (still (at_part base 0 Finish)) (still (ready_in w))
-      (ap (λ ps. let o : Option Turn = Some (still (record base { shared = record base.shared { phases = ps } })) in o) (put-twice (map phase_before w.program.classes)))))
-
   pub start-is : start w t ≡ cond (has_room w main argument_array) (begun_in w t) (unbegun_in w)
-  start-is =
-      let rest : ℕ = 8 * fresh (starts_with w 0).shared.phases + 6 in
-      let more : left (starts_with w 0) ≡ suc (suc (suc (suc (suc rest)))) = omega arith in
-      ap (λ class. loaded_turn (class ∷ []) (settled w t (still (starts_with w class)))) (main-class c w.program small of)
-      ∙ (ap (λ n. loaded_turn (0 ∷ []) (settles w t n (still (starts_with w 0)))) more
-      ∙ (ap (loaded_turn (0 ∷ [])) (initialized (suc rest)) ∙ over rest (has_room w main argument_array) refl))
+  start-is = let alone = IsAlone-small c small in
+      start-by w t (main-class c w.program alone of) (super-ready c w.program alone of) (no-initializer c w.program alone of)
 
   -- the main method has code
   pub main-coded : is_some (method_code c main) ≡ true

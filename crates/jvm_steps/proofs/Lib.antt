@@ -1,0 +1,4 @@
+pub mod MovesOn
+pub mod OperandsAlone
+pub mod MainFrames
+pub mod ReadyStarts

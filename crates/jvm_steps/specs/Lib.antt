@@ -1,4 +1,5 @@
 pub mod States
 pub mod Lines
 pub mod Prepared
+pub mod Settling
 pub mod Before

@@ -2,6 +2,7 @@
 //! machine, with all that follows from it.
 #![tactic(auto)]
 
+mod handlers;
 mod line;
 mod originals;
 mod parts;

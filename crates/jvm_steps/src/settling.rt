@@ -1,15 +1,170 @@
 //! What follows from an instruction by itself (JVM Specification 2.10, 5.5): a throw goes to a handler or ends activations, and a run
 //! with nothing left ends, or begins `main`.
 
-ghost use Rattle.std.specs.Prelude.{◌≡◌, OnOk};
-ghost use Rattle.jvm_model.specs.Applies.{still};
-ghost use Rattle.jvm_model.specs.Moves.{settled};
+ghost use Rattle.std.specs.Prelude.{◌≡◌, [], false, map, None, Some, is_some, IfOk, OnOk};
+ghost use Rattle.jvm_model.specs.Applies.{has_room, still};
+ghost use Rattle.jvm_model.specs.Moves.{argument_array, main_or_end, move, settled};
 ghost use Rattle.jvm_model.specs.Originals.{original};
-ghost use Rattle.jvm_steps.specs.States.{state_in};
+ghost use Rattle.jvm_steps.specs.States.{active, here_of, state_in};
+ghost use Rattle.jvm_steps.specs.Settling.{emptied, fits_alone, with_alone, own_of};
+ghost use Rattle.jvm_steps.specs.Settling.{after_move, caught_at, caught_top, main_entries};
 
+use crate::handlers::{class_of, handler_for};
 use crate::originals::Originals;
-use crate::parts::Parts;
+use crate::parts::{Here, Parts, where_now};
+use frame_stack::Frames;
+use heap_objects::Value;
 use jf_bytes::NoMemory;
+use jvm_model::Ending;
+
+/// The argument array's object.
+const ARGUMENTS: u32 = 5;
+
+// ---- a throw meets a frame
+
+/// Takes the operands off.
+fn empty(frames: &mut Frames)
+    ensures { frames.new.frames ≡ emptied frames.old.frames }
+{
+    while frames.pop().is_some() {}
+}
+
+/// Puts an object in the place of the operands. False, with nothing changed, where they have no room for it.
+fn put_alone(frames: &mut Frames, object: u32) -> bool
+    ensures answer { result ≡ fits_alone frames.old.frames }
+    ensures frames { frames.new.frames ≡ with_alone object frames.old.frames }
+{
+    frames.peek(0);
+    empty(frames);
+    frames.push(Value::Ref(object))
+}
+
+/// The offset of the instruction at which a frame stands; 0 where there is none.
+fn own_of(originals: &Originals, here: Here) -> u16
+    ensures { result ≡ own_of originals.now here }
+{
+    match originals.line(here.version, here.place) {
+        Some(line) => line.instr.at,
+        None => 0,
+    }
+}
+
+/// The current frame goes on at a handler, with the object that was thrown alone on its operands.
+fn go_to_handler(originals: &Originals, parts: &mut Parts, object: u32, here: Here, target: u16)
+    requires { here_of parts.old.frames.frames ≡ Some here }
+    ensures state { state_in parts.new ≡
+        caught_at originals.now object target parts.old.frames.frames parts.old }
+    ensures shared { parts.new.shared ≡ parts.old.shared }
+{
+    parts.thrown = None;
+    if put_alone(&mut parts.frames, object) {
+        parts.frames.go(target);
+    } else {
+        parts.ending = Some(Ending::Unverifiable(here.method, own_of(originals, here)));
+    }
+}
+
+/// A throw meets the current frame: it goes on at a handler, or its activation ends.
+fn meet_frame(originals: &Originals, parts: &mut Parts, object: u32, here: Here)
+    requires { here_of parts.old.frames.frames ≡ Some here }
+    ensures state { state_in parts.new ≡
+        caught_top originals.now object parts.old.frames.frames parts.old }
+    ensures shared { parts.new.shared ≡ parts.old.shared }
+{
+    let class = class_of(&parts.shared, object) as usize;
+    match handler_for(originals, here.version, class, here.place) {
+        Some(target) => go_to_handler(originals, parts, object, here, target),
+        None => {
+            parts.frames.leave();
+        }
+    }
+}
+
+/// A throw goes to a handler of the current frame or ends its activation, and with no frame left it ends the run.
+fn meet_throw(originals: &Originals, parts: &mut Parts, object: u32)
+    requires ending { parts.old.ending ≡ None }
+    requires thrown { parts.old.thrown ≡ Some object }
+    ensures state { state_in parts.new ≡ after_move originals.now (state_in parts.old) }
+    ensures shared { parts.new.shared ≡ parts.old.shared }
+{
+    match where_now(&parts.frames) {
+        Some(here) => meet_frame(originals, parts, object, here),
+        None => parts.ending = Some(Ending::Uncaught(class_of(&parts.shared, object))),
+    }
+}
+
+// ---- nothing is left
+
+/// The frame of `main`, which has its argument array, if it has a local for it.
+fn begin_frame(originals: &Originals, frames: &mut Frames, main: u32) -> Result<bool, NoMemory>
+    requires none { frames.old.frames ≡ [] }
+    requires main { main ≡ originals.now.program.main }
+    ensures answer { IfOk result (λ b. b ≡ has_room originals.now main argument_array) }
+    ensures frames { IfOk result (λ b. map active frames.new.frames ≡ main_entries b originals.now) }
+{
+    let max_locals = originals.max_locals(main);
+    let max_stack = originals.max_stack(main);
+    if max_locals == 0 {
+        return Ok(false);
+    }
+    frames.reserve(max_locals, max_stack)?;
+    frames.enter(main as usize, main, max_locals, max_stack, 0);
+    frames.set_local(0, Value::Ref(ARGUMENTS));
+    Ok(true)
+}
+
+/// `main` begins, or the run ends where it has no local for its argument.
+pub fn begin_main(originals: &Originals, parts: &mut Parts) -> Result<(), NoMemory>
+    requires { parts.old.frames.frames ≡ [] }
+    ensures state { let w = originals.now in OnOk result (state_in parts.new ≡
+        (main_or_end w (original w.program) (state_in parts.old) false).after) }
+    ensures shared { OnOk result (parts.new.shared ≡ parts.old.shared) }
+{
+    let main = originals.program().main;
+    if begin_frame(originals, &mut parts.frames, main)? {
+        parts.begun = true;
+    } else {
+        parts.ending = Some(Ending::Unverifiable(main, 0));
+    }
+    Ok(())
+}
+
+/// With nothing thrown and no frame left the run has returned, or `main` begins.
+fn begin_or_end(originals: &Originals, parts: &mut Parts) -> Result<(), NoMemory>
+    requires { parts.old.frames.frames ≡ [] }
+    ensures state { let w = originals.now in OnOk result (state_in parts.new ≡
+        (main_or_end w (original w.program) (state_in parts.old) parts.old.begun).after) }
+    ensures shared { OnOk result (parts.new.shared ≡ parts.old.shared) }
+{
+    if !parts.begun {
+        return begin_main(originals, parts);
+    }
+    parts.ending = Some(Ending::Returned);
+    Ok(())
+}
+
+// ---- every move
+
+/// Makes a move. False, with nothing changed, where none applies.
+fn make_move(originals: &Originals, parts: &mut Parts) -> Result<bool, NoMemory>
+    ensures answer { let w = originals.now in
+        IfOk result (λ b. b ≡ is_some (move w (original w.program) (state_in parts.old))) }
+    ensures state { OnOk result (state_in parts.new ≡ after_move originals.now (state_in parts.old)) }
+    ensures shared { OnOk result (parts.new.shared ≡ parts.old.shared) }
+{
+    if parts.ending.is_some() {
+        return Ok(false);
+    }
+    if let Some(object) = parts.thrown {
+        meet_throw(originals, parts, object);
+        return Ok(true);
+    }
+    if where_now(&parts.frames).is_some() {
+        return Ok(false);
+    }
+    begin_or_end(originals, parts)?;
+    Ok(true)
+}
 
 /// Makes all moves, up to where none applies.
 pub fn settle(originals: &Originals, parts: &mut Parts) -> Result<(), NoMemory>
@@ -17,5 +172,6 @@ pub fn settle(originals: &Originals, parts: &mut Parts) -> Result<(), NoMemory>
         OnOk result (state_in parts.new ≡ (settled w (original w.program) (still (state_in parts.old))).after) }
     ensures phases { OnOk result (parts.new.shared.phases ≡ parts.old.shared.phases) }
 {
-    Err(NoMemory)
+    while make_move(originals, parts)? {}
+    Ok(())
 }

@@ -1,28 +1,168 @@
-//! The state before the start, and the start (JVM Specification 5.2, 5.3, 5.5).
+//! The state before the start, in which the built-in classes are loaded and ready, and the start of a program that starts without any code
+//! but `main` (JVM Specification 5.2, 5.3, 5.5).
 
-ghost use Rattle.std.specs.Prelude.{◌≡◌, ◌<◌, ◌^◌, IfOk, OnOk, length};
+ghost use Rattle.std.specs.Prelude.{◌≡◌, ◌<◌, ◌^◌, [], IfOk, OnOk, length, map, unwrap_or};
+ghost use Rattle.const_pool.specs.References.{named_text};
+ghost use Rattle.jvm_model.specs.Programs.{has_built_in_name};
+ghost use Rattle.jvm_model.specs.SharedState.{built_in_from, phase_before, shared_before, zero_for, zeros};
 ghost use Rattle.jvm_model.specs.Moves.{fresh};
 ghost use Rattle.jvm_model.specs.Originals.{original};
 ghost use Rattle.jvm_model.specs.Run.{before, start};
 ghost use Rattle.jvm_model.specs.Starting.{StartsReady};
-ghost use Rattle.jvm_steps.specs.Before.{BeforeEach};
+ghost use Rattle.jvm_steps.specs.Before.{BeforeEach, with_ready};
 ghost use Rattle.jvm_steps.specs.States.{state_in};
 
 use crate::originals::Originals;
 use crate::parts::Parts;
-use jf_bytes::NoMemory;
-use jvm_model::Program;
+use crate::settling::begin_main;
+use base_classes::is_built_in;
+use const_pool::{ClassFile, Member, Pool};
+use frame_stack::Frames;
+use heap_objects::Datum;
+use jf_bytes::{NoMemory, Seq};
+use jvm_model::{Phase, Program, Shared};
 use std::alloc::Global;
+
+/// The letters with which the descriptors of longs, objects and arrays begin.
+const LONG: u16 = 74;
+
+const CLASS: u16 = 76;
+
+const ARRAY: u16 = 91;
+
+/// Whether a class has the name of a built-in one.
+fn has_built_in_name(class: &ClassFile) -> bool
+    ensures { result ≡ has_built_in_name class.now }
+{
+    match class.pool.class_name(class.this_class) {
+        Ok(name) => is_built_in(name),
+        Err(_) => false,
+    }
+}
+
+/// The phase of a class before the start.
+fn phase_of(class: &ClassFile) -> Phase
+    ensures { result ≡ phase_before class.now }
+{
+    if has_built_in_name(class) {
+        Phase::Ready
+    } else {
+        Phase::Fresh
+    }
+}
+
+/// The phases of all classes.
+fn phases_of(alloc: Global, classes: &[ClassFile]) -> Result<Seq<Phase>, NoMemory>
+    ensures { IfOk result (λ phases. phases ≡ map phase_before classes.now) }
+{
+    let mut phases = Seq::with_capacity(alloc, classes.len())?;
+    for class in classes {
+        phases.push(phase_of(class))?;
+    }
+    Ok(phases)
+}
+
+/// The positions of the built-in classes.
+fn loaded_of(alloc: Global, classes: &[ClassFile]) -> Result<Seq<u32>, NoMemory>
+    requires { length classes.now < 2 ^ 32 }
+    ensures { IfOk result (λ loaded. loaded ≡ built_in_from 0 classes.now) }
+{
+    let mut loaded = Seq::new(alloc);
+    for (at, class) in classes.iter().enumerate() {
+        if has_built_in_name(class) {
+            loaded.push(at as u32)?;
+        }
+    }
+    Ok(loaded)
+}
+
+/// The value that a static field of this descriptor has at first (2.3, 2.4).
+fn zero_for(descriptor: &[u16]) -> Datum
+    ensures { result ≡ zero_for descriptor.now }
+{
+    match descriptor {
+        [LONG, ..] => Datum::Long(0),
+        [CLASS | ARRAY, ..] => Datum::Ref(0),
+        _ => Datum::Int(0),
+    }
+}
+
+/// The value that a field has at first.
+fn zero_in(pool: &Pool, field: &Member) -> Datum
+    ensures { result ≡ zero_for (unwrap_or (named_text pool.now field.now.descriptor) []) }
+{
+    match pool.text(field.descriptor) {
+        Ok(descriptor) => zero_for(descriptor.units()),
+        Err(_) => zero_for(&[]),
+    }
+}
+
+/// The first values of a class's fields.
+fn zeros_of(alloc: Global, class: &ClassFile) -> Result<Seq<Datum>, NoMemory>
+    ensures { IfOk result (λ values. values ≡ zeros class.now) }
+{
+    let mut values = Seq::with_capacity(alloc, class.fields.len())?;
+    for field in class.fields.as_slice() {
+        values.push(zero_in(&class.pool, field))?;
+    }
+    Ok(values)
+}
+
+/// Those of all classes.
+fn statics_of(alloc: Global, classes: &[ClassFile]) -> Result<Seq<Seq<Datum>>, NoMemory>
+    ensures { IfOk result (λ statics. statics ≡ map zeros classes.now) }
+{
+    let mut statics = Seq::with_capacity(alloc, classes.len())?;
+    for class in classes {
+        statics.push(zeros_of(alloc, class)?)?;
+    }
+    Ok(statics)
+}
+
+/// What is shared before the start.
+fn shared_before(alloc: Global, program: &Program) -> Result<Shared, NoMemory>
+    requires { length program.now.classes < 2 ^ 32 }
+    ensures { IfOk result (λ shared. shared ≡ shared_before program.now) }
+{
+    let classes = program.classes.as_slice();
+    Ok(Shared {
+        loaded: loaded_of(alloc, classes)?,
+        phases: phases_of(alloc, classes)?,
+        statics: statics_of(alloc, classes)?,
+        heap: Seq::new(alloc),
+        used: 0,
+        made: Seq::new(alloc),
+        read: 0,
+    })
+}
 
 /// The parts before the start of a program.
 pub fn parts_before(alloc: Global, program: &Program) -> Result<Parts, NoMemory>
     requires { length program.now.classes < 2 ^ 32 }
     ensures { BeforeEach program.now (λ before. IfOk result (λ p. state_in p ≡ before)) }
 {
-    Err(NoMemory)
+    Ok(Parts {
+        frames: Frames::new(alloc),
+        thrown: None,
+        begun: false,
+        shared: shared_before(alloc, program)?,
+        output: Seq::new(alloc),
+        ending: None,
+    })
 }
 
-/// The start: the main class is made ready, and `main` begins, if it can.
+/// The main class, which is the first one, is loaded, and ready.
+fn make_ready(shared: &mut Shared) -> Result<(), NoMemory>
+    ensures { OnOk result (shared.new ≡ with_ready shared.old) }
+{
+    shared.loaded.push(0)?;
+    if !shared.phases.is_empty() {
+        shared.phases.set(0, Phase::Ready);
+    }
+    Ok(())
+}
+
+/// The start: `main` begins, or the run ends where it has no local for its argument. No class is left to be initialized.
 pub fn start(originals: &Originals, parts: &mut Parts) -> Result<(), NoMemory>
     requires before { state_in parts.old ≡ before originals.now }
     requires ready { StartsReady originals.now.program }
@@ -30,5 +170,6 @@ pub fn start(originals: &Originals, parts: &mut Parts) -> Result<(), NoMemory>
         OnOk result (state_in parts.new ≡ (start w (original w.program)).after) }
     ensures phases { OnOk result (fresh parts.new.shared.phases ≡ 0) }
 {
-    Err(NoMemory)
+    make_ready(&mut parts.shared)?;
+    begin_main(originals, parts)
 }
