@@ -48,7 +48,8 @@ fn put_given(frames: &mut Frames, constant: Option<Value>, next: u16) -> Effect
     }
 }
 
-fn value_of(datum: Datum) -> Value
+/// The value that a datum is.
+pub fn value_of(datum: Datum) -> Value
     ensures { result ≡ as_value datum }
 {
     match datum {

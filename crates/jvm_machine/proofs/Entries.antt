@@ -1,9 +1,7 @@
 -- Tables that are made of an entry for each version give what the definitions look up there.
-use Rattle.std.proofs.Common.{drop-cons, ◌≡◌, ℕ, zero, suc, ◌+◌, ◌<◌, ◌≤◌, List, [], ◌∷◌, ◌++◌, length, drop, get_or, Option, Some, None, refl, sym, ap, ◌∙◌, ⊎_elim, append_assoc, add-one, arith}
+use Rattle.std.proofs.Common.{drop-cons, ◌≡◌, ℕ, zero, suc, ◌+◌, ◌<◌, ◌≤◌, List, [], ◌∷◌, ◌++◌, length, drop, get_or, Option, Some, None, refl, sym, ap, ◌∙◌, append_assoc, add-one, arith}
 use Rattle.std.specs.Prelude.{map, slice_get}
 use Rattle.std.specs.Option.{option_map, option_map_or, option_and_then, option_flatten}
-use Rattle.std.specs.List.{range_with_len}
-use Rattle.std.proofs.lemmas.Bool.{cases_lt}
 use Rattle.const_pool.specs.declared.class.ClassFile.{ClassFile}
 use Rattle.const_pool.specs.declared.class.Member.{Member}
 use Rattle.const_pool.specs.declared.class.CodeAttribute.{CodeAttribute}
@@ -16,7 +14,7 @@ use Rattle.jvm_machine.specs.declared.tables.PreparedVersion.{PreparedVersion}
 use Rattle.jvm_machine.specs.Prepared.{AreVersions, line_in, probe_in as version_probe}
 use Rattle.jvm_machine.specs.Probes.{placed_probe}
 use Rattle.jvm_machine.specs.TableEntries.{lines_of, placed_probe_in, probes_of, version_of, versions_of}
-use Rattle.jvm_machine.proofs.Tabled.{tabled-at, tabled-past}
+use Rattle.jvm_steps.proofs.Tabled.{tabled-place}
 
 -- ---- one version
 
@@ -34,14 +32,6 @@ placed_line-past image homes code place le =
 
 placed_probe-past : (image : ClassFile) (code : List ℕ) (place : ℕ) → length code ≤ place → placed_probe_in image code place ≡ None
 placed_probe-past image code place le = rw (instruction_at-past code place le) refl
-
--- at each place a table of the places of a code has what stands there, and past the code nothing does
-tabled-place : {X : Type 0} (f : ℕ → Option X) (n place : ℕ) → (n ≤ place → f place ≡ None) → option_flatten (slice_get (map f (range_with_len 0 n)) place) ≡ f place
-tabled-place f n place past =
-    ⊎_elim
-    (λ (lt : place < n). ap option_flatten (tabled-at f n place lt))
-    (λ (le : n ≤ place). ap option_flatten (tabled-past f n place le) ∙ sym (past le))
-    (cases_lt place n)
 
 line-code : (image : ClassFile) (homes : Option Homes) (code : Option CodeAttribute) (place : ℕ)
     → option_flatten (slice_get (option_map_or (λ k. lines_of image homes k.code) code []) place) ≡ option_and_then (λ k. placed_line image homes k.code place) code

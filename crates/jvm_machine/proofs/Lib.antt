@@ -6,7 +6,6 @@ pub mod Images
 pub mod Lined
 pub mod Callees
 pub mod MainFrames
-pub mod DescriptorTexts
 pub mod Steps
 pub mod Machines
 pub mod BothWays

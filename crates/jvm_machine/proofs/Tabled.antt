@@ -1,28 +1,11 @@
--- Tables that have at each number what a function gives there.
+-- Tables of offsets by places.
 use Rattle.std.proofs.Common.{drop-cons, ◌≡◌, ℕ, suc, ◌+◌, ◌<◌, ◌≤◌, List, [], ◌∷◌, ◌++◌, length, drop, get_or, cond, Option, Some, None, refl, sym, ap, ◌∙◌, ⊎_elim, ◌⊎◌, inl, inr, min, zero-add, arith}
-use Rattle.std.specs.Prelude.{map, slice_get, slice_set, ◌==◌}
+use Rattle.std.specs.Prelude.{map, slice_set, ◌==◌}
 use Rattle.std.specs.List.{range_with_len}
 use Rattle.std.proofs.lemmas.Bool.{cases_lt, cases_eq, eq-eqb, ne_eqb}
 use Rattle.std.proofs.lemmas.List.{same_lists, length-set, get_or-set_same, get_or-set_other, drop_all}
-use Rattle.std.proofs.lemmas.List.FromFn.{length-map-range_with_len, get_or-map-range_with_len, map-range_with_len_more}
-use Rattle.std.proofs.lemmas.Option.{slice_get-get_or, slice_get_past}
+use Rattle.std.proofs.lemmas.List.FromFn.{length-map-range_with_len, get_or-map-range_with_len}
 use Rattle.code_model.specs.Layout.{found_beside}
-
--- one more
-pub tabled-more : {X : Type 0} (f : ℕ → X) (n : ℕ) (xs : List X) (x : X) → xs ≡ map f (range_with_len 0 n) → x ≡ f n → xs ++ x ∷ [] ≡ map f (range_with_len 0 (n + 1))
-tabled-more f n xs x so_far is =
-    ap (λ ys. ys ++ x ∷ []) so_far
-    ∙ (ap (λ y. map f (range_with_len 0 n) ++ y ∷ []) is
-    ∙ sym (map-range_with_len_more f 0 n n (zero-add n)))
-
--- what stands there
-pub tabled-at : {X : Type 0} (f : ℕ → X) (n k : ℕ) → k < n → slice_get (map f (range_with_len 0 n)) k ≡ Some (f k)
-tabled-at f n k lt =
-    slice_get-get_or (map f (range_with_len 0 n)) k (f k) (rw (length-map-range_with_len f 0 n) lt)
-    ∙ ap Some (get_or-map-range_with_len f 0 n k k (f k) lt (zero-add k))
-
-pub tabled-past : {X : Type 0} (f : ℕ → X) (n k : ℕ) → n ≤ k → slice_get (map f (range_with_len 0 n)) k ≡ None
-tabled-past f n k le = slice_get_past (map f (range_with_len 0 n)) k (rw (length-map-range_with_len f 0 n) le)
 
 -- ---- offsets that are written at their places, the last one first
 

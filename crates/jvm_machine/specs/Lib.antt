@@ -1,5 +1,4 @@
 pub mod Prepared
-pub mod Shapes
 pub mod TableEntries
 pub mod Probes
 pub mod Arguments

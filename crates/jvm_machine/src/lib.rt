@@ -4,14 +4,12 @@
 
 mod applying;
 mod copies;
-mod descriptor;
 mod going;
 mod invoking;
 mod lookup;
 mod machine;
 mod origins;
 mod passing;
-mod prepare;
 mod probes;
 mod running;
 mod stepping;
@@ -19,8 +17,6 @@ mod tables;
 mod turn;
 mod versions;
 
-pub use descriptor::shape_of;
-pub use lookup::{method_named, resolved_of};
+pub use lookup::resolved_of;
 pub use machine::Vm;
-pub use prepare::code_of;
 pub use turn::Turn;

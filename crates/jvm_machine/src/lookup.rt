@@ -2,10 +2,7 @@
 
 ghost use Rattle.std.specs.Prelude.{◌≡◌, ◌<◌, ◌^◌, length};
 ghost use Rattle.const_pool.specs.Members.{reference_view};
-ghost use Rattle.const_pool.specs.References.{name_type_of, named_field, named_method};
-ghost use Rattle.jvm_model.specs.Methods.{same_text_at, is_member, method_named};
-ghost use Rattle.std.specs.Option.{option_and_then, option_map};
-ghost use Rattle.jvm_model.specs.Rules.{is_reference, is_out, is_println};
+ghost use Rattle.std.specs.Option.{option_and_then};
 ghost use Rattle.jvm_model.specs.Lines.{constant_in, pool_operation, named_operation};
 ghost use Rattle.const_pool.specs.declared.class.ClassFile.{ClassFile as Class};
 ghost use Rattle.jvm_model.specs.Resolved.{own_method, resolved_constant, resolved_binary};
@@ -14,68 +11,10 @@ ghost use Rattle.jvm_machine.specs.Lookups.{resolved_by};
 ghost use Rattle.jvm_machine.specs.Lookups.{resolved_getstatic, resolved_invokevirtual, resolved_invokestatic};
 
 use code_model::{Arg, Instr};
-use const_pool::{ClassFile, Const, Kind, Member, MemberRef, Pool};
+use const_pool::{ClassFile, Const, Kind, MemberRef, Pool};
 use heap_objects::Datum;
-use jf_bytes::Text16;
 use jvm_model::{Family, IntOperator, Resolved, family_of};
-
-/// Whether an entry is this text.
-fn is_text_at(pool: &Pool, index: u16, text: &Text16) -> bool
-    ensures { result ≡ same_text_at pool.now index text.now }
-{
-    match pool.text(index) {
-        Ok(found) => found.same(text),
-        Err(_) => false,
-    }
-}
-
-/// Whether a method has this name and this descriptor.
-fn is_member(pool: &Pool, name: &Text16, descriptor: &Text16, member: &Member) -> bool
-    ensures { result ≡ is_member pool.now (name_type_of name.now descriptor.now) member.now }
-{
-    is_text_at(pool, member.name, name) && is_text_at(pool, member.descriptor, descriptor)
-}
-
-/// The number of the first method with this name and this descriptor (5.4.3.3).
-pub fn method_named(class: &ClassFile, name: &Text16, descriptor: &Text16) -> Option<u32>
-    requires { length class.now.methods < 2 ^ 32 }
-    ensures { result ≡ method_named class.now (name_type_of name.now descriptor.now) }
-{
-    for (i, method) in class.methods.as_slice().iter().enumerate() {
-        if is_member(&class.pool, name, descriptor, method) {
-            return Some(i as u32);
-        }
-    }
-    None
-}
-
-/// Whether a member is the one with this class, this name and this descriptor.
-pub fn is_reference(member: &MemberRef<'_>, class: &[u8], name: &[u8], descriptor: &[u8]) -> bool
-    ensures { result ≡ is_reference class.now name.now descriptor.now (reference_view member.now) }
-{
-    member.class.is_bytes(class)
-        && member.name.is_bytes(name)
-        && member.descriptor.is_bytes(descriptor)
-}
-
-/// Whether a field is System.out.
-fn is_out(reference: &MemberRef<'_>) -> bool
-    ensures { result ≡ is_out (reference_view reference.now) }
-{
-    is_reference(
-        reference,
-        b"java/lang/System",
-        b"out",
-        b"Ljava/io/PrintStream;",
-    )
-}
-
-/// Whether a method is PrintStream.println of an int.
-fn is_println(reference: &MemberRef<'_>) -> bool
-    ensures { result ≡ is_println (reference_view reference.now) }
-{
-    is_reference(reference, b"java/io/PrintStream", b"println", b"(I)V")
-}
+use jvm_steps::{field_at, is_out, is_println, method_at, method_named};
 
 /// The number of the method of the class itself that a reference names.
 fn own_method(class: &ClassFile, reference: &MemberRef<'_>) -> Option<u32>
@@ -86,27 +25,8 @@ fn own_method(class: &ClassFile, reference: &MemberRef<'_>) -> Option<u32>
     if !reference.class.same(own) {
         return None;
     }
-    method_named(class, reference.name, reference.descriptor)
-}
-
-/// What a Fieldref names.
-fn field_at(pool: &Pool, index: u16) -> Option<MemberRef<'_>>
-    ensures { option_map reference_view result ≡ named_field pool.now index }
-{
-    match pool.get(index)? {
-        Const::Field(_, _) => pool.member(index).ok(),
-        _ => None,
-    }
-}
-
-/// What a Methodref names.
-pub fn method_at(pool: &Pool, index: u16) -> Option<MemberRef<'_>>
-    ensures { option_map reference_view result ≡ named_method pool.now index }
-{
-    match pool.get(index)? {
-        Const::Method(_, _) => pool.member(index).ok(),
-        _ => None,
-    }
+    let at = method_named(class, reference.name, reference.descriptor)?;
+    Some(at as u32)
 }
 
 /// The constant that an ldc names, where it is an int.

@@ -6,11 +6,11 @@ ghost use Rattle.const_pool.specs.Members.{reference_view};
 ghost use Rattle.jvm_model.specs.StandsFor.{probe_kind, invoked_kind, pushed_number};
 ghost use Rattle.jvm_machine.specs.TableEntries.{number_at, kind_at, placed_probe_in};
 
-use crate::lookup::{is_reference, method_at};
 use code_model::{Arg, instr_at};
 use const_pool::{ClassFile, MemberRef};
 use jf_bytes::NoMemory;
 use jvm_model::EventKind;
+use jvm_steps::{is_reference, method_at};
 use std::alloc::Global;
 
 /// The class whose methods the probes invoke.

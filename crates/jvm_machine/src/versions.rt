@@ -12,13 +12,13 @@ ghost use Rattle.jvm_steps.specs.Prepared.{HasShortCode};
 
 use crate::lookup::resolved_of;
 use crate::origins::origins_of;
-use crate::prepare::code_of;
 use crate::probes::{Probe, probe_in};
 use crate::tables::PreparedVersion;
 use code_model::{Homes, Instr, instr_at};
 use const_pool::{ClassFile, Member};
 use jf_bytes::{NoMemory, Seq};
 use jvm_model::{Line, Resolved};
+use jvm_steps::code_of;
 use std::alloc::Global;
 
 /// Whether an operation returns: control goes on behind all others.

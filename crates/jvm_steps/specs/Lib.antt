@@ -3,3 +3,5 @@ pub mod Lines
 pub mod Prepared
 pub mod Settling
 pub mod Before
+pub mod Shapes
+pub mod Entries

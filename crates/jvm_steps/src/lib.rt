@@ -2,15 +2,22 @@
 //! machine, with all that follows from it.
 #![tactic(auto)]
 
+mod descriptor;
 mod handlers;
 mod line;
+mod lookup;
+mod members;
 mod originals;
 mod parts;
+mod preparing;
+mod resolving;
 mod settling;
 mod starting;
 mod stepping;
 
+pub use descriptor::shape_of;
 pub use line::{Action, Line};
+pub use members::{code_of, field_at, is_out, is_println, is_reference, method_at, method_named};
 pub use originals::{Exception, Originals};
 pub use parts::{Here, Parts, where_now};
 pub use settling::settle;

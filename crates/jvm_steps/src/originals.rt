@@ -7,6 +7,7 @@ ghost use Rattle.jvm_steps.specs.Lines.{line_at};
 ghost use Rattle.jvm_steps.specs.Prepared.{FitsOriginals, exception_class};
 
 use crate::line::Line;
+use crate::preparing::{exceptions_of, prepare_methods};
 use const_pool::Kind;
 use jf_bytes::{NoMemory, Seq};
 use jvm_model::Program;
@@ -65,7 +66,14 @@ impl Originals {
         ensures program { IfOk result (λ o. o.program ≡ program) }
         ensures input { IfOk result (λ o. o.input ≡ input) }
     {
-        Err(NoMemory)
+        let methods = prepare_methods(alloc, &program)?;
+        let exceptions = exceptions_of(&program);
+        Ok(Originals {
+            program,
+            input,
+            methods,
+            exceptions,
+        })
     }
 
     /// The program that it was made of.
@@ -79,7 +87,11 @@ impl Originals {
     pub fn line(&self, method: usize, place: u16) -> Option<&Line>
         ensures { option_copied result ≡ line_at self.now.program method place }
     {
-        self.methods.get(method)?.lines.get(place as usize)?.as_ref()
+        self.methods
+            .get(method)?
+            .lines
+            .get(place as usize)?
+            .as_ref()
     }
 
     /// The greatest depth of a method's operands; 0 where it has no code.

@@ -1,5 +1,5 @@
 use Rattle.std.specs.Prelude.{None}
-use Rattle.jvm_machine.proofs.Tabled.{tabled-more}
+use Rattle.jvm_steps.proofs.Tabled.{tabled-more}
 use Rattle.std.proofs.Common.{refl}
 use Rattle.jvm_machine.proofs.origins.no_origins.Goals as goal
 

@@ -1,6 +1,6 @@
 use Rattle.std.proofs.Common.{refl}
 use Rattle.std.specs.Prelude.{Some}
-use Rattle.jvm_machine.proofs.Tabled.{tabled-more}
+use Rattle.jvm_steps.proofs.Tabled.{tabled-more}
 use Rattle.jvm_machine.proofs.origins.same_origins.Goals as goal
 
 pub loop-place-preserved : goal.loop-place-preserved

@@ -2,7 +2,7 @@ use Rattle.std.proofs.Common.{◌≡◌, length, get_or, None, ap, ◌∙◌, ze
 use Rattle.std.proofs.lemmas.List.FromFn.{length-map-range_with_len, get_or-map-range_with_len}
 use Rattle.jvm_model.specs.StandsFor.{origin_by, placed_line}
 use Rattle.jvm_machine.specs.TableEntries.{line_with}
-use Rattle.jvm_machine.proofs.Tabled.{tabled-more}
+use Rattle.jvm_steps.proofs.Tabled.{tabled-more}
 use Rattle.jvm_machine.proofs.versions.lines_of.Goals as goal
 
 pub bounds-as_slice-place : goal.bounds-as_slice-place

@@ -1,5 +1,5 @@
 use Rattle.jvm_machine.specs.TableEntries.{placed_probe_in}
-use Rattle.jvm_machine.proofs.Tabled.{tabled-more}
+use Rattle.jvm_steps.proofs.Tabled.{tabled-more}
 use Rattle.jvm_machine.proofs.versions.probes_of.Goals as goal
 
 pub loop-place-preserved : goal.loop-place-preserved

@@ -4,7 +4,7 @@ ghost use Rattle.std.specs.Prelude.{◌≡◌, [], IfOk, IfSome};
 ghost use Rattle.std.specs.Option.{option_map};
 ghost use Rattle.const_pool.specs.Descriptors.{IsMethod};
 ghost use Rattle.jvm_model.specs.Descriptors.{result_of, params_of, with_room as with_room_of, ints_shape, shape_of};
-ghost use Rattle.jvm_machine.specs.Shapes.{with_params};
+ghost use Rattle.jvm_steps.specs.Shapes.{with_params};
 
 use const_pool::{Kind, Shape};
 use jf_bytes::{NoMemory, Seq, Text16};

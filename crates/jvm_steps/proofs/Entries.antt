@@ -1,0 +1,110 @@
+-- Methods that are prepared one by one give what the definitions look up there.
+use Rattle.std.proofs.Common.{◌≡◌, ℕ, ◌≤◌, List, [], length, Option, Some, None, refl, sym, ap, ◌∙◌}
+use Rattle.std.specs.Prelude.{map, slice_get}
+use Rattle.std.specs.Option.{option_map, option_map_or, option_and_then, option_flatten}
+use Rattle.std.proofs.lemmas.Option.{slice_get-map}
+use Rattle.const_pool.specs.declared.class.ClassFile.{ClassFile}
+use Rattle.const_pool.specs.declared.class.Member.{Member}
+use Rattle.const_pool.specs.declared.class.CodeAttribute.{CodeAttribute}
+use Rattle.code_model.proofs.Readings.{instruction_at-past}
+use Rattle.jvm_model.specs.declared.program.MethodPlace.{MethodPlace}
+use Rattle.jvm_model.specs.declared.program.Program.{Program}
+use Rattle.jvm_model.specs.Methods.{code_of, method_code, method_params, member_shape}
+use Rattle.jvm_model.specs.Programs.{class_at}
+use Rattle.jvm_steps.specs.declared.line.Line.{Line}
+use Rattle.jvm_steps.specs.declared.originals.Exception.{Exception}
+use Rattle.jvm_steps.specs.declared.originals.Exceptions.{Exceptions}
+use Rattle.jvm_steps.specs.declared.originals.Method.{Method}
+use Rattle.jvm_steps.specs.Lines.{line_of, method_line}
+use Rattle.jvm_steps.specs.Prepared.{IsPrepared, exception_in, exception_class, line_in}
+use Rattle.jvm_steps.specs.Entries.{code_line, entry_of, no_method, entry_in, entry_at, lines_of}
+use Rattle.jvm_steps.proofs.Tabled.{tabled-place}
+
+-- ---- the parameters
+
+params-member : (p : Program) (c : ClassFile) (m : Option Member)
+    → (option_map_or (entry_of p c) m no_method).params ≡ option_map (λ shape. shape.params) (option_and_then (member_shape c.pool) m)
+params-member p c None = refl
+params-member p c (Some m) = refl
+
+params-class : (p : Program) (place : MethodPlace) (c : Option ClassFile)
+    → (option_map_or (entry_in p place) c no_method).params ≡ option_and_then (λ k. method_params k place.position) c
+params-class p place None = refl
+params-class p place (Some c) = params-member p c (slice_get c.methods place.position)
+
+params-place : (p : Program) (place : Option MethodPlace)
+    → option_and_then (λ (m : Method). m.params) (option_map (entry_at p) place)
+    ≡ option_and_then (λ (x : MethodPlace). option_and_then (λ c. method_params c x.position) (class_at p x.class)) place
+params-place p None = refl
+params-place p (Some place) = params-class p place (class_at p place.class)
+
+-- ---- the limits
+
+record AreLimits (m : Method) (code : Option CodeAttribute) : Type 0 where
+  stack : m.max_stack ≡ option_map_or (λ k. k.max_stack) code 0
+  locals : m.max_locals ≡ option_map_or (λ k. k.max_locals) code 0
+
+limits-member : (p : Program) (c : ClassFile) (m : Option Member) → AreLimits (option_map_or (entry_of p c) m no_method) (option_and_then code_of m)
+limits-member p c None = record { stack = refl; locals = refl }
+limits-member p c (Some m) = record { stack = refl; locals = refl }
+
+limits-class : (p : Program) (place : MethodPlace) (c : Option ClassFile)
+    → AreLimits (option_map_or (entry_in p place) c no_method) (option_and_then (λ k. method_code k place.position) c)
+limits-class p place None = record { stack = refl; locals = refl }
+limits-class p place (Some c) = limits-member p c (slice_get c.methods place.position)
+
+abbrev code_at : Program → MethodPlace → Option CodeAttribute
+code_at p x = option_and_then (λ c. method_code c x.position) (class_at p x.class)
+
+stack-place : (p : Program) (place : Option MethodPlace)
+    → option_map_or (λ (m : Method). m.max_stack) (option_map (entry_at p) place) 0
+    ≡ option_map_or (λ k. k.max_stack) (option_and_then (code_at p) place) 0
+stack-place p None = refl
+stack-place p (Some place) = (limits-class p place (class_at p place.class)).stack
+
+locals-place : (p : Program) (place : Option MethodPlace)
+    → option_map_or (λ (m : Method). m.max_locals) (option_map (entry_at p) place) 0
+    ≡ option_map_or (λ k. k.max_locals) (option_and_then (code_at p) place) 0
+locals-place p None = refl
+locals-place p (Some place) = (limits-class p place (class_at p place.class)).locals
+
+-- ---- the lines
+
+-- no instruction stands past the end, so no line
+code_line-past : (p : Program) (c : ClassFile) (code : List ℕ) (at : ℕ) → length code ≤ at → code_line p c code at ≡ None
+code_line-past p c code at le = rw (instruction_at-past code at le) refl
+
+line-code : (p : Program) (c : ClassFile) (code : Option CodeAttribute) (at : ℕ)
+    → option_flatten (slice_get (option_map_or (λ k. lines_of p c k.code) code []) at) ≡ option_and_then (λ k. code_line p c k.code at) code
+line-code p c None at = refl
+line-code p c (Some code) at = tabled-place (code_line p c code.code) (length code.code) at (code_line-past p c code.code at)
+
+line-member : (p : Program) (c : ClassFile) (m : Option Member) (at : ℕ)
+    → line_in at (option_map_or (entry_of p c) m no_method) ≡ option_and_then (λ k. code_line p c k.code at) (option_and_then code_of m)
+line-member p c None at = refl
+line-member p c (Some m) at = line-code p c (code_of m) at
+
+line-class : (p : Program) (place : MethodPlace) (c : Option ClassFile) (at : ℕ)
+    → line_in at (option_map_or (entry_in p place) c no_method) ≡ option_and_then (λ k. method_line p at k place.position) c
+line-class p place None at = refl
+line-class p place (Some c) at = line-member p c (slice_get c.methods place.position) at
+
+line-place : (p : Program) (place : Option MethodPlace) (at : ℕ)
+    → option_and_then (line_in at) (option_map (entry_at p) place)
+    ≡ option_and_then (λ (x : MethodPlace). option_and_then (λ c. method_line p at c x.position) (class_at p x.class)) place
+line-place p None at = refl
+line-place p (Some place) at = line-class p place (class_at p place.class) at
+
+-- ---- all of them
+
+pub IsPrepared-entries : (p : Program) (methods : List Method) (x : Exceptions) → methods ≡ map (entry_at p) p.methods
+    → ((e : Exception) → exception_in x e ≡ exception_class p e) → IsPrepared p methods x
+IsPrepared-entries p methods x is raised =
+    let entry : (k : ℕ) → slice_get methods k ≡ option_map (entry_at p) (slice_get p.methods k) = λ k. ap (λ ms. slice_get ms k) is ∙ slice_get-map (entry_at p) p.methods k in
+    record {
+      params = λ k. ap (option_and_then (λ (m : Method). m.params)) (entry k) ∙ params-place p (slice_get p.methods k);
+      max_stack = λ k. ap (λ (o : Option Method). option_map_or (λ m. m.max_stack) o 0) (entry k) ∙ stack-place p (slice_get p.methods k);
+      max_locals = λ k. ap (λ (o : Option Method). option_map_or (λ m. m.max_locals) o 0) (entry k) ∙ locals-place p (slice_get p.methods k);
+      lines = λ k at. ap (option_and_then (line_in at)) (entry k) ∙ line-place p (slice_get p.methods k) at;
+      raised = raised;
+    }

@@ -1,0 +1,47 @@
+-- What is kept of one method of a program.
+use Rattle.std.specs.Prelude.{ℕ, List, [], length, map, slice_get, Option, None}
+use Rattle.std.specs.List.{range_with_len}
+use Rattle.std.specs.Option.{option_and_then, option_map, option_map_or}
+use Rattle.const_pool.specs.declared.class.ClassFile.{ClassFile}
+use Rattle.const_pool.specs.declared.class.Member.{Member}
+use Rattle.const_pool.specs.declared.descriptor.Kind.{Kind}
+use Rattle.code_model.specs.Instructions.{instruction_at}
+use Rattle.jvm_model.specs.declared.program.MethodPlace.{MethodPlace}
+use Rattle.jvm_model.specs.declared.program.Program.{Program}
+use Rattle.jvm_model.specs.Methods.{code_of, member_shape}
+use Rattle.jvm_model.specs.Programs.{class_at}
+use Rattle.jvm_steps.specs.declared.line.Line.{Line}
+use Rattle.jvm_steps.specs.declared.originals.Method.{Method}
+use Rattle.jvm_steps.specs.Lines.{line_of}
+
+-- ---- of a method of a class
+
+-- the kinds of its parameters
+abbrev pub params_of : ClassFile → Member → Option (List Kind)
+params_of c m = option_map (λ shape. shape.params) (member_shape c.pool m)
+
+-- the line at an offset of a code, and those at all its offsets
+abbrev pub code_line : Program → ClassFile → List ℕ → ℕ → Option Line
+code_line p c code at = option_and_then (line_of p c) (instruction_at code at)
+
+abbrev pub lines_of : Program → ClassFile → List ℕ → List (Option Line)
+lines_of p c code = map (code_line p c code) (range_with_len 0 (length code))
+
+abbrev pub entry_of : Program → ClassFile → Member → Method
+entry_of p c m = record {
+  params = params_of c m;
+  max_stack = option_map_or (λ code. code.max_stack) (code_of m) 0;
+  max_locals = option_map_or (λ code. code.max_locals) (code_of m) 0;
+  lines = option_map_or (λ code. lines_of p c code.code) (code_of m) [];
+}
+
+-- ---- of a method by its place; nothing where a program has none there
+
+abbrev pub no_method : Method
+no_method = record { params = None; max_stack = 0; max_locals = 0; lines = [] }
+
+abbrev pub entry_in : Program → MethodPlace → ClassFile → Method
+entry_in p place c = option_map_or (entry_of p c) (slice_get c.methods place.position) no_method
+
+abbrev pub entry_at : Program → MethodPlace → Method
+entry_at p place = option_map_or (entry_in p place) (class_at p place.class) no_method

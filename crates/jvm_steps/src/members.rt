@@ -1,0 +1,101 @@
+//! What the indices of a class's pool and its methods' names and descriptors say (JVM Specification 4.4, 4.6, 5.4.3).
+
+ghost use Rattle.std.specs.Prelude.{◌≡◌, ◌<◌, length, IfSome};
+ghost use Rattle.std.specs.Option.{option_copied, option_map};
+ghost use Rattle.const_pool.specs.Members.{reference_view};
+ghost use Rattle.const_pool.specs.References.{name_type_of, named_field, named_method};
+ghost use Rattle.jvm_model.specs.Methods.{code_of, same_text_at, is_member, method_named};
+ghost use Rattle.jvm_model.specs.Rules.{is_reference, is_out, is_println};
+
+use const_pool::{Attribute, ClassFile, CodeAttribute, Const, Member, MemberRef, Pool};
+use jf_bytes::Text16;
+
+/// A method's code, where it has one (4.7.3).
+pub fn code_of(member: &Member) -> Option<&CodeAttribute>
+    ensures { option_copied result ≡ code_of member.now }
+{
+    for attribute in member.attributes.as_slice() {
+        if let Attribute::Code(_, code) = attribute {
+            return Some(code);
+        }
+    }
+    None
+}
+
+/// Whether an entry is this text.
+fn is_text_at(pool: &Pool, index: u16, text: &Text16) -> bool
+    ensures { result ≡ same_text_at pool.now index text.now }
+{
+    match pool.text(index) {
+        Ok(found) => found.same(text),
+        Err(_) => false,
+    }
+}
+
+/// Whether a method has this name and this descriptor.
+fn is_member(pool: &Pool, name: &Text16, descriptor: &Text16, member: &Member) -> bool
+    ensures { result ≡ is_member pool.now (name_type_of name.now descriptor.now) member.now }
+{
+    is_text_at(pool, member.name, name) && is_text_at(pool, member.descriptor, descriptor)
+}
+
+/// The position of the first method with this name and this descriptor (5.4.3.3).
+pub fn method_named(class: &ClassFile, name: &Text16, descriptor: &Text16) -> Option<usize>
+    ensures found { result ≡ method_named class.now (name_type_of name.now descriptor.now) }
+    ensures within { IfSome result (λ at. at < length class.now.methods) }
+{
+    for (at, method) in class.methods.as_slice().iter().enumerate() {
+        if is_member(&class.pool, name, descriptor, method) {
+            return Some(at);
+        }
+    }
+    None
+}
+
+/// Whether a member is the one with this class, this name and this descriptor.
+pub fn is_reference(member: &MemberRef<'_>, class: &[u8], name: &[u8], descriptor: &[u8]) -> bool
+    ensures { result ≡ is_reference class.now name.now descriptor.now (reference_view member.now) }
+{
+    member.class.is_bytes(class)
+        && member.name.is_bytes(name)
+        && member.descriptor.is_bytes(descriptor)
+}
+
+/// Whether a field is System.out.
+pub fn is_out(reference: &MemberRef<'_>) -> bool
+    ensures { result ≡ is_out (reference_view reference.now) }
+{
+    is_reference(
+        reference,
+        b"java/lang/System",
+        b"out",
+        b"Ljava/io/PrintStream;",
+    )
+}
+
+/// Whether a method is PrintStream.println of an int.
+pub fn is_println(reference: &MemberRef<'_>) -> bool
+    ensures { result ≡ is_println (reference_view reference.now) }
+{
+    is_reference(reference, b"java/io/PrintStream", b"println", b"(I)V")
+}
+
+/// What a Fieldref names.
+pub fn field_at(pool: &Pool, index: u16) -> Option<MemberRef<'_>>
+    ensures { option_map reference_view result ≡ named_field pool.now index }
+{
+    match pool.get(index)? {
+        Const::Field(_, _) => pool.member(index).ok(),
+        _ => None,
+    }
+}
+
+/// What a Methodref names.
+pub fn method_at(pool: &Pool, index: u16) -> Option<MemberRef<'_>>
+    ensures { option_map reference_view result ≡ named_method pool.now index }
+{
+    match pool.get(index)? {
+        Const::Method(_, _) => pool.member(index).ok(),
+        _ => None,
+    }
+}

@@ -1,0 +1,160 @@
+//! Preparing the methods of a program: what is kept of each.
+
+ghost use Rattle.std.specs.Prelude.{◌≡◌, ◌<◌, ◌^◌, length, map, unwrap_or, IfOk};
+ghost use Rattle.jvm_model.specs.Programs.{class_named};
+ghost use Rattle.jvm_steps.specs.declared.originals.Exception.{Exception as TheException};
+ghost use Rattle.jvm_steps.specs.Entries.{code_line, entry_at, entry_of, lines_of, no_method, params_of};
+ghost use Rattle.jvm_steps.specs.Prepared.{exception_class, exception_in, FitsOriginals, HasShortCode};
+
+use crate::descriptor::shape_of;
+use crate::line::Line;
+use crate::lookup::class_of_bytes;
+use crate::members::code_of;
+use crate::originals::{Exceptions, Method};
+use crate::resolving::line_of;
+use code_model::instr_at;
+use const_pool::{ClassFile, Kind, Member};
+use jf_bytes::{NoMemory, Seq};
+use jvm_model::{MethodPlace, Program};
+use std::alloc::Global;
+
+/// The line at an offset of a code.
+fn code_line(
+    alloc: Global,
+    program: &Program,
+    class: &ClassFile,
+    code: &[u8],
+    at: u16,
+) -> Result<Option<Line>, NoMemory>
+    requires program { FitsOriginals program.now }
+    requires short { length code.now < 2 ^ 16 }
+    ensures { IfOk result (λ line. line ≡ code_line program.now class.now code.now at) }
+{
+    let found = instr_at(alloc, code, at)?;
+    match found {
+        Some(instr) => Ok(line_of(program, class, instr)),
+        None => Ok(None),
+    }
+}
+
+/// The line at each offset of a code.
+fn lines_of(
+    alloc: Global,
+    program: &Program,
+    class: &ClassFile,
+    code: &[u8],
+) -> Result<Seq<Option<Line>>, NoMemory>
+    requires program { FitsOriginals program.now }
+    requires short { length code.now < 2 ^ 16 }
+    ensures { IfOk result (λ lines. lines ≡ lines_of program.now class.now code.now) }
+{
+    let mut lines = Seq::with_capacity(alloc, code.len())?;
+    for at in 0..code.len() as u16 {
+        let line = code_line(alloc, program, class, code, at)?;
+        lines.push(line)?;
+    }
+    Ok(lines)
+}
+
+/// The kinds of a method's parameters, where it has a method descriptor.
+fn params_of(
+    alloc: Global,
+    class: &ClassFile,
+    member: &Member,
+) -> Result<Option<Seq<Kind>>, NoMemory>
+    ensures { IfOk result (λ params. params ≡ params_of class.now member.now) }
+{
+    let Ok(descriptor) = class.pool.text(member.descriptor) else {
+        return Ok(None);
+    };
+    match shape_of(alloc, descriptor)? {
+        Some(shape) => Ok(Some(shape.params)),
+        None => Ok(None),
+    }
+}
+
+/// Prepares a method.
+fn prepare(
+    alloc: Global,
+    program: &Program,
+    class: &ClassFile,
+    member: &Member,
+) -> Result<Method, NoMemory>
+    requires program { FitsOriginals program.now }
+    requires short { HasShortCode member.now }
+    ensures { IfOk result (λ method. method ≡ entry_of program.now class.now member.now) }
+{
+    let params = params_of(alloc, class, member)?;
+    let Some(code) = code_of(member) else {
+        return Ok(Method {
+            params,
+            max_stack: 0,
+            max_locals: 0,
+            lines: Seq::new(alloc),
+        });
+    };
+    Ok(Method {
+        params,
+        max_stack: code.max_stack,
+        max_locals: code.max_locals,
+        lines: lines_of(alloc, program, class, code.code.as_slice())?,
+    })
+}
+
+/// Nothing, where a program has no method.
+fn no_method(alloc: Global) -> Method
+    ensures { result ≡ no_method }
+{
+    Method {
+        params: None,
+        max_stack: 0,
+        max_locals: 0,
+        lines: Seq::new(alloc),
+    }
+}
+
+/// Prepares the method at a place of a program.
+fn prepare_at(alloc: Global, program: &Program, place: MethodPlace) -> Result<Method, NoMemory>
+    requires { FitsOriginals program.now }
+    ensures { IfOk result (λ method. method ≡ entry_at program.now place) }
+{
+    let Some(class) = program.classes.get(place.class as usize) else {
+        return Ok(no_method(alloc));
+    };
+    match class.methods.get(place.position as usize) {
+        Some(member) => prepare(alloc, program, class, member),
+        None => Ok(no_method(alloc)),
+    }
+}
+
+/// Prepares each method of a program, by its number.
+pub fn prepare_methods(alloc: Global, program: &Program) -> Result<Seq<Method>, NoMemory>
+    requires { FitsOriginals program.now }
+    ensures { IfOk result (λ methods. methods ≡ map (entry_at program.now) program.now.methods) }
+{
+    let mut methods = Seq::with_capacity(alloc, program.methods.len())?;
+    for place in program.methods.as_slice() {
+        methods.push(prepare_at(alloc, program, *place)?)?;
+    }
+    Ok(methods)
+}
+
+/// The position of the class of this name; 0 where there is none.
+fn class_or_first(program: &Program, name: &[u8]) -> u32
+    requires { FitsOriginals program.now }
+    ensures { result ≡ unwrap_or (class_named program.now name.now) 0 }
+{
+    class_of_bytes(program, name).unwrap_or(0)
+}
+
+/// The positions of the classes of the exceptions that instructions raise.
+pub fn exceptions_of(program: &Program) -> Exceptions
+    requires { FitsOriginals program.now }
+    ensures { (e : TheException) → exception_in result e ≡ exception_class program.now e }
+{
+    Exceptions {
+        arithmetic: class_or_first(program, b"java/lang/ArithmeticException"),
+        no_class_definition: class_or_first(program, b"java/lang/NoClassDefFoundError"),
+        no_such_method: class_or_first(program, b"java/lang/NoSuchMethodError"),
+    }
+}

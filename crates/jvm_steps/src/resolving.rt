@@ -1,0 +1,193 @@
+//! What an instruction does, with the names that it gives looked up (JVM Specification 5.4.3, 6.5).
+
+ghost use Rattle.std.specs.Prelude.{◌≡◌, ◌<◌, ◌^◌};
+ghost use Rattle.std.specs.Option.{option_and_then, option_map};
+ghost use Rattle.code_model.specs.Instructions.{end_of};
+ghost use Rattle.const_pool.specs.References.{named_field, named_method};
+ghost use Rattle.jvm_model.specs.Data.{Invokestatic};
+ghost use Rattle.jvm_model.specs.declared.program.Program.{Program as TheProgram};
+ghost use Rattle.jvm_model.specs.Lines.{constant_in, local_of, number_of};
+ghost use Rattle.jvm_model.specs.Values.{as_value};
+ghost use Rattle.jvm_model.specs.declared.family.Family.TheVariants.{Given};
+ghost use Rattle.jvm_model.specs.Lines.{getstatic_of, invokevirtual_of};
+ghost use Rattle.jvm_model.specs.Lines.{pool_operation, named_operation, operation_of};
+ghost use Rattle.jvm_steps.specs.Lines.{action_of, line_of, line_with, local_action};
+ghost use Rattle.jvm_steps.specs.Prepared.{FitsOriginals};
+
+use crate::line::{Action, Line};
+use crate::lookup::{class_named, declared_in};
+use crate::members::{field_at, is_out, is_println, method_at};
+use code_model::{Arg, Instr};
+use const_pool::{ClassFile, Const, Pool};
+use heap_objects::{Datum, Value};
+use jvm_basic::value_of;
+use jvm_model::{Family, Program, family_of};
+
+/// The number that an entry of the pool is.
+fn number_of(entry: &Const) -> Option<Datum>
+    ensures { result ≡ number_of entry.now }
+{
+    match entry {
+        Const::Integer(n) => Some(Datum::Int(*n)),
+        Const::Long(n) => Some(Datum::Long(*n)),
+        _ => None,
+    }
+}
+
+/// The number that an operand names in the pool.
+fn constant_in(pool: &Pool, arg: &Arg) -> Option<Datum>
+    ensures { result ≡ constant_in pool.now arg.now }
+{
+    match arg {
+        Arg::Pool(index) => number_of(pool.get(*index)?),
+        _ => None,
+    }
+}
+
+/// What an ldc does, where its constant is a number.
+fn given(pool: &Pool, arg: &Arg) -> Option<Action>
+    ensures { result ≡ option_map local_action (local_of Given arg.now (constant_in pool.now arg.now)) }
+{
+    match constant_in(pool, arg) {
+        Some(_) => Some(Action::Local),
+        None => None,
+    }
+}
+
+/// What an instruction of a family does that sees its frame alone.
+fn local_action(family: Family, pool: &Pool, arg: &Arg) -> Option<Action>
+    ensures { result
+        ≡ option_map local_action (local_of family arg.now (constant_in pool.now arg.now)) }
+{
+    match family {
+        Family::Elsewhere => None,
+        Family::Return(kind) => Some(Action::Return(kind)),
+        Family::Given => given(pool, arg),
+        Family::Immediate => match arg {
+            Arg::Value(_) => Some(Action::Local),
+            _ => None,
+        },
+        Family::Load(_) | Family::Store(_) | Family::Ret => match arg {
+            Arg::Local(_) => Some(Action::Local),
+            _ => None,
+        },
+        Family::Iinc => match arg {
+            Arg::Inc(_, _) => Some(Action::Local),
+            _ => None,
+        },
+        Family::Branch(_) | Family::Goto | Family::Jsr => match arg {
+            Arg::Target(_) => Some(Action::Local),
+            _ => None,
+        },
+        Family::Switch => match arg {
+            Arg::Table(..) | Arg::Lookup(..) => Some(Action::Local),
+            _ => None,
+        },
+        _ => Some(Action::Local),
+    }
+}
+
+/// getstatic: System.out alone.
+fn getstatic(pool: &Pool, index: u16) -> Option<Action>
+    ensures { (p : TheProgram) → result
+        ≡ option_and_then (action_of p) (option_and_then getstatic_of (named_field pool.now index)) }
+{
+    let field = field_at(pool, index)?;
+    if is_out(&field) {
+        Some(Action::Out)
+    } else {
+        None
+    }
+}
+
+/// invokevirtual: println(I)V alone.
+fn invokevirtual(pool: &Pool, index: u16) -> Option<Action>
+    ensures { (p : TheProgram) → result
+        ≡ option_and_then (action_of p) (option_and_then invokevirtual_of (named_method pool.now index)) }
+{
+    let method = method_at(pool, index)?;
+    if is_println(&method) {
+        Some(Action::Println)
+    } else {
+        None
+    }
+}
+
+/// invokestatic: the class and the method that are named, by one walk over the classes.
+fn invokestatic(program: &Program, pool: &Pool, index: u16) -> Option<Action>
+    requires { FitsOriginals program.now }
+    ensures { result
+        ≡ option_and_then (action_of program.now) (option_map Invokestatic (named_method pool.now index)) }
+{
+    let method = method_at(pool, index)?;
+    let class = class_named(program, method.class);
+    let number = declared_in(program, &method, class);
+    Some(Action::Invokestatic(class, number))
+}
+
+/// What an instruction with a pool index does: getstatic, invokevirtual and invokestatic.
+fn pool_action(program: &Program, class: &ClassFile, op: u8, index: u16) -> Option<Action>
+    requires { FitsOriginals program.now }
+    ensures { result ≡ option_and_then (action_of program.now) (pool_operation class.now op index) }
+{
+    match op {
+        178 => getstatic(&class.pool, index),
+        182 => invokevirtual(&class.pool, index),
+        184 => invokestatic(program, &class.pool, index),
+        _ => None,
+    }
+}
+
+/// What an instruction does that names a member.
+fn named_action(program: &Program, class: &ClassFile, op: u8, arg: &Arg) -> Option<Action>
+    requires { FitsOriginals program.now }
+    ensures { result ≡ option_and_then (action_of program.now) (named_operation class.now op arg.now) }
+{
+    match arg {
+        Arg::Pool(index) => pool_action(program, class, op, *index),
+        _ => None,
+    }
+}
+
+/// What an instruction of a class does; none where it has no rule.
+fn action_of(program: &Program, class: &ClassFile, instr: &Instr) -> Option<Action>
+    requires { FitsOriginals program.now }
+    ensures { result ≡ option_and_then (action_of program.now) (operation_of class.now instr.now) }
+{
+    match family_of(instr.op) {
+        Family::Elsewhere => named_action(program, class, instr.op, &instr.arg),
+        family => local_action(family, &class.pool, &instr.arg),
+    }
+}
+
+/// The value that an ldc pushes.
+fn value_in(pool: &Pool, arg: &Arg) -> Option<Value>
+    ensures { result ≡ option_map as_value (constant_in pool.now arg.now) }
+{
+    Some(value_of(constant_in(pool, arg)?))
+}
+
+/// An instruction with its constant, the offset behind it and what it does.
+fn line_with(class: &ClassFile, instr: Instr, action: Action) -> Line
+    requires { end_of instr < 2 ^ 16 }
+    ensures { result ≡ line_with class.now instr action }
+{
+    let constant = value_in(&class.pool, &instr.arg);
+    let next = instr.next_offset();
+    Line {
+        instr,
+        constant,
+        next,
+        action,
+    }
+}
+
+/// What stands where an instruction of a class does.
+pub fn line_of(program: &Program, class: &ClassFile, instr: Instr) -> Option<Line>
+    requires program { FitsOriginals program.now }
+    requires ends { end_of instr < 2 ^ 16 }
+    ensures { result ≡ line_of program.now class.now instr }
+{
+    let action = action_of(program, class, &instr)?;
+    Some(line_with(class, instr, action))
+}
