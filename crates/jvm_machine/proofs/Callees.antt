@@ -1,6 +1,6 @@
 -- The frame that begins on a caller is the one that a method begins with, where its arguments are data that fit.
 use Rattle.std.proofs.Common.{drop-cons, ◌≡◌, ◌≢◌, ℕ, zero, suc, ◌+◌, ◌-◌, ◌<◌, ◌≤◌, Bool, true, false, List, [], ◌∷◌, ◌++◌, length, drop, take, get_or, min, cond, Option, Some, None, refl, sym, ap, ◌∙◌, ⊎_elim, add-one, arith}
-use Rattle.std.specs.Prelude.{is_some, nat_le, slice_get, replicate, reverse, ◌&&◌, if◌then◌else◌}
+use Rattle.std.specs.Prelude.{is_some, nat_le, slice_get, replicate, reverse, ◌&&◌}
 use Rattle.std.specs.Option.{option_and_then, option_map, option_map_or}
 use Rattle.std.proofs.lemmas.Bool.{cases_lt, lt-leb, le-leb}
 use Rattle.std.proofs.lemmas.List.{length-reverse, length-take, reverse-append, get_or-reverse, get_or-take}
@@ -23,8 +23,8 @@ use Rattle.jvm_model.specs.Rules.{invokes_with, invokes as invokes_outcome}
 use Rattle.jvm_model.specs.Applies.{still, breaks, with_frame, applies}
 use Rattle.jvm_model.specs.Attempts.{has_begun}
 use Rattle.jvm_model.specs.Installed.{Installed, world_in, placed, tabled}
-use Rattle.jvm_machine.specs.declared.parts.Parts.{Parts}
-use Rattle.jvm_machine.specs.States.{frame_in, state_with, state_in}
+use Rattle.jvm_steps.specs.declared.parts.Parts.{Parts}
+use Rattle.jvm_steps.specs.States.{frame_in, state_with, state_in}
 use Rattle.jvm_machine.specs.Going.{ended}
 use Rattle.jvm_machine.specs.Applied.{IsTop, invokes_on, invokes_here}
 use Rattle.jvm_machine.specs.Arguments.{arguments_of, can_begin, fits_with, fits_params, with_begun, with_callee}

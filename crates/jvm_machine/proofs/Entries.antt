@@ -1,67 +1,20 @@
--- Tables that are made of an entry for each method, and for each version, give what the definitions look up there.
+-- Tables that are made of an entry for each version give what the definitions look up there.
 use Rattle.std.proofs.Common.{drop-cons, ◌≡◌, ℕ, zero, suc, ◌+◌, ◌<◌, ◌≤◌, List, [], ◌∷◌, ◌++◌, length, drop, get_or, Option, Some, None, refl, sym, ap, ◌∙◌, append_assoc, add-one, arith}
 use Rattle.std.specs.Prelude.{map, slice_get}
 use Rattle.std.specs.Option.{option_map, option_map_or, option_and_then, option_flatten}
-use Rattle.std.proofs.lemmas.Option.{slice_get-map}
 use Rattle.const_pool.specs.declared.class.ClassFile.{ClassFile}
 use Rattle.const_pool.specs.declared.class.Member.{Member}
 use Rattle.const_pool.specs.declared.class.CodeAttribute.{CodeAttribute}
 use Rattle.code_model.specs.declared.laying.Homes.{Homes}
 use Rattle.jvm_model.specs.declared.operation.Line.{Line}
 use Rattle.code_model.proofs.Readings.{instruction_at-past}
-use Rattle.jvm_model.specs.declared.program.MethodPlace.{MethodPlace}
-use Rattle.jvm_model.specs.declared.program.Program.{Program}
-use Rattle.jvm_model.specs.Methods.{code_of, method_code, method_params, member_shape}
-use Rattle.jvm_model.specs.Programs.{class_at}
+use Rattle.jvm_model.specs.Methods.{code_of}
 use Rattle.jvm_model.specs.StandsFor.{homes_at, origin_by, code_line, placed_line, probe_in}
-use Rattle.jvm_machine.specs.declared.tables.Method.{Method}
 use Rattle.jvm_machine.specs.declared.tables.PreparedVersion.{PreparedVersion}
-use Rattle.jvm_machine.specs.Prepared.{ArePrepared, AreVersions, line_in, probe_in as version_probe}
+use Rattle.jvm_machine.specs.Prepared.{AreVersions, line_in, probe_in as version_probe}
 use Rattle.jvm_machine.specs.Probes.{placed_probe}
-use Rattle.jvm_machine.specs.TableEntries.{entry_of, no_method, entry_in, entry_at, lines_of, placed_probe_in, probes_of, version_of, versions_of}
+use Rattle.jvm_machine.specs.TableEntries.{lines_of, placed_probe_in, probes_of, version_of, versions_of}
 use Rattle.jvm_steps.proofs.Tabled.{tabled-place}
-
--- ---- one method
-
-params-member : (c : ClassFile) (m : Option Member) → (option_map_or (entry_of c) m no_method).params ≡ option_map (λ shape. shape.params) (option_and_then (member_shape c.pool) m)
-params-member c None = refl
-params-member c (Some m) = refl
-
-params-class : (place : MethodPlace) (c : Option ClassFile) → (option_map_or (entry_in place) c no_method).params ≡ option_and_then (λ k. method_params k place.position) c
-params-class place None = refl
-params-class place (Some c) = params-member c (slice_get c.methods place.position)
-
-code-member : (c : ClassFile) (m : Option Member) → (option_map_or (λ k. k.max_stack) (option_and_then code_of m) 0 ≡ (option_map_or (entry_of c) m no_method).max_stack) × (option_map_or (λ k. k.max_locals) (option_and_then code_of m) 0 ≡ (option_map_or (entry_of c) m no_method).max_locals)
-code-member c None = (refl, refl)
-code-member c (Some m) = (refl, refl)
-
-limits-class : (place : MethodPlace) (c : Option ClassFile)
-    → (let code : Option CodeAttribute = option_and_then (λ k. method_code k place.position) c in
-    ((option_map_or (entry_in place) c no_method).max_stack ≡ option_map_or (λ k. k.max_stack) code 0) × ((option_map_or (entry_in place) c no_method).max_locals ≡ option_map_or (λ k. k.max_locals) code 0))
-limits-class place None = (refl, refl)
-limits-class place (Some c) = let is = code-member c (slice_get c.methods place.position) in (sym is.0, sym is.1)
-
--- by the method's place, where it has one
-params-place : (p : Program) (place : Option MethodPlace)
-    → option_and_then (λ (m : Method). m.params) (option_map (entry_at p) place) ≡ option_and_then (λ (x : MethodPlace). option_and_then (λ c. method_params c x.position) (class_at p x.class)) place
-params-place p None = refl
-params-place p (Some place) = params-class place (class_at p place.class)
-
-limits-place : (p : Program) (place : Option MethodPlace)
-    → (let code : Option CodeAttribute = option_and_then (λ (x : MethodPlace). option_and_then (λ c. method_code c x.position) (class_at p x.class)) place in
-    let entry : Option Method = option_map (entry_at p) place in
-    (option_map_or (λ (m : Method). m.max_stack) entry 0 ≡ option_map_or (λ k. k.max_stack) code 0) × (option_map_or (λ (m : Method). m.max_locals) entry 0 ≡ option_map_or (λ k. k.max_locals) code 0))
-limits-place p None = (refl, refl)
-limits-place p (Some place) = limits-class place (class_at p place.class)
-
-pub ArePrepared-entries : (p : Program) (methods : List Method) → methods ≡ map (entry_at p) p.methods → ArePrepared p methods
-ArePrepared-entries p methods is =
-    let entry : (k : ℕ) → slice_get methods k ≡ option_map (entry_at p) (slice_get p.methods k) = λ k. ap (λ ms. slice_get ms k) is ∙ slice_get-map (entry_at p) p.methods k in
-    record {
-      params = λ k. ap (option_and_then (λ (m : Method). m.params)) (entry k) ∙ params-place p (slice_get p.methods k);
-      max_stack = λ k. ap (λ (o : Option Method). option_map_or (λ m. m.max_stack) o 0) (entry k) ∙ (limits-place p (slice_get p.methods k)).0;
-      max_locals = λ k. ap (λ (o : Option Method). option_map_or (λ m. m.max_locals) o 0) (entry k) ∙ (limits-place p (slice_get p.methods k)).1;
-    }
 
 -- ---- one version
 

@@ -7,7 +7,8 @@ use Rattle.jvm_model.specs.declared.event.Mark.{Mark}
 use Rattle.jvm_model.specs.Images.{IsImage}
 use Rattle.jvm_model.specs.StandsFor.{IsBuilt}
 use Rattle.jvm_model.proofs.LaidLengths.{IsMeasuredImage-image}
-use Rattle.jvm_machine.specs.TableEntries.{HasShortCode, FitsVersions}
+use Rattle.jvm_steps.specs.Prepared.{HasShortCode}
+use Rattle.jvm_machine.specs.TableEntries.{FitsVersions}
 
 pub FitsVersions-image : (c : ClassFile) (marks : List Mark) (image : ClassFile) (homes : List (Option Homes)) → IsBuilt c → IsImage c 0 marks image homes → FitsVersions image homes
 FitsVersions-image c marks image homes built is =
@@ -15,6 +16,7 @@ FitsVersions-image c marks image homes built is =
     let few = built.plain.few in
     let count : length image.methods ≡ length c.methods = measured.methods in
     record {
-      fits = record { count = omega arith; codes = All-from_recursion HasShortCode image.methods measured.codes };
+      count = omega arith;
+      codes = All-from_recursion HasShortCode image.methods measured.codes;
       each = measured.housed ∙ sym measured.methods;
     }

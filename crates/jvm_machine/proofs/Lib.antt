@@ -8,5 +8,6 @@ pub mod Callees
 pub mod MainFrames
 pub mod Steps
 pub mod Machines
+pub mod BothWays
 mod Within
 mod Families

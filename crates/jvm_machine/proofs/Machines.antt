@@ -1,27 +1,15 @@
--- The machine stands for the run: when it is made, when versions are installed, and when it goes on.
-use Rattle.std.proofs.Common.{◌≡◌, ℕ, ◌+◌, ◌-◌, Bool, true, false, cond, List, [], ◌∷◌, length, Option, Some, None, refl, sym, ap, subst, ◌∙◌, eqb-true, arith, ◌<◌}
-use Rattle.std.specs.Prelude.{map, slice_get, is_none, ◌==◌, ◌||◌}
+-- The machine stands for the run where versions are installed: before the start, and when it goes on.
+use Rattle.std.proofs.Common.{◌≡◌, ℕ, ◌+◌, ◌-◌, Bool, true, false, cond, List, length, Option, Some, None, refl, sym, ap, subst, ◌∙◌, eqb-true}
+use Rattle.std.specs.Prelude.{slice_get, is_none, ◌==◌, ◌||◌}
 use Rattle.std.proofs.lemmas.List.{length-map}
-use Rattle.std.specs.Result.{OnOk, OnErr}
-use Rattle.std.specs.declared.result.Result.{Result}
-use Rattle.std.specs.declared.result.Result.TheVariants.{Ok, Err}
-use Rattle.const_pool.specs.declared.class.ClassFile.{ClassFile}
-use Rattle.const_pool.specs.declared.class.Member.{Member}
-use Rattle.code_model.specs.declared.laying.Homes.{Homes}
-use Rattle.jf_bytes.specs.declared.error.NoMemory.{NoMemory}
 use Rattle.jvm_model.specs.declared.event.Event.{Event}
-use Rattle.jvm_model.specs.declared.event.Mark.{Mark}
-use Rattle.jvm_model.specs.declared.event.Mark.TheVariants.{Off}
 use Rattle.jvm_model.specs.declared.state.State.{State}
 use Rattle.jvm_model.specs.Agreement.{Agrees}
 use Rattle.jvm_model.specs.Attempts.{start_placed}
-use Rattle.jvm_model.specs.Images.{IsImage, all_off}
-use Rattle.jvm_model.specs.declared.program.Program.{Program}
-use Rattle.jvm_model.specs.Installed.{Installed, all_originals, class_in, world_in}
+use Rattle.jvm_model.specs.Installed.{Installed, class_in, world_in}
 use Rattle.jvm_model.specs.Moved.{moved_entry, moved}
 use Rattle.jvm_model.specs.Run.{before, run}
-use Rattle.jvm_model.specs.StandsFor.{IsBuilt, by_homes}
-use Rattle.jvm_model.proofs.ImageAgrees.{Agrees-image}
+use Rattle.jvm_model.specs.StandsFor.{by_homes}
 use Rattle.jvm_machine.specs.declared.probes.Probe.{Probe}
 use Rattle.jvm_machine.specs.Advances.{Advances}
 use Rattle.jvm_machine.specs.Moves.{leave_passed, rest_by, Move, entered, stepped, begun_move, rest_of, moved_on, clock_in}
@@ -29,8 +17,7 @@ use Rattle.jvm_machine.specs.Probes.{event_of}
 use Rattle.jvm_machine.specs.Running.{IsRunning, finished, is_done, seen, shown_of, top_of}
 use Rattle.jvm_machine.specs.Turns.{IsGoingOn}
 use Rattle.jvm_model.specs.OneClass.{IsBuiltProgram}
-use Rattle.jvm_model.specs.Programs.{first_class}
-use Rattle.jvm_machine.specs.View.{View, made, state_of, shown, advanced, begun, events_now}
+use Rattle.jvm_machine.specs.View.{View, state_of, shown, advanced, begun, events_now}
 use Rattle.jvm_machine.proofs.Steps.{IsStep, start-step, step-is}
 
 -- ---- before the start
@@ -45,7 +32,7 @@ early-state t s told true broken clock is early whole = absurd cc
 early-state t s told false true clock is early whole = absurd cc
 
 -- a machine whose start is still to come
-early-running : (t : Installed) → IsBuiltProgram t.program → Agrees (class_in t) t.marks t.image t.homes → IsRunning (seen t (before (world_in t)) 0 false false 0) (before (world_in t))
+pub early-running : (t : Installed) → IsBuiltProgram t.program → Agrees (class_in t) t.marks t.image t.homes → IsRunning (seen t (before (world_in t)) 0 false false 0) (before (world_in t))
 early-running t built agrees = record {
   built = built;
   agrees = agrees;
@@ -54,64 +41,6 @@ early-running t built agrees = record {
   told = λ whole step. absurd cc;
   early = λ early. (refl, refl);
 }
-
-all_off-originals : (methods : List Member) → all_off (map (λ m. Off) methods) ≡ true
-all_off-originals [] = refl
-all_off-originals (m ∷ methods) = all_off-originals methods
-
--- the originals agree with themselves
-originals-agree : (c : ClassFile) → IsBuilt c → Agrees c (map (λ m. Off) c.methods) c (map (λ m. None) c.methods)
-originals-agree c built =
-    Agrees-image c (map (λ m. Off) c.methods) c (map (λ m. None) c.methods) built
-    (rw (all_off-originals c.methods) (record { class_stays = refl; unmoved = refl }))
-
-pub some-classes : (p : Program) → IsBuiltProgram p → 0 < length p.classes
-some-classes p built = subst (λ cs. 0 < length cs) (sym built.program.classes) (omega arith)
-
-pub is_made : (t : Installed) (p : Program) (input : List ℕ) (s : State) → IsBuiltProgram p → t ≡ all_originals p input → s ≡ before (world_in (all_originals p input)) → IsRunning (seen t s 0 false false 0) s
-is_made t p input s built originals empty =
-    subst (λ (x : Installed). IsRunning (seen x s 0 false false 0) s) (sym originals)
-    (subst (λ (x : State). IsRunning (seen (all_originals p input) x 0 false false 0) x) (sym empty)
-    (early-running (all_originals p input) built (originals-agree (first_class p) built.class)))
-
--- and what is seen of it
-pub seen-made : (t : Installed) (p : Program) (input bytes : List ℕ) (s : State) → bytes ≡ input
-    → t ≡ all_originals p bytes → s ≡ before (world_in (all_originals p bytes)) → seen t s 0 false false 0 ≡ made p input
-seen-made t p input bytes s given originals empty =
-    ap (λ (x : Installed). seen x s 0 false false 0) originals
-    ∙ (ap (λ (x : State). seen (all_originals p bytes) x 0 false false 0) empty ∙ ap (made p) given)
-
--- ---- installing versions
-
-installed-early : (t : Installed) (s : State) (told : ℕ) (started broken : Bool) (clock : ℕ) (marks : List Mark) (image : ClassFile) (homes : List (Option Homes))
-    → IsRunning (seen t s told started broken clock) s → started ≡ false → broken ≡ false → Agrees (class_in t) marks image homes
-    → IsRunning (seen (record t { marks = marks; image = image; homes = homes }) s told started broken clock) s
-installed-early t s told true broken clock marks image homes is early whole agrees = absurd cc
-installed-early t s told false true clock marks image homes is early whole agrees = absurd cc
-installed-early t s told false false clock marks image homes is early whole agrees =
-    let found = early-state t s told false false clock is refl refl in
-    let none : told ≡ 0 = found.0 in
-    let new : Installed = record t { marks = marks; image = image; homes = homes } in
-    record {
-      built = is.built;
-      agrees = agrees;
-      stands = λ unbroken. ap (λ n. finished new n s) none ∙ found.1;
-      waits = λ unbroken undone. absurd (let done : true ≡ false = sym (ap (λ n. is_done new n s) none) ∙ undone in cc);
-      told = λ unbroken unresting. absurd (let resting : true ≡ false = sym (ap (λ n. n == 0) none) ∙ unresting in cc);
-      early = λ e. is.early refl;
-    }
-
-pub is_installed : (result : Result (Unit {0}) NoMemory) (t new : Installed) (s : State) (told : ℕ) (started broken : Bool) (clock : ℕ)
-    (marks : List Mark) (image : ClassFile) (homes : List (Option Homes))
-    → IsRunning (seen t s told started broken clock) s → started ≡ false → broken ≡ false
-    → length marks ≡ length (class_in t).methods → IsImage (class_in t) 0 marks image homes
-    → OnOk result (new ≡ record t { marks = marks; image = image; homes = homes }) → OnErr result (new ≡ t)
-    → IsRunning (seen new s told started broken clock) s
-is_installed (Ok u) t new s told started broken clock marks image homes is early whole each is_image ok err =
-    subst (λ (x : Installed). IsRunning (seen x s told started broken clock) s) (sym ok)
-    (installed-early t s told started broken clock marks image homes is early whole (Agrees-image (class_in t) marks image homes is.built.class is_image))
-is_installed (Err e) t new s told started broken clock marks image homes is early whole each is_image ok err =
-    subst (λ (x : Installed). IsRunning (seen x s told started broken clock) s) (sym err) is
 
 -- ---- going on
 

@@ -13,7 +13,7 @@ use Rattle.jvm_model.specs.Applies.{new_frame}
 use Rattle.jvm_model.specs.Installed.{Installed, world_in, tabled}
 use Rattle.jvm_model.specs.Moves.{argument_array}
 use Rattle.jvm_model.specs.Programs.{max_locals_of}
-use Rattle.jvm_machine.specs.States.{active}
+use Rattle.jvm_steps.specs.States.{active}
 use Rattle.jvm_machine.specs.Arguments.{begun_frame, with_begun}
 
 -- where there is no entry there is no frame

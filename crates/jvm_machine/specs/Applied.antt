@@ -13,10 +13,10 @@ use Rattle.jvm_model.specs.Rules.{line_text, invokes_with}
 use Rattle.jvm_model.specs.Applies.{still, gives_back, applies}
 use Rattle.jvm_model.specs.Attempts.{does_line, attempts, has_begun}
 use Rattle.jvm_model.specs.Installed.{Installed, world_in, placed, tabled}
-use Rattle.jvm_machine.specs.declared.parts.Parts.{Parts}
+use Rattle.jvm_steps.specs.declared.parts.Parts.{Parts}
 use Rattle.jvm_model.specs.Values.{int_of}
 use Rattle.jvm_machine.specs.Going.{effect_at, after_at, drops_two, printable_of, ended, settled}
-use Rattle.jvm_machine.specs.States.{frame_in, state_with, state_in}
+use Rattle.jvm_steps.specs.States.{frame_in, state_with, state_in}
 
 -- the answer is whether an activation began in the turn
 abbrev pub TellsBegun : Result Bool NoMemory → Turn → Type 0

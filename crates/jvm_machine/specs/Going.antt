@@ -15,7 +15,7 @@ use Rattle.jvm_basic.specs.declared.effect.Effect.{Effect}
 use Rattle.jvm_basic.specs.declared.effect.Effect.TheVariants.{Next, Throws, Bad, Other}
 use Rattle.jvm_basic.specs.Outcomes.{Rule, GoesOn, Leaves, effect_of, after}
 use Rattle.jvm_basic.specs.Rules.{loads, calculates}
-use Rattle.jvm_machine.specs.declared.parts.Parts.{Parts}
+use Rattle.jvm_steps.specs.declared.parts.Parts.{Parts}
 
 -- an instruction, by the place behind it
 abbrev pub PlacedRule : Type 0

@@ -1,5 +1,4 @@
 pub mod Prepared
-pub mod Before
 pub mod TableEntries
 pub mod Probes
 pub mod Arguments
@@ -8,6 +7,7 @@ pub mod Going
 pub mod Applied
 pub mod Lookups
 pub mod Moves
+pub mod Original
 pub mod View
 pub mod Running
 pub mod Turns

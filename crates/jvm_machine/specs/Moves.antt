@@ -1,12 +1,16 @@
 -- How the parts of a machine move in one call of `step`.
-use Rattle.std.specs.Prelude.{◌≡◌, ℕ, ◌+◌, ◌-◌, Bool, true, false, List, ◌∷◌, Option, Some, None, nat_le, ◌==◌, if◌then◌else◌}
+use Rattle.std.specs.Prelude.{◌≡◌, ℕ, ◌+◌, ◌-◌, Bool, true, false, List, ◌∷◌, Option, Some, None, Result, IfOk, OnOk, nat_le, ◌==◌, if◌then◌else◌}
 use Rattle.const_pool.specs.declared.class.ClassFile.{ClassFile}
 use Rattle.jvm_model.specs.declared.state.Entry.{Entry}
 use Rattle.jvm_model.specs.declared.state.State.{State}
 use Rattle.jvm_model.specs.declared.state.Entry.TheVariants.{Active}
 use Rattle.jvm_model.specs.Data.{Change, Turn}
 use Rattle.jvm_model.specs.Agreement.{is_entry_kind, is_leave_kind}
+use Rattle.jf_bytes.specs.declared.error.NoMemory.{NoMemory}
+use Rattle.jvm_steps.specs.declared.parts.Parts.{Parts}
+use Rattle.jvm_steps.specs.States.{state_in}
 use Rattle.jvm_machine.specs.declared.probes.Probe.{Probe}
+use Rattle.jvm_machine.specs.declared.stepping.Advance.{Advance}
 use Rattle.jvm_model.specs.Attempts.{attempt_placed, start_placed, has_begun}
 use Rattle.jvm_model.specs.Installed.{Installed}
 use Rattle.jvm_machine.specs.Probes.{placed_probe_at, probe_of_kind}
@@ -86,8 +90,16 @@ rest_of t s = rest_by t s (leave_passed t.image s.stack)
 abbrev pub moved_on : Installed → Bool → ℕ → State → Move
 moved_on t started told s = if told == 0 then begun_move t started s else record { state = rest_of t s; told = 0; probe = None }
 
-abbrev pub probe_on : Installed → Bool → ℕ → State → Option Probe
-probe_on t started told s = (moved_on t started told s).probe
+-- ---- the parts have moved so, and the answer says what was told
+
+abbrev pub MovesTo : Result Advance NoMemory → Parts → Move → Type 0
+MovesTo result parts m = OnOk result (state_in parts ≡ m.state)
+
+abbrev pub TellsAs : Result Advance NoMemory → Move → Type 0
+TellsAs result m = IfOk result (λ a. a.told ≡ m.told)
+
+abbrev pub PassesAs : Result Advance NoMemory → Move → Type 0
+PassesAs result m = IfOk result (λ a. a.probe ≡ m.probe)
 
 -- the clock rises where a step after the start begins
 abbrev pub clock_in : ℕ → Bool → ℕ → ℕ

@@ -1,5 +1,5 @@
 -- How the parts of a machine stand for what a clause sees of it.
-use Rattle.std.specs.Prelude.{◌≡◌, ℕ, ◌-◌, Bool, false, List, ◌∷◌, length, Option, Some, None, is_none, ◌==◌, ◌||◌, if◌then◌else◌}
+use Rattle.std.specs.Prelude.{◌≡◌, ℕ, ◌-◌, Bool, true, false, List, ◌∷◌, length, Option, Some, None, is_none, ◌==◌, ◌||◌, if◌then◌else◌}
 use Rattle.jvm_model.specs.declared.state.Entry.{Entry}
 use Rattle.jvm_model.specs.declared.ending.Ending.{Ending}
 use Rattle.jvm_model.specs.declared.state.State.{State}
@@ -11,7 +11,11 @@ use Rattle.jvm_model.specs.StandsFor.{by_homes}
 use Rattle.jvm_model.specs.OneClass.{IsBuiltProgram}
 use Rattle.jvm_model.specs.Programs.{first_class}
 use Rattle.jvm_model.specs.Installed.{Installed}
+use Rattle.jvm_model.specs.Data.{World}
+use Rattle.jvm_model.specs.Moves.{fresh}
+use Rattle.jvm_model.specs.Starting.{StartsReady}
 use Rattle.jvm_machine.specs.Moves.{leave_passed, rest_of}
+use Rattle.jvm_machine.specs.Prepared.{Rewritten, installed_in}
 use Rattle.jvm_machine.specs.View.{View, Place, world, state_of, is_resting, events_now}
 
 -- where the current frame stands
@@ -66,6 +70,18 @@ pub record IsRunning (v : View) (state : State) : Type 0 where
   pub told : v.broken ≡ false → is_resting v ≡ false → v.told ≡ length (events_now v)
   pub early : v.started ≡ false → (v.clock ≡ 0) × (v.told ≡ 0)
 
--- of the parts of a machine
-abbrev pub AreRunning : Installed → State → ℕ → Bool → Bool → ℕ → Type 0
-AreRunning t s told started broken clock = IsRunning (seen t s told started broken clock) s
+-- No versions were installed: unless memory has run out, the state is the run's, and behind the start no class is left to be initialized.
+pub record IsOriginal (v : View) (state : State) : Type 0 where
+  pub starts : StartsReady v.program
+  pub stands : v.broken ≡ false → state ≡ state_of v
+  pub ready : v.broken ≡ false → v.started ≡ true → fresh state.shared.phases ≡ 0
+  pub told : v.told ≡ 0
+  pub early : v.started ≡ false → v.clock ≡ 0
+
+-- what is seen of the parts of a machine
+abbrev pub seen_in : World → Option Rewritten → State → ℕ → Bool → Bool → ℕ → View
+seen_in w r s told started broken clock = seen (installed_in w r) s told started broken clock
+
+abbrev pub AreRunning : World → Option Rewritten → State → ℕ → Bool → Bool → ℕ → Type 0
+AreRunning w None s told started broken clock = IsOriginal (seen_in w None s told started broken clock) s
+AreRunning w (Some r) s told started broken clock = IsRunning (seen_in w (Some r) s told started broken clock) s

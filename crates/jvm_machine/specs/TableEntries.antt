@@ -1,49 +1,22 @@
--- What the tables hold of a method and of a version, and of which classes they can be made.
-use Rattle.std.specs.Prelude.{◌≡◌, ℕ, ◌<◌, ◌^◌, List, [], ◌∷◌, length, map, slice_get, Option, Some, None, IfSome, All, if◌then◌else◌}
+-- What the tables hold of a version, and of which images they can be made.
+use Rattle.std.specs.Prelude.{◌≡◌, ℕ, ◌<◌, ◌^◌, List, [], ◌∷◌, length, map, Option, None, Some, All, if◌then◌else◌}
 use Rattle.std.specs.Option.{option_and_then, option_map, option_map_or}
 use Rattle.std.specs.List.{range_with_len}
 use Rattle.const_pool.specs.declared.class.ClassFile.{ClassFile}
 use Rattle.const_pool.specs.declared.class.Member.{Member}
-use Rattle.const_pool.specs.declared.descriptor.Kind.{Kind}
 use Rattle.code_model.specs.declared.instr.Instr.{Instr}
 use Rattle.code_model.specs.declared.laying.Homes.{Homes}
 use Rattle.code_model.specs.Instructions.{instruction_at, end_of}
 use Rattle.jvm_machine.specs.declared.probes.Probe.{Probe}
-use Rattle.jvm_machine.specs.declared.tables.Method.{Method}
 use Rattle.jvm_machine.specs.declared.tables.PreparedVersion.{PreparedVersion}
 use Rattle.jvm_machine.specs.Probes.{placed_probe}
 use Rattle.jvm_model.specs.declared.event.EventKind.{EventKind}
 use Rattle.jvm_model.specs.declared.operation.Line.{Line}
 use Rattle.jvm_model.specs.declared.operation.Resolved.{Resolved}
 use Rattle.jvm_model.specs.Agreement.{is_return_operation}
-use Rattle.jvm_model.specs.declared.program.MethodPlace.{MethodPlace}
-use Rattle.jvm_model.specs.declared.program.Program.{Program}
-use Rattle.jvm_model.specs.Methods.{code_of, member_shape}
-use Rattle.jvm_model.specs.Programs.{class_at}
+use Rattle.jvm_model.specs.Methods.{code_of}
+use Rattle.jvm_steps.specs.Prepared.{HasShortCode}
 use Rattle.jvm_model.specs.StandsFor.{origin_by, code_line, placed_line, invoked_probe, pushed_number, probe_in}
-
--- ---- of a method of the class
-
--- the kinds of a method's parameters
-abbrev pub params_of : ClassFile → Member → Option (List Kind)
-params_of c m = option_map (λ shape. shape.params) (member_shape c.pool m)
-
-abbrev pub entry_of : ClassFile → Member → Method
-entry_of c m = record {
-  params = params_of c m;
-  max_stack = option_map_or (λ code. code.max_stack) (code_of m) 0;
-  max_locals = option_map_or (λ code. code.max_locals) (code_of m) 0;
-}
-
--- of a method by its place in the program; nothing where there is none
-abbrev pub no_method : Method
-no_method = record { params = None; max_stack = 0; max_locals = 0 }
-
-abbrev pub entry_in : MethodPlace → ClassFile → Method
-entry_in place c = option_map_or (entry_of c) (slice_get c.methods place.position) no_method
-
-abbrev pub entry_at : Program → MethodPlace → Method
-entry_at p place = option_map_or (entry_in place) (class_at p place.class) no_method
 
 -- ---- of a version of a method
 
@@ -89,18 +62,10 @@ versions_of image (h ∷ homes) (m ∷ methods) = version_of image h m ∷ versi
 versions_of image [] methods = []
 versions_of image (h ∷ homes) [] = []
 
--- ---- classes that tables can be made of
+-- ---- images whose versions can be prepared
 
--- the offsets in its code are u2s, as the format demands (JVM Specification 4.7.3)
-abbrev pub HasShortCode : Member → Type 0
-HasShortCode m = IfSome (code_of m) (λ code. length code.code < 2 ^ 16)
-
--- a u32 numbers its methods, and a u16 each offset in their codes: so is each class file
-pub record FitsTables (c : ClassFile) : Type 0 where
-  pub count : length c.methods < 2 ^ 32
-  pub codes : All HasShortCode c.methods
-
--- an image with homes for each of its methods
+-- A u32 numbers its methods, and a u16 each offset in their codes: so is each class file. There are homes for each of its methods.
 pub record FitsVersions (image : ClassFile) (homes : List (Option Homes)) : Type 0 where
-  pub fits : FitsTables image
+  pub count : length image.methods < 2 ^ 32
+  pub codes : All HasShortCode image.methods
   pub each : length homes ≡ length image.methods

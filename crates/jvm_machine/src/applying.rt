@@ -2,19 +2,19 @@
 
 ghost use Rattle.std.specs.Prelude.{◌≡◌, ◌++◌, false, OnOk};
 ghost use Rattle.jvm_model.specs.Rules.{line_text};
-ghost use Rattle.jvm_machine.specs.States.{state_in};
+ghost use Rattle.jvm_steps.specs.States.{state_in};
 ghost use Rattle.jvm_machine.specs.Going.{is_own, ended, settled};
 ghost use Rattle.jvm_machine.specs.Applied.{Becomes, TellsBegun, IsTop, does_here, gives_back_in};
 ghost use Rattle.jvm_machine.specs.Applied.{left_by, returned_by, printed_by};
 
 use crate::going::{drop_printed, is_other, operate_at, printable, resume, top_int};
 use crate::invoking::invoke;
-use crate::parts::{Parts, where_now};
 use crate::tables::Tables;
 use heap_objects::Datum;
 use jf_bytes::{NoMemory, Seq};
 use jvm_basic::Effect;
 use jvm_model::{Ending, Line, Resolved};
+use jvm_steps::{Parts, where_now};
 use std::alloc::Global;
 
 /// Ends the run at this instruction; the frame stays as it was.

@@ -7,13 +7,13 @@ ghost use Rattle.jvm_machine.specs.Applied.{Becomes, TellsBegun, IsTop, invokes_
 ghost use Rattle.jvm_machine.specs.Arguments.{arguments_of, can_begin, with_begun, fits_params};
 
 use crate::applying::break_off;
-use crate::parts::Parts;
 use crate::tables::Tables;
 use const_pool::Kind;
 use frame_stack::Frames;
 use heap_objects::Value;
 use jf_bytes::NoMemory;
 use jvm_model::Line;
+use jvm_steps::Parts;
 
 /// Whether an argument of this kind may be the value: boolean, byte, char and short are ints.
 fn is_of_kind(kind: Kind, value: Value) -> bool

@@ -1,5 +1,5 @@
-//! The machine that runs a class (JVM Specification 2.6, 2.11, 5.2, 6). What it does is the run of jvm_model, one step
-//! a call.
+//! The machine that runs a program (JVM Specification 2.6, 2.11, 5.2, 6): original code, or the versions of its first class's
+//! methods. What it does is the run of jvm_model, one step a call.
 #![tactic(auto)]
 
 mod applying;
@@ -9,11 +9,9 @@ mod invoking;
 mod lookup;
 mod machine;
 mod origins;
-mod parts;
 mod passing;
-mod prepare;
 mod probes;
-mod starting;
+mod running;
 mod stepping;
 mod tables;
 mod turn;

@@ -1,32 +1,37 @@
-//! The machine: it runs a class in the versions of its methods, and tells what their probes tell.
+//! The machine: it runs original code, or the versions of a class's methods, and tells what their probes tell.
 
 ghost use Rattle.std.specs.Prelude.{◌≡◌, ◌^◌, ◌<◌, ◌&&◌, false, length, OnOk, OnErr, IfOk};
 ghost use Rattle.jvm_model.specs.Images.{IsImage};
 ghost use Rattle.jvm_model.specs.OneClass.{IsBuiltProgram};
 ghost use Rattle.jvm_model.specs.Programs.{first_class};
+ghost use Rattle.jvm_model.specs.Starting.{StartsReady};
+ghost use Rattle.jvm_steps.specs.Prepared.{FitsOriginals};
 ghost use Rattle.jvm_machine.specs.Advances.{Advances, broken_in};
 ghost use Rattle.jvm_machine.specs.Turns.{Turns, IsGoingOn};
 ghost use Rattle.jvm_machine.specs.View.{made, shown, live_of, with_image, is_resting, has_ended};
 
-use crate::parts::Parts;
 use crate::probes::Probe;
-use crate::starting::parts_before;
-use crate::stepping::{clock_in, move_on};
-use crate::tables::Tables;
+use crate::running::go_on;
+use crate::stepping::clock_in;
+use crate::tables::Versions;
 use crate::turn::Turn;
 use code_model::Homes;
 use const_pool::ClassFile;
 use jf_bytes::{NoMemory, Seq};
 use jvm_model::{Ending, Event, Mark, Program};
+use jvm_steps::{Originals, Parts, parts_before};
 use std::alloc::Global;
 use std::marker::Model;
 
-/// A machine that runs a program whose first class is of the part that runs so far (JVM Specification 2.6, 2.11, 5.2, 6). A clause sees what it runs and how far it has come;
-/// its output and ending are those of the run of the original classes. Its frames stand at places of versions.
+/// A machine that runs a program (JVM Specification 2.6, 2.11, 5.2, 6): its original code, or from the start on the versions
+/// of an image. A clause sees what it runs and how far it has come; its output and ending are those of the run of the
+/// original classes.
 #[derive(Drop)]
 pub struct Vm {
     alloc: Global,
-    tables: Tables,
+    originals: Originals,
+    /// None until some were installed: then original code runs.
+    versions: Option<Versions>,
     parts: Parts,
     told: u32,
     started: bool,
@@ -36,27 +41,29 @@ pub struct Vm {
 
 impl Model for Vm {
     ghost use Rattle.jvm_machine.specs.View.{View};
-    ghost use Rattle.jvm_machine.specs.Running.{AreRunning, seen};
-    ghost use Rattle.jvm_machine.specs.States.{state_in};
+    ghost use Rattle.jvm_machine.specs.Running.{AreRunning, seen_in};
+    ghost use Rattle.jvm_steps.specs.States.{state_in};
 
     ghost Value = { View };
 
-    ghost view = { λ v. seen v.tables (state_in v.parts) v.told v.started v.broken v.clock };
+    ghost view = { λ v. seen_in v.originals v.versions (state_in v.parts) v.told v.started v.broken v.clock };
 
-    ghost invariant = { λ v. AreRunning v.tables (state_in v.parts) v.told v.started v.broken v.clock };
+    ghost invariant = { λ v. AreRunning v.originals v.versions (state_in v.parts) v.told v.started v.broken v.clock };
 }
 
 impl Vm {
-    /// A machine that will run the program from its main method. It looks up every place of every code of its first class once.
+    /// A machine that will run the program from its main method. It looks up every offset of every original code once.
     pub fn new(alloc: Global, program: Program, input: Vec<u8>) -> Result<Vm, NoMemory>
-        requires { IsBuiltProgram program }
+        requires fits { FitsOriginals program }
+        requires starts { StartsReady program }
         ensures { IfOk result (λ vm. vm ≡ made program input.items) }
     {
         let parts = parts_before(alloc, &program)?;
-        let tables = Tables::new(alloc, program, Seq::from_vec(input))?;
+        let originals = Originals::new(alloc, program, Seq::from_vec(input))?;
         Ok(Vm {
             alloc,
-            tables,
+            originals,
+            versions: None,
             parts,
             told: 0,
             started: false,
@@ -65,9 +72,9 @@ impl Vm {
         })
     }
 
-    /// Makes the versions of an image current, for all methods of the class with this position, before the start. There
-    /// is a mark for each method, and the homes are those of the image. It takes all memory first: after want of memory
-    /// nothing has changed.
+    /// Makes the versions of an image current, for all methods of the class with this position, before the start. The
+    /// class is of the part that is rewritten so far; there is a mark for each method, and the homes are those of the
+    /// image. It takes all memory first: after want of memory nothing has changed.
     pub fn install(
         &mut self,
         class: u32,
@@ -76,6 +83,7 @@ impl Vm {
         homes: &[Option<Homes>],
     ) -> Result<(), NoMemory>
         requires class { class ≡ 0 }
+        requires built { IsBuiltProgram self.old.program }
         requires early { self.old.started ≡ false }
         requires whole { self.old.broken ≡ false }
         requires marks { length marks.now ≡ length (first_class self.old.program).methods }
@@ -83,7 +91,8 @@ impl Vm {
         ensures ok { OnOk result (self.new ≡ with_image marks.now image homes.now self.old) }
         ensures err { OnErr result (self.new ≡ self.old) }
     {
-        self.tables.install(self.alloc, image, marks, homes)
+        self.versions = Some(Versions::new(self.alloc, image, marks, homes)?);
+        Ok(())
     }
 
     /// Whether there is no step in hand, and the run has ended.
@@ -106,9 +115,10 @@ impl Vm {
         self.broken = true;
         self.clock = clock_in(self.told, started, self.clock);
         self.started = true;
-        let advance = move_on(
+        let advance = go_on(
             self.alloc,
-            &self.tables,
+            &self.originals,
+            &self.versions,
             &mut self.parts,
             started,
             self.told,
@@ -157,14 +167,15 @@ impl Vm {
     pub fn program(&self) -> &Program
         ensures { result.now ≡ self.now.program }
     {
-        self.tables.program()
+        self.originals.program()
     }
 
-    /// The program's first class, whose methods run.
+    /// The program's first class, if it has one.
     pub fn class(&self) -> &ClassFile
+        requires { 0 < length self.now.program.classes }
         ensures { result.now ≡ first_class self.now.program }
     {
-        self.tables.class()
+        &self.originals.program().classes.as_slice()[0]
     }
 
     /// What the program has written: by the step in hand only once its instruction was done.
@@ -181,7 +192,8 @@ impl Vm {
         self.parts.ending
     }
 
-    /// The number of live activations, with that of a return whose event was told and which is still to come, where it is below 2^32; a larger number is given as 2^32 - 1.
+    /// The number of live activations, with that of a return whose event was told and which is still to come, where it is
+    /// below 2^32; a larger number is given as 2^32 - 1.
     pub fn live(&self) -> u32
         ensures { self.now.broken ≡ false → result ≡ live_of self.now }
     {

@@ -3,13 +3,13 @@
 ghost use Rattle.std.specs.Prelude.{◌≡◌, Some};
 ghost use Rattle.jvm_machine.specs.Moves.{entry_here, leave_here, leave_behind, leave_passed, state_at};
 ghost use Rattle.jvm_machine.specs.Probes.{probe_of_kind};
-ghost use Rattle.jvm_machine.specs.States.{state_in};
+ghost use Rattle.jvm_steps.specs.States.{state_in};
 ghost use Rattle.jvm_model.specs.Agreement.{is_entry_kind, is_leave_kind};
 
-use crate::parts::{Parts, where_now};
 use crate::probes::Probe;
 use crate::tables::Tables;
 use jvm_model::EventKind;
+use jvm_steps::{Parts, where_now};
 
 /// How many bytes a probe has.
 const PROBE: u16 = 6;

@@ -7,13 +7,13 @@ ghost use Rattle.jvm_model.specs.Run.{before};
 ghost use Rattle.jvm_model.specs.Attempts.{closed_state, attempt_placed, start_placed, ready};
 ghost use Rattle.jvm_model.specs.Installed.{world_in};
 ghost use Rattle.jvm_machine.specs.Applied.{Becomes, TellsBegun, attempts_top};
-ghost use Rattle.jvm_machine.specs.States.{active, state_in, main_frames};
+ghost use Rattle.jvm_steps.specs.States.{active, state_in};
+ghost use Rattle.jvm_machine.specs.States.{main_frames};
 ghost use Rattle.jvm_machine.specs.Moves.{told_by, move_with, EachWith, stepped, begun_move, rest_of};
-ghost use Rattle.jvm_machine.specs.Moves.{moved_on, probe_on, clock_in};
+ghost use Rattle.jvm_machine.specs.Moves.{moved_on, clock_in, MovesTo, TellsAs, PassesAs};
 
 use crate::applying::{break_off, do_line};
 use crate::invoking::begin_frame;
-use crate::parts::{Parts, where_now};
 use crate::passing::{entry_here, leave_here, leave_passed, stand_at};
 use crate::probes::Probe;
 use crate::tables::Tables;
@@ -21,6 +21,7 @@ use frame_stack::Frames;
 use heap_objects::Value;
 use jf_bytes::NoMemory;
 use jvm_model::{Ending, Phase};
+use jvm_steps::{Parts, where_now};
 use std::alloc::Global;
 
 /// The argument array's object.
@@ -126,8 +127,10 @@ fn told_by(probe: &Option<Probe>) -> u32
 
 /// Behind an instruction: a method that began has passed its entry probe.
 fn enter(tables: &Tables, parts: &Parts, begun: bool) -> Advance
-    ensures told { EachWith begun (λ c. result.told ≡ (move_with tables.now (state_in parts.now) c).told) }
-    ensures probe { EachWith begun (λ c. result.probe ≡ (move_with tables.now (state_in parts.now) c).probe) }
+    ensures told { let s = state_in parts.now in
+        EachWith begun (λ c. result.told ≡ (move_with tables.now s c).told) }
+    ensures probe { let s = state_in parts.now in
+        EachWith begun (λ c. result.probe ≡ (move_with tables.now s c).probe) }
 {
     let probe = if begun {
         entry_here(tables, parts)
@@ -141,9 +144,9 @@ fn enter(tables: &Tables, parts: &Parts, begun: bool) -> Advance
 /// The start.
 fn make_start(tables: &Tables, parts: &mut Parts) -> Result<Advance, NoMemory>
     requires { state_in parts.old ≡ before (world_in tables.now) }
-    ensures moved { OnOk result (state_in parts.new ≡ (begun_move tables.now false (state_in parts.old)).state) }
-    ensures told { IfOk result (λ a. a.told ≡ (begun_move tables.now false (state_in parts.old)).told) }
-    ensures probe { IfOk result (λ a. a.probe ≡ (begun_move tables.now false (state_in parts.old)).probe) }
+    ensures moved { MovesTo result parts.new (begun_move tables.now false (state_in parts.old)) }
+    ensures told { TellsAs result (begun_move tables.now false (state_in parts.old)) }
+    ensures probe { PassesAs result (begun_move tables.now false (state_in parts.old)) }
 {
     let begun = begin(tables, parts)?;
     Ok(enter(tables, parts, begun))
@@ -151,9 +154,9 @@ fn make_start(tables: &Tables, parts: &mut Parts) -> Result<Advance, NoMemory>
 
 /// A step, up to the event that it tells first.
 fn make_step(alloc: Global, tables: &Tables, parts: &mut Parts) -> Result<Advance, NoMemory>
-    ensures moved { OnOk result (state_in parts.new ≡ (stepped tables.now (state_in parts.old)).state) }
-    ensures told { IfOk result (λ a. a.told ≡ (stepped tables.now (state_in parts.old)).told) }
-    ensures probe { IfOk result (λ a. a.probe ≡ (stepped tables.now (state_in parts.old)).probe) }
+    ensures moved { MovesTo result parts.new (stepped tables.now (state_in parts.old)) }
+    ensures told { TellsAs result (stepped tables.now (state_in parts.old)) }
+    ensures probe { PassesAs result (stepped tables.now (state_in parts.old)) }
 {
     let Some(probe) = leave_here(tables, parts) else {
         let begun = attempt_one(alloc, tables, parts)?;
@@ -174,9 +177,9 @@ fn begin_step(
     started: bool,
 ) -> Result<Advance, NoMemory>
     requires { started ≡ false → state_in parts.old ≡ before (world_in tables.now) }
-    ensures moved { OnOk result (state_in parts.new ≡ (begun_move tables.now started (state_in parts.old)).state) }
-    ensures told { IfOk result (λ a. a.told ≡ (begun_move tables.now started (state_in parts.old)).told) }
-    ensures probe { IfOk result (λ a. a.probe ≡ (begun_move tables.now started (state_in parts.old)).probe) }
+    ensures moved { MovesTo result parts.new (begun_move tables.now started (state_in parts.old)) }
+    ensures told { TellsAs result (begun_move tables.now started (state_in parts.old)) }
+    ensures probe { PassesAs result (begun_move tables.now started (state_in parts.old)) }
 {
     if started {
         make_step(alloc, tables, parts)
@@ -204,9 +207,9 @@ pub fn move_on(
     told: u32,
 ) -> Result<Advance, NoMemory>
     requires { started ≡ false → state_in parts.old ≡ before (world_in tables.now) }
-    ensures moved { OnOk result (state_in parts.new ≡ (moved_on tables.now started told (state_in parts.old)).state) }
-    ensures told { IfOk result (λ a. a.told ≡ (moved_on tables.now started told (state_in parts.old)).told) }
-    ensures probe { IfOk result (λ a. a.probe ≡ probe_on tables.now started told (state_in parts.old)) }
+    ensures moved { MovesTo result parts.new (moved_on tables.now started told (state_in parts.old)) }
+    ensures told { TellsAs result (moved_on tables.now started told (state_in parts.old)) }
+    ensures probe { PassesAs result (moved_on tables.now started told (state_in parts.old)) }
 {
     if told == 0 {
         return begin_step(alloc, tables, parts, started);

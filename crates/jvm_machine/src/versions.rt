@@ -6,7 +6,9 @@ ghost use Rattle.std.specs.Option.{option_map};
 ghost use Rattle.jvm_model.specs.Agreement.{is_return_operation};
 ghost use Rattle.jvm_model.specs.Resolved.{resolved_of};
 ghost use Rattle.jvm_model.specs.StandsFor.{code_line};
-ghost use Rattle.jvm_machine.specs.TableEntries.{origins_of, resolved_line, line_with, lines_of, probes_of, version_of, versions_of, HasShortCode, FitsVersions};
+ghost use Rattle.jvm_machine.specs.TableEntries.{origins_of, resolved_line, line_with, lines_of, probes_of};
+ghost use Rattle.jvm_machine.specs.TableEntries.{version_of, versions_of, FitsVersions};
+ghost use Rattle.jvm_steps.specs.Prepared.{HasShortCode};
 
 use crate::lookup::resolved_of;
 use crate::origins::origins_of;

@@ -6,6 +6,7 @@ mod handlers;
 mod attempting;
 mod going;
 mod invoking;
+mod descriptor;
 mod line;
 mod objects;
 mod originals;

@@ -1,5 +1,5 @@
 use Rattle.std.proofs.Common.{ap, ◌∙◌}
-use Rattle.jvm_machine.specs.States.{state_in}
+use Rattle.jvm_steps.specs.States.{state_in}
 use Rattle.jvm_machine.proofs.Callees.{is-invoked}
 use Rattle.jvm_machine.proofs.invoking.invoke.Goals as goal
 

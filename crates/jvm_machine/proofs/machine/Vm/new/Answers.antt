@@ -1,23 +1,20 @@
-use Rattle.jvm_machine.proofs.FitsLemmas.{FitsTables-class_file}
-use Rattle.jvm_machine.specs.States.{state_in}
-use Rattle.jvm_machine.proofs.Machines.{is_made, seen-made, some-classes}
+use Rattle.std.proofs.Common.{sym, ap, subst, ◌∙◌}
+use Rattle.jvm_model.specs.declared.program.Program.{Program}
+use Rattle.jvm_model.specs.Run.{before}
+use Rattle.jvm_model.specs.Starting.{StartsReady}
+use Rattle.jvm_steps.specs.States.{state_in}
+use Rattle.jvm_machine.proofs.BothWays.{is_made, seen-made}
 use Rattle.jvm_machine.proofs.machine.Vm.new.Goals as goal
-
-pub parts_before-requires : goal.parts_before-requires
-parts_before-requires c = c.requires.few
-
-pub new-requires-clause-some : goal.new-requires-clause-some
-new-requires-clause-some c = some-classes c.args.program c.requires
-
-pub new-requires-clause-fits : goal.new-requires-clause-fits
-new-requires-clause-fits c = FitsTables-class_file _ c.requires.class.formed
 
 pub invariant_of-result : goal.invariant_of-result
 invariant_of-result c =
-    is_made c.in_ok-tables.tables c.args.program c.from_vec.result (state_in c.in_ok-parts.parts) c.requires c.in_ok-tables.ensures
-    (c.in_ok-parts.ensures c.from_vec.result)
+    is_made c.in_ok-originals.originals (state_in c.in_ok-parts.parts) (subst StartsReady (sym c.in_ok-originals.ensures.program) c.requires.starts)
+    (c.in_ok-parts.ensures c.in_ok-originals.originals.input
+    ∙ ap (λ (p : Program). before (record { program = p; input = c.in_ok-originals.originals.input })) (sym c.in_ok-originals.ensures.program))
 
 pub returns : goal.returns
 returns c =
-    seen-made c.in_ok-tables.tables c.args.program c.args.input.items c.from_vec.result (state_in c.in_ok-parts.parts) c.from_vec.ensures c.in_ok-tables.ensures
-    (c.in_ok-parts.ensures c.from_vec.result)
+    seen-made c.in_ok-originals.originals c.args.program c.args.input.items (state_in c.in_ok-parts.parts) c.in_ok-originals.ensures.program
+    (c.in_ok-originals.ensures.input ∙ c.from_vec.ensures)
+    (c.in_ok-parts.ensures c.in_ok-originals.originals.input
+    ∙ ap (λ (p : Program). before (record { program = p; input = c.in_ok-originals.originals.input })) (sym c.in_ok-originals.ensures.program))

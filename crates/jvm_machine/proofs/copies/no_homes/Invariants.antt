@@ -1,7 +1,0 @@
--- none for each method so far
-use Rattle.std.proofs.Common.{◌≡◌, take}
-use Rattle.std.specs.Prelude.{map, None}
-use Rattle.jvm_machine.proofs.copies.no_homes.Given as goal
-
-abbrev pub invariant-loop-method : goal.invariant-loop-method
-invariant-loop-method l = l.homes ≡ map (λ m. None) (take l._method-index l.methods)
