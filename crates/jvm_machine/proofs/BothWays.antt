@@ -140,7 +140,11 @@ pub can-move : (w : World) (r : Option Rewritten) (s : State) (told : ℕ) (star
     → broken ≡ false → CanMove w r started s
 can-move w None s told false broken clock is whole = (is.stands whole, is.starts)
 can-move w None s told true broken clock is whole = is.ready whole refl
-can-move w (Some r) s told started broken clock is whole = λ early. (early-in w (Some r) s told started broken clock is early whole).2
+can-move w (Some r) s told started broken clock is whole = λ early. record {
+  before = (early-in w (Some r) s told started broken clock is early whole).2;
+  plain = is.built.plain;
+  room = is.built.room;
+}
 
 pub is_advanced_in : (v : View) (w : World) (r : Option Rewritten) (s after : State) (told next : ℕ) (probe : Option Probe) (started broken : Bool) (clock n : ℕ)
     → seen_in w r s told started broken clock ≡ v → AreRunning w r s told started broken clock → v.broken ≡ false → IsGoingOn v

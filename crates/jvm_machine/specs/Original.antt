@@ -7,6 +7,7 @@ use Rattle.jvm_model.specs.Moves.{fresh}
 use Rattle.jvm_model.specs.Originals.{original}
 use Rattle.jvm_model.specs.Run.{before, start, step}
 use Rattle.jvm_model.specs.Starting.{StartsReady}
+use Rattle.jvm_steps.specs.Before.{IsAtStart}
 use Rattle.jvm_machine.specs.Moves.{Move, moved_on}
 use Rattle.jvm_machine.specs.Prepared.{Rewritten, installed}
 
@@ -31,7 +32,7 @@ CanStep w true s = fresh s.shared.phases ≡ 0
 
 abbrev pub CanMove : World → Option Rewritten → Bool → State → Type 0
 CanMove w None started s = CanStep w started s
-CanMove w (Some r) started s = started ≡ false → s ≡ before w
+CanMove w (Some r) started s = started ≡ false → IsAtStart w s
 
 -- and what it keeps
 abbrev pub KeepsReady : Option Rewritten → List Phase → Type 0

@@ -3,8 +3,8 @@
 ghost use Rattle.std.specs.Prelude.{◌≡◌, ◌^◌, ◌<◌, [], false, map, OnOk, IfOk};
 ghost use Rattle.jvm_model.specs.Applies.{has_room};
 ghost use Rattle.jvm_model.specs.Moves.{argument_array};
-ghost use Rattle.jvm_model.specs.Run.{before};
-ghost use Rattle.jvm_model.specs.Attempts.{closed_state, attempt_placed, start_placed, ready};
+ghost use Rattle.jvm_steps.specs.Before.{IsAtStart};
+ghost use Rattle.jvm_model.specs.Attempts.{closed_state, attempt_placed, start_placed};
 ghost use Rattle.jvm_model.specs.Installed.{world_in};
 ghost use Rattle.jvm_machine.specs.Applied.{Becomes, TellsBegun, attempts_top};
 ghost use Rattle.jvm_steps.specs.States.{active, state_in};
@@ -20,8 +20,8 @@ use crate::tables::Tables;
 use frame_stack::Frames;
 use heap_objects::Value;
 use jf_bytes::NoMemory;
-use jvm_model::{Ending, Phase};
-use jvm_steps::{Parts, where_now};
+use jvm_model::Ending;
+use jvm_steps::{Parts, make_ready, where_now};
 use std::alloc::Global;
 
 /// The argument array's object.
@@ -33,18 +33,6 @@ const ARGUMENTS: u32 = 5;
 pub struct Advance {
     pub told: u32,
     pub probe: Option<Probe>,
-}
-
-/// The main class is loaded and made ready: it has no initializer, and its superclass is no class of the program.
-fn make_ready(tables: &Tables, parts: &mut Parts) -> Result<(), NoMemory>
-    requires { state_in parts.old ≡ before (world_in tables.now) }
-    ensures { OnOk result (state_in parts.new ≡ ready tables.now) }
-{
-    parts.shared.loaded.push(0)?;
-    if !parts.shared.phases.is_empty() {
-        parts.shared.phases.set(0, Phase::Ready);
-    }
-    Ok(())
 }
 
 /// The frame of `main`, which has its argument array, if it has a local for it.
@@ -67,11 +55,11 @@ fn begin_main(tables: &Tables, frames: &mut Frames) -> Result<bool, NoMemory>
 
 /// The start (5.2, 5.5): `main` begins, if it can.
 fn begin(tables: &Tables, parts: &mut Parts) -> Result<bool, NoMemory>
-    requires { state_in parts.old ≡ before (world_in tables.now) }
+    requires { IsAtStart (world_in tables.now) (state_in parts.old) }
     ensures state { Becomes result parts.new (start_placed tables.now) }
     ensures begun { TellsBegun result (start_placed tables.now) }
 {
-    make_ready(tables, parts)?;
+    make_ready(tables.originals(), parts)?;
     let begun = begin_main(tables, &mut parts.frames)?;
     if begun {
         parts.begun = true;
@@ -143,7 +131,7 @@ fn enter(tables: &Tables, parts: &Parts, begun: bool) -> Advance
 
 /// The start.
 fn make_start(tables: &Tables, parts: &mut Parts) -> Result<Advance, NoMemory>
-    requires { state_in parts.old ≡ before (world_in tables.now) }
+    requires { IsAtStart (world_in tables.now) (state_in parts.old) }
     ensures moved { MovesTo result parts.new (begun_move tables.now false (state_in parts.old)) }
     ensures told { TellsAs result (begun_move tables.now false (state_in parts.old)) }
     ensures probe { PassesAs result (begun_move tables.now false (state_in parts.old)) }
@@ -176,7 +164,7 @@ fn begin_step(
     parts: &mut Parts,
     started: bool,
 ) -> Result<Advance, NoMemory>
-    requires { started ≡ false → state_in parts.old ≡ before (world_in tables.now) }
+    requires { started ≡ false → IsAtStart (world_in tables.now) (state_in parts.old) }
     ensures moved { MovesTo result parts.new (begun_move tables.now started (state_in parts.old)) }
     ensures told { TellsAs result (begun_move tables.now started (state_in parts.old)) }
     ensures probe { PassesAs result (begun_move tables.now started (state_in parts.old)) }
@@ -206,7 +194,7 @@ pub fn move_on(
     started: bool,
     told: u32,
 ) -> Result<Advance, NoMemory>
-    requires { started ≡ false → state_in parts.old ≡ before (world_in tables.now) }
+    requires { started ≡ false → IsAtStart (world_in tables.now) (state_in parts.old) }
     ensures moved { MovesTo result parts.new (moved_on tables.now started told (state_in parts.old)) }
     ensures told { TellsAs result (moved_on tables.now started told (state_in parts.old)) }
     ensures probe { PassesAs result (moved_on tables.now started told (state_in parts.old)) }

@@ -136,6 +136,13 @@ impl<'a> Tables<'a> {
         }
     }
 
+    /// The program's original code.
+    pub fn originals(&self) -> &Originals
+        ensures { result.now ≡ world_in self.now }
+    {
+        self.originals
+    }
+
     /// The number of the main method.
     pub fn main(&self) -> u32
         ensures { result ≡ self.now.program.main }

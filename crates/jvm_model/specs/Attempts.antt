@@ -10,7 +10,6 @@ use Rattle.jvm_model.specs.declared.state.Frame.{Frame}
 use Rattle.jvm_model.specs.declared.state.Entry.{Entry}
 use Rattle.jvm_model.specs.declared.state.State.{State}
 use Rattle.jvm_model.specs.declared.state.Entry.TheVariants.{Active, Initializing}
-use Rattle.jvm_model.specs.declared.state.Phase.TheVariants.{Ready}
 use Rattle.jvm_model.specs.declared.ending.Ending.TheVariants.{Returned, Unverifiable}
 use Rattle.jvm_model.specs.Data.{Locals, Operands, Change, Loads, Began, Left, Unwound, Turn, Next, Outcome, GoesOn, Returns, Breaks}
 use Rattle.jvm_model.specs.Programs.{params_of_method}
@@ -19,8 +18,7 @@ use Rattle.jvm_model.specs.LocalRules.{pushes, calculates, returns}
 use Rattle.jvm_model.specs.Rules.{is_print_stream, line_text, invokes_with}
 use Rattle.jvm_model.specs.Applies.{still, breaks, applies, new_frame, has_room}
 use Rattle.jvm_model.specs.Moves.{argument_array}
-use Rattle.jvm_model.specs.SharedState.{with_phase}
-use Rattle.jvm_model.specs.Run.{before, arguments_made, with_loaded}
+use Rattle.jvm_model.specs.Starting.{ready_in}
 use Rattle.jvm_model.specs.Installed.{Installed, world_in, line_in, placed, tabled}
 
 -- ---- what an operation asks for, and what it writes
@@ -79,9 +77,7 @@ attempt_placed t s = closed (attempts t s s.stack)
 
 -- the class is loaded and made ready, and nothing of it runs
 abbrev pub ready : Installed → State
-ready t =
-    let loaded = with_loaded (0 ∷ []) (arguments_made (world_in t) (before (world_in t))) in
-    record loaded { shared = with_phase loaded.shared 0 Ready }
+ready t = ready_in (world_in t)
 
 -- `main` begins, where it has a local for its arguments
 abbrev pub start_placed : Installed → Turn

@@ -16,7 +16,7 @@ use Rattle.jvm_steps.specs.declared.originals.Exception.{Exception}
 use Rattle.jvm_steps.specs.declared.originals.Exceptions.{Exceptions}
 use Rattle.jvm_steps.specs.declared.originals.Method.{Method}
 use Rattle.jvm_steps.specs.Lines.{line_of, method_line}
-use Rattle.jvm_steps.specs.Prepared.{IsPrepared, exception_in, exception_class, line_in}
+use Rattle.jvm_steps.specs.Prepared.{IsPrepared, exception_in, exception_kind, line_in}
 use Rattle.jvm_steps.specs.Entries.{code_line, entry_of, no_method, entry_in, entry_at, lines_of}
 use Rattle.jvm_steps.proofs.Tabled.{tabled-place}
 
@@ -97,11 +97,12 @@ line-place p (Some place) at = line-class p place (class_at p place.class) at
 
 -- ---- all of them
 
-pub IsPrepared-entries : (p : Program) (methods : List Method) (x : Exceptions) → methods ≡ map (entry_at p) p.methods
-    → ((e : Exception) → exception_in x e ≡ exception_class p e) → IsPrepared p methods x
-IsPrepared-entries p methods x is raised =
+pub IsPrepared-entries : (p : Program) (methods : List Method) (x : Exceptions) → length p.classes < 2 ^ 24 → methods ≡ map (entry_at p) p.methods
+    → ((e : Exception) → exception_in x e ≡ exception_kind p e) → IsPrepared p methods x
+IsPrepared-entries p methods x few is raised =
     let entry : (k : ℕ) → slice_get methods k ≡ option_map (entry_at p) (slice_get p.methods k) = λ k. ap (λ ms. slice_get ms k) is ∙ slice_get-map (entry_at p) p.methods k in
     record {
+      few = few;
       params = λ k. ap (option_and_then (λ (m : Method). m.params)) (entry k) ∙ params-place p (slice_get p.methods k);
       max_stack = λ k. ap (λ (o : Option Method). option_map_or (λ m. m.max_stack) o 0) (entry k) ∙ stack-place p (slice_get p.methods k);
       max_locals = λ k. ap (λ (o : Option Method). option_map_or (λ m. m.max_locals) o 0) (entry k) ∙ locals-place p (slice_get p.methods k);

@@ -1,9 +1,10 @@
 -- The state before the start of a program, on whatever input, and what the start makes ready.
-use Rattle.std.specs.Prelude.{ℕ, List, [], ◌∷◌, ◌++◌}
+use Rattle.std.specs.Prelude.{◌≡◌, ◌≤◌, ℕ, List, [], ◌∷◌, ◌++◌}
 use Rattle.jvm_model.specs.declared.program.Program.{Program}
 use Rattle.jvm_model.specs.declared.state.Phase.TheVariants.{Ready}
 use Rattle.jvm_model.specs.declared.state.Shared.{Shared}
 use Rattle.jvm_model.specs.declared.state.State.{State}
+use Rattle.jvm_model.specs.Data.{World}
 use Rattle.jvm_model.specs.Run.{before}
 use Rattle.jvm_model.specs.SharedState.{with_phase}
 
@@ -11,6 +12,12 @@ use Rattle.jvm_model.specs.SharedState.{with_phase}
 abbrev pub BeforeEach : Program → (State → Type 0) → Type 0
 BeforeEach p Holds = (input : List ℕ) → Holds (before (record { program = p; input = input }))
 
+-- before the start, of a program without arguments whose heap has room for the objects of the start
+pub record IsAtStart (w : World) (s : State) : Type 0 where
+  pub before : s ≡ before w
+  pub plain : w.program.args ≡ []
+  pub room : 1024 ≤ w.program.heap
+
 -- the first class is loaded, and ready
-abbrev pub with_ready : Shared → Shared
-with_ready s = with_phase (record s { loaded = s.loaded ++ 0 ∷ [] }) 0 Ready
+abbrev pub with_first : Shared → Shared
+with_first s = with_phase (record s { loaded = s.loaded ++ 0 ∷ [] }) 0 Ready

@@ -2,22 +2,21 @@
 //! machine, with all that follows from it.
 #![tactic(auto)]
 
-mod handlers;
 mod attempting;
-mod going;
-mod invoking;
 mod descriptor;
+mod going;
+mod handlers;
+mod invoking;
 mod line;
+mod lookup;
+mod members;
 mod objects;
 mod originals;
 mod parts;
-mod raising;
-mod returning;
-mod descriptor;
-mod lookup;
-mod members;
 mod preparing;
+mod raising;
 mod resolving;
+mod returning;
 mod settling;
 mod starting;
 mod stepping;
@@ -28,5 +27,5 @@ pub use members::{code_of, field_at, is_out, is_println, is_reference, method_at
 pub use originals::{Exception, Originals};
 pub use parts::{Here, Parts, where_now};
 pub use settling::settle;
-pub use starting::{parts_before, start};
+pub use starting::{make_ready, parts_before, start};
 pub use stepping::step;

@@ -1,6 +1,6 @@
 //! Classes and methods of a program by their names (JVM Specification 5.4.3).
 
-ghost use Rattle.std.specs.Prelude.{◌≡◌, ◌<◌, ◌^◌, length, position};
+ghost use Rattle.std.specs.Prelude.{◌≡◌, ◌<◌, ◌^◌, length, position, IfSome};
 ghost use Rattle.std.specs.Option.{option_and_then};
 ghost use Rattle.const_pool.specs.Members.{reference_view};
 ghost use Rattle.jvm_model.specs.Programs.{class_named, declared_method, has_name, number_from, same_place};
@@ -58,7 +58,8 @@ pub fn class_named(program: &Program, name: &Text16) -> Option<u32>
 #[tactic(auto, using(crate::proofs::Positions::position_within))]
 pub fn class_of_bytes(program: &Program, name: &[u8]) -> Option<u32>
     requires { length program.now.classes < 2 ^ 32 }
-    ensures { result ≡ class_named program.now name.now }
+    ensures class { result ≡ class_named program.now name.now }
+    ensures within { IfSome result (λ class. class < length program.now.classes) }
 {
     let at = position_of_bytes(program.classes.as_slice(), name)?;
     Some(at as u32)

@@ -1,12 +1,12 @@
 //! Objects that the machine makes and their classes (JVM Specification 2.10, 5.2), by the numbers of kinds.
 
-ghost use Rattle.std.specs.Prelude.{◌≡◌, ◌<◌, ◌≤◌, ◌+◌, ◌^◌, [], length, position, IfOk, IfSome, OnOk, unwrap_or};
+ghost use Rattle.std.specs.Prelude.{◌≡◌, ◌<◌, ◌≤◌, ◌+◌, ◌^◌, [], length, IfOk, OnOk, unwrap_or};
 ghost use Rattle.heap_objects.specs.Heaps.{with_instance};
 ghost use Rattle.jvm_model.specs.KindNumbers.{base_of_class, class_of_base, user_count};
-ghost use Rattle.jvm_model.specs.Programs.{class_named, has_name};
+ghost use Rattle.jvm_model.specs.Programs.{class_named};
 ghost use Rattle.jvm_model.specs.SharedState.{class_of_kind, heap_before, kind_for, strings_kind, with_arguments};
 
-use const_pool::ClassFile;
+use crate::lookup::class_of_bytes;
 use heap_objects::{Datum, Heap};
 use jf_bytes::NoMemory;
 use jvm_model::Program;
@@ -69,28 +69,16 @@ pub fn class_of_kind(program: &Program, kind: u32) -> u32
     }
 }
 
-/// Whether the name of the class is these bytes.
-fn has_name(name: &[u8], class: &ClassFile) -> bool
-    ensures { result ≡ has_name name.now class.now }
-{
-    match class.pool.class_name(class.this_class) {
-        Ok(found) => found.is_bytes(name),
-        Err(_) => false,
-    }
-}
-
 /// The position of the class whose name is these bytes; 0 where there is none.
 fn class_named(program: &Program, name: &[u8]) -> u32
     requires { length program.now.classes < 2 ^ 24 }
     ensures class { result ≡ unwrap_or (class_named program.now name.now) 0 }
     ensures most { result < 2 ^ 24 }
 {
-    for (at, class) in program.classes.as_slice().iter().enumerate() {
-        if has_name(name, class) {
-            return at as u32;
-        }
+    match class_of_bytes(program, name) {
+        Some(class) => class,
+        None => 0,
     }
-    0
 }
 
 /// The kind of the instances of the class whose name is these bytes.

@@ -1,15 +1,14 @@
 //! Preparing the methods of a program: what is kept of each.
 
 ghost use Rattle.std.specs.Prelude.{◌≡◌, ◌<◌, ◌^◌, length, map, unwrap_or, IfOk};
-ghost use Rattle.jvm_model.specs.Programs.{class_named};
 ghost use Rattle.jvm_steps.specs.declared.originals.Exception.{Exception as TheException};
 ghost use Rattle.jvm_steps.specs.Entries.{code_line, entry_at, entry_of, lines_of, no_method, params_of};
-ghost use Rattle.jvm_steps.specs.Prepared.{exception_class, exception_in, FitsOriginals, HasShortCode};
+ghost use Rattle.jvm_steps.specs.Prepared.{exception_kind, exception_in, FitsOriginals, HasShortCode};
 
 use crate::descriptor::shape_of;
 use crate::line::Line;
-use crate::lookup::class_of_bytes;
 use crate::members::code_of;
+use crate::objects::kind_for;
 use crate::originals::{Exceptions, Method};
 use crate::resolving::line_of;
 use code_model::instr_at;
@@ -139,22 +138,14 @@ pub fn prepare_methods(alloc: Global, program: &Program) -> Result<Seq<Method>, 
     Ok(methods)
 }
 
-/// The position of the class of this name; 0 where there is none.
-fn class_or_first(program: &Program, name: &[u8]) -> u32
-    requires { FitsOriginals program.now }
-    ensures { result ≡ unwrap_or (class_named program.now name.now) 0 }
-{
-    class_of_bytes(program, name).unwrap_or(0)
-}
-
-/// The positions of the classes of the exceptions that instructions raise.
+/// The kinds of the exceptions that instructions raise.
 pub fn exceptions_of(program: &Program) -> Exceptions
     requires { FitsOriginals program.now }
-    ensures { (e : TheException) → exception_in result e ≡ exception_class program.now e }
+    ensures { (e : TheException) → exception_in result e ≡ exception_kind program.now e }
 {
     Exceptions {
-        arithmetic: class_or_first(program, b"java/lang/ArithmeticException"),
-        no_class_definition: class_or_first(program, b"java/lang/NoClassDefFoundError"),
-        no_such_method: class_or_first(program, b"java/lang/NoSuchMethodError"),
+        arithmetic: kind_for(program, b"java/lang/ArithmeticException"),
+        no_class_definition: kind_for(program, b"java/lang/NoClassDefFoundError"),
+        no_such_method: kind_for(program, b"java/lang/NoSuchMethodError"),
     }
 }

@@ -8,8 +8,8 @@ ghost use Rattle.jvm_model.specs.SharedState.{built_in_from, phase_before, share
 ghost use Rattle.jvm_model.specs.Moves.{fresh};
 ghost use Rattle.jvm_model.specs.Originals.{original};
 ghost use Rattle.jvm_model.specs.Run.{before, start};
-ghost use Rattle.jvm_model.specs.Starting.{StartsReady};
-ghost use Rattle.jvm_steps.specs.Before.{BeforeEach, with_ready};
+ghost use Rattle.jvm_model.specs.Starting.{StartsReady, ready_in};
+ghost use Rattle.jvm_steps.specs.Before.{BeforeEach, IsAtStart, with_first};
 ghost use Rattle.jvm_steps.specs.States.{state_in};
 
 use crate::objects::{heap_before, make_arguments};
@@ -154,14 +154,23 @@ pub fn parts_before(alloc: Global, program: &Program) -> Result<Parts, NoMemory>
 }
 
 /// The main class, which is the first one, is loaded, and ready.
-fn make_ready(shared: &mut Shared) -> Result<(), NoMemory>
-    ensures { OnOk result (shared.new ≡ with_ready shared.old) }
+fn load_first(shared: &mut Shared) -> Result<(), NoMemory>
+    ensures { OnOk result (shared.new ≡ with_first shared.old) }
 {
     shared.loaded.push(0)?;
     if !shared.phases.is_empty() {
         shared.phases.set(0, Phase::Ready);
     }
     Ok(())
+}
+
+/// What comes before `main` in the start: the argument array is made, and the main class is loaded, and ready.
+pub fn make_ready(originals: &Originals, parts: &mut Parts) -> Result<(), NoMemory>
+    requires { IsAtStart originals.now (state_in parts.old) }
+    ensures { OnOk result (state_in parts.new ≡ ready_in originals.now) }
+{
+    make_arguments(originals.program(), &mut parts.shared.heap)?;
+    load_first(&mut parts.shared)
 }
 
 /// The start: `main` begins, or the run ends where it has no local for its argument. No class is left to be initialized.
@@ -172,7 +181,6 @@ pub fn start(originals: &Originals, parts: &mut Parts) -> Result<(), NoMemory>
         OnOk result (state_in parts.new ≡ (start w (original w.program)).after) }
     ensures phases { OnOk result (fresh parts.new.shared.phases ≡ 0) }
 {
-    make_arguments(originals.program(), &mut parts.shared.heap)?;
-    make_ready(&mut parts.shared)?;
+    make_ready(originals, parts)?;
     begin_main(originals, parts)
 }
