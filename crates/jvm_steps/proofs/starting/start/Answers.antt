@@ -10,7 +10,7 @@ pub make_ready-requires : goal.make_ready-requires
 make_ready-requires c = record { before = c.requires.before; plain = c.requires.ready.plain; room = c.requires.ready.room }
 
 pub begin_main-requires : goal.begin_main-requires
-begin_main-requires c = no_frames c.args.parts.now.frames.frames (ap (λ (s : State). s.stack) c.in_ok-make_ready.ensures)
+begin_main-requires c = no_frames c.make_ready.new.parts.frames.frames (ap (λ (s : State). s.stack) c.in_ok-make_ready.ensures)
 
 pub returns-clause-state : goal.returns-clause-state
 returns-clause-state c =
