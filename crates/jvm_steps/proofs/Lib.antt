@@ -1,3 +1,4 @@
+pub mod Arguments
 pub mod Callees
 pub mod Alone
 pub mod Phases
