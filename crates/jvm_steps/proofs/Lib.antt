@@ -2,6 +2,7 @@ pub mod MovesOn
 pub mod OperandsAlone
 pub mod MainFrames
 pub mod ReadyStarts
+pub mod Arguments
 pub mod Callees
 pub mod Alone
 pub mod Phases
