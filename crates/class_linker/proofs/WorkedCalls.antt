@@ -1,7 +1,7 @@
 -- Worked answers of invokespecial's search over one small class list.
 use Rattle.std.specs.Prelude.{◌≡◌, ℕ, List, [], ◌∷◌, Some, None, codes, refl}
 use Rattle.jvm_model.specs.declared.program.Program.{Program}
-use Rattle.jvm_model.specs.Lookup.{MemberPlace, place_in}
+use Rattle.jvm_model.specs.Lookup.{place_in}
 use Rattle.class_index.proofs.WorkedClasses.{Item, class_shape, interface_shape, item, object, program_of, root_class, with_methods}
 use Rattle.class_linker.specs.SuperCalls.{invoked_special}
 
