@@ -1,8 +1,7 @@
 //! The bytes of the probes (JVM Specification 6.5, athrow, invokestatic and sipush).
 
-ghost use Rattle.std.specs.Prelude.{◌≡◌, ℕ, [], ◌∷◌, ◌++◌};
-ghost use Rattle.jvm_model.specs.Versions.{probe_bytes, entry_index};
-ghost use Rattle.inject_events.specs.Probing.{IsTailBehind, probes_of};
+ghost use Rattle.std.specs.Prelude.{◌≡◌, [], ◌∷◌, ◌++◌};
+ghost use Rattle.jvm_model.specs.Versions.{probe_bytes};
 ghost use Rattle.inject_events.specs.Settings.{entry_in, probes_in};
 
 use const_pool::Tail;
