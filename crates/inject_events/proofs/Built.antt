@@ -1,5 +1,5 @@
 -- The codes of a small class can be read, and each of its methods has one.
-use Rattle.std.proofs.Common.{◌≡◌, ℕ, zero, suc, ◌<◌, true, false, List, [], ◌∷◌, length, Option, Some, None, refl, sym, ap, subst, arith}
+use Rattle.std.proofs.Common.{◌≡◌, ℕ, zero, suc, true, List, [], ◌∷◌, Some, refl, sym, ap, subst, arith}
 use Rattle.std.specs.Prelude.{slice_get, is_some, IfSome}
 use Rattle.std.specs.List.{AllByRecursion}
 use Rattle.std.proofs.lemmas.Option.{same_Some, none-some}
@@ -9,9 +9,8 @@ use Rattle.const_pool.specs.declared.class.CodeAttribute.{CodeAttribute}
 use Rattle.const_pool.specs.declared.class.Member.{Member}
 use Rattle.const_pool.specs.declared.class.Attribute.{Attribute}
 use Rattle.const_pool.specs.declared.class.Attribute.TheVariants.{ConstantValue, Code, Other}
-use Rattle.const_pool.specs.ClassFile.{IsCode, IsMember, IsMethodAttribute, IsClassFile}
+use Rattle.const_pool.specs.ClassFile.{IsCode, IsMember, IsMethodAttribute}
 use Rattle.jvm_model.specs.declared.event.Mark.{Mark}
-use Rattle.jvm_model.specs.Images.{is_off}
 use Rattle.jvm_model.specs.Methods.{code_among, code_of}
 use Rattle.jvm_model.specs.StandsFor.{IsBuilt}
 use Rattle.inject_events.specs.Answers.{IsReadableBody, IsReadableClass, MarkedHaveCode}

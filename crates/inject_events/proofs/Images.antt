@@ -1,7 +1,6 @@
 -- An image by its function is an image as the machine takes it.
 use Rattle.std.proofs.Common.{◌≡◌, ℕ, suc, false, true, Bool, cond, List, [], ◌∷◌, length, Option, Some, None, refl, sym, ap, subst, ◌∙◌, arith}
 use Rattle.std.specs.Prelude.{map, is_some, IfSome, MatchBool, Result, Ok, Err, IfOk}
-use Rattle.std.proofs.lemmas.Option.{none-some}
 use Rattle.const_pool.specs.declared.class.ClassFile.{ClassFile}
 use Rattle.const_pool.specs.declared.class.Member.{Member}
 use Rattle.const_pool.specs.declared.class.CodeAttribute.{CodeAttribute}
@@ -19,8 +18,8 @@ use Rattle.inject_events.specs.declared.methods.MethodImage.{MethodImage}
 use Rattle.inject_events.specs.declared.settings.Setting.{Setting}
 use Rattle.inject_events.specs.Answers.{IsReadableBody, HasReadableBody, HaveReadableBodies, IsReadableClass, MarkedHaveCode, IsImageAnswer}
 use Rattle.inject_events.specs.Settings.{setting_of, probes_in}
-use Rattle.inject_events.specs.Probing.{laid_with, image_with}
-use Rattle.inject_events.specs.Rewriting.{Refused, instrs_in, version_of, code_around, image_of_coded, image_of_method, images_from, original_of, image_of_marked, image_of, refused_of}
+use Rattle.inject_events.specs.Probing.{laid_with}
+use Rattle.inject_events.specs.Rewriting.{instrs_in, version_of, image_of_coded, image_of_method, images_from, original_of, image_of_marked, image_of, refused_of}
 use Rattle.inject_events.proofs.InstrsIn.{instrs_in-is}
 
 -- ---- one method

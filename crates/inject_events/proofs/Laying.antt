@@ -1,29 +1,19 @@
 -- A code with probes is groups that can be laid out, and its starts rise.
-use Rattle.std.proofs.Common.{◌≡◌, ℕ, ◌+◌, ◌*◌, ◌<◌, ◌≤◌, Bool, true, false, cond, List, [], ◌∷◌, length, Some, None, Err, refl, sym, ap, subst, ◌∙◌, arith}
+use Rattle.std.proofs.Common.{◌≡◌, ℕ, ◌<◌, ◌≤◌, Bool, true, false, cond, List, [], ◌∷◌, length, Err, refl, sym, ap, subst, arith}
 use Rattle.std.specs.Prelude.{map}
 use Rattle.std.specs.List.{AllByRecursion}
-use Rattle.std.proofs.lemmas.Option.{none-some}
 use Rattle.code_model.specs.declared.instr.Instr.{Instr}
 use Rattle.code_model.specs.declared.instr.Code.{Code}
 use Rattle.code_model.specs.declared.error.CodeError.{CodeError}
 use Rattle.code_model.specs.declared.error.CodeError.TheVariants as why
 use Rattle.code_model.specs.declared.laying.Group.{Group}
-use Rattle.code_model.specs.Instructions.{end_of, Reads, IsReading, IsDecodedAs}
-use Rattle.code_model.specs.Groups.{instrs_of, IsShort, AreGroups, IsTooLong, IsTooFar}
-use Rattle.std.specs.Int.{Width}
+use Rattle.code_model.specs.Instructions.{Reads, IsReading, IsDecodedAs}
+use Rattle.code_model.specs.Groups.{instrs_of, IsShort, AreGroups}
 use Rattle.std.specs.List.Sorted.{IsStrictlyIncreasing}
-use Rattle.code_model.specs.declared.instr.Arg.{Arg}
-use Rattle.code_model.specs.declared.instr.Arg.TheVariants.{Plain, Value, Pool, Local, Inc, Target, Table, Lookup, Interface, Multi, Array}
 use Rattle.code_model.specs.declared.laying.Homes.{Homes}
-use Rattle.code_model.specs.Layout.{width_of, place_of, group_end, end_from, homes_of, home_of, laid_of, fits_branch, first_far_from, first_far}
-use Rattle.code_model.specs.declared.laying.Laid.{Laid}
-use Rattle.code_model.specs.declared.laying.LayError.{LayError}
-use Rattle.code_model.specs.declared.laying.LayError.TheVariants.{TooLong, Far, NoMemory}
-use Rattle.code_model.proofs.Readings.{at-instruction_at, IsReading-unique}
-use Rattle.code_model.specs.Groups.{IsBytes, targets_of}
+use Rattle.code_model.specs.Layout.{homes_of}
+use Rattle.code_model.specs.Groups.{IsBytes}
 use Rattle.code_model.proofs.Layouts.{starts-increasing}
-use Rattle.code_model.proofs.Lengths.{size_at-some, size_at-near}
-use Rattle.code_model.proofs.Walks.{length-laid_of}
 use Rattle.jvm_model.specs.Versions.{is_return_opcode, group_of}
 
 -- ---- a code that has a reading has no fault

@@ -7,5 +7,9 @@ pub mod Tabling
 pub mod Causes
 pub mod Rooms
 pub mod Profilable
+pub mod TailPools
+pub mod LaidBytes
+pub mod Formed
 pub mod SoundMoves
-mod WorkedTables
+pub mod WorkedTables
+mod WorkedLimits

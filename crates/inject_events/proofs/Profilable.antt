@@ -1,7 +1,7 @@
 -- Whether a class can be rewritten does not depend on the numbers of its methods, nor on which marks other than Off they have: all
 -- probes have the same lengths.
 use Rattle.std.proofs.Common.{◌≡◌, ◌≢◌, ℕ, ◌+◌, ◌*◌, Bool, true, false, cond, ltb, List, [], ◌∷◌, ◌++◌, length, Option, Some, None, refl, sym, ap, subst, ◌∙◌, arith}
-use Rattle.std.specs.Prelude.{map, Result, Ok, Err}
+use Rattle.std.specs.Prelude.{map, Result, Err}
 use Rattle.std.specs.List.{flat_map}
 use Rattle.std.specs.Option.{option_or}
 use Rattle.std.proofs.lemmas.Option.{none-some}
@@ -13,7 +13,7 @@ use Rattle.code_model.specs.declared.instr.Instr.{Instr}
 use Rattle.code_model.specs.declared.laying.Group.{Group}
 use Rattle.code_model.specs.declared.laying.Homes.{Homes}
 use Rattle.code_model.specs.declared.laying.Laid.{Laid}
-use Rattle.code_model.specs.Layout.{Spot, place_of, group_end, spots_from, end_from, source_end, size_at, all_spots, homes_of, home_of, width_of, fits_branch, first_far_from, first_far}
+use Rattle.code_model.specs.Layout.{Spot, place_of, group_end, spots_from, end_from, source_end, size_at, home_of, width_of, fits_branch, first_far_from, first_far}
 use Rattle.code_model.proofs.Walks.{length-laid_of}
 use Rattle.jvm_model.specs.declared.event.Mark.{Mark}
 use Rattle.jvm_model.specs.declared.event.Mark.TheVariants.{Off, Plain, Root}
@@ -29,7 +29,7 @@ use Rattle.inject_events.specs.declared.probes.Probes.{Probes}
 use Rattle.inject_events.specs.declared.settings.Setting.{Setting}
 use Rattle.inject_events.specs.Answers.{IsImageAnswer, IsProfilable}
 use Rattle.inject_events.specs.Probing.{laid_with, first_marked}
-use Rattle.inject_events.specs.Rewriting.{Refused, instrs_in, code_around, laid_version_of, version_of, room_cause, far_cause, layout_cause, is_too_large, size_cause, code_cause, version_cause, cause_of_coded, cause_of_method, refused_here, refused_from, is_full_pool, refused_of_marked, refused_of, all_plain}
+use Rattle.inject_events.specs.Rewriting.{Refused, instrs_in, code_around, version_of, room_cause, far_cause, layout_cause, size_cause, version_cause, cause_of_coded, cause_of_method, refused_here, refused_from, is_full_pool, refused_of_marked, refused_of, all_plain}
 use Rattle.inject_events.specs.Settings.{setting_of, probes_in, entry_in}
 use Rattle.inject_events.proofs.Rooms.{none_of}
 use Rattle.inject_events.proofs.Tabling.{length-code_bytes}
@@ -100,8 +100,8 @@ far-same a b home at [] same = refl
 far-same a b home at (i ∷ rest) same =
     let far : Option ℕ = Some i.at in
     ap (λ n. cond (fits_branch home n (width_of i) i.arg) (first_far_from home (group_end at (group_of a i)) (map (group_of a) rest)) far) (place-same a b at i same)
-    ∙ ap (cond (fits_branch home (place_of at (group_of b i)) (width_of i) i.arg))
-    (ap (λ n. first_far_from home n (map (group_of a) rest)) (group_end-same a b at i same) ∙ far-same a b home (group_end at (group_of b i)) rest same) (refl {x = far})
+    ∙ ap (λ o. cond (fits_branch home (place_of at (group_of b i)) (width_of i) i.arg) o far)
+    (ap (λ n. first_far_from home n (map (group_of a) rest)) (group_end-same a b at i same) ∙ far-same a b home (group_end at (group_of b i)) rest same)
 
 first_far-same : (p q : Probes) (instrs : List Instr) → AreAlike p q → first_far p.entry (map (group_of p.leave) instrs) ≡ first_far q.entry (map (group_of q.leave) instrs)
 first_far-same p q instrs alike =

@@ -1,6 +1,7 @@
 //! The image of a class: its marked methods with their probes, and the pool tail that the probes name.
 
 ghost use Rattle.std.specs.Prelude.{◌≡◌, ◌≢◌, ◌≤◌, ◌+◌, ◌<◌, ℕ, length, Err, IfOk};
+ghost use Rattle.const_pool.specs.ClassFile.{IsClassFile};
 ghost use Rattle.const_pool.specs.declared.tail.TailError.{TailError as TheTailError};
 ghost use Rattle.jvm_model.specs.Images.{IsImage};
 ghost use Rattle.inject_events.specs.declared.error.Cause.{Cause as TheCause};
@@ -130,6 +131,8 @@ pub fn instrument(
     // It is an image as the machine takes it.
     ensures image { IfOk result (λ image. MarkedHaveCode marks.now class.now.methods
         → IsImage class.now first marks.now image.class image.homes) }
+    // The image of a class file is one.
+    ensures formed { IfOk result (λ image. IsClassFile class.now → IsClassFile image.class) }
     // A class each of whose methods could be rewritten is never refused.
     ensures profilable { IsProfilable class.now → (method : ℕ) (cause : TheCause)
         → result ≢ Err (InjectError.NotProfilable method cause) }

@@ -57,27 +57,6 @@ fn unwind(number: u32, index: u16) -> [u8; 7]
 }
 
 /// Which method of the probe class is told at the entry.
-fn entry_index(tail: &Tail, mark: Mark) -> u16
-    ensures { (count : ℕ) → IsTailBehind count tail.now → result ≡ entry_index count mark }
-{
-    match mark {
-        Mark::Root => tail.root,
-        Mark::Plain | Mark::Off => tail.enter,
-    }
-}
-
-/// The probes of the method with this number.
-pub fn probes_of(tail: &Tail, number: u32, mark: Mark) -> Probes
-    ensures { (count : ℕ) → IsTailBehind count tail.now → result ≡ probes_of count number mark }
-{
-    Probes {
-        entry: probe(number, entry_index(tail, mark)),
-        leave: probe(number, tail.leave),
-        unwind: unwind(number, tail.unwind),
-    }
-}
-
-/// Which method of the probe class is told at the entry.
 fn entry_in(tail: &Tail, mark: Mark) -> u16
     ensures { result ≡ entry_in tail.now mark }
 {
