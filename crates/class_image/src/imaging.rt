@@ -11,7 +11,7 @@ use admit_check::{AdmitError, admit_class};
 use class_reader::{MOST_BYTES, ReadError, read_class};
 use class_writer::write_fitting;
 use const_pool::ClassFile;
-use inject_events::{InjectError, image_of};
+use inject_events::{InjectError, instrument};
 use jf_bytes::{FetchError, Files, Sink};
 use jvm_model::Mark;
 use std::alloc::Global;
@@ -67,7 +67,7 @@ fn image_bytes(
     if marks.len() != class.methods.len() {
         return Err(ImageError::NotMarked);
     }
-    let image = match image_of(alloc, &class, first, marks) {
+    let image = match instrument(alloc, &class, first, marks) {
         Ok(image) => image,
         Err(InjectError::NoMemory) => return Err(ImageError::NoMemory),
         Err(InjectError::NotProfilable(..)) => return Err(ImageError::NotProfilable),
