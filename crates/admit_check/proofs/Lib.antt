@@ -10,5 +10,7 @@ pub mod NamesSeen
 pub mod Numbers
 pub mod Tables
 pub mod Keys
+pub mod Marked
+pub mod Readable
 pub mod Walks
 pub mod Sound
