@@ -14,3 +14,4 @@ pub mod Marked
 pub mod Readable
 pub mod Walks
 pub mod Sound
+pub mod SoundCodes

@@ -1,7 +1,7 @@
 -- Whether a class can be rewritten hangs neither on which of its methods are marked nor on their numbers: each probe has six bytes,
 -- whatever it tells, so that code, homes and tables come to the same lengths.
 use Rattle.std.proofs.Common.{◌≡◌, ℕ, ◌+◌, ◌*◌, Bool, true, false, cond, List, [], ◌∷◌, ◌++◌, length, Option, Some, None, refl, sym, ap, ◌∙◌, arith}
-use Rattle.std.specs.Prelude.{map, nat_lt, Result, Ok, Err, OnOk}
+use Rattle.std.specs.Prelude.{map, nat_lt}
 use Rattle.std.specs.Option.{option_map, option_or}
 use Rattle.std.specs.List.{AllByRecursion, flat_map}
 use Rattle.const_pool.specs.declared.class.ClassFile.{ClassFile}
@@ -30,10 +30,10 @@ use Rattle.inject_events.proofs.Rooms.{neither, none_of}
 use Rattle.inject_events.proofs.Tabling.{length-code_bytes}
 use Rattle.admit_check.specs.declared.error.AdmitError.{AdmitError}
 use Rattle.admit_check.specs.Admission.{class_fault, classes_fault}
+use Rattle.admit_check.specs.Checks.{first_of}
 use Rattle.admit_check.specs.Codes.{codes_fault}
 use Rattle.admit_check.specs.Floating.{floating_fault}
 use Rattle.admit_check.specs.Shapes.{name_fault, shape_fault}
-use Rattle.admit_check.specs.Stages.{Passes}
 use Rattle.admit_check.specs.Profiling.{IsProfilable, all_marked, profiling_fault, refusal_told}
 
 -- ---- where groups come to stand, by what goes in front of their instructions
@@ -217,24 +217,20 @@ profilable-none k c none = λ first marks counted. marked-none c first marks c.m
 
 -- ---- classes without a fault
 
-pub profilable-class : (earlier : List ClassFile) (k : ℕ) (c : ClassFile) → class_fault earlier k c ≡ None → IsProfilable c
-profilable-class earlier k c fine =
+pub profilable-class : (named : Option AdmitError) (k : ℕ) (c : ClassFile) → first_of (named ∷ shape_fault k c ∷ codes_fault k c ∷ floating_fault k c ∷ profiling_fault k c ∷ []) ≡ None → IsProfilable c
+profilable-class named k c fine =
     let behind_floats : Option AdmitError = option_or (profiling_fault k c) None in
     let behind_codes : Option AdmitError = option_or (floating_fault k c) behind_floats in
     let behind_shape : Option AdmitError = option_or (codes_fault k c) behind_codes in
     let behind_name : Option AdmitError = option_or (shape_fault k c) behind_shape in
-    let a = neither (name_fault earlier k c) behind_name fine in
+    let a = neither named behind_name fine in
     let b = neither (shape_fault k c) behind_shape a.1 in
     let d = neither (codes_fault k c) behind_codes b.1 in
     let e = neither (floating_fault k c) behind_floats d.1 in
     profilable-none k c (neither (profiling_fault k c) None e.1).0
 
-pub OnOk-profilable : (c : ClassFile) (answer : Result (Unit {0}) AdmitError) → Passes answer (class_fault [] 0 c) → OnOk answer (IsProfilable c)
-OnOk-profilable c (Ok x) passes = profilable-class [] 0 c passes
-OnOk-profilable c (Err error) passes = tt
-
 pub profilable-classes : (earlier classes : List ClassFile) → classes_fault earlier classes ≡ None → AllByRecursion IsProfilable classes
 profilable-classes earlier [] fine = tt
 profilable-classes earlier (c ∷ rest) fine =
     let parts = neither (class_fault earlier (length earlier) c) (classes_fault (earlier ++ c ∷ []) rest) fine in
-    (profilable-class earlier (length earlier) c parts.0, profilable-classes (earlier ++ c ∷ []) rest parts.1)
+    (profilable-class (name_fault earlier (length earlier) c) (length earlier) c parts.0, profilable-classes (earlier ++ c ∷ []) rest parts.1)

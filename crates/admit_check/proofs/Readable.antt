@@ -15,12 +15,12 @@ use Rattle.admit_check.specs.Codes.{IsRead, AreRead}
 use Rattle.admit_check.proofs.Decoded.{reading_found}
 use Rattle.inject_events.specs.Answers.{IsReadableBody, IsReadableClass}
 
-nth : {A : Type 0} (P : A → Type 0) (xs : List A) (k : ℕ) (x : A) → AllByRecursion P xs → slice_get xs k ≡ Some x → P x
+pub nth : {A : Type 0} (P : A → Type 0) (xs : List A) (k : ℕ) (x : A) → AllByRecursion P xs → slice_get xs k ≡ Some x → P x
 nth P [] k x all at = absurd (none-some x at)
 nth P (y ∷ ys) zero x all at = subst P (same_Some y x at) all.0
 nth P (y ∷ ys) (suc k) x all at = nth P ys k x all.1 at
 
-code-formed : (pool : List Const) (attributes : List Attribute) (code : CodeAttribute) → AllByRecursion (IsMethodAttribute pool) attributes → code_among attributes ≡ Some code → IsCode pool code
+pub code-formed : (pool : List Const) (attributes : List Attribute) (code : CodeAttribute) → AllByRecursion (IsMethodAttribute pool) attributes → code_among attributes ≡ Some code → IsCode pool code
 code-formed pool [] code formed coded = absurd (none-some code coded)
 code-formed pool (ConstantValue name index ∷ rest) code formed coded = code-formed pool rest code formed.1 coded
 code-formed pool (Other raw ∷ rest) code formed coded = code-formed pool rest code formed.1 coded

@@ -7,7 +7,7 @@ ghost use Rattle.admit_check.specs.Admission.{admission_of, IsSoundProgram};
 ghost use Rattle.admit_check.specs.Stages.{Answers, AreBuiltIn, HasNumbers, Passes};
 ghost use Rattle.admit_check.specs.Admission.{class_fault, classes_fault};
 ghost use Rattle.inject_events.specs.Answers.{IsReadableClass};
-ghost use Rattle.admit_check.specs.Profiling.{IsProfilable};
+ghost use Rattle.admit_check.specs.Profiling.{HaveSoundTables, IsProfilable};
 ghost use Rattle.admit_check.specs.Stages.{code_fault_of, class_fault_among, with_name_of};
 ghost use Rattle.admit_check.specs.Admission.{program_with, completed, admission};
 
@@ -87,8 +87,13 @@ pub fn admit_class(alloc: Global, class: &ClassFile) -> Result<(), AdmitError>
     ensures admitted { Passes result (class_fault [] 0 class.now) }
     ensures readable { OnOk result (IsReadableClass class.now) }
     ensures profilable { OnOk result (IsProfilable class.now) }
+    ensures tables { OnOk result (HaveSoundTables class.now) }
 {
-    check_class(alloc, 0, class, &NameSet::new(alloc))
+    let names = NameSet::new(alloc);
+    match check_class(alloc, 0, class, &names) {
+        Ok(()) => Ok(()),
+        Err(fault) => Err(fault),
+    }
 }
 
 /// Adds the class's name.

@@ -4,5 +4,5 @@ use Rattle.std.specs.Prelude.{map}
 use Rattle.jvm_model.specs.declared.event.Mark.TheVariants.{Plain}
 use Rattle.admit_check.proofs.profiling.all_marked.Given as goal
 
-abbrev pub invariant-loop-method : goal.invariant-loop-_method
+abbrev pub invariant-loop-method : goal.invariant-loop-method
 invariant-loop-method l = l.marks ≡ map (λ m. Plain) (take l._method-index l.methods)
