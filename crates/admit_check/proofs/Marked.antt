@@ -1,9 +1,9 @@
 -- Whether a class can be rewritten hangs neither on which of its methods are marked nor on their numbers: each probe has six bytes,
 -- whatever it tells, so that code, homes and tables come to the same lengths.
-use Rattle.std.proofs.Common.{◌≡◌, ℕ, ◌+◌, ◌*◌, Bool, true, false, cond, List, [], ◌∷◌, ◌++◌, length, Option, Some, None, refl, sym, ap, ◌∙◌, arith}
+use Rattle.std.proofs.Common.{◌≡◌, ℕ, ◌+◌, Bool, true, false, cond, List, [], ◌∷◌, ◌++◌, length, Option, Some, None, refl, ap, ◌∙◌, arith}
 use Rattle.std.specs.Prelude.{map, nat_lt}
 use Rattle.std.specs.Option.{option_map, option_or}
-use Rattle.std.specs.List.{AllByRecursion, flat_map}
+use Rattle.std.specs.List.{AllByRecursion}
 use Rattle.const_pool.specs.declared.class.ClassFile.{ClassFile}
 use Rattle.const_pool.specs.declared.class.CodeAttribute.{CodeAttribute}
 use Rattle.const_pool.specs.declared.class.Member.{Member}
@@ -25,7 +25,7 @@ use Rattle.inject_events.specs.declared.probes.Probes.{Probes}
 use Rattle.inject_events.specs.declared.settings.Setting.{Setting}
 use Rattle.inject_events.specs.Probing.{laid_with, first_marked}
 use Rattle.inject_events.specs.Settings.{setting_of, probes_in}
-use Rattle.inject_events.specs.Rewriting.{instrs_in, code_around, version_around, version_of, room_cause, far_cause, layout_cause, size_cause, code_cause, version_cause, cause_of_coded, cause_of_method, Refused, refused_here, refused_from, is_full_pool, refused_of}
+use Rattle.inject_events.specs.Rewriting.{instrs_in, code_around, version_around, version_of, room_cause, far_cause, layout_cause, size_cause, version_cause, cause_of_coded, cause_of_method, Refused, refused_here, refused_from, is_full_pool, refused_of}
 use Rattle.inject_events.proofs.Rooms.{neither, none_of}
 use Rattle.inject_events.proofs.Tabling.{length-code_bytes}
 use Rattle.admit_check.specs.declared.error.AdmitError.{AdmitError}

@@ -1,5 +1,5 @@
 -- What is admitted is a sound program.
-use Rattle.std.proofs.Common.{◌≡◌, ℕ, suc, ◌+◌, ◌<◌, Bool, true, false, cond, List, [], ◌∷◌, length, Option, Some, None, Result, Ok, Err, refl, sym, subst, arith}
+use Rattle.std.proofs.Common.{◌≡◌, ℕ, suc, ◌+◌, ◌<◌, Bool, true, false, cond, List, [], ◌∷◌, length, Option, Some, None, Result, Ok, Err, refl, subst, arith}
 use Rattle.std.specs.Prelude.{nat_lt, IfOk}
 use Rattle.std.specs.Option.{option_and_then, option_map}
 use Rattle.std.specs.List.{AllByRecursion}

@@ -1,7 +1,7 @@
 -- The tables of a code that has no fault are such as rewriting moves.
-use Rattle.std.proofs.Common.{◌≡◌, ℕ, zero, suc, ◌+◌, Bool, true, false, cond, eqb, List, [], ◌∷◌, ◌++◌, length, Option, Some, None, refl, sym, ap, subst, ◌∙◌, eqb-true, arith}
-use Rattle.std.specs.Prelude.{Result, Ok, Err, All, Contains, IfSome, codes, is_ok, map, not, slice_get, ◌&&◌, ◌==◌, ◌||◌}
-use Rattle.std.specs.List.{AllByRecursion, list_all, list_any}
+use Rattle.std.proofs.Common.{◌≡◌, ℕ, zero, suc, ◌+◌, Bool, true, false, cond, List, [], ◌∷◌, length, Option, Some, None, refl, sym, ap, subst, ◌∙◌, eqb-true, arith}
+use Rattle.std.specs.Prelude.{Result, Ok, Err, Contains, IfSome, codes, is_ok, not, slice_get, ◌&&◌, ◌==◌, ◌||◌}
+use Rattle.std.specs.List.{AllByRecursion, list_all}
 use Rattle.std.specs.Option.{ok_or, option_and_then, option_map, option_map_or, option_or}
 use Rattle.std.specs.Result.{result_ok}
 use Rattle.std.proofs.lemmas.Bool.{and_parts}
@@ -29,10 +29,8 @@ use Rattle.stackmap_shift.specs.declared.frames.Frame.{Frame}
 use Rattle.stackmap_shift.specs.DebugTables.{lines_of, variables_of}
 use Rattle.stackmap_shift.specs.Frames.{frames_of}
 use Rattle.inject_events.specs.declared.settings.Setting.{Setting}
-use Rattle.inject_events.specs.declared.settings.Table.{Table}
 use Rattle.inject_events.specs.declared.settings.Table.TheVariants as table
 use Rattle.inject_events.specs.Answers.{IsReadableBody, IsReadableClass}
-use Rattle.inject_events.specs.Rewriting.{instrs_in}
 use Rattle.inject_events.specs.Settings.{setting_of}
 use Rattle.inject_events.specs.SoundTables.{starts_of, HasSoundFrames, IsSoundTable, HasSoundTables}
 use Rattle.inject_events.specs.Tables.{is_named, table_of}
@@ -42,7 +40,7 @@ use Rattle.admit_check.specs.declared.codes.CodeFault.{CodeFault}
 use Rattle.admit_check.specs.declared.error.AdmitError.{AdmitError}
 use Rattle.admit_check.specs.declared.error.CodeCause.TheVariants as cause
 use Rattle.admit_check.specs.Checks.{fault_if, first_of, first_in, first_from}
-use Rattle.admit_check.specs.Codes.{instr_fault, falls, handler_fault, table_fault, read_fault, fault_by, code_fault, fault_at, method_with, result_of, told_in, method_fault, codes_fault, instructions_of}
+use Rattle.admit_check.specs.Codes.{instr_fault, falls, handler_fault, table_fault, read_fault, fault_by, code_fault, fault_at, method_with, result_of, told_in, method_fault, codes_fault}
 use Rattle.admit_check.specs.CodeTables.{fits_frame, fits_frame_kind, fits_frames, fits_raw, is_frame_name}
 use Rattle.admit_check.specs.Floating.{floating_fault}
 use Rattle.admit_check.specs.Profiling.{HaveSoundTables, profiling_fault}
@@ -111,10 +109,10 @@ raw-sound pool s instrs raw tailed formed fit =
     let same : named_text s.tail.pool raw.name ≡ named_text pool raw.name = ap (λ (p : List Const). named_text p raw.name) tailed ∙ same-name pool raw.name formed.named in
     let is : (found : Option (List ℕ)) → List ℕ → Bool = λ found text. option_map_or (λ (t : List ℕ). same_text t text) found false in
     subst (λ (found : Option (List ℕ)). IsSoundTable (starts_of instrs)
-        (cond (is found (codes "LineNumberTable")) table.Lines (cond (is found (codes "LocalVariableTable")) table.Variables (cond (is found (codes "LocalVariableTypeTable")) table.Variables
-        (cond (s.framed && is found (codes "StackMapTable")) table.Frames table.Other)))) raw.bytes) (sym same)
+    (cond (is found (codes "LineNumberTable")) table.Lines (cond (is found (codes "LocalVariableTable")) table.Variables (cond (is found (codes "LocalVariableTypeTable")) table.Variables
+    (cond (s.framed && is found (codes "StackMapTable")) table.Frames table.Other)))) raw.bytes) (sym same)
     (table-by instrs raw.bytes formed.bytes (is_named pool raw.name (codes "LineNumberTable")) (is_named pool raw.name (codes "LocalVariableTable")) (is_named pool raw.name (codes "LocalVariableTypeTable"))
-        s.framed (is_frame_name pool raw.name) fit)
+    s.framed (is_frame_name pool raw.name) fit)
 
 -- ---- all tables of a code
 
@@ -168,7 +166,7 @@ method-sound : (k at : ℕ) (pool : List Const) (s : Setting) (m : Member) (code
     → code_of m ≡ Some code → method_fault k pool at m ≡ None → HasSoundTables s code
 method-sound k at pool s m code tailed formed readable coded none =
     let fine : code_fault pool (result_of pool m) code ≡ None =
-        told-none k at (code_fault pool (result_of pool m) code) (subst (λ (o : Option CodeAttribute). option_map (told_in k at) (option_and_then (code_fault pool (result_of pool m)) o) ≡ None) coded none) in
+    told-none k at (code_fault pool (result_of pool m) code) (subst (λ (o : Option CodeAttribute). option_map (told_in k at) (option_and_then (code_fault pool (result_of pool m)) o) ≡ None) coded none) in
     code-sound pool s (result_of pool m) code tailed (code-formed pool m.attributes code formed.attributes coded) (subst (λ (o : Option CodeAttribute). IfSome o IsReadableBody) coded readable) fine
 
 tables-sound : (k : ℕ) (c : ClassFile) → IsClassFile c → IsReadableClass c → codes_fault k c ≡ None → HaveSoundTables c

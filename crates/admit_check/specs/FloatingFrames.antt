@@ -1,5 +1,5 @@
 -- Floats and doubles in the frames of a StackMapTable (JVM Specification 4.7.4), which counts in major 50 alone.
-use Rattle.std.specs.Prelude.{ℕ, Bool, true, false, List, Option, Some, None, Result, Ok, Err, ◌==◌, ◌||◌, if◌then◌else◌}
+use Rattle.std.specs.Prelude.{ℕ, Bool, true, false, List, Option, None, Result, Ok, Err, ◌==◌, ◌||◌, if◌then◌else◌}
 use Rattle.std.specs.List.{list_any}
 use Rattle.std.specs.Option.{option_and_then, option_map}
 use Rattle.const_pool.specs.declared.class.ClassFile.{ClassFile}

@@ -114,12 +114,7 @@ fn fits_table(
 }
 
 /// Whether an attribute of a Code, if it is a table, is one of the body.
-pub(crate) fn fits_raw(
-    alloc: Global,
-    pool: &Pool,
-    body: &Body,
-    raw: &Raw,
-) -> Result<bool, NoMemory>
+pub(crate) fn fits_raw(alloc: Global, pool: &Pool, body: &Body, raw: &Raw) -> Result<bool, NoMemory>
     ensures { IfOk result (λ fits. fits ≡ fits_raw pool.now body.now raw.now) }
 {
     fits_table(alloc, pool, body, raw.name, raw.bytes.as_slice())

@@ -11,8 +11,7 @@ const ENTRIES: &[u8] =
     b"\x01\0\x01A\x07\0\x01\x01\0\x10java/lang/Object\x07\0\x03\x01\0\x04main\x01\0\x16([Ljava/lang/String;)V\x01\0\x04Code\x01\0\x0FLineNumberTable\x01\0\x12LocalVariableTable\x01\0\x16LocalVariableTypeTable\x01\0\x0DStackMapTable";
 
 /// What stands behind the pool, up to the length of the Code.
-const TO_CODE: &[u8] =
-    b"\0\x21\0\x02\0\x04\0\0\0\0\0\x01\0\x09\0\x05\0\x06\0\x01\0\x07";
+const TO_CODE: &[u8] = b"\0\x21\0\x02\0\x04\0\0\0\0\0\x01\0\x09\0\x05\0\x06\0\x01\0\x07";
 
 const LINES: u8 = 8;
 
@@ -152,12 +151,7 @@ const FLOATS: [(u8, &'static [u8], &'static [u8], &'static str); 7] = [
         "FloatingPoint(0, Frame(0, 3))",
     ),
     // Code is looked at before frames, and tables before both.
-    (
-        50,
-        FLOAT,
-        &[0, 1, 65, 2],
-        "FloatingPoint(0, Code(0, 0))",
-    ),
+    (50, FLOAT, &[0, 1, 65, 2], "FloatingPoint(0, Code(0, 0))"),
     (50, FLOAT, &[0, 1, 67, 2], TABLE),
     (50, PUSH, &[0, 1, 67, 1], FINE),
 ];

@@ -1,5 +1,4 @@
 -- each code was decoded
-use Rattle.std.proofs.Common.{subst}
 use Rattle.inject_events.specs.Answers.{IsReadableClass}
 use Rattle.admit_check.proofs.CodesRead.{AreRead-codes, OnOk-always}
 use Rattle.admit_check.proofs.Readable.{IsReadableClass-read}
