@@ -4,11 +4,12 @@ use Rattle.const_pool.specs.ClassFile.{class_bytes}
 use Rattle.class_writer.specs.Fits.{FitsClass}
 use Rattle.inject_events.specs.declared.image.Image.{Image}
 use Rattle.class_image.proofs.ImageFits.{fits-image}
-use Rattle.class_image.proofs.Readable.{IsReadableClass-read}
+use Rattle.class_image.proofs.Profilable.{memory-alone}
 use Rattle.class_image.proofs.imaging.image_bytes.Goals as goal
 
-pub instrument-requires-clause-class : goal.instrument-requires-clause-class
-instrument-requires-clause-class c = IsReadableClass-read c.in-Ok.class c.in-Ok.ensures.admitted.file.spells.formed c.in-Ok.ensures.read
+pub want_of_memory-requires : goal.want_of_memory-requires
+want_of_memory-requires c =
+    memory-alone c.in-Err-instrument.error (c.in-Err-instrument.ensures.profilable c.in-Ok.ensures.profilable)
 
 pub write_fitting-requires : goal.write_fitting-requires
 write_fitting-requires c =
