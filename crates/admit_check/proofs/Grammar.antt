@@ -1,6 +1,6 @@
 -- The tests of descriptors are the grammar of const_pool.
 use Rattle.std.proofs.Common.{◌≡◌, ℕ, List, Option, Some, None, Result, Ok, Err, refl, sym, subst}
-use Rattle.std.specs.Prelude.{is_some, true, false, IfOk}
+use Rattle.std.specs.Prelude.{IfOk}
 use Rattle.std.specs.Result.{result_ok}
 use Rattle.std.proofs.lemmas.Option.{same_Some, none-some}
 use Rattle.const_pool.specs.declared.descriptor.Kind.{Kind}

@@ -8,7 +8,6 @@ use Rattle.const_pool.specs.declared.class.Member.{Member}
 use Rattle.const_pool.specs.References.{named_text}
 use Rattle.jvm_model.specs.Descriptors.{same_text}
 use Rattle.admit_check.specs.Shapes.{same_named, is_same_member, has_twin_behind, has_twins}
-use Rattle.admit_check.specs.Stages.{with_name}
 use Rattle.admit_check.specs.Twins.{key_text, member_key, has_key, with_key, has_key_twice}
 
 -- ---- texts

@@ -10,5 +10,8 @@ pub mod NamesSeen
 pub mod Numbers
 pub mod Tables
 pub mod Keys
+pub mod Profilable
+pub mod Readable
 pub mod Walks
 pub mod Sound
+pub mod SoundCodes

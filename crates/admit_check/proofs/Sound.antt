@@ -1,5 +1,5 @@
 -- What is admitted is a sound program.
-use Rattle.std.proofs.Common.{◌≡◌, ℕ, suc, ◌+◌, ◌<◌, Bool, true, false, cond, List, [], ◌∷◌, length, Option, Some, None, Result, Ok, Err, refl, sym, subst, arith}
+use Rattle.std.proofs.Common.{◌≡◌, ℕ, suc, ◌+◌, ◌<◌, Bool, true, false, cond, List, [], ◌∷◌, length, Option, Some, None, Result, Ok, Err, refl, subst, arith}
 use Rattle.std.specs.Prelude.{nat_lt, IfOk}
 use Rattle.std.specs.Option.{option_and_then, option_map}
 use Rattle.std.specs.List.{AllByRecursion}
@@ -17,6 +17,7 @@ use Rattle.plan_text.specs.declared.plan.Plan.{Plan}
 use Rattle.admit_check.specs.declared.error.AdmitError.{AdmitError}
 use Rattle.admit_check.specs.Admission.{act_of, act_with, acts_from, admission, admission_of, declared_main, main_in, main_of_class, program_with, root_in, IsSoundProgram}
 use Rattle.admit_check.specs.Stages.{Answers}
+use Rattle.admit_check.proofs.Profilable.{profilable-classes}
 use Rattle.admit_check.proofs.Admitted.{admitted}
 
 -- ---- numbers of methods
@@ -88,6 +89,7 @@ sound classes name plan p e =
     let whole = is.completion in
     subst (IsSoundProgram classes name) whole.is (record {
       fine = is.fine;
+      profilable = profilable-classes [] classes is.fine;
       classes_are = refl;
       methods = refl;
       few = whole.few;

@@ -12,6 +12,7 @@ use Rattle.admit_check.specs.Checks.{fault_if, first_of}
 use Rattle.admit_check.specs.Shapes.{has_same_name, is_reserved, own_name, same_named, shape_fault}
 use Rattle.admit_check.specs.Codes.{codes_fault}
 use Rattle.admit_check.specs.Floating.{floating_fault}
+use Rattle.admit_check.specs.Profiling.{profiling_fault}
 use Rattle.admit_check.specs.Admission.{class_fault, classes_fault}
 use Rattle.admit_check.specs.Stages.{names_of, has_name_among, class_fault_among, classes_fault_among, with_name, with_name_of}
 
@@ -42,7 +43,7 @@ name_among earlier c = same_among (own_name c) earlier
 
 fault_among : (earlier : List ClassFile) (k : ℕ) (c : ClassFile) → class_fault earlier k c ≡ class_fault_among (names_of earlier) k c
 fault_among earlier k c =
-    ap (λ b. first_of (first_of (fault_if (is_reserved c) (ReservedName k) ∷ fault_if b (Duplicate k) ∷ []) ∷ shape_fault k c ∷ codes_fault k c ∷ floating_fault k c ∷ []))
+    ap (λ b. first_of (first_of (fault_if (is_reserved c) (ReservedName k) ∷ fault_if b (Duplicate k) ∷ []) ∷ shape_fault k c ∷ codes_fault k c ∷ floating_fault k c ∷ profiling_fault k c ∷ []))
     (name_among earlier c)
 
 option_behind : {A : Type 0} (o : Option A) (xs ys : List A) → cons_option o (xs ++ ys) ≡ cons_option o xs ++ ys

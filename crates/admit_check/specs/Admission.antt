@@ -19,11 +19,14 @@ use Rattle.admit_check.specs.Checks.{fault_if, first_of}
 use Rattle.admit_check.specs.Shapes.{name_fault, shape_fault}
 use Rattle.admit_check.specs.Codes.{codes_fault}
 use Rattle.admit_check.specs.Floating.{floating_fault}
+use Rattle.inject_events.specs.Answers.{IsProfilable}
+use Rattle.admit_check.specs.Profiling.{profiling_fault}
 
 -- ---- the classes, in order
 
 abbrev pub class_fault : List ClassFile → ℕ → ClassFile → Option AdmitError
-class_fault earlier k c = first_of (name_fault earlier k c ∷ shape_fault k c ∷ codes_fault k c ∷ floating_fault k c ∷ [])
+class_fault earlier k c =
+    first_of (name_fault earlier k c ∷ shape_fault k c ∷ codes_fault k c ∷ floating_fault k c ∷ profiling_fault k c ∷ [])
 
 abbrev pub classes_fault : List ClassFile → List ClassFile → Option AdmitError
 classes_fault earlier [] = None
@@ -110,10 +113,11 @@ admission classes built_in main plan =
 unfoldable pub admission_of : List ClassFile → List ℕ → Plan → Result Program AdmitError
 admission_of classes main plan = admission classes built_in_files main plan
 
--- A sound program of these classes, which have no fault: the built-in ones stand behind them, its methods are those that have
--- Code, not too many, its main method is the one of the class of this name, and its acts name methods of it.
+-- A sound program of these classes, which have no fault and can be rewritten: the built-in ones stand behind them, its methods are
+-- those that have Code, not too many, its main method is the one of the class of this name, and its acts name methods of it.
 pub record IsSoundProgram (classes : List ClassFile) (name : List ℕ) (p : Program) : Type 0 where
   pub fine : classes_fault [] classes ≡ None
+  pub profilable : AllByRecursion IsProfilable classes
   pub classes_are : p.classes ≡ classes ++ built_in_files
   pub methods : p.methods ≡ numbered p.classes
   pub few : length p.methods ≤ 32768

@@ -6,6 +6,7 @@ use Rattle.const_pool.specs.declared.class.ClassFile.{ClassFile}
 use Rattle.const_pool.specs.declared.class.CodeAttribute.{CodeAttribute}
 use Rattle.const_pool.specs.declared.class.Handler.{Handler}
 use Rattle.const_pool.specs.declared.class.Member.{Member}
+use Rattle.const_pool.specs.declared.class.Raw.{Raw}
 use Rattle.const_pool.specs.declared.descriptor.Kind.{Kind}
 use Rattle.const_pool.specs.References.{named_text}
 use Rattle.code_model.specs.declared.error.CodeError.{CodeError}
@@ -24,6 +25,7 @@ use Rattle.admit_check.specs.declared.error.AdmitError.TheVariants.{BadCode, NoM
 use Rattle.admit_check.specs.declared.error.CodeCause.{CodeCause}
 use Rattle.admit_check.specs.declared.error.CodeCause.TheVariants as cause
 use Rattle.admit_check.specs.Checks.{fault_if, first_of, first_in, first_from}
+use Rattle.admit_check.specs.CodeTables.{fits_raw}
 use Rattle.admit_check.specs.Texts.{method_kinds}
 use Rattle.admit_check.specs.Uses.{fits_pool, fits_locals, fits_targets, fits_return, fits_type, is_start}
 
@@ -87,6 +89,10 @@ fits_handler instrs len h =
 abbrev pub handler_fault : List Instr → ℕ → Handler → Option CodeFault
 handler_fault instrs len h = fault_if (not (fits_handler instrs len h)) (fault_at h.start cause.Handler)
 
+-- a table that is none of these instructions
+abbrev pub table_fault : List Const → List Instr → Raw → Option CodeFault
+table_fault pool instrs raw = fault_if (not (fits_raw pool instrs raw)) (fault_at 0 cause.Table)
+
 -- ---- a code
 
 abbrev pub reading_fault : CodeError → Option CodeFault
@@ -97,7 +103,11 @@ reading_fault NoMemory = None
 
 abbrev pub read_fault : Method → CodeAttribute → Option CodeFault
 read_fault m code = first_of (
-    first_in (instr_fault m) m.instrs ∷ falls m.instrs ∷ first_in (handler_fault m.instrs (length code.code)) code.handlers ∷ [])
+    first_in (instr_fault m) m.instrs
+    ∷ falls m.instrs
+    ∷ first_in (handler_fault m.instrs (length code.code)) code.handlers
+    ∷ first_in (table_fault m.pool m.instrs) code.attributes
+    ∷ [])
 
 abbrev pub fault_by : List Const → Option Kind → CodeAttribute → Result (List Instr) CodeError → Option CodeFault
 fault_by pool result code (Err error) = reading_fault error

@@ -18,6 +18,7 @@ use Rattle.admit_check.specs.declared.error.AdmitError.TheVariants.{FloatingPoin
 use Rattle.admit_check.specs.declared.error.Place.TheVariants as place
 use Rattle.admit_check.specs.Checks.{fault_if, first_of, first_in, first_from}
 use Rattle.admit_check.specs.Codes.{readings_of}
+use Rattle.admit_check.specs.FloatingFrames.{floating_frames}
 use Rattle.admit_check.specs.Texts.{is_array_name}
 
 -- ---- descriptors
@@ -91,4 +92,5 @@ floating_fault k c = first_of (
     first_from (floating_field k c.pool) 0 c.fields
     ∷ first_from (floating_method k c.pool) 0 c.methods
     ∷ first_from (floating_body k c.pool) 0 (readings_of c)
+    ∷ floating_frames k c
     ∷ [])

@@ -4,6 +4,9 @@ pub mod Shapes
 pub mod Stages
 pub mod Twins
 pub mod Uses
+pub mod CodeTables
 pub mod Codes
 pub mod Floating
 pub mod Admission
+pub mod FloatingFrames
+pub mod Profiling

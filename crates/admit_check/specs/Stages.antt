@@ -14,6 +14,7 @@ use Rattle.admit_check.specs.Checks.{fault_if, first_of}
 use Rattle.admit_check.specs.Shapes.{is_reserved, own_name, shape_fault}
 use Rattle.admit_check.specs.Codes.{IsRefusal, codes_fault}
 use Rattle.admit_check.specs.Floating.{floating_fault}
+use Rattle.admit_check.specs.Profiling.{profiling_fault}
 
 -- ---- answers
 
@@ -40,13 +41,13 @@ abbrev pub name_fault_among : List (List ℕ) → ℕ → ClassFile → Option A
 name_fault_among names k c =
     first_of (fault_if (is_reserved c) (ReservedName k) ∷ fault_if (has_name_among names c) (Duplicate k) ∷ [])
 
--- its codes, of which floats and doubles are sought last
+-- its codes, then floats and doubles, and then what can't be rewritten
 abbrev pub code_fault_of : ℕ → ClassFile → Option AdmitError
-code_fault_of k c = first_of (codes_fault k c ∷ floating_fault k c ∷ [])
+code_fault_of k c = first_of (codes_fault k c ∷ floating_fault k c ∷ profiling_fault k c ∷ [])
 
 abbrev pub class_fault_among : List (List ℕ) → ℕ → ClassFile → Option AdmitError
 class_fault_among names k c =
-    first_of (name_fault_among names k c ∷ shape_fault k c ∷ codes_fault k c ∷ floating_fault k c ∷ [])
+    first_of (name_fault_among names k c ∷ shape_fault k c ∷ codes_fault k c ∷ floating_fault k c ∷ profiling_fault k c ∷ [])
 
 -- a name more, if it is none of them
 abbrev pub with_name : List (List ℕ) → List ℕ → List (List ℕ)

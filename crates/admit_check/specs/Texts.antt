@@ -1,5 +1,5 @@
 -- Names and descriptors (JVM Specification 4.2, 4.3) as tests.
-use Rattle.std.specs.Prelude.{ℕ, zero, suc, ◌+◌, Bool, true, false, not, List, [], ◌∷◌, length, Option, is_some, ◌==◌, ◌||◌, if◌then◌else◌}
+use Rattle.std.specs.Prelude.{ℕ, ◌+◌, Bool, false, not, List, [], ◌∷◌, Option, is_some, ◌==◌, ◌||◌, if◌then◌else◌}
 use Rattle.std.specs.Result.{result_ok}
 use Rattle.const_pool.specs.declared.descriptor.Kind.{Kind}
 use Rattle.const_pool.specs.declared.descriptor.Shape.{Shape}

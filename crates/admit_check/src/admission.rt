@@ -6,7 +6,9 @@ ghost use Rattle.const_pool.specs.ClassFile.{IsClassFile};
 ghost use Rattle.admit_check.specs.Admission.{admission_of, IsSoundProgram};
 ghost use Rattle.admit_check.specs.Stages.{Answers, AreBuiltIn, HasNumbers, Passes};
 ghost use Rattle.admit_check.specs.Admission.{class_fault, classes_fault};
-ghost use Rattle.admit_check.specs.Codes.{AreRead};
+ghost use Rattle.inject_events.specs.Answers.{IsReadableClass};
+ghost use Rattle.inject_events.specs.Answers.{IsProfilable};
+ghost use Rattle.admit_check.specs.Profiling.{HaveSoundTables};
 ghost use Rattle.admit_check.specs.Stages.{code_fault_of, class_fault_among, with_name_of};
 ghost use Rattle.admit_check.specs.Admission.{program_with, completed, admission};
 
@@ -14,6 +16,7 @@ use crate::codes::check_codes;
 use crate::error::AdmitError;
 use crate::floating::floating_fault;
 use crate::name_set::{NameSet, name_fault};
+use crate::profiling::profiling_fault;
 use crate::program::{acts_of, main_in, numbered};
 use crate::shapes::shape_fault;
 use base_classes::built_in;
@@ -31,16 +34,20 @@ const USUAL_HEAP: u32 = 4_194_304;
 
 // ---- the classes
 
-/// The faults of a class's codes.
+/// The first fault of a class's codes, or of what they use and become.
 fn check_code(alloc: Global, number: u32, class: &ClassFile) -> Result<(), AdmitError>
     requires { IsClassFile class.now }
     ensures passes { Passes result (code_fault_of number class.now) }
-    ensures read { OnOk result (AreRead class.now.methods) }
+    ensures readable { OnOk result (IsReadableClass class.now) }
 {
-    match check_codes(alloc, number, class) {
-        Ok(codes) => pass(floating_fault(number, class, codes.as_slice())),
-        Err(fault) => Err(fault),
+    let codes = match check_codes(alloc, number, class) {
+        Ok(codes) => codes,
+        Err(fault) => return Err(fault),
+    };
+    if let Some(fault) = floating_fault(alloc, number, class, codes.as_slice())? {
+        return Err(fault);
     }
+    pass(profiling_fault(alloc, number, class)?)
 }
 
 /// Err where there is a fault.
@@ -62,7 +69,7 @@ fn check_class(
 ) -> Result<(), AdmitError>
     requires { IsClassFile class.now }
     ensures passes { Passes result (class_fault_among names.now number class.now) }
-    ensures read { OnOk result (AreRead class.now.methods) }
+    ensures readable { OnOk result (IsReadableClass class.now) }
 {
     if let Some(fault) = name_fault(number, class, names) {
         return Err(fault);
@@ -73,13 +80,21 @@ fn check_class(
     check_code(alloc, number, class)
 }
 
-/// Whether admission takes a class where it is the first one, or its fault: its name, its shape, its codes, its floating point.
+/// Whether admission takes a class where it is the first one, or its first fault: of its name, its shape, its codes, its floating
+/// point, or of a method that can't be rewritten with probes. What rewrites classes takes each class that is admitted, and refuses
+/// no method of it.
 pub fn admit_class(alloc: Global, class: &ClassFile) -> Result<(), AdmitError>
     requires { IsClassFile class.now }
     ensures admitted { Passes result (class_fault [] 0 class.now) }
-    ensures read { OnOk result (AreRead class.now.methods) }
+    ensures readable { OnOk result (IsReadableClass class.now) }
+    ensures profilable { OnOk result (IsProfilable class.now) }
+    ensures tables { OnOk result (HaveSoundTables class.now) }
 {
-    check_class(alloc, 0, class, &NameSet::new(alloc))
+    let names = NameSet::new(alloc);
+    match check_class(alloc, 0, class, &names) {
+        Ok(()) => Ok(()),
+        Err(fault) => Err(fault),
+    }
 }
 
 /// Adds the class's name.
@@ -217,9 +232,10 @@ fn admit_over(
 }
 
 /// The program of these classes, with the built-in ones behind them, or its first fault. The classes are taken in order, and
-/// of each its name, its shape, its codes and then its floating point; behind the last class come the number of methods, the
-/// main method in the class named `main`, with slashes, and the roots of the plan's actions. Each class is read once; each
-/// action looks through the classes and the methods. Neither the plan's main class nor its budget is looked at.
+/// of each its name, its shape, its codes, its floating point and then what can't be rewritten with probes; behind the last class
+/// come the number of methods, the main method in the class named `main`, with slashes, and the roots of the plan's actions. Each
+/// class is read and rewritten once; each action looks through the classes and the methods. Neither the plan's main class nor its
+/// budget is looked at.
 pub fn admit(
     alloc: Global,
     classes: Seq<ClassFile>,

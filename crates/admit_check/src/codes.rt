@@ -1,4 +1,4 @@
-//! The first fault of a code (JVM Specification 4.9.1).
+//! The first fault of a code (JVM Specification 4.7.3, 4.9.1).
 
 ghost use Rattle.std.specs.Prelude.{◌≡◌, None, Ok, map, IfOk, IfErr, IfSome, OnOk};
 ghost use Rattle.std.specs.Option.{option_copied};
@@ -6,19 +6,21 @@ ghost use Rattle.const_pool.specs.ClassFile.{IsClassFile};
 ghost use Rattle.jvm_model.specs.Methods.{code_of};
 ghost use Rattle.admit_check.specs.Checks.{first_in};
 ghost use Rattle.admit_check.specs.Codes.{method_with, cause_of, instr_fault, falls, fits_handler};
-ghost use Rattle.admit_check.specs.Codes.{handler_fault, read_fault, reading_fault, code_fault};
+ghost use Rattle.admit_check.specs.Codes.{handler_fault, table_fault, read_fault, reading_fault};
+ghost use Rattle.admit_check.specs.Codes.{code_fault};
 ghost use Rattle.admit_check.specs.Codes.{instructions_of, result_of, method_fault, codes_fault};
 ghost use Rattle.admit_check.specs.Codes.{reading_of, read_as, readings_of, HasCodeLength};
 ghost use Rattle.admit_check.specs.Codes.{IsCodeRefusal, IsRefusal};
 ghost use Rattle.admit_check.specs.Uses.{AreWithin};
 ghost use Rattle.code_model.specs.Reading.{Gives};
 
+use crate::code_tables::fits_raw;
 use crate::error::{AdmitError, CodeCause};
 use crate::starts::Body;
 use crate::texts::method_kinds;
 use crate::uses::{fits_locals, fits_pool, fits_return, fits_type};
 use code_model::{Code, CodeError, Instr, decode};
-use const_pool::{Attribute, ClassFile, CodeAttribute, Handler, Kind, Member, Pool};
+use const_pool::{Attribute, ClassFile, CodeAttribute, Handler, Kind, Member, Pool, Raw};
 use jf_bytes::{NoMemory, Seq};
 use op_table::row;
 use std::alloc::Global;
@@ -166,6 +168,42 @@ fn first_handler_fault(body: &Body, len: u16, handlers: &[Handler]) -> Option<Co
     None
 }
 
+/// The fault of a table of the body.
+fn table_fault(
+    alloc: Global,
+    pool: &Pool,
+    body: &Body,
+    raw: &Raw,
+) -> Result<Option<CodeFault>, NoMemory>
+    ensures { IfOk result (λ fault. fault ≡ table_fault pool.now body.now raw.now) }
+{
+    if fits_raw(alloc, pool, body, raw)? {
+        return Ok(None);
+    }
+    Ok(Some(CodeFault {
+        at: 0,
+        cause: CodeCause::Table,
+    }))
+}
+
+/// The first fault of the tables.
+fn first_table_fault(
+    alloc: Global,
+    pool: &Pool,
+    body: &Body,
+    raws: &[Raw],
+) -> Result<Option<CodeFault>, NoMemory>
+    ensures { IfOk result (λ fault.
+        fault ≡ first_in (table_fault pool.now body.now) raws.now) }
+{
+    for raw in raws {
+        if let Some(fault) = table_fault(alloc, pool, body, raw)? {
+            return Ok(Some(fault));
+        }
+    }
+    Ok(None)
+}
+
 /// The fault of a code that was decoded.
 fn read_fault(
     alloc: Global,
@@ -185,7 +223,10 @@ fn read_fault(
         return Ok(Some(fault));
     }
     let len = code.code.len() as u16;
-    Ok(first_handler_fault(body, len, code.handlers.as_slice()))
+    if let Some(fault) = first_handler_fault(body, len, code.handlers.as_slice()) {
+        return Ok(Some(fault));
+    }
+    first_table_fault(alloc, pool, body, code.attributes.as_slice())
 }
 
 /// The code that the bytes are.
@@ -246,7 +287,7 @@ fn check_code(
 }
 
 /// A method's Code, where it has one.
-fn code_of(method: &Member) -> Option<&CodeAttribute>
+pub(crate) fn code_of(method: &Member) -> Option<&CodeAttribute>
     ensures { option_copied result ≡ code_of method.now }
 {
     for attribute in method.attributes.as_slice() {

@@ -3,17 +3,19 @@
 ghost use Rattle.std.specs.Prelude.{◌≡◌};
 ghost use Rattle.admit_check.specs.declared.error.AdmitError.TheVariants.{NoMemory as out_of_memory};
 
+use inject_events::Cause;
 use jf_bytes::NoMemory;
 use std::alloc::{AllocError, AllocFailed};
 use thiserror::Error;
 
-/// A place in a class: the position of a field or of a method, and for code the position of its method and the offset of the
-/// instruction.
+/// A place in a class: the position of a field or of a method, and for code and for a frame the position of its method and the
+/// offset of the instruction or of the frame.
 #[derive(Clone, Copy, Debug, PartialEq, Eq)]
 pub enum Place {
     Field(u16),
     Method(u16),
     Code(u16, u16),
+    Frame(u16, u16),
 }
 
 /// What is wrong with the shape of a class (JVM Specification 4.1, 4.5 to 4.7).
@@ -27,7 +29,7 @@ pub enum ShapeCause {
     Constant,
 }
 
-/// What is wrong with a method's code (JVM Specification 4.9.1).
+/// What is wrong with a method's code (JVM Specification 4.7.3, 4.9.1).
 #[derive(Clone, Copy, Debug, PartialEq, Eq)]
 pub enum CodeCause {
     Opcode,
@@ -40,6 +42,8 @@ pub enum CodeCause {
     Operand,
     Falls,
     Handler,
+    /// A table is outside its grammar, or a frame of it is for no instruction; this is told at offset 0.
+    Table,
 }
 
 /// Why a program is not admitted: its first fault. The first number is the position of the class among those given; the numbers
@@ -59,6 +63,9 @@ pub enum AdmitError {
     /// The class uses a float or a double at this place.
     #[error("floating point")]
     FloatingPoint(u32, Place),
+    /// The method at this position can't be rewritten with probes, because it would pass this limit.
+    #[error("a method cannot be profiled")]
+    NotProfilable(u32, u16, Cause),
     /// There are so many methods with Code, those of the built-in classes among them.
     #[error("too many methods")]
     TooManyMethods(u32),

@@ -1,6 +1,6 @@
 //! Floats and doubles (JVM Specification 2.3.2), which no admitted class uses.
 
-ghost use Rattle.std.specs.Prelude.{◌≡◌, ◌<◌, ◌^◌, length, map};
+ghost use Rattle.std.specs.Prelude.{◌≡◌, ◌<◌, ◌^◌, length, map, IfOk};
 ghost use Rattle.std.specs.Option.{option_and_then};
 ghost use Rattle.const_pool.specs.ClassFile.{IsClassFile};
 ghost use Rattle.const_pool.specs.Members.{reference_view};
@@ -14,11 +14,13 @@ ghost use Rattle.admit_check.specs.Floating.{floating_body, floating_fault};
 ghost use Rattle.admit_check.specs.Codes.{read_as, readings_of};
 
 use crate::error::{AdmitError, Place};
+use crate::floating_frames::floating_frames;
 use crate::texts::is_array_name;
 use code_model::{Arg, Code, Instr};
 use const_pool::{ClassFile, Const, Member, MemberRef, Pool};
-use jf_bytes::Text16;
+use jf_bytes::{NoMemory, Text16};
 use op_table::row;
+use std::alloc::Global;
 
 /// `D`, the descriptor of a double.
 const DOUBLE: u16 = 68;
@@ -197,14 +199,26 @@ fn body_fault(number: u32, pool: &Pool, codes: &[Option<Code>]) -> Option<AdmitE
     None
 }
 
-/// The first float or double that the class uses, in fields, methods and then code. `codes` are what its methods' codes
+/// The first float or double that the class uses, in fields, methods, code and then frames. `codes` are what its methods' codes
 /// were read as.
-pub fn floating_fault(number: u32, class: &ClassFile, codes: &[Option<Code>]) -> Option<AdmitError>
+pub fn floating_fault(
+    alloc: Global,
+    number: u32,
+    class: &ClassFile,
+    codes: &[Option<Code>],
+) -> Result<Option<AdmitError>, NoMemory>
     requires formed { IsClassFile class.now }
     requires read { map read_as codes.now ≡ readings_of class.now }
-    ensures { result ≡ floating_fault number class.now }
+    ensures { IfOk result (λ fault. fault ≡ floating_fault number class.now) }
 {
-    field_fault(number, &class.pool, class.fields.as_slice())
-        .or_else(|| method_fault(number, &class.pool, class.methods.as_slice()))
-        .or_else(|| body_fault(number, &class.pool, codes))
+    if let Some(fault) = field_fault(number, &class.pool, class.fields.as_slice()) {
+        return Ok(Some(fault));
+    }
+    if let Some(fault) = method_fault(number, &class.pool, class.methods.as_slice()) {
+        return Ok(Some(fault));
+    }
+    if let Some(fault) = body_fault(number, &class.pool, codes) {
+        return Ok(Some(fault));
+    }
+    floating_frames(alloc, number, class)
 }

@@ -2,10 +2,13 @@
 #![tactic(auto)]
 
 mod admission;
+mod code_tables;
 mod codes;
 mod error;
 mod floating;
+mod floating_frames;
 mod name_set;
+mod profiling;
 mod program;
 mod shapes;
 mod starts;

@@ -1,3 +1,3 @@
 pub mod ImageFits
-pub mod Readable
+pub mod Profilable
 pub mod Puts

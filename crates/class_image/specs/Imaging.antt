@@ -9,7 +9,7 @@ use Rattle.jvm_model.specs.declared.event.Mark.{Mark}
 use Rattle.admit_check.specs.Admission.{class_fault}
 use Rattle.inject_events.specs.Rewriting.{image_of, refused_of}
 use Rattle.class_image.specs.declared.imaging.ImageError.{ImageError}
-use Rattle.class_image.specs.declared.imaging.ImageError.TheVariants.{NotNumbered, NotMarked, NotFetched, NotRead, NotAdmitted, NotProfilable, NotPut, NoMemory}
+use Rattle.class_image.specs.declared.imaging.ImageError.TheVariants.{NotNumbered, NotMarked, NotFetched, NotRead, NotAdmitted, NotPut, NoMemory}
 use Rattle.class_image.specs.Words.{first_said, marks_said}
 
 -- the bytes are a class file, and admission takes its class
@@ -36,9 +36,6 @@ IsNotAdmitted bytes = (class : ClassFile) × IsFile bytes class × (class_fault 
 abbrev pub IsNotMarked : List ℕ → List Mark → Type 0
 IsNotMarked bytes marks = (class : ClassFile) × IsFile bytes class × (length marks ≢ length class.methods)
 
-abbrev pub IsNotProfilable : List ℕ → ℕ → List Mark → Type 0
-IsNotProfilable bytes first marks = (class : ClassFile) × IsFile bytes class × (refused_of class first marks ≢ None)
-
 -- what a refusal says of the bytes of a file
 abbrev pub IsRefusal : List ℕ → ℕ → List Mark → ImageError → Type 0
 IsRefusal bytes first marks NotNumbered = ⊥
@@ -46,7 +43,6 @@ IsRefusal bytes first marks NotMarked = IsNotMarked bytes marks
 IsRefusal bytes first marks NotFetched = ⊥
 IsRefusal bytes first marks NotRead = IsNoFile bytes
 IsRefusal bytes first marks NotAdmitted = IsNotAdmitted bytes
-IsRefusal bytes first marks NotProfilable = IsNotProfilable bytes first marks
 IsRefusal bytes first marks NotPut = ⊥
 IsRefusal bytes first marks NoMemory = Unit {0}
 
@@ -58,7 +54,6 @@ IsClassRefusal bytes NoMemory = Unit {0}
 IsClassRefusal bytes NotNumbered = ⊥
 IsClassRefusal bytes NotMarked = ⊥
 IsClassRefusal bytes NotFetched = ⊥
-IsClassRefusal bytes NotProfilable = ⊥
 IsClassRefusal bytes NotPut = ⊥
 
 -- ---- files
@@ -98,7 +93,6 @@ IsTold told name first marks NotMarked = (marks_said marks ≡ None) ⊎ IsFileR
 IsTold told name first marks NotFetched = Unit {0}
 IsTold told name first marks NotRead = IsFileRefused told name first marks NotRead
 IsTold told name first marks NotAdmitted = IsFileRefused told name first marks NotAdmitted
-IsTold told name first marks NotProfilable = IsFileRefused told name first marks NotProfilable
 IsTold told name first marks NotPut = Unit {0}
 IsTold told name first marks NoMemory = Unit {0}
 
@@ -109,6 +103,5 @@ reason_of NotMarked = codes "it has other methods than marks"
 reason_of NotFetched = codes "it could not be fetched"
 reason_of NotRead = codes "it is no class file"
 reason_of NotAdmitted = codes "it is not admitted"
-reason_of NotProfilable = codes "a method of it cannot be rewritten"
 reason_of NotPut = codes "it could not be put"
 reason_of NoMemory = codes "no memory"

@@ -2,8 +2,8 @@
 
 ghost use Rattle.std.specs.Prelude.{◌≡◌, ◌≢◌, ◌≤◌, ◌⊎◌, [], None, Err, IfOk, IfErr, OnOk};
 ghost use Rattle.jf_bytes.specs.Streams.{Rose, PutsAll, PutsFront, IsFetched};
-ghost use Rattle.admit_check.specs.Codes.{AreRead};
 ghost use Rattle.class_reader.specs.Files.{most_bytes};
+ghost use Rattle.inject_events.specs.Answers.{IsProfilable, IsReadableClass};
 ghost use Rattle.class_image.specs.Imaging.{IsAdmittedFile, IsImageOf, IsClassRefusal, IsRefusal, HasImage, IsFileRefusal, PutsImage, IsTold};
 
 use crate::words::{first_of, marks_of};
@@ -11,7 +11,7 @@ use admit_check::{AdmitError, admit_class};
 use class_reader::{MOST_BYTES, ReadError, read_class};
 use class_writer::write_fitting;
 use const_pool::ClassFile;
-use inject_events::{InjectError, image_of};
+use inject_events::{InjectError, instrument};
 use jf_bytes::{FetchError, Files, Sink};
 use jvm_model::Mark;
 use std::alloc::Global;
@@ -26,7 +26,6 @@ pub enum ImageError {
     NotFetched,
     NotRead,
     NotAdmitted,
-    NotProfilable,
     NotPut,
     NoMemory,
 }
@@ -34,7 +33,8 @@ pub enum ImageError {
 /// The class of a class file's bytes, which admission takes.
 fn class_of(alloc: Global, bytes: &[u8]) -> Result<ClassFile, ImageError>
     ensures admitted { IfOk result (λ class. IsAdmittedFile bytes.now class) }
-    ensures read { IfOk result (λ class. AreRead class.methods) }
+    ensures readable { IfOk result IsReadableClass }
+    ensures profilable { IfOk result IsProfilable }
     ensures refused { IfErr result (IsClassRefusal bytes.now) }
 {
     let class = match read_class(alloc, bytes) {
@@ -47,6 +47,14 @@ fn class_of(alloc: Global, bytes: &[u8]) -> Result<ClassFile, ImageError>
         Err(AdmitError::NoMemory) => Err(ImageError::NoMemory),
         Err(_) => Err(ImageError::NotAdmitted),
     }
+}
+
+/// The only refusal of a class that was admitted.
+fn want_of_memory(_error: InjectError) -> ImageError
+    requires { _error ≡ InjectError.NoMemory }
+    ensures { result ≡ ImageError.NoMemory }
+{
+    ImageError::NoMemory
 }
 
 /// The bytes of the image of a class file.
@@ -67,10 +75,9 @@ fn image_bytes(
     if marks.len() != class.methods.len() {
         return Err(ImageError::NotMarked);
     }
-    let image = match image_of(alloc, &class, first, marks) {
+    let image = match instrument(alloc, &class, first, marks) {
         Ok(image) => image,
-        Err(InjectError::NoMemory) => return Err(ImageError::NoMemory),
-        Err(InjectError::NotProfilable(..)) => return Err(ImageError::NotProfilable),
+        Err(error) => return Err(want_of_memory(error)),
     };
     match write_fitting(alloc, &image.class) {
         Ok(bytes) => Ok(bytes),

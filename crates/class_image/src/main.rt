@@ -24,7 +24,6 @@ fn reason(error: ImageError) -> &'static str
         ImageError::NotFetched => "it could not be fetched",
         ImageError::NotRead => "it is no class file",
         ImageError::NotAdmitted => "it is not admitted",
-        ImageError::NotProfilable => "a method of it cannot be rewritten",
         ImageError::NotPut => "it could not be put",
         ImageError::NoMemory => "no memory",
     }

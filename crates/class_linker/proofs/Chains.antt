@@ -46,6 +46,11 @@ module _ (p : Program) (rows : Rows) (are : AreRows p rows) where
       by (inl same) rest = ap (is_subtype p c) (equal d c same) ∙ itself p rows are c has
       by (inr k) rest = behind (among_flat (superclasses_within p n) (superclass_of p c) d k) rest
 
+  -- the direct superclass has a row
+  pub super_has : (c s : ℕ) → has_row rows c ≡ true → super_of p c ≡ Some s → has_row rows s ≡ true
+  super_has c s has is =
+      direct_has p rows are c s has (direct c s (ap (λ o. is_among s (option_to_list o)) is ∙ ap (λ b. b || false) (equals_itself s)))
+
   pub chain : (n c : ℕ) → has_row rows c ≡ true → IsChain p (superclasses_within p n c)
   chain zero c has = tt
   chain (suc n) c has = (λ d there. supers_above (suc n) c d has (ap (λ b. (d == c) || b) there ∙ or_true (d == c)), by (super_of p c) refl (chain n))
@@ -54,5 +59,4 @@ module _ (p : Program) (rows : Rows) (are : AreRows p rows) where
           → IsChain p (flat_map (superclasses_within p n) (option_to_list o))
       by None is rest = tt
       by (Some s) is rest =
-          let there : is_among s (superclass_of p c) ≡ true = ap (λ o. is_among s (option_to_list o)) is ∙ ap (λ b. b || false) (equals_itself s) in
-          subst (IsChain p) (sym (append-nil (superclasses_within p n s))) (rest s (direct_has p rows are c s has (direct c s there)))
+          subst (IsChain p) (sym (append-nil (superclasses_within p n s))) (rest s (super_has c s has is))

@@ -11,3 +11,4 @@ mod Chains
 mod PassedOn
 mod Searches
 mod WorkedAnswers
+mod WorkedCalls

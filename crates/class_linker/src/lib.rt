@@ -11,6 +11,7 @@ mod place;
 mod resolving;
 mod rows;
 mod selecting;
+mod super_calls;
 mod telling;
 mod walks;
 

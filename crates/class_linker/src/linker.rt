@@ -11,6 +11,7 @@ ghost use Rattle.class_index.specs.Indices.{IsLinkable};
 ghost use Rattle.class_index.specs.Members.{place_view};
 ghost use Rattle.class_linker.specs.Linkers.{IsAnswer, IsKnown, IsLoaded, linker_of, load_answer};
 ghost use Rattle.class_linker.specs.Linkers.{loaded_by, parts_of, resolved_of};
+ghost use Rattle.class_linker.specs.SuperCalls.{invoked_special};
 
 use crate::answers::{Loaded, Resolved};
 use crate::kinds::is_subkind;
@@ -20,6 +21,7 @@ use crate::place::Place;
 use crate::resolving::{resolved_field, resolved_method};
 use crate::rows::Row;
 use crate::selecting::selected;
+use crate::super_calls::invoked_special;
 use crate::telling::answer;
 use crate::walks::layout_of;
 use class_index::{Index, Order, Wanted};
@@ -144,9 +146,9 @@ impl Linker {
     }
 
     /// The method that an object of the receiver's class has for a method of a class: by class and position. With `interface` it is
-    /// the nearest instance method of the same name and descriptor, as invokeinterface takes it, and invokespecial from the direct
-    /// superclass; else the nearest one that is the method or overrides it, as invokevirtual takes it. None where there is none or
-    /// it is abstract. It looks into each superclass of the receiver once, and goes through supertypes once at most.
+    /// the nearest instance method of the same name and descriptor, as invokeinterface takes it; else the nearest one that is the
+    /// method or overrides it, as invokevirtual takes it. None where there is none or it is abstract. It looks into each superclass
+    /// of the receiver once, and goes through supertypes once at most.
     pub fn select(
         &self,
         receiver: u32,
@@ -161,6 +163,20 @@ impl Linker {
         let rows = self.state.rows.as_slice();
         let m = Place { class, position };
         let found = selected(&self.index, rows, receiver, interface, m)?;
+        Some((found.class, found.position))
+    }
+
+    /// The method that invokespecial in a method of the caller invokes for a resolved one; methods are named by class and position.
+    /// A method that a proper superclass of the caller declares and that is no instance initialization method is sought again, by its
+    /// name and descriptor alone, among instance methods from the caller's direct superclass upwards. Every other one is taken as it
+    /// is. None where there is none or it is abstract. ACC_SUPER is taken as set.
+    pub fn special(&self, caller: u32, class: u32, position: u16) -> Option<(u32, u16)>
+        requires { IsLoaded self.now caller }
+        ensures { option_map place_view result
+            ≡ invoked_special self.now.program caller (place_in class position) }
+    {
+        let rows = self.state.rows.as_slice();
+        let found = invoked_special(&self.index, rows, caller, Place { class, position })?;
         Some((found.class, found.position))
     }
 

@@ -1,4 +1,4 @@
-//! Which method is invoked (JVM Specification chapter 6, invokevirtual, invokeinterface and invokespecial).
+//! Which method an object's class has for a resolved one (JVM Specification chapter 6, invokevirtual and invokeinterface).
 
 ghost use Rattle.std.specs.Prelude.{◌≡◌, false, true};
 ghost use Rattle.std.specs.Option.{option_map};
@@ -132,7 +132,7 @@ fn first_candidate(
 }
 
 /// The nearest one from the class upwards.
-fn nearest(
+pub fn nearest(
     index: &Index,
     rows: &[Option<Row>],
     receiver: u32,

@@ -1,8 +1,10 @@
 //! The walks over the supertypes of classes that were loaded.
 
-ghost use Rattle.std.specs.Prelude.{◌≡◌, true};
+ghost use Rattle.std.specs.Prelude.{◌≡◌, IfSome, true};
 ghost use Rattle.jvm_model.specs.Layouts.{layout};
+ghost use Rattle.jvm_model.specs.Load.{is_among};
 ghost use Rattle.jvm_model.specs.Lookup.{is_subtype, superclasses, superinterfaces, supertypes};
+ghost use Rattle.jvm_model.specs.Programs.{super_of};
 ghost use Rattle.class_index.specs.Orders.{IsSearchedAs};
 ghost use Rattle.class_linker.specs.Passing.{IsChain};
 ghost use Rattle.class_linker.specs.Rows.{AreRows, all_rows, has_row};
@@ -22,6 +24,26 @@ pub fn superclasses_of<'a>(index: &Index, rows: &'a [Option<Row>], class: u32) -
     ensures chain { IsChain index.now result.now }
 {
     superclasses_in(rows, class)
+}
+
+/// A class's direct superclass.
+#[tactic(auto, using(crate::proofs::Chains::super_has))]
+pub fn superclass_of(index: &Index, rows: &[Option<Row>], class: u32) -> Option<u32>
+    requires rows { AreRows index.now rows.now }
+    requires has { has_row rows.now class ≡ true }
+    ensures above { result ≡ super_of index.now class }
+    ensures has { IfSome result (λ above. has_row rows.now above ≡ true) }
+{
+    index.super_of(class)
+}
+
+/// Whether a class is the other one or inherits from it.
+pub fn is_superclass(index: &Index, rows: &[Option<Row>], lower: u32, upper: u32) -> bool
+    requires rows { AreRows index.now rows.now }
+    requires has { has_row rows.now lower ≡ true }
+    ensures { result ≡ is_among upper (superclasses index.now lower) }
+{
+    superclasses_of(index, rows, lower).contains(&upper)
 }
 
 /// The superinterfaces of a class, as they are searched.

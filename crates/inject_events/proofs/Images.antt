@@ -1,76 +1,85 @@
--- The methods of an image, one by one and all of them.
-use Rattle.std.proofs.Common.{◌≡◌, ℕ, ◌+◌, ◌≤◌, Bool, false, true, cond, List, [], ◌∷◌, ◌++◌, length, drop, Option, Some, refl, ap, append_assoc, arith}
-use Rattle.std.specs.Prelude.{is_some}
-use Rattle.std.proofs.lemmas.List.{append-nil, drop_all}
+-- An image by its function is an image as the machine takes it.
+use Rattle.std.proofs.Common.{◌≡◌, ℕ, suc, false, true, Bool, cond, List, [], ◌∷◌, length, Option, Some, None, refl, sym, ap, subst, ◌∙◌, arith}
+use Rattle.std.specs.Prelude.{map, is_some, IfSome, MatchBool, Result, Ok, Err, IfOk}
+use Rattle.const_pool.specs.declared.class.ClassFile.{ClassFile}
 use Rattle.const_pool.specs.declared.class.Member.{Member}
 use Rattle.const_pool.specs.declared.class.CodeAttribute.{CodeAttribute}
 use Rattle.code_model.specs.declared.instr.Code.{Code}
+use Rattle.code_model.specs.declared.instr.Instr.{Instr}
 use Rattle.code_model.specs.declared.laying.Homes.{Homes}
 use Rattle.jvm_model.specs.declared.event.Mark.{Mark}
 use Rattle.jvm_model.specs.declared.event.Mark.TheVariants.{Off, Plain, Root}
 use Rattle.jvm_model.specs.Methods.{code_of}
-use Rattle.jvm_model.specs.Images.{is_off, IsMarkedMember, IsMemberImage, AreMemberImages, next_number}
+use Rattle.jvm_model.specs.Images.{is_off, all_off, IsMarkedMember, IsMemberImage, AreMemberImages, IsOriginal, IsRewritten, IsImage, next_number}
+use Rattle.jvm_model.specs.Versions.{IsVersion, laid_version, code_with}
+use Rattle.inject_events.specs.declared.error.InjectError.{InjectError}
+use Rattle.inject_events.specs.declared.image.Image.{Image}
 use Rattle.inject_events.specs.declared.methods.MethodImage.{MethodImage}
-use Rattle.inject_events.specs.Instrumentable.{HasRewritableCode}
-use Rattle.inject_events.specs.Probing.{probes_of, version_with, image_with, IsMadeWith}
+use Rattle.inject_events.specs.declared.settings.Setting.{Setting}
+use Rattle.inject_events.specs.Answers.{IsReadableBody, HasReadableBody, HaveReadableBodies, IsReadableClass, MarkedHaveCode, IsImageAnswer}
+use Rattle.inject_events.specs.Settings.{setting_of, probes_in}
+use Rattle.inject_events.specs.Probing.{laid_with}
+use Rattle.inject_events.specs.Rewriting.{instrs_in, version_of, image_of_coded, image_of_method, images_from, original_of, image_of_marked, image_of, refused_of}
+use Rattle.inject_events.proofs.InstrsIn.{instrs_in-is}
 
 -- ---- one method
 
-marked : (count number : ℕ) (mark : Mark) (m : Member) (image : MethodImage) → HasRewritableCode m → IsMadeWith (probes_of count number mark) m image
-    → (moved : Homes) × IsMarkedMember count number mark m image.member moved × (image.homes ≡ Some moved)
-marked count number mark m image has made =
-    let old : CodeAttribute = has.code in
-    let reading : Code = has.rewritable.readable.reading in
-    let version = version_with (probes_of count number mark) old reading.instrs in
-    let is : image ≡ image_with version m = made old reading has.coded has.rewritable.readable.reads in (
+-- a version, whichever mark the method has
+version-is : (c : ClassFile) (number : ℕ) (mark : Mark) (old : CodeAttribute) → IsReadableBody old
+    → (let s : Setting = setting_of c in (i : List Instr) → laid_with (probes_in s.tail number mark) i ≡ laid_version (length c.pool) number mark i)
+    → IsVersion (length c.pool) number mark old (version_of (setting_of c) number mark old).code (version_of (setting_of c) number mark old).homes
+version-is c number mark old body alike =
+    let s : Setting = setting_of c in
+    let reading : Code = body.readable.reading in
+    let same : laid_with (probes_in s.tail number mark) (instrs_in old.code) ≡ laid_version (length c.pool) number mark reading.instrs =
+    ap (laid_with (probes_in s.tail number mark)) (instrs_in-is old.code reading body.readable.reads) ∙ alike reading.instrs in
+    record {
+      reading = reading;
+      reads = body.readable.reads;
+      moved = ap (λ l. l.homes) same;
+      code = ap (code_with old) same;
+    }
+
+marked-coded : (c : ClassFile) (number : ℕ) (mark : Mark) (m : Member) (code : Option CodeAttribute) → code_of m ≡ code → IfSome code IsReadableBody → is_some code ≡ true
+    → (let s : Setting = setting_of c in (i : List Instr) → laid_with (probes_in s.tail number mark) i ≡ laid_version (length c.pool) number mark i)
+    → (let image : MethodImage = image_of_coded (setting_of c) number mark m code in (moved : Homes) × IsMarkedMember (length c.pool) number mark m image.member moved × (image.homes ≡ Some moved))
+marked-coded c number mark m None coded body has alike = absurd cc
+marked-coded c number mark m (Some old) coded body has alike =
+    let version = version_of (setting_of c) number mark old in (
       version.homes,
-      record {
-        before = old;
-        after = version.code;
-        coded = has.coded;
-        version = record { reading = reading; reads = has.rewritable.readable.reads; moved = refl; code = refl };
-        replaced = ap (λ (i : MethodImage). i.member) is;
-      },
-      ap (λ (i : MethodImage). i.homes) is,
+      record { before = old; after = version.code; coded = coded; version = version-is c number mark old body alike; replaced = refl },
+      refl,
     )
 
-pub IsMemberImage-marked : (count number : ℕ) (mark : Mark) (m : Member) (image : MethodImage) → is_off mark ≡ false → HasRewritableCode m → IsMadeWith (probes_of count number mark) m image → IsMemberImage count number mark m image.member image.homes
-IsMemberImage-marked count number Off m image on has made = absurd cc
-IsMemberImage-marked count number Plain m image on has made = marked count number Plain m image has made
-IsMemberImage-marked count number Root m image on has made = marked count number Root m image has made
+member-image : (c : ClassFile) (number : ℕ) (mark : Mark) (m : Member) → HasReadableBody m → (is_off mark ≡ false → is_some (code_of m) ≡ true)
+    → (let image : MethodImage = image_of_method (setting_of c) number mark m in IsMemberImage (length c.pool) number mark m image.member image.homes)
+member-image c number Off m body has = (refl, refl)
+member-image c number Plain m body has = marked-coded c number Plain m (code_of m) refl body (has refl) (λ i. refl)
+member-image c number Root m body has = marked-coded c number Root m (code_of m) refl body (has refl) (λ i. refl)
 
 -- ---- all methods
 
--- The methods up to this place have their images. Whatever images those from there on have, with this number for the first of
--- them, the two together are images of them all.
-pub record AreDone (count first : ℕ) (marks : List Mark) (olds : List Member) (place number : ℕ) (news : List Member) (homes : List (Option Homes)) : Type 0 where
-  pub joins : (more : List Member) (more_homes : List (Option Homes)) → AreMemberImages count number (drop place marks) (drop place olds) more more_homes → AreMemberImages count first marks olds (news ++ more) (homes ++ more_homes)
+member-images : (c : ClassFile) (number : ℕ) (marks : List Mark) (methods : List Member) → length marks ≡ length methods → HaveReadableBodies methods → MarkedHaveCode marks methods
+    → (let images : List MethodImage = images_from (setting_of c) number marks methods in
+    AreMemberImages (length c.pool) number marks methods (map (λ (i : MethodImage). i.member) images) (map (λ (i : MethodImage). i.homes) images))
+member-images c number [] [] counted bodies have = tt
+member-images c number (mark ∷ marks) (m ∷ methods) counted bodies have =
+    (member-image c number mark m (bodies 0 m refl) have.0, member-images c (next_number number m) marks methods (omega (arith, counted)) (λ k n at. bodies (suc k) n at) have.1)
+member-images c number [] (m ∷ methods) counted bodies have = absurd (omega (arith, counted))
+member-images c number (mark ∷ marks) [] counted bodies have = absurd (omega (arith, counted))
 
-pub AreDone-none : (count first : ℕ) (marks : List Mark) (olds : List Member) → AreDone count first marks olds 0 first [] []
-AreDone-none count first marks olds = record { joins = λ more more_homes images. images }
+-- ---- the class
 
--- one more
-pub AreDone-more : (count first : ℕ) (marks : List Mark) (olds : List Member) (place number next : ℕ) (news : List Member) (homes : List (Option Homes)) (mark : Mark) (old new : Member) (home : Option Homes)
-    → AreDone count first marks olds place number news homes → drop place marks ≡ mark ∷ drop (place + 1) marks → drop place olds ≡ old ∷ drop (place + 1) olds → next ≡ next_number number old
-    → IsMemberImage count number mark old new home → AreDone count first marks olds (place + 1) next (news ++ new ∷ []) (homes ++ home ∷ [])
-AreDone-more count first marks olds place number next news homes mark old new home done at_mark at_old numbered image = record {
-  joins = λ more more_homes images.
-      let next_images : AreMemberImages count (next_number number old) (drop (place + 1) marks) (drop (place + 1) olds) more more_homes = rw (← numbered) images in
-      let here : AreMemberImages count number (drop place marks) (drop place olds) (new ∷ more) (home ∷ more_homes) = rw (at_mark, at_old) (image, next_images) in
-      rw (append_assoc, append_assoc) (done.joins (new ∷ more) (home ∷ more_homes) here);
-}
+image-is : (c : ClassFile) (first : ℕ) (marks : List Mark) → IsReadableClass c → length marks ≡ length c.methods → MarkedHaveCode marks c.methods
+    → IsImage c first marks (image_of c first marks).class (image_of c first marks).homes
+image-is c first marks readable counted have = by_off (all_off marks)
+  where
+    by_off : (off : Bool) → (let image : Image = cond off (original_of c) (image_of_marked c first marks) in MatchBool off (IsOriginal c image.class image.homes) (IsRewritten c first marks image.class image.homes))
+    by_off true = record { class_stays = refl; unmoved = refl }
+    by_off false = record { methods = member-images c first marks c.methods counted readable.bodies have; rest = refl }
 
--- none is left
-pub AreDone-all : (count first : ℕ) (marks : List Mark) (olds : List Member) (place number : ℕ) (news : List Member) (homes : List (Option Homes))
-    → AreDone count first marks olds place number news homes → length marks ≤ place → length olds ≤ place → AreMemberImages count first marks olds news homes
-AreDone-all count first marks olds place number news homes done no_mark no_old =
-    let here : AreMemberImages count number (drop place marks) (drop place olds) [] [] = rw (drop_all place marks no_mark, drop_all place olds no_old) tt in
-    rw (append-nil, append-nil) at (done.joins [] [] here)
-
--- a method takes at most one number
-one_more : (b : Bool) (number : ℕ) → cond b (number + 1) number ≤ number + 1
-one_more true number = omega arith
-one_more false number = omega arith
-
-pub next_number-le : (number : ℕ) (m : Member) → next_number number m ≤ number + 1
-next_number-le number m = one_more (is_some (code_of m)) number
+pub IsImage-answer : (c : ClassFile) (first : ℕ) (marks : List Mark) (answer : Result Image InjectError) → IsReadableClass c → length marks ≡ length c.methods
+    → IsImageAnswer answer (refused_of c first marks) (image_of c first marks) → IfOk answer (λ (image : Image). MarkedHaveCode marks c.methods → IsImage c first marks image.class image.homes)
+IsImage-answer c first marks (Ok image) readable counted is =
+    λ have. subst (λ (i : Image). IsImage c first marks i.class i.homes) (sym is.1) (image-is c first marks readable counted have)
+IsImage-answer c first marks (Err error) readable counted is = tt

@@ -1,10 +1,15 @@
 pub mod Laying
 pub mod Images
-pub mod Rewritable
+pub mod Built
 pub mod Framing
 pub mod InstrsIn
 pub mod Tabling
 pub mod Causes
 pub mod Rooms
+pub mod Profilable
+pub mod TailPools
+pub mod LaidBytes
+pub mod Formed
 pub mod SoundMoves
-mod WorkedTables
+pub mod WorkedTables
+mod WorkedLimits

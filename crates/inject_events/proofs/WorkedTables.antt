@@ -14,7 +14,7 @@ use Rattle.inject_events.specs.declared.settings.Table.TheVariants as table
 use Rattle.inject_events.specs.Rewriting.{room_cause}
 use Rattle.inject_events.specs.Tables.{table_of, moved_table, version_tables}
 
-abbrev setting : Bool → Setting
+abbrev pub setting : Bool → Setting
 setting framed = record {
   framed = framed;
   tail = record { pool = Gap ∷ Utf8 (codes "StackMapTable") ∷ Utf8 (codes "LineNumberTable") ∷ []; root = 29; enter = 32; leave = 35; unwind = 38; throwable = 40; frames = 41 };

@@ -1,17 +1,19 @@
 -- What the functions of rewriting owe: what is asked of a class, and which answer comes.
-use Rattle.std.specs.Prelude.{◌≡◌, ℕ, ◌<◌, ◌≤◌, List, length, Option, Some, None, Result, Ok, Err, IfSome, slice_get}
+use Rattle.std.specs.Prelude.{◌≡◌, ℕ, ◌<◌, ◌≤◌, true, false, List, [], ◌∷◌, length, Option, Some, None, is_some, Result, Ok, Err, IfSome, slice_get}
 use Rattle.const_pool.specs.declared.class.ClassFile.{ClassFile}
 use Rattle.const_pool.specs.declared.class.CodeAttribute.{CodeAttribute}
 use Rattle.const_pool.specs.declared.class.Member.{Member}
 use Rattle.code_model.specs.declared.instr.Code.{Code}
 use Rattle.code_model.specs.Instructions.{IsReading}
+use Rattle.jvm_model.specs.declared.event.Mark.{Mark}
+use Rattle.jvm_model.specs.Images.{is_off}
 use Rattle.jvm_model.specs.Methods.{code_of}
 use Rattle.inject_events.specs.declared.error.Cause.{Cause}
 use Rattle.inject_events.specs.declared.error.InjectError.{InjectError}
 use Rattle.inject_events.specs.declared.error.InjectError.TheVariants as inject
 use Rattle.inject_events.specs.declared.error.NoVersion.{NoVersion}
 use Rattle.inject_events.specs.declared.error.NoVersion.TheVariants as version
-use Rattle.inject_events.specs.Rewriting.{Refused}
+use Rattle.inject_events.specs.Rewriting.{Refused, refused_of, all_plain}
 
 -- the instructions of a code can be read
 pub record IsReadableCode (bytes : List ℕ) : Type 0 where
@@ -35,6 +37,12 @@ pub record IsReadableClass (c : ClassFile) : Type 0 where
   pub few : length c.methods ≤ 65535
   pub bodies : HaveReadableBodies c.methods
 
+-- each marked method has Code
+abbrev pub MarkedHaveCode : List Mark → List Member → Type 0
+MarkedHaveCode [] methods = Unit {0}
+MarkedHaveCode (mark ∷ marks) [] = Unit {0}
+MarkedHaveCode (mark ∷ marks) (m ∷ methods) = (is_off mark ≡ false → is_some (code_of m) ≡ true) × MarkedHaveCode marks methods
+
 -- what was made, unless a limit would be passed or memory ran out
 abbrev pub IsVersionAnswer : {A : Type 0} → Result A NoVersion → Option Cause → A → Type 0
 IsVersionAnswer (Ok made) cause wanted = (cause ≡ None) × (made ≡ wanted)
@@ -45,3 +53,8 @@ abbrev pub IsImageAnswer : {A : Type 0} → Result A InjectError → Option Refu
 IsImageAnswer (Ok made) refused wanted = (refused ≡ None) × (made ≡ wanted)
 IsImageAnswer (Err (inject.NotProfilable position why)) refused wanted = refused ≡ Some (position, why)
 IsImageAnswer (Err inject.NoMemory) refused wanted = Unit {0}
+
+-- Each method could be rewritten, as admission asks of a class. The numbers of the methods and which marks they have make no
+-- difference.
+abbrev pub IsProfilable : ClassFile → Type 0
+IsProfilable c = refused_of c 0 (all_plain c) ≡ None

@@ -1,4 +1,3 @@
-pub mod Instrumentable
 pub mod Probing
 pub mod Settings
 pub mod Tables

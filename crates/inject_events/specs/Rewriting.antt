@@ -168,3 +168,7 @@ refused_of_marked c first marks = if is_full_pool c then Some (first_marked mark
 -- The first marked method that has a cause, and its first cause. A pool without room for its tail is a cause of each.
 abbrev pub refused_of : ClassFile → ℕ → List Mark → Option Refused
 refused_of c first marks = if all_off marks then None else refused_of_marked c first marks
+
+-- a mark for each method, none of them Off
+abbrev pub all_plain : ClassFile → List Mark
+all_plain c = map (λ (m : Member). Plain) c.methods

@@ -1,8 +1,11 @@
 //! The image of a class: its marked methods with their probes, and the pool tail that the probes name.
 
-ghost use Rattle.std.specs.Prelude.{◌≡◌, ◌≤◌, ◌+◌, ◌<◌, length, Err, IfOk};
+ghost use Rattle.std.specs.Prelude.{◌≡◌, ◌≢◌, ◌≤◌, ◌+◌, ◌<◌, ℕ, length, Err, IfOk};
+ghost use Rattle.const_pool.specs.ClassFile.{IsClassFile};
 ghost use Rattle.const_pool.specs.declared.tail.TailError.{TailError as TheTailError};
-ghost use Rattle.inject_events.specs.Answers.{IsReadableClass, IsImageAnswer};
+ghost use Rattle.jvm_model.specs.Images.{IsImage};
+ghost use Rattle.inject_events.specs.declared.error.Cause.{Cause as TheCause};
+ghost use Rattle.inject_events.specs.Answers.{IsReadableClass, IsImageAnswer, IsProfilable, MarkedHaveCode};
 ghost use Rattle.inject_events.specs.Rewriting.{original_of, image_with_methods, image_of_marked, refused_of_marked, image_of, refused_of};
 ghost use Rattle.inject_events.specs.Settings.{setting_of};
 ghost use Rattle.inject_events.specs.SoundTables.{MovesSoundTables};
@@ -88,9 +91,8 @@ fn image_of_marked(
     }
 }
 
-/// The image of a class for these marks, one for each method, or the first method that cannot be rewritten. `first` is the number
-/// of the class's first method that has Code. The image is the class itself where no method is marked.
-pub fn image_of(
+/// The image of a class, or the first method that cannot be rewritten.
+fn image_of(
     alloc: Global,
     class: &ClassFile,
     first: u32,
@@ -99,14 +101,41 @@ pub fn image_of(
     requires class { IsReadableClass class.now }
     requires first { first ≤ 2147418112 }
     requires marks { length marks.now ≡ length class.now.methods }
-    ensures answer { IsImageAnswer result (refused_of class.now first marks.now)
+    ensures { IsImageAnswer result (refused_of class.now first marks.now)
         (image_of class.now first marks.now) }
-    // Tables that keep to their grammars are moved.
-    ensures moves { MovesSoundTables (setting_of class.now) }
 {
     if all_off(marks) {
         Ok(original_of(alloc, class)?)
     } else {
         image_of_marked(alloc, class, first, marks)
     }
+}
+
+/// The image of a class for these marks, one for each method, or the position of the first marked method that cannot be rewritten,
+/// with its first cause. `first` is the number of the class's first method that has Code. The image is the class itself where no
+/// method is marked; of a marked method it has the version, with its handlers, frames and debug tables moved, and its homes.
+pub fn instrument(
+    alloc: Global,
+    class: &ClassFile,
+    first: u32,
+    marks: &[Mark],
+) -> Result<Image, InjectError>
+    requires class { IsReadableClass class.now }
+    requires first { first ≤ 2147418112 }
+    requires marks { length marks.now ≡ length class.now.methods }
+    // What comes, as a function of the class.
+    ensures answer { IsImageAnswer result (refused_of class.now first marks.now)
+        (image_of class.now first marks.now) }
+    // Tables that keep to their grammars are moved.
+    ensures moves { MovesSoundTables (setting_of class.now) }
+    // It is an image as the machine takes it.
+    ensures image { IfOk result (λ image. MarkedHaveCode marks.now class.now.methods
+        → IsImage class.now first marks.now image.class image.homes) }
+    // The image of a class file is one.
+    ensures formed { IfOk result (λ image. IsClassFile class.now → IsClassFile image.class) }
+    // A class each of whose methods could be rewritten is never refused.
+    ensures profilable { IsProfilable class.now → (method : ℕ) (cause : TheCause)
+        → result ≢ Err (InjectError.NotProfilable method cause) }
+{
+    image_of(alloc, class, first, marks)
 }

@@ -14,6 +14,6 @@ mod settings;
 mod tables;
 mod versions;
 
-pub use classes::image_of;
+pub use classes::instrument;
 pub use error::{Cause, InjectError};
-pub use image::{Image, instrument};
+pub use image::Image;

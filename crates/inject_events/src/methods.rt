@@ -1,18 +1,15 @@
 //! The methods of a class in its image.
 
-ghost use Rattle.std.specs.Prelude.{◌≡◌, ◌<◌, ◌≤◌, length, None, IfOk, IfErr};
+ghost use Rattle.std.specs.Prelude.{◌≡◌, ◌<◌, None, IfOk};
 ghost use Rattle.std.specs.Option.{option_copied};
 ghost use Rattle.jvm_model.specs.Methods.{code_of};
 ghost use Rattle.jvm_model.specs.Images.{is_off, all_off, with_code_at, with_code, next_number};
-ghost use Rattle.inject_events.specs.Instrumentable.{HasRewritableCode, AreRewritable};
-ghost use Rattle.inject_events.specs.Probing.{refusal, IsMadeWith, IsImageBehind, AreImagesBehind};
+ghost use Rattle.inject_events.specs.Probing.{refusal};
 
 use crate::copying::{copy_code, copy_member, copy_raw};
 use crate::error::{InjectError, NoVersion};
-use crate::probes::{Probes, probes_of};
-use crate::versions::{Version, make_version};
 use code_model::Homes;
-use const_pool::{Attribute, CodeAttribute, Member, Tail};
+use const_pool::{Attribute, CodeAttribute, Member};
 use jf_bytes::{NoMemory, Seq};
 use jvm_model::Mark;
 use std::alloc::Global;
@@ -109,43 +106,6 @@ pub(crate) fn original_image(alloc: Global, member: &Member) -> Result<MethodIma
     })
 }
 
-/// A method with these probes. One without code would stay as it is.
-fn marked_image(alloc: Global, probes: &Probes, member: &Member) -> Result<MethodImage, NoVersion>
-    requires { HasRewritableCode member.now }
-    ensures made { IfOk result (IsMadeWith probes.now member.now) }
-    ensures fits { IfErr result (λ error. error ≡ NoVersion.NoMemory) }
-{
-    let Some(old) = code_of(member) else {
-        return Ok(original_image(alloc, member)?);
-    };
-    let Version { code, homes } = match make_version(alloc, probes, old) {
-        Ok(version) => version,
-        Err(error) => return Err(error),
-    };
-    Ok(MethodImage {
-        member: with_code(alloc, &code, member)?,
-        homes: Some(homes),
-    })
-}
-
-/// The image of a method with this number and this mark.
-fn method_image(
-    alloc: Global,
-    tail: &Tail,
-    number: u32,
-    mark: Mark,
-    member: &Member,
-) -> Result<MethodImage, NoVersion>
-    requires { HasRewritableCode member.now }
-    ensures image { IfOk result (IsImageBehind tail.now number mark member.now) }
-    ensures fits { IfErr result (λ error. error ≡ NoVersion.NoMemory) }
-{
-    match mark {
-        Mark::Off => Ok(original_image(alloc, member)?),
-        Mark::Plain | Mark::Root => marked_image(alloc, &probes_of(tail, number, mark), member),
-    }
-}
-
 /// What is told where the method at this position gets no version.
 pub(crate) fn refusal(position: u16, reason: NoVersion) -> InjectError
     ensures { result ≡ refusal position reason }
@@ -161,35 +121,4 @@ pub(crate) fn refusal(position: u16, reason: NoVersion) -> InjectError
 pub struct Methods {
     pub members: Seq<Member>,
     pub homes: Seq<Option<Homes>>,
-}
-
-/// The images of methods, of which those that have code are numbered from `first` on.
-pub fn method_images(
-    alloc: Global,
-    tail: &Tail,
-    first: u32,
-    marks: &[Mark],
-    methods: &[Member],
-) -> Result<Methods, InjectError>
-    requires rewritable { AreRewritable methods.now }
-    requires few { length methods.now ≤ 65535 }
-    requires first { first ≤ 2147418112 }
-    requires marks { length marks.now ≡ length methods.now }
-    ensures images { IfOk result (AreImagesBehind tail.now first marks.now methods.now) }
-    ensures profilable { IfErr result (λ error. error ≡ InjectError.NoMemory) }
-{
-    let mut members = Seq::with_capacity(alloc, methods.len())?;
-    let mut homes = Seq::with_capacity(alloc, methods.len())?;
-    let mut number = first;
-    for (position, member) in methods.iter().enumerate() {
-        let mark = marks[position];
-        let image = match method_image(alloc, tail, number, mark, member) {
-            Ok(image) => image,
-            Err(reason) => return Err(refusal(position as u16, reason)),
-        };
-        members.push(image.member)?;
-        homes.push(image.homes)?;
-        number = next_number(number, member);
-    }
-    Ok(Methods { members, homes })
 }

@@ -1,8 +1,7 @@
 //! The bytes of the probes (JVM Specification 6.5, athrow, invokestatic and sipush).
 
-ghost use Rattle.std.specs.Prelude.{◌≡◌, ℕ, [], ◌∷◌, ◌++◌};
-ghost use Rattle.jvm_model.specs.Versions.{probe_bytes, entry_index};
-ghost use Rattle.inject_events.specs.Probing.{IsTailBehind, probes_of};
+ghost use Rattle.std.specs.Prelude.{◌≡◌, [], ◌∷◌, ◌++◌};
+ghost use Rattle.jvm_model.specs.Versions.{probe_bytes};
 ghost use Rattle.inject_events.specs.Settings.{entry_in, probes_in};
 
 use const_pool::Tail;
@@ -55,27 +54,6 @@ fn unwind(number: u32, index: u16) -> [u8; 7]
         index_low,
         ATHROW,
     ]
-}
-
-/// Which method of the probe class is told at the entry.
-fn entry_index(tail: &Tail, mark: Mark) -> u16
-    ensures { (count : ℕ) → IsTailBehind count tail.now → result ≡ entry_index count mark }
-{
-    match mark {
-        Mark::Root => tail.root,
-        Mark::Plain | Mark::Off => tail.enter,
-    }
-}
-
-/// The probes of the method with this number.
-pub fn probes_of(tail: &Tail, number: u32, mark: Mark) -> Probes
-    ensures { (count : ℕ) → IsTailBehind count tail.now → result ≡ probes_of count number mark }
-{
-    Probes {
-        entry: probe(number, entry_index(tail, mark)),
-        leave: probe(number, tail.leave),
-        unwind: unwind(number, tail.unwind),
-    }
 }
 
 /// Which method of the probe class is told at the entry.

@@ -1,16 +1,12 @@
 //! Versions: the code of a method with its probes.
 
-ghost use Rattle.std.specs.Prelude.{◌≡◌, ◌<◌, ◌≤◌, [], length, map, IfOk, IfErr, if◌then◌else◌};
-ghost use Rattle.code_model.specs.Instructions.{IsReading};
+ghost use Rattle.std.specs.Prelude.{◌≡◌, [], map, IfOk, if◌then◌else◌};
 ghost use Rattle.std.specs.List.Sorted.{IsStrictlyIncreasing};
 ghost use Rattle.jvm_model.specs.Versions.{is_return_opcode, group_of, moved_handler, catch_all};
-ghost use Rattle.inject_events.specs.Probing.{handlers_by, no_version, IsLaidWith, IsVersionWith};
-ghost use Rattle.inject_events.specs.Instrumentable.{AreStraight, IsReadable, IsRewritable};
+ghost use Rattle.inject_events.specs.Probing.{handlers_by, no_version};
 
-use crate::copying::copy_raws;
 use crate::error::{Cause, NoVersion};
-use crate::probes::Probes;
-use code_model::{Code, CodeError, Group, Homes, Instr, Laid, LayError, decode, lay_out};
+use code_model::{CodeError, Group, Homes, Instr, LayError};
 use const_pool::{CodeAttribute, Handler};
 use jf_bytes::{NoMemory, Seq};
 use op_table::row;
@@ -64,39 +60,6 @@ pub(crate) fn want_of_memory(_fault: CodeError) -> NoMemory
     requires { _fault ≡ CodeError.NoMemory }
 {
     NoMemory
-}
-
-/// The instructions of a code that is one.
-fn decode_readable(alloc: Global, code: &[u8]) -> Result<Code, NoMemory>
-    requires some { 0 < length code.now }
-    requires short { length code.now ≤ 65535 }
-    requires readable { IsReadable code.now }
-    ensures found { IfOk result (λ decoded. IsReading code.now decoded) }
-    ensures not_empty { IfOk result (λ decoded. 0 < length decoded.instrs) }
-    ensures straight { IfOk result (λ decoded. AreStraight decoded.instrs) }
-{
-    match decode(alloc, code) {
-        Ok(decoded) => Ok(decoded),
-        Err(fault) => Err(want_of_memory(fault)),
-    }
-}
-
-/// The code with its probes, and where its instructions come to stand. Short code without branches stays short with its
-/// probes, so that it can always be laid out.
-fn lay_version(alloc: Global, probes: &Probes, code: &[u8]) -> Result<Laid, LayError>
-    requires some { 0 < length code.now }
-    requires short { length code.now ≤ 9000 }
-    requires readable { IsReadable code.now }
-    ensures laid { IfOk result (IsLaidWith probes.now code.now) }
-    ensures rises { IfOk result (λ laid. IsStrictlyIncreasing laid.homes.from) }
-    ensures fits { IfErr result (λ error. error ≡ LayError.NoMemory) }
-{
-    let decoded = decode_readable(alloc, code)?;
-    let groups = groups_of(alloc, &probes.leave, decoded.instrs)?;
-    match lay_out(alloc, &probes.entry, groups.as_slice(), &probes.unwind) {
-        Ok(laid) => Ok(laid),
-        Err(error) => Err(error),
-    }
 }
 
 /// Why there is no version, where there is no layout.
@@ -160,30 +123,4 @@ pub(crate) fn version_handlers(
 pub struct Version {
     pub code: CodeAttribute,
     pub homes: Homes,
-}
-
-/// The version of a code with these probes.
-pub fn make_version(
-    alloc: Global,
-    probes: &Probes,
-    old: &CodeAttribute,
-) -> Result<Version, NoVersion>
-    requires { IsRewritable old.now }
-    ensures version { IfOk result (IsVersionWith probes.now old.now) }
-    ensures fits { IfErr result (λ error. error ≡ NoVersion.NoMemory) }
-{
-    let Laid { code, homes } = match lay_version(alloc, probes, old.code.as_slice()) {
-        Ok(laid) => laid,
-        Err(error) => return Err(no_version(error)),
-    };
-    let end = old.code.len() as u16;
-    let handlers = version_handlers(alloc, &homes, old.handlers.as_slice(), end)?;
-    let code = CodeAttribute {
-        max_stack: (old.max_stack + 1).max(2),
-        max_locals: old.max_locals,
-        code,
-        handlers,
-        attributes: Seq::new(alloc),
-    };
-    Ok(Version { code, homes })
 }

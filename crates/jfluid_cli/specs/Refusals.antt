@@ -11,6 +11,8 @@ use Rattle.admit_check.specs.declared.error.Place.{Place}
 use Rattle.admit_check.specs.declared.error.Place.TheVariants as place
 use Rattle.admit_check.specs.declared.error.ShapeCause.{ShapeCause}
 use Rattle.admit_check.specs.declared.error.ShapeCause.TheVariants as shape
+use Rattle.inject_events.specs.declared.error.Cause.{Cause}
+use Rattle.inject_events.specs.declared.error.Cause.TheVariants as limit
 use Rattle.small_program.specs.Admission.{is_of_class}
 use Rattle.jfluid_cli.specs.declared.refusal.Refusal.{Refusal}
 use Rattle.jfluid_cli.specs.declared.refusal.Refusal.TheVariants.{Words, BadRoot, NotRead, NotAdmitted, NotBuilt, NotBuiltPlan, NotFetched, OutFailed, NoMemory}
@@ -64,11 +66,21 @@ code_word code.Return = codes "Return"
 code_word code.Operand = codes "Operand"
 code_word code.Falls = codes "Falls"
 code_word code.Handler = codes "Handler"
+code_word code.Table = codes "Table"
+
+abbrev pub limit_word : Cause → List ℕ
+limit_word limit.Pool = codes "Pool"
+limit_word limit.Stack = codes "Stack"
+limit_word limit.Handlers = codes "Handlers"
+limit_word limit.Frames = codes "Frames"
+limit_word limit.Length = codes "Length"
+limit_word limit.Branch = codes "Branch"
 
 abbrev pub place_text : Place → List ℕ
 place_text (place.Field n) = codes "Field " ++ decimal n
 place_text (place.Method n) = codes "Method " ++ decimal n
 place_text (place.Code n at) = codes "Code " ++ (decimal n ++ (codes " " ++ decimal at))
+place_text (place.Frame n at) = codes "Frame " ++ (decimal n ++ (codes " " ++ decimal at))
 
 abbrev pub admission_cause : AdmitError → List ℕ
 admission_cause (admit.ReservedName class) = codes "ReservedName"
@@ -77,6 +89,8 @@ admission_cause (admit.BadShape class why) = codes "BadShape " ++ shape_word why
 admission_cause (admit.BadCode class method at why) =
     codes "BadCode " ++ (decimal method ++ (codes " " ++ (decimal at ++ (codes " " ++ code_word why))))
 admission_cause (admit.FloatingPoint class at) = codes "FloatingPoint " ++ place_text at
+admission_cause (admit.NotProfilable class method why) =
+    codes "NotProfilable " ++ (decimal method ++ (codes " " ++ limit_word why))
 admission_cause (admit.TooManyMethods count) = codes "TooManyMethods " ++ decimal count
 admission_cause admit.NoMain = codes "NoMain"
 admission_cause (admit.NoSuchRoot action) = codes "NoSuchRoot " ++ decimal action

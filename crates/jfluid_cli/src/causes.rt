@@ -4,8 +4,10 @@ ghost use Rattle.std.specs.Prelude.{◌≡◌, IfOk};
 ghost use Rattle.std.specs.String.{string_bytes};
 ghost use Rattle.jfluid_cli.specs.Refusals.{admission_cause as cause_told, code_word as code_told};
 ghost use Rattle.jfluid_cli.specs.Refusals.{place_text as place_told, shape_word as shape_told};
+ghost use Rattle.jfluid_cli.specs.Refusals.{limit_word as limit_told};
 
 use admit_check::{AdmitError, CodeCause, Place, ShapeCause};
+use inject_events::Cause;
 use std::alloc::{AllocError, Global};
 
 /// The name of what is wrong with a class's shape.
@@ -37,6 +39,21 @@ fn code_word(cause: CodeCause) -> &'static str
         CodeCause::Operand => "Operand",
         CodeCause::Falls => "Falls",
         CodeCause::Handler => "Handler",
+        CodeCause::Table => "Table",
+    }
+}
+
+/// The name of a limit that a method with probes would pass.
+fn limit_word(cause: Cause) -> &'static str
+    ensures { result.now ≡ limit_told cause }
+{
+    match cause {
+        Cause::Pool => "Pool",
+        Cause::Stack => "Stack",
+        Cause::Handlers => "Handlers",
+        Cause::Frames => "Frames",
+        Cause::Length => "Length",
+        Cause::Branch => "Branch",
     }
 }
 
@@ -48,6 +65,7 @@ fn place_text(alloc: Global, place: Place) -> Result<String, AllocError>
         Place::Field(field) => format!(in alloc; "Field {field}"),
         Place::Method(method) => format!(in alloc; "Method {method}"),
         Place::Code(method, at) => format!(in alloc; "Code {method} {at}"),
+        Place::Frame(method, at) => format!(in alloc; "Frame {method} {at}"),
     }
 }
 
@@ -69,6 +87,10 @@ pub fn admission_cause(alloc: Global, fault: AdmitError) -> Result<String, Alloc
         AdmitError::FloatingPoint(_, place) => {
             let place = place_text(alloc, place)?;
             format!(in alloc; "FloatingPoint {place}")
+        }
+        AdmitError::NotProfilable(_, method, cause) => {
+            let word = limit_word(cause);
+            format!(in alloc; "NotProfilable {method} {word}")
         }
         AdmitError::TooManyMethods(count) => format!(in alloc; "TooManyMethods {count}"),
         AdmitError::NoMain => String::from_str(alloc, "NoMain"),

@@ -57,7 +57,7 @@ moved_handler homes h = record h { start = home_of homes h.start; end = home_of 
 abbrev pub catch_all : Homes → ℕ → Handler
 catch_all homes end = record { start = home_of homes 0; end = home_of homes end; handler = home_of homes end; catch_class = 0 }
 
--- the Code attribute of a version, of the code that was laid out; frames and debug tables are left out
+-- the Code attribute of a version, of the code that was laid out, without its attributes: no step reads frames or debug tables
 abbrev pub code_with : CodeAttribute → Laid → CodeAttribute
 code_with old laid = record old {
   max_stack = max (old.max_stack + 1) 2;
@@ -66,9 +66,9 @@ code_with old laid = record old {
   attributes = [];
 }
 
--- The version of a method with this number, for a mark other than Off. A code has at most one reading.
+-- The version of a method with this number, for a mark other than Off. A code has at most one reading. Its attributes may be any.
 pub record IsVersion (count number : ℕ) (mark : Mark) (old new : CodeAttribute) (homes : Homes) : Type 0 where
   pub reading : Code
   pub reads : IsReading old.code reading
   pub moved : homes ≡ (laid_version count number mark reading.instrs).homes
-  pub code : new ≡ code_with old (laid_version count number mark reading.instrs)
+  pub code : record new { attributes = [] } ≡ code_with old (laid_version count number mark reading.instrs)

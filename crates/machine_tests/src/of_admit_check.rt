@@ -4,3 +4,4 @@ mod admission;
 mod classes;
 mod codes;
 mod counts;
+mod tables;

@@ -2,11 +2,11 @@
 
 ghost use Rattle.std.specs.Prelude.{◌≡◌, length, IfOk};
 ghost use Rattle.const_pool.specs.ClassFile.{class_bytes};
-ghost use Rattle.jvm_model.specs.StandsFor.{IsBuilt};
+ghost use Rattle.inject_events.specs.Answers.{IsReadableClass};
 ghost use Rattle.jvm_model.proofs.PlainRun.{p1};
 
 use class_reader::{ReadError, read_class};
-use const_pool::{Attribute, ClassFile, CodeAttribute, Handler, Pool};
+use const_pool::{Attribute, ClassFile, CodeAttribute, Handler, Pool, Raw};
 use inject_events::{Image, instrument};
 use jvm_model::Mark;
 use std::alloc::Global;
@@ -40,9 +40,9 @@ fn p1_bytes() -> &'static [u8]
     &P1
 }
 
-/// P1, of which the tests need no more than that it can be rewritten.
+/// P1, of which the tests need no more than that its codes can be read.
 fn p1(alloc: Global) -> Result<ClassFile, ReadError>
-    ensures rewritable { IfOk result (λ class. IsBuilt class) }
+    ensures readable { IfOk result (λ class. IsReadableClass class) }
     ensures methods { IfOk result (λ class. length class.methods ≡ 2) }
 {
     read_class(alloc, p1_bytes())
@@ -74,15 +74,34 @@ fn has_code(image: &Image, method: usize, bytes: &[u8]) -> bool {
     }
 }
 
-/// Whether a method has this max_stack and this exception table, and no attributes in its code.
+/// Whether a method has this max_stack and this exception table.
 fn has_tables(image: &Image, method: usize, max_stack: u16, handlers: &[Handler]) -> bool {
     match code_of(image, method) {
         Some(code) => {
             code.max_stack == max_stack
                 && code.max_locals == 1
                 && code.handlers.as_slice() == handlers
-                && code.attributes.is_empty()
         }
+        None => false,
+    }
+}
+
+/// Whether a method's code has one attribute, a StackMapTable with the frame of the added handler alone, which begins here.
+fn has_one_frame(image: &Image, method: usize, handler: u8) -> bool {
+    let frame = [0, 1, 0xFF, 0, handler, 0, 0, 0, 1, 7, 0, 40];
+    match code_of(image, method) {
+        Some(code) => match code.attributes.as_slice() {
+            [Raw { name: 41, bytes }] => bytes.as_slice() == frame,
+            _ => false,
+        },
+        None => false,
+    }
+}
+
+/// Whether a method's code has no attributes.
+fn has_no_attributes(image: &Image, method: usize) -> bool {
+    match code_of(image, method) {
+        Some(code) => code.attributes.is_empty(),
         None => false,
     }
 }
@@ -133,6 +152,7 @@ fn rewrites_a_root(rt: HostRuntime) -> Result<(), Fail> {
     let image = image_of_p1(rt.alloc(), 0, Mark::Root, Mark::Off)?;
     assert!(rt; has_code(&image, 0, &ROOT_F));
     assert!(rt; has_tables(&image, 0, 3, &[F_HANDLER]));
+    assert!(rt; has_one_frame(&image, 0, 16));
     assert!(rt;
         has_homes(
             &image,
@@ -144,6 +164,7 @@ fn rewrites_a_root(rt: HostRuntime) -> Result<(), Fail> {
     );
     assert!(rt; has_code(&image, 1, &MAIN));
     assert!(rt; has_tables(&image, 1, 2, &[]));
+    assert!(rt; has_no_attributes(&image, 1));
     assert!(rt; has_no_homes(&image, 1));
     Ok(())
 }
@@ -154,6 +175,7 @@ fn rewrites_both(rt: HostRuntime) -> Result<(), Fail> {
     assert!(rt; has_code(&image, 0, &ROOT_F));
     assert!(rt; has_code(&image, 1, &PLAIN_MAIN));
     assert!(rt; has_tables(&image, 1, 3, &[MAIN_HANDLER]));
+    assert!(rt; has_one_frame(&image, 1, 24));
     assert!(rt;
         has_homes(
             &image,

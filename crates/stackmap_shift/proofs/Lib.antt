@@ -4,3 +4,4 @@ mod Rows
 mod Again
 pub mod Rising
 pub mod Laid
+pub mod FramesRead

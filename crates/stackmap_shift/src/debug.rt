@@ -1,6 +1,6 @@
 //! Debug tables: LineNumberTable, LocalVariableTable and LocalVariableTypeTable (JVM Specification 4.7.8, 4.7.9, 4.7.10).
 
-ghost use Rattle.std.specs.Prelude.{◌≡◌, ◌<◌, ◌≤◌, ◌+◌, ◌++◌, ℕ, length, map, All, OnOk, IfOk};
+ghost use Rattle.std.specs.Prelude.{◌≡◌, ◌<◌, ◌≤◌, ◌+◌, ◌++◌, ℕ, is_ok, length, map, All, OnOk, IfOk};
 ghost use Rattle.std.specs.List.{flat_map};
 ghost use Rattle.std.specs.List.Sorted.{IsStrictlyIncreasing};
 ghost use Rattle.stackmap_shift.specs.Tables.{Gives, nothing_left};
@@ -95,6 +95,28 @@ fn variables_of(alloc: Global, bytes: &[u8]) -> Result<Seq<Variable>, FrameError
     let (variables, rest) = counted_of(&Variables, alloc, limit, bytes)?;
     nothing_left(limit, rest)?;
     Ok(variables)
+}
+
+/// Whether the contents of an attribute are a LineNumberTable.
+pub fn is_line_table(alloc: Global, bytes: &[u8]) -> Result<bool, NoMemory>
+    ensures { IfOk result (λ is. is ≡ is_ok (lines_of bytes.now)) }
+{
+    match lines_of(alloc, bytes) {
+        Ok(_) => Ok(true),
+        Err(FrameError::BadFrame(_)) => Ok(false),
+        Err(FrameError::NoMemory) => Err(NoMemory),
+    }
+}
+
+/// Whether the contents of an attribute are a LocalVariableTable or a LocalVariableTypeTable.
+pub fn is_variable_table(alloc: Global, bytes: &[u8]) -> Result<bool, NoMemory>
+    ensures { IfOk result (λ is. is ≡ is_ok (variables_of bytes.now)) }
+{
+    match variables_of(alloc, bytes) {
+        Ok(_) => Ok(true),
+        Err(FrameError::BadFrame(_)) => Ok(false),
+        Err(FrameError::NoMemory) => Err(NoMemory),
+    }
 }
 
 /// The start at an index, or the last one.

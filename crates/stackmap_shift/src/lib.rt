@@ -12,7 +12,7 @@ mod reading;
 mod types;
 mod writing;
 
-pub use debug::{shift_lines, shift_vars};
+pub use debug::{is_line_table, is_variable_table, shift_lines, shift_vars};
 pub use error::FrameError;
 pub use frames::{Frame, FrameKind, Frames, VType};
 pub use moves::shift_frames;

@@ -24,12 +24,12 @@ static SHAPES: [Shape; 14] = [
     (CLASS, "p/C", "B", &[], &[], &[]),
 ];
 
-fn shapes() -> &'static [Shape] {
+pub(super) fn shapes() -> &'static [Shape] {
     &SHAPES
 }
 
 /// An answer: the kind, or the name of the error's class; the classes that are loaded by it; and the name that is no class.
-enum Wanted {
+pub(super) enum Wanted {
     New(u32, &'static [&'static str]),
     Already(u32),
     Throws(&'static str, &'static [&'static str], &'static str),
@@ -76,7 +76,7 @@ static LOADS: [(&str, Wanted); 20] = [
     ("[Z", Wanted::Already(16_777_220)),
 ];
 
-fn loads() -> &'static [(&'static str, Wanted)] {
+pub(super) fn loads() -> &'static [(&'static str, Wanted)] {
     &LOADS
 }
 
@@ -92,7 +92,7 @@ fn is_absent(told: &Option<Text16>, name: &str) -> bool {
     }
 }
 
-fn is_wanted(linker: &Linker, given: &Loaded, wanted: &Wanted) -> bool {
+pub(super) fn is_wanted(linker: &Linker, given: &Loaded, wanted: &Wanted) -> bool {
     match given {
         Loaded::New(kind, classes) => match wanted {
             Wanted::New(due, names) => kind == due && are_named(linker, classes.as_slice(), names),
@@ -127,7 +127,7 @@ static IN_THE_END: [&str; 9] = [
     "java/lang/Integer",
 ];
 
-fn in_the_end() -> &'static [&'static str] {
+pub(super) fn in_the_end() -> &'static [&'static str] {
     &IN_THE_END
 }
 

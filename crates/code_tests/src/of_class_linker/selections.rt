@@ -23,9 +23,10 @@ const STATIC: &str = "9 v ()I";
 const ABSTRACT: &str = "1025 v ()I";
 
 /// Most of them have v.
-static SHAPES: [Shape; 16] = [
+static SHAPES: [Shape; 17] = [
     (CLASS, "p/A", OBJECT, &[], &[], &[PACKAGE]),
     (CLASS, "q/B", "p/A", &[], &[], &[PUBLIC]),
+    (CLASS, "q/F", "q/B", &[], &[], &[]),
     (CLASS, "p/B", "p/A", &[], &[], &[PUBLIC]),
     (CLASS, "q/C", "p/B", &[], &[], &[PROTECTED]),
     (CLASS, "p/S", "p/A", &[], &[], &[STATIC]),
@@ -57,8 +58,9 @@ fn loaded(alloc: Global) -> Result<Linker, Fail> {
 
 /// A receiver's class, the class of the resolved v, whether it is sought as invokeinterface does, and the class whose v is
 /// selected.
-static SELECTIONS: [(&str, &str, bool, Option<&str>); 18] = [
+static SELECTIONS: [(&str, &str, bool, Option<&str>); 19] = [
     ("q/B", "p/A", false, Some("p/A")),
+    ("q/F", "p/A", false, Some("p/A")),
     ("p/B", "p/A", false, Some("p/B")),
     ("q/C", "p/A", false, Some("q/C")),
     ("q/C", "p/B", false, Some("q/C")),
@@ -82,6 +84,17 @@ fn selections() -> &'static [(&'static str, &'static str, bool, Option<&'static 
     &SELECTIONS
 }
 
+/// Whether it is the method at place 0 of the class of this name, or none where there is no name.
+fn is_method_of(linker: &Linker, given: Option<(u32, u16)>, wanted: &Option<&str>) -> bool {
+    match given {
+        Some((class, position)) => match wanted {
+            Some(name) => position == 0 && is_named(linker, class, name),
+            None => false,
+        },
+        None => wanted.is_none(),
+    }
+}
+
 /// Whether the method at place 0 of this class is selected for a receiver that is loaded.
 fn is_selected(
     linker: &Linker,
@@ -93,13 +106,7 @@ fn is_selected(
     if !is_loaded(linker, receiver) {
         return false;
     }
-    match linker.select(receiver, class, 0, interface) {
-        Some((found, position)) => match wanted {
-            Some(name) => position == 0 && is_named(linker, found, name),
-            None => false,
-        },
-        None => wanted.is_none(),
-    }
+    is_method_of(linker, linker.select(receiver, class, 0, interface), wanted)
 }
 
 #[test]
@@ -110,6 +117,52 @@ fn selected_methods(rt: HostRuntime) -> Result<(), Fail> {
         let own = class_named(&linker, class);
         let right = is_selected(&linker, from, own, *interface, wanted);
         assert!(rt; right, "of {class} for {receiver}");
+    }
+    Ok(())
+}
+
+/// A caller's class, the class of the resolved v, and the class whose v invokespecial invokes: from the direct superclass upwards
+/// where the resolved one is above the caller, and else the resolved one.
+static SPECIALS: [(&str, &str, Option<&str>); 14] = [
+    ("q/B", "p/A", Some("p/A")),
+    ("q/F", "p/A", Some("q/B")),
+    ("q/C", "p/A", Some("p/B")),
+    ("q/C", "p/B", Some("p/B")),
+    ("q/C", "q/C", Some("q/C")),
+    ("q/D", "p/A", Some("p/A")),
+    ("q/E", "p/A", Some("p/R")),
+    ("q/E", "p/R", Some("p/R")),
+    ("p/R", "p/R", Some("p/R")),
+    ("U", "T", Some("T")),
+    ("T", "U", Some("U")),
+    ("N", "T", None),
+    ("W", "W", None),
+    ("X", "H", None),
+];
+
+fn specials() -> &'static [(&'static str, &'static str, Option<&'static str>)] {
+    &SPECIALS
+}
+
+/// The method that a caller invokes for the one at place 0 of this class; None, too, where the caller is not loaded.
+fn special(linker: &Linker, caller: u32, class: u32) -> Option<(u32, u16)> {
+    if !is_loaded(linker, caller) {
+        return None;
+    }
+    linker.special(caller, class, 0)
+}
+
+#[test]
+fn special_methods(rt: HostRuntime) -> Result<(), Fail> {
+    let linker = loaded(rt.alloc())?;
+    for (caller, class, wanted) in specials() {
+        let from = class_named(&linker, caller);
+        let own = class_named(&linker, class);
+        let given = special(&linker, from, own);
+        assert!(rt;
+            is_method_of(&linker, given, wanted),
+            "of {class} in {caller}"
+        );
     }
     Ok(())
 }
@@ -210,7 +263,12 @@ fn is_known(linker: &Linker, kind: u32) -> bool
 }
 
 /// Whether what has the one name's kind also has the other's; None where that is not known.
-fn subtype(alloc: Global, linker: &mut Linker, below: &str, above: &str) -> Option<bool> {
+pub(super) fn subtype(
+    alloc: Global,
+    linker: &mut Linker,
+    below: &str,
+    above: &str,
+) -> Option<bool> {
     let lower = kind_of(alloc, linker, below)?;
     let upper = kind_of(alloc, linker, above)?;
     if !is_known(linker, lower) {

@@ -4,20 +4,21 @@ use Rattle.const_pool.specs.ClassFile.{class_bytes}
 use Rattle.class_writer.specs.Fits.{FitsClass}
 use Rattle.inject_events.specs.declared.image.Image.{Image}
 use Rattle.class_image.proofs.ImageFits.{fits-image}
-use Rattle.class_image.proofs.Readable.{IsReadableClass-read}
+use Rattle.class_image.proofs.Profilable.{memory-alone}
 use Rattle.class_image.proofs.imaging.image_bytes.Goals as goal
 
-pub image_of-requires-clause-class : goal.image_of-requires-clause-class
-image_of-requires-clause-class c = IsReadableClass-read c.in-Ok.class c.in-Ok.ensures.admitted.file.spells.formed c.in-Ok.ensures.read
+pub want_of_memory-requires : goal.want_of_memory-requires
+want_of_memory-requires c =
+    memory-alone c.in-Err-instrument.error (c.in-Err-instrument.ensures.profilable c.in-Ok.ensures.profilable)
 
 pub write_fitting-requires : goal.write_fitting-requires
 write_fitting-requires c =
-    let answer = c.in-Ok-image_of.ensures.answer in
+    let answer = c.in-Ok-instrument.ensures.answer in
     subst (λ (i : Image). FitsClass i.class) (sym answer.1) (fits-image c.in-Ok.class c.args.first c.args.marks.now c.in-Ok.ensures.admitted.file.spells.formed answer.0)
 
 pub returns-in-Ok-write_fitting-clause-image : goal.returns-in-Ok-write_fitting-clause-image
 returns-in-Ok-write_fitting-clause-image c =
-    let answer = c.in-Ok-image_of.ensures.answer in
+    let answer = c.in-Ok-instrument.ensures.answer in
     record {
       class = c.in-Ok.class;
       admitted = c.in-Ok.ensures.admitted;

@@ -7,7 +7,8 @@ use Rattle.class_reader.specs.declared.error.ReadError.TheVariants.{NoMemory}
 use Rattle.class_reader.specs.Files.{IsFile}
 use Rattle.jf_bytes.specs.Results.{IsUnless}
 use Rattle.jvm_model.proofs.PlainRun.{p1}
-use Rattle.jvm_model.specs.StandsFor.{IsBuilt}
+use Rattle.inject_events.specs.Answers.{IsReadableClass}
+use Rattle.inject_events.proofs.Built.{IsReadableClass-built}
 use Rattle.machine_tests.proofs.WorkedClass.{p1_built, p1_file}
 use Rattle.machine_tests.proofs.of_inject_events.p1.Goals as goal
 
@@ -15,9 +16,9 @@ of_p1 : (P : ClassFile → Type 0) (result : Result ClassFile ReadError) → IsU
 of_p1 P result (inl e) holds = subst (λ r. IfOk r P) (sym e) holds
 of_p1 P result (inr e) holds = subst (λ r. IfOk r P) (sym e) tt
 
-pub returns-clause-rewritable : goal.returns-clause-rewritable
-returns-clause-rewritable c =
-    of_p1 IsBuilt c.read_class.result (c.read_class.ensures.only p1 (subst (λ bytes. IsFile bytes p1) (sym c.p1_bytes.ensures) p1_file)) p1_built
+pub returns-clause-readable : goal.returns-clause-readable
+returns-clause-readable c =
+    of_p1 IsReadableClass c.read_class.result (c.read_class.ensures.only p1 (subst (λ bytes. IsFile bytes p1) (sym c.p1_bytes.ensures) p1_file)) (IsReadableClass-built p1 p1_built)
 
 pub returns-clause-methods : goal.returns-clause-methods
 returns-clause-methods c =

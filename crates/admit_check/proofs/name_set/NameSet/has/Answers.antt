@@ -1,5 +1,4 @@
 use Rattle.std.proofs.Common.{ap, ◌∙◌}
-use Rattle.std.specs.Prelude.{map}
 use Rattle.std.specs.List.{list_any}
 use Rattle.jvm_model.specs.Descriptors.{same_text}
 use Rattle.admit_check.proofs.NamesSeen.{any_seen}

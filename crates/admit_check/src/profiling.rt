@@ -1,0 +1,45 @@
+//! Whether each method of a class can be rewritten with probes.
+
+ghost use Rattle.std.specs.Prelude.{◌≡◌, IfOk};
+ghost use Rattle.inject_events.specs.Answers.{IsReadableClass};
+ghost use Rattle.inject_events.specs.Rewriting.{all_plain};
+ghost use Rattle.admit_check.specs.Profiling.{profiling_fault};
+
+use crate::error::AdmitError;
+use const_pool::ClassFile;
+use inject_events::{InjectError, instrument};
+use jf_bytes::{NoMemory, Seq};
+use jvm_model::Mark;
+use std::alloc::Global;
+
+/// A mark for each method.
+fn all_plain(alloc: Global, class: &ClassFile) -> Result<Seq<Mark>, NoMemory>
+    ensures { IfOk result (λ marks. marks ≡ all_plain class.now) }
+{
+    let methods = class.methods.as_slice();
+    let mut marks = Seq::with_capacity(alloc, methods.len())?;
+    for _method in methods {
+        marks.push(Mark::Plain)?;
+    }
+    Ok(marks)
+}
+
+/// The fault of the first method that cannot be rewritten where all methods are. What they become is made and given up: the size of
+/// each table is known only then.
+pub(crate) fn profiling_fault(
+    alloc: Global,
+    number: u32,
+    class: &ClassFile,
+) -> Result<Option<AdmitError>, NoMemory>
+    requires { IsReadableClass class.now }
+    ensures { IfOk result (λ fault. fault ≡ profiling_fault number class.now) }
+{
+    let marks = all_plain(alloc, class)?;
+    match instrument(alloc, class, 0, marks.as_slice()) {
+        Ok(_image) => Ok(None),
+        Err(InjectError::NotProfilable(method, cause)) => {
+            Ok(Some(AdmitError::NotProfilable(number, method, cause)))
+        }
+        Err(InjectError::NoMemory) => Err(NoMemory),
+    }
+}

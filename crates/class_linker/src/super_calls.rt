@@ -1,0 +1,76 @@
+//! Which method invokespecial invokes (JVM Specification chapter 6, invokespecial).
+
+ghost use Rattle.std.specs.Prelude.{◌≡◌, IfSome, true};
+ghost use Rattle.std.specs.Option.{option_map};
+ghost use Rattle.jvm_model.specs.Load.{is_among};
+ghost use Rattle.jvm_model.specs.Programs.{super_of};
+ghost use Rattle.class_linker.specs.Places.{at_place};
+ghost use Rattle.class_linker.specs.Rows.{AreRows, has_row};
+ghost use Rattle.class_linker.specs.SuperCalls.{invoked_special, is_inherited, is_initializer};
+ghost use Rattle.class_linker.specs.SuperCalls.{nearest_above, taken};
+
+use crate::overriding::{is_abstract, signature_of};
+use crate::place::Place;
+use crate::rows::Row;
+use crate::selecting::nearest;
+use crate::walks::{is_superclass, superclass_of};
+use class_index::Index;
+
+/// Whether it is an instance initialization method (2.9).
+fn is_initializer(index: &Index, m: Place) -> bool
+    ensures { result ≡ is_initializer index.now (at_place m) }
+{
+    match signature_of(index, m) {
+        Some(wanted) => wanted.name.is_bytes(b"<init>"),
+        None => false,
+    }
+}
+
+/// Whether it is declared in a proper superclass of the caller.
+fn is_inherited(index: &Index, rows: &[Option<Row>], caller: u32, m: Place) -> bool
+    requires rows { AreRows index.now rows.now }
+    requires has { has_row rows.now caller ≡ true }
+    ensures { result ≡ is_inherited index.now caller (at_place m) }
+{
+    match superclass_of(index, rows, caller) {
+        Some(above) => is_superclass(index, rows, above, m.class),
+        None => false,
+    }
+}
+
+/// The nearest one from the caller's direct superclass upwards.
+fn nearest_above(index: &Index, rows: &[Option<Row>], caller: u32, m: Place) -> Option<Place>
+    requires rows { AreRows index.now rows.now }
+    requires has { has_row rows.now caller ≡ true }
+    ensures { option_map at_place result ≡ nearest_above index.now caller (at_place m) }
+{
+    let above = superclass_of(index, rows, caller)?;
+    nearest(index, rows, above, true, m)
+}
+
+/// The method that is taken for the resolved one, be it abstract.
+fn taken(index: &Index, rows: &[Option<Row>], caller: u32, m: Place) -> Option<Place>
+    requires rows { AreRows index.now rows.now }
+    requires has { has_row rows.now caller ≡ true }
+    ensures { option_map at_place result ≡ taken index.now caller (at_place m) }
+{
+    if is_inherited(index, rows, caller, m) && !is_initializer(index, m) {
+        nearest_above(index, rows, caller, m)
+    } else {
+        Some(m)
+    }
+}
+
+/// The method that a caller invokes for the resolved one.
+pub fn invoked_special(index: &Index, rows: &[Option<Row>], caller: u32, m: Place) -> Option<Place>
+    requires rows { AreRows index.now rows.now }
+    requires has { has_row rows.now caller ≡ true }
+    ensures { option_map at_place result ≡ invoked_special index.now caller (at_place m) }
+{
+    let found = taken(index, rows, caller, m)?;
+    if is_abstract(index, found) {
+        None
+    } else {
+        Some(found)
+    }
+}

@@ -1,0 +1,256 @@
+//! What a linker answers over class files of whole programs: a row is the files, what is asked, and the answer.
+
+use super::classes::{class_named, is_loaded, is_named, linker_over, text};
+use super::corner_files::{
+    ABSENT_CLASS_REACHED, INTERFACE_METHOD_OF_OBJECT, INTERFACE_WITH_A_SUPERCLASS, LOADS_THAT_FAIL,
+    PACKAGE_PRIVATE_OTHER_PACKAGE, PACKAGE_PRIVATE_THROUGH_PUBLIC, PRIVATE_OVERRIDES,
+    RESOLVED_IN_AN_INTERFACE, STRING_LENGTH_SPECIAL, SUPERCLASS_DOES_NOT_IMPLEMENT,
+};
+use super::selections::subtype;
+use base_classes::built_in_name;
+use class_linker::{Linker, Loaded, Resolved};
+use std::alloc::Global;
+use std::test::Fail;
+
+/// A field or a method as a class file refers to it: a class, a name and a descriptor.
+type Reference = (&'static str, &'static str, &'static str);
+
+/// What is asked. The classes that are named here are loaded before.
+enum Asked {
+    /// What loading the name throws.
+    Load(&'static str),
+    /// Whether objects of the first class are of the second.
+    Subtype(&'static str, &'static str),
+    /// What a reference stands for.
+    Field(Reference),
+    Method(Reference),
+    InterfaceMethod(Reference),
+    /// What is invoked for an object of this class by invokevirtual and by invokeinterface.
+    Virtual(&'static str, Reference),
+    Interface(&'static str, Reference),
+    /// What is invoked in a method of this class by invokespecial.
+    Special(&'static str, Reference),
+}
+
+/// The member at a position of a class, an error, or whether it holds.
+enum Answer {
+    In(&'static str, u16),
+    Throws(&'static str),
+    Holds(bool),
+}
+
+const ABSTRACT_METHOD: &str = "java/lang/AbstractMethodError";
+
+const CIRCULARITY: &str = "java/lang/ClassCircularityError";
+
+const INCOMPATIBLE: &str = "java/lang/IncompatibleClassChangeError";
+
+const NO_DEFINITION: &str = "java/lang/NoClassDefFoundError";
+
+const OBJECT: &str = "java/lang/Object";
+
+type Row = (&'static [&'static str], Asked, Answer);
+
+macro_rules! rows {
+    ($([$files:ident $asked:ident($($word:expr),*), $answer:expr])*) => {
+        [$(($files, Asked::$asked($($word),*), $answer)),*]
+    };
+}
+
+static ROWS: [Row; 37] = rows![
+    [PACKAGE_PRIVATE_OTHER_PACKAGE Virtual("q/B", ("p/A", "v", "()I")), Answer::In("p/A", 1)]
+    [PACKAGE_PRIVATE_OTHER_PACKAGE Special("q/B", ("p/A", "v", "()I")), Answer::In("p/A", 1)]
+    [PACKAGE_PRIVATE_OTHER_PACKAGE Special("q/B", ("p/A", "<init>", "()V")), Answer::In("p/A", 0)]
+    [PACKAGE_PRIVATE_OTHER_PACKAGE Special("q/B", (OBJECT, "<init>", "()V")), Answer::In(OBJECT, 0)]
+    [PACKAGE_PRIVATE_OTHER_PACKAGE Special("X", ("q/B", "<init>", "()V")), Answer::In("q/B", 0)]
+    [PACKAGE_PRIVATE_THROUGH_PUBLIC Virtual("q/C", ("p/A", "v", "()I")), Answer::In("q/C", 1)]
+    [PACKAGE_PRIVATE_THROUGH_PUBLIC Virtual("p/B", ("p/A", "v", "()I")), Answer::In("p/B", 1)]
+    [PACKAGE_PRIVATE_THROUGH_PUBLIC Special("q/C", ("p/A", "v", "()I")), Answer::In("p/B", 1)]
+    [PACKAGE_PRIVATE_THROUGH_PUBLIC Special("q/C", ("q/C", "v", "()I")), Answer::In("q/C", 1)]
+    [PRIVATE_OVERRIDES Virtual("B", ("A", "v", "()I")), Answer::In("B", 1)]
+    [PRIVATE_OVERRIDES Special("B", ("A", "v", "()I")), Answer::In("A", 1)]
+    [PRIVATE_OVERRIDES Special("X", ("A", "v", "()I")), Answer::In("A", 1)]
+    [SUPERCLASS_DOES_NOT_IMPLEMENT Subtype("S", "I"), Answer::Holds(false)]
+    [SUPERCLASS_DOES_NOT_IMPLEMENT Subtype("C", "I"), Answer::Holds(true)]
+    [SUPERCLASS_DOES_NOT_IMPLEMENT Method(("A", "w", "()I")), Answer::In("S", 2)]
+    [SUPERCLASS_DOES_NOT_IMPLEMENT Virtual("C", ("A", "w", "()I")), Answer::In("S", 2)]
+    [SUPERCLASS_DOES_NOT_IMPLEMENT Interface("C", ("I", "v", "()I")), Answer::In("S", 1)]
+    [RESOLVED_IN_AN_INTERFACE Method(("B", "v", "()I")), Answer::In("I", 0)]
+    [RESOLVED_IN_AN_INTERFACE InterfaceMethod(("B", "v", "()I")), Answer::Throws(INCOMPATIBLE)]
+    [RESOLVED_IN_AN_INTERFACE Method(("I", "v", "()I")), Answer::Throws(INCOMPATIBLE)]
+    [RESOLVED_IN_AN_INTERFACE Virtual("C", ("B", "v", "()I")), Answer::Throws(ABSTRACT_METHOD)]
+    [RESOLVED_IN_AN_INTERFACE Interface("C", ("I", "v", "()I")), Answer::Throws(ABSTRACT_METHOD)]
+    [RESOLVED_IN_AN_INTERFACE Special("C", ("B", "v", "()I")), Answer::Throws(ABSTRACT_METHOD)]
+    [INTERFACE_WITH_A_SUPERCLASS Subtype("C", "A"), Answer::Holds(true)]
+    [INTERFACE_WITH_A_SUPERCLASS Field(("A", "f", "I")), Answer::In("A", 0)]
+    [INTERFACE_WITH_A_SUPERCLASS Field(("I", "f", "I")), Answer::In("A", 0)]
+    [INTERFACE_WITH_A_SUPERCLASS Field(("C", "f", "I")), Answer::In("A", 0)]
+    [INTERFACE_METHOD_OF_OBJECT InterfaceMethod(("java/lang/CharSequence", "hashCode", "()I")), Answer::In(OBJECT, 2)]
+    [INTERFACE_METHOD_OF_OBJECT Interface("java/lang/String", ("java/lang/CharSequence", "hashCode", "()I")), Answer::In("java/lang/String", 8)]
+    [STRING_LENGTH_SPECIAL Special("X", (OBJECT, "hashCode", "()I")), Answer::In(OBJECT, 2)]
+    [ABSENT_CLASS_REACHED Load("Absent"), Answer::Throws(NO_DEFINITION)]
+    [LOADS_THAT_FAIL Load("Sub"), Answer::Throws(INCOMPATIBLE)]
+    [LOADS_THAT_FAIL Load("Low"), Answer::Throws(NO_DEFINITION)]
+    [LOADS_THAT_FAIL Load("Round"), Answer::Throws(CIRCULARITY)]
+    [LOADS_THAT_FAIL Load("Round2"), Answer::Throws(CIRCULARITY)]
+    [LOADS_THAT_FAIL Load("OnFace"), Answer::Throws(INCOMPATIBLE)]
+    [LOADS_THAT_FAIL Load("Odd"), Answer::Throws(INCOMPATIBLE)]
+];
+
+fn rows() -> &'static [Row] {
+    &ROWS
+}
+
+// ---- asking
+
+/// What the linker gives: a member, the place of an error's class among the built-in ones, no method, or whether it holds. It is not
+/// asked of a class that could not be loaded.
+#[derive(Clone, Copy)]
+enum Given {
+    Member(u32, u16),
+    Throws(u16),
+    NoMethod,
+    Holds(bool),
+    NotAsked,
+}
+
+/// The position of the class of this name, which is loaded now.
+fn class_of(alloc: Global, linker: &mut Linker, name: &str) -> Result<u32, Fail> {
+    let _given = linker.load(&text(alloc, name)?);
+    Ok(class_named(linker, name))
+}
+
+fn load(alloc: Global, linker: &mut Linker, name: &str) -> Result<Given, Fail> {
+    Ok(match linker.load(&text(alloc, name)?) {
+        Loaded::New(_, _) => Given::Holds(true),
+        Loaded::Already(_) => Given::Holds(true),
+        Loaded::Throws(error, _, _) => Given::Throws(error),
+        Loaded::NoMemory => Given::NotAsked,
+    })
+}
+
+fn is_subtype(alloc: Global, linker: &mut Linker, below: &str, above: &str) -> Given {
+    match subtype(alloc, linker, below, above) {
+        Some(holds) => Given::Holds(holds),
+        None => Given::NotAsked,
+    }
+}
+
+fn given_of(resolved: Resolved) -> Given {
+    match resolved {
+        Resolved::Found(class, position) => Given::Member(class, position),
+        Resolved::Throws(error) => Given::Throws(error),
+    }
+}
+
+fn field(alloc: Global, linker: &mut Linker, reference: Reference) -> Result<Given, Fail> {
+    let (class, name, descriptor) = reference;
+    let class = class_of(alloc, linker, class)?;
+    let name = text(alloc, name)?;
+    let descriptor = text(alloc, descriptor)?;
+    if !is_loaded(linker, class) {
+        return Ok(Given::NotAsked);
+    }
+    Ok(given_of(linker.resolve_field(class, &name, &descriptor)))
+}
+
+fn method(
+    alloc: Global,
+    linker: &mut Linker,
+    interface: bool,
+    reference: Reference,
+) -> Result<Given, Fail> {
+    let (class, name, descriptor) = reference;
+    let class = class_of(alloc, linker, class)?;
+    let name = text(alloc, name)?;
+    let descriptor = text(alloc, descriptor)?;
+    if !is_loaded(linker, class) {
+        return Ok(Given::NotAsked);
+    }
+    let resolved = linker.resolve_method(class, interface, &name, &descriptor);
+    Ok(given_of(resolved))
+}
+
+/// How a method is invoked.
+#[derive(Clone, Copy, PartialEq, Eq)]
+enum By {
+    Virtual,
+    Interface,
+    Special,
+}
+
+/// What is invoked for the method at a position of a class: by an object of the subject, or by invokespecial in a method of it.
+fn invoked(linker: &Linker, subject: u32, by: By, class: u32, position: u16) -> Given {
+    if !is_loaded(linker, subject) {
+        return Given::NotAsked;
+    }
+    let found = match by {
+        By::Virtual => linker.select(subject, class, position, false),
+        By::Interface => linker.select(subject, class, position, true),
+        By::Special => linker.special(subject, class, position),
+    };
+    match found {
+        Some((class, position)) => Given::Member(class, position),
+        None => Given::NoMethod,
+    }
+}
+
+fn invoke(
+    alloc: Global,
+    linker: &mut Linker,
+    subject: &str,
+    by: By,
+    reference: Reference,
+) -> Result<Given, Fail> {
+    let subject = class_of(alloc, linker, subject)?;
+    Ok(
+        match method(alloc, linker, by == By::Interface, reference)? {
+            Given::Member(class, position) => invoked(linker, subject, by, class, position),
+            _ => Given::NotAsked,
+        },
+    )
+}
+
+fn answer_to(alloc: Global, linker: &mut Linker, question: &Asked) -> Result<Given, Fail> {
+    match question {
+        Asked::Load(name) => load(alloc, linker, name),
+        Asked::Subtype(below, above) => Ok(is_subtype(alloc, linker, below, above)),
+        Asked::Field(reference) => field(alloc, linker, *reference),
+        Asked::Method(reference) => method(alloc, linker, false, *reference),
+        Asked::InterfaceMethod(reference) => method(alloc, linker, true, *reference),
+        Asked::Virtual(class, reference) => invoke(alloc, linker, class, By::Virtual, *reference),
+        Asked::Interface(class, reference) => {
+            invoke(alloc, linker, class, By::Interface, *reference)
+        }
+        Asked::Special(class, reference) => invoke(alloc, linker, class, By::Special, *reference),
+    }
+}
+
+fn is_wanted(linker: &Linker, given: &Given, wanted: &Answer) -> bool {
+    match wanted {
+        Answer::In(name, place) => match given {
+            Given::Member(class, position) => position == place && is_named(linker, *class, name),
+            _ => false,
+        },
+        Answer::Throws(name) => match given {
+            Given::Throws(error) => built_in_name(*error as usize) == Some(*name),
+            Given::NoMethod => *name == ABSTRACT_METHOD,
+            _ => false,
+        },
+        Answer::Holds(due) => match given {
+            Given::Holds(holds) => holds == due,
+            _ => false,
+        },
+    }
+}
+
+#[test]
+fn questions_over_files(rt: HostRuntime) -> Result<(), Fail> {
+    let alloc = rt.alloc();
+    for (at, (files, question, wanted)) in rows().iter().enumerate() {
+        let mut linker = linker_over(alloc, files)?;
+        let given = answer_to(alloc, &mut linker, question)?;
+        assert!(rt; is_wanted(&linker, &given, wanted), "in row {at}");
+    }
+    Ok(())
+}
