@@ -11,3 +11,4 @@ pub mod Answered
 pub mod Carried
 pub mod Finished
 pub mod Reported
+pub mod UsualPlans

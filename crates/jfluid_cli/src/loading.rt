@@ -13,7 +13,7 @@ ghost use Rattle.jfluid_cli.specs.Sinks.{files_view};
 ghost use Rattle.jfluid_cli.specs.Stages.{IsFetchedFor, IsLoaded, IsEarly, HasFetchCause};
 ghost use Rattle.jfluid_cli.specs.Views.{command_view};
 ghost use Rattle.jfluid_cli.specs.Top.{IsProgram, HasNoProgram, IsFetchRefusal};
-ghost use Rattle.small_program.specs.Runnable.{IsRunnable};
+ghost use Rattle.small_program.specs.Runnable.{IsRunnable, IsUsual};
 
 use crate::asking::{Asked, ask};
 use crate::refusal::Refusal;
@@ -26,6 +26,7 @@ use std::alloc::Global;
 /// Reads and admits a class file.
 fn read_program(alloc: Global, bytes: &[u8], asked: &Asked) -> Result<Admitted, Refusal>
     requires actions { length asked.now.plan.actions < 2 ^ 32 }
+    requires usual { IsUsual asked.now.plan }
     ensures ok { IfOk result (λ p. IsProgram asked.now bytes.now p.program p.root) }
     ensures one { IfOk result (λ p. (c : Class) → IsFile bytes.now c → c ≡ first_class p.program) }
     ensures runnable { IfOk result (λ p. IsRunnable p.program p.root) }

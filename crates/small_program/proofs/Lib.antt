@@ -6,3 +6,4 @@ pub mod StaticCodes
 pub mod BuiltIn
 pub mod Answered
 pub mod Sound
+pub mod AskedPrograms

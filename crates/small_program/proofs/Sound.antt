@@ -154,14 +154,16 @@ of-sound c p name static sound = record {
   main = main-sound c p name static sound;
 }
 
-built-sound : (c : ClassFile) (p : Program) (name : List ℕ) → IsClassFile c → IsStaticClass c → IsSmall c → IsSoundProgram (c ∷ []) name p → IsBuiltProgram p
-built-sound c p name formed static small sound =
+built-sound : (c : ClassFile) (p : Program) (name : List ℕ) → IsClassFile c → IsStaticClass c → IsSmall c → IsSoundProgram (c ∷ []) name p → p.args ≡ [] → 1024 ≤ p.heap → IsBuiltProgram p
+built-sound c p name formed static small sound plain room =
     let same : c ≡ first_class p = sym (first-sound c p name sound) in
     let of : IsProgramOf c p = of-sound c p name static sound in
     record {
       class = subst IsBuilt same (record { formed = formed; plain = small.plain; small = small.small });
       program = subst (λ k. IsProgramOf k p) same of;
       few = (let few = few-classes c p sound.classes_are in omega (arith, few));
+      plain = plain;
+      room = room;
     }
 
 fits-sound : (c : ClassFile) (p : Program) (name : List ℕ) → IsClassFile c → IsSoundProgram (c ∷ []) name p → FitsOriginals p
@@ -171,13 +173,13 @@ fits-sound c p name formed sound = record {
   codes = subst (AllByRecursion HasShortCodes) (sym sound.classes_are) (HasShortCodes-formed c formed, files-short);
 }
 
-starts-sound : (c : ClassFile) (p : Program) (name : List ℕ) → IsStaticClass c → IsSoundProgram (c ∷ []) name p → StartsReady p
-starts-sound c p name static sound = StartsReady-static c p static (of-sound c p name static sound) files-built_in
+starts-sound : (c : ClassFile) (p : Program) (name : List ℕ) → IsStaticClass c → IsSoundProgram (c ∷ []) name p → p.args ≡ [] → 1024 ≤ p.heap → StartsReady p
+starts-sound c p name static sound plain room = StartsReady-static c p static (of-sound c p name static sound) files-built_in plain room
 
 pub runnable-sound : (c : ClassFile) (p : Program) (name : List ℕ) (root : Option ℕ) → IsClassFile c → IsStaticClass c → ((k : ℕ) → root ≡ Some k → IsSmall c)
-    → IsSoundProgram (c ∷ []) name p → IsRunnable p root
-runnable-sound c p name root formed static small sound = record {
+    → IsSoundProgram (c ∷ []) name p → p.args ≡ [] → 1024 ≤ p.heap → IsRunnable p root
+runnable-sound c p name root formed static small sound plain room = record {
   fits = fits-sound c p name formed sound;
-  starts = starts-sound c p name static sound;
-  built = λ k e. built-sound c p name formed static (small k e) sound;
+  starts = starts-sound c p name static sound plain room;
+  built = λ k e. built-sound c p name formed static (small k e) sound plain room;
 }

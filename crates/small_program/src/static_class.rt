@@ -10,7 +10,7 @@ use crate::small_class::{extends_object, has_free_name};
 use crate::static_code::is_static_code;
 use const_pool::{ClassFile, Member};
 use jf_bytes::NoMemory;
-use jvm_machine::code_of;
+use jvm_steps::code_of;
 use std::alloc::Global;
 
 /// The most methods of a class.

@@ -5,7 +5,14 @@ use Rattle.jfluid_cli.specs.Top.{HasNoProgram}
 use Rattle.jfluid_cli.specs.Views.{command_view}
 use Rattle.jfluid_cli.proofs.Early.{loaded, fetched}
 use Rattle.jfluid_cli.proofs.ToldFiles.{told_none}
+use Rattle.small_program.specs.Runnable.{IsUsual}
+use Rattle.jfluid_cli.proofs.UsualPlans.{usual-said}
 use Rattle.jfluid_cli.proofs.loading.load.Goals as goal
+
+pub read_program-requires-clause-usual : goal.read_program-requires-clause-usual
+read_program-requires-clause-usual g c =
+    subst (λ (a : Asked). IsUsual a.plan) c.requires.asked
+    (usual-said (command_view c.args.command).options.root)
 
 pub returns-in-Ok-clause-ok : goal.returns-in-Ok-clause-ok
 returns-in-Ok-clause-ok g c =

@@ -1,9 +1,10 @@
-use Rattle.std.proofs.Common.{◌≡◌, List, Ok, Err, sym, subst}
+use Rattle.std.proofs.Common.{◌≡◌, List, [], ◌∷◌, Ok, Err, sym, subst}
 use Rattle.const_pool.specs.declared.class.ClassFile.{ClassFile}
 use Rattle.admit_check.specs.Admission.{admission_of, IsSoundProgram}
 use Rattle.small_program.specs.Admission.{IsRefusedFor}
 use Rattle.small_program.proofs.Answered.{outside, refuses, runs-as, foreign-as, same-as, runnable-as}
 use Rattle.small_program.proofs.Sound.{first-sound, runnable-sound}
+use Rattle.small_program.proofs.AskedPrograms.{asked-of, usual-args, usual-heap}
 use Rattle.small_program.proofs.admission.admit.Goals as goal
 
 pub returns-then-not-is_static-clause-refused : goal.returns-then-not-is_static-clause-refused
@@ -20,9 +21,12 @@ returns-else-not-is_static-clause-same c =
 
 pub returns-else-not-is_static-clause-runnable : goal.returns-else-not-is_static-clause-runnable
 returns-else-not-is_static-clause-runnable c =
+    let admitted = subst (λ (cs : List ClassFile). admission_of cs c.args.main.now c.args.plan.now ≡ Ok c.in-Ok.program) c.in_ok-classes.ensures c.in-Ok.ensures.admitted in
+    let asked = asked-of (c.args.class ∷ []) c.args.main.now c.args.plan.now c.in-Ok.program admitted in
     runnable-as c.run_as.result c.in-Ok.program c.args.class c.in_ok-small.small _
     (λ root small. runnable-sound c.args.class c.in-Ok.program c.args.main.now root c.requires.formed (c.in_ok-is_static.ensures.0 c.if-not-is_static.false) small
-    (subst (λ (cs : List ClassFile). IsSoundProgram cs c.args.main.now c.in-Ok.program) c.in_ok-classes.ensures c.in-Ok.ensures.sound))
+    (subst (λ (cs : List ClassFile). IsSoundProgram cs c.args.main.now c.in-Ok.program) c.in_ok-classes.ensures c.in-Ok.ensures.sound)
+    (usual-args c.args.plan.now c.in-Ok.program c.requires.usual asked) (usual-heap c.args.plan.now c.in-Ok.program c.requires.usual asked))
     c.in_ok-small.ensures c.run_as.ensures.program c.run_as.ensures.own
 
 pub returns-else-not-is_static-clause-runs : goal.returns-else-not-is_static-clause-runs
