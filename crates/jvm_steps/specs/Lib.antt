@@ -1,5 +1,4 @@
 pub mod States
 pub mod Lines
 pub mod Prepared
-pub mod Shapes
 pub mod Entries

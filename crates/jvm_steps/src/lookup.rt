@@ -97,8 +97,8 @@ fn declared_method(program: &Program, reference: &MemberRef<'_>, class: u32) -> 
 /// The same, where there is a class.
 pub fn declared_in(program: &Program, reference: &MemberRef<'_>, class: Option<u32>) -> Option<u32>
     requires { length program.now.methods < 2 ^ 32 }
-    ensures { result
-        ≡ option_and_then (declared_method program.now (reference_view reference.now).member) class }
+    ensures { let member = (reference_view reference.now).member in
+        result ≡ option_and_then (declared_method program.now member) class }
 {
     declared_method(program, reference, class?)
 }

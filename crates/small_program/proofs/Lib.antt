@@ -3,3 +3,4 @@ pub mod Formed
 pub mod Methods
 pub mod Answered
 pub mod Sound
+pub mod DescriptorTexts

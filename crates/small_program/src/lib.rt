@@ -7,5 +7,6 @@ mod names;
 mod plain_shape;
 mod small_class;
 mod small_code;
+mod small_shapes;
 
 pub use admission::{Admitted, Refused, admit, is_of_class};
