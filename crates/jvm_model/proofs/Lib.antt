@@ -1,3 +1,5 @@
+pub mod Shapes
+pub mod WorkedShapes
 pub mod FamilyRows
 pub mod Opcodes
 pub mod Starts

@@ -1,11 +1,12 @@
 -- A small class: the part of the language that is built so far.
-use Rattle.std.specs.Prelude.{◌≡◌, ℕ, ◌≤◌, Bool, true, false, not, List, [], ◌∷◌, length, Option, Some, None, codes, bit_and, ◌==◌, ◌&&◌, ◌||◌, nat_lt, is_none, if◌then◌else◌}
+use Rattle.std.specs.Prelude.{◌≡◌, ℕ, ◌≤◌, Bool, true, false, not, List, [], ◌∷◌, length, Option, Some, None, codes, bit_and, ◌==◌, ◌&&◌, ◌||◌, nat_lt, nat_le, is_none, if◌then◌else◌}
 use Rattle.std.specs.Option.{option_and_then, option_map, option_map_or}
 use Rattle.std.specs.List.{list_any, list_all, slice_get}
 use Rattle.const_pool.specs.declared.pool.Const.{Const}
 use Rattle.const_pool.specs.declared.class.ClassFile.{ClassFile}
 use Rattle.const_pool.specs.declared.class.Member.{Member}
 use Rattle.const_pool.specs.declared.class.CodeAttribute.{CodeAttribute}
+use Rattle.const_pool.specs.declared.descriptor.Kind.TheVariants.{Int, Ref}
 use Rattle.const_pool.specs.declared.descriptor.Shape.{Shape}
 use Rattle.const_pool.specs.References.{NameAndType, named_text, named_class}
 use Rattle.const_pool.specs.BuiltIn.{probe_class, built_in_names}
@@ -15,7 +16,7 @@ use Rattle.code_model.specs.Instructions.{IsReading}
 use Rattle.jvm_model.specs.declared.operation.Resolved.{Resolved}
 use Rattle.jvm_model.specs.declared.operation.Resolved.TheVariants.{Iload, Ireturn, Return, Invokestatic}
 use Rattle.jvm_model.specs.Descriptors.{same_text, main_name, main_descriptor}
-use Rattle.jvm_model.specs.Methods.{code_of, member_shape, method_named}
+use Rattle.jvm_model.specs.Methods.{code_of, method_named}
 use Rattle.jvm_model.specs.Resolved.{resolved_of}
 
 -- ---- access flags (4.6)
@@ -52,6 +53,44 @@ is_plain_member m = is_plain_name m.name && (not (same_text m.descriptor main_de
 -- a method's name and descriptor
 abbrev pub member_of : List Const → Member → Option NameAndType
 member_of pool m = option_and_then (λ name. option_map (λ descriptor. record { name = name; descriptor = descriptor }) (named_text pool m.descriptor)) (named_text pool m.name)
+
+-- ---- descriptors: up to 255 int parameters with result int or void, and that of `main` (4.3.3)
+
+-- one more int in front
+abbrev pub with_int : Shape → Shape
+with_int shape = record { params = Int ∷ shape.params; result = shape.result }
+
+-- the result's letter, and nothing behind it
+abbrev pub small_result_of : List ℕ → Option Shape
+small_result_of text =
+    if same_text text (codes "I") then Some (record { params = []; result = Some Int })
+    else if same_text text (codes "V") then Some (record { params = []; result = None })
+    else None
+
+-- the parameters' letters, `)` and the result
+abbrev pub small_params_of : List ℕ → Option Shape
+small_params_of [] = None
+small_params_of (unit ∷ rest) =
+    if unit == 73 then option_map with_int (small_params_of rest)
+    else if unit == 41 then small_result_of rest
+    else None
+
+-- a call's arguments take 255 slots at most, of which an int takes one
+abbrev pub small_with_room : Shape → Option Shape
+small_with_room shape = if nat_le (length shape.params) 255 then Some shape else None
+
+-- behind `(`
+abbrev pub ints_shape : List ℕ → Option Shape
+ints_shape [] = None
+ints_shape (unit ∷ rest) = if unit == 40 then option_and_then small_with_room (small_params_of rest) else None
+
+-- the shape that such a descriptor spells
+abbrev pub small_shape_of : List ℕ → Option Shape
+small_shape_of descriptor =
+    if same_text descriptor main_descriptor then Some (record { params = Ref ∷ []; result = None }) else ints_shape descriptor
+
+abbrev pub small_member_shape : List Const → Member → Option Shape
+small_member_shape pool m = option_and_then small_shape_of (named_text pool m.descriptor)
 
 -- ---- code
 
@@ -98,7 +137,7 @@ pub record IsSmallMethod (c : ClassFile) (k : ℕ) (m : Member) : Type 0 where
   -- no earlier method has its name and descriptor
   pub first : option_and_then (method_named c) (member_of c.pool m) ≡ Some k
   pub shape : Shape
-  pub shaped : member_shape c.pool m ≡ Some shape
+  pub shaped : small_member_shape c.pool m ≡ Some shape
   pub code : CodeAttribute
   pub coded : code_of m ≡ Some code
   pub small : IsSmallCode c k shape code

@@ -10,7 +10,6 @@ pub mod Tied
 pub mod Tabled
 pub mod Positions
 pub mod Entries
-pub mod DescriptorTexts
 mod Actions
 pub mod LineActs
 pub mod LineSteps

@@ -8,5 +8,4 @@ pub mod Returning
 pub mod Before
 pub mod Arguments
 pub mod Invoking
-pub mod Shapes
 pub mod Entries

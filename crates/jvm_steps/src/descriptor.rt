@@ -1,110 +1,24 @@
-//! Reading the method descriptors of the built part (JVM Specification 4.3.3).
+//! What a method takes and gives, by its descriptor (JVM Specification 4.3.3).
 
-ghost use Rattle.std.specs.Prelude.{◌≡◌, [], IfOk, IfSome};
-ghost use Rattle.std.specs.Option.{option_map};
+ghost use Rattle.std.specs.Prelude.{◌≡◌, ◌↔◌, Some, IfOk};
 ghost use Rattle.const_pool.specs.Descriptors.{IsMethod};
-ghost use Rattle.jvm_model.specs.Descriptors.{result_of, params_of, with_room as with_room_of, ints_shape, shape_of};
-ghost use Rattle.jvm_steps.specs.Shapes.{with_params};
+ghost use Rattle.const_pool.specs.declared.descriptor.Shape.{Shape as TheShape};
+ghost use Rattle.jvm_model.specs.Descriptors.{shape_of};
 
-use const_pool::{Kind, Shape};
-use jf_bytes::{NoMemory, Seq, Text16};
+use const_pool::{DescriptorError, Shape, parse_method};
+use jf_bytes::{NoMemory, Text16};
 use std::alloc::Global;
 
-/// The descriptor of `main`.
-const MAIN_DESCRIPTOR: &[u8] = b"([Ljava/lang/String;)V";
-
-/// `(`, before the parameters.
-const OPEN: u16 = 40;
-
-/// `)`, behind the parameters.
-const CLOSE: u16 = 41;
-
-/// `I`, an int.
-const INT: u16 = 73;
-
-/// `V`, no result.
-const VOID: u16 = 86;
-
-/// The most slots of a call's arguments, of which an int takes one (4.3.3).
-const MOST_SLOTS: usize = 255;
-
-/// The result that the letters behind the parameters spell: an absent one for void.
-fn find_result(units: &[u16]) -> Option<Option<Kind>>
-    ensures { option_map (with_params []) result ≡ result_of units.now }
-{
-    if units == [INT].as_slice() {
-        Some(Some(Kind::Int))
-    } else if units == [VOID].as_slice() {
-        Some(None)
-    } else {
-        None
-    }
-}
-
-/// The parameters, each an int, and the result.
-fn params_shape(alloc: Global, units: &[u16]) -> Result<Option<Shape>, NoMemory>
-    ensures { IfOk result (λ shape. shape ≡ params_of units.now) }
-{
-    let mut params = Seq::new(alloc);
-    for i in 0..units.len() {
-        if units[i] == CLOSE {
-            let Some(result) = find_result(&units[i + 1..]) else {
-                return Ok(None);
-            };
-            return Ok(Some(Shape { params, result }));
-        }
-        if units[i] != INT {
-            return Ok(None);
-        }
-        params.push(Kind::Int)?;
-    }
-    Ok(None)
-}
-
-/// The shape, where its parameters fit into the slots of a call's arguments.
-fn with_room(shape: Shape) -> Option<Shape>
-    ensures { result ≡ with_room_of shape }
-{
-    if shape.params.len() <= MOST_SLOTS {
-        Some(shape)
-    } else {
-        None
-    }
-}
-
-/// The ints between parentheses, and the result.
-fn ints_shape(alloc: Global, units: &[u16]) -> Result<Option<Shape>, NoMemory>
-    ensures { IfOk result (λ shape. shape ≡ ints_shape units.now) }
-{
-    if units.first() != Some(&OPEN) {
-        return Ok(None);
-    }
-    match params_shape(alloc, &units[1..])? {
-        Some(shape) => Ok(with_room(shape)),
-        None => Ok(None),
-    }
-}
-
-/// The shape that `shape_of` gives.
-fn find_shape(alloc: Global, descriptor: &Text16) -> Result<Option<Shape>, NoMemory>
-    ensures { IfOk result (λ shape. shape ≡ shape_of descriptor.now) }
-{
-    if !descriptor.is_bytes(MAIN_DESCRIPTOR) {
-        return ints_shape(alloc, descriptor.units());
-    }
-    let mut params = Seq::with_capacity(alloc, 1)?;
-    params.push(Kind::Ref)?;
-    Ok(Some(Shape {
-        params,
-        result: None,
-    }))
-}
-
-/// The shape that a descriptor of the built part spells; none for another text. It is the shape that the
-/// grammar of descriptors has for it.
+/// The shape that a method descriptor spells, and none for another text: what is read of a text is what the grammar of
+/// descriptors says of it.
 pub fn shape_of(alloc: Global, descriptor: &Text16) -> Result<Option<Shape>, NoMemory>
     ensures shape { IfOk result (λ shape. shape ≡ shape_of descriptor.now) }
-    ensures method { IfOk result (λ shape. IfSome shape (IsMethod descriptor.now)) }
+    ensures grammar { (s : TheShape) →
+        (shape_of descriptor.now ≡ Some s) ↔ IsMethod descriptor.now s }
 {
-    find_shape(alloc, descriptor)
+    match parse_method(alloc, descriptor) {
+        Ok(shape) => Ok(Some(shape)),
+        Err(DescriptorError::BadDescriptor(_)) => Ok(None),
+        Err(DescriptorError::NoMemory) => Err(NoMemory),
+    }
 }

@@ -10,6 +10,8 @@ ghost use Rattle.jvm_model.specs.Programs.{has_name, is_subclass, name_at, super
 ghost use Rattle.heap_objects.specs.Heaps.{kind_at};
 ghost use Rattle.jvm_model.specs.SharedState.{class_of_kind};
 
+use crate::lookup::{has_name, position_of};
+use crate::members::code_of;
 use crate::objects::class_of_kind;
 use crate::originals::Originals;
 use const_pool::{Attribute, ClassFile, CodeAttribute, Handler, Member};
@@ -18,23 +20,6 @@ use jf_bytes::Text16;
 use jvm_model::Program;
 
 // ---- classes by their names
-
-/// Whether the class has this name.
-fn has_name(name: &Text16, class: &ClassFile) -> bool
-    ensures { result ≡ has_name name.now class.now }
-{
-    match class.pool.class_name(class.this_class) {
-        Ok(found) => name.same(found),
-        Err(_) => false,
-    }
-}
-
-/// The position of the class with this name.
-fn position_of(classes: &[ClassFile], name: &Text16) -> Option<usize>
-    ensures { result ≡ position (has_name name.now) classes.now }
-{
-    classes.iter().position(|class| has_name(name, class))
-}
 
 /// Whether the class at a position has this name.
 fn is_named(program: &Program, class: usize, name: &Text16) -> bool
@@ -77,18 +62,6 @@ fn is_subclass(program: &Program, class: usize, name: &Text16) -> bool
 }
 
 // ---- handlers
-
-/// A method's code, where it has one.
-fn code_of(member: &Member) -> Option<&CodeAttribute>
-    ensures { option_copied result ≡ code_of member.now }
-{
-    for attribute in member.attributes.as_slice() {
-        if let Attribute::Code(_, code) = attribute {
-            return Some(code);
-        }
-    }
-    None
-}
 
 /// Whether a handler of a class's code catches objects of the class at a position: 0 catches all.
 fn catches(program: &Program, owner: &ClassFile, handler: &Handler, class: usize) -> bool

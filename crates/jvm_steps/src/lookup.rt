@@ -11,7 +11,7 @@ use jf_bytes::Text16;
 use jvm_model::{MethodPlace, Program};
 
 /// Whether the class has this name.
-fn has_name(name: &Text16, class: &ClassFile) -> bool
+pub fn has_name(name: &Text16, class: &ClassFile) -> bool
     ensures { result ≡ has_name name.now class.now }
 {
     match class.pool.class_name(class.this_class) {
@@ -31,7 +31,7 @@ fn has_bytes(name: &[u8], class: &ClassFile) -> bool
 }
 
 /// Where the class with this name stands.
-fn position_of(classes: &[ClassFile], name: &Text16) -> Option<usize>
+pub fn position_of(classes: &[ClassFile], name: &Text16) -> Option<usize>
     ensures { result ≡ position (has_name name.now) classes.now }
 {
     classes.iter().position(|class| has_name(name, class))
@@ -98,8 +98,8 @@ fn declared_method(program: &Program, reference: &MemberRef<'_>, class: u32) -> 
 /// The same, where there is a class.
 pub fn declared_in(program: &Program, reference: &MemberRef<'_>, class: Option<u32>) -> Option<u32>
     requires { length program.now.methods < 2 ^ 32 }
-    ensures { result
-        ≡ option_and_then (declared_method program.now (reference_view reference.now).member) class }
+    ensures { let member = (reference_view reference.now).member in
+        result ≡ option_and_then (declared_method program.now member) class }
 {
     declared_method(program, reference, class?)
 }

@@ -46,7 +46,8 @@ fn constant_in(pool: &Pool, arg: &Arg) -> Option<Datum>
 
 /// What an ldc does, where its constant is a number.
 fn given(pool: &Pool, arg: &Arg) -> Option<Action>
-    ensures { result ≡ option_map local_action (local_of Given arg.now (constant_in pool.now arg.now)) }
+    ensures { let constant = constant_in pool.now arg.now in
+        result ≡ option_map local_action (local_of Given arg.now constant) }
 {
     match constant_in(pool, arg) {
         Some(_) => Some(Action::Local),
@@ -89,8 +90,8 @@ fn local_action(family: Family, pool: &Pool, arg: &Arg) -> Option<Action>
 
 /// getstatic: System.out alone.
 fn getstatic(pool: &Pool, index: u16) -> Option<Action>
-    ensures { (p : TheProgram) → result
-        ≡ option_and_then (action_of p) (option_and_then getstatic_of (named_field pool.now index)) }
+    ensures { (p : TheProgram) → let field = named_field pool.now index in
+        result ≡ option_and_then (action_of p) (option_and_then getstatic_of field) }
 {
     let field = field_at(pool, index)?;
     if is_out(&field) {
@@ -102,8 +103,8 @@ fn getstatic(pool: &Pool, index: u16) -> Option<Action>
 
 /// invokevirtual: println(I)V alone.
 fn invokevirtual(pool: &Pool, index: u16) -> Option<Action>
-    ensures { (p : TheProgram) → result
-        ≡ option_and_then (action_of p) (option_and_then invokevirtual_of (named_method pool.now index)) }
+    ensures { (p : TheProgram) → let method = named_method pool.now index in
+        result ≡ option_and_then (action_of p) (option_and_then invokevirtual_of method) }
 {
     let method = method_at(pool, index)?;
     if is_println(&method) {
@@ -116,8 +117,8 @@ fn invokevirtual(pool: &Pool, index: u16) -> Option<Action>
 /// invokestatic: the class and the method that are named, by one walk over the classes.
 fn invokestatic(program: &Program, pool: &Pool, index: u16) -> Option<Action>
     requires { FitsOriginals program.now }
-    ensures { result
-        ≡ option_and_then (action_of program.now) (option_map Invokestatic (named_method pool.now index)) }
+    ensures { let method = named_method pool.now index in
+        result ≡ option_and_then (action_of program.now) (option_map Invokestatic method) }
 {
     let method = method_at(pool, index)?;
     let class = class_named(program, method.class);
@@ -141,7 +142,8 @@ fn pool_action(program: &Program, class: &ClassFile, op: u8, index: u16) -> Opti
 /// What an instruction does that names a member.
 fn named_action(program: &Program, class: &ClassFile, op: u8, arg: &Arg) -> Option<Action>
     requires { FitsOriginals program.now }
-    ensures { result ≡ option_and_then (action_of program.now) (named_operation class.now op arg.now) }
+    ensures { let operation = named_operation class.now op arg.now in
+        result ≡ option_and_then (action_of program.now) operation }
 {
     match arg {
         Arg::Pool(index) => pool_action(program, class, op, *index),

@@ -7,3 +7,4 @@ pub mod BuiltIn
 pub mod Answered
 pub mod Sound
 pub mod AskedPrograms
+pub mod DescriptorTexts

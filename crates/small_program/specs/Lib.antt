@@ -1,3 +1,4 @@
 pub mod Admission
 pub mod Static
 pub mod Runnable
+pub mod Shapes

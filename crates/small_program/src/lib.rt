@@ -7,6 +7,7 @@ mod names;
 mod plain_shape;
 mod small_class;
 mod small_code;
+mod small_shapes;
 mod static_class;
 mod static_code;
 

@@ -1,4 +1,4 @@
--- A text that has a shape in the part that runs is a method descriptor of that shape (JVM Specification 4.3.3).
+-- A text that has a shape in a small class is a method descriptor of that shape (JVM Specification 4.3.3).
 use Rattle.std.proofs.Common.{◌≡◌, ◌≢◌, ℕ, suc, ◌+◌, ◌≤◌, Bool, true, false, eqb, leb, cond, not, List, [], ◌∷◌, ◌++◌, length, Option, Some, None, IfSome, codes, refl, sym, ap, subst, arith}
 use Rattle.std.specs.Option.{option_and_then, option_map}
 use Rattle.std.specs.List.{AllByRecursion, list_all}
@@ -10,7 +10,9 @@ use Rattle.const_pool.specs.declared.descriptor.Kind.TheVariants.{Int, Ref}
 use Rattle.const_pool.specs.declared.descriptor.Shape.{Shape}
 use Rattle.const_pool.specs.Descriptors.{IsField, AreFields, IsResult, IsMethod, slots, slot_count}
 use Rattle.const_pool.proofs.FieldTexts.{passed, mapped}
-use Rattle.jvm_model.specs.Descriptors.{same_text, with_int, result_of, params_of, with_room, ints_shape, main_descriptor, shape_of}
+use Rattle.jvm_model.specs.Descriptors.{same_text, main_descriptor, shape_of}
+use Rattle.jvm_model.specs.SmallClass.{with_int, small_result_of, small_params_of, small_with_room, ints_shape, small_shape_of}
+use Rattle.jvm_model.proofs.Shapes.{method_read}
 
 abbrev some : Shape → Option Shape
 some shape = Some shape
@@ -51,7 +53,7 @@ int_result = record { params = []; result = Some Int }
 abbrev no_result : Shape
 no_result = record { params = []; result = None }
 
-result_is : (text : List ℕ) (shape : Shape) → result_of text ≡ Some shape → IsResult text shape.result × (shape.params ≡ [])
+result_is : (text : List ℕ) (shape : Shape) → small_result_of text ≡ Some shape → IsResult text shape.result × (shape.params ≡ [])
 result_is text shape e = by_letter (same_text text (codes "I")) (same_text text (codes "V")) refl refl e
   where
     by_letter : (i v : Bool) → same_text text (codes "I") ≡ i → same_text text (codes "V") ≡ v → cond i (some int_result) (cond v (some no_result) None) ≡ some shape → IsResult text shape.result × (shape.params ≡ [])
@@ -62,7 +64,7 @@ result_is text shape e = by_letter (same_text text (codes "I")) (same_text text 
         subst (λ s. IsResult text s.result × (s.params ≡ [])) (some_is no_result shape e) (same_is text (codes "V") void, refl)
     by_letter false false int void e = absurd cc
 
-closed : (rest : List ℕ) (shape : Shape) → result_of rest ≡ Some shape → HasInts (41 ∷ rest) shape
+closed : (rest : List ℕ) (shape : Shape) → small_result_of rest ≡ Some shape → HasInts (41 ∷ rest) shape
 closed rest shape e =
     let told = result_is rest shape e in
     record {
@@ -90,10 +92,10 @@ one_more rest shape ints = record {
   spelled = ap (λ (t : List ℕ). 73 ∷ t) ints.spelled;
 }
 
-next_letter : (unit : ℕ) (rest : List ℕ) (shape : Shape) → ((s : Shape) → params_of rest ≡ Some s → HasInts rest s)
-    → (i c : Bool) → eqb unit 73 ≡ i → eqb unit 41 ≡ c → cond i (option_map with_int (params_of rest)) (cond c (result_of rest) None) ≡ some shape → HasInts (unit ∷ rest) shape
+next_letter : (unit : ℕ) (rest : List ℕ) (shape : Shape) → ((s : Shape) → small_params_of rest ≡ Some s → HasInts rest s)
+    → (i c : Bool) → eqb unit 73 ≡ i → eqb unit 41 ≡ c → cond i (option_map with_int (small_params_of rest)) (cond c (small_result_of rest) None) ≡ some shape → HasInts (unit ∷ rest) shape
 next_letter unit rest shape others true c int close e =
-    let more = mapped with_int (params_of rest) shape e in
+    let more = mapped with_int (small_params_of rest) shape e in
     let ints = one_more rest more.0 (others more.0 more.1) in
     let here : HasInts (73 ∷ rest) shape = subst (HasInts (73 ∷ rest)) more.2 ints in
     subst (λ (u : ℕ). HasInts (u ∷ rest) shape) (sym (eqb-true unit 73 int)) here
@@ -101,15 +103,15 @@ next_letter unit rest shape others false true int close e =
     subst (λ (u : ℕ). HasInts (u ∷ rest) shape) (sym (eqb-true unit 41 close)) (closed rest shape e)
 next_letter unit rest shape others false false int close e = absurd cc
 
-ints_of : (text : List ℕ) (shape : Shape) → params_of text ≡ Some shape → HasInts text shape
+ints_of : (text : List ℕ) (shape : Shape) → small_params_of text ≡ Some shape → HasInts text shape
 ints_of [] shape e = absurd cc
 ints_of (unit ∷ rest) shape e = next_letter unit rest shape (ints_of rest) (eqb unit 73) (eqb unit 41) refl refl e
 
 ints_method : (text : List ℕ) (shape : Shape) → ints_shape text ≡ Some shape → IsMethod text shape
 ints_method [] shape e = absurd cc
 ints_method (unit ∷ rest) shape e =
-    let open_test = tested (eqb unit 40) (option_and_then with_room (params_of rest)) shape e in
-    let ints = chosen_of with_room (params_of rest) shape open_test.1 in
+    let open_test = tested (eqb unit 40) (option_and_then small_with_room (small_params_of rest)) shape e in
+    let ints = chosen_of small_with_room (small_params_of rest) shape open_test.1 in
     let room = passed (leb (length ints.0.params) 255) ints.0 shape ints.2 in
     let told = ints_of rest ints.0 ints.1 in
     let few : length ints.0.params ≤ 255 = leb-true (length ints.0.params) 255 room.0 in
@@ -166,7 +168,7 @@ main_method = record {
 
 -- ---- both
 
-shape_method : (text : List ℕ) (shape : Shape) → shape_of text ≡ Some shape → IsMethod text shape
+shape_method : (text : List ℕ) (shape : Shape) → small_shape_of text ≡ Some shape → IsMethod text shape
 shape_method text shape e = by_test (same_text text main_descriptor) refl e
   where
     by_test : (m : Bool) → same_text text main_descriptor ≡ m → cond m (some main_shape) (ints_shape text) ≡ some shape → IsMethod text shape
@@ -174,7 +176,7 @@ shape_method text shape e = by_test (same_text text main_descriptor) refl e
         subst (λ (t : List ℕ). IsMethod t shape) (sym (same_is text main_descriptor main)) (subst (IsMethod main_descriptor) (some_is main_shape shape e) main_method)
     by_test false main e = ints_method text shape e
 
--- what is found for a text is the shape of a method descriptor
-pub shape_told : (text : List ℕ) (found : Option Shape) → found ≡ shape_of text → IfSome found (IsMethod text)
-shape_told text (Some shape) e = shape_method text shape (sym e)
+-- what is found for a text is the shape that a run takes it for
+pub shape_told : (text : List ℕ) (found : Option Shape) → found ≡ small_shape_of text → IfSome found (λ shape. shape_of text ≡ Some shape)
+shape_told text (Some shape) e = method_read text shape (shape_method text shape (sym e))
 shape_told text None e = tt
