@@ -1,12 +1,11 @@
 //! Which handler a throw goes to (JVM Specification 2.10, 4.7.3).
 
-ghost use Rattle.std.specs.Prelude.{◌≡◌, ◌<◌, ◌^◌, false, true, length, map, position};
-ghost use Rattle.std.specs.Option.{option_copied, option_map_or};
+ghost use Rattle.std.specs.Prelude.{◌≡◌, ◌<◌, ◌^◌, false, true, length, map};
+ghost use Rattle.std.specs.Option.{option_map_or};
 ghost use Rattle.jvm_model.specs.Descriptors.{same_text};
-ghost use Rattle.jvm_model.specs.Methods.{code_of};
 ghost use Rattle.jvm_model.specs.Moves.{covers, handler_for};
 ghost use Rattle.jvm_model.specs.Originals.{catcher_of, original};
-ghost use Rattle.jvm_model.specs.Programs.{has_name, is_subclass, name_at, super_of};
+ghost use Rattle.jvm_model.specs.Programs.{is_subclass, name_at, super_of};
 ghost use Rattle.heap_objects.specs.Heaps.{kind_at};
 ghost use Rattle.jvm_model.specs.SharedState.{class_of_kind};
 
@@ -14,7 +13,7 @@ use crate::lookup::{has_name, position_of};
 use crate::members::code_of;
 use crate::objects::class_of_kind;
 use crate::originals::Originals;
-use const_pool::{Attribute, ClassFile, CodeAttribute, Handler, Member};
+use const_pool::{ClassFile, Handler};
 use heap_objects::Heap;
 use jf_bytes::Text16;
 use jvm_model::Program;
