@@ -1,6 +1,6 @@
 -- Tables that are made of an entry for each version give what the definitions look up there.
 use Rattle.std.proofs.Common.{drop-cons, ◌≡◌, ℕ, zero, suc, ◌+◌, ◌<◌, ◌≤◌, List, [], ◌∷◌, ◌++◌, length, drop, get_or, Option, Some, None, refl, sym, ap, ◌∙◌, append_assoc, add-one, arith}
-use Rattle.std.specs.Prelude.{map, slice_get}
+use Rattle.std.specs.Prelude.{slice_get}
 use Rattle.std.specs.Option.{option_map, option_map_or, option_and_then, option_flatten}
 use Rattle.const_pool.specs.declared.class.ClassFile.{ClassFile}
 use Rattle.const_pool.specs.declared.class.Member.{Member}

@@ -1,4 +1,3 @@
-pub mod Filled
 pub mod FitsLemmas
 pub mod Tabled
 pub mod Entries
