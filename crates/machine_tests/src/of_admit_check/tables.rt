@@ -23,6 +23,7 @@ const FRAMES: u8 = 11;
 
 /// How many entries of the pool stand behind those, its max_stack, how many nop stand in front of its code, its code, and a
 /// table by the index of its name.
+#[derive(Clone, Copy)]
 struct Parts {
     major: u8,
     entries: u16,
