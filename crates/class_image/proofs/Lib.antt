@@ -1,3 +1,2 @@
-pub mod ImageFits
 pub mod Readable
 pub mod Puts
