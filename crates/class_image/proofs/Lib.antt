@@ -1,3 +1,2 @@
-pub mod ImageFits
 pub mod Profilable
 pub mod Puts

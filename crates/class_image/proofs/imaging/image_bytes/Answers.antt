@@ -1,9 +1,8 @@
 -- the class can be rewritten, and its image written
-use Rattle.std.proofs.Common.{sym, ap, subst, ◌∙◌}
+use Rattle.std.proofs.Common.{ap, ◌∙◌}
 use Rattle.const_pool.specs.ClassFile.{class_bytes}
-use Rattle.class_writer.specs.Fits.{FitsClass}
+use Rattle.class_writer.proofs.Fitting.{fits_class}
 use Rattle.inject_events.specs.declared.image.Image.{Image}
-use Rattle.class_image.proofs.ImageFits.{fits-image}
 use Rattle.class_image.proofs.Profilable.{memory-alone}
 use Rattle.class_image.proofs.imaging.image_bytes.Goals as goal
 
@@ -12,9 +11,7 @@ want_of_memory-requires c =
     memory-alone c.in-Err-instrument.error (c.in-Err-instrument.ensures.profilable c.in-Ok.ensures.profilable)
 
 pub write_fitting-requires : goal.write_fitting-requires
-write_fitting-requires c =
-    let answer = c.in-Ok-instrument.ensures.answer in
-    subst (λ (i : Image). FitsClass i.class) (sym answer.1) (fits-image c.in-Ok.class c.args.first c.args.marks.now c.in-Ok.ensures.admitted.file.spells.formed answer.0)
+write_fitting-requires c = fits_class c.in-Ok-instrument.image.class (c.in-Ok-instrument.ensures.formed c.in-Ok.ensures.admitted.file.spells.formed)
 
 pub returns-in-Ok-write_fitting-clause-image : goal.returns-in-Ok-write_fitting-clause-image
 returns-in-Ok-write_fitting-clause-image c =
