@@ -82,7 +82,7 @@ root-reported words command root program v commanded runs same =
 pub selected-later : (root : Option ℕ) (from v : View) → SameProgram from v → IsSelected root from
     → IsSelected root v
 selected-later root from v same is = record {
-  built = subst IsBuiltProgram (sym same.program) is.built;
+  built = λ k e. subst IsBuiltProgram (sym same.program) (is.built k e);
   known = λ k e. subst (λ (p : Program). k < length (first_class p).methods) (sym same.program)
       (is.known k e);
   marks = same.marks

@@ -5,7 +5,6 @@ ghost use Rattle.const_pool.specs.declared.class.ClassFile.{ClassFile as Class};
 ghost use Rattle.class_reader.specs.declared.error.ReadError.{ReadError as Fault};
 ghost use Rattle.class_reader.specs.Files.{IsFile, IsFirstFault, most_bytes};
 ghost use Rattle.jf_bytes.specs.Streams.{HasTold, IsFetched, Rose};
-ghost use Rattle.jvm_model.specs.OneClass.{IsBuiltProgram};
 ghost use Rattle.jvm_model.specs.Programs.{first_class};
 ghost use Rattle.jfluid_cli.specs.Asking.{asked_by, IsFine};
 ghost use Rattle.jfluid_cli.specs.Causes.{Given, Accepts};
@@ -14,6 +13,7 @@ ghost use Rattle.jfluid_cli.specs.Sinks.{files_view};
 ghost use Rattle.jfluid_cli.specs.Stages.{IsFetchedFor, IsLoaded, IsEarly, HasFetchCause};
 ghost use Rattle.jfluid_cli.specs.Views.{command_view};
 ghost use Rattle.jfluid_cli.specs.Top.{IsProgram, HasNoProgram, IsFetchRefusal};
+ghost use Rattle.small_program.specs.Runnable.{IsRunnable};
 
 use crate::asking::{Asked, ask};
 use crate::refusal::Refusal;
@@ -28,7 +28,7 @@ fn read_program(alloc: Global, bytes: &[u8], asked: &Asked) -> Result<Admitted, 
     requires actions { length asked.now.plan.actions < 2 ^ 32 }
     ensures ok { IfOk result (λ p. IsProgram asked.now bytes.now p.program p.root) }
     ensures one { IfOk result (λ p. (c : Class) → IsFile bytes.now c → c ≡ first_class p.program) }
-    ensures built { IfOk result (λ p. IsBuiltProgram p.program) }
+    ensures runnable { IfOk result (λ p. IsRunnable p.program p.root) }
     ensures faultless { IfOk result (λ _. (fault : Fault) → IsFirstFault bytes.now fault → ⊥) }
     ensures refuses { IfErr result (λ e. status_of e ≡ 3 → HasNoProgram asked.now bytes.now) }
     ensures early { (g : Given) → IsFetchedFor g asked.now bytes.now → IfErr result (IsEarly g) }
@@ -84,7 +84,7 @@ fn load<F: Files>(
     ensures ok { let k = command_view command.entry in
         IfOk result (λ l. let p = l.program in
         IsLoaded (F.contents files.old) k l.bytes.items p.program p.root) }
-    ensures built { IfOk result (λ l. IsBuiltProgram l.program.program) }
+    ensures runnable { IfOk result (λ l. IsRunnable l.program.program l.program.root) }
     ensures refuses { let k = command_view command.entry in
         IfErr result (λ e. status_of e ≡ 3 →
         HasTold (F.contents files.old) k.file (HasNoProgram (asked_by k))) }
@@ -112,7 +112,7 @@ pub fn prepare<F: Files>(
         IfOk result (λ l. let p = l.program in
         IsLoaded (F.contents files.old) k l.bytes.items p.program p.root) }
     ensures fine { IfOk result (λ _. IsFine (command_view command.entry)) }
-    ensures built { IfOk result (λ l. IsBuiltProgram l.program.program) }
+    ensures runnable { IfOk result (λ l. IsRunnable l.program.program l.program.root) }
     ensures refuses { let k = command_view command.entry in
         IfErr result (λ e. status_of e ≡ 3 →
         HasTold (F.contents files.old) k.file (HasNoProgram (asked_by k))) }

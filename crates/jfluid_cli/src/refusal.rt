@@ -24,9 +24,9 @@ pub enum Refusal {
     NotRead(ReadError),
     /// The program is not admitted, and this is its first fault: status 3.
     NotAdmitted(AdmitError),
-    /// The class is outside the part of the language that runs so far: status 3.
+    /// The class is not one of static methods alone, of which the machine runs each instruction: status 3.
     NotBuilt,
-    /// The root is a method of a built-in class, which is not rewritten so far: status 3.
+    /// There is a root, and the class is not small, or the root is a method of a built-in class: status 3.
     NotBuiltPlan,
     /// A put of the program's output failed: status 6.
     OutFailed,

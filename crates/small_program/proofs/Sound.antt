@@ -1,8 +1,9 @@
--- An admitted program of one small class is of the part that runs.
+-- An admitted program of one class of static methods is one that runs.
 use Rattle.std.proofs.Common.{◌≡◌, ℕ, zero, suc, ◌+◌, ◌<◌, ◌≤◌, Bool, true, false, List, [], ◌∷◌, length, slice_get, cond, Option, Some, None, refl, sym, ap, subst, ◌∙◌, arith}
-use Rattle.std.specs.Prelude.{map, nat_lt, unwrap_or}
+use Rattle.std.specs.Prelude.{map, nat_lt, unwrap_or, ◌==◌}
+use Rattle.std.specs.List.{AllByRecursion}
 use Rattle.std.specs.Option.{option_and_then, option_map_or}
-use Rattle.std.proofs.lemmas.Bool.{ltb-true}
+use Rattle.std.proofs.lemmas.Bool.{ltb-true, eq-eqb, and_from}
 use Rattle.std.proofs.lemmas.List.{length-map}
 use Rattle.std.proofs.lemmas.Option.{same_Some, none-some, option_and_then_some}
 use Rattle.const_pool.specs.declared.pool.Const.{Const}
@@ -18,12 +19,20 @@ use Rattle.base_classes.specs.Making.{class_file_of}
 use Rattle.jvm_model.specs.declared.program.Program.{Program}
 use Rattle.jvm_model.specs.Methods.{is_member, method_from, method_named}
 use Rattle.jvm_model.specs.OneClass.{IsProgramOf, IsBuiltProgram}
-use Rattle.jvm_model.specs.Programs.{class_named, first_class, no_class, number_of_method}
-use Rattle.jvm_model.specs.SmallClass.{main_member, is_public_static, public_static, IsSmallClass}
+use Rattle.jvm_model.specs.declared.program.MethodPlace.{MethodPlace}
+use Rattle.jvm_model.specs.Programs.{class_named, first_class, no_class, number_from, number_of_method, same_place}
+use Rattle.jvm_model.specs.SmallClass.{main_member, is_public_static, public_static}
+use Rattle.jvm_model.specs.Starting.{StartsReady}
+use Rattle.jvm_model.specs.StaticClass.{IsStaticClass}
 use Rattle.jvm_model.specs.StandsFor.{IsBuilt}
-use Rattle.jvm_model.proofs.Numbers.{number-first}
+use Rattle.jvm_model.proofs.Numbers.{place-coded}
+use Rattle.jvm_model.proofs.ReadyStart.{IsAlone-static, StartsReady-static}
+use Rattle.jvm_steps.specs.Prepared.{HasShortCodes, FitsOriginals}
 use Rattle.admit_check.specs.Admission.{declared_main, main_of_class, main_in, IsSoundProgram}
 use Rattle.small_program.specs.Admission.{IsSmall}
+use Rattle.small_program.specs.Runnable.{IsRunnable}
+use Rattle.small_program.proofs.BuiltIn.{files-built_in, files-short}
+use Rattle.small_program.proofs.Formed.{HasShortCodes-formed}
 
 -- ---- a method that is found is there
 
@@ -81,18 +90,37 @@ first-main p name e =
         let zeroed : class ≡ 0 = omega (arith, less) in
         ap (main_of_class p) (sym zeroed) ∙ (sym (ap (λ b. cond b (main_of_class p class) None) t) ∙ is)
 
-main-within : (c : ClassFile) (p : Program) (rest : List ClassFile) → IsSmallClass c → p.classes ≡ c ∷ rest → ((k : ℕ) → k < length c.methods → IsProgramOf c (record p { main = k }))
+-- the first place that is found is not behind another one
+same_place-self : (class at : ℕ) → same_place class at (record { class = class; position = at }) ≡ true
+same_place-self class at = and_from (class == class) (at == at) (eq-eqb class class refl) (eq-eqb at at refl)
+
+one-on : (n k i : ℕ) (b : Bool) (o : Option ℕ) → cond b (Some n) o ≡ Some i → (o ≡ Some i → i ≤ n + 1 + k) → i ≤ n + suc k
+one-on n k i true o e later = let same : n ≡ i = same_Some n i e in omega (arith, same)
+one-on n k i false o e later = let found = later e in omega (arith, found)
+
+number-early : (n class at : ℕ) (places : List MethodPlace) (k i : ℕ) → number_from n class at places ≡ Some i → slice_get places k ≡ Some (record { class = class; position = at })
+    → i ≤ n + k
+number-early n class at [] k i e there = absurd (none-some i e)
+number-early n class at (place ∷ rest) zero i e there =
+    let is : place ≡ record { class = class; position = at } = same_Some place (record { class = class; position = at }) there in
+    let test : same_place class at place ≡ true = ap (same_place class at) is ∙ same_place-self class at in
+    let same : n ≡ i = same_Some n i (sym (ap (λ b. cond b (let o : Option ℕ = Some n in o) (number_from (n + 1) class at rest)) test) ∙ e) in
+    omega (arith, same)
+number-early n class at (place ∷ rest) (suc k) i e there =
+    one-on n k i (same_place class at place) (number_from (n + 1) class at rest) e (λ later. number-early (n + 1) class at rest k i later there)
+
+main-within : (c : ClassFile) (p : Program) (rest : List ClassFile) → IsStaticClass c → p.classes ≡ c ∷ rest → ((k : ℕ) → k < length c.methods → IsProgramOf c (record p { main = k }))
     → main_of_class p 0 ≡ Some p.main → p.main < length c.methods
-main-within c p rest small classes of e =
+main-within c p rest static classes of e =
     let here : option_and_then (number_of_method p 0) (declared_main c) ≡ Some p.main =
     sym (ap (λ o. option_and_then (λ k. option_and_then (number_of_method p 0) (declared_main k)) o) (ap (λ cs. slice_get cs 0) classes)) ∙ e in
     option_and_then_some (number_of_method p 0) (declared_main c) p.main here
     (λ k declared numbered. (
     let has = declared-there c k declared in
     let less : k < length c.methods = within-some c.methods k has.member has.found in
-    let own : number_of_method p 0 k ≡ Some k = number-first c (record p { main = k }) k has.member small (of k less) has.found in
-    let same : k ≡ p.main = same_Some k p.main (sym own ∙ numbered) in
-    subst (λ n. n < length c.methods) same less))
+    let place = place-coded c (record p { main = k }) k has.member (IsAlone-static c static).coded (of k less) has.found in
+    let early : p.main ≤ 0 + k = number-early 0 0 k p.methods k p.main numbered place in
+    omega (arith, early, less)))
 
 -- ---- the program
 
@@ -103,18 +131,53 @@ few-files =
     let count : length (map (λ (d : ClassDeclaration). d.name) built_in_classes) ≡ 53 = ap length names_are in
     omega (arith, files, names, count)
 
+few-classes : (c : ClassFile) (p : Program) → p.classes ≡ c ∷ built_in_files → length p.classes ≤ 54
+few-classes c p classes =
+    let count : length p.classes ≡ suc (length built_in_files) = ap length classes in
+    let few = few-files in omega (arith, count, few)
+
 pub first-sound : (c : ClassFile) (p : Program) (name : List ℕ) → IsSoundProgram (c ∷ []) name p → first_class p ≡ c
 first-sound c p name sound = ap (λ cs. unwrap_or (slice_get cs 0) no_class) sound.classes_are
 
-pub built-sound : (c : ClassFile) (p : Program) (name : List ℕ) → IsClassFile c → IsSmall c → IsSoundProgram (c ∷ []) name p → IsBuiltProgram p
-built-sound c p name formed small sound =
-    let of : (k : ℕ) → k < length c.methods → IsProgramOf c (record p { main = k }) =
-    λ k less. record { rest = built_in_files; classes = sound.classes_are; methods = sound.methods; main = less } in
-    let main : p.main < length c.methods = main-within c p built_in_files small.small sound.classes_are of (first-main p name sound.main_is) in
+-- its main method is one of the class
+main-sound : (c : ClassFile) (p : Program) (name : List ℕ) → IsStaticClass c → IsSoundProgram (c ∷ []) name p → p.main < length c.methods
+main-sound c p name static sound =
+    main-within c p built_in_files static sound.classes_are
+    (λ k less. record { rest = built_in_files; classes = sound.classes_are; methods = sound.methods; main = less })
+    (first-main p name sound.main_is)
+
+abbrev of-sound : (c : ClassFile) (p : Program) (name : List ℕ) → IsStaticClass c → IsSoundProgram (c ∷ []) name p → IsProgramOf c p
+of-sound c p name static sound = record {
+  rest = built_in_files;
+  classes = sound.classes_are;
+  methods = sound.methods;
+  main = main-sound c p name static sound;
+}
+
+built-sound : (c : ClassFile) (p : Program) (name : List ℕ) → IsClassFile c → IsStaticClass c → IsSmall c → IsSoundProgram (c ∷ []) name p → IsBuiltProgram p
+built-sound c p name formed static small sound =
     let same : c ≡ first_class p = sym (first-sound c p name sound) in
-    let count : length p.classes ≡ suc (length built_in_files) = ap length sound.classes_are in
+    let of : IsProgramOf c p = of-sound c p name static sound in
     record {
       class = subst IsBuilt same (record { formed = formed; plain = small.plain; small = small.small });
-      program = subst (λ k. IsProgramOf k p) same (of p.main main);
-      few = (let few = few-files in omega (arith, count, few));
+      program = subst (λ k. IsProgramOf k p) same of;
+      few = (let few = few-classes c p sound.classes_are in omega (arith, few));
     }
+
+fits-sound : (c : ClassFile) (p : Program) (name : List ℕ) → IsClassFile c → IsSoundProgram (c ∷ []) name p → FitsOriginals p
+fits-sound c p name formed sound = record {
+  classes = (let few = few-classes c p sound.classes_are in omega (arith, few));
+  methods = (let few = sound.few in omega (arith, few));
+  codes = subst (AllByRecursion HasShortCodes) (sym sound.classes_are) (HasShortCodes-formed c formed, files-short);
+}
+
+starts-sound : (c : ClassFile) (p : Program) (name : List ℕ) → IsStaticClass c → IsSoundProgram (c ∷ []) name p → StartsReady p
+starts-sound c p name static sound = StartsReady-static c p static (of-sound c p name static sound) files-built_in
+
+pub runnable-sound : (c : ClassFile) (p : Program) (name : List ℕ) (root : Option ℕ) → IsClassFile c → IsStaticClass c → ((k : ℕ) → root ≡ Some k → IsSmall c)
+    → IsSoundProgram (c ∷ []) name p → IsRunnable p root
+runnable-sound c p name root formed static small sound = record {
+  fits = fits-sound c p name formed sound;
+  starts = starts-sound c p name static sound;
+  built = λ k e. built-sound c p name formed static (small k e) sound;
+}

@@ -7,5 +7,7 @@ mod names;
 mod plain_shape;
 mod small_class;
 mod small_code;
+mod static_class;
+mod static_code;
 
 pub use admission::{Admitted, Refused, admit, is_of_class};
