@@ -1,7 +1,47 @@
 //! Class files of small programs in hexadecimal, by the names of the programs.
 
-/// A class of another package has a public v below a package-private one.
-pub(super) const PACKAGE_PRIVATE_OTHER_PACKAGE: &[&str] = &[
+/// A program, and how its classes stand to one another.
+#[derive(Clone, Copy)]
+pub(super) enum Files {
+    /// A class of another package has a public v below a package-private one.
+    PackagePrivateOtherPackage,
+    /// The package-private v is overridden in its package by a public one, and that in another package.
+    PackagePrivateThroughPublic,
+    /// A private v below a public one.
+    PrivateOverrides,
+    /// S declares the methods of I, and A below it implements I.
+    SuperclassDoesNotImplement,
+    /// B is abstract and implements I, whose v no class declares.
+    ResolvedInAnInterface,
+    /// C implements I, whose superclass is A.
+    InterfaceWithASuperclass,
+    /// It invokes hashCode by an interface.
+    InterfaceMethodOfObject,
+    /// It invokes hashCode of java/lang/Object by invokespecial.
+    StringLengthSpecial,
+    /// It names a class that is not there.
+    AbsentClassReached,
+    /// Classes that can't be loaded: above them is what is not there, an interface, a class, an array, and one of them itself.
+    LoadsThatFail,
+}
+
+/// Its class files.
+pub(super) fn files_of(program: Files) -> &'static [&'static str] {
+    match program {
+        Files::PackagePrivateOtherPackage => &PACKAGE_PRIVATE_OTHER_PACKAGE,
+        Files::PackagePrivateThroughPublic => &PACKAGE_PRIVATE_THROUGH_PUBLIC,
+        Files::PrivateOverrides => &PRIVATE_OVERRIDES,
+        Files::SuperclassDoesNotImplement => &SUPERCLASS_DOES_NOT_IMPLEMENT,
+        Files::ResolvedInAnInterface => &RESOLVED_IN_AN_INTERFACE,
+        Files::InterfaceWithASuperclass => &INTERFACE_WITH_A_SUPERCLASS,
+        Files::InterfaceMethodOfObject => &INTERFACE_METHOD_OF_OBJECT,
+        Files::StringLengthSpecial => &STRING_LENGTH_SPECIAL,
+        Files::AbsentClassReached => &ABSENT_CLASS_REACHED,
+        Files::LoadsThatFail => &LOADS_THAT_FAIL,
+    }
+}
+
+static PACKAGE_PRIVATE_OTHER_PACKAGE: [&str; 3] = [
     "cafebabe000000320020010001580700010100106a6176612f6c616e672f4f626a6563740700030100046d61\
      696e010016285b4c6a6176612f6c616e672f537472696e673b2956010004436f64650100106a6176612f6c61\
      6e672f53797374656d0700080100036f75740100154c6a6176612f696f2f5072696e7453747265616d3b0c00\
@@ -20,8 +60,7 @@ pub(super) const PACKAGE_PRIVATE_OTHER_PACKAGE: &[&str] = &[
      00000205ac000000000000",
 ];
 
-/// The package-private v is overridden in its package by a public one, and that in another package.
-pub(super) const PACKAGE_PRIVATE_THROUGH_PUBLIC: &[&str] = &[
+static PACKAGE_PRIVATE_THROUGH_PUBLIC: [&str; 4] = [
     "cafebabe000000320020010001580700010100106a6176612f6c616e672f4f626a6563740700030100046d61\
      696e010016285b4c6a6176612f6c616e672f537472696e673b2956010004436f64650100106a6176612f6c61\
      6e672f53797374656d0700080100036f75740100154c6a6176612f696f2f5072696e7453747265616d3b0c00\
@@ -44,8 +83,7 @@ pub(super) const PACKAGE_PRIVATE_THROUGH_PUBLIC: &[&str] = &[
      00000206ac000000000000",
 ];
 
-/// A private v below a public one.
-pub(super) const PRIVATE_OVERRIDES: &[&str] = &[
+static PRIVATE_OVERRIDES: [&str; 3] = [
     "cafebabe000000320020010001580700010100106a6176612f6c616e672f4f626a6563740700030100046d61\
      696e010016285b4c6a6176612f6c616e672f537472696e673b2956010004436f64650100106a6176612f6c61\
      6e672f53797374656d0700080100036f75740100154c6a6176612f696f2f5072696e7453747265616d3b0c00\
@@ -63,8 +101,7 @@ pub(super) const PRIVATE_OVERRIDES: &[&str] = &[
      ac000000000000",
 ];
 
-/// S declares the methods of I, and A below it implements I.
-pub(super) const SUPERCLASS_DOES_NOT_IMPLEMENT: &[&str] = &[
+static SUPERCLASS_DOES_NOT_IMPLEMENT: [&str; 5] = [
     "cafebabe000000320025010001580700010100106a6176612f6c616e672f4f626a6563740700030100046d61\
      696e010016285b4c6a6176612f6c616e672f537472696e673b2956010004436f646501000143070008010006\
      3c696e69743e0100032829560c000a000b0a0009000c0100014907000e010001760100032829490c00100011\
@@ -89,8 +126,7 @@ pub(super) const SUPERCLASS_DOES_NOT_IMPLEMENT: &[&str] = &[
      000207ac000000000000",
 ];
 
-/// B is abstract and implements I, whose v no class declares.
-pub(super) const RESOLVED_IN_AN_INTERFACE: &[&str] = &[
+static RESOLVED_IN_AN_INTERFACE: [&str; 5] = [
     "cafebabe000000320023010001580700010100106a6176612f6c616e672f4f626a6563740700030100046d61\
      696e010016285b4c6a6176612f6c616e672f537472696e673b2956010004436f646501000143070008010006\
      3c696e69743e0100032829560c000a000b0a0009000c0100014207000e010001760100032829490c00100011\
@@ -114,8 +150,7 @@ pub(super) const RESOLVED_IN_AN_INTERFACE: &[&str] = &[
      00070000000e000100010000000204ac000000000000",
 ];
 
-/// C implements I, whose superclass is A.
-pub(super) const INTERFACE_WITH_A_SUPERCLASS: &[&str] = &[
+static INTERFACE_WITH_A_SUPERCLASS: [&str; 4] = [
     "cafebabe000000320020010001580700010100106a6176612f6c616e672f4f626a6563740700030100046d61\
      696e010016285b4c6a6176612f6c616e672f537472696e673b2956010004436f646501000143070008010006\
      3c696e69743e0100032829560c000a000b0a0009000c0100014107000e0100106a6176612f6c616e672f5379\
@@ -134,8 +169,7 @@ pub(super) const INTERFACE_WITH_A_SUPERCLASS: &[&str] = &[
     "cafebabe00000032000501000149070001010001410700030601000200040000000000000000",
 ];
 
-/// hashCode is asked of an interface.
-pub(super) const INTERFACE_METHOD_OF_OBJECT: &[&str] = &[
+static INTERFACE_METHOD_OF_OBJECT: [&str; 1] = [
     "cafebabe00000032001c010001580700010100106a6176612f6c616e672f4f626a6563740700030100046d61\
      696e010016285b4c6a6176612f6c616e672f537472696e673b2956010004436f646501000361626308000801\
      00166a6176612f6c616e672f4368617253657175656e636507000a01000868617368436f6465010003282949\
@@ -146,24 +180,21 @@ pub(super) const INTERFACE_METHOD_OF_OBJECT: &[&str] = &[
      000000",
 ];
 
-/// hashCode of the superclass.
-pub(super) const STRING_LENGTH_SPECIAL: &[&str] = &[
+static STRING_LENGTH_SPECIAL: [&str; 1] = [
     "cafebabe00000032000e010001580700010100106a6176612f6c616e672f4f626a6563740700030100046d61\
      696e010016285b4c6a6176612f6c616e672f537472696e673b2956010004436f646501000361626308000801\
      000868617368436f64650100032829490c000a000b0a0004000c002100020004000000000001000900050006\
      000100070000001300080004000000071209b7000d57b1000000000000",
 ];
 
-/// It names a class that is not there.
-pub(super) const ABSENT_CLASS_REACHED: &[&str] = &[
+static ABSENT_CLASS_REACHED: [&str; 1] = [
     "cafebabe00000032000a010001510700010100106a6176612f6c616e672f4f626a6563740700030100046d61\
      696e010016285b4c6a6176612f6c616e672f537472696e673b2956010004436f6465010006416273656e7407\
      00080021000200040000000000010009000500060001000700000015000100010000000904990007bb000957\
      b1000000000000",
 ];
 
-/// Classes that can't be loaded: above them is what is not there, an interface, a class, an array, and one of them itself.
-pub(super) const LOADS_THAT_FAIL: &[&str] = &[
+static LOADS_THAT_FAIL: [&str; 10] = [
     "cafebabe00000032001e010001580700010100106a6176612f6c616e672f4f626a6563740700030100046d61\
      696e010016285b4c6a6176612f6c616e672f537472696e673b2956010004436f646501000353756207000801\
      00106a6176612f6c616e672f53797374656d07000a0100036f75740100154c6a6176612f696f2f5072696e74\

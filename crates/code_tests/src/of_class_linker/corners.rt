@@ -1,11 +1,7 @@
 //! What a linker answers over class files of whole programs: a row is the files, what is asked, and the answer.
 
 use super::classes::{class_named, is_loaded, is_named, linker_over, text};
-use super::corner_files::{
-    ABSENT_CLASS_REACHED, INTERFACE_METHOD_OF_OBJECT, INTERFACE_WITH_A_SUPERCLASS, LOADS_THAT_FAIL,
-    PACKAGE_PRIVATE_OTHER_PACKAGE, PACKAGE_PRIVATE_THROUGH_PUBLIC, PRIVATE_OVERRIDES,
-    RESOLVED_IN_AN_INTERFACE, STRING_LENGTH_SPECIAL, SUPERCLASS_DOES_NOT_IMPLEMENT,
-};
+use super::corner_files::{Files, files_of};
 use super::selections::subtype;
 use base_classes::built_in_name;
 use class_linker::{Linker, Loaded, Resolved};
@@ -49,52 +45,52 @@ const NO_DEFINITION: &str = "java/lang/NoClassDefFoundError";
 
 const OBJECT: &str = "java/lang/Object";
 
-type Row = (&'static [&'static str], Asked, Answer);
+type Row = (Files, Asked, Answer);
 
 macro_rules! rows {
     ($([$files:ident $asked:ident($($word:expr),*), $answer:expr])*) => {
-        [$(($files, Asked::$asked($($word),*), $answer)),*]
+        [$((Files::$files, Asked::$asked($($word),*), $answer)),*]
     };
 }
 
 static ROWS: [Row; 37] = rows![
-    [PACKAGE_PRIVATE_OTHER_PACKAGE Virtual("q/B", ("p/A", "v", "()I")), Answer::In("p/A", 1)]
-    [PACKAGE_PRIVATE_OTHER_PACKAGE Special("q/B", ("p/A", "v", "()I")), Answer::In("p/A", 1)]
-    [PACKAGE_PRIVATE_OTHER_PACKAGE Special("q/B", ("p/A", "<init>", "()V")), Answer::In("p/A", 0)]
-    [PACKAGE_PRIVATE_OTHER_PACKAGE Special("q/B", (OBJECT, "<init>", "()V")), Answer::In(OBJECT, 0)]
-    [PACKAGE_PRIVATE_OTHER_PACKAGE Special("X", ("q/B", "<init>", "()V")), Answer::In("q/B", 0)]
-    [PACKAGE_PRIVATE_THROUGH_PUBLIC Virtual("q/C", ("p/A", "v", "()I")), Answer::In("q/C", 1)]
-    [PACKAGE_PRIVATE_THROUGH_PUBLIC Virtual("p/B", ("p/A", "v", "()I")), Answer::In("p/B", 1)]
-    [PACKAGE_PRIVATE_THROUGH_PUBLIC Special("q/C", ("p/A", "v", "()I")), Answer::In("p/B", 1)]
-    [PACKAGE_PRIVATE_THROUGH_PUBLIC Special("q/C", ("q/C", "v", "()I")), Answer::In("q/C", 1)]
-    [PRIVATE_OVERRIDES Virtual("B", ("A", "v", "()I")), Answer::In("B", 1)]
-    [PRIVATE_OVERRIDES Special("B", ("A", "v", "()I")), Answer::In("A", 1)]
-    [PRIVATE_OVERRIDES Special("X", ("A", "v", "()I")), Answer::In("A", 1)]
-    [SUPERCLASS_DOES_NOT_IMPLEMENT Subtype("S", "I"), Answer::Holds(false)]
-    [SUPERCLASS_DOES_NOT_IMPLEMENT Subtype("C", "I"), Answer::Holds(true)]
-    [SUPERCLASS_DOES_NOT_IMPLEMENT Method(("A", "w", "()I")), Answer::In("S", 2)]
-    [SUPERCLASS_DOES_NOT_IMPLEMENT Virtual("C", ("A", "w", "()I")), Answer::In("S", 2)]
-    [SUPERCLASS_DOES_NOT_IMPLEMENT Interface("C", ("I", "v", "()I")), Answer::In("S", 1)]
-    [RESOLVED_IN_AN_INTERFACE Method(("B", "v", "()I")), Answer::In("I", 0)]
-    [RESOLVED_IN_AN_INTERFACE InterfaceMethod(("B", "v", "()I")), Answer::Throws(INCOMPATIBLE)]
-    [RESOLVED_IN_AN_INTERFACE Method(("I", "v", "()I")), Answer::Throws(INCOMPATIBLE)]
-    [RESOLVED_IN_AN_INTERFACE Virtual("C", ("B", "v", "()I")), Answer::Throws(ABSTRACT_METHOD)]
-    [RESOLVED_IN_AN_INTERFACE Interface("C", ("I", "v", "()I")), Answer::Throws(ABSTRACT_METHOD)]
-    [RESOLVED_IN_AN_INTERFACE Special("C", ("B", "v", "()I")), Answer::Throws(ABSTRACT_METHOD)]
-    [INTERFACE_WITH_A_SUPERCLASS Subtype("C", "A"), Answer::Holds(true)]
-    [INTERFACE_WITH_A_SUPERCLASS Field(("A", "f", "I")), Answer::In("A", 0)]
-    [INTERFACE_WITH_A_SUPERCLASS Field(("I", "f", "I")), Answer::In("A", 0)]
-    [INTERFACE_WITH_A_SUPERCLASS Field(("C", "f", "I")), Answer::In("A", 0)]
-    [INTERFACE_METHOD_OF_OBJECT InterfaceMethod(("java/lang/CharSequence", "hashCode", "()I")), Answer::In(OBJECT, 2)]
-    [INTERFACE_METHOD_OF_OBJECT Interface("java/lang/String", ("java/lang/CharSequence", "hashCode", "()I")), Answer::In("java/lang/String", 8)]
-    [STRING_LENGTH_SPECIAL Special("X", (OBJECT, "hashCode", "()I")), Answer::In(OBJECT, 2)]
-    [ABSENT_CLASS_REACHED Load("Absent"), Answer::Throws(NO_DEFINITION)]
-    [LOADS_THAT_FAIL Load("Sub"), Answer::Throws(INCOMPATIBLE)]
-    [LOADS_THAT_FAIL Load("Low"), Answer::Throws(NO_DEFINITION)]
-    [LOADS_THAT_FAIL Load("Round"), Answer::Throws(CIRCULARITY)]
-    [LOADS_THAT_FAIL Load("Round2"), Answer::Throws(CIRCULARITY)]
-    [LOADS_THAT_FAIL Load("OnFace"), Answer::Throws(INCOMPATIBLE)]
-    [LOADS_THAT_FAIL Load("Odd"), Answer::Throws(INCOMPATIBLE)]
+    [PackagePrivateOtherPackage Virtual("q/B", ("p/A", "v", "()I")), Answer::In("p/A", 1)]
+    [PackagePrivateOtherPackage Special("q/B", ("p/A", "v", "()I")), Answer::In("p/A", 1)]
+    [PackagePrivateOtherPackage Special("q/B", ("p/A", "<init>", "()V")), Answer::In("p/A", 0)]
+    [PackagePrivateOtherPackage Special("q/B", (OBJECT, "<init>", "()V")), Answer::In(OBJECT, 0)]
+    [PackagePrivateOtherPackage Special("X", ("q/B", "<init>", "()V")), Answer::In("q/B", 0)]
+    [PackagePrivateThroughPublic Virtual("q/C", ("p/A", "v", "()I")), Answer::In("q/C", 1)]
+    [PackagePrivateThroughPublic Virtual("p/B", ("p/A", "v", "()I")), Answer::In("p/B", 1)]
+    [PackagePrivateThroughPublic Special("q/C", ("p/A", "v", "()I")), Answer::In("p/B", 1)]
+    [PackagePrivateThroughPublic Special("q/C", ("q/C", "v", "()I")), Answer::In("q/C", 1)]
+    [PrivateOverrides Virtual("B", ("A", "v", "()I")), Answer::In("B", 1)]
+    [PrivateOverrides Special("B", ("A", "v", "()I")), Answer::In("A", 1)]
+    [PrivateOverrides Special("X", ("A", "v", "()I")), Answer::In("A", 1)]
+    [SuperclassDoesNotImplement Subtype("S", "I"), Answer::Holds(false)]
+    [SuperclassDoesNotImplement Subtype("C", "I"), Answer::Holds(true)]
+    [SuperclassDoesNotImplement Method(("A", "w", "()I")), Answer::In("S", 2)]
+    [SuperclassDoesNotImplement Virtual("C", ("A", "w", "()I")), Answer::In("S", 2)]
+    [SuperclassDoesNotImplement Interface("C", ("I", "v", "()I")), Answer::In("S", 1)]
+    [ResolvedInAnInterface Method(("B", "v", "()I")), Answer::In("I", 0)]
+    [ResolvedInAnInterface InterfaceMethod(("B", "v", "()I")), Answer::Throws(INCOMPATIBLE)]
+    [ResolvedInAnInterface Method(("I", "v", "()I")), Answer::Throws(INCOMPATIBLE)]
+    [ResolvedInAnInterface Virtual("C", ("B", "v", "()I")), Answer::Throws(ABSTRACT_METHOD)]
+    [ResolvedInAnInterface Interface("C", ("I", "v", "()I")), Answer::Throws(ABSTRACT_METHOD)]
+    [ResolvedInAnInterface Special("C", ("B", "v", "()I")), Answer::Throws(ABSTRACT_METHOD)]
+    [InterfaceWithASuperclass Subtype("C", "A"), Answer::Holds(true)]
+    [InterfaceWithASuperclass Field(("A", "f", "I")), Answer::In("A", 0)]
+    [InterfaceWithASuperclass Field(("I", "f", "I")), Answer::In("A", 0)]
+    [InterfaceWithASuperclass Field(("C", "f", "I")), Answer::In("A", 0)]
+    [InterfaceMethodOfObject InterfaceMethod(("java/lang/CharSequence", "hashCode", "()I")), Answer::In(OBJECT, 2)]
+    [InterfaceMethodOfObject Interface("java/lang/String", ("java/lang/CharSequence", "hashCode", "()I")), Answer::In("java/lang/String", 8)]
+    [StringLengthSpecial Special("X", (OBJECT, "hashCode", "()I")), Answer::In(OBJECT, 2)]
+    [AbsentClassReached Load("Absent"), Answer::Throws(NO_DEFINITION)]
+    [LoadsThatFail Load("Sub"), Answer::Throws(INCOMPATIBLE)]
+    [LoadsThatFail Load("Low"), Answer::Throws(NO_DEFINITION)]
+    [LoadsThatFail Load("Round"), Answer::Throws(CIRCULARITY)]
+    [LoadsThatFail Load("Round2"), Answer::Throws(CIRCULARITY)]
+    [LoadsThatFail Load("OnFace"), Answer::Throws(INCOMPATIBLE)]
+    [LoadsThatFail Load("Odd"), Answer::Throws(INCOMPATIBLE)]
 ];
 
 fn rows() -> &'static [Row] {
@@ -247,8 +243,8 @@ fn is_wanted(linker: &Linker, given: &Given, wanted: &Answer) -> bool {
 #[test]
 fn questions_over_files(rt: HostRuntime) -> Result<(), Fail> {
     let alloc = rt.alloc();
-    for (at, (files, question, wanted)) in rows().iter().enumerate() {
-        let mut linker = linker_over(alloc, files)?;
+    for (at, (program, question, wanted)) in rows().iter().enumerate() {
+        let mut linker = linker_over(alloc, files_of(*program))?;
         let given = answer_to(alloc, &mut linker, question)?;
         assert!(rt; is_wanted(&linker, &given, wanted), "in row {at}");
     }
