@@ -127,8 +127,6 @@ pub fn invoke_static(
         Some(Phase::Ready | Phase::Running) => invoke(originals, parts, method, line, callee),
         // No class is so.
         Some(Phase::Fresh) => raise(originals, parts, Exception::NoClassDefinition),
-        Some(Phase::Erroneous) | None => {
-            raise(originals, parts, Exception::NoClassDefinition)
-        }
+        Some(Phase::Erroneous) | None => { raise(originals, parts, Exception::NoClassDefinition) }
     }
 }

@@ -43,11 +43,7 @@ fn make(heap: &mut Heap, kind: u32) -> Result<u32, NoMemory>
 }
 
 /// Throws an exception that the machine makes.
-pub fn raise(
-    originals: &Originals,
-    parts: &mut Parts,
-    exception: Exception,
-) -> Result<(), NoMemory>
+pub fn raise(originals: &Originals, parts: &mut Parts, exception: Exception) -> Result<(), NoMemory>
     ensures { OnOk result (parts.new ≡ raising originals.now exception parts.old) }
 {
     let kind = originals.kind_of(exception);

@@ -89,7 +89,11 @@ fn meet_throw(originals: &Originals, parts: &mut Parts, object: u32)
 {
     match where_now(&parts.frames) {
         Some(here) => meet_frame(originals, parts, object, here),
-        None => parts.ending = Some(Ending::Uncaught(class_of(originals.program(), &parts.shared.heap, object))),
+        None => parts.ending = Some(Ending::Uncaught(class_of(
+            originals.program(),
+            &parts.shared.heap,
+            object,
+        ))),
     }
 }
 
