@@ -13,3 +13,4 @@ pub mod Entries
 mod Actions
 pub mod LineActs
 pub mod LineSteps
+pub mod OpenClasses

@@ -124,7 +124,8 @@ pub fn invoke_static(
         return raise(originals, parts, Exception::NoSuchMethod);
     };
     match parts.shared.phases.at(class as usize) {
-        Some(Phase::Ready | Phase::Running) => invoke(originals, parts, method, line, callee),
+        Some(Phase::Ready) => invoke(originals, parts, method, line, callee),
+        Some(Phase::Running) => invoke(originals, parts, method, line, callee),
         // No class is so.
         Some(Phase::Fresh) => raise(originals, parts, Exception::NoClassDefinition),
         Some(Phase::Erroneous) | None => { raise(originals, parts, Exception::NoClassDefinition) }
