@@ -6,7 +6,7 @@ ghost use Rattle.inject_events.specs.Answers.{IsReadableClass};
 ghost use Rattle.jvm_model.proofs.PlainRun.{p1};
 
 use class_reader::{ReadError, read_class};
-use const_pool::{Attribute, ClassFile, CodeAttribute, Handler, Pool, Raw};
+use const_pool::{Attribute, ClassFile, CodeAttribute, Handler, Pool};
 use inject_events::{Image, instrument};
 use jvm_model::Mark;
 use std::alloc::Global;
@@ -91,7 +91,10 @@ fn has_one_frame(image: &Image, method: usize, handler: u8) -> bool {
     let frame = [0, 1, 0xFF, 0, handler, 0, 0, 0, 1, 7, 0, 40];
     match code_of(image, method) {
         Some(code) => match code.attributes.as_slice() {
-            [Raw { name: 41, bytes }] => bytes.as_slice() == frame,
+            [raw] => {
+                let name = raw.name;
+                name == 41 && raw.bytes.as_slice() == frame.as_slice()
+            }
             _ => false,
         },
         None => false,
