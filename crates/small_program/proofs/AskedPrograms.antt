@@ -13,11 +13,11 @@ use Rattle.small_program.specs.Runnable.{IsUsual}
 abbrev Answer : Type 0
 Answer = Result Program AdmitError
 
-args_in : Answer → List (List ℕ)
+abbrev args_in : Answer → List (List ℕ)
 args_in (Ok p) = p.args
 args_in (Err fault) = []
 
-heap_in : Answer → ℕ
+abbrev heap_in : Answer → ℕ
 heap_in (Ok p) = p.heap
 heap_in (Err fault) = 0
 
