@@ -30,7 +30,7 @@ divides : step 108 arg.Plain [] (Int (negsuc 0) ∷ Int (negsuc 2147483647) ∷ 
 unfolding family_of rows int_wrap
 divides = refl
 
-raises : step 108 arg.Plain [] (Int (pos 0) ∷ Int (pos 5) ∷ []) ≡ Some (Raises (codes "java/lang/ArithmeticException"))
+raises : step 108 arg.Plain [] (Int (pos 0) ∷ Int (pos 5) ∷ []) ≡ Some (Raises (codes "java/lang/ArithmeticException") (Some (codes "/ by zero")))
 unfolding family_of rows
 raises = refl
 

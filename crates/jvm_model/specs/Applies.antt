@@ -1,12 +1,12 @@
 -- What becomes of a state by an outcome: one function, for all instructions (JVM Specification 2.6, 2.6.4, 2.6.5, 2.10, 2.17).
-use Rattle.std.specs.Prelude.{ℕ, Bool, true, false, List, [], ◌∷◌, length, Option, Some, None, slice_get, nat_le, if◌then◌else◌}
+use Rattle.std.specs.Prelude.{ℕ, suc, Bool, true, false, List, [], ◌∷◌, length, Option, Some, None, slice_get, nat_le, nat_lt, if◌then◌else◌}
 use Rattle.std.specs.Option.{option_map}
 use Rattle.heap_objects.specs.declared.Value.TheVariants.{Addr}
 use Rattle.frame_stack.specs.Widths.{height_of}
 use Rattle.jvm_model.specs.Data.{Datum, Locals, Operands, Frame, Entry, Active, Initializing, Constants, Running, Exited, Unverifiable, State, Began, Left, Turn, Instruction, Text, Where, Next, Target, Back, Outcome, GoesOn, Subroutine, Invokes, Returns, Throws, Raises, Initializes, Exits, Breaks, World}
 use Rattle.jvm_model.specs.Values.{as_value, spread, locals_with, with_value}
 use Rattle.jvm_model.specs.Programs.{max_stack_of, max_locals_of}
-use Rattle.jvm_model.specs.SharedState.{with_phase, Allocated, raised}
+use Rattle.jvm_model.specs.SharedState.{with_phase, Allocated, raised, stack_overflow}
 
 abbrev pub still : State → Turn
 still s = record { after = s; changes = [] }
@@ -58,9 +58,25 @@ has_room w m args = nat_le (length (spread args)) (max_locals_of w m)
 abbrev pub begins : World → Text → State → Frame → ℕ → List Datum → Operands → Turn
 begins w t s f m args below = record { after = with_frame (with_frame s (record f { operands = below })) (new_frame w t m args); changes = Began m ∷ [] }
 
+-- how many activations are live
+abbrev pub live_in : List Entry → ℕ
+live_in [] = 0
+live_in (Active f ∷ below) = suc (live_in below)
+live_in (Initializing c part ∷ below) = live_in below
+
+-- one more would be too many
+abbrev pub most_live : ℕ
+most_live = 1024
+
+-- beside so many others, the caller's own among them
+abbrev pub begins_beside : World → Text → State → Frame → ℕ → List Datum → Operands → ℕ → Turn
+begins_beside w t s f m args below live =
+    if nat_lt live most_live then begins w t s f m args below
+    else still (throws_at s f (raised w s.shared stack_overflow None))
+
 abbrev pub invokes : World → Text → Instruction → State → Frame → ℕ → List Datum → Operands → Turn
 invokes w t i s f m args below =
-    if has_room w m args then begins w t s f m args below else still (breaks s f i.own)
+    if has_room w m args then begins_beside w t s f m args below (suc (live_in s.stack)) else still (breaks s f i.own)
 
 -- the caller goes on behind its instruction, with the result on top
 abbrev pub resumes : State → Frame → Option Datum → Option Instruction → State
@@ -87,7 +103,7 @@ applies w t i Subroutine s f = still (enters_subroutine s f i i.next)
 applies w t i (Invokes m args below) s f = invokes w t i s f m args below
 applies w t i (Returns d) s f = record { after = gives_back t s d s.stack; changes = Left ∷ [] }
 applies w t i (Throws r) s f = still (throws_at s f (record { shared = s.shared; reference = r }))
-applies w t i (Raises c) s f = still (throws_at s f (raised w s.shared c))
+applies w t i (Raises c message) s f = still (throws_at s f (raised w s.shared c message))
 applies w t i (Initializes c) s f = still (record s { stack = Initializing c Constants ∷ Active f ∷ s.stack; shared = with_phase s.shared c Running })
 applies w t i (Exits n) s f = still (record s { stack = Active f ∷ s.stack; ending = Some (Exited n) })
 applies w t i (Breaks ends) s f = breaks_or_ends ends s f i.own

@@ -107,6 +107,14 @@ pub data Operation : Type 0 where
   Invokestatic : Reference → Operation
   Invokevirtual : Reference → Operation
   Athrow : Operation
+  -- monitorenter, monitorexit
+  Monitor : Operation
+  -- newarray, of elements with this code
+  Newarray : ℕ → Operation
+  Arraylength : Operation
+  -- iaload, .., saload and iastore, .., sastore: baload and bastore are of bytes, and serve booleans too
+  LoadElement : Kind → Operation
+  StoreElement : Kind → Operation
 
 -- An instruction in a method: its offset in the original code, the place behind it, unless control never goes on there, and
 -- the places that it names.
@@ -148,9 +156,9 @@ pub data Outcome : Type 0 where
   -- a method is invoked with these arguments; these operands are left
   Invokes : ℕ → List Datum → Operands → Outcome
   Returns : Option Datum → Outcome
-  -- an object is thrown, or an exception of the class of this name, which the machine makes
+  -- an object is thrown, or an exception of the class of this name, which the machine makes, with this message
   Throws : ℕ → Outcome
-  Raises : List ℕ → Outcome
+  Raises : List ℕ → Option (List ℕ) → Outcome
   -- the class at this position is initialized before
   Initializes : ℕ → Outcome
   Exits : ℤ → Outcome

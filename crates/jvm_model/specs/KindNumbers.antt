@@ -1,7 +1,7 @@
 -- Kinds of classes and arrays as numbers. A kind is the number d * 2 ^ 24 + b: d is how many dimensions there are, 0 for what is no
 -- array; b is the code of newarray for a primitive element, 16 and the place among the built-in classes, or 256 and the position among
 -- the others, which stand before them.
-use Rattle.std.specs.Prelude.{ℕ, ◌+◌, ◌-◌, ◌*◌, length, Option, Some, None, nat_lt, if◌then◌else◌}
+use Rattle.std.specs.Prelude.{ℕ, ◌+◌, ◌-◌, ◌*◌, ◌/◌, ◌%◌, length, Option, Some, None, nat_lt, if◌then◌else◌}
 use Rattle.const_pool.specs.BuiltIn.{built_in_names}
 use Rattle.jvm_model.specs.declared.program.Program.{Program}
 
@@ -32,3 +32,6 @@ pub record KindParts : Type 0 where
 
 abbrev pub kind_number : KindParts → ℕ
 kind_number k = k.dimensions * first_array + k.base
+
+abbrev pub kind_parts : ℕ → KindParts
+kind_parts kind = record { dimensions = kind / first_array; base = kind % first_array }

@@ -9,7 +9,7 @@ use Rattle.const_pool.specs.References.{named_text}
 use Rattle.jvm_model.specs.declared.program.Program.{Program}
 use Rattle.jvm_model.specs.Programs.{class_at}
 use Rattle.jvm_model.specs.Lookup.{superclass_of}
-use Rattle.jvm_model.specs.SmallClass.{has_flag}
+use Rattle.jvm_model.specs.Methods.{has_flag}
 
 -- what a field of this descriptor holds, which its first unit tells (4.3.2)
 abbrev pub held_by : List ℕ → Kind

@@ -13,6 +13,7 @@ pub mod Kinds
 pub mod Load
 pub mod SharedState
 pub mod LocalRules
+pub mod ObjectRules
 pub mod Rules
 pub mod Applies
 pub mod Moves

@@ -6,6 +6,7 @@ use Rattle.heap_objects.specs.declared.datum.Datum.TheVariants as datum
 use Rattle.const_pool.specs.declared.pool.Const.{Const}
 use Rattle.const_pool.specs.declared.pool.Const.TheVariants as const
 use Rattle.const_pool.specs.declared.class.ClassFile.{ClassFile}
+use Rattle.const_pool.specs.declared.descriptor.Kind.TheVariants as kind
 use Rattle.const_pool.specs.References.{Reference, named_field, named_method}
 use Rattle.code_model.specs.declared.instr.Instr.{Instr}
 use Rattle.code_model.specs.declared.instr.Arg.{Arg}
@@ -13,7 +14,7 @@ use Rattle.code_model.specs.declared.instr.Arg.TheVariants as arg
 use Rattle.code_model.specs.Instructions.{instruction_at, end_of}
 use Rattle.jvm_model.specs.declared.family.Family.{Family}
 use Rattle.jvm_model.specs.declared.family.Family.TheVariants as family
-use Rattle.jvm_model.specs.Data.{Datum, Keys, Consecutive, Listed, Local, Nop, Constant, Load, Store, Arrange, BinaryOfInts, BinaryOfLongs, DivisionOfInts, DivisionOfLongs, ShiftOfLong, UnaryOfInt, UnaryOfLong, Lcmp, Iinc, Branch, Goto, Switch, Jsr, Ret, Return, Operation, Within, Getstatic, Invokestatic, Invokevirtual, Athrow, Instruction}
+use Rattle.jvm_model.specs.Data.{Datum, Keys, Consecutive, Listed, Local, Nop, Constant, Load, Store, Arrange, BinaryOfInts, BinaryOfLongs, DivisionOfInts, DivisionOfLongs, ShiftOfLong, UnaryOfInt, UnaryOfLong, Lcmp, Iinc, Branch, Goto, Switch, Jsr, Ret, Return, Operation, Within, Getstatic, Invokestatic, Invokevirtual, Athrow, Monitor, Newarray, Arraylength, LoadElement, StoreElement, Instruction}
 use Rattle.jvm_model.specs.Families.{family_of}
 use Rattle.jvm_model.specs.Methods.{method_code}
 use Rattle.jvm_model.specs.Rules.{is_out, is_println}
@@ -97,15 +98,44 @@ pool_operation c op index =
     else if op == 184 then option_map Invokestatic (named_method c.pool index)
     else None
 
-abbrev pub named_operation : ClassFile → ℕ → Arg → Option Operation
-named_operation c op (arg.Pool index) = pool_operation c op index
-named_operation c op _ = None
+-- ---- instructions that see objects
+
+-- arraylength, athrow, monitorenter and monitorexit, iaload to saload, iastore to sastore, a row each
+pub record ObjectRow : Type 0 where
+  pub op : ℕ
+  pub operation : Operation
+
+abbrev pub object_row : ℕ → Operation → ObjectRow
+object_row op operation = record { op = op; operation = operation }
+
+abbrev pub object_rows : List ObjectRow
+object_rows =
+    object_row 46 (LoadElement kind.Int) ∷ object_row 47 (LoadElement kind.Long) ∷ object_row 50 (LoadElement kind.Ref) ∷
+    object_row 51 (LoadElement kind.Byte) ∷ object_row 52 (LoadElement kind.Char) ∷ object_row 53 (LoadElement kind.Short) ∷
+    object_row 79 (StoreElement kind.Int) ∷ object_row 80 (StoreElement kind.Long) ∷ object_row 83 (StoreElement kind.Ref) ∷
+    object_row 84 (StoreElement kind.Byte) ∷ object_row 85 (StoreElement kind.Char) ∷ object_row 86 (StoreElement kind.Short) ∷
+    object_row 190 Arraylength ∷ object_row 191 Athrow ∷ object_row 194 Monitor ∷ object_row 195 Monitor ∷ []
+
+abbrev pub object_among : List ObjectRow → ℕ → Option Operation
+object_among [] op = None
+object_among (r ∷ rs) op = if op == r.op then Some r.operation else object_among rs op
+
+-- newarray, with the code of its elements
+abbrev pub newarray_of : ℕ → ℕ → Option Operation
+newarray_of op code = if op == 188 then Some (Newarray code) else None
 
 -- ---- every instruction
 
+-- of no family: by the form of its operand
+abbrev pub other_operation : ClassFile → ℕ → Arg → Option Operation
+other_operation c op (arg.Pool index) = pool_operation c op index
+other_operation c op (arg.Array code) = newarray_of op code
+other_operation c op arg.Plain = object_among object_rows op
+other_operation c op _ = None
+
 -- by its family
 abbrev pub operation_by : ClassFile → ℕ → Arg → Family → Option Operation
-operation_by c op a family.Elsewhere = named_operation c op a
+operation_by c op a family.Elsewhere = other_operation c op a
 operation_by c op a f = option_map Within (local_of f a (constant_in c.pool a))
 
 -- what an instruction of the class does

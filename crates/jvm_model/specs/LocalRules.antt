@@ -98,9 +98,13 @@ compares_longs l o = replaces 2 (option_map (λ p. Int (comparison p.0 p.1)) (lo
 abbrev pub arithmetic_exception : List ℕ
 arithmetic_exception = codes "java/lang/ArithmeticException"
 
+-- its message
+abbrev pub by_zero : List ℕ
+by_zero = codes "/ by zero"
+
 abbrev pub divides_these : Option (Option Value) → Locals → Operands → Outcome
 divides_these None l o = Breaks false
-divides_these (Some None) l o = Raises arithmetic_exception
+divides_these (Some None) l o = Raises arithmetic_exception (Some by_zero)
 divides_these (Some (Some v)) l o = GoesOn l (v ∷ drop 2 o) Next
 
 abbrev pub divides_ints : Division → Locals → Operands → Outcome

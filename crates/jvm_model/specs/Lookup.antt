@@ -8,10 +8,9 @@ use Rattle.std.specs.Option.{option_and_then, option_map_or, option_to_list}
 use Rattle.const_pool.specs.declared.class.ClassFile.{ClassFile}
 use Rattle.const_pool.specs.References.{NameAndType, named_class}
 use Rattle.jvm_model.specs.declared.program.Program.{Program}
-use Rattle.jvm_model.specs.Methods.{method_named}
+use Rattle.jvm_model.specs.Methods.{has_flag, method_named}
 use Rattle.jvm_model.specs.Programs.{class_at, class_named, super_of}
 use Rattle.jvm_model.specs.SharedState.{field_named, no_such_field, no_such_method}
-use Rattle.jvm_model.specs.SmallClass.{has_flag}
 
 -- ---- what a class names above itself
 
@@ -63,6 +62,10 @@ supertypes p class = supertypes_within p (length p.classes) class
 -- a class is the other one, or inherits from it, or implements it
 abbrev pub is_subtype : Program → ℕ → ℕ → Bool
 is_subtype p lower upper = list_any (λ class. upper == class) (supertypes p lower)
+
+-- it is the class with this name, or stands below it; a name that is no class of the program has none below it
+abbrev pub is_below : Program → ℕ → List ℕ → Bool
+is_below p class name = option_map_or (is_subtype p class) (class_named p name) false
 
 -- ---- members
 

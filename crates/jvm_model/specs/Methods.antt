@@ -1,5 +1,5 @@
 -- The methods of a class, by their numbers (JVM Specification 4.6, 4.7.3).
-use Rattle.std.specs.Prelude.{ℕ, ◌+◌, Bool, false, List, [], ◌∷◌, Option, Some, None, slice_get, ◌&&◌, if◌then◌else◌}
+use Rattle.std.specs.Prelude.{ℕ, ◌+◌, Bool, false, not, bit_and, ◌==◌, List, [], ◌∷◌, Option, Some, None, slice_get, ◌&&◌, if◌then◌else◌}
 use Rattle.std.specs.Option.{option_and_then, option_map, option_map_or}
 use Rattle.const_pool.specs.declared.pool.Const.{Const}
 use Rattle.const_pool.specs.declared.class.ClassFile.{ClassFile}
@@ -11,6 +11,13 @@ use Rattle.const_pool.specs.declared.descriptor.Kind.{Kind}
 use Rattle.const_pool.specs.declared.descriptor.Shape.{Shape}
 use Rattle.const_pool.specs.References.{NameAndType, named_text}
 use Rattle.jvm_model.specs.Descriptors.{same_text, shape_of}
+
+-- ---- access flags (4.1, 4.5, 4.6)
+
+abbrev pub has_flag : ℕ → ℕ → Bool
+has_flag flag access = not (bit_and access flag == 0)
+
+-- ---- methods
 
 -- the Code among a method's attributes
 abbrev pub code_among : List Attribute → Option CodeAttribute

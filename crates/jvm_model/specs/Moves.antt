@@ -4,14 +4,15 @@ use Rattle.std.specs.Option.{option_map_or}
 use Rattle.heap_objects.specs.declared.datum.Datum.TheVariants as datum
 use Rattle.heap_objects.specs.declared.Value.TheVariants.{Ref}
 use Rattle.jvm_model.specs.Data.{Datum, Frame, Entry, Active, Initializing, Part, Constants, Superclass, Initializer, Finish, Phase, Fresh, Running, Ready, Erroneous, Shared, Ending, Returned, Uncaught, Unverifiable, State, Began, Unwound, Turn, Catcher, Instruction, Text, World}
-use Rattle.jvm_model.specs.Programs.{is_subclass, super_of, initializer_of}
-use Rattle.jvm_model.specs.SharedState.{error, no_class_definition, in_initializer, phase_of, with_phase, class_of, Allocated, raised}
-use Rattle.jvm_model.specs.Applies.{still, with_frame, goes, new_frame, has_room}
+use Rattle.jvm_model.specs.Lookup.{is_below}
+use Rattle.jvm_model.specs.Programs.{name_at, super_of, initializer_of}
+use Rattle.jvm_model.specs.SharedState.{error, no_class_definition, in_initializer, stack_overflow, phase_of, with_phase, class_of, Allocated, made_with, raised}
+use Rattle.jvm_model.specs.Applies.{still, with_frame, goes, new_frame, has_room, live_in, most_live}
 
 -- ---- a throw meets a frame
 
 abbrev pub covers : World → ℕ → ℕ → Catcher → Bool
-covers w class place h = nat_le h.start place && nat_lt place h.finish && option_map_or (is_subclass w.program class) h.catches true
+covers w class place h = nat_le h.start place && nat_lt place h.finish && option_map_or (is_below w.program class) h.catches true
 
 -- the first one in table order
 abbrev pub handler_for : World → ℕ → ℕ → List Catcher → Option ℕ
@@ -28,8 +29,11 @@ caught w t s r f (Some target) = still (goes (record s { thrown = None }) f (own
 
 -- ---- a throw meets an initialization
 
+-- what is no Error becomes the cause of one
 abbrev pub wrapped : World → Shared → ℕ → Allocated
-wrapped w s r = if is_subclass w.program (class_of w.program s r) error then record { shared = s; reference = r } else raised w s in_initializer
+wrapped w s r =
+    if is_below w.program (class_of w.program s r) error then record { shared = s; reference = r }
+    else made_with w s in_initializer None (datum.Ref r)
 
 abbrev pub fails : World → State → ℕ → ℕ → State
 fails w s c r = let a = wrapped w s.shared r in record s { shared = with_phase a.shared c Erroneous; thrown = Some a.reference }
@@ -40,12 +44,12 @@ abbrev pub at_part : State → ℕ → Part → State
 at_part s c part = record s { stack = Initializing c part ∷ s.stack }
 
 -- an exception that the machine makes is thrown
-abbrev pub raises : World → State → List ℕ → State
-raises w s name = let a = raised w s.shared name in record s { shared = a.shared; thrown = Some a.reference }
+abbrev pub raises : World → State → List ℕ → Option (List ℕ) → State
+raises w s name message = let a = raised w s.shared name message in record s { shared = a.shared; thrown = Some a.reference }
 
 abbrev pub after_super : World → State → ℕ → ℕ → Option Phase → State
 after_super w s c d (Some Fresh) = record s { stack = Initializing d Constants ∷ Initializing c Initializer ∷ s.stack; shared = with_phase s.shared d Running }
-after_super w s c d (Some Erroneous) = raises w (at_part s c Initializer) no_class_definition
+after_super w s c d (Some Erroneous) = raises w (at_part s c Initializer) no_class_definition (name_at w.program d)
 after_super w s c d _ = at_part s c Initializer
 
 abbrev pub with_super : World → State → ℕ → Option ℕ → State
@@ -54,7 +58,10 @@ with_super w s c (Some d) = after_super w s c d (phase_of s.shared d)
 
 abbrev pub runs_initializer : World → Text → State → ℕ → Option ℕ → Turn
 runs_initializer w t s c None = still (at_part s c Finish)
-runs_initializer w t s c (Some m) = record { after = with_frame (at_part s c Finish) (new_frame w t m []); changes = Began m ∷ [] }
+runs_initializer w t s c (Some m) =
+    if nat_lt (live_in s.stack) most_live
+    then record { after = with_frame (at_part s c Finish) (new_frame w t m []); changes = Began m ∷ [] }
+    else still (raises w (at_part s c Finish) stack_overflow None)
 
 -- from the state without the marker
 abbrev pub initializes : World → Text → State → ℕ → Part → Turn

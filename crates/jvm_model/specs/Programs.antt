@@ -1,5 +1,5 @@
 -- Looking up classes and methods of a program by their names and numbers (JVM Specification 4.1, 4.6, 5.4.3).
-use Rattle.std.specs.Prelude.{ℕ, zero, suc, ◌+◌, Bool, false, List, [], ◌∷◌, ◌++◌, length, Option, Some, None, is_some, position, slice_get, unwrap_or, codes, ◌==◌, ◌&&◌, ◌||◌, if◌then◌else◌}
+use Rattle.std.specs.Prelude.{ℕ, ◌+◌, Bool, false, List, [], ◌∷◌, ◌++◌, length, Option, Some, None, is_some, position, slice_get, unwrap_or, codes, ◌==◌, ◌&&◌, if◌then◌else◌}
 use Rattle.std.specs.List.{list_any}
 use Rattle.std.specs.Option.{option_and_then, option_map_or}
 use Rattle.const_pool.specs.declared.class.ClassFile.{ClassFile}
@@ -51,16 +51,6 @@ super_name p class = option_and_then (λ (c : ClassFile). named_class c.pool c.s
 
 abbrev pub super_of : Program → ℕ → Option ℕ
 super_of p class = option_and_then (class_named p) (super_name p class)
-
--- this class, or one of at most so many superclasses, has that name
-abbrev pub is_within : Program → ℕ → ℕ → List ℕ → Bool
-is_within p zero class name = option_map_or (same_text name) (name_at p class) false
-is_within p (suc n) class name =
-    option_map_or (same_text name) (name_at p class) false || option_map_or (λ above. is_within p n above name) (super_of p class) false
-
--- a class is the one with this name, or inherits from it; no chain of superclasses is longer than the list of classes
-abbrev pub is_subclass : Program → ℕ → List ℕ → Bool
-is_subclass p class name = is_within p (length p.classes) class name
 
 -- the class that a program begins with: that of its own which runs so far
 abbrev pub first_class : Program → ClassFile

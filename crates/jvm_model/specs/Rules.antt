@@ -9,28 +9,26 @@ use Rattle.heap_objects.specs.declared.Value.TheVariants.{Int, Ref}
 use Rattle.const_pool.specs.declared.descriptor.Kind.{Kind}
 use Rattle.const_pool.specs.declared.descriptor.Kind.TheVariants as kind
 use Rattle.const_pool.specs.References.{Reference}
-use Rattle.jvm_model.specs.Data.{Datum, Locals, Operands, Phase, Fresh, Running, Ready, Erroneous, Program, Shared, World, Operation, Within, Getstatic, Putstatic, Invokestatic, Invokevirtual, Athrow, Next, Outcome, GoesOn, Invokes, Throws, Raises, Initializes, Breaks, Done}
+use Rattle.jvm_model.specs.Data.{Datum, Locals, Operands, Phase, Fresh, Running, Ready, Erroneous, Program, Shared, World, Operation, Within, Getstatic, Putstatic, Invokestatic, Invokevirtual, Athrow, Monitor, Newarray, Arraylength, LoadElement, StoreElement, Next, Outcome, GoesOn, Invokes, Raises, Initializes, Breaks, Done}
 use Rattle.jvm_model.specs.Descriptors.{same_text}
-use Rattle.jvm_model.specs.Values.{as_value, datum_of, arguments}
-use Rattle.jvm_model.specs.SharedState.{phase_of, Field, field_of_reference, static_at, with_static, class_of, throwable, null_pointer, no_class_definition, no_such_field, no_such_method}
-use Rattle.jvm_model.specs.Programs.{is_subclass, class_of_reference, method_of_reference, params_of_method}
+use Rattle.jvm_model.specs.ObjectRules.{done, array_kind, loads_element, makes, measures, place_of, stores_element, storing_of, throws, watches}
+use Rattle.jvm_model.specs.Values.{as_value, datum_of, int_of, ref_of, arguments}
+use Rattle.jvm_model.specs.SharedState.{phase_of, Field, field_of_reference, static_at, with_static, no_class_definition, no_such_field, no_such_method}
+use Rattle.jvm_model.specs.Programs.{name_at, class_of_reference, method_of_reference, params_of_method}
 use Rattle.jvm_model.specs.LocalRules.{pushes, within}
-
-abbrev pub done : Shared → Outcome → Done
-done s outcome = record { shared = s; wrote = []; outcome = outcome }
 
 -- ---- initialization (5.5)
 
 -- the class is initialized first, unless it is or is being
-abbrev pub when_ready : Option Phase → ℕ → Shared → Done → Done
-when_ready (Some Ready) class s d = d
-when_ready (Some Running) class s d = d
-when_ready (Some Fresh) class s d = done s (Initializes class)
-when_ready (Some Erroneous) class s d = done s (Raises no_class_definition)
-when_ready None class s d = done s (Raises no_class_definition)
+abbrev pub when_ready : Program → Option Phase → ℕ → Shared → Done → Done
+when_ready p (Some Ready) class s d = d
+when_ready p (Some Running) class s d = d
+when_ready p (Some Fresh) class s d = done s (Initializes class)
+when_ready p (Some Erroneous) class s d = done s (Raises no_class_definition (name_at p class))
+when_ready p None class s d = done s (Raises no_class_definition (name_at p class))
 
-abbrev pub initialized : ℕ → Shared → Done → Done
-initialized class s d = when_ready (phase_of s class) class s d
+abbrev pub initialized : Program → ℕ → Shared → Done → Done
+initialized p class s d = when_ready p (phase_of s class) class s d
 
 -- ---- members that the rules know by name
 
@@ -53,15 +51,16 @@ is_print_stream r = r == 3 || r == 4
 -- ---- static fields: getstatic, putstatic
 
 -- what a reference to a field raises that is not there: its class is sought first (5.4.3.2)
-abbrev pub missing_field : Program → Reference → List ℕ
-missing_field p r = if is_some (class_of_reference p r) then no_such_field else no_class_definition
+abbrev pub missing_field : Program → Reference → Outcome
+missing_field p r =
+    if is_some (class_of_reference p r) then Raises no_such_field None else Raises no_class_definition (Some r.class)
 
-abbrev pub gets_field : List ℕ → Option Field → Shared → Locals → Operands → Done
-gets_field missing None s l o = done s (Raises missing)
-gets_field missing (Some f) s l o = initialized f.class s (done s (pushes (option_map as_value (static_at s f)) l o))
+abbrev pub gets_field : Program → Outcome → Option Field → Shared → Locals → Operands → Done
+gets_field p missing None s l o = done s missing
+gets_field p missing (Some f) s l o = initialized p f.class s (done s (pushes (option_map as_value (static_at s f)) l o))
 
 abbrev pub gets : World → Reference → Shared → Locals → Operands → Done
-gets w r s l o = if is_out r then done s (GoesOn l (Ref 3 ∷ o) Next) else gets_field (missing_field w.program r) (field_of_reference w.program r) s l o
+gets w r s l o = if is_out r then done s (GoesOn l (Ref 3 ∷ o) Next) else gets_field w.program (missing_field w.program r) (field_of_reference w.program r) s l o
 
 -- a field has the kind of the value that it has
 abbrev pub kind_of : Datum → Kind
@@ -77,9 +76,9 @@ abbrev pub puts : Field → Option Datum → Shared → Locals → Operands → 
 puts f (Some old) s l (v ∷ below) = puts_datum f (datum_of (kind_of old) v) s l below
 puts f _ s l _ = done s (Breaks false)
 
-abbrev pub puts_field : List ℕ → Option Field → Shared → Locals → Operands → Done
-puts_field missing None s l o = done s (Raises missing)
-puts_field missing (Some f) s l o = initialized f.class s (puts f (static_at s f) s l o)
+abbrev pub puts_field : Program → Outcome → Option Field → Shared → Locals → Operands → Done
+puts_field p missing None s l o = done s missing
+puts_field p missing (Some f) s l o = initialized p f.class s (puts f (static_at s f) s l o)
 
 -- ---- invocation: invokestatic, invokevirtual
 
@@ -95,10 +94,11 @@ invokes_with method (Some params) o = invokes method (length params) (arguments 
 abbrev pub invokes_method : World → ℕ → Operands → Outcome
 invokes_method w method o = invokes_with method (params_of_method w.program method) o
 
-abbrev pub invokes_static : World → Option ℕ → Option ℕ → Shared → Operands → Done
-invokes_static w (Some class) (Some method) s o = initialized class s (done s (invokes_method w method o))
-invokes_static w None method s o = done s (Raises no_class_definition)
-invokes_static w (Some class) None s o = done s (Raises no_such_method)
+-- the class has this name
+abbrev pub invokes_static : World → List ℕ → Option ℕ → Option ℕ → Shared → Operands → Done
+invokes_static w name (Some class) (Some method) s o = initialized w.program class s (done s (invokes_method w method o))
+invokes_static w name None method s o = done s (Raises no_class_definition (Some name))
+invokes_static w name (Some class) None s o = done s (Raises no_such_method None)
 
 -- println writes the number in decimal, and ends the line with byte 10
 abbrev pub line_text : ℤ → List ℕ
@@ -114,24 +114,20 @@ prints s l _ = done s (Breaks false)
 abbrev pub invokes_virtual : Reference → Shared → Locals → Operands → Done
 invokes_virtual r s l o = if is_println r then prints s l o else done s (Breaks false)
 
--- ---- athrow
-
-abbrev pub throws : World → Shared → Operands → Outcome
-throws w s (Ref r ∷ below) =
-    if r == 0 then Raises null_pointer
-    else if is_subclass w.program (class_of w.program s r) throwable then Throws r
-    else Breaks false
-throws w s _ = Breaks false
-
 -- ---- every instruction
 
 abbrev pub does : World → Operation → Shared → Locals → Operands → Done
 does w (Within i) s l o = done s (within i l o)
 does w (Getstatic r) s l o = gets w r s l o
-does w (Putstatic r) s l o = puts_field (missing_field w.program r) (field_of_reference w.program r) s l o
-does w (Invokestatic r) s l o = invokes_static w (class_of_reference w.program r) (method_of_reference w.program r) s o
+does w (Putstatic r) s l o = puts_field w.program (missing_field w.program r) (field_of_reference w.program r) s l o
+does w (Invokestatic r) s l o = invokes_static w r.class (class_of_reference w.program r) (method_of_reference w.program r) s o
 does w (Invokevirtual r) s l o = invokes_virtual r s l o
-does w Athrow s l o = done s (throws w s o)
+does w Athrow s l o = done s (throws w s (ref_of o))
+does w Monitor s l o = done s (watches (ref_of o) l o)
+does w (Newarray code) s l o = makes (array_kind code) (int_of o) s l o
+does w Arraylength s l o = done s (measures (ref_of o) s l o)
+does w (LoadElement k) s l o = done s (loads_element k (place_of o) s l o)
+does w (StoreElement k) s l o = stores_element w.program k (storing_of k o) s l o
 
 -- The classes that an instruction loads before it is attempted (5.3, 5.4.3). The one class of the part that runs so far is
 -- loaded in the start.

@@ -9,7 +9,7 @@ use Rattle.const_pool.specs.References.{NameAndType, named_text}
 use Rattle.jvm_model.specs.declared.program.Program.{Program}
 use Rattle.jvm_model.specs.Descriptors.{same_text}
 use Rattle.jvm_model.specs.Programs.{class_at, name_at}
-use Rattle.jvm_model.specs.SmallClass.{has_flag}
+use Rattle.jvm_model.specs.Methods.{has_flag}
 use Rattle.jvm_model.specs.Lookup.{MemberPlace, place_in, first_in, is_subtype, method_at, superclasses, supertypes}
 
 -- ---- packages

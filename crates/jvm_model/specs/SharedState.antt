@@ -1,6 +1,6 @@
 -- What all activations share: phases and static fields of classes, objects (JVM Specification 2.5.3, 5.5), and the exceptions
 -- that the machine makes (2.10).
-use Rattle.std.specs.Prelude.{ℕ, ◌+◌, List, [], ◌∷◌, ◌++◌, length, map, Option, unwrap_or, position, pos, slice_get, slice_set, nat_le, nat_lt, codes, ◌==◌, ◌||◌, if◌then◌else◌}
+use Rattle.std.specs.Prelude.{ℕ, ◌+◌, List, [], ◌∷◌, ◌++◌, length, map, Option, Some, None, unwrap_or, position, pos, slice_get, slice_set, nat_le, nat_lt, codes, ◌==◌, ◌||◌, if◌then◌else◌}
 use Rattle.std.specs.Option.{option_and_then, option_map, option_map_or}
 use Rattle.heap_objects.specs.declared.datum.Datum.TheVariants as datum
 use Rattle.const_pool.specs.declared.class.ClassFile.{ClassFile}
@@ -62,16 +62,42 @@ pub record Allocated : Type 0 where
   pub shared : Shared
   pub reference : ℕ
 
--- an object is made
-abbrev pub allocated : Shared → HeapView → Allocated
-allocated s heap = record { shared = record s { heap = heap }; reference = next_number s.heap }
+-- ---- exceptions that the machine makes
 
--- An exception that the machine makes, with Throwable's two fields; object 1 where it does not fit into the heap.
-abbrev pub raised : World → Shared → List ℕ → Allocated
-raised w s name =
-    if nat_le (s.heap.used + 3) s.heap.limit
-    then allocated s (with_instance (kind_for w.program name) (null ∷ null ∷ []) s.heap)
+abbrev pub string : List ℕ
+string = codes "java/lang/String"
+
+-- the slots of a message, where there is one
+abbrev pub message_cost : Option (List ℕ) → ℕ
+message_cost None = 0
+message_cost (Some units) = 1 + length units
+
+-- the message is made first
+abbrev pub with_message : Program → Option (List ℕ) → HeapView → HeapView
+with_message p None h = h
+with_message p (Some units) h = with_text (kind_for p string) units h
+
+abbrev pub message_in : Option (List ℕ) → HeapView → Datum
+message_in None h = null
+message_in (Some units) h = datum.Ref (next_number h)
+
+-- an exception behind its message, with Throwable's two fields
+abbrev pub with_exception : Program → List ℕ → Option (List ℕ) → Datum → HeapView → HeapView
+with_exception p name message cause h =
+    with_instance (kind_for p name) (message_in message h ∷ cause ∷ []) (with_message p message h)
+
+-- An exception of the class with this name, made with its message in one test of the limit; object 1 where both do not fit.
+abbrev pub made_with : World → Shared → List ℕ → Option (List ℕ) → Datum → Allocated
+made_with w s name message cause =
+    if nat_le (s.heap.used + (message_cost message + 3)) s.heap.limit
+    then record {
+      shared = record s { heap = with_exception w.program name message cause s.heap };
+      reference = next_number (with_message w.program message s.heap);
+    }
     else record { shared = s; reference = 1 }
+
+abbrev pub raised : World → Shared → List ℕ → Option (List ℕ) → Allocated
+raised w s name message = made_with w s name message null
 
 -- ---- names of classes that the rules speak of
 
@@ -95,6 +121,18 @@ no_such_method = codes "java/lang/NoSuchMethodError"
 
 abbrev pub in_initializer : List ℕ
 in_initializer = codes "java/lang/ExceptionInInitializerError"
+
+abbrev pub stack_overflow : List ℕ
+stack_overflow = codes "java/lang/StackOverflowError"
+
+abbrev pub index_outside : List ℕ
+index_outside = codes "java/lang/ArrayIndexOutOfBoundsException"
+
+abbrev pub negative_array_size : List ℕ
+negative_array_size = codes "java/lang/NegativeArraySizeException"
+
+abbrev pub array_store : List ℕ
+array_store = codes "java/lang/ArrayStoreException"
 
 -- ---- before the start
 
@@ -143,9 +181,6 @@ shared_before p = record {
 }
 
 -- ---- the arguments of `main`
-
-abbrev pub string : List ℕ
-string = codes "java/lang/String"
 
 -- the kind of String[]
 abbrev pub strings_kind : Program → ℕ

@@ -1,5 +1,5 @@
 -- A small class: the part of the language that is built so far.
-use Rattle.std.specs.Prelude.{◌≡◌, ℕ, ◌≤◌, Bool, true, false, not, List, [], ◌∷◌, length, Option, Some, None, codes, bit_and, ◌==◌, ◌&&◌, ◌||◌, nat_lt, nat_le, is_none, if◌then◌else◌}
+use Rattle.std.specs.Prelude.{◌≡◌, ℕ, ◌≤◌, Bool, true, false, not, List, [], ◌∷◌, length, Option, Some, None, codes, ◌==◌, ◌&&◌, ◌||◌, nat_lt, nat_le, is_none, if◌then◌else◌}
 use Rattle.std.specs.Option.{option_and_then, option_map, option_map_or}
 use Rattle.std.specs.List.{list_any, list_all, slice_get}
 use Rattle.const_pool.specs.declared.pool.Const.{Const}
@@ -16,13 +16,10 @@ use Rattle.code_model.specs.Instructions.{IsReading}
 use Rattle.jvm_model.specs.declared.operation.Resolved.{Resolved}
 use Rattle.jvm_model.specs.declared.operation.Resolved.TheVariants.{Iload, Ireturn, Return, Invokestatic}
 use Rattle.jvm_model.specs.Descriptors.{same_text, main_name, main_descriptor}
-use Rattle.jvm_model.specs.Methods.{code_of, method_named}
+use Rattle.jvm_model.specs.Methods.{code_of, has_flag, method_named}
 use Rattle.jvm_model.specs.Resolved.{resolved_of}
 
 -- ---- access flags (4.6)
-
-abbrev pub has_flag : ℕ → ℕ → Bool
-has_flag flag access = not (bit_and access flag == 0)
 
 -- static, and neither native nor abstract
 abbrev pub is_plain_static : ℕ → Bool

@@ -1,5 +1,5 @@
 -- A class of static methods: the part of the language that runs without a root.
-use Rattle.std.specs.Prelude.{◌≡◌, ℕ, ◌≤◌, ◌<◌, ◌^◌, Bool, true, false, [], length, slice_get, codes, nat_lt, Some}
+use Rattle.std.specs.Prelude.{◌≡◌, ℕ, Bool, true, false, [], slice_get, codes, is_some, Some}
 use Rattle.std.specs.Option.{option_map_or}
 use Rattle.std.specs.List.{list_all}
 use Rattle.const_pool.specs.declared.class.ClassFile.{ClassFile}
@@ -16,34 +16,30 @@ use Rattle.jvm_model.specs.Methods.{code_of}
 use Rattle.jvm_model.specs.Resolved.{own_method}
 use Rattle.jvm_model.specs.SmallClass.{is_plain_static, is_plain_name, is_free_name}
 
--- An invocation is one of a method that stands earlier in the class, until the number of live activations has its limit.
-abbrev pub calls_earlier : ClassFile → ℕ → Operation → Bool
-calls_earlier c k (Invokestatic r) = option_map_or (λ method. nat_lt method k) (own_method c r) false
-calls_earlier c k _ = true
+-- an invocation is one of a method of the class itself
+abbrev pub calls_own : ClassFile → Operation → Bool
+calls_own c (Invokestatic r) = is_some (own_method c r)
+calls_own c _ = true
 
 -- an instruction that has a rule
-abbrev pub runs_in : ClassFile → ℕ → Instr → Bool
-runs_in c k i = option_map_or (calls_earlier c k) (operation_of c i) false
+abbrev pub runs_in : ClassFile → Instr → Bool
+runs_in c i = option_map_or (calls_own c) (operation_of c i) false
 
--- no code has handlers yet
-pub record IsStaticCode (c : ClassFile) (k : ℕ) (code : CodeAttribute) : Type 0 where
+pub record IsStaticCode (c : ClassFile) (code : CodeAttribute) : Type 0 where
   pub reading : Code
   pub reads : IsReading code.code reading
-  pub runs : list_all (runs_in c k) reading.instrs ≡ true
-  pub handlers : code.handlers ≡ []
+  pub runs : list_all (runs_in c) reading.instrs ≡ true
 
--- the method with this number
-pub record IsStaticMethod (c : ClassFile) (k : ℕ) (m : Member) : Type 0 where
+pub record IsStaticMethod (c : ClassFile) (m : Member) : Type 0 where
   pub access : is_plain_static m.access ≡ true
   pub named : option_map_or is_plain_name (named_text c.pool m.name) false ≡ true
   pub code : CodeAttribute
   pub coded : code_of m ≡ Some code
-  pub static : IsStaticCode c k code
+  pub static : IsStaticCode c code
 
 pub record IsStaticClass (c : ClassFile) : Type 0 where
   pub name : option_map_or is_free_name (named_class c.pool c.this_class) false ≡ true
   pub super : option_map_or (same_text (codes "java/lang/Object")) (named_class c.pool c.super_class) false ≡ true
   pub interfaces : c.interfaces ≡ []
   pub fields : c.fields ≡ []
-  pub few : length c.methods ≤ 1000
-  pub methods : (k : ℕ) (m : Member) → slice_get c.methods k ≡ Some m → IsStaticMethod c k m
+  pub methods : (k : ℕ) (m : Member) → slice_get c.methods k ≡ Some m → IsStaticMethod c m
