@@ -1,10 +1,9 @@
 -- What becomes of a state by the line of its current frame (JVM Specification 2.6.4, 2.6.5, 2.10, 6.5): what `applies` of the model
 -- says of the instruction that the line stands for. From the state without that frame, and the frame.
-use Rattle.std.specs.Prelude.{◌≡◌, ℕ, ◌+◌, nat_le, ℤ, Bool, true, false, ◌&&◌, ◌||◌, is_some, is_none, List, [], ◌∷◌, ◌++◌, drop, Option, Some, None, Result, OnOk, if◌then◌else◌}
+use Rattle.std.specs.Prelude.{◌≡◌, ℕ, ℤ, Bool, true, false, ◌&&◌, ◌||◌, is_some, is_none, List, [], ◌∷◌, ◌++◌, drop, Option, Some, None, Result, OnOk, if◌then◌else◌}
 use Rattle.jf_bytes.specs.declared.error.NoMemory.{NoMemory}
 use Rattle.std.specs.Option.{option_map}
 use Rattle.heap_objects.specs.declared.datum.Datum.{Datum}
-use Rattle.heap_objects.specs.Heaps.{HeapView, with_instance, next_number}
 use Rattle.heap_objects.specs.declared.Value.TheVariants.{Int, Ref}
 use Rattle.const_pool.specs.declared.descriptor.Kind.{Kind}
 use Rattle.frame_stack.specs.FrameLists.{PlacedFrame, has_frame}
@@ -16,15 +15,16 @@ use Rattle.jvm_model.specs.declared.state.Entry.{Entry}
 use Rattle.jvm_model.specs.declared.state.Entry.TheVariants.{Active, Initializing}
 use Rattle.jvm_model.specs.declared.state.Frame.{Frame}
 use Rattle.jvm_model.specs.declared.state.State.{State}
-use Rattle.jvm_model.specs.Data.{Operands, World, Nop, Within, Instruction, Outcome, Returns}
+use Rattle.jvm_model.specs.Data.{Operands, World, Nop, Within, Instruction, Outcome, Returns, Done}
 use Rattle.jvm_model.specs.Applies.{breaks, goes, throws_at, applies}
 use Rattle.jvm_model.specs.Families.{family_of}
 use Rattle.jvm_model.specs.Lines.{targets_of}
-use Rattle.jvm_model.specs.LocalRules.{returns, arithmetic_exception}
+use Rattle.jvm_model.specs.LocalRules.{returns, arithmetic_exception, by_zero}
+use Rattle.jvm_model.specs.ObjectRules.{loads_element, makes, measures, place_of, stores_element, storing_of, throws, watches}
 use Rattle.jvm_model.specs.Originals.{original}
 use Rattle.jvm_model.specs.Rules.{is_print_stream, line_text, invokes_static}
-use Rattle.jvm_model.specs.SharedState.{null, raised}
-use Rattle.jvm_model.specs.Values.{as_value, with_value}
+use Rattle.jvm_model.specs.SharedState.{no_class_definition, raised}
+use Rattle.jvm_model.specs.Values.{as_value, int_of, ref_of, with_value}
 use Rattle.jvm_basic.specs.declared.effect.Effect.{Effect}
 use Rattle.jvm_basic.specs.declared.effect.Effect.TheVariants.{Next, Throws, Bad, Other}
 use Rattle.jvm_basic.specs.Outcomes.{Outcome as Comes, GoesOn, Raises, Breaks, Leaves}
@@ -59,7 +59,7 @@ placed_line line = record { operation = Within Nop; own = line.instr.at; next = 
 
 abbrev pub comes_to : World → Line → State → Frame → Comes → State
 comes_to w line s f (GoesOn l o place) = goes s f line.instr.at l o (Some place)
-comes_to w line s f (Raises class) = throws_at s f (raised w s.shared arithmetic_exception)
+comes_to w line s f (Raises class) = throws_at s f (raised w s.shared arithmetic_exception (Some by_zero))
 comes_to w line s f Breaks = breaks s f line.instr.at
 comes_to w line s f Leaves = breaks s f line.instr.at
 
@@ -104,11 +104,48 @@ prints_number line s f (Some n) =
 abbrev pub acts_println : Line → State → Frame → State
 acts_println line s f = prints_number line s f (printable f.operands)
 
+-- ---- by what the model's rule asks for
+
+-- where it changes nothing that is shared
+abbrev pub acts_asked : World → Line → State → Frame → Outcome → State
+acts_asked w line s f q = (applies w (original w.program) (placed_line line) q s f).after
+
+-- and where it does
+abbrev pub acts_done : World → Line → State → Frame → Done → State
+acts_done w line s f d = acts_asked w line (record s { shared = d.shared }) f d.outcome
+
 -- ---- invokestatic
 
-abbrev pub acts_invokestatic : World → Line → Option ℕ → Option ℕ → State → Frame → State
+abbrev pub acts_invokestatic : World → Line → ℕ → Option ℕ → State → Frame → State
 acts_invokestatic w line class method s f =
-    (applies w (original w.program) (placed_line line) (invokes_static w class method s.shared f.operands).outcome s f).after
+    acts_asked w line s f (invokes_static w [] (Some class) method s.shared f.operands).outcome
+
+abbrev pub acts_absent : World → List ℕ → State → Frame → State
+acts_absent w name s f = throws_at s f (raised w s.shared no_class_definition (Some name))
+
+-- ---- instructions that see objects
+
+abbrev pub acts_athrow : World → Line → State → Frame → State
+acts_athrow w line s f = acts_asked w line s f (throws w s.shared (ref_of f.operands))
+
+abbrev pub acts_monitor : World → Line → State → Frame → State
+acts_monitor w line s f = acts_asked w line s f (watches (ref_of f.operands) f.locals f.operands)
+
+abbrev pub acts_arraylength : World → Line → State → Frame → State
+acts_arraylength w line s f =
+    acts_asked w line s f (measures (ref_of f.operands) s.shared f.locals f.operands)
+
+abbrev pub acts_newarray : World → Line → ℕ → State → Frame → State
+acts_newarray w line kind s f =
+    acts_done w line s f (makes kind (int_of f.operands) s.shared f.locals f.operands)
+
+abbrev pub acts_load : World → Line → Kind → State → Frame → State
+acts_load w line k s f =
+    acts_asked w line s f (loads_element k (place_of f.operands) s.shared f.locals f.operands)
+
+abbrev pub acts_store : World → Line → Kind → State → Frame → State
+acts_store w line k s f =
+    acts_done w line s f (stores_element w.program k (storing_of k f.operands) s.shared f.locals f.operands)
 
 -- ---- every line
 
@@ -118,6 +155,13 @@ acts_by w line s f (action.Return k) = acts_return w line k s f
 acts_by w line s f action.Out = acts_out line s f
 acts_by w line s f action.Println = acts_println line s f
 acts_by w line s f (action.Invokestatic class method) = acts_invokestatic w line class method s f
+acts_by w line s f (action.Absent name) = acts_absent w name s f
+acts_by w line s f action.Athrow = acts_athrow w line s f
+acts_by w line s f action.Monitor = acts_monitor w line s f
+acts_by w line s f action.Arraylength = acts_arraylength w line s f
+acts_by w line s f (action.Newarray kind) = acts_newarray w line kind s f
+acts_by w line s f (action.LoadElement k) = acts_load w line k s f
+acts_by w line s f (action.StoreElement k) = acts_store w line k s f
 
 abbrev pub acts : World → Line → State → Frame → State
 acts w line s f = acts_by w line s f line.action
@@ -161,16 +205,10 @@ ended_unless method own (Throws class) p = ended method own p
 ended_unless method own Bad p = ended method own p
 ended_unless method own Other p = ended method own p
 
--- an exception of this kind; object 1 where it does not fit
-abbrev pub reference_made : HeapView → ℕ
-reference_made h = if nat_le (h.used + 3) h.limit then next_number h else 1
-
-abbrev pub heap_made : ℕ → HeapView → HeapView
-heap_made kind h = if nat_le (h.used + 3) h.limit then with_instance kind (null ∷ null ∷ []) h else h
-
--- an exception that the machine makes is thrown
-abbrev pub raising : World → Exception → Parts → Parts
-raising w e p = let a = raised w p.shared (exception_name e) in record p { shared = a.shared; thrown = Some a.reference }
+-- an exception that the machine makes is thrown, with this message
+abbrev pub raising : World → Exception → Option (List ℕ) → Parts → Parts
+raising w e message p =
+    let a = raised w p.shared (exception_name e) message in record p { shared = a.shared; thrown = Some a.reference }
 
 -- nothing follows by itself: the run has ended, or there is a frame, and nothing is thrown
 abbrev pub is_at_rest : Parts → Bool

@@ -9,11 +9,11 @@ use Rattle.jvm_model.specs.declared.program.Program.{Program}
 use Rattle.jvm_model.specs.LocalRules.{arithmetic_exception}
 use Rattle.jvm_model.specs.Methods.{code_of}
 use Rattle.jvm_model.specs.Programs.{params_of_method, max_stack_of, max_locals_of}
-use Rattle.jvm_model.specs.SharedState.{kind_for, no_class_definition, no_such_method}
+use Rattle.jvm_model.specs.SharedState.{kind_for, string, array_store, index_outside, negative_array_size, no_class_definition, no_such_method, null_pointer, stack_overflow}
 use Rattle.jvm_steps.specs.declared.line.Line.{Line}
 use Rattle.jvm_steps.specs.declared.originals.Method.{Method}
 use Rattle.jvm_steps.specs.declared.originals.Exception.{Exception}
-use Rattle.jvm_steps.specs.declared.originals.Exception.TheVariants.{Arithmetic, NoClassDefinition, NoSuchMethod}
+use Rattle.jvm_steps.specs.declared.originals.Exception.TheVariants.{Arithmetic, ArrayStore, IndexOutside, NegativeArraySize, NoClassDefinition, NoSuchMethod, NullPointer, StackOverflow}
 use Rattle.jvm_steps.specs.declared.originals.Exceptions.{Exceptions}
 use Rattle.jvm_steps.specs.Lines.{line_at}
 
@@ -36,8 +36,13 @@ pub record FitsOriginals (p : Program) : Type 0 where
 
 abbrev pub exception_name : Exception → List ℕ
 exception_name Arithmetic = arithmetic_exception
+exception_name ArrayStore = array_store
+exception_name IndexOutside = index_outside
+exception_name NegativeArraySize = negative_array_size
 exception_name NoClassDefinition = no_class_definition
 exception_name NoSuchMethod = no_such_method
+exception_name NullPointer = null_pointer
+exception_name StackOverflow = stack_overflow
 
 -- the kind of its class's instances
 abbrev pub exception_kind : Program → Exception → ℕ
@@ -45,8 +50,13 @@ exception_kind p e = kind_for p (exception_name e)
 
 abbrev pub exception_in : Exceptions → Exception → ℕ
 exception_in x Arithmetic = x.arithmetic
+exception_in x ArrayStore = x.array_store
+exception_in x IndexOutside = x.index_outside
+exception_in x NegativeArraySize = x.negative_array_size
 exception_in x NoClassDefinition = x.no_class_definition
 exception_in x NoSuchMethod = x.no_such_method
+exception_in x NullPointer = x.null_pointer
+exception_in x StackOverflow = x.stack_overflow
 
 -- ---- what is kept
 
@@ -60,3 +70,4 @@ pub record IsPrepared (p : Program) (methods : List Method) (exceptions : Except
   pub max_locals : (k : ℕ) → option_map_or (λ m. m.max_locals) (slice_get methods k) 0 ≡ max_locals_of (record { program = p; input = [] }) k
   pub lines : (k place : ℕ) → option_and_then (line_in place) (slice_get methods k) ≡ line_at p k place
   pub raised : (e : Exception) → exception_in exceptions e ≡ exception_kind p e
+  pub string : exceptions.string ≡ kind_for p string

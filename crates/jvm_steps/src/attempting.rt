@@ -7,16 +7,23 @@ ghost use Rattle.jvm_steps.specs.Acts.{IsTop, Becomes, on_parts, ended};
 ghost use Rattle.jvm_steps.specs.Acts.{acts, acts_alone, acts_out, acts_println, attempts_on};
 ghost use Rattle.jvm_steps.specs.States.{state_in};
 
+use crate::arrays::{make_array, measure};
+use crate::elements::{load_element, store_element};
 use crate::going::{drop_printed, printable, put_out};
 use crate::invoking::invoke_static;
 use crate::line::{Action, Line};
 use crate::originals::{Exception, Originals};
 use crate::parts::{Parts, where_now};
-use crate::raising::{break_off, end_unless, raise};
+use crate::monitors::watch;
+use crate::raising::{break_off, end_unless, raise_with};
 use crate::returning::return_by;
+use crate::throwing::throw_object;
 use jf_bytes::{NoMemory, Seq};
 use jvm_basic::{Effect, basic};
 use std::alloc::Global;
+
+/// The message of a division by zero.
+const BY_ZERO: &[u16] = &[47, 32, 98, 121, 32, 122, 101, 114, 111];
 
 /// Ends the run here.
 fn break_here(parts: &mut Parts, method: u32, own: u16) -> Result<(), NoMemory>
@@ -39,7 +46,7 @@ fn act_alone(
 {
     match basic(&line.instr, line.constant, line.next, &mut parts.frames) {
         Effect::Next => Ok(()),
-        Effect::Throws(_) => raise(originals, parts, Exception::Arithmetic),
+        Effect::Throws(_) => raise_with(originals, parts, Exception::Arithmetic, BY_ZERO),
         Effect::Bad => break_here(parts, method, line.instr.at),
         // Does not come for such a line.
         Effect::Other => break_here(parts, method, line.instr.at),
@@ -94,10 +101,10 @@ fn act(
     ensures state { Becomes result parts.new (acts originals.now line.now) parts.old }
     ensures phases { OnOk result (parts.new.shared.phases ≡ parts.old.shared.phases) }
 {
-    match line.action {
+    match &line.action {
         Action::Local => act_alone(originals, parts, method, line),
         Action::Return(kind) => {
-            return_by(originals, parts, method, line, kind);
+            return_by(originals, parts, method, line, *kind);
             Ok(())
         }
         Action::Out => {
@@ -106,8 +113,20 @@ fn act(
         }
         Action::Println => act_println(alloc, parts, method, line),
         Action::Invokestatic(class, callee) => {
-            invoke_static(originals, parts, method, line, class, callee)
+            invoke_static(originals, parts, method, line, *class, *callee)
         }
+        Action::Absent(name) => raise_with(
+            originals,
+            parts,
+            Exception::NoClassDefinition,
+            name.as_slice(),
+        ),
+        Action::Athrow => throw_object(originals, parts, method, line),
+        Action::Monitor => watch(originals, parts, method, line),
+        Action::Arraylength => measure(originals, parts, method, line),
+        Action::Newarray(kind) => make_array(originals, parts, method, line, *kind),
+        Action::LoadElement(kind) => load_element(alloc, originals, parts, method, line, *kind),
+        Action::StoreElement(kind) => store_element(alloc, originals, parts, method, line, *kind),
     }
 }
 

@@ -102,13 +102,13 @@ fn invoke(
     Ok(())
 }
 
-/// Invokes a static method of a class, each where there is one; the class is initialized, or is being.
+/// Invokes a static method of a class, where it has the method; the class is initialized, or is being.
 pub fn invoke_static(
     originals: &Originals,
     parts: &mut Parts,
     method: u32,
     line: &Line,
-    class: Option<u32>,
+    class: u32,
     callee: Option<u32>,
 ) -> Result<(), NoMemory>
     requires top { IsTop method parts.old.frames.frames }
@@ -117,9 +117,6 @@ pub fn invoke_static(
         (acts_invokestatic originals.now line.now class callee) parts.old }
     ensures phases { OnOk result (parts.new.shared.phases ≡ parts.old.shared.phases) }
 {
-    let Some(class) = class else {
-        return raise(originals, parts, Exception::NoClassDefinition);
-    };
     let Some(callee) = callee else {
         return raise(originals, parts, Exception::NoSuchMethod);
     };

@@ -2,14 +2,17 @@
 //! machine, with all that follows from it.
 #![tactic(auto)]
 
+mod arrays;
 mod attempting;
 mod descriptor;
+mod elements;
 mod going;
 mod handlers;
 mod invoking;
 mod line;
 mod lookup;
 mod members;
+mod monitors;
 mod objects;
 mod originals;
 mod parts;
@@ -20,6 +23,7 @@ mod returning;
 mod settling;
 mod starting;
 mod stepping;
+mod throwing;
 
 pub use descriptor::shape_of;
 pub use line::{Action, Line};

@@ -3,6 +3,7 @@
 ghost use Rattle.std.specs.Prelude.{◌≡◌, ◌<◌, ◌^◌, length, IfOk};
 ghost use Rattle.std.specs.Option.{option_copied};
 ghost use Rattle.jvm_model.specs.Programs.{max_stack_of, max_locals_of, params_of_method};
+ghost use Rattle.jvm_model.specs.SharedState.{kind_for, string};
 ghost use Rattle.jvm_steps.specs.Lines.{line_at};
 ghost use Rattle.jvm_steps.specs.Prepared.{FitsOriginals, exception_kind};
 
@@ -27,16 +28,27 @@ pub struct Method {
 #[derive(Clone, Copy, Debug, PartialEq, Eq)]
 pub enum Exception {
     Arithmetic,
+    ArrayStore,
+    IndexOutside,
+    NegativeArraySize,
     NoClassDefinition,
     NoSuchMethod,
+    NullPointer,
+    StackOverflow,
 }
 
-/// The kinds of their classes.
+/// The kinds of their classes, and of the texts of their messages.
 #[derive(Clone, Copy, Debug, PartialEq, Eq)]
 pub struct Exceptions {
     pub arithmetic: u32,
+    pub array_store: u32,
+    pub index_outside: u32,
+    pub negative_array_size: u32,
     pub no_class_definition: u32,
     pub no_such_method: u32,
+    pub null_pointer: u32,
+    pub stack_overflow: u32,
+    pub string: u32,
 }
 
 /// A program on an input, with its original code prepared. A clause sees the program and the input.
@@ -128,8 +140,20 @@ impl Originals {
     {
         match exception {
             Exception::Arithmetic => self.exceptions.arithmetic,
+            Exception::ArrayStore => self.exceptions.array_store,
+            Exception::IndexOutside => self.exceptions.index_outside,
+            Exception::NegativeArraySize => self.exceptions.negative_array_size,
             Exception::NoClassDefinition => self.exceptions.no_class_definition,
             Exception::NoSuchMethod => self.exceptions.no_such_method,
+            Exception::NullPointer => self.exceptions.null_pointer,
+            Exception::StackOverflow => self.exceptions.stack_overflow,
         }
+    }
+
+    /// The kind of texts.
+    pub fn string_kind(&self) -> u32
+        ensures { result ≡ kind_for self.now.program string }
+    {
+        self.exceptions.string
     }
 }

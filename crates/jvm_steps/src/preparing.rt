@@ -1,6 +1,7 @@
 //! Preparing the methods of a program: what is kept of each.
 
 ghost use Rattle.std.specs.Prelude.{◌≡◌, ◌<◌, ◌^◌, length, map, unwrap_or, IfOk};
+ghost use Rattle.jvm_model.specs.SharedState.{kind_for, string};
 ghost use Rattle.jvm_steps.specs.declared.originals.Exception.{Exception as TheException};
 ghost use Rattle.jvm_steps.specs.Entries.{code_line, entry_at, entry_of, lines_of, no_method, params_of};
 ghost use Rattle.jvm_steps.specs.Prepared.{exception_kind, exception_in, FitsOriginals, HasShortCode};
@@ -138,14 +139,21 @@ pub fn prepare_methods(alloc: Global, program: &Program) -> Result<Seq<Method>, 
     Ok(methods)
 }
 
-/// The kinds of the exceptions that instructions raise.
+/// The kinds of the exceptions that instructions raise, and of texts.
 pub fn exceptions_of(program: &Program) -> Exceptions
     requires { FitsOriginals program.now }
-    ensures { (e : TheException) → exception_in result e ≡ exception_kind program.now e }
+    ensures raised { (e : TheException) → exception_in result e ≡ exception_kind program.now e }
+    ensures string { result.string ≡ kind_for program.now string }
 {
     Exceptions {
         arithmetic: kind_for(program, b"java/lang/ArithmeticException"),
+        array_store: kind_for(program, b"java/lang/ArrayStoreException"),
+        index_outside: kind_for(program, b"java/lang/ArrayIndexOutOfBoundsException"),
+        negative_array_size: kind_for(program, b"java/lang/NegativeArraySizeException"),
         no_class_definition: kind_for(program, b"java/lang/NoClassDefFoundError"),
         no_such_method: kind_for(program, b"java/lang/NoSuchMethodError"),
+        null_pointer: kind_for(program, b"java/lang/NullPointerException"),
+        stack_overflow: kind_for(program, b"java/lang/StackOverflowError"),
+        string: kind_for(program, b"java/lang/String"),
     }
 }

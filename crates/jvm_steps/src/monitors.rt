@@ -1,0 +1,24 @@
+//! monitorenter and monitorexit (JVM Specification 6.5): of one thread nothing but the null check is left.
+
+ghost use Rattle.std.specs.Prelude.{◌≡◌, OnOk};
+ghost use Rattle.jvm_steps.specs.Acts.{IsTop, Becomes, acts_monitor};
+
+use crate::line::Line;
+use crate::originals::Originals;
+use crate::parts::Parts;
+use jf_bytes::NoMemory;
+
+/// Takes the object off.
+pub fn watch(
+    originals: &Originals,
+    parts: &mut Parts,
+    method: u32,
+    line: &Line,
+) -> Result<(), NoMemory>
+    requires top { IsTop method parts.old.frames.frames }
+    ensures state { Becomes result parts.new (acts_monitor originals.now line.now) parts.old }
+    ensures phases { OnOk result (parts.new.shared.phases ≡ parts.old.shared.phases) }
+{
+    Err(NoMemory)
+}
+
