@@ -270,7 +270,7 @@ among-unresolved c op o (r ∷ rest) all e = elim (chosen (op == r.op) (Some r.o
 
 object-unresolved : (c : ClassFile) (op : ℕ) (o : Operation) → object_among object_rows op ≡ Some o → IsUnresolved c o
 object-unresolved c op o e =
-    among-unresolved c op o object_rows (refl, refl, refl, refl, refl, refl, refl, refl, refl, refl, refl, refl, refl, refl, refl, refl, tt) e
+    among-unresolved c op o object_rows (refl, (refl, (refl, (refl, (refl, (refl, (refl, (refl, (refl, (refl, (refl, (refl, (refl, (refl, (refl, (refl, tt)))))))))))))))) e
 
 newarray-unresolved : (c : ClassFile) (op code : ℕ) (o : Operation) → newarray_of op code ≡ Some o → IsUnresolved c o
 newarray-unresolved c op code o e = elim (chosen (op == 188) (Some (Newarray code)) None o e) [
