@@ -12,7 +12,7 @@ use Rattle.jvm_model.proofs.WorkedPrograms.{Routine, Sketch, Sketches, object_na
 
 -- a class with one static field
 abbrev pub with_field : List ℕ → List ℕ → List ℕ → List Routine → Sketch
-with_field name above field routines = record { name = name; above = Some above; fields = field ∷ []; routines = routines }
+with_field name above field routines = record { name = name; above = Some above; interfaces = []; fields = field ∷ []; routines = routines }
 
 -- main reads a static field
 abbrev pub reads : List ℕ → List ℕ → List Instruction
