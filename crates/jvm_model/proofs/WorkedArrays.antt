@@ -1,6 +1,6 @@
 -- Worked runs over lists of instructions: arrays, their exceptions with messages, monitors, handlers of interfaces, and the limits of
 -- the heap and of live activations.
-use Rattle.std.specs.Prelude.{◌≡◌, ℕ, List, [], ◌∷◌, Option, Some, None, ℤ, pos, negsuc, length, map, replicate, refl, codes}
+use Rattle.std.specs.Prelude.{◌≡◌, ℕ, List, [], ◌∷◌, Option, Some, None, ℤ, pos, negsuc, length, map, replicate, take, refl, codes}
 use Rattle.std.specs.Fmt.{digits}
 use Rattle.std.specs.Int.{int_wrap}
 use Rattle.heap_objects.specs.declared.datum.Datum.TheVariants as datum
@@ -10,16 +10,16 @@ use Rattle.const_pool.specs.declared.descriptor.Kind.{Kind}
 use Rattle.const_pool.specs.declared.descriptor.Kind.TheVariants as kind
 use Rattle.code_model.specs.declared.instr.Arg.{Arg}
 use Rattle.code_model.specs.declared.instr.Arg.TheVariants as arg
-use Rattle.jvm_model.specs.Data.{Datum, Operands, Frame, Entry, Active, Initializing, Constants, Returned, Unverifiable, State, Quotient, Constant, Load, Store, DivisionOfInts, Operation, Within, Athrow, Monitor, Newarray, Arraylength, LoadElement, StoreElement, Instruction, Catcher, Began, Unwound, Turn, World}
+use Rattle.jvm_model.specs.Data.{Datum, Operands, Frame, Entry, Active, Initializing, Constants, Finish, Returned, Unverifiable, State, Quotient, Constant, Load, Store, DivisionOfInts, Operation, Within, Athrow, Monitor, Newarray, Arraylength, LoadElement, StoreElement, Instruction, Catcher, Began, Unwound, Turn, World}
 use Rattle.jvm_model.specs.Applies.{begins_beside, invokes, live_in, new_frame}
 use Rattle.jvm_model.specs.Families.{family_of, rows}
 use Rattle.jvm_model.specs.Lines.{operation_by}
 use Rattle.jvm_model.specs.LocalRules.{arithmetic_exception}
 use Rattle.jvm_model.specs.Programs.{no_class}
-use Rattle.jvm_model.specs.Moves.{settled}
+use Rattle.jvm_model.specs.Moves.{runs_initializer, settled}
 use Rattle.jvm_model.specs.Run.{turn_in}
 use Rattle.jvm_model.specs.SharedState.{array_store, index_outside, negative_array_size, null_pointer, out_of_memory, stack_overflow}
-use Rattle.jvm_model.proofs.WorkedPrograms.{Sketches, after, alone, at, call, get_out, int, main_routine, null, places_of, pop, println, returns, text_by, uncaught_of, world_by}
+use Rattle.jvm_model.proofs.WorkedPrograms.{Sketches, after, alone, at, call, get_out, getstatic, int, main_routine, null, places_of, pop, println, returns, text_by, uncaught_of, world_by}
 
 -- ---- programs of one class, whose main this is
 
@@ -329,6 +329,15 @@ pub null-stored : operands_of (after_given (stores null) 7) ≡ Ref 0 ∷ []
 unfolding turn_in
 null-stored = refl
 
+-- the String that is in it
+abbrev pub stores_argument : Sketches
+stores_argument = main_of (
+    at 0 1 aload_0 ∷ at 1 1 (int 0) ∷ at 2 1 aload_0 ∷ at 3 1 (int 0) ∷ at 4 1 (LoadElement kind.Ref) ∷ at 5 1 (StoreElement kind.Ref) ∷ at 6 1 returns ∷ []) []
+
+pub string-stored : places_of (after_given stores_argument 6).stack ≡ 6 ∷ []
+unfolding turn_in
+string-stored = refl
+
 -- System.out is no String
 pub other-refused : (after_given (stores get_out) 4).ending ≡ uncaught_of (stores get_out) array_store
 unfolding turn_in
@@ -348,9 +357,21 @@ unfolding turn_in
 division-text = refl
 
 -- a class that is not there is told by its name
-pub absent-text : units_at 6 (after (main_of (at 0 3 (call (codes "p/Absent") (codes "f") (codes "()V")) ∷ []) []) 1).shared.heap ≡ Some (codes "p/Absent")
+abbrev pub message_by : Operation → Option (List ℕ)
+message_by operation = units_at 6 (after (main_of (at 0 3 operation ∷ []) []) 1).shared.heap
+
+pub call-text : message_by (call (codes "p/Absent") (codes "f") (codes "()V")) ≡ Some (codes "p/Absent")
 unfolding turn_in
-absent-text = refl
+call-text = refl
+
+pub field-text : message_by (getstatic (codes "p/Absent") (codes "b")) ≡ Some (codes "p/Absent")
+unfolding turn_in
+field-text = refl
+
+-- and a member that is not there has no message: the exception is object 6 itself
+pub member-text : message_by (call (codes "A") (codes "f") (codes "()V")) ≡ None
+unfolding turn_in
+member-text = refl
 
 -- ---- a heap of so few slots. The start takes 7, an array of 3 ints takes 4, and an exception with a message of one unit takes 5
 
@@ -435,6 +456,23 @@ overflown-changes = refl
 pub overflown-ends : overflown.after.ending ≡ uncaught_of calls stack_overflow
 unfolding turn_in
 overflown-ends = refl
+
+-- a static initializer where so many stand below it: its class waits to be left
+abbrev pub initializes_above : ℕ → Turn
+initializes_above count = runs_initializer (world_by calls) (text_by calls) (record (after calls 0) { stack = replicate count (Active caller) }) 0 (Some 0)
+
+pub initializer_1024-begins : (initializes_above 1023).changes ≡ Began 0 ∷ []
+initializer_1024-begins = refl
+
+pub initializer_1025-changes : (initializes_above 1024).changes ≡ []
+initializer_1025-changes = refl
+
+pub initializer_1025-throws : (initializes_above 1024).after.thrown ≡ Some 6
+unfolding turn_in
+initializer_1025-throws = refl
+
+pub initializer_1025-waits : take 1 (initializes_above 1024).after.stack ≡ Initializing 0 Finish ∷ []
+initializer_1025-waits = refl
 
 -- what is being initialized is not live
 pub live-frames : live_in (Active caller ∷ Initializing 0 Constants ∷ Active caller ∷ []) ≡ 2
