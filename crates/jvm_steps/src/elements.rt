@@ -1,14 +1,165 @@
 //! Elements of arrays: iaload to saload, iastore to sastore (JVM Specification 6.5).
 
-ghost use Rattle.std.specs.Prelude.{◌≡◌, OnOk};
+ghost use Rattle.std.specs.Prelude.{◌≡◌, IfOk, OnOk};
+ghost use Rattle.std.specs.Fmt.{signed_decimal};
+ghost use Rattle.heap_objects.specs.Heaps.{has_slot_at};
+ghost use Rattle.heap_objects.specs.Kinds.{element_of};
+ghost use Rattle.jvm_model.specs.ObjectRules.{access_to, index_in, place_of, serves, serves_object};
 ghost use Rattle.jvm_steps.specs.Acts.{IsTop, Becomes, acts_load, acts_store};
+ghost use Rattle.jvm_steps.specs.Elements.{access_of, acts_refused};
 
+use crate::going::{datum_of, value_of};
+use crate::kinds::fits_array;
 use crate::line::Line;
-use crate::originals::Originals;
+use crate::originals::{Exception, Originals};
 use crate::parts::Parts;
+use crate::raising::{break_off, end_unless, raise, raise_with};
 use const_pool::Kind;
-use jf_bytes::NoMemory;
+use frame_stack::Frames;
+use heap_objects::{Datum, Element, Heap, Value, element_of};
+use jf_bytes::{NoMemory, Seq};
+use jvm_basic::{drop_three, recall, replace_two};
 use std::alloc::Global;
+
+/// Where an array and an index lead: the array is null, or the object none that the instruction serves, or the index is
+/// outside, or it is that of an element.
+#[derive(Clone, Copy, Debug, PartialEq, Eq)]
+pub enum Led {
+    ToNull,
+    ToAnother,
+    Outside,
+    Inside(u32),
+}
+
+/// An array, an index and what is stored there.
+#[derive(Clone, Copy, Debug, PartialEq, Eq)]
+pub struct Storing {
+    pub array: u32,
+    pub index: i32,
+    pub datum: Datum,
+}
+
+/// Whether instructions of a kind serve arrays of these elements.
+fn serves(kind: Kind, element: Element) -> bool
+    ensures { result ≡ serves kind element }
+{
+    match (kind, element) {
+        (Kind::Int, Element::Int)
+        | (Kind::Long, Element::Long)
+        | (Kind::Ref, Element::Reference)
+        | (Kind::Byte, Element::Byte | Element::Boolean)
+        | (Kind::Char, Element::Char)
+        | (Kind::Short, Element::Short) => true,
+        _ => false,
+    }
+}
+
+/// Whether they serve the object.
+fn serves_object(heap: &Heap, kind: Kind, object: u32) -> bool
+    ensures { result ≡ serves_object kind object heap.now }
+{
+    match heap.kind(object) {
+        Some(of_object) => serves(kind, element_of(of_object)),
+        None => false,
+    }
+}
+
+/// Whether an object has this slot.
+#[tactic(auto, using(crate::proofs::ElementLemmas::is_slot))]
+fn has_slot(heap: &Heap, object: u32, slot: u32) -> bool
+    ensures { result ≡ has_slot_at object slot heap.now }
+{
+    heap.get(object, slot).is_some()
+}
+
+/// Where an index leads in an array.
+fn led_in(heap: &Heap, array: u32, index: i32) -> Led
+    ensures { access_of result ≡ index_in array index heap.now }
+{
+    if index < 0 {
+        return Led::Outside;
+    }
+    let slot = index as u32;
+    if has_slot(heap, array, slot) {
+        Led::Inside(slot)
+    } else {
+        Led::Outside
+    }
+}
+
+/// Where an instruction of a kind is led.
+fn led_to(heap: &Heap, kind: Kind, array: u32, index: i32) -> Led
+    ensures { access_of result ≡ access_to kind array index heap.now }
+{
+    if array == 0 {
+        return Led::ToNull;
+    }
+    if serves_object(heap, kind, array) {
+        led_in(heap, array, index)
+    } else {
+        Led::ToAnother
+    }
+}
+
+/// The units of a text in ASCII.
+fn units_of(alloc: Global, bytes: &[u8]) -> Result<Seq<u16>, NoMemory>
+    ensures { IfOk result (λ units. units ≡ bytes.now) }
+{
+    let mut units = Seq::with_capacity(alloc, bytes.len())?;
+    for byte in bytes {
+        units.push(u16::from(*byte))?;
+    }
+    Ok(units)
+}
+
+/// A number in decimal.
+fn text_of(alloc: Global, n: i32) -> Result<Seq<u16>, NoMemory>
+    ensures { IfOk result (λ units. units ≡ signed_decimal n) }
+{
+    let text = n.to_string(alloc)?;
+    units_of(alloc, text.as_bytes())
+}
+
+/// What becomes of an instruction that is led to no element: an index outside is told.
+fn refuse(
+    alloc: Global,
+    originals: &Originals,
+    parts: &mut Parts,
+    method: u32,
+    line: &Line,
+    led: Led,
+    index: i32,
+) -> Result<(), NoMemory>
+    requires top { IsTop method parts.old.frames.frames }
+    ensures state { Becomes result parts.new
+        (acts_refused originals.now line.now led index) parts.old }
+    ensures phases { OnOk result (parts.new.shared.phases ≡ parts.old.shared.phases) }
+{
+    match led {
+        Led::ToNull => raise(originals, parts, Exception::NullPointer),
+        Led::Outside => {
+            let text = text_of(alloc, index)?;
+            raise_with(originals, parts, Exception::IndexOutside, text.as_slice())
+        }
+        Led::ToAnother | Led::Inside(_) => {
+            break_off(parts, method, line.instr.at);
+            Ok(())
+        }
+    }
+}
+
+/// The array and the index on top.
+fn place_of(frames: &Frames) -> Option<(u32, i32)>
+    ensures { result ≡ place_of (top_operands frames.now.frames) }
+{
+    let Some(Value::Int(index)) = frames.peek(0) else {
+        return None;
+    };
+    match frames.peek(1) {
+        Some(Value::Ref(array)) => Some((array, index)),
+        _ => None,
+    }
+}
 
 /// Loads an element of an array that instructions of this kind serve.
 pub fn load_element(
@@ -41,4 +192,3 @@ pub fn store_element(
 {
     Err(NoMemory)
 }
-
