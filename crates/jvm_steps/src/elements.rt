@@ -1,12 +1,17 @@
 //! Elements of arrays: iaload to saload, iastore to sastore (JVM Specification 6.5).
 
-ghost use Rattle.std.specs.Prelude.{◌≡◌, IfOk, OnOk};
+ghost use Rattle.std.specs.Prelude.{◌≡◌, true, IfOk, IsSome, OnOk};
 ghost use Rattle.std.specs.Fmt.{signed_decimal};
+ghost use Rattle.std.specs.Option.{option_map};
+ghost use Rattle.frame_stack.specs.FrameLists.{top_operands};
 ghost use Rattle.heap_objects.specs.Heaps.{has_slot_at};
 ghost use Rattle.heap_objects.specs.Kinds.{element_of};
-ghost use Rattle.jvm_model.specs.ObjectRules.{access_to, index_in, place_of, serves, serves_object};
-ghost use Rattle.jvm_steps.specs.Acts.{IsTop, Becomes, acts_load, acts_store};
-ghost use Rattle.jvm_steps.specs.Elements.{access_of, acts_refused};
+ghost use Rattle.jvm_model.specs.ObjectRules.{access_to, index_in, place_of};
+ghost use Rattle.jvm_model.specs.ObjectRules.{serves, serves_object, storing_of};
+ghost use Rattle.jvm_steps.specs.Acts.{IsTop, Becomes, acts_load, acts_store, on_parts};
+ghost use Rattle.jvm_steps.specs.Elements.{access_of, acts_loaded, acts_refused, acts_stored};
+ghost use Rattle.jvm_steps.specs.Elements.{element_at, storing_by};
+ghost use Rattle.jvm_steps.specs.States.{state_in};
 
 use crate::going::{datum_of, value_of};
 use crate::kinds::fits_array;
@@ -161,6 +166,55 @@ fn place_of(frames: &Frames) -> Option<(u32, i32)>
     }
 }
 
+/// The array, the index and the value on top, which elements of a kind may have.
+fn storing_of(frames: &Frames, kind: Kind) -> Option<Storing>
+    ensures { option_map storing_by result ≡ storing_of kind (top_operands frames.now.frames) }
+{
+    let value = frames.peek(0)?;
+    let Some(Value::Int(index)) = frames.peek(1) else {
+        return None;
+    };
+    let Some(Value::Ref(array)) = frames.peek(2) else {
+        return None;
+    };
+    let datum = datum_of(kind, value)?;
+    Some(Storing {
+        array,
+        index,
+        datum,
+    })
+}
+
+/// The element to which an instruction of a kind is led.
+#[tactic(auto, using(crate::proofs::ElementLemmas::element_in))]
+fn element_at(heap: &Heap, kind: Kind, array: u32, index: i32) -> Option<Datum>
+    ensures { let access = access_to kind array index heap.now in
+        result ≡ element_at access array heap.now }
+{
+    if array == 0 {
+        return None;
+    }
+    if !serves_object(heap, kind, array) {
+        return None;
+    }
+    if index < 0 {
+        return None;
+    }
+    heap.get(array, index as u32)
+}
+
+/// An element takes the place of its array and the index.
+fn load(parts: &mut Parts, method: u32, line: &Line, datum: Datum)
+    requires top { IsTop method parts.old.frames.frames }
+    requires place { IsSome (place_of (top_operands parts.old.frames.frames)) }
+    ensures state { state_in parts.new ≡ on_parts (acts_loaded line.now datum) parts.old }
+    ensures phases { parts.new.shared.phases ≡ parts.old.shared.phases }
+{
+    recall(&parts.frames);
+    let effect = replace_two(&mut parts.frames, value_of(datum), line.next);
+    end_unless(parts, method, line.instr.at, effect);
+}
+
 /// Loads an element of an array that instructions of this kind serve.
 pub fn load_element(
     alloc: Global,
@@ -174,7 +228,29 @@ pub fn load_element(
     ensures state { Becomes result parts.new (acts_load originals.now line.now kind) parts.old }
     ensures phases { OnOk result (parts.new.shared.phases ≡ parts.old.shared.phases) }
 {
-    Err(NoMemory)
+    let Some((array, index)) = place_of(&parts.frames) else {
+        break_off(parts, method, line.instr.at);
+        return Ok(());
+    };
+    let Some(datum) = element_at(&parts.shared.heap, kind, array, index) else {
+        let led = led_to(&parts.shared.heap, kind, array, index);
+        return refuse(alloc, originals, parts, method, line, led, index);
+    };
+    load(parts, method, line, datum);
+    Ok(())
+}
+
+/// An element takes the value, whose operands are taken off.
+fn store(parts: &mut Parts, method: u32, line: &Line, array: u32, slot: u32, datum: Datum)
+    requires top { IsTop method parts.old.frames.frames }
+    requires slot { has_slot_at array slot parts.old.shared.heap ≡ true }
+    ensures state { state_in parts.new ≡ on_parts (acts_stored line.now array slot datum) parts.old }
+    ensures phases { parts.new.shared.phases ≡ parts.old.shared.phases }
+{
+    parts.shared.heap.put(array, slot, datum);
+    recall(&parts.frames);
+    let effect = drop_three(&mut parts.frames, line.next);
+    end_unless(parts, method, line.instr.at, effect);
 }
 
 /// Stores an element of an array that instructions of this kind serve.
@@ -190,5 +266,18 @@ pub fn store_element(
     ensures state { Becomes result parts.new (acts_store originals.now line.now kind) parts.old }
     ensures phases { OnOk result (parts.new.shared.phases ≡ parts.old.shared.phases) }
 {
-    Err(NoMemory)
+    let Some(storing) = storing_of(&parts.frames, kind) else {
+        break_off(parts, method, line.instr.at);
+        return Ok(());
+    };
+    let led = led_to(&parts.shared.heap, kind, storing.array, storing.index);
+    let Led::Inside(slot) = led else {
+        return refuse(alloc, originals, parts, method, line, led, storing.index);
+    };
+    let program = originals.program();
+    if !fits_array(program, &parts.shared.heap, storing.datum, storing.array) {
+        return raise(originals, parts, Exception::ArrayStore);
+    }
+    store(parts, method, line, storing.array, slot, storing.datum);
+    Ok(())
 }
