@@ -14,3 +14,4 @@ mod Actions
 pub mod LineActs
 pub mod LineSteps
 pub mod OpenClasses
+pub mod ElementLemmas

@@ -9,3 +9,5 @@ pub mod Before
 pub mod Arguments
 pub mod Invoking
 pub mod Entries
+pub mod Raising
+pub mod Elements
