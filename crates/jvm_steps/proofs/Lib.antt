@@ -13,4 +13,5 @@ pub mod Entries
 mod Actions
 pub mod LineActs
 pub mod LineSteps
+pub mod Above
 pub mod OpenClasses
