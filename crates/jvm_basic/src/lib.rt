@@ -16,7 +16,7 @@ pub use effect::Effect;
 pub use instruction::{basic, value_of};
 pub use locals::load_from;
 pub use moving::{drop_two, go_on, put};
-pub use reading::recall;
+pub use reading::{int_of, recall, ref_of};
 
 #[cfg(test)]
 mod tests;

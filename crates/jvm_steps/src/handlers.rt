@@ -66,8 +66,8 @@ fn target_among(
     None
 }
 
-/// Where a frame goes on, at a place of a method's code, when an object of the class at a position is thrown there; None where no handler
-/// catches it.
+/// Where a frame goes on, at a place of a method's code, when an object of the class at a position
+/// is thrown there; None where no handler catches it.
 pub fn handler_for(originals: &Originals, method: usize, class: usize, place: u16) -> Option<u16>
     ensures { result ≡ handler_for originals.now class place
         ((original originals.now.program).handlers method) }

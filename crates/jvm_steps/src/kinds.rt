@@ -1,4 +1,5 @@
-//! Which objects can be elements of an array (JVM Specification 4.10.1.2, 6.5: aastore), by the numbers of kinds.
+//! Which objects can be elements of an array (JVM Specification 4.10.1.2, 6.5), by the numbers of
+//! kinds.
 
 ghost use Rattle.std.specs.Prelude.{◌≡◌, ◌<◌, ◌^◌, length};
 ghost use Rattle.heap_objects.specs.Heaps.{kind_at};
@@ -78,7 +79,8 @@ fn is_element(program: &Program, lower: Option<u32>, array: Option<u32>) -> bool
     is_subkind(program, lower, array.saturating_sub(ARRAY))
 }
 
-/// Whether an array can have this element: null, what is no reference, or an object of the elements' class.
+/// Whether an array can have this element: null, what is no reference, or an object of the class
+/// of its elements.
 pub fn fits_array(program: &Program, heap: &Heap, datum: Datum, array: u32) -> bool
     requires { length program.now.classes < 2 ^ 24 }
     ensures { result ≡ fits_array program.now datum array heap.now }

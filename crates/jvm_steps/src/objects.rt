@@ -42,7 +42,7 @@ fn kind_of_class(program: &Program, class: u32) -> u32
     }
 }
 
-/// The position of the class of objects of a kind that is no array's, and of elements; a primitive element has none.
+/// The position of the class of a base of kinds; a primitive element has none.
 pub fn class_of_base(program: &Program, base: u32) -> Option<u32>
     requires { length program.now.classes < 2 ^ 24 }
     ensures { result ≡ class_of_base program.now base }

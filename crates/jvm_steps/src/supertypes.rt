@@ -23,7 +23,7 @@ fn class_in(program: &Program, file: &ClassFile, entry: u16) -> Option<usize>
     }
 }
 
-/// Whether a class is another one or stands below it, within so many steps less one.
+/// Whether a class is another one or stands below it, by walks through at most so many classes.
 fn is_within(program: &Program, left: usize, lower: usize, upper: usize) -> bool
     ensures { result ≡
         list_any (λ class. upper == class) (supertypes_within program.now left lower) }
@@ -50,7 +50,8 @@ fn is_within(program: &Program, left: usize, lower: usize, upper: usize) -> bool
     }
 }
 
-/// Whether a class is another one, or inherits from it, or implements it. No chain of supertypes is longer than the list of classes.
+/// Whether a class is another one, or inherits from it, or implements it. No chain of supertypes
+/// is longer than the list of classes.
 pub fn is_subtype(program: &Program, lower: usize, upper: usize) -> bool
     ensures { result ≡ is_subtype program.now lower upper }
 {
