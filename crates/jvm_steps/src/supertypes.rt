@@ -13,6 +13,7 @@ use jf_bytes::Text16;
 use jvm_model::Program;
 
 /// The position of the class that an entry of a class file names.
+#[inline(never)]
 fn class_in(program: &Program, file: &ClassFile, entry: u16) -> Option<usize>
     ensures { result ≡
         option_and_then (class_named program.now) (named_class file.now.pool entry) }
