@@ -13,5 +13,6 @@ pub mod Entries
 mod Actions
 pub mod LineActs
 pub mod LineSteps
+pub mod Above
 pub mod OpenClasses
 pub mod ElementLemmas

@@ -38,7 +38,7 @@ pub fn position_of(classes: &[ClassFile], name: &Text16) -> Option<usize>
 }
 
 /// Where the class stands whose name is these bytes.
-fn position_of_bytes(classes: &[ClassFile], name: &[u8]) -> Option<usize>
+pub fn position_of_bytes(classes: &[ClassFile], name: &[u8]) -> Option<usize>
     ensures { result ≡ position (has_name name.now) classes.now }
 {
     classes.iter().position(|class| has_bytes(name, class))
