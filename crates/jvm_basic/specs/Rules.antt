@@ -56,7 +56,7 @@ place_in next targets (Back place) = Some place
 abbrev pub placed : ℕ → List ℕ → Locals → Operands → Asked → Outcome
 placed next targets l o (AsksOn m p to) = goes_at m p (place_in next targets to)
 placed next targets l o Subroutine = goes_at l (Addr next ∷ o) (slice_get targets 0)
-placed next targets l o (AsksRaise name) = Raises (class_position name)
+placed next targets l o (AsksRaise name message) = Raises (class_position name)
 placed next targets l o (AsksBreak false) = Breaks
 placed next targets l o _ = Leaves
 

@@ -13,7 +13,7 @@ mod stack;
 
 pub use arithmetic::calculate;
 pub use effect::Effect;
-pub use instruction::{basic, value_of};
+pub use instruction::{basic, basic_by, value_of};
 pub use locals::load_from;
 pub use moving::{drop_two, go_on, put};
 pub use reading::recall;
