@@ -1,5 +1,5 @@
 -- An outcome makes of a state elsewhere what it makes of the state, elsewhere.
-use Rattle.std.proofs.Common.{◌≡◌, ℕ, zero, suc, ◌+◌, ◌-◌, slice_get, replicate, length, Bool, true, false, List, [], ◌∷◌, ◌++◌, Option, Some, None, nat_le, if◌then◌else◌, refl, sym, ap, ◌∙◌}
+use Rattle.std.proofs.Common.{◌≡◌, ℕ, zero, suc, ◌+◌, ◌-◌, slice_get, replicate, length, Bool, true, false, List, [], ◌∷◌, ◌++◌, Option, Some, None, nat_le, nat_lt, if◌then◌else◌, refl, sym, ap, ◌∙◌}
 use Rattle.std.specs.Option.{option_map}
 use Rattle.std.proofs.lemmas.Option.{slice_get-map}
 use Rattle.std.proofs.lemmas.List.{map-append}
@@ -9,7 +9,8 @@ use Rattle.jvm_model.specs.Data.{Datum, Locals, Operands, Frame, Entry, Active, 
 use Rattle.frame_stack.specs.Widths.{width, height_of}
 use Rattle.jvm_model.specs.Values.{as_value, spread, locals_with, with_value}
 use Rattle.jvm_model.specs.Programs.{max_stack_of, max_locals_of}
-use Rattle.jvm_model.specs.Applies.{still, with_frame, breaks, goes, place_of, enters_subroutine, new_frame, has_room, begins, invokes, resumes, gives_back, applies}
+use Rattle.jvm_model.specs.SharedState.{raised, stack_overflow}
+use Rattle.jvm_model.specs.Applies.{still, with_frame, breaks, goes, place_of, enters_subroutine, new_frame, throws_at, has_room, begins, live_in, most_live, begins_beside, invokes, resumes, gives_back, applies}
 use Rattle.jvm_model.specs.Moved.{Moving, moved_slot, moved_locals, moved_operands, moved_where, moved_outcome, moved_frame, moved_stack, moved, moved_turn, moved_instruction, ArePlaces, Agrees}
 use Rattle.jvm_model.proofs.WithinMoves.{found-moves, long-moves, with-moves}
 
@@ -44,6 +45,12 @@ module _ (h : ℕ → ℕ) where
   place-moves i Next = refl
   place-moves i (Target k) = slice_get-map h i.targets k
   place-moves i (Back place) = refl
+
+-- as many activations are live
+pub live-moves : (m : Moving) (stack : List Entry) → live_in (moved_stack m stack) ≡ live_in stack
+live-moves m [] = refl
+live-moves m (Active f ∷ below) = ap suc (live-moves m below)
+live-moves m (Initializing c part ∷ below) = live-moves m below
 
 module _ (w : World) (m : Moving) where
   chosen-moves : (b : Bool) (x x' y y' : State) → x' ≡ moved m x → y' ≡ moved m y → (if b then x' else y') ≡ moved m (if b then x else y)
@@ -92,12 +99,20 @@ module _ (w : World) (m : Moving) where
         ∙ (ap (λ place. at (m.version v) place l) (agrees.first v)
         ∙ ap (at (m.version v) (m.home v (t.first v))) (locals-moves (m.home v) args (max_locals_of w k)))
 
+    beside-moves : (s : State) (f : Frame) (k : ℕ) (args : List Datum) (below : Operands) (live : ℕ)
+        → begins_beside w u (moved m s) (moved_frame m f) k args (moved_operands (m.home f.version) below) live ≡ moved_turn m (begins_beside w t s f k args below live)
+    beside-moves s f k args below live =
+        let waiting : State = with_frame s (record f { operands = below }) in
+        chosen_turn-moves (nat_lt live most_live) (begins w t s f k args below) _ (still (throws_at s f (raised w s.shared stack_overflow None))) _
+        (ap (λ (g : Frame). record { after = with_frame (moved m waiting) g; changes = Began k ∷ [] }) (frame-moves k args))
+        refl
+
     invokes-moves : (i : Instruction) (s : State) (f : Frame) (k : ℕ) (args : List Datum) (below : Operands)
         → invokes w u (moved_instruction (m.home f.version) i) (moved m s) (moved_frame m f) k args (moved_operands (m.home f.version) below) ≡ moved_turn m (invokes w t i s f k args below)
     invokes-moves i s f k args below =
-        let waiting : State = with_frame s (record f { operands = below }) in
-        chosen_turn-moves (has_room w k args) (begins w t s f k args below) _ (still (breaks s f i.own)) _
-        (ap (λ (g : Frame). record { after = with_frame (moved m waiting) g; changes = Began k ∷ [] }) (frame-moves k args))
+        let beside : ℕ → Turn = λ live. begins_beside w u (moved m s) (moved_frame m f) k args (moved_operands (m.home f.version) below) (suc live) in
+        chosen_turn-moves (has_room w k args) (begins_beside w t s f k args below (suc (live_in s.stack))) _ (still (breaks s f i.own)) _
+        (ap beside (live-moves m s.stack) ∙ beside-moves s f k args below (suc (live_in s.stack)))
         refl
 
     gives_back-moves : (s : State) (d : Option Datum) (stack : List Entry) → ArePlaces norm stack → gives_back u (moved m s) d (moved_stack m stack) ≡ moved m (gives_back t s d stack)
@@ -119,7 +134,7 @@ module _ (w : World) (m : Moving) where
     applies-moves i (Invokes k args below) s f are = invokes-moves i s f k args below
     applies-moves i (Returns d) s f are = ap (λ (x : State). record { after = x; changes = Left ∷ [] }) (gives_back-moves s d s.stack are)
     applies-moves i (Throws r) s f are = refl
-    applies-moves i (Raises c) s f are = refl
+    applies-moves i (Raises c message) s f are = refl
     applies-moves i (Initializes c) s f are = refl
     applies-moves i (Exits n) s f are = refl
     applies-moves i (Breaks true) s f are = refl

@@ -1,6 +1,6 @@
 -- A run's output only grows, and a run that has ended stays as it is. What an instruction writes is appended, and nothing else
 -- touches the output.
-use Rattle.std.proofs.Common.{◌≡◌, ℕ, zero, suc, ◌≤◌, Bool, true, false, List, [], ◌∷◌, ◌++◌, length, take, Option, Some, None, is_some, nat_le, if◌then◌else◌, refl, sym, ap, subst, ◌∙◌, inl, inr, append_assoc, arith}
+use Rattle.std.proofs.Common.{◌≡◌, ℕ, zero, suc, ◌≤◌, Bool, true, false, List, [], ◌∷◌, ◌++◌, length, take, Option, Some, None, is_some, nat_le, nat_lt, if◌then◌else◌, refl, sym, ap, subst, ◌∙◌, inl, inr, append_assoc, arith}
 use Rattle.std.specs.List.{slice_get}
 use Rattle.std.specs.Option.{IfSome, option_map}
 use Rattle.std.proofs.lemmas.Option.{IfSome_then}
@@ -13,7 +13,7 @@ use Rattle.jvm_model.specs.Values.{as_value, with_value}
 use Rattle.jvm_model.specs.Programs.{super_of, initializer_of}
 use Rattle.jvm_model.specs.SharedState.{phase_of, class_of}
 use Rattle.jvm_model.specs.Rules.{does, loads}
-use Rattle.jvm_model.specs.Applies.{still, goes, place_of, enters_subroutine, has_room, resumes, gives_back, applies}
+use Rattle.jvm_model.specs.Applies.{still, goes, place_of, enters_subroutine, has_room, live_in, most_live, begins_beside, resumes, gives_back, applies}
 use Rattle.jvm_model.specs.Moves.{handler_for, own_at, caught, after_super, with_super, runs_initializer, argument_array, main_or_end, moves, move, settled}
 use Rattle.jvm_model.specs.Run.{attempt, starts, with_loaded, steps_by, steps_at, steps_on, step, turn_in, turn_in-suc}
 use Rattle.jvm_model.specs.Growth.{Extends}
@@ -62,13 +62,17 @@ gives_back-keeps t s d [] = refl
 gives_back-keeps t s d (Initializing c part ∷ below) = refl
 gives_back-keeps t s d (Active f ∷ below) = resumes-keeps (record s { stack = below }) f d (t.at f.version f.place)
 
+beside-keeps : (w : World) (t : Text) (s : State) (f : Frame) (m : ℕ) (args : List Datum) (below : Operands) (live : ℕ)
+    → (begins_beside w t s f m args below live).after.output ≡ s.output
+beside-keeps w t s f m args below live = chosen_turn-keeps s.output (nat_lt live most_live) _ _ refl refl
+
 pub applies-keeps : (w : World) (t : Text) (i : Instruction) (outcome : Outcome) (s : State) (f : Frame) → (applies w t i outcome s f).after.output ≡ s.output
 applies-keeps w t i (GoesOn l o to) s f = goes-keeps s f i.own l o (place_of i to)
 applies-keeps w t i Subroutine s f = enters-keeps s f i i.next
-applies-keeps w t i (Invokes m args below) s f = chosen_turn-keeps s.output (has_room w m args) _ _ refl refl
+applies-keeps w t i (Invokes m args below) s f = chosen_turn-keeps s.output (has_room w m args) _ _ (beside-keeps w t s f m args below (suc (live_in s.stack))) refl
 applies-keeps w t i (Returns d) s f = gives_back-keeps t s d s.stack
 applies-keeps w t i (Throws r) s f = refl
-applies-keeps w t i (Raises c) s f = refl
+applies-keeps w t i (Raises c message) s f = refl
 applies-keeps w t i (Initializes c) s f = refl
 applies-keeps w t i (Exits n) s f = refl
 applies-keeps w t i (Breaks true) s f = refl
@@ -91,7 +95,7 @@ with_super-keeps w s c (Some d) = super-keeps w s c d (phase_of s.shared d)
 
 runs-keeps : (w : World) (t : Text) (s : State) (c : ℕ) (m : Option ℕ) → (runs_initializer w t s c m).after.output ≡ s.output
 runs-keeps w t s c None = refl
-runs-keeps w t s c (Some m) = refl
+runs-keeps w t s c (Some m) = chosen_turn-keeps s.output (nat_lt (live_in s.stack) most_live) _ _ refl refl
 
 main-keeps : (w : World) (t : Text) (s : State) (begun : Bool) → (main_or_end w t s begun).after.output ≡ s.output
 main-keeps w t s true = refl

@@ -23,11 +23,11 @@ use Rattle.jvm_model.specs.declared.operation.Resolved.{Resolved}
 use Rattle.jvm_model.specs.declared.operation.Resolved.TheVariants as resolved
 use Rattle.jvm_model.specs.declared.family.Family.{Family}
 use Rattle.jvm_model.specs.declared.family.Family.TheVariants as family
-use Rattle.jvm_model.specs.Data.{Datum, Constant, Operation, Within, Getstatic, Putstatic, Invokestatic, Invokevirtual, Athrow}
+use Rattle.jvm_model.specs.Data.{Datum, Constant, Operation, Within, Getstatic, Putstatic, Invokestatic, Invokevirtual}
 use Rattle.jvm_model.specs.Families.{family_of}
 use Rattle.jvm_model.specs.Descriptors.{same_text}
 use Rattle.jvm_model.specs.Images.{with_code_at, IsMarkedMember, IsMemberImage, next_number, AreMemberImages, IsRewritten}
-use Rattle.jvm_model.specs.Lines.{number_of, constant_in, getstatic_of, invokevirtual_of, pool_operation, named_operation, operation_by, operation_of}
+use Rattle.jvm_model.specs.Lines.{number_of, constant_in, getstatic_of, invokevirtual_of, pool_operation, other_operation, operation_by, operation_of}
 use Rattle.jvm_model.specs.Resolved.{own_method, resolved_in}
 use Rattle.jvm_model.specs.Methods.{code_among, code_of, same_text_at, is_member, method_from, method_named}
 use Rattle.jvm_model.specs.SmallClass.{IsSmallMethod, IsSmallClass, is_plain_member, is_free_name, member_of}
@@ -202,9 +202,9 @@ pool_operation-kept c image op index o alike e =
     (chosen-kept (op == 182) _ _ _ _ o (then-kept invokevirtual_of invokevirtual_of (named_method c.pool index) (named_method image.pool index) o method (λ r is. is))
     (chosen-kept (op == 184) _ None _ None o (map-kept Invokestatic (named_method c.pool index) (named_method image.pool index) o method) (λ none. none))) e
 
-named_operation-kept : (c image : ClassFile) (op : ℕ) (a : Arg) (o : Operation) → LooksAlike c image → named_operation c op a ≡ Some o → named_operation image op a ≡ Some o
-named_operation-kept c image op (arg.Pool index) o alike e = pool_operation-kept c image op index o alike e
-named_operation-kept c image op _ o alike e = absurd (none-some o e)
+other_operation-kept : (c image : ClassFile) (op : ℕ) (a : Arg) (o : Operation) → LooksAlike c image → other_operation c op a ≡ Some o → other_operation image op a ≡ Some o
+other_operation-kept c image op (arg.Pool index) o alike e = pool_operation-kept c image op index o alike e
+other_operation-kept c image op a o alike e = e
 
 constant_in-kept : (c image : ClassFile) (a : Arg) (d : Datum) → LooksAlike c image → constant_in c.pool a ≡ Some d → constant_in image.pool a ≡ Some d
 constant_in-kept c image (arg.Pool index) d alike e =
@@ -213,7 +213,7 @@ constant_in-kept c image (arg.Pool index) d alike e =
 constant_in-kept c image _ d alike e = absurd (none-some d e)
 
 operation_by-kept : (c image : ClassFile) (op : ℕ) (a : Arg) (f : Family) (o : Operation) → LooksAlike c image → operation_by c op a f ≡ Some o → operation_by image op a f ≡ Some o
-operation_by-kept c image op a family.Elsewhere o alike e = named_operation-kept c image op a o alike e
+operation_by-kept c image op a family.Elsewhere o alike e = other_operation-kept c image op a o alike e
 operation_by-kept c image op a family.Given o alike e =
     map-kept Within (option_map Constant (constant_in c.pool a)) (option_map Constant (constant_in image.pool a)) o
     (λ i. map-kept Constant (constant_in c.pool a) (constant_in image.pool a) i (λ d is. constant_in-kept c image a d alike is)) e
@@ -230,7 +230,7 @@ resolved_in-kept c image (Getstatic r) q alike e = e
 resolved_in-kept c image (Putstatic r) q alike e = e
 resolved_in-kept c image (Invokestatic r) q alike e = map-kept resolved.Invokestatic (own_method c r) (own_method image r) q (λ k is. own_method-kept c image r k alike is) e
 resolved_in-kept c image (Invokevirtual r) q alike e = e
-resolved_in-kept c image Athrow q alike e = e
+resolved_in-kept c image o q alike e = e
 
 -- ---- the rewritten class
 

@@ -1,5 +1,5 @@
 -- The changes of a step tell exactly how the frames' methods changed.
-use Rattle.std.proofs.Common.{◌≡◌, ℕ, suc, slice_get, Bool, true, false, List, [], ◌∷◌, ◌++◌, Option, Some, None, nat_le, if◌then◌else◌, refl, sym, ap, subst, ◌∙◌}
+use Rattle.std.proofs.Common.{◌≡◌, ℕ, suc, slice_get, Bool, true, false, List, [], ◌∷◌, ◌++◌, Option, Some, None, nat_le, nat_lt, if◌then◌else◌, refl, sym, ap, subst, ◌∙◌}
 use Rattle.std.specs.Option.{IfSome, option_map}
 use Rattle.std.proofs.lemmas.Option.{IfSome_then}
 use Rattle.heap_objects.specs.declared.Value.TheVariants.{Ref, Addr}
@@ -9,7 +9,7 @@ use Rattle.jvm_model.specs.Values.{as_value, with_value}
 use Rattle.jvm_model.specs.Programs.{super_of, initializer_of}
 use Rattle.jvm_model.specs.SharedState.{phase_of, class_of}
 use Rattle.jvm_model.specs.Rules.{does, loads}
-use Rattle.jvm_model.specs.Applies.{still, with_frame, breaks, goes, place_of, enters_subroutine, has_room, resumes, gives_back, applies}
+use Rattle.jvm_model.specs.Applies.{still, with_frame, breaks, goes, place_of, enters_subroutine, has_room, live_in, most_live, begins_beside, resumes, gives_back, applies}
 use Rattle.jvm_model.specs.Moves.{handler_for, own_at, caught, after_super, with_super, runs_initializer, argument_array, main_or_end, moves, move, then_turn, settled}
 use Rattle.jvm_model.specs.Run.{attempt, starts, is_quiet, with_loaded, loaded_turn, steps_by, steps_at, steps_on, step, main_class, starts_with, start, turn_in, turn_in-zero, turn_in-suc}
 use Rattle.jvm_model.specs.Changes.{methods, after_change, after_changes}
@@ -56,13 +56,17 @@ gives_back-methods t s d [] e = ap methods e
 gives_back-methods t s d (Initializing c part ∷ below) e = ap methods e
 gives_back-methods t s d (Active f ∷ below) e = resumes-methods (record s { stack = below }) f d (t.at f.version f.place)
 
+beside-tells : (w : World) (t : Text) (s : State) (f : Frame) (m : ℕ) (args : List Datum) (below : Operands) (live : ℕ)
+    → Tells (f.method ∷ methods s.stack) (begins_beside w t s f m args below live)
+beside-tells w t s f m args below live = chosen-tells (f.method ∷ methods s.stack) (nat_lt live most_live) _ _ refl refl
+
 pub applies-tells : (w : World) (t : Text) (i : Instruction) (outcome : Outcome) (s : State) (f : Frame) → Tells (f.method ∷ methods s.stack) (applies w t i outcome s f)
 applies-tells w t i (GoesOn l o to) s f = goes-methods s f i.own l o (place_of i to)
 applies-tells w t i Subroutine s f = enters-methods s f i i.next
-applies-tells w t i (Invokes m args below) s f = chosen-tells (f.method ∷ methods s.stack) (has_room w m args) _ _ refl refl
+applies-tells w t i (Invokes m args below) s f = chosen-tells (f.method ∷ methods s.stack) (has_room w m args) _ _ (beside-tells w t s f m args below (suc (live_in s.stack))) refl
 applies-tells w t i (Returns d) s f = gives_back-methods t s d s.stack refl
 applies-tells w t i (Throws r) s f = refl
-applies-tells w t i (Raises c) s f = refl
+applies-tells w t i (Raises c message) s f = refl
 applies-tells w t i (Initializes c) s f = refl
 applies-tells w t i (Exits n) s f = refl
 applies-tells w t i (Breaks true) s f = refl
@@ -85,7 +89,7 @@ with_super-methods w s c (Some d) = super-methods w s c d (phase_of s.shared d)
 
 runs-tells : (w : World) (t : Text) (s : State) (c : ℕ) (m : Option ℕ) → Tells (methods s.stack) (runs_initializer w t s c m)
 runs-tells w t s c None = refl
-runs-tells w t s c (Some m) = refl
+runs-tells w t s c (Some m) = chosen-tells (methods s.stack) (nat_lt (live_in s.stack) most_live) _ _ refl refl
 
 main-tells : (w : World) (t : Text) (s : State) (begun : Bool) → methods s.stack ≡ [] → Tells [] (main_or_end w t s begun)
 main-tells w t s true e = e

@@ -4,12 +4,13 @@ use Rattle.std.specs.Option.{option_map, option_map_or}
 use Rattle.std.proofs.lemmas.Bool.{cases_lt, lt-ltb, le-ltb, le-leb, lt-leb}
 use Rattle.heap_objects.specs.declared.Value.TheVariants.{Ref}
 use Rattle.jvm_model.specs.Data.{Frame, Entry, Active, Initializing, Part, Constants, Superclass, Initializer, Finish, Phase, Fresh, Erroneous, Ending, Unverifiable, State, Began, Turn, Catcher, Instruction, Text, World}
-use Rattle.jvm_model.specs.Programs.{is_subclass, super_of, initializer_of}
-use Rattle.jvm_model.specs.SharedState.{phase_of, class_of}
-use Rattle.jvm_model.specs.Applies.{still, with_frame, goes, new_frame, has_room}
-use Rattle.jvm_model.specs.Moves.{covers, handler_for, own_at, caught, at_part, after_super, with_super, runs_initializer, initializes, argument_array, main_or_end, moves, move, weight, weights, fresh, unit, unless, left}
+use Rattle.jvm_model.specs.Lookup.{is_below}
+use Rattle.jvm_model.specs.Programs.{super_of, initializer_of}
+use Rattle.jvm_model.specs.SharedState.{phase_of, class_of, stack_overflow}
+use Rattle.jvm_model.specs.Applies.{still, with_frame, goes, new_frame, has_room, live_in, most_live}
+use Rattle.jvm_model.specs.Moves.{covers, handler_for, own_at, caught, at_part, after_super, with_super, raises, runs_initializer, initializes, argument_array, main_or_end, moves, move, weight, weights, fresh, unit, unless, left}
 use Rattle.jvm_model.specs.Moved.{Moving, moved_locals, moved_frame, moved_stack, moved, moved_turn, moved_instruction, moved_catcher, IsPlace, ArePlaces, HaveBounds, Agrees}
-use Rattle.jvm_model.proofs.AppliesMoves.{goes-moves, frame-moves, chosen_turn-moves}
+use Rattle.jvm_model.proofs.AppliesMoves.{goes-moves, frame-moves, chosen_turn-moves, live-moves}
 
 chosen_target-moves : (h : ℕ → ℕ) (b : Bool) (x : ℕ) (y : Option ℕ) → (if b then Some (h x) else option_map h y) ≡ option_map h (if b then Some x else y)
 chosen_target-moves h true x y = refl
@@ -42,7 +43,7 @@ module _ (w : World) (m : Moving) (norm : ℕ → ℕ → ℕ) (t u : Text) (agr
   handler-moves v class place some here [] bounds = refl
   handler-moves v class place some here (hd ∷ more) bounds =
       let h : ℕ → ℕ = m.home v in
-      let catches : Bool = option_map_or (is_subclass w.program class) hd.catches true in
+      let catches : Bool = option_map_or (is_below w.program class) hd.catches true in
       let later : Option ℕ = handler_for w class (h place) (map (moved_catcher h) more) in
       ap (λ b. if b && nat_lt (h place) (h hd.finish) && catches then Some (h hd.target) else later) (le-same v hd.start place some bounds.0 here)
       ∙ (ap (λ b. if nat_le hd.start place && b && catches then Some (h hd.target) else later) (lt-same v place hd.finish some here bounds.1)
@@ -99,7 +100,13 @@ module _ (w : World) (m : Moving) (norm : ℕ → ℕ → ℕ) (t u : Text) (agr
   runs_initializer-moves : (s : State) (c : ℕ) (k : Option ℕ) → runs_initializer w u (moved m s) c k ≡ moved_turn m (runs_initializer w t s c k)
   runs_initializer-moves s c None = refl
   runs_initializer-moves s c (Some k) =
-      ap (λ (g : Frame). record { after = with_frame (at_part (moved m s) c Finish) g; changes = Began k ∷ [] }) (frame-moves w m norm t u agrees k [])
+      let there : State = moved m (at_part s c Finish) in
+      let begun : Turn = record { after = with_frame (at_part s c Finish) (new_frame w t k []); changes = Began k ∷ [] } in
+      let overflows : Turn = still (raises w (at_part s c Finish) stack_overflow None) in
+      ap (λ live. if nat_lt live most_live then record { after = with_frame there (new_frame w u k []); changes = Began k ∷ [] } else still (raises w there stack_overflow None)) (live-moves m s.stack)
+      ∙ chosen_turn-moves w m (nat_lt (live_in s.stack) most_live) begun _ overflows _
+      (ap (λ (g : Frame). record { after = with_frame there g; changes = Began k ∷ [] }) (frame-moves w m norm t u agrees k []))
+      refl
 
   initializes-moves : (s : State) (c : ℕ) (part : Part) → initializes w u (moved m s) c part ≡ moved_turn m (initializes w t s c part)
   initializes-moves s c Constants = refl

@@ -1,6 +1,7 @@
 -- Which opcodes and operations return: those that a leave probe goes before.
-use Rattle.std.proofs.Common.{◌≡◌, ℕ, zero, suc, ◌+◌, ◌<◌, ◌⊎◌, inl, inr, Bool, true, false, List, [], cond, Option, Some, None, refl, sym, ap, subst, ◌∙◌, eqb-true, arith}
+use Rattle.std.proofs.Common.{◌≡◌, ℕ, zero, suc, ◌+◌, ◌<◌, ◌⊎◌, inl, inr, Bool, true, false, List, [], ◌∷◌, cond, Option, Some, None, refl, sym, ap, subst, ◌∙◌, eqb-true, arith}
 use Rattle.std.specs.Prelude.{ℤ, ◌==◌, ◌||◌, ◌&&◌, not, length}
+use Rattle.std.specs.List.{AllByRecursion}
 use Rattle.std.specs.Option.{option_map}
 use Rattle.std.proofs.lemmas.Bool.{cases_lt}
 use Rattle.std.proofs.lemmas.Option.{same_Some, none-some, option_and_then_some}
@@ -26,9 +27,9 @@ use Rattle.const_pool.specs.declared.descriptor.Kind.TheVariants as kind
 use Rattle.const_pool.specs.References.{named_field, named_method}
 use Rattle.jvm_model.specs.declared.family.Family.{Family}
 use Rattle.jvm_model.specs.declared.family.Family.TheVariants as family
-use Rattle.jvm_model.specs.Data.{Datum, IntOperator, Iadd, Isub, Imul, Local, Nop, Constant, Load, Store, Arrange, BinaryOfInts, BinaryOfLongs, DivisionOfInts, DivisionOfLongs, ShiftOfLong, UnaryOfInt, UnaryOfLong, Lcmp, Iinc, Branch, Goto, Switch, Jsr, Ret, Return, Operation, Within, Getstatic, Putstatic, Invokestatic, Invokevirtual, Athrow}
+use Rattle.jvm_model.specs.Data.{Datum, IntOperator, Iadd, Isub, Imul, Local, Nop, Constant, Load, Store, Arrange, BinaryOfInts, BinaryOfLongs, DivisionOfInts, DivisionOfLongs, ShiftOfLong, UnaryOfInt, UnaryOfLong, Lcmp, Iinc, Branch, Goto, Switch, Jsr, Ret, Return, Operation, Within, Getstatic, Invokestatic, Invokevirtual, Newarray}
 use Rattle.jvm_model.specs.Families.{rows, family_of}
-use Rattle.jvm_model.specs.Lines.{value_in, slot_in, increment_in, target_in, keys_in, local_of, constant_in, getstatic_of, invokevirtual_of, pool_operation, named_operation, operation_by, operation_of, targets_of as offsets_of, ends}
+use Rattle.jvm_model.specs.Lines.{value_in, slot_in, increment_in, target_in, keys_in, local_of, constant_in, getstatic_of, invokevirtual_of, pool_operation, ObjectRow, object_rows, object_among, newarray_of, other_operation, operation_by, operation_of, targets_of as offsets_of, ends}
 use Rattle.jvm_model.specs.Resolved.{own_method, resolved_local, resolved_in, resolved_of}
 use Rattle.jvm_model.specs.Rules.{is_out, is_println}
 use Rattle.jvm_model.specs.SmallClass.{is_return}
@@ -206,7 +207,6 @@ family-fits family.Elsewhere a d i e = absurd (none-some i e)
 
 abbrev IsNamed : Operation → Type 0
 IsNamed (Within i) = ⊥
-IsNamed Athrow = ⊥
 IsNamed _ = Unit {0}
 
 chosen : {A : Type 0} (b : Bool) (x y : Option A) (z : A) → cond b x y ≡ Some z → ((b ≡ true) × (x ≡ Some z)) ⊎ (y ≡ Some z)
@@ -215,11 +215,10 @@ chosen false x y z e = inr e
 
 named-goes_on : (c : ClassFile) (o : Operation) (q : Resolved) → IsNamed o → resolved_in c o ≡ Some q → goes_on q
 named-goes_on c (Within i) q named e = absurd named
-named-goes_on c Athrow q named e = absurd named
 named-goes_on c (Getstatic r) q named e = elim (chosen (is_out r) (Some resolved.Out) None q e) [ inl is ↦ only resolved.Out q refl is.1 | inr is ↦ absurd (none-some q is) ]
-named-goes_on c (Putstatic r) q named e = absurd (none-some q e)
 named-goes_on c (Invokestatic r) q named e = let k = in_map resolved.Invokestatic (own_method c r) q e in subst goes_on k.1 refl
 named-goes_on c (Invokevirtual r) q named e = elim (chosen (is_println r) (Some resolved.Println) None q e) [ inl is ↦ only resolved.Println q refl is.1 | inr is ↦ absurd (none-some q is) ]
+named-goes_on c o q named e = absurd (none-some q e)
 
 some-named : (o p : Operation) → IsNamed o → Some o ≡ Some p → IsNamed p
 some-named o p is e = subst IsNamed (same_Some o p e) is
@@ -256,16 +255,41 @@ pool-named c op index o e = elim (chosen (op == 178) _ _ o e) [
     by_test true x named e = some-named x o named e
     by_test false x named e = absurd (none-some o e)
 
+-- ---- no small class has instructions that see objects
+
+abbrev IsUnresolved : ClassFile → Operation → Type 0
+IsUnresolved c o = resolved_in c o ≡ None
+
+among-unresolved : (c : ClassFile) (op : ℕ) (o : Operation) (rows : List ObjectRow) → AllByRecursion (λ (r : ObjectRow). IsUnresolved c r.operation) rows
+    → object_among rows op ≡ Some o → IsUnresolved c o
+among-unresolved c op o [] all e = absurd (none-some o e)
+among-unresolved c op o (r ∷ rest) all e = elim (chosen (op == r.op) (Some r.operation) (object_among rest op) o e) [
+  | inl is ↦ subst (IsUnresolved c) (same_Some r.operation o is.1) all.0
+  | inr more ↦ among-unresolved c op o rest all.1 more
+]
+
+object-unresolved : (c : ClassFile) (op : ℕ) (o : Operation) → object_among object_rows op ≡ Some o → IsUnresolved c o
+object-unresolved c op o e =
+    among-unresolved c op o object_rows (refl, (refl, (refl, (refl, (refl, (refl, (refl, (refl, (refl, (refl, (refl, (refl, (refl, (refl, (refl, (refl, tt)))))))))))))))) e
+
+newarray-unresolved : (c : ClassFile) (op code : ℕ) (o : Operation) → newarray_of op code ≡ Some o → IsUnresolved c o
+newarray-unresolved c op code o e = elim (chosen (op == 188) (Some (Newarray code)) None o e) [
+  | inl is ↦ subst (IsUnresolved c) (same_Some (Newarray code) o is.1) refl
+  | inr none ↦ absurd (none-some o none)
+]
+
 -- ---- every operation
 
 abbrev returns_alike : ℕ → Resolved → Type 0
 returns_alike op q = (is_return_operation q ≡ is_return_opcode op) × ((op == 172 || op == 177) ≡ is_return_opcode op)
 
-named-returns : (c : ClassFile) (op : ℕ) (a : Arg) (o : Operation) (q : Resolved) → named_operation c op a ≡ Some o → resolved_in c o ≡ Some q → returns_alike op q
-named-returns c op (arg.Pool index) o q is e =
+other-returns : (c : ClassFile) (op : ℕ) (a : Arg) (o : Operation) (q : Resolved) → other_operation c op a ≡ Some o → resolved_in c o ≡ Some q → returns_alike op q
+other-returns c op (arg.Pool index) o q is e =
     let named = pool-named c op index o is in
     (named-goes_on c o q named.0 e ∙ sym named.1.0, named.1.1 ∙ sym named.1.0)
-named-returns c op _ o q is e = absurd (none-some o is)
+other-returns c op (arg.Array code) o q is e = absurd (none-some q (sym (newarray-unresolved c op code o is) ∙ e))
+other-returns c op arg.Plain o q is e = absurd (none-some q (sym (object-unresolved c op o is) ∙ e))
+other-returns c op _ o q is e = absurd (none-some o is)
 
 within-returns : (op : ℕ) (f : Family) (i : Local) (q : Resolved) → agrees_by op f ≡ true → Fits f i → resolved_local i ≡ Some q → returns_alike op q
 within-returns op f i q test fits e =
@@ -285,7 +309,7 @@ local-within f a d o e = by (local_of f a d) refl e where
   by None is e = absurd (none-some o e)
   by (Some i) is e = (i, is, same_Some (Within i) o e)
 
-operation-within : (c : ClassFile) (op : ℕ) (a : Arg) (f : Family) (o : Operation) → operation_by c op a f ≡ Some o → (named_operation c op a ≡ Some o) ⊎ IsWithin f a (constant_in c.pool a) o
+operation-within : (c : ClassFile) (op : ℕ) (a : Arg) (f : Family) (o : Operation) → operation_by c op a f ≡ Some o → (other_operation c op a ≡ Some o) ⊎ IsWithin f a (constant_in c.pool a) o
 operation-within c op a family.Elsewhere o e = inl e
 operation-within c op a f o e = inr (local-within f a (constant_in c.pool a) o e)
 
@@ -294,7 +318,7 @@ pub returns-instr : (c : ClassFile) (i : Instr) (q : Resolved) → i.op < 256 �
 returns-instr c i q lt e =
     let f = family_of i.op in
     option_and_then_some (resolved_in c) (operation_of c i) q e (λ o is rest. elim (operation-within c i.op i.arg f o is) [
-      | inl named ↦ named-returns c i.op i.arg o q named rest
+      | inl other ↦ other-returns c i.op i.arg o q other rest
       | inr local ↦ within-returns i.op f local.0 q (all_below-each (λ op. agrees_by op (family_of op)) 256 i.op all_agree lt) (family-fits f i.arg (constant_in c.pool i.arg) local.0 local.1)
           (ap (resolved_in c) local.2 ∙ rest)
     ])
@@ -311,10 +335,9 @@ ends-resolved c (Within (Return None)) q e = ap is_return_operation (same_Some r
 ends-resolved c (Within (Return (Some kind.Int))) q e = ap is_return_operation (same_Some resolved.Ireturn q e)
 ends-resolved c (Within i) q e = absurd (none-some q e)
 ends-resolved c (Getstatic r) q e = sym (named-goes_on c (Getstatic r) q tt e)
-ends-resolved c (Putstatic r) q e = sym (named-goes_on c (Putstatic r) q tt e)
 ends-resolved c (Invokestatic r) q e = sym (named-goes_on c (Invokestatic r) q tt e)
 ends-resolved c (Invokevirtual r) q e = sym (named-goes_on c (Invokevirtual r) q tt e)
-ends-resolved c Athrow q e = absurd (none-some q e)
+ends-resolved c o q e = absurd (none-some q e)
 
 -- ---- instructions that lead nowhere else
 
@@ -337,6 +360,9 @@ pool-alike index = record { leads = λ home place w. tt; kept = λ home. refl; s
 slot-alike : (slot : ℕ) → StaysAlike (arg.Local slot)
 slot-alike slot = record { leads = λ home place w. tt; kept = λ home. refl; straight = refl; nowhere = refl }
 
+array-alike : (code : ℕ) → StaysAlike (arg.Array code)
+array-alike code = record { leads = λ home place w. tt; kept = λ home. refl; straight = refl; nowhere = refl }
+
 form-alike : (f : Form) (a : Arg) → is_straight f ≡ true → HasShape f a → StaysAlike a
 form-alike form.Plain a is s = subst StaysAlike (sym s) plain-alike
 form-alike form.Byte a is s = subst StaysAlike (sym s.1) (value-alike s.0)
@@ -348,16 +374,18 @@ form-alike form.Wide a is s = absurd s
 form-alike form.Unknown a is s = absurd s
 form-alike _ a is s = absurd cc
 
-named-alike : (c : ClassFile) (op : ℕ) (a : Arg) (o : Operation) → named_operation c op a ≡ Some o → StaysAlike a
-named-alike c op (arg.Pool index) o e = pool-alike index
-named-alike c op _ o e = absurd (none-some o e)
+other-alike : (c : ClassFile) (op : ℕ) (a : Arg) (o : Operation) → other_operation c op a ≡ Some o → StaysAlike a
+other-alike c op (arg.Pool index) o e = pool-alike index
+other-alike c op (arg.Array code) o e = array-alike code
+other-alike c op arg.Plain o e = plain-alike
+other-alike c op _ o e = absurd (none-some o e)
 
 pub StaysAlike-operation : (c : ClassFile) (bytes : List ℕ) (at : ℕ) (i : Instr) (o : Operation) (q : Resolved) → i.op < 256 → instruction_at bytes at ≡ Some i
     → operation_of c i ≡ Some o → resolved_in c o ≡ Some q → StaysAlike i.arg
 StaysAlike-operation c bytes at i o q lt stands is e =
     let f = family_of i.op in
     elim (operation-within c i.op i.arg f o is) [
-      | inl named ↦ named-alike c i.op i.arg o named
+      | inl other ↦ other-alike c i.op i.arg o other
       | inr local ↦ (
           let runs_so = (family-fits f i.arg (constant_in c.pool i.arg) local.0 local.1 q (ap (resolved_in c) local.2 ∙ e)).0 in
           form-alike (form_of i.wide i.op) i.arg (straight-form i.wide i.op lt runs_so) (known_at bytes at i stands).1.shape)

@@ -1,13 +1,13 @@
 -- In a step classes are loaded first, then activations end, and one begins behind them at most; and each state of a run is
 -- normal.
-use Rattle.std.proofs.Common.{◌≡◌, ℕ, zero, suc, ◌≤◌, ◌⊎◌, inl, inr, Bool, true, false, List, [], ◌∷◌, ◌++◌, Option, Some, None, if◌then◌else◌, refl, sym, ap, subst, ◌∙◌, arith}
+use Rattle.std.proofs.Common.{◌≡◌, ℕ, zero, suc, ◌≤◌, ◌⊎◌, inl, inr, Bool, true, false, List, [], ◌∷◌, ◌++◌, Option, Some, None, nat_lt, if◌then◌else◌, refl, sym, ap, subst, ◌∙◌, arith}
 use Rattle.std.specs.Option.{IfSome}
 use Rattle.std.proofs.lemmas.Option.{none-some, IfSome_then}
-use Rattle.jvm_model.specs.Data.{Frame, Entry, Active, Initializing, Part, Constants, Superclass, Initializer, Finish, Ending, State, Change, Loads, Began, Left, Unwound, Turn, Instruction, Text, Outcome, GoesOn, Subroutine, Invokes, Returns, Throws, Raises, Initializes, Exits, Breaks, Done, World}
+use Rattle.jvm_model.specs.Data.{Datum, Operands, Frame, Entry, Active, Initializing, Part, Constants, Superclass, Initializer, Finish, Ending, State, Change, Loads, Began, Left, Unwound, Turn, Instruction, Text, Outcome, GoesOn, Subroutine, Invokes, Returns, Throws, Raises, Initializes, Exits, Breaks, Done, World}
 use Rattle.jvm_model.specs.Programs.{initializer_of}
 use Rattle.jvm_model.specs.SharedState.{class_of}
 use Rattle.jvm_model.specs.Rules.{does, loads}
-use Rattle.jvm_model.specs.Applies.{still, with_frame, new_frame, has_room, begins, applies}
+use Rattle.jvm_model.specs.Applies.{still, with_frame, new_frame, has_room, live_in, most_live, begins, begins_beside, applies}
 use Rattle.jvm_model.specs.Moves.{handler_for, caught, at_part, runs_initializer, argument_array, main_or_end, moves, move, then_turn, settled}
 use Rattle.jvm_model.specs.Run.{attempt, starts, is_quiet, goes_on, with_loaded, loaded_turn, steps_by, steps_at, steps_on, step, main_class, starts_with, start, turn_in, turn_in-zero, turn_in-suc}
 use Rattle.jvm_model.specs.Changes.{begun, EndThenBegin, OnlyEnd, AreOrdered}
@@ -88,7 +88,8 @@ runs-well : (w : World) (t : Text) (s : State) → s.ending ≡ None → s.throw
 runs-well w t s open' calm c None = inl tt
 runs-well w t s open' calm c (Some m) =
     let after : State = with_frame (at_part s c Finish) (new_frame w t m []) in
-    inr (tt, calm-stops w t after (new_frame w t m []) (Initializing c Finish ∷ s.stack) open' calm refl)
+    chosen-well w t (nat_lt (live_in s.stack) most_live) (record { after = after; changes = Began m ∷ [] }) _
+    (inr (tt, calm-stops w t after (new_frame w t m []) (Initializing c Finish ∷ s.stack) open' calm refl)) (inl tt)
 
 main-well : (w : World) (t : Text) (s : State) → s.ending ≡ None → s.thrown ≡ None → (b : Bool) → GoesWell w t (main_or_end w t s b)
 main-well w t s open' calm true = inl tt
@@ -129,16 +130,22 @@ settled-begins w t a p = well-begins w t (settled w t a) (settled-keeps w t (Goe
 
 -- ---- a step
 
+beside-well : (w : World) (t : Text) (s : State) (f : Frame) (m : ℕ) (args : List Datum) (below : Operands) (live : ℕ) → s.ending ≡ None → s.thrown ≡ None
+    → GoesWell w t (begins_beside w t s f m args below live)
+beside-well w t s f m args below live open' calm =
+    let after : State = (begins w t s f m args below).after in
+    chosen-well w t (nat_lt live most_live) (begins w t s f m args below) _
+    (inr (tt, calm-stops w t after (new_frame w t m args) (Active (record f { operands = below }) ∷ s.stack) open' calm refl)) (inl tt)
+
 applies-well : (w : World) (t : Text) (i : Instruction) (outcome : Outcome) (s : State) (f : Frame) → s.ending ≡ None → s.thrown ≡ None → GoesWell w t (applies w t i outcome s f)
 applies-well w t i (GoesOn l o to) s f open' calm = inl tt
 applies-well w t i Subroutine s f open' calm = inl tt
 applies-well w t i (Invokes m args below) s f open' calm =
-    let after : State = (begins w t s f m args below).after in
-    chosen-well w t (has_room w m args) (begins w t s f m args below) _
-    (inr (tt, calm-stops w t after (new_frame w t m args) (Active (record f { operands = below }) ∷ s.stack) open' calm refl)) (inl tt)
+    let live = suc (live_in s.stack) in
+    chosen-well w t (has_room w m args) (begins_beside w t s f m args below live) _ (beside-well w t s f m args below live open' calm) (inl tt)
 applies-well w t i (Returns d) s f open' calm = inl tt
 applies-well w t i (Throws r) s f open' calm = inl tt
-applies-well w t i (Raises c) s f open' calm = inl tt
+applies-well w t i (Raises c message) s f open' calm = inl tt
 applies-well w t i (Initializes c) s f open' calm = inl tt
 applies-well w t i (Exits n) s f open' calm = inl tt
 applies-well w t i (Breaks true) s f open' calm = inl tt

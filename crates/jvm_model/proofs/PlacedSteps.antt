@@ -1,5 +1,5 @@
 -- An attempt over the tables of versions is a step of the original, with frames at their homes.
-use Rattle.std.proofs.Common.{◌≡◌, ℕ, ◌+◌, Bool, true, false, List, [], ◌∷◌, cond, Option, Some, None, refl, sym, ap, subst, ◌∙◌}
+use Rattle.std.proofs.Common.{◌≡◌, ℕ, suc, ◌+◌, ◌<◌, Bool, true, false, List, [], ◌∷◌, cond, Option, Some, None, refl, sym, ap, subst, ◌∙◌}
 use Rattle.std.specs.Prelude.{is_some, ◌&&◌, not}
 use Rattle.std.specs.Option.{option_map, option_and_then}
 use Rattle.const_pool.specs.declared.class.ClassFile.{ClassFile}
@@ -24,10 +24,10 @@ use Rattle.jvm_model.specs.OneClass.{IsProgramOf}
 use Rattle.jvm_model.specs.Quiet.{IsCoded, AreCoded, IsQuiet}
 use Rattle.jvm_model.specs.Resolved.{resolved_in}
 use Rattle.jvm_model.specs.Run.{steps_at, step}
-use Rattle.jvm_model.specs.Applies.{applies}
+use Rattle.jvm_model.specs.Applies.{live_in, applies}
 use Rattle.jvm_model.specs.StandsFor.{IsBuilt, ProbeCall, by_homes, home_at, line_at, version_line, mark_at}
 use Rattle.jvm_model.proofs.OriginalPlaces.{at-original}
-use Rattle.jvm_model.proofs.QuietApplies.{simple-asks, places_of, SaysTheSame, applies-same}
+use Rattle.jvm_model.proofs.QuietApplies.{CodedCallee, simple-asks, places_of, SaysTheSame, applies-same}
 use Rattle.jvm_model.proofs.QuietSteps.{start-of, callee-at, callee-coded, wrote_by, steps_at-is}
 use Rattle.jvm_model.proofs.QuietChanges.{return-anywhere}
 use Rattle.jvm_model.proofs.RewrittenAgrees.{norm_in, original-agrees, line-home, rewritten-agrees}
@@ -122,6 +122,17 @@ module _ (t : Installed) (built : IsBuilt (class_in t)) (of : IsProgramOf (class
     caller = says-by s below is coded at;
   }
 
+  -- as many are live where the frames have moved
+  live_in-moved : (es : List Entry) → live_in (moved_stack m es) ≡ live_in es
+  live_in-moved [] = refl
+  live_in-moved (Active f ∷ below) = ap suc (live_in-moved below)
+  live_in-moved (Initializing class part ∷ below) = live_in-moved below
+
+  coded-moved : (es : List Entry) → AreCoded c es → AreCoded c (moved_stack m es)
+  coded-moved [] coded = tt
+  coded-moved (Active f ∷ es) coded = (subst (IsCoded c f.method f.version) (sym (live_in-moved es)) coded.0, coded-moved es coded.1)
+  coded-moved (Initializing class part ∷ es) coded = coded
+
   frame-attempt : (s : State) (f : Frame) (below : List Entry) → IsQuiet c (record s { stack = Active f ∷ below; ending = None }) → IsPlaced (norm_in c) (record s { stack = Active f ∷ below; ending = None })
       → attempt_placed t (moved m (record s { stack = Active f ∷ below; ending = None })) ≡ step w u (moved m (record s { stack = Active f ∷ below; ending = None }))
   frame-attempt s f below quiet at =
@@ -133,23 +144,19 @@ module _ (t : Installed) (built : IsBuilt (class_in t)) (of : IsProgramOf (class
       let home = at_home f.version f.place start has in
       let g : Frame = moved_frame m f in
       let s' : State = record going { stack = moved_stack m below } in
-      let calm : IsQuiet c s' = record { thrown = quiet.thrown; begun = quiet.begun; ready = quiet.ready; coded = below-coded below quiet.coded.1 } in
+      let calm : IsQuiet c s' = record { thrown = quiet.thrown; begun = quiet.begun; ready = quiet.ready; coded = coded-moved below quiet.coded.1 } in
       let q : Resolved = home.line.operation in
       let resolves : resolved_in c home.instruction.operation ≡ Some q = ap (resolved_in c) home.same ∙ (has.resolves ∙ ap (λ x. let o : Option Resolved = Some x in o) (sym home.operates)) in
       let callee : (k : ℕ) → q ≡ resolved.Invokestatic k → IsStart c k 0 = λ k is. has.callee k (sym home.operates ∙ is) in
-      let coded : IsCoded c g.method g.version = record { same = quiet.coded.0.same; code = quiet.coded.0.code } in
+      let coded : IsCoded c g.method g.version (live_in s'.stack) = subst (IsCoded c g.method g.version) (sym (live_in-moved below)) quiet.coded.0 in
+      let earlier : CodedCallee c g.method q = callee-coded c g.method q callee (λ k is. subst (λ n. k < n) quiet.coded.0.same (has.before k (sym home.operates ∙ is))) in
       let stepped : steps_at w u s' g (u.at g.version g.place) ≡ closed (applies w u home.instruction (asks t.program q g.locals g.operands) (wrote_by q s' g) g) =
-      ap (steps_at w u s' g) home.instructed ∙ steps_at-is c w built of u home.instruction q s' g (λ k. refl) resolves (callee-at c q callee) (callee-coded c q callee) calm coded in
+      ap (steps_at w u s' g) home.instructed ∙ steps_at-is c w built of u home.instruction q s' g (λ k. refl) resolves (callee-at c q callee) earlier calm coded in
       let tried : closed (does_line t s' g (line_in t g.version g.place)) ≡ closed (applies w (tabled t) (placed home.line) (asks t.program q g.locals g.operands) (wrote_by q s' g) g) = ap (λ l. closed (does_line t s' g l)) home.lined in
       let same : applies w (tabled t) (placed home.line) (asks t.program q g.locals g.operands) (wrote_by q s' g) g ≡ applies w u home.instruction (asks t.program q g.locals g.operands) (wrote_by q s' g) g =
       applies-same c w (tabled t) u (placed home.line) home.instruction (asks t.program q g.locals g.operands) (wrote_by q s' g) g
-      (says (wrote_by q s' g) below refl quiet.coded.1 places.1) (simple-asks c t.program q g.locals g.operands (callee-coded c q callee)) (ap (λ (x : ℕ × Option ℕ). x.0) home.places) (ap (λ (x : ℕ × Option ℕ). x.1) home.places) in
+      (says (wrote_by q s' g) below refl quiet.coded.1 places.1) (simple-asks c g.method t.program q g.locals g.operands earlier) (ap (λ (x : ℕ × Option ℕ). x.0) home.places) (ap (λ (x : ℕ × Option ℕ). x.1) home.places) in
       tried ∙ (ap closed same ∙ sym stepped)
-    where
-      below-coded : (es : List Entry) → AreCoded c es → AreCoded c (moved_stack m es)
-      below-coded [] coded = tt
-      below-coded (Active k ∷ es) coded = (record { same = coded.0.same; code = coded.0.code }, below-coded es coded.1)
-      below-coded (Initializing class part ∷ es) coded = coded
 
   abbrev o : Text
   o = original t.program

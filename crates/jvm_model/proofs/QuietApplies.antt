@@ -1,8 +1,9 @@
 -- What a small class's instructions ask for leaves a quiet state; and the tables of versions give the same as the rewritten
 -- text, where frames stand at homes of starts.
-use Rattle.std.proofs.Common.{◌≡◌, ℕ, Bool, true, false, List, [], ◌∷◌, slice_get, cond, Option, Some, None, refl, sym, ap, ◌∙◌}
-use Rattle.std.specs.Prelude.{is_some, nat_le, length}
+use Rattle.std.proofs.Common.{◌≡◌, ℕ, suc, ◌+◌, ◌<◌, Bool, true, false, List, [], ◌∷◌, slice_get, cond, Option, Some, None, refl, sym, ap, subst, ◌∙◌, arith}
+use Rattle.std.specs.Prelude.{is_some, nat_le, nat_lt, length}
 use Rattle.std.specs.Option.{option_map}
+use Rattle.std.proofs.lemmas.Bool.{lt-ltb}
 use Rattle.std.proofs.lemmas.Option.{same_Some, none-some}
 use Rattle.heap_objects.specs.declared.Value.TheVariants.{Int, Ref}
 use Rattle.const_pool.specs.declared.class.ClassFile.{ClassFile}
@@ -17,66 +18,71 @@ use Rattle.jvm_model.specs.LocalRules.{pushes, calculates, returns_datum, return
 use Rattle.jvm_model.specs.Methods.{method_code}
 use Rattle.jvm_model.specs.Programs.{params_of_method}
 use Rattle.jvm_model.specs.Rules.{is_print_stream, invokes, invokes_with}
-use Rattle.jvm_model.specs.Applies.{still, with_frame, breaks, goes, new_frame, has_room, begins, resumes, gives_back, breaks_or_ends, applies}
+use Rattle.jvm_model.specs.Applies.{still, with_frame, breaks, goes, throws_at, new_frame, has_room, begins, live_in, begins_beside, invokes as invokes_in, resumes, gives_back, breaks_or_ends, applies}
+use Rattle.jvm_model.specs.SharedState.{raised, stack_overflow}
 use Rattle.jvm_model.specs.Quiet.{IsCoded, AreCoded, IsQuiet}
 use Rattle.jvm_model.specs.Attempts.{asks_println, asks}
 
 -- ---- the outcomes of a small class's instructions
 
--- the frame goes on behind the instruction, invokes a method that has code, returns, or the code is unverifiable
-abbrev pub IsSimple : ClassFile → Outcome → Type 0
-IsSimple c (GoesOn l o Next) = Unit {0}
-IsSimple c (Invokes method args below) = is_some (method_code c method) ≡ true
-IsSimple c (Returns d) = Unit {0}
-IsSimple c (Breaks ends) = Unit {0}
-IsSimple c _ = ⊥
+-- a method that has code and stands before the caller
+abbrev pub IsEarlier : ClassFile → ℕ → ℕ → Type 0
+IsEarlier c caller k = (is_some (method_code c k) ≡ true) × (k < caller)
 
-simple-pushes : (c : ClassFile) (v : Option Value) (l : Locals) (o : Operands) → IsSimple c (pushes v l o)
-simple-pushes c None l o = tt
-simple-pushes c (Some v) l o = tt
+-- the frame of this method goes on behind the instruction, invokes such a method, returns, or the code is unverifiable
+abbrev pub IsSimple : ClassFile → ℕ → Outcome → Type 0
+IsSimple c n (GoesOn l o Next) = Unit {0}
+IsSimple c n (Invokes method args below) = IsEarlier c n method
+IsSimple c n (Returns d) = Unit {0}
+IsSimple c n (Breaks ends) = Unit {0}
+IsSimple c n _ = ⊥
 
-simple-calculates : (c : ClassFile) (op : IntOperator) (l : Locals) (o : Operands) → IsSimple c (calculates op l o)
-simple-calculates c op l (Int b ∷ Int a ∷ below) = tt
-simple-calculates c op l _ = tt
+simple-pushes : (c : ClassFile) (n : ℕ) (v : Option Value) (l : Locals) (o : Operands) → IsSimple c n (pushes v l o)
+simple-pushes c n None l o = tt
+simple-pushes c n (Some v) l o = tt
 
-simple-datum : (c : ClassFile) (d : Option Datum) → IsSimple c (returns_datum d)
-simple-datum c None = tt
-simple-datum c (Some d) = tt
+simple-calculates : (c : ClassFile) (n : ℕ) (op : IntOperator) (l : Locals) (o : Operands) → IsSimple c n (calculates op l o)
+simple-calculates c n op l (Int b ∷ Int a ∷ below) = tt
+simple-calculates c n op l _ = tt
 
-simple-returns : (c : ClassFile) (o : Operands) → IsSimple c (returns (Some kind.Int) o)
-simple-returns c [] = tt
-simple-returns c (v ∷ below) = simple-datum c (datum_of kind.Int v)
+simple-datum : (c : ClassFile) (n : ℕ) (d : Option Datum) → IsSimple c n (returns_datum d)
+simple-datum c n None = tt
+simple-datum c n (Some d) = tt
 
-simple-println : (c : ClassFile) (l : Locals) (o : Operands) → IsSimple c (asks_println l o)
-simple-println c l (Int n ∷ Ref r ∷ below) = by_test (is_print_stream r) where
-  by_test : (b : Bool) → IsSimple c (cond b (GoesOn l below Next) (Breaks false))
+simple-returns : (c : ClassFile) (n : ℕ) (o : Operands) → IsSimple c n (returns (Some kind.Int) o)
+simple-returns c n [] = tt
+simple-returns c n (v ∷ below) = simple-datum c n (datum_of kind.Int v)
+
+simple-println : (c : ClassFile) (n : ℕ) (l : Locals) (o : Operands) → IsSimple c n (asks_println l o)
+simple-println c n l (Int k ∷ Ref r ∷ below) = by_test (is_print_stream r) where
+  by_test : (b : Bool) → IsSimple c n (cond b (GoesOn l below Next) (Breaks false))
   by_test true = tt
   by_test false = tt
-simple-println c l _ = tt
+simple-println c n l _ = tt
 
-simple-args : (c : ClassFile) (method count : ℕ) (args : Option (List Datum)) (o : Operands) → is_some (method_code c method) ≡ true → IsSimple c (invokes method count args o)
-simple-args c method count None o code = tt
-simple-args c method count (Some args) o code = code
+simple-args : (c : ClassFile) (n : ℕ) (method count : ℕ) (args : Option (List Datum)) (o : Operands) → IsEarlier c n method → IsSimple c n (invokes method count args o)
+simple-args c n method count None o code = tt
+simple-args c n method count (Some args) o code = code
 
-simple-invokes : (c : ClassFile) (method : ℕ) (params : Option (List Kind)) (o : Operands) → is_some (method_code c method) ≡ true → IsSimple c (invokes_with method params o)
-simple-invokes c method None o code = tt
-simple-invokes c method (Some params) o code = simple-args c method (length params) (arguments params o) o code
+simple-invokes : (c : ClassFile) (n : ℕ) (method : ℕ) (params : Option (List Kind)) (o : Operands) → IsEarlier c n method → IsSimple c n (invokes_with method params o)
+simple-invokes c n method None o code = tt
+simple-invokes c n method (Some params) o code = simple-args c n method (length params) (arguments params o) o code
 
--- the method that is invoked has code
-abbrev pub CodedCallee : ClassFile → Resolved → Type 0
-CodedCallee c (resolved.Invokestatic k) = is_some (method_code c k) ≡ true
-CodedCallee c _ = Unit {0}
+-- the method that is invoked by this one has code and stands earlier
+abbrev pub CodedCallee : ClassFile → ℕ → Resolved → Type 0
+CodedCallee c n (resolved.Invokestatic k) = IsEarlier c n k
+CodedCallee c n _ = Unit {0}
 
-pub simple-asks : (c : ClassFile) (p : Program) (q : Resolved) (l : Locals) (o : Operands) → CodedCallee c q → IsSimple c (asks p q l o)
-simple-asks c p resolved.Nop l o callee = tt
-simple-asks c p (resolved.Constant n) l o callee = tt
-simple-asks c p (resolved.Iload slot) l o callee = simple-pushes c (loaded kind.Int (slice_get l slot)) l o
-simple-asks c p (resolved.Binary op) l o callee = simple-calculates c op l o
-simple-asks c p resolved.Ireturn l o callee = simple-returns c o
-simple-asks c p resolved.Return l o callee = tt
-simple-asks c p resolved.Out l o callee = tt
-simple-asks c p resolved.Println l o callee = simple-println c l o
-simple-asks c p (resolved.Invokestatic k) l o callee = simple-invokes c k (params_of_method p k) o callee
+pub simple-asks : (c : ClassFile) (n : ℕ) (p : Program) (q : Resolved) (l : Locals) (o : Operands) → CodedCallee c n q → IsSimple c n (asks p q l o)
+simple-asks c n p resolved.Nop l o callee = tt
+simple-asks c n p (resolved.Constant k) l o callee = tt
+simple-asks c n p (resolved.Iload slot) l o callee = simple-pushes c n (loaded kind.Int (slice_get l slot)) l o
+simple-asks c n p (resolved.Binary op) l o callee = simple-calculates c n op l o
+simple-asks c n p resolved.Ireturn l o callee = simple-returns c n o
+simple-asks c n p resolved.Return l o callee = tt
+simple-asks c n p resolved.Out l o callee = tt
+simple-asks c n p resolved.Println l o callee = simple-println c n l o
+simple-asks c n p (resolved.Invokestatic k) l o callee = simple-invokes c n k (params_of_method p k) o callee
 
 -- ---- quiet states stay quiet
 
@@ -89,18 +95,18 @@ chosen_turn-quiet c true x y p q = p
 chosen_turn-quiet c false x y p q = q
 
 -- with a frame of a method that has code on top
-pub frame-quiet : (c : ClassFile) (s : State) (f : Frame) → IsQuiet c s → IsCoded c f.method f.version → IsQuiet c (with_frame s f)
+pub frame-quiet : (c : ClassFile) (s : State) (f : Frame) → IsQuiet c s → IsCoded c f.method f.version (live_in s.stack) → IsQuiet c (with_frame s f)
 frame-quiet c s f quiet coded = record { thrown = quiet.thrown; begun = quiet.begun; ready = quiet.ready; coded = (coded, quiet.coded) }
 
-breaks-quiet : (c : ClassFile) (s : State) (f : Frame) (own : ℕ) → IsQuiet c s → IsCoded c f.method f.version → IsQuiet c (breaks s f own)
+breaks-quiet : (c : ClassFile) (s : State) (f : Frame) (own : ℕ) → IsQuiet c s → IsCoded c f.method f.version (live_in s.stack) → IsQuiet c (breaks s f own)
 breaks-quiet c s f own quiet coded = record { thrown = quiet.thrown; begun = λ e. absurd (none-some (Unverifiable f.method own) (sym e)); ready = quiet.ready; coded = (coded, quiet.coded) }
 
-goes-quiet : (c : ClassFile) (s : State) (f : Frame) (own : ℕ) (l : Locals) (o : Operands) (place : Option ℕ) → IsQuiet c s → IsCoded c f.method f.version → IsQuiet c (goes s f own l o place)
+goes-quiet : (c : ClassFile) (s : State) (f : Frame) (own : ℕ) (l : Locals) (o : Operands) (place : Option ℕ) → IsQuiet c s → IsCoded c f.method f.version (live_in s.stack) → IsQuiet c (goes s f own l o place)
 goes-quiet c s f own l o None quiet coded = breaks-quiet c s f own quiet coded
 goes-quiet c s f own l o (Some place) quiet coded =
     chosen-quiet c (nat_le (height_of o) f.max_stack) _ _ (frame-quiet c s (record f { place = place; locals = l; operands = o }) quiet coded) (breaks-quiet c s f own quiet coded)
 
-resumes-quiet : (c : ClassFile) (s : State) (caller : Frame) (d : Option Datum) (i : Option Instruction) → IsQuiet c s → IsCoded c caller.method caller.version → IsQuiet c (resumes s caller d i)
+resumes-quiet : (c : ClassFile) (s : State) (caller : Frame) (d : Option Datum) (i : Option Instruction) → IsQuiet c s → IsCoded c caller.method caller.version (live_in s.stack) → IsQuiet c (resumes s caller d i)
 resumes-quiet c s caller d None quiet coded = breaks-quiet c s caller 0 quiet coded
 resumes-quiet c s caller d (Some i) quiet coded = goes-quiet c s caller i.own caller.locals (with_value (option_map as_value d) caller.operands) i.next quiet coded
 
@@ -112,21 +118,39 @@ back-quiet c t s d (Active caller ∷ below) quiet coded =
     resumes-quiet c (record s { stack = below }) caller d (t.at caller.version caller.place)
     (record { thrown = quiet.thrown; begun = quiet.begun; ready = quiet.ready; coded = coded.1 }) coded.0
 
-ends-quiet : (c : ClassFile) (ends : Bool) (s : State) (f : Frame) (own : ℕ) → IsQuiet c s → IsCoded c f.method f.version → IsQuiet c (breaks_or_ends ends s f own).after
+ends-quiet : (c : ClassFile) (ends : Bool) (s : State) (f : Frame) (own : ℕ) → IsQuiet c s → IsCoded c f.method f.version (live_in s.stack) → IsQuiet c (breaks_or_ends ends s f own).after
 ends-quiet c true s f own quiet coded = record { thrown = quiet.thrown; begun = λ e. absurd (none-some (Unverifiable f.method own) (sym e)); ready = quiet.ready; coded = quiet.coded }
 ends-quiet c false s f own quiet coded = breaks-quiet c s f own quiet coded
+
+-- where few are live one more can begin
+pub invokes-few : (w : World) (t : Text) (i : Instruction) (s : State) (f : Frame) (m : ℕ) (args : List Datum) (below : Operands) → f.method + live_in s.stack < 1000
+    → invokes_in w t i s f m args below ≡ cond (has_room w m args) (begins w t s f m args below) (still (breaks s f i.own))
+invokes-few w t i s f m args below few =
+    let room : nat_lt (suc (live_in s.stack)) 1024 ≡ true = lt-ltb (suc (live_in s.stack)) 1024 (fits f.method (live_in s.stack) few) in
+    let over : Turn = still (throws_at s f (raised w s.shared stack_overflow None)) in
+    ap (λ b. let a : Turn = cond (has_room w m args) (cond b (begins w t s f m args below) over) (still (breaks s f i.own)) in a) room
+  where
+    fits : (n live : ℕ) → n + live < 1000 → suc live < 1024
+    fits n live few = omega arith
 
 -- where a method begins in its own version
 abbrev pub IsOneVersion : Text → Type 0
 IsOneVersion t = (m : ℕ) → t.current m ≡ m
 
-pub applies-quiet : (c : ClassFile) (w : World) (t : Text) (i : Instruction) (outcome : Outcome) (s : State) (f : Frame) → IsOneVersion t → IsSimple c outcome → IsQuiet c s → IsCoded c f.method f.version
+pub applies-quiet : (c : ClassFile) (w : World) (t : Text) (i : Instruction) (outcome : Outcome) (s : State) (f : Frame) → IsOneVersion t → IsSimple c f.method outcome → IsQuiet c s → IsCoded c f.method f.version (live_in s.stack)
     → IsQuiet c (applies w t i outcome s f).after
 applies-quiet c w t i (GoesOn l o Next) s f one simple quiet coded = goes-quiet c s f i.own l o i.next quiet coded
 applies-quiet c w t i (Invokes m args below) s f one simple quiet coded =
-    chosen_turn-quiet c (has_room w m args) (begins w t s f m args below) (still (breaks s f i.own))
-    (frame-quiet c (with_frame s (record f { operands = below })) (new_frame w t m args) (frame-quiet c s (record f { operands = below }) quiet coded) (record { same = one m; code = simple }))
-    (breaks-quiet c s f i.own quiet coded)
+    subst (λ (a : Turn). IsQuiet c a.after) (sym (invokes-few w t i s f m args below coded.few))
+    (chosen_turn-quiet c (has_room w m args) (begins w t s f m args below) (still (breaks s f i.own))
+    (frame-quiet c (with_frame s caller) (new_frame w t m args) (frame-quiet c s caller quiet coded) (record { same = one m; code = simple.0; few = fewer m f.method (live_in s.stack) simple.1 coded.few }))
+    (breaks-quiet c s f i.own quiet coded))
+  where
+    caller : Frame
+    caller = record f { operands = below }
+
+    fewer : (m n live : ℕ) → m < n → n + live < 1000 → m + suc live < 1000
+    fewer m n live less few = omega arith
 applies-quiet c w t i (Returns d) s f one simple quiet coded = back-quiet c t s d s.stack quiet quiet.coded
 applies-quiet c w t i (Breaks ends) s f one simple quiet coded = ends-quiet c ends s f i.own quiet coded
 applies-quiet c w t i _ s f one simple quiet coded = absurd simple
@@ -167,12 +191,13 @@ back-same c t u s d (Active caller ∷ below) is says =
     resumes-by (record s { stack = below }) caller d (t.at caller.version caller.place) (u.at caller.version caller.place) (says.caller caller below is)
 
 -- the same instruction, as far as its places go
-pub applies-same : (c : ClassFile) (w : World) (t u : Text) (i j : Instruction) (outcome : Outcome) (s : State) (f : Frame) → SaysTheSame c t u s → IsSimple c outcome → i.own ≡ j.own → i.next ≡ j.next
+pub applies-same : (c : ClassFile) (w : World) (t u : Text) (i j : Instruction) (outcome : Outcome) (s : State) (f : Frame) → SaysTheSame c t u s → IsSimple c f.method outcome → i.own ≡ j.own → i.next ≡ j.next
     → applies w t i outcome s f ≡ applies w u j outcome s f
 applies-same c w t u i j (GoesOn l o Next) s f says simple own next = ap (λ k. still (goes s f k l o i.next)) own ∙ ap (λ k. still (goes s f j.own l o k)) next
 applies-same c w t u i j (Invokes m args below) s f says simple own next =
-    ap (λ g. let x : Turn = (cond (has_room w m args) (record { after = with_frame (with_frame s (record f { operands = below })) g; changes = Began m ∷ [] }) (still (breaks s f i.own))) in x) (new_frame-same c w t u s m args says simple)
-    ∙ ap (λ k. let x : Turn = (cond (has_room w m args) (begins w u s f m args below) (still (breaks s f k))) in x) own
+    let beside : Turn → Turn = λ a. cond (nat_lt (suc (live_in s.stack)) 1024) a (still (throws_at s f (raised w s.shared stack_overflow None))) in
+    ap (λ g. let x : Turn = (cond (has_room w m args) (beside (record { after = with_frame (with_frame s (record f { operands = below })) g; changes = Began m ∷ [] })) (still (breaks s f i.own))) in x) (new_frame-same c w t u s m args says simple.0)
+    ∙ ap (λ k. let x : Turn = (cond (has_room w m args) (begins_beside w u s f m args below (suc (live_in s.stack))) (still (breaks s f k))) in x) own
 applies-same c w t u i j (Returns d) s f says simple own next = ap (λ x. let a : Turn = record { after = x; changes = Left ∷ [] } in a) (back-same c t u s d s.stack refl says)
 applies-same c w t u i j (Breaks ends) s f says simple own next = ap (λ k. breaks_or_ends ends s f k) own
 applies-same c w t u i j _ s f says simple own next = absurd simple

@@ -22,7 +22,7 @@ module _ (c : ClassFile) (w : World) (built : IsBuilt c) (of : IsProgramOf c w.p
   run-placed n = turn_in-placed (norm_in c) w (original w.program) (original-agrees c w.program built of) n
 
   pub run-quiet : (n : ℕ) → IsQuiet c (run w n)
-  run-quiet zero = subst (λ (a : Turn). IsQuiet c a.after) (sym (turn_in-zero w (original w.program))) (start-quiet c w (original w.program) built.small of refl)
+  run-quiet zero = subst (λ (a : Turn). IsQuiet c a.after) (sym (turn_in-zero w (original w.program))) (start-quiet c w (original w.program) built.small of built.plain.few refl)
   run-quiet (suc n) = subst (λ (a : Turn). IsQuiet c a.after) (sym (turn_in-suc w (original w.program) n)) (step-quiet c w built of (run w n) (run-quiet n) (run-placed n))
 
   -- a run that goes on has a frame

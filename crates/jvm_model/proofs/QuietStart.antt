@@ -1,5 +1,5 @@
 -- The start of a small class: the class is loaded and made ready, and `main` begins, where its argument fits.
-use Rattle.std.proofs.Common.{◌≡◌, ℕ, Bool, true, false, List, [], ◌∷◌, slice_get, cond, Option, Some, None, refl, sym, ap, subst, ◌∙◌}
+use Rattle.std.proofs.Common.{◌≡◌, ℕ, ◌+◌, ◌<◌, ◌≤◌, Bool, true, false, List, [], ◌∷◌, length, slice_get, cond, Option, Some, None, refl, sym, ap, subst, ◌∙◌, arith}
 use Rattle.std.specs.Prelude.{is_some, map, slice_set, codes, ◌&&◌}
 use Rattle.std.specs.Option.{option_map, option_map_or, option_and_then}
 use Rattle.std.proofs.lemmas.Option.{same_Some, none-some, option_and_then_some}
@@ -60,6 +60,10 @@ first-ready : (cs : List ClassFile) (c : ClassFile) (rest : List ClassFile) → 
 first-ready [] c rest e = absurd (let x : [] ≡ c ∷ rest = e in cc)
 first-ready (x ∷ cs) c rest e = refl
 
+-- with nothing below it
+first-few : (n m : ℕ) → n < m → m ≤ 1000 → n + 0 < 1000
+first-few n m within few = omega arith
+
 module _ (c : ClassFile) (w : World) (t : Text) (small : IsSmallClass c) (of : IsProgramOf c w.program) where
   abbrev main : ℕ
   main = w.program.main
@@ -74,19 +78,19 @@ module _ (c : ClassFile) (w : World) (t : Text) (small : IsSmallClass c) (of : I
       let main = main-first c w.program of in
       ap is_some (ap (option_and_then code_of) main.1 ∙ (small.methods w.program.main main.0 main.1).coded)
 
-  by_room : (b : Bool) → (t.current main ≡ main) → IsQuiet c (cond b (begun_in w t) (unbegun_in w)).after
-  by_room true one = record {
+  by_room : (b : Bool) → length c.methods ≤ 1000 → t.current main ≡ main → IsQuiet c (cond b (begun_in w t) (unbegun_in w)).after
+  by_room true few one = record {
     thrown = refl;
     begun = λ e. refl;
     ready = first-ready w.program.classes c of.rest of.classes;
-    coded = (record { same = one; code = main-coded }, tt);
+    coded = (record { same = one; code = main-coded; few = first-few main (length c.methods) of.main few }, tt);
   }
-  by_room false one = record {
+  by_room false few one = record {
     thrown = refl;
     begun = λ e. absurd (none-some (Unverifiable main 0) (sym e));
     ready = first-ready w.program.classes c of.rest of.classes;
     coded = tt;
   }
 
-  pub start-quiet : t.current main ≡ main → IsQuiet c (start w t).after
-  start-quiet one = subst (λ (a : Turn). IsQuiet c a.after) (sym start-is) (by_room (has_room w main argument_array) one)
+  pub start-quiet : length c.methods ≤ 1000 → t.current main ≡ main → IsQuiet c (start w t).after
+  start-quiet few one = subst (λ (a : Turn). IsQuiet c a.after) (sym start-is) (by_room (has_room w main argument_array) few one)

@@ -1,6 +1,6 @@
 -- A step of a small class: one attempt of its current instruction, resolved; and an attempt over the tables of versions is that
 -- step, with frames at their homes.
-use Rattle.std.proofs.Common.{◌≡◌, ℕ, Bool, true, false, List, [], ◌∷◌, ◌++◌, cond, Option, Some, None, refl, sym, ap, subst, ◌∙◌}
+use Rattle.std.proofs.Common.{◌≡◌, ℕ, ◌<◌, Bool, true, false, List, [], ◌∷◌, ◌++◌, cond, Option, Some, None, refl, sym, ap, subst, ◌∙◌}
 use Rattle.std.specs.Prelude.{is_some, is_none, ◌&&◌}
 use Rattle.std.proofs.lemmas.Option.{none-some}
 use Rattle.const_pool.specs.declared.class.ClassFile.{ClassFile}
@@ -20,7 +20,7 @@ use Rattle.jvm_model.specs.Quiet.{IsCoded, IsQuiet}
 use Rattle.jvm_model.specs.Resolved.{resolved_in}
 use Rattle.jvm_model.specs.Rules.{does}
 use Rattle.jvm_model.specs.Run.{tries, starts, goes_again, steps_by, steps_at, step}
-use Rattle.jvm_model.specs.Applies.{applies}
+use Rattle.jvm_model.specs.Applies.{live_in, applies}
 use Rattle.jvm_model.specs.StandsFor.{IsBuilt}
 use Rattle.jvm_model.proofs.OriginalPlaces.{place-start, at-original}
 use Rattle.jvm_model.proofs.QuietApplies.{IsSimple, CodedCallee, simple-asks, IsOneVersion, applies-quiet}
@@ -53,23 +53,23 @@ callee-at c resolved.Return callee = tt
 callee-at c resolved.Out callee = tt
 callee-at c resolved.Println callee = tt
 
-pub callee-coded : (c : ClassFile) (q : Resolved) → ((k : ℕ) → q ≡ resolved.Invokestatic k → IsStart c k 0) → CodedCallee c q
-callee-coded c (resolved.Invokestatic k) callee = ap is_some (callee k refl).coded
-callee-coded c resolved.Nop callee = tt
-callee-coded c (resolved.Constant n) callee = tt
-callee-coded c (resolved.Iload slot) callee = tt
-callee-coded c (resolved.Binary op) callee = tt
-callee-coded c resolved.Ireturn callee = tt
-callee-coded c resolved.Return callee = tt
-callee-coded c resolved.Out callee = tt
-callee-coded c resolved.Println callee = tt
+pub callee-coded : (c : ClassFile) (n : ℕ) (q : Resolved) → ((k : ℕ) → q ≡ resolved.Invokestatic k → IsStart c k 0) → ((k : ℕ) → q ≡ resolved.Invokestatic k → k < n) → CodedCallee c n q
+callee-coded c n (resolved.Invokestatic k) callee before = (ap is_some (callee k refl).coded, before k refl)
+callee-coded c n resolved.Nop callee before = tt
+callee-coded c n (resolved.Constant k) callee before = tt
+callee-coded c n (resolved.Iload slot) callee before = tt
+callee-coded c n (resolved.Binary op) callee before = tt
+callee-coded c n resolved.Ireturn callee before = tt
+callee-coded c n resolved.Return callee before = tt
+callee-coded c n resolved.Out callee before = tt
+callee-coded c n resolved.Println callee before = tt
 
-starts-simple : (c : ClassFile) (outcome : Outcome) → IsSimple c outcome → starts outcome ≡ None
-starts-simple c (GoesOn l o Next) simple = refl
-starts-simple c (Invokes k args below) simple = refl
-starts-simple c (Returns d) simple = refl
-starts-simple c (Breaks ends) simple = refl
-starts-simple c _ simple = absurd simple
+starts-simple : (c : ClassFile) (n : ℕ) (outcome : Outcome) → IsSimple c n outcome → starts outcome ≡ None
+starts-simple c n (GoesOn l o Next) simple = refl
+starts-simple c n (Invokes k args below) simple = refl
+starts-simple c n (Returns d) simple = refl
+starts-simple c n (Breaks ends) simple = refl
+starts-simple c n _ simple = absurd simple
 
 pub closed-quiet : (c : ClassFile) (s : State) → IsQuiet c s → IsQuiet c (closed_state s)
 closed-quiet c s quiet = by_test (is_empty s.stack && is_none s.ending) where
@@ -84,19 +84,19 @@ abbrev pub wrote_by : Resolved → State → Frame → State
 wrote_by q s f = record s { output = s.output ++ writes q f.operands }
 
 module _ (c : ClassFile) (w : World) (built : IsBuilt c) (of : IsProgramOf c w.program) where
-  pub applied-quiet : (t : Text) (i : Instruction) (q : Resolved) (s : State) (f : Frame) → IsOneVersion t → CodedCallee c q → IsQuiet c s → IsCoded c f.method f.version
+  pub applied-quiet : (t : Text) (i : Instruction) (q : Resolved) (s : State) (f : Frame) → IsOneVersion t → CodedCallee c f.method q → IsQuiet c s → IsCoded c f.method f.version (live_in s.stack)
       → IsQuiet c (applies w t i (asks w.program q f.locals f.operands) (wrote_by q s f) f).after
   applied-quiet t i q s f one callee quiet coded =
-      applies-quiet c w t i (asks w.program q f.locals f.operands) (wrote_by q s f) f one (simple-asks c w.program q f.locals f.operands callee)
+      applies-quiet c w t i (asks w.program q f.locals f.operands) (wrote_by q s f) f one (simple-asks c f.method w.program q f.locals f.operands callee)
       (record { thrown = quiet.thrown; begun = quiet.begun; ready = quiet.ready; coded = quiet.coded }) coded
 
-  pub steps_at-is : (t : Text) (i : Instruction) (q : Resolved) (s : State) (f : Frame) → IsOneVersion t → resolved_in c i.operation ≡ Some q → HasCallee c q → CodedCallee c q → IsQuiet c s → IsCoded c f.method f.version
+  pub steps_at-is : (t : Text) (i : Instruction) (q : Resolved) (s : State) (f : Frame) → IsOneVersion t → resolved_in c i.operation ≡ Some q → HasCallee c q → CodedCallee c f.method q → IsQuiet c s → IsCoded c f.method f.version (live_in s.stack)
       → steps_at w t s f (Some i) ≡ closed (applies w t i (asks w.program q f.locals f.operands) (wrote_by q s f) f)
   steps_at-is t i q s f one resolves there callee quiet coded =
       let done : does w i.operation s.shared f.locals f.operands ≡ done_by w.program q s.shared f.locals f.operands = does-resolved c w i.operation q s.shared f.locals f.operands built.small of resolves there quiet.ready in
-      let simple : IsSimple c (asks w.program q f.locals f.operands) = simple-asks c w.program q f.locals f.operands callee in
+      let simple : IsSimple c f.method (asks w.program q f.locals f.operands) = simple-asks c f.method w.program q f.locals f.operands callee in
       ap (steps_by w t i s f) done
-      ∙ (ap (λ k. goes_again w t i s f k (tries w t i s f (done_by w.program q s.shared f.locals f.operands))) (starts-simple c (asks w.program q f.locals f.operands) simple)
+      ∙ (ap (λ k. goes_again w t i s f k (tries w t i s f (done_by w.program q s.shared f.locals f.operands))) (starts-simple c f.method (asks w.program q f.locals f.operands) simple)
       ∙ settled-quiet c w t (applies w t i (asks w.program q f.locals f.operands) (wrote_by q s f) f) (applied-quiet t i q s f one callee quiet coded))
 
   -- a step of the original keeps a state quiet
@@ -110,12 +110,14 @@ module _ (c : ClassFile) (w : World) (built : IsBuilt c) (of : IsProgramOf c w.p
   record Current (f : Frame) : Type 0 where
     start : IsStart c f.version f.place
     has : HasLine c f.version f.place start.instr
+    callee : CodedCallee c f.method has.resolved
 
   current-of : (s : State) (f : Frame) (below : List Entry) → IsQuiet c (record s { stack = Active f ∷ below }) → IsPlaced (norm_in c) (record s { stack = Active f ∷ below }) → Current f
   current-of s f below quiet at =
       let coded : is_some (method_code c f.version) ≡ true = ap (λ v. is_some (method_code c v)) quiet.coded.0.same ∙ quiet.coded.0.code in
       let start = start-of c f.version f.place built coded (placed-places (norm_in c) (Active f ∷ below) at).0 in
-      record { start = start; has = HasLine-start c f.version f.place built start }
+      let has = HasLine-start c f.version f.place built start in
+      record { start = start; has = has; callee = callee-coded c f.method has.resolved has.callee (λ k is. subst (λ n. k < n) quiet.coded.0.same (has.before k is)) }
 
   frame-quiet_step : (s : State) (f : Frame) (below : List Entry) → IsQuiet c (record s { stack = Active f ∷ below; ending = None }) → IsPlaced (norm_in c) (record s { stack = Active f ∷ below; ending = None })
       → IsQuiet c (step w (original w.program) (record s { stack = Active f ∷ below; ending = None })).after
@@ -128,10 +130,10 @@ module _ (c : ClassFile) (w : World) (built : IsBuilt c) (of : IsProgramOf c w.p
       let s' : State = record going { stack = below } in
       let calm = below-quiet going f below quiet in
       let is : steps_at w t s' f (t.at f.version f.place) ≡ closed (applies w t i (asks w.program now.has.resolved f.locals f.operands) (wrote_by now.has.resolved s' f) f) =
-      ap (steps_at w t s' f) there ∙ steps_at-is t i now.has.resolved s' f original-one now.has.resolves (callee-at c now.has.resolved now.has.callee) (callee-coded c now.has.resolved now.has.callee) calm quiet.coded.0 in
+      ap (steps_at w t s' f) there ∙ steps_at-is t i now.has.resolved s' f original-one now.has.resolves (callee-at c now.has.resolved now.has.callee) now.callee calm quiet.coded.0 in
       subst (λ (a : Turn). IsQuiet c a.after) (sym is)
       (closed-quiet c (applies w t i (asks w.program now.has.resolved f.locals f.operands) (wrote_by now.has.resolved s' f) f).after
-      (applied-quiet t i now.has.resolved s' f original-one (callee-coded c now.has.resolved now.has.callee) calm quiet.coded.0))
+      (applied-quiet t i now.has.resolved s' f original-one now.callee calm quiet.coded.0))
 
   by-parts : (s : State) (ending : Option Ending) (stack : List Entry) → IsQuiet c (record s { stack = stack; ending = ending }) → IsPlaced (norm_in c) (record s { stack = stack; ending = ending })
       → IsQuiet c (step w (original w.program) (record s { stack = stack; ending = ending })).after
@@ -160,13 +162,12 @@ module _ (c : ClassFile) (w : World) (built : IsBuilt c) (of : IsProgramOf c w.p
       let i : Instruction = record { operation = now.has.operation; own = now.start.instr.at; next = next_of now.has.operation (end_of now.start.instr); targets = targets_of now.start.instr.arg } in
       let there : t.at f.version f.place ≡ Some i = at-original c w.program f.version f.place built of (ap is_some now.start.coded) ∙ now.has.instructed in
       let s' : State = record going { stack = below } in
-      let coded = callee-coded c now.has.resolved now.has.callee in
       let is : steps_at w t s' f (t.at f.version f.place) ≡ closed (applies w t i (asks w.program now.has.resolved f.locals f.operands) (wrote_by now.has.resolved s' f) f) =
-      ap (steps_at w t s' f) there ∙ steps_at-is t i now.has.resolved s' f original-one now.has.resolves (callee-at c now.has.resolved now.has.callee) coded (below-quiet going f below quiet) quiet.coded.0 in
+      ap (steps_at w t s' f) there ∙ steps_at-is t i now.has.resolved s' f original-one now.has.resolves (callee-at c now.has.resolved now.has.callee) now.callee (below-quiet going f below quiet) quiet.coded.0 in
       record {
         start = now.start;
         has = now.has;
-        went = subst (Went c t now.has.resolved) (sym is) (attempt-went c w t i now.has.resolved (wrote_by now.has.resolved s' f) f original-one coded);
+        went = subst (Went c t now.has.resolved) (sym is) (attempt-went c w t i now.has.resolved (wrote_by now.has.resolved s' f) f original-one quiet.coded.0.few now.callee);
       }
 
   pub step-of : (s : State) (f : Frame) (below : List Entry) → s.stack ≡ Active f ∷ below → s.ending ≡ None → IsQuiet c s → IsPlaced (norm_in c) s → IsStepOf s f

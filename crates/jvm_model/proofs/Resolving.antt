@@ -12,14 +12,15 @@ use Rattle.const_pool.specs.declared.descriptor.Kind.TheVariants as kind
 use Rattle.const_pool.specs.References.{Reference, named_class}
 use Rattle.jvm_model.specs.declared.operation.Resolved.{Resolved}
 use Rattle.jvm_model.specs.declared.operation.Resolved.TheVariants as resolved
-use Rattle.jvm_model.specs.Data.{Locals, Operands, Iadd, Isub, Imul, Nop, Constant, Load, BinaryOfInts, Return, Operation, Within, Getstatic, Putstatic, Invokestatic, Invokevirtual, Athrow, Local, Ready, Shared, Next, GoesOn, Breaks, Done, Program, World}
+use Rattle.jvm_model.specs.Data.{Locals, Operands, Iadd, Isub, Imul, Nop, Constant, Load, BinaryOfInts, Return, Operation, Within, Getstatic, Invokestatic, Invokevirtual, Local, Ready, Shared, Next, GoesOn, Breaks, Done, Program, World}
 use Rattle.jvm_model.specs.Descriptors.{same_text}
 use Rattle.jvm_model.specs.Methods.{method_named}
 use Rattle.jvm_model.specs.LocalRules.{within}
 use Rattle.jvm_model.specs.OneClass.{IsProgramOf}
 use Rattle.jvm_model.specs.Programs.{has_name, class_named, class_of_reference, method_of_reference, declared_method, number_of_method, params_of_method}
 use Rattle.jvm_model.specs.SharedState.{phase_of, field_of_reference}
-use Rattle.jvm_model.specs.Rules.{done, when_ready, is_out, is_println, is_print_stream, line_text, missing_field, gets_field, invokes_with, invokes_static, prints, does}
+use Rattle.jvm_model.specs.ObjectRules.{done}
+use Rattle.jvm_model.specs.Rules.{when_ready, is_out, is_println, is_print_stream, line_text, missing_field, gets_field, invokes_with, invokes_static, prints, does}
 use Rattle.jvm_model.specs.Resolved.{own_method, resolved_local, resolved_in}
 use Rattle.jvm_model.specs.SmallClass.{IsSmallClass}
 use Rattle.jvm_model.specs.Attempts.{asks, writes}
@@ -99,9 +100,9 @@ static-done : (c : ClassFile) (w : World) (r : Reference) (k : ℕ) (m : Member)
     → phase_of s 0 ≡ Some Ready → does w (Invokestatic r) s l o ≡ done_by w.program (resolved.Invokestatic k) s l o
 static-done c w r k m s l o small of e at ready =
     let own = own-is c w.program r k m small of e at in
-    ap (λ class. invokes_static w class (method_of_reference w.program r) s o) own.class
-    ∙ (ap (λ method. invokes_static w (Some 0) method s o) own.method
-    ∙ ap (λ phase. when_ready phase 0 s (done s (invokes_with k (params_of_method w.program k) o))) ready)
+    ap (λ class. invokes_static w r.class class (method_of_reference w.program r) s o) own.class
+    ∙ (ap (λ method. invokes_static w r.class (Some 0) method s o) own.method
+    ∙ ap (λ phase. when_ready w.program phase 0 s (done s (invokes_with k (params_of_method w.program k) o))) ready)
 
 -- the method that is invoked is there
 abbrev pub HasCallee : ClassFile → Resolved → Type 0
@@ -113,8 +114,7 @@ pub does-resolved : (c : ClassFile) (w : World) (op : Operation) (q : Resolved) 
 does-resolved c w (Within i) q s l o small of e callee ready = local-done w.program i q s l o e
 does-resolved c w (Getstatic r) q s l o small of e callee ready =
     let out = chosen-true (is_out r) resolved.Out q e in
-    ap (λ b. cond b (done s (GoesOn l (Ref 3 ∷ o) Next)) (gets_field (missing_field w.program r) (field_of_reference w.program r) s l o)) out.0 ∙ same-done w.program resolved.Out q s l o (ap (λ x. let y : Option Resolved = Some x in y) out.1)
-does-resolved c w (Putstatic r) q s l o small of e callee ready = absurd (none-some q e)
+    ap (λ b. cond b (done s (GoesOn l (Ref 3 ∷ o) Next)) (gets_field w.program (missing_field w.program r) (field_of_reference w.program r) s l o)) out.0 ∙ same-done w.program resolved.Out q s l o (ap (λ x. let y : Option Resolved = Some x in y) out.1)
 does-resolved c w (Invokestatic r) q s l o small of e callee ready =
     let found = map-found resolved.Invokestatic (own_method c r) q e in
     let there = subst (HasCallee c) (sym found.2) callee in
@@ -122,4 +122,4 @@ does-resolved c w (Invokestatic r) q s l o small of e callee ready =
 does-resolved c w (Invokevirtual r) q s l o small of e callee ready =
     let println = chosen-true (is_println r) resolved.Println q e in
     ap (λ b. cond b (prints s l o) (done s (Breaks false))) println.0 ∙ (prints-done w.program s l o ∙ same-done w.program resolved.Println q s l o (ap (λ x. let y : Option Resolved = Some x in y) println.1))
-does-resolved c w Athrow q s l o small of e callee ready = absurd (none-some q e)
+does-resolved c w op q s l o small of e callee ready = absurd (none-some q e)

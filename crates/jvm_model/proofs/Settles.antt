@@ -1,14 +1,15 @@
 -- The moves come to an end: each makes `left` less, and none applies to what `settled` gives.
-use Rattle.std.proofs.Common.{◌≡◌, ℕ, zero, suc, ◌+◌, ◌*◌, ◌<◌, ◌≤◌, Bool, true, false, List, [], ◌∷◌, Option, Some, None, slice_get, slice_set, nat_le, if◌then◌else◌, refl, sym, subst, arith, unwrap_or}
+use Rattle.std.proofs.Common.{◌≡◌, ℕ, zero, suc, ◌+◌, ◌*◌, ◌<◌, ◌≤◌, Bool, true, false, List, [], ◌∷◌, Option, Some, None, slice_get, slice_set, nat_le, nat_lt, if◌then◌else◌, refl, sym, subst, arith}
 use Rattle.std.specs.Option.{IfSome, option_map_or}
 use Rattle.heap_objects.specs.declared.datum.Datum.TheVariants as datum
 use Rattle.heap_objects.specs.declared.Value.TheVariants.{Ref}
-use Rattle.jvm_model.specs.Data.{Locals, Operands, Frame, Entry, Active, Initializing, Part, Constants, Superclass, Initializer, Finish, Phase, Fresh, Running, Ready, Erroneous, Shared, Ending, State, Turn, Text, World}
+use Rattle.jvm_model.specs.Data.{Datum, Locals, Operands, Frame, Entry, Active, Initializing, Part, Constants, Superclass, Initializer, Finish, Phase, Fresh, Running, Ready, Erroneous, Shared, Ending, State, Turn, Text, World}
 use Rattle.frame_stack.specs.Widths.{height_of}
-use Rattle.jvm_model.specs.Programs.{class_named, is_subclass, super_of, initializer_of}
-use Rattle.jvm_model.specs.SharedState.{error, no_class_definition, in_initializer, phase_of, with_phase, class_of, kind_for, null, allocated, raised}
-use Rattle.heap_objects.specs.Heaps.{with_instance}
-use Rattle.jvm_model.specs.Applies.{with_frame, goes, breaks, has_room}
+use Rattle.jvm_model.specs.Lookup.{is_below}
+use Rattle.jvm_model.specs.Programs.{name_at, super_of, initializer_of}
+use Rattle.jvm_model.specs.SharedState.{error, no_class_definition, in_initializer, stack_overflow, phase_of, with_phase, class_of, message_cost, with_message, with_exception, Allocated, made_with, null}
+use Rattle.heap_objects.specs.Heaps.{next_number}
+use Rattle.jvm_model.specs.Applies.{with_frame, goes, breaks, has_room, live_in, most_live}
 use Rattle.jvm_model.specs.Moves.{handler_for, own_at, caught, wrapped, raises, after_super, with_super, runs_initializer, initializes, argument_array, main_or_end, moves, move, weights, fresh, unless, left, then_turn, settles, settled}
 
 -- ---- phases
@@ -56,9 +57,15 @@ running-fewer (Erroneous ∷ ps) (suc c) e = running-fewer ps c e
 abbrev state : List Entry → Option ℕ → Bool → List ℕ → Shared → Option Ending → State
 state stack thrown begun output shared ending = record { stack = stack; thrown = thrown; begun = begun; shared = shared; output = output; ending = ending }
 
-raised-phases : (w : World) (s : Shared) (name : List ℕ) → (raised w s name).shared.phases ≡ s.phases
-raised-phases w s name = by (nat_le (s.heap.used + 3) s.heap.limit) where
-  by : (b : Bool) → (if b then allocated s (with_instance (kind_for w.program name) (null ∷ null ∷ []) s.heap) else record { shared = s; reference = 1 }).shared.phases ≡ s.phases
+made-phases : (w : World) (s : Shared) (name : List ℕ) (message : Option (List ℕ)) (cause : Datum) → (made_with w s name message cause).shared.phases ≡ s.phases
+made-phases w s name message cause = by (nat_le (s.heap.used + (message_cost message + 3)) s.heap.limit) where
+  made : Allocated
+  made = record {
+    shared = record s { heap = with_exception w.program name message cause s.heap };
+    reference = next_number (with_message w.program message s.heap);
+  }
+
+  by : (b : Bool) → (let a : Allocated = if b then made else record { shared = s; reference = 1 } in a).shared.phases ≡ s.phases
   by true = refl
   by false = refl
 
@@ -82,20 +89,20 @@ caught-less w t below r begun output shared f (Some target) =
 
 -- a phase that is no more fresh, with an exception or without
 fails-phases : (w : World) (s : Shared) (c r : ℕ) → fresh (with_phase (wrapped w s r).shared c Erroneous).phases ≤ fresh s.phases
-fails-phases w s c r = by (is_subclass w.program (class_of w.program s r) error) where
-  by : (b : Bool) → fresh (with_phase (if b then record { shared = s; reference = r } else raised w s in_initializer).shared c Erroneous).phases ≤ fresh s.phases
+fails-phases w s c r = by (is_below w.program (class_of w.program s r) error) where
+  by : (b : Bool) → fresh (with_phase (if b then record { shared = s; reference = r } else made_with w s in_initializer None (datum.Ref r)).shared c Erroneous).phases ≤ fresh s.phases
   by true = started-fewer s.phases c Erroneous erroneous
-  by false = subst (λ ps. fresh (slice_set ps c Erroneous) ≤ fresh s.phases) (sym (raised-phases w s in_initializer)) (started-fewer s.phases c Erroneous erroneous)
+  by false = subst (λ ps. fresh (slice_set ps c Erroneous) ≤ fresh s.phases) (sym (made-phases w s in_initializer None (datum.Ref r))) (started-fewer s.phases c Erroneous erroneous)
 
-raises-left : (w : World) (stack : List Entry) (begun : Bool) (output : List ℕ) (shared : Shared) (name : List ℕ)
-    → left (raises w (state stack None begun output shared None) name) ≡ left (state stack None begun output shared None) + 1
-raises-left w stack begun output shared name =
-    subst (λ ps. 8 * fresh ps + weights stack + 1 + 2 * unless begun + 1 ≡ 8 * fresh shared.phases + weights stack + 0 + 2 * unless begun + 1 + 1) (sym (raised-phases w shared name)) (omega arith)
+raises-left : (w : World) (stack : List Entry) (begun : Bool) (output : List ℕ) (shared : Shared) (name : List ℕ) (message : Option (List ℕ))
+    → left (raises w (state stack None begun output shared None) name message) ≡ left (state stack None begun output shared None) + 1
+raises-left w stack begun output shared name message =
+    subst (λ ps. 8 * fresh ps + weights stack + 1 + 2 * unless begun + 1 ≡ 8 * fresh shared.phases + weights stack + 0 + 2 * unless begun + 1 + 1) (sym (made-phases w shared name message null)) (omega arith)
 
 after_super-less : (w : World) (stack : List Entry) (begun : Bool) (output : List ℕ) (shared : Shared) (c d : ℕ) (p : Option Phase) → phase_of shared d ≡ p
     → left (after_super w (state stack None begun output shared None) c d p) < left (state (Initializing c Superclass ∷ stack) None begun output shared None)
 after_super-less w stack begun output shared c d (Some Fresh) e = let h = running-fewer shared.phases d e in omega arith
-after_super-less w stack begun output shared c d (Some Erroneous) e = let h = raises-left w (Initializing c Initializer ∷ stack) begun output shared no_class_definition in omega arith
+after_super-less w stack begun output shared c d (Some Erroneous) e = let h = raises-left w (Initializing c Initializer ∷ stack) begun output shared no_class_definition (name_at w.program d) in omega arith
 after_super-less w stack begun output shared c d (Some Running) e = omega arith
 after_super-less w stack begun output shared c d (Some Ready) e = omega arith
 after_super-less w stack begun output shared c d None e = omega arith
@@ -108,7 +115,9 @@ with_super-less w stack begun output shared c (Some d) = after_super-less w stac
 runs-less : (w : World) (t : Text) (stack : List Entry) (begun : Bool) (output : List ℕ) (shared : Shared) (c : ℕ) (m : Option ℕ)
     → left (runs_initializer w t (state stack None begun output shared None) c m).after < left (state (Initializing c Initializer ∷ stack) None begun output shared None)
 runs-less w t stack begun output shared c None = omega arith
-runs-less w t stack begun output shared c (Some m) = omega arith
+runs-less w t stack begun output shared c (Some m) =
+    let h = raises-left w (Initializing c Finish ∷ stack) begun output shared stack_overflow None in
+    chosen-less (left (state (Initializing c Initializer ∷ stack) None begun output shared None)) (nat_lt (live_in stack) most_live) _ _ (omega arith) (omega arith)
 
 initializes-less : (w : World) (t : Text) (stack : List Entry) (begun : Bool) (output : List ℕ) (shared : Shared) (c : ℕ) (part : Part)
     → left (initializes w t (state stack None begun output shared None) c part).after < left (state (Initializing c part ∷ stack) None begun output shared None)

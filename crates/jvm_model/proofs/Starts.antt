@@ -1,7 +1,6 @@
 -- What stands at the start of an instruction of a small class: a line, behind which the next instruction starts unless it
--- returns, and which calls a method that can begin.
+-- returns, and which calls a method that can begin and stands earlier.
 use Rattle.std.proofs.Common.{◌≡◌, ℕ, zero, suc, ◌<◌, Bool, true, false, List, [], ◌∷◌, length, slice_get, Option, Some, None, refl, sym, ap, subst, ◌∙◌, arith}
-use Rattle.std.specs.Prelude.{nat_lt}
 use Rattle.std.specs.Option.{option_map, option_map_or, option_and_then}
 use Rattle.std.specs.List.{list_all, AllByRecursion}
 use Rattle.std.proofs.lemmas.Bool.{ltb-true}
@@ -140,6 +139,7 @@ pub record HasLine (c : ClassFile) (m at : ℕ) (i : Instr) : Type 0 where
   pub stops : ends operation ≡ is_return_operation resolved
   pub next : is_return_operation resolved ≡ false → IsStart c m (end_of i)
   pub callee : (k : ℕ) → resolved ≡ Invokestatic k → IsStart c k 0
+  pub before : (k : ℕ) → resolved ≡ Invokestatic k → k < m
 
 some-of : {A : Type 0} (f : A → Bool) (o : Option A) → option_map_or f o false ≡ true → (x : A) × (o ≡ Some x) × (f x ≡ true)
 some-of f None e = absurd cc
@@ -185,6 +185,7 @@ HasLine-start c m at built start =
     (λ o is rest. (
     let made : Operation → Instruction = λ op. record { operation = op; own = i.at; next = next_of op (end_of i); targets = targets_of i.arg } in
     let line : Resolved → Line = λ x. record { operation = x; own = i.at; next = next_of o (end_of i) } in
+    let before : (k : ℕ) → q ≡ Invokestatic k → k < m = λ k is. ltb-true k m (subst (λ (o : Resolved). fits_method m start.code.max_locals code.shape o ≡ true) is fits.2) in
     let coded : code_instruction c bytes at ≡ Some (made o) = ap (option_and_then (instruction_of c)) here ∙ ap (option_map made) is in
     record {
       operation = o;
@@ -210,9 +211,9 @@ HasLine-start c m at built start =
             here = Reads-next bytes 0 start.reading.instrs start.nth i j.0 start.reads.instrs start.stands j.1;
           });
       callee = λ k is. (
-          let below : nat_lt k m ≡ true = subst (λ (o : Resolved). fits_method m start.code.max_locals code.shape o ≡ true) is fits.2 in
           let has = HasCode-method_code c m start.code start.coded in
           let within : m < length c.methods = slice_get_within c.methods m has.member has.is in
-          let callee = earlier c k m (ltb-true k m below) within in
+          let callee = earlier c k m (before k is) within in
           IsStart-first c k callee.0 built.small callee.1);
+      before = before;
     }))

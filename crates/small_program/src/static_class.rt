@@ -13,9 +13,6 @@ use jf_bytes::NoMemory;
 use jvm_steps::code_of;
 use std::alloc::Global;
 
-/// The most methods of a class.
-const MOST_METHODS: usize = 1000;
-
 /// Whether the method's name is neither a constructor's nor an initializer's.
 fn has_plain_name(class: &ClassFile, method: &Member) -> bool
     ensures { result ≡ has_plain_name_of class.now method.now }
@@ -26,16 +23,15 @@ fn has_plain_name(class: &ClassFile, method: &Member) -> bool
     }
 }
 
-/// Whether a class of static methods may have the method at this number.
+/// Whether a class of static methods may have the method.
 fn is_static_method(
     alloc: Global,
     class: &ClassFile,
-    number: u32,
     method: &Member,
 ) -> Result<bool, NoMemory>
     requires methods { length class.now.methods < 2 ^ 32 }
     requires formed { IsMember IsMethodAttribute class.now.pool method.now }
-    ensures { IfOk result (λ runs. IsTrue runs ↔ IsStaticMethod class.now number method.now) }
+    ensures { IfOk result (λ runs. IsTrue runs ↔ IsStaticMethod class.now method.now) }
 {
     if !is_plain_static(method.access) || !has_plain_name(class, method) {
         return Ok(false);
@@ -43,7 +39,7 @@ fn is_static_method(
     let Some(code) = code_of(method) else {
         return Ok(false);
     };
-    is_static_code(alloc, class, number, code)
+    is_static_code(alloc, class, code)
 }
 
 /// Whether each method is one that a class of static methods may have.
@@ -51,8 +47,8 @@ fn has_static_methods(alloc: Global, class: &ClassFile) -> Result<bool, NoMemory
     requires { IsClassFile class.now }
     ensures { IfOk result (λ runs. IsTrue runs ↔ HasStaticMethods class.now) }
 {
-    for (number, method) in class.methods.as_slice().iter().enumerate() {
-        if !is_static_method(alloc, class, number as u32, method)? {
+    for method in class.methods.as_slice() {
+        if !is_static_method(alloc, class, method)? {
             return Ok(false);
         }
     }
@@ -68,9 +64,6 @@ pub fn is_static_class(alloc: Global, class: &ClassFile) -> Result<bool, NoMemor
         return Ok(false);
     }
     if !class.interfaces.is_empty() || !class.fields.is_empty() {
-        return Ok(false);
-    }
-    if class.methods.len() > MOST_METHODS {
         return Ok(false);
     }
     has_static_methods(alloc, class)

@@ -1,18 +1,17 @@
 //! Which codes a class of static methods may have.
 
-ghost use Rattle.std.specs.Prelude.{◌≡◌, ◌↔◌, ◌<◌, ◌^◌, length, false, is_some, IsTrue, IfOk};
+ghost use Rattle.std.specs.Prelude.{◌≡◌, ◌↔◌, ◌<◌, ◌^◌, length, is_some, IsTrue, IfOk};
 ghost use Rattle.std.specs.List.{list_all};
-ghost use Rattle.std.specs.Option.{option_map_or};
-ghost use Rattle.jvm_model.specs.Lines.{constant_in, local_of};
-ghost use Rattle.jvm_model.specs.Resolved.{resolved_of};
+ghost use Rattle.jvm_model.specs.declared.family.Family.TheVariants.{Elsewhere};
+ghost use Rattle.jvm_model.specs.Families.{family_of};
+ghost use Rattle.jvm_model.specs.Lines.{constant_in, local_of, object_among, object_rows};
 ghost use Rattle.jvm_model.specs.StaticClass.{runs_in, IsStaticCode};
-ghost use Rattle.small_program.specs.Static.{calls_before};
 
 use code_model::{Arg, CodeError, Instr, decode};
 use const_pool::{ClassFile, CodeAttribute, Const, Pool};
 use jf_bytes::NoMemory;
 use jvm_machine::resolved_of;
-use jvm_model::{Family, Resolved, family_of};
+use jvm_model::{Family, family_of};
 use std::alloc::Global;
 
 /// Whether the operand names an int or a long of the pool.
@@ -57,57 +56,59 @@ fn is_local(family: Family, pool: &Pool, arg: &Arg) -> bool
     }
 }
 
-/// Whether an invocation is one of a method below this number.
-fn calls_before(number: u32, operation: Resolved) -> bool
-    ensures { result ≡ calls_before number operation }
+/// Whether an opcode without an operand is one that sees objects.
+fn sees_objects(op: u8) -> bool
+    ensures { result ≡ is_some (object_among object_rows op) }
 {
-    match operation {
-        Resolved::Invokestatic(method) => method < number,
-        _ => true,
+    matches!(
+        op,
+        46 | 47 | 50..=53 | 79 | 80 | 83..=86 | 190 | 191 | 194 | 195
+    )
+}
+
+/// Whether an instruction of no family has a rule, and names what is known.
+fn other_runs(class: &ClassFile, instr: &Instr) -> bool
+    requires methods { length class.now.methods < 2 ^ 32 }
+    requires other { family_of instr.now.op ≡ Elsewhere }
+    ensures { result ≡ runs_in class.now instr.now }
+{
+    match &instr.arg {
+        Arg::Pool(_) => resolved_of(class, instr).is_some(),
+        Arg::Array(_) => instr.op == 188,
+        Arg::Plain => sees_objects(instr.op),
+        _ => false,
     }
 }
 
-/// Whether an instruction that names a member may stand in the method with this number.
-fn names_known(class: &ClassFile, number: u32, instr: &Instr) -> bool
+/// Whether the instruction may stand in a class of static methods.
+fn runs_in(class: &ClassFile, instr: &Instr) -> bool
     requires { length class.now.methods < 2 ^ 32 }
-    ensures { result ≡ option_map_or (calls_before number) (resolved_of class.now instr.now) false }
-{
-    match resolved_of(class, instr) {
-        Some(operation) => calls_before(number, operation),
-        None => false,
-    }
-}
-
-/// Whether the instruction may stand in the method with this number.
-fn runs_in(class: &ClassFile, number: u32, instr: &Instr) -> bool
-    requires { length class.now.methods < 2 ^ 32 }
-    ensures { result ≡ runs_in class.now number instr.now }
+    ensures { result ≡ runs_in class.now instr.now }
 {
     match family_of(instr.op) {
-        Family::Elsewhere => names_known(class, number, instr),
+        Family::Elsewhere => other_runs(class, instr),
         family => is_local(family, &class.pool, &instr.arg),
     }
 }
 
-/// Whether all the instructions may stand in that method.
-fn all_run(class: &ClassFile, number: u32, instrs: &[Instr]) -> bool
+/// Whether all the instructions may stand there.
+fn all_run(class: &ClassFile, instrs: &[Instr]) -> bool
     requires { length class.now.methods < 2 ^ 32 }
-    ensures { result ≡ list_all (runs_in class.now number) instrs.now }
+    ensures { result ≡ list_all (runs_in class.now) instrs.now }
 {
-    instrs.iter().all(|instr| runs_in(class, number, instr))
+    instrs.iter().all(|instr| runs_in(class, instr))
 }
 
-/// Whether the method with this number may have the code.
+/// Whether a method of a class of static methods may have the code.
 pub fn is_static_code(
     alloc: Global,
     class: &ClassFile,
-    number: u32,
     code: &CodeAttribute,
 ) -> Result<bool, NoMemory>
     requires methods { length class.now.methods < 2 ^ 32 }
     requires some { 0 < length code.now.code }
     requires short { length code.now.code < 2 ^ 16 }
-    ensures { IfOk result (λ runs. IsTrue runs ↔ IsStaticCode class.now number code.now) }
+    ensures { IfOk result (λ runs. IsTrue runs ↔ IsStaticCode class.now code.now) }
 {
     let decoded = match decode(alloc, code.code.as_slice()) {
         Ok(decoded) => decoded,
@@ -116,6 +117,5 @@ pub fn is_static_code(
         Err(CodeError::BadSwitch(_)) => return Ok(false),
         Err(CodeError::NoMemory) => return Err(NoMemory),
     };
-    let plain = code.handlers.is_empty();
-    Ok(plain && all_run(class, number, decoded.instrs.as_slice()))
+    Ok(all_run(class, decoded.instrs.as_slice()))
 }
