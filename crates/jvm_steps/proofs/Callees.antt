@@ -59,6 +59,9 @@ module _ (w : World) (line : Line) (callee : ℕ) (p : Parts) (f : PlacedFrame) 
       cond b (cond few_live (state_with (with_begun true w callee count (f ∷ fs)) p) thrown)
       (state_with (f ∷ fs) (ended f.method line.instr.at p))
 
+  abbrev begins_here : ℕ → List Datum → Turn
+  begins_here count args = begins w (original w.program) (state_with fs p) (frame_in f) callee args (drop count f.operands)
+
   by_data : (ks : List Kind) (args : Option (List Datum)) → data_of ks (reverse (taken (length ks))) ≡ args
       → (applies w (original w.program) (placed_line line) (invokes_outcome callee (length ks) args f.operands) (state_with fs p) (frame_in f)).after
       ≡ begun_by (is_some args && can_begin w callee (length ks) (f ∷ fs)) (length ks)
@@ -72,13 +75,10 @@ module _ (w : World) (line : Line) (callee : ℕ) (p : Parts) (f : PlacedFrame) 
       ∙ (ap (λ n. state_by (length ks) n (slots_of_all values)) long
       ∙ ap (λ b. begun_by (b && nat_le (height_of (taken (length ks))) most) (length ks)) (sym (enough-data ks f.operands args e))))
     where
-      abbrev begins_here : Turn
-      begins_here = begins w (original w.program) (state_with fs p) (frame_in f) callee args (drop (length ks) f.operands)
-
       -- what is left of a choice between turns
       split : (b few : Bool)
-          → (cond b (cond few begins_here (still thrown)) (still (breaks (state_with fs p) (frame_in f) line.instr.at))).after
-          ≡ cond b (cond few begins_here.after thrown) (breaks (state_with fs p) (frame_in f) line.instr.at)
+          → (cond b (cond few (begins_here (length ks) args) (still thrown)) (still (breaks (state_with fs p) (frame_in f) line.instr.at))).after
+          ≡ cond b (cond few (begins_here (length ks) args).after thrown) (breaks (state_with fs p) (frame_in f) line.instr.at)
       split true true = refl
       split true false = refl
       split false few = refl

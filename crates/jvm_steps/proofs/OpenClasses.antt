@@ -13,7 +13,8 @@ use Rattle.jvm_model.specs.Data.{World}
 use Rattle.jvm_model.specs.Applies.{applies}
 use Rattle.jvm_model.specs.Originals.{original}
 use Rattle.jvm_model.specs.Programs.{name_at}
-use Rattle.jvm_model.specs.Rules.{done, when_ready, invokes_method}
+use Rattle.jvm_model.specs.ObjectRules.{done}
+use Rattle.jvm_model.specs.Rules.{when_ready, invokes_method}
 use Rattle.jvm_steps.specs.declared.line.Line.{Line}
 use Rattle.jvm_steps.specs.declared.originals.Exception.TheVariants.{NoClassDefinition}
 use Rattle.jvm_steps.specs.declared.parts.Parts.{Parts}
