@@ -2,6 +2,9 @@
 use Rattle.std.proofs.Common.{◌≡◌, ℕ, suc, ◌-◌, ◌<◌, Bool, true, false, List, [], ◌∷◌, ◌++◌, length, drop, take, cond, Option, Some, None, refl, sym, ap, ◌∙◌}
 use Rattle.std.specs.Prelude.{is_some, map, nat_le, nat_lt, replicate, reverse, ◌&&◌}
 use Rattle.std.specs.Option.{option_map_or}
+use Rattle.std.specs.Result.{Result, OnOk}
+use Rattle.std.proofs.lemmas.Result.{on_ok_weaker}
+use Rattle.jf_bytes.specs.declared.error.NoMemory.{NoMemory}
 use Rattle.heap_objects.specs.declared.datum.Datum.{Datum}
 use Rattle.heap_objects.specs.declared.Value.{Value}
 use Rattle.const_pool.specs.declared.descriptor.Kind.{Kind}
@@ -88,6 +91,11 @@ module _ (w : World) (line : Line) (callee : ℕ) (p : Parts) (f : PlacedFrame) 
       ≡ begun_by (fits_with w callee (f ∷ fs) params) (option_map_or length params 0)
   by_params None = refl
   by_params (Some ks) = by_data ks (data_of ks (reverse (taken (length ks)))) refl
+
+-- what the code has done, as a state
+pub came-to : (result : Result (Unit {0}) NoMemory) (new done : Parts) (state : State) → state_in done ≡ state → OnOk result (new ≡ done)
+    → OnOk result (state_in new ≡ state)
+came-to result new done state same made = on_ok_weaker result (λ (e : new ≡ done). ap state_in e ∙ same) made
 
 live-is : (fs : List PlacedFrame) → live_in (map active fs) ≡ length fs
 live-is [] = refl

@@ -2,7 +2,6 @@
 -- that can not be used not at all.
 use Rattle.std.proofs.Common.{◌≡◌, ℕ, List, [], ◌∷◌, slice_get, Option, Some, None, Result, refl, sym, ap, subst, ◌∙◌}
 use Rattle.std.specs.Result.{OnOk}
-use Rattle.std.proofs.lemmas.Result.{on_ok_weaker}
 use Rattle.jf_bytes.specs.declared.error.NoMemory.{NoMemory}
 use Rattle.frame_stack.specs.FrameLists.{PlacedFrame}
 use Rattle.jvm_model.specs.declared.state.Frame.{Frame}
@@ -21,6 +20,7 @@ use Rattle.jvm_steps.specs.declared.parts.Parts.{Parts}
 use Rattle.jvm_steps.specs.Acts.{Becomes, IsTop, placed_line, acts_invokestatic, on_parts, on_top, raising}
 use Rattle.jvm_steps.specs.Invoking.{acts_invoke}
 use Rattle.jvm_steps.specs.States.{frame_in, state_in, state_with}
+use Rattle.jvm_steps.proofs.Callees.{came-to}
 
 -- by the phase of its class
 abbrev invoked_in : World → Line → ℕ → ℕ → State → Frame → Option Phase → State
@@ -86,4 +86,5 @@ pub becomes-unusable : (result : Result (Unit {0}) NoMemory) (new old : Parts) (
     → OnOk result (new ≡ raising w NoClassDefinition (name_at w.program class) old) → Becomes result new (acts_invokestatic w line class callee) old
 becomes-unusable result new old w line class callee m method known top phase is e made =
     subst (λ (x : Option ℕ). Becomes result new (acts_invokestatic w line class x) old) (sym known)
-    (on_ok_weaker result (λ same. ap state_in same ∙ sym (on-unusable w line class m old phase is e method old.frames.frames top)) made)
+    (came-to result new (raising w NoClassDefinition (name_at w.program class) old) (on_parts (acts_invokestatic w line class (Some m)) old)
+    (sym (on-unusable w line class m old phase is e method old.frames.frames top)) made)
