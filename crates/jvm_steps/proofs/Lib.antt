@@ -10,6 +10,7 @@ pub mod Tied
 pub mod Tabled
 pub mod Positions
 pub mod Entries
+pub mod LineFamilies
 mod Actions
 pub mod LineActs
 pub mod LineSteps

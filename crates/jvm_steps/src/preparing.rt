@@ -32,7 +32,7 @@ fn code_line(
 {
     let found = instr_at(alloc, code, at)?;
     match found {
-        Some(instr) => Ok(line_of(program, class, instr)),
+        Some(instr) => line_of(alloc, program, class, instr),
         None => Ok(None),
     }
 }

@@ -6,19 +6,19 @@ use Rattle.jvm_steps.proofs.attempting.act_alone.Goals as goal
 
 pub returns-in-Next-clause-state : goal.returns-in-Next-clause-state
 returns-in-Next-clause-state c =
-    goes-next c.args.originals.now c.args.line.now c.args.parts.now c.args.method c.basic.new.frames c.requires.top
-    (sym c.basic.ensures.effect ∙ c.in-Next.is) c.basic.ensures.frames
+    goes-next c.args.originals.now c.args.line.now c.args.parts.now c.args.method c.basic_by-effect.new.frames c.requires.top
+    (sym c.basic_by-effect.ensures.effect ∙ c.in-Next.is) c.basic_by-effect.ensures.frames
 
 pub returns-in-Bad-clause-state : goal.returns-in-Bad-clause-state
 returns-in-Bad-clause-state c =
     on_ok_weaker c.break_here.result
-    (λ e. ap state_in e ∙ goes-bad c.args.originals.now c.args.line.now c.args.parts.now c.args.method c.basic.new.frames c.requires.top
-    (sym c.basic.ensures.effect ∙ c.in-Bad.is) c.basic.ensures.frames)
+    (λ e. ap state_in e ∙ goes-bad c.args.originals.now c.args.line.now c.args.parts.now c.args.method c.basic_by-effect.new.frames c.requires.top
+    (sym c.basic_by-effect.ensures.effect ∙ c.in-Bad.is) c.basic_by-effect.ensures.frames)
     c.break_here.ensures
 
 pub returns-in-Other-clause-state : goal.returns-in-Other-clause-state
 returns-in-Other-clause-state c =
     on_ok_weaker c.break_here-in-Other.result
-    (λ e. ap state_in e ∙ goes-other c.args.originals.now c.args.line.now c.args.parts.now c.args.method c.basic.new.frames c.requires.top
-    (sym c.basic.ensures.effect ∙ c.in-Other.is) c.basic.ensures.frames)
+    (λ e. ap state_in e ∙ goes-other c.args.originals.now c.args.line.now c.args.parts.now c.args.method c.basic_by-effect.new.frames c.requires.top
+    (sym c.basic_by-effect.ensures.effect ∙ c.in-Other.is) c.basic_by-effect.ensures.frames)
     c.break_here-in-Other.ensures
