@@ -15,3 +15,4 @@ pub mod LineActs
 pub mod LineSteps
 pub mod OpenClasses
 pub mod ElementLemmas
+pub mod ElementActs
