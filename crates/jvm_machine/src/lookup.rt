@@ -126,7 +126,8 @@ fn pool_operation(class: &ClassFile, op: u8, index: u16) -> Option<Resolved>
 /// What an instruction does that names a member.
 fn named_operation(class: &ClassFile, op: u8, arg: &Arg) -> Option<Resolved>
     requires { length class.now.methods < 2 ^ 32 }
-    ensures { result ≡ option_and_then (resolved_in class.now) (named_operation class.now op arg.now) }
+    ensures { let operation = other_operation class.now op arg.now in
+        result ≡ option_and_then (resolved_in class.now) operation }
 {
     match arg {
         Arg::Pool(index) => pool_operation(class, op, *index),

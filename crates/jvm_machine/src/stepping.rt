@@ -195,7 +195,8 @@ pub fn move_on(
     told: u32,
 ) -> Result<Advance, NoMemory>
     requires { started ≡ false → IsAtStart (world_in tables.now) (state_in parts.old) }
-    ensures moved { MovesTo result parts.new (moved_on tables.now started told (state_in parts.old)) }
+    ensures moved { let s = state_in parts.old in
+        MovesTo result parts.new (moved_on tables.now started told s) }
     ensures told { TellsAs result (moved_on tables.now started told (state_in parts.old)) }
     ensures probe { PassesAs result (moved_on tables.now started told (state_in parts.old)) }
 {

@@ -50,4 +50,5 @@ pub mod WorkedRuns
 pub mod WorkedThrows
 pub mod WorkedInitializers
 pub mod WorkedLimits
+pub mod WorkedArrays
 pub mod WorkedFamilies

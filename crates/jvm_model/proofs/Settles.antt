@@ -1,5 +1,5 @@
 -- The moves come to an end: each makes `left` less, and none applies to what `settled` gives.
-use Rattle.std.proofs.Common.{◌≡◌, ℕ, zero, suc, ◌+◌, ◌*◌, ◌<◌, ◌≤◌, Bool, true, false, List, [], ◌∷◌, Option, Some, None, slice_get, slice_set, nat_le, nat_lt, if◌then◌else◌, refl, sym, subst, arith, unwrap_or}
+use Rattle.std.proofs.Common.{◌≡◌, ℕ, zero, suc, ◌+◌, ◌*◌, ◌<◌, ◌≤◌, Bool, true, false, List, [], ◌∷◌, Option, Some, None, slice_get, slice_set, nat_le, nat_lt, if◌then◌else◌, refl, sym, subst, arith}
 use Rattle.std.specs.Option.{IfSome, option_map_or}
 use Rattle.heap_objects.specs.declared.datum.Datum.TheVariants as datum
 use Rattle.heap_objects.specs.declared.Value.TheVariants.{Ref}
@@ -7,7 +7,7 @@ use Rattle.jvm_model.specs.Data.{Datum, Locals, Operands, Frame, Entry, Active, 
 use Rattle.frame_stack.specs.Widths.{height_of}
 use Rattle.jvm_model.specs.Lookup.{is_below}
 use Rattle.jvm_model.specs.Programs.{name_at, super_of, initializer_of}
-use Rattle.jvm_model.specs.SharedState.{error, no_class_definition, in_initializer, stack_overflow, phase_of, with_phase, class_of, message_cost, with_message, with_exception, Allocated, made_with, null, raised}
+use Rattle.jvm_model.specs.SharedState.{error, no_class_definition, in_initializer, stack_overflow, phase_of, with_phase, class_of, message_cost, with_message, with_exception, Allocated, made_with, null}
 use Rattle.heap_objects.specs.Heaps.{next_number}
 use Rattle.jvm_model.specs.Applies.{with_frame, goes, breaks, has_room, live_in, most_live}
 use Rattle.jvm_model.specs.Moves.{handler_for, own_at, caught, wrapped, raises, after_super, with_super, runs_initializer, initializes, argument_array, main_or_end, moves, move, weights, fresh, unless, left, then_turn, settles, settled}

@@ -1,6 +1,7 @@
 -- Worked runs over lists of instructions: classes that are initialized, with and without a static initializer, and initializers
 -- that throw (JVM Specification 5.5).
 use Rattle.std.specs.Prelude.{◌≡◌, ℕ, List, [], ◌∷◌, Some, None, pos, refl, codes, take, drop, map}
+use Rattle.heap_objects.specs.Heaps.{slot_at, units_at}
 use Rattle.heap_objects.specs.Objects.{kind_of}
 use Rattle.heap_objects.specs.declared.datum.Datum.TheVariants as datum
 use Rattle.jvm_model.specs.Data.{Instruction, Athrow, Ready, Erroneous, Returned, Loads, Began, Left, Unwound}
@@ -12,7 +13,7 @@ use Rattle.jvm_model.proofs.WorkedPrograms.{Routine, Sketch, Sketches, object_na
 
 -- a class with one static field
 abbrev pub with_field : List ℕ → List ℕ → List ℕ → List Routine → Sketch
-with_field name above field routines = record { name = name; above = Some above; fields = field ∷ []; routines = routines }
+with_field name above field routines = record { name = name; above = Some above; interfaces = []; fields = field ∷ []; routines = routines }
 
 -- main reads a static field
 abbrev pub reads : List ℕ → List ℕ → List Instruction
@@ -150,6 +151,39 @@ used_twice-goes_on = refl
 pub used_twice-ends : (after used_twice 5).ending ≡ uncaught_of used_twice no_class_definition
 unfolding turn_in
 used_twice-ends = refl
+
+-- the NullPointerException is object 6 and the cause of object 7; the message of what is thrown then is object 8
+pub used_twice-cause : slot_at 7 1 (after used_twice 3).shared.heap ≡ Some (datum.Ref 6)
+unfolding turn_in
+used_twice-cause = refl
+
+pub used_twice-text : units_at 8 (after used_twice 5).shared.heap ≡ Some (codes "X")
+unfolding turn_in
+used_twice-text = refl
+
+-- ---- the subclass that is used behind it: its superclass's name is told
+
+abbrev pub used_before : Sketches
+used_before = record {
+  classes = alone (codes "M") (record (main_routine 1 (at 0 3 (getstatic (codes "S") (codes "a")) ∷ at 3 1 pop ∷ at 4 3 (getstatic (codes "X") (codes "b")) ∷ [])) {
+    handlers = record { start = 0; finish = 3; target = 3; catches = Some in_initializer } ∷ [];
+  } ∷ [])
+      ∷ with_field (codes "S") object_name (codes "a") (throws ∷ [])
+      ∷ with_field (codes "X") (codes "S") (codes "b") (sets 2 (codes "X") (codes "b") ∷ []) ∷ [];
+  main = 0;
+}
+
+pub used_before-ends : (after used_before 5).ending ≡ uncaught_of used_before no_class_definition
+unfolding turn_in
+used_before-ends = refl
+
+pub used_before-text : units_at 8 (after used_before 5).shared.heap ≡ Some (codes "S")
+unfolding turn_in
+used_before-text = refl
+
+pub used_before-class : phase_of (after used_before 5).shared 2 ≡ Some Erroneous
+unfolding turn_in
+used_before-class = refl
 
 -- ---- the subclass that waits for it becomes erroneous too, and the Error that is thrown then is not wrapped again
 

@@ -1,6 +1,6 @@
 -- Programs by hand, for worked runs: instructions as lists, beside the class format. Of a class file there is what the rules look
 -- up in it: names, superclass, static fields, and what each method takes, gives and has room for. Its bytes are never read.
-use Rattle.std.specs.Prelude.{ℕ, ◌+◌, List, [], ◌∷◌, ◌++◌, map, Option, Some, None, codes, pos, slice_get, unwrap_or, ◌==◌, if◌then◌else◌}
+use Rattle.std.specs.Prelude.{◌≡◌, refl, ℕ, ◌+◌, List, [], ◌∷◌, ◌++◌, map, Option, Some, None, codes, pos, slice_get, unwrap_or, ◌==◌, if◌then◌else◌}
 use Rattle.std.specs.Option.{option_map, option_map_or}
 use Rattle.heap_objects.specs.declared.datum.Datum.TheVariants as datum
 use Rattle.const_pool.specs.declared.descriptor.Kind.TheVariants as kind
@@ -9,12 +9,14 @@ use Rattle.const_pool.specs.declared.pool.Const.TheVariants.{Gap, Utf8, Class}
 use Rattle.const_pool.specs.declared.class.ClassFile.{ClassFile}
 use Rattle.const_pool.specs.declared.class.Member.{Member}
 use Rattle.const_pool.specs.declared.class.Attribute.TheVariants.{Code}
+use Rattle.const_pool.specs.BuiltIn.{built_in_names}
 use Rattle.const_pool.specs.References.{NameAndType, Reference}
 use Rattle.jvm_model.specs.Data.{Pop, Ending, Uncaught, Entry, Active, Initializing, Constant, Load, Arrange, Return, Operation, Within, Getstatic, Putstatic, Invokestatic, Invokevirtual, Instruction, Catcher, Text, World, Change, State, Turn}
 use Rattle.jvm_model.specs.Lines.{next_of}
 use Rattle.jvm_model.specs.Programs.{numbered, class_named}
 use Rattle.jvm_model.specs.Run.{turn_in}
 use Rattle.jvm_model.specs.Activations.{Trace, trace_in}
+use Prim.Native.String.{String}
 
 -- ---- what is given by hand
 
@@ -26,10 +28,11 @@ pub record Routine : Type 0 where
   pub code : List Instruction
   pub handlers : List Catcher
 
--- a class: its name, its superclass's, its static fields, which are ints, and its methods
+-- a class: its name, its superclass's, its interfaces', its static fields, which are ints, and its methods
 pub record Sketch : Type 0 where
   pub name : List ℕ
   pub above : Option (List ℕ)
+  pub interfaces : List (List ℕ)
   pub fields : List (List ℕ)
   pub routines : List Routine
 
@@ -64,44 +67,113 @@ abbrev pub after_texts : ℕ → List NameAndType → ℕ
 after_texts at [] = at
 after_texts at (m ∷ more) = after_texts (at + 2) more
 
+-- its interfaces stand behind those
+abbrev pub interface_entries : ℕ → List (List ℕ) → List Const
+interface_entries at [] = []
+interface_entries at (name ∷ more) = Class (at + 1) ∷ Utf8 name ∷ interface_entries (at + 2) more
+
+abbrev pub interface_indices : ℕ → List (List ℕ) → List ℕ
+interface_indices at [] = []
+interface_indices at (name ∷ more) = at ∷ interface_indices (at + 2) more
+
 abbrev pub field_members : Sketch → List NameAndType
 field_members s = map (λ name. record { name = name; descriptor = codes "I" }) s.fields
+
+abbrev pub method_members : Sketch → List NameAndType
+method_members s = map (λ (r : Routine). r.member) s.routines
+
+-- the index of the first method's name, and that of the first interface
+abbrev pub first_method : Sketch → ℕ
+first_method s = after_texts 5 (field_members s)
+
+abbrev pub first_interface : Sketch → ℕ
+first_interface s = after_texts (first_method s) (method_members s)
+
+abbrev pub pool_by : Sketch → List Const
+pool_by s =
+    Gap ∷ Class 2 ∷ Utf8 s.name ∷ Class 4 ∷ Utf8 (unwrap_or s.above []) ∷ (
+    texts_of (field_members s) ++ texts_of (method_members s) ++ interface_entries (first_interface s) s.interfaces)
 
 abbrev pub class_file : Sketch → ClassFile
 class_file s = record {
   minor = 0;
   major = 50;
-  pool = Gap ∷ Class 2 ∷ Utf8 s.name ∷ Class 4 ∷ Utf8 (unwrap_or s.above []) ∷ (texts_of (field_members s) ++ texts_of (map (λ (r : Routine). r.member) s.routines));
+  pool = pool_by s;
   access = 33;
   this_class = 1;
   super_class = option_map_or (λ above. 3) s.above 0;
-  interfaces = [];
+  interfaces = interface_indices (first_interface s) s.interfaces;
   fields = fields_from 5 (field_members s);
-  methods = methods_from (after_texts 5 (field_members s)) s.routines;
+  methods = methods_from (first_method s) s.routines;
   attributes = [];
 }
 
--- ---- the classes that the rules and the handlers of worked runs speak of
+-- ---- the built-in classes, as far as the rules and the handlers of worked runs look at them
 
-abbrev pub plain_class : List ℕ → List ℕ → Sketch
-plain_class name above = record { name = name; above = Some above; fields = []; routines = [] }
+abbrev pub below : String → String → Sketch
+below name above = record { name = codes name; above = Some (codes above); interfaces = []; fields = []; routines = [] }
 
 abbrev pub object_name : List ℕ
 object_name = codes "java/lang/Object"
 
 abbrev pub library : List Sketch
-library = record { name = object_name; above = None; fields = []; routines = [] }
-    ∷ plain_class (codes "java/lang/Throwable") object_name
-    ∷ plain_class (codes "java/lang/Exception") (codes "java/lang/Throwable")
-    ∷ plain_class (codes "java/lang/RuntimeException") (codes "java/lang/Exception")
-    ∷ plain_class (codes "java/lang/NullPointerException") (codes "java/lang/RuntimeException")
-    ∷ plain_class (codes "java/lang/Error") (codes "java/lang/Throwable")
-    ∷ plain_class (codes "java/lang/LinkageError") (codes "java/lang/Error")
-    ∷ plain_class (codes "java/lang/NoClassDefFoundError") (codes "java/lang/LinkageError")
-    ∷ plain_class (codes "java/lang/ExceptionInInitializerError") (codes "java/lang/LinkageError")
-    ∷ plain_class (codes "java/lang/IncompatibleClassChangeError") (codes "java/lang/LinkageError")
-    ∷ plain_class (codes "java/lang/NoSuchFieldError") (codes "java/lang/IncompatibleClassChangeError")
-    ∷ plain_class (codes "java/lang/NoSuchMethodError") (codes "java/lang/IncompatibleClassChangeError") ∷ []
+library = record { name = object_name; above = None; interfaces = []; fields = []; routines = [] }
+    ∷ below "java/lang/Cloneable" "java/lang/Object"
+    ∷ below "java/io/Serializable" "java/lang/Object"
+    ∷ below "java/lang/Comparable" "java/lang/Object"
+    ∷ below "java/lang/Runnable" "java/lang/Object"
+    ∷ below "java/lang/CharSequence" "java/lang/Object"
+    ∷ below "java/lang/Class" "java/lang/Object"
+    ∷ below "java/lang/String" "java/lang/Object"
+    ∷ below "java/lang/StringBuilder" "java/lang/Object"
+    ∷ below "java/lang/StringBuffer" "java/lang/Object"
+    ∷ below "java/io/InputStream" "java/lang/Object"
+    ∷ below "java/io/PrintStream" "java/lang/Object"
+    ∷ below "java/lang/System" "java/lang/Object"
+    ∷ below "java/lang/Number" "java/lang/Object"
+    ∷ below "java/lang/Integer" "java/lang/Number"
+    ∷ below "java/lang/Long" "java/lang/Number"
+    ∷ below "java/lang/Character" "java/lang/Object"
+    ∷ below "java/lang/Boolean" "java/lang/Object"
+    ∷ below "java/lang/Math" "java/lang/Object"
+    ∷ below "java/lang/Enum" "java/lang/Object"
+    ∷ record (below "java/lang/Throwable" "java/lang/Object") { interfaces = codes "java/io/Serializable" ∷ [] }
+    ∷ below "java/lang/Exception" "java/lang/Throwable"
+    ∷ below "java/lang/Error" "java/lang/Throwable"
+    ∷ below "java/lang/RuntimeException" "java/lang/Exception"
+    ∷ below "java/lang/CloneNotSupportedException" "java/lang/Exception"
+    ∷ below "java/lang/ClassNotFoundException" "java/lang/Exception"
+    ∷ below "java/io/IOException" "java/lang/Exception"
+    ∷ below "java/lang/ArithmeticException" "java/lang/RuntimeException"
+    ∷ below "java/lang/ArrayStoreException" "java/lang/RuntimeException"
+    ∷ below "java/lang/ClassCastException" "java/lang/RuntimeException"
+    ∷ below "java/lang/IllegalArgumentException" "java/lang/RuntimeException"
+    ∷ below "java/lang/IllegalStateException" "java/lang/RuntimeException"
+    ∷ below "java/lang/IndexOutOfBoundsException" "java/lang/RuntimeException"
+    ∷ below "java/lang/NegativeArraySizeException" "java/lang/RuntimeException"
+    ∷ below "java/lang/NullPointerException" "java/lang/RuntimeException"
+    ∷ below "java/lang/UnsupportedOperationException" "java/lang/RuntimeException"
+    ∷ below "java/lang/NumberFormatException" "java/lang/IllegalArgumentException"
+    ∷ below "java/lang/ArrayIndexOutOfBoundsException" "java/lang/IndexOutOfBoundsException"
+    ∷ below "java/lang/StringIndexOutOfBoundsException" "java/lang/IndexOutOfBoundsException"
+    ∷ below "java/lang/AssertionError" "java/lang/Error"
+    ∷ below "java/lang/LinkageError" "java/lang/Error"
+    ∷ below "java/lang/VirtualMachineError" "java/lang/Error"
+    ∷ below "java/lang/NoClassDefFoundError" "java/lang/LinkageError"
+    ∷ below "java/lang/ExceptionInInitializerError" "java/lang/LinkageError"
+    ∷ below "java/lang/IncompatibleClassChangeError" "java/lang/LinkageError"
+    ∷ below "java/lang/ClassCircularityError" "java/lang/LinkageError"
+    ∷ below "java/lang/UnsatisfiedLinkError" "java/lang/LinkageError"
+    ∷ below "java/lang/AbstractMethodError" "java/lang/IncompatibleClassChangeError"
+    ∷ below "java/lang/InstantiationError" "java/lang/IncompatibleClassChangeError"
+    ∷ below "java/lang/NoSuchFieldError" "java/lang/IncompatibleClassChangeError"
+    ∷ below "java/lang/NoSuchMethodError" "java/lang/IncompatibleClassChangeError"
+    ∷ below "java/lang/OutOfMemoryError" "java/lang/VirtualMachineError"
+    ∷ below "java/lang/StackOverflowError" "java/lang/VirtualMachineError" ∷ []
+
+-- all of them, in their order
+pub library-names : map (λ (s : Sketch). s.name) library ≡ built_in_names
+library-names = refl
 
 -- ---- the program, and its text
 
@@ -178,7 +250,7 @@ initializer code = routine (member (codes "<clinit>") (codes "()V")) 1 0 code
 
 -- one class
 abbrev pub alone : List ℕ → List Routine → Sketch
-alone name routines = record { name = name; above = Some object_name; fields = []; routines = routines }
+alone name routines = record { name = name; above = Some object_name; interfaces = []; fields = []; routines = routines }
 
 -- ---- instructions
 

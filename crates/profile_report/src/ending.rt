@@ -55,7 +55,8 @@ fn push_unverifiable(
     method: u32,
     offset: u16,
 ) -> Result<(), NoMemory>
-    ensures { Adds result out.old.items out.new.items (unverifiable_text program.now method offset) }
+    ensures { let text = unverifiable_text program.now method offset in
+        Adds result out.old.items out.new.items text }
 {
     out.extend_from_slice(b"unverifiable ")?;
     push_place(alloc, out, program, method, offset)

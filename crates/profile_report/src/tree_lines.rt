@@ -44,7 +44,8 @@ fn push_line(
     node: Node,
     total: u64,
 ) -> Result<(), NoMemory>
-    ensures { OnOk result (out.new.items ≡ out.old.items ++ node_text program.now level node total) }
+    ensures { let text = node_text program.now level node total in
+        OnOk result (out.new.items ≡ out.old.items ++ text) }
 {
     push_indent(out, level)?;
     push_counts(out, node.calls, node.own, total)?;
@@ -65,7 +66,8 @@ fn push_node(
 ) -> Result<(), NoMemory>
     requires within { number < length tree.now.contexts }
     requires totals { totals.now ≡ totals_of tree.now }
-    ensures { Adds result out.old.items out.new.items (tree_line program.now tree.now level number) }
+    ensures { let text = tree_line program.now tree.now level number in
+        Adds result out.old.items out.new.items text }
 {
     let node = tree.nodes()[number];
     push_line(alloc, out, program, level, node, totals[number])
@@ -106,7 +108,8 @@ pub fn push_tree(
     program: &Program,
     tree: &Tree,
 ) -> Result<(), NoMemory>
-    ensures { OnOk result (out.new.items ≡ out.old.items ++ tree_text program.now tree.now.contexts) }
+    ensures { let text = tree_text program.now tree.now.contexts in
+        OnOk result (out.new.items ≡ out.old.items ++ text) }
 {
     let totals = tree.totals(alloc)?;
     out.extend_from_slice(b"tree\n")?;

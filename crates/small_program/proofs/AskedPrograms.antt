@@ -52,10 +52,9 @@ asked-of classes main plan p e =
     (behind (count_fault made) (with_main made plan (main_in made (length classes) main)) p
     (behind (classes_fault [] classes) (completed made (length classes) main plan) p e))
 
--- of a usual plan: no arguments, and the usual heap
+-- of a usual plan: no arguments, and a heap with room
 pub usual-args : (plan : Plan) (p : Program) → IsUsual plan → IsAsked plan.args (unwrap_or plan.heap 4194304) p → p.args ≡ []
 usual-args plan p usual asked = asked.args ∙ usual.args
 
 pub usual-heap : (plan : Plan) (p : Program) → IsUsual plan → IsAsked plan.args (unwrap_or plan.heap 4194304) p → 1024 ≤ p.heap
-usual-heap plan p usual asked =
-    subst (λ n. 1024 ≤ n) (sym (asked.heap ∙ ap (λ o. unwrap_or o 4194304) usual.heap)) (omega arith)
+usual-heap plan p usual asked = subst (λ n. 1024 ≤ n) (sym asked.heap) usual.heap
