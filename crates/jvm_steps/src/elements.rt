@@ -28,7 +28,7 @@ use std::alloc::Global;
 
 /// Where an array and an index lead: the array is null, or the object none that the instruction serves, or the index is
 /// outside, or it is that of an element.
-#[derive(Clone, Copy, Debug, PartialEq, Eq)]
+#[derive(Clone, Copy)]
 pub enum Led {
     ToNull,
     ToAnother,
@@ -37,14 +37,14 @@ pub enum Led {
 }
 
 /// An array and an index.
-#[derive(Clone, Copy, Debug, PartialEq, Eq)]
+#[derive(Clone, Copy)]
 pub struct Place {
     pub array: u32,
     pub index: i32,
 }
 
 /// What is stored, and where.
-#[derive(Clone, Copy, Debug, PartialEq, Eq)]
+#[derive(Clone, Copy)]
 pub struct Storing {
     pub place: Place,
     pub datum: Datum,

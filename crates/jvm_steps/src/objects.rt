@@ -16,7 +16,7 @@ use std::alloc::Global;
 const BUILT_IN: usize = 53;
 
 /// The number from which on kinds are arrays'.
-const ARRAY: u32 = 16_777_216;
+pub const ARRAY: u32 = 16_777_216;
 
 /// How many classes stand before the built-in ones.
 fn user_count(program: &Program) -> u32
