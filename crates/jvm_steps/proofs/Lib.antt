@@ -17,3 +17,4 @@ pub mod LineSteps
 pub mod Above
 pub mod OpenClasses
 pub mod ElementLemmas
+pub mod ElementActs

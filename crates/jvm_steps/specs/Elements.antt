@@ -10,6 +10,7 @@ use Rattle.jvm_model.specs.ObjectRules.{Access, ToNull, ToAnother, Outside, Insi
 use Rattle.jvm_model.specs.Values.{as_value}
 use Rattle.jvm_steps.specs.declared.elements.Led.{Led}
 use Rattle.jvm_steps.specs.declared.elements.Led.TheVariants as led
+use Rattle.jvm_steps.specs.declared.elements.Place.{Place}
 use Rattle.jvm_steps.specs.declared.elements.Storing.{Storing as TheStoring}
 use Rattle.jvm_steps.specs.declared.line.Line.{Line}
 use Rattle.jvm_steps.specs.Acts.{acts_asked}
@@ -20,8 +21,11 @@ access_of led.ToAnother = ToAnother
 access_of led.Outside = Outside
 access_of (led.Inside slot) = Inside slot
 
+abbrev pub place_by : Place → ℕ × ℤ
+place_by x = (x.array, x.index)
+
 abbrev pub storing_by : TheStoring → Storing
-storing_by x = record { array = x.array; index = x.index; datum = x.datum }
+storing_by x = record { array = x.place.array; index = x.place.index; datum = x.datum }
 
 -- the element to which the access leads
 abbrev pub element_at : Access → ℕ → HeapView → Option Datum

@@ -5,15 +5,13 @@ ghost use Rattle.jvm_model.specs.ObjectRules.{array_length};
 ghost use Rattle.jvm_steps.specs.Acts.{IsTop, Becomes, acts_arraylength, acts_newarray};
 
 use crate::line::Line;
+use crate::objects::ARRAY;
 use crate::originals::{Exception, Originals};
 use crate::parts::Parts;
 use crate::raising::{RESERVED, break_off, end_unless, raise};
 use heap_objects::{Datum, Heap, HeapError, Value};
 use jf_bytes::NoMemory;
 use jvm_basic::{int_of, ref_of, replace};
-
-/// The number from which on kinds are arrays'.
-const ARRAY: u32 = 16_777_216;
 
 /// The greatest int.
 const GREATEST: u32 = 2_147_483_647;

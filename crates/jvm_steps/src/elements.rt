@@ -10,7 +10,7 @@ ghost use Rattle.jvm_model.specs.ObjectRules.{access_to, index_in, place_of};
 ghost use Rattle.jvm_model.specs.ObjectRules.{serves, serves_object, storing_of};
 ghost use Rattle.jvm_steps.specs.Acts.{IsTop, Becomes, acts_load, acts_store, on_parts};
 ghost use Rattle.jvm_steps.specs.Elements.{access_of, acts_loaded, acts_refused, acts_stored};
-ghost use Rattle.jvm_steps.specs.Elements.{element_at, storing_by};
+ghost use Rattle.jvm_steps.specs.Elements.{element_at, place_by, storing_by};
 ghost use Rattle.jvm_steps.specs.States.{state_in};
 
 use crate::going::{datum_of, value_of};
@@ -28,7 +28,7 @@ use std::alloc::Global;
 
 /// Where an array and an index lead: the array is null, or the object none that the instruction serves, or the index is
 /// outside, or it is that of an element.
-#[derive(Clone, Copy, Debug, PartialEq, Eq)]
+#[derive(Clone, Copy)]
 pub enum Led {
     ToNull,
     ToAnother,
@@ -36,11 +36,17 @@ pub enum Led {
     Inside(u32),
 }
 
-/// An array, an index and what is stored there.
-#[derive(Clone, Copy, Debug, PartialEq, Eq)]
-pub struct Storing {
+/// An array and an index.
+#[derive(Clone, Copy)]
+pub struct Place {
     pub array: u32,
     pub index: i32,
+}
+
+/// What is stored, and where.
+#[derive(Clone, Copy)]
+pub struct Storing {
+    pub place: Place,
     pub datum: Datum,
 }
 
@@ -93,14 +99,14 @@ fn led_in(heap: &Heap, array: u32, index: i32) -> Led
 }
 
 /// Where an instruction of a kind is led.
-fn led_to(heap: &Heap, kind: Kind, array: u32, index: i32) -> Led
-    ensures { access_of result ≡ access_to kind array index heap.now }
+fn led_to(heap: &Heap, kind: Kind, place: &Place) -> Led
+    ensures { access_of result ≡ access_to kind place.now.array place.now.index heap.now }
 {
-    if array == 0 {
+    if place.array == 0 {
         return Led::ToNull;
     }
-    if serves_object(heap, kind, array) {
-        led_in(heap, array, index)
+    if serves_object(heap, kind, place.array) {
+        led_in(heap, place.array, place.index)
     } else {
         Led::ToAnother
     }
@@ -154,14 +160,14 @@ fn refuse(
 }
 
 /// The array and the index on top.
-fn place_of(frames: &Frames) -> Option<(u32, i32)>
-    ensures { result ≡ place_of (top_operands frames.now.frames) }
+fn place_of(frames: &Frames) -> Option<Place>
+    ensures { option_map place_by result ≡ place_of (top_operands frames.now.frames) }
 {
     let Some(Value::Int(index)) = frames.peek(0) else {
         return None;
     };
     match frames.peek(1) {
-        Some(Value::Ref(array)) => Some((array, index)),
+        Some(Value::Ref(array)) => Some(Place { array, index }),
         _ => None,
     }
 }
@@ -179,28 +185,27 @@ fn storing_of(frames: &Frames, kind: Kind) -> Option<Storing>
     };
     let datum = datum_of(kind, value)?;
     Some(Storing {
-        array,
-        index,
+        place: Place { array, index },
         datum,
     })
 }
 
 /// The element to which an instruction of a kind is led.
 #[tactic(auto, using(crate::proofs::ElementLemmas::element_in))]
-fn element_at(heap: &Heap, kind: Kind, array: u32, index: i32) -> Option<Datum>
-    ensures { let access = access_to kind array index heap.now in
-        result ≡ element_at access array heap.now }
+fn element_at(heap: &Heap, kind: Kind, place: &Place) -> Option<Datum>
+    ensures { let access = access_to kind place.now.array place.now.index heap.now in
+        result ≡ element_at access place.now.array heap.now }
 {
-    if array == 0 {
+    if place.array == 0 {
         return None;
     }
-    if !serves_object(heap, kind, array) {
+    if !serves_object(heap, kind, place.array) {
         return None;
     }
-    if index < 0 {
+    if place.index < 0 {
         return None;
     }
-    heap.get(array, index as u32)
+    heap.get(place.array, place.index as u32)
 }
 
 /// An element takes the place of its array and the index.
@@ -228,13 +233,13 @@ pub fn load_element(
     ensures state { Becomes result parts.new (acts_load originals.now line.now kind) parts.old }
     ensures phases { OnOk result (parts.new.shared.phases ≡ parts.old.shared.phases) }
 {
-    let Some((array, index)) = place_of(&parts.frames) else {
+    let Some(place) = place_of(&parts.frames) else {
         break_off(parts, method, line.instr.at);
         return Ok(());
     };
-    let Some(datum) = element_at(&parts.shared.heap, kind, array, index) else {
-        let led = led_to(&parts.shared.heap, kind, array, index);
-        return refuse(alloc, originals, parts, method, line, led, index);
+    let Some(datum) = element_at(&parts.shared.heap, kind, &place) else {
+        let led = led_to(&parts.shared.heap, kind, &place);
+        return refuse(alloc, originals, parts, method, line, led, place.index);
     };
     load(parts, method, line, datum);
     Ok(())
@@ -270,14 +275,15 @@ pub fn store_element(
         break_off(parts, method, line.instr.at);
         return Ok(());
     };
-    let led = led_to(&parts.shared.heap, kind, storing.array, storing.index);
+    let place = storing.place;
+    let led = led_to(&parts.shared.heap, kind, &place);
     let Led::Inside(slot) = led else {
-        return refuse(alloc, originals, parts, method, line, led, storing.index);
+        return refuse(alloc, originals, parts, method, line, led, place.index);
     };
     let program = originals.program();
-    if !fits_array(program, &parts.shared.heap, storing.datum, storing.array) {
+    if !fits_array(program, &parts.shared.heap, storing.datum, place.array) {
         return raise(originals, parts, Exception::ArrayStore);
     }
-    store(parts, method, line, storing.array, slot, storing.datum);
+    store(parts, method, line, place.array, slot, storing.datum);
     Ok(())
 }
