@@ -13,9 +13,9 @@ use crate::elements::{load_element, store_element};
 use crate::going::{drop_printed, printable, put_out};
 use crate::invoking::invoke_static;
 use crate::line::{Action, Line};
+use crate::monitors::watch;
 use crate::originals::{Exception, Originals};
 use crate::parts::{Parts, where_now};
-use crate::monitors::watch;
 use crate::raising::{break_off, end_unless, raise_with};
 use crate::returning::return_by;
 use crate::throwing::throw_object;
@@ -140,7 +140,8 @@ fn act(
     }
 }
 
-/// Attempts what stands at the current frame's place: its instruction alone, without what follows from it.
+/// Attempts what stands at the current frame's place: its instruction alone, without what follows
+/// from it.
 pub fn attempt(alloc: Global, originals: &Originals, parts: &mut Parts) -> Result<(), NoMemory>
     requires { fresh parts.old.shared.phases ≡ 0 }
     ensures state { let s = state_in parts.old in

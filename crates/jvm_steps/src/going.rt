@@ -74,7 +74,8 @@ pub fn value_of(datum: Datum) -> Value
     }
 }
 
-/// The datum that a value is, where a descriptor of this kind may have it: boolean, byte, char and short are ints.
+/// The datum that a value is, where a descriptor of this kind may have it: boolean, byte, char and
+/// short are ints.
 pub fn datum_of(kind: Kind, value: Value) -> Option<Datum>
     ensures { result ≡ datum_of kind value }
 {

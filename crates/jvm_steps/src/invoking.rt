@@ -34,7 +34,8 @@ fn is_of_kind(kind: Kind, value: Value) -> bool
     datum_of(kind, value).is_some()
 }
 
-/// Whether the topmost operands are as many as the parameters, each of its kind, the first parameter's the deepest.
+/// Whether the topmost operands are as many as the parameters, each of its kind, the first
+/// parameter's the deepest.
 fn are_of_kinds(params: &[Kind], frames: &Frames) -> bool
     requires { length params.now < 2 ^ 16 }
     ensures { result ≡ is_some (data_of params.now
@@ -97,8 +98,8 @@ fn may_begin(frames: &Frames) -> bool
     frames.depth() < MOST_LIVE
 }
 
-/// Begins a frame of a method on the current one, which gives it so many arguments. False, with nothing changed, where they
-/// are fewer or do not fit into the locals.
+/// Begins a frame of a method on the current one, which gives it so many arguments. False, with
+/// nothing changed, where they are fewer or do not fit into the locals.
 fn begin_frame(
     originals: &Originals,
     frames: &mut Frames,
@@ -135,7 +136,8 @@ fn begin_callee(originals: &Originals, frames: &mut Frames, method: u32) -> Resu
     begin_frame(originals, frames, method, params.len() as u16)
 }
 
-/// No more activation may be live: StackOverflowError is thrown at the caller, whose operands stay, if the arguments fit.
+/// No more activation may be live: where the arguments fit, StackOverflowError is thrown at the
+/// caller, whose operands stay.
 fn overflow(
     originals: &Originals,
     parts: &mut Parts,
@@ -207,7 +209,8 @@ fn raise_unusable(originals: &Originals, parts: &mut Parts, class: u32) -> Resul
     }
 }
 
-/// Invokes a static method of a class, where it has the method; the class is initialized, or is being.
+/// Invokes a static method of a class, where it has the method; the class is initialized, or is
+/// being.
 pub fn invoke_static(
     originals: &Originals,
     parts: &mut Parts,

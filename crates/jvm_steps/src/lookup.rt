@@ -3,7 +3,8 @@
 ghost use Rattle.std.specs.Prelude.{◌≡◌, ◌<◌, ◌^◌, length, position, IfSome};
 ghost use Rattle.std.specs.Option.{option_copied};
 ghost use Rattle.const_pool.specs.Members.{reference_view};
-ghost use Rattle.jvm_model.specs.Programs.{class_named, declared_method, has_name, name_at, number_from, same_place};
+ghost use Rattle.jvm_model.specs.Programs.{class_named, has_name, name_at};
+ghost use Rattle.jvm_model.specs.Programs.{declared_method, number_from, same_place};
 
 use crate::members::method_named;
 use const_pool::{ClassFile, MemberRef};

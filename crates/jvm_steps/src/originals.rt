@@ -1,4 +1,5 @@
-//! The original code of a program, prepared: what stands at each offset is looked up once, and found by its offset from then on.
+//! The original code of a program, prepared: what stands at each offset is looked up once, and is
+//! found by its offset from then on.
 
 ghost use Rattle.std.specs.Prelude.{◌≡◌, ◌<◌, ◌^◌, length, IfOk};
 ghost use Rattle.std.specs.Option.{option_copied, IfSome};
