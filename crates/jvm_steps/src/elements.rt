@@ -13,7 +13,7 @@ ghost use Rattle.jvm_steps.specs.Elements.{access_of, acts_loaded, acts_refused,
 ghost use Rattle.jvm_steps.specs.Elements.{element_at, place_by, storing_by};
 ghost use Rattle.jvm_steps.specs.States.{state_in};
 
-use crate::going::{datum_of, value_of};
+use crate::going::datum_of;
 use crate::kinds::fits_array;
 use crate::line::Line;
 use crate::originals::{Exception, Originals};
@@ -23,7 +23,7 @@ use const_pool::Kind;
 use frame_stack::Frames;
 use heap_objects::{Datum, Element, Heap, Value, element_of};
 use jf_bytes::{NoMemory, Seq};
-use jvm_basic::{drop_three, recall, replace_two};
+use jvm_basic::{drop_three, recall, replace_two, value_of};
 use std::alloc::Global;
 
 /// Where an array and an index lead: the array is null, or the object none that the instruction
