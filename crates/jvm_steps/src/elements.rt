@@ -13,7 +13,7 @@ ghost use Rattle.jvm_steps.specs.Elements.{access_of, acts_loaded, acts_refused,
 ghost use Rattle.jvm_steps.specs.Elements.{element_at, place_by, storing_by};
 ghost use Rattle.jvm_steps.specs.States.{state_in};
 
-use crate::going::{datum_of, value_of};
+use crate::going::datum_of;
 use crate::kinds::fits_array;
 use crate::line::Line;
 use crate::originals::{Exception, Originals};
@@ -23,11 +23,11 @@ use const_pool::Kind;
 use frame_stack::Frames;
 use heap_objects::{Datum, Element, Heap, Value, element_of};
 use jf_bytes::{NoMemory, Seq};
-use jvm_basic::{drop_three, recall, replace_two};
+use jvm_basic::{drop_three, recall, replace_two, value_of};
 use std::alloc::Global;
 
-/// Where an array and an index lead: the array is null, or the object none that the instruction serves, or the index is
-/// outside, or it is that of an element.
+/// Where an array and an index lead: the array is null, or the object none that the instruction
+/// serves, or the index is outside, or it is that of an element.
 #[derive(Clone, Copy)]
 pub enum Led {
     ToNull,
@@ -249,7 +249,8 @@ pub fn load_element(
 fn store(parts: &mut Parts, method: u32, line: &Line, array: u32, slot: u32, datum: Datum)
     requires top { IsTop method parts.old.frames.frames }
     requires slot { has_slot_at array slot parts.old.shared.heap ≡ true }
-    ensures state { state_in parts.new ≡ on_parts (acts_stored line.now array slot datum) parts.old }
+    ensures state { state_in parts.new
+        ≡ on_parts (acts_stored line.now array slot datum) parts.old }
     ensures phases { parts.new.shared.phases ≡ parts.old.shared.phases }
 {
     parts.shared.heap.put(array, slot, datum);

@@ -1,4 +1,5 @@
-//! monitorenter and monitorexit (JVM Specification 6.5): of one thread nothing but the null check is left.
+//! monitorenter and monitorexit (JVM Specification 6.5): of one thread nothing but the null check
+//! is left.
 
 ghost use Rattle.std.specs.Prelude.{◌≡◌, OnOk};
 ghost use Rattle.jvm_steps.specs.Acts.{IsTop, Becomes, acts_monitor};

@@ -45,7 +45,8 @@ fn make(heap: &mut Heap, kind: u32) -> Result<u32, NoMemory>
     }
 }
 
-/// Makes the text of a message and then the exception. There is room for both, so that nothing but memory can be wanting.
+/// Makes the text of a message and then the exception. Where there is room for both nothing but
+/// memory can be wanting.
 fn make_both(heap: &mut Heap, string: u32, kind: u32, message: &[u16]) -> Result<u32, HeapError>
     ensures heap { OnOk result (heap.new ≡ with_both string kind message.now heap.old) }
     ensures number { IfOk result (λ r. r ≡ next_number (with_text string message.now heap.old)) }
@@ -86,7 +87,8 @@ pub fn raise_with(
     exception: Exception,
     message: &[u16],
 ) -> Result<(), NoMemory>
-    ensures { OnOk result (parts.new ≡ raising originals.now exception (Some message.now) parts.old) }
+    ensures { let told = Some message.now in
+        OnOk result (parts.new ≡ raising originals.now exception told parts.old) }
 {
     let string = originals.string_kind();
     let kind = originals.kind_of(exception);
