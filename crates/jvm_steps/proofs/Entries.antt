@@ -1,5 +1,5 @@
 -- Methods that are prepared one by one give what the definitions look up there.
-use Rattle.std.proofs.Common.{◌≡◌, ℕ, ◌≤◌, ◌<◌, List, [], length, Option, Some, None, refl, sym, ap, ◌∙◌}
+use Rattle.std.proofs.Common.{◌≡◌, ℕ, ◌≤◌, ◌<◌, List, [], length, Option, Some, None, refl, ap, ◌∙◌}
 use Rattle.std.specs.Prelude.{◌^◌, map, slice_get}
 use Rattle.std.specs.Option.{option_map, option_map_or, option_and_then, option_flatten}
 use Rattle.std.proofs.lemmas.Option.{slice_get-map}
@@ -12,11 +12,10 @@ use Rattle.jvm_model.specs.declared.program.Program.{Program}
 use Rattle.jvm_model.specs.Methods.{code_of, method_code, method_params, member_shape}
 use Rattle.jvm_model.specs.Programs.{class_at}
 use Rattle.jvm_model.specs.SharedState.{kind_for, string}
-use Rattle.jvm_steps.specs.declared.line.Line.{Line}
 use Rattle.jvm_steps.specs.declared.originals.Exception.{Exception}
 use Rattle.jvm_steps.specs.declared.originals.Exceptions.{Exceptions}
 use Rattle.jvm_steps.specs.declared.originals.Method.{Method}
-use Rattle.jvm_steps.specs.Lines.{line_of, method_line}
+use Rattle.jvm_steps.specs.Lines.{method_line}
 use Rattle.jvm_steps.specs.Prepared.{IsPrepared, exception_in, exception_kind, line_in}
 use Rattle.jvm_steps.specs.Entries.{code_line, entry_of, no_method, entry_in, entry_at, lines_of}
 use Rattle.jvm_steps.proofs.Tabled.{tabled-place}

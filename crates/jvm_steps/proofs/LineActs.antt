@@ -1,6 +1,6 @@
 -- What a line does is what applies by the instruction that it stands for.
 use Rattle.std.proofs.Common.{◌≡◌, ℕ, Bool, true, false, cond, List, [], ◌∷◌, ◌++◌, Option, Some, None, refl, sym, ap, subst, ◌∙◌}
-use Rattle.std.specs.Prelude.{drop, nat_le, slice_get, length, ℤ, pos, negsuc, ◌+◌, ◌==◌}
+use Rattle.std.specs.Prelude.{nat_le, slice_get, length, ℤ, pos, negsuc, ◌+◌, ◌==◌}
 use Rattle.std.specs.Option.{option_and_then, option_map}
 use Rattle.std.proofs.lemmas.Bool.{false≢true}
 use Rattle.std.proofs.lemmas.List.{append-nil}
@@ -18,18 +18,18 @@ use Rattle.jvm_model.specs.declared.state.Phase.{Phase}
 use Rattle.jvm_model.specs.declared.state.Phase.TheVariants.{Fresh, Running, Ready, Erroneous}
 use Rattle.jvm_model.specs.declared.state.Shared.{Shared}
 use Rattle.jvm_model.specs.declared.state.State.{State}
-use Rattle.jvm_model.specs.Applies.{breaks, enters_subroutine, goes, throws_at, resumes, gives_back, applies}
+use Rattle.jvm_model.specs.Applies.{breaks, enters_subroutine, goes, resumes, gives_back, applies}
 use Rattle.jvm_model.specs.Data.{Locals, Operands, World, Text, Local, Nop, Constant, Load, Store, Arrange, BinaryOfInts, BinaryOfLongs, DivisionOfInts, DivisionOfLongs, ShiftOfLong, UnaryOfInt, UnaryOfLong, Lcmp, Iinc, Branch, Goto, Switch, Jsr, Ret, Return, Operation, Within, Getstatic, Putstatic, Invokestatic, Invokevirtual, Athrow, Monitor, Newarray, Arraylength, LoadElement, StoreElement, Instruction, Outcome, GoesOn, Subroutine, Invokes, Returns, Throws, Raises, Initializes, Exits, Breaks, Next, Target, Back, Done, Keys}
 use Rattle.jvm_model.specs.Lines.{ends, is_last, targets_of}
 use Rattle.jvm_model.specs.LocalRules.{arithmetic_exception, by_zero, divides_these, goes_if, holds, tests, switches_on, goes_back, replaces, returns, returns_datum, within}
 use Rattle.jvm_model.specs.Moves.{fresh}
 use Rattle.jvm_model.specs.Lookup.{is_below}
-use Rattle.jvm_model.specs.ObjectRules.{Access, ToNull, ToAnother, Outside, Inside, Storing, access_to, array_kind, array_length, done, fits_array, loads_at, loads_element, makes, makes_array, measures, place_of, stores_at, stores_element, storing_of, throws, watches}
+use Rattle.jvm_model.specs.ObjectRules.{Access, ToNull, ToAnother, Outside, Inside, Storing, access_to, array_kind, done, fits_array, loads_at, loads_element, makes, measures, place_of, stores_at, stores_element, storing_of, throws, watches}
 use Rattle.jvm_model.specs.Originals.{original}
-use Rattle.jvm_model.specs.Programs.{class_of_reference, declared_method, method_of_reference, name_at, params_of_method}
+use Rattle.jvm_model.specs.Programs.{class_of_reference, declared_method, name_at, params_of_method}
 use Rattle.jvm_model.specs.Rules.{is_out, is_println, is_print_stream, does, when_ready, missing_field, gets_field, invokes, invokes_method, invokes_with, invokes_static, line_text, prints}
 use Rattle.jvm_model.specs.Run.{starts}
-use Rattle.jvm_model.specs.SharedState.{class_of, field_of_reference, no_class_definition, no_such_method, phase_of, null_pointer, raised, throwable}
+use Rattle.jvm_model.specs.SharedState.{class_of, field_of_reference, no_class_definition, no_such_method, phase_of, null_pointer, throwable}
 use Rattle.jvm_model.specs.StackForms.{forms_of}
 use Rattle.jvm_model.specs.Values.{arguments, as_value, datum_of, loaded, local_in, int_of, ref_of, arranged, with_value}
 use Rattle.jvm_basic.specs.Rules.{goes_at, placed}
@@ -37,7 +37,7 @@ use Rattle.jvm_basic.proofs.Asked.{is_simple, pushes-simple, replaces-simple, le
 use Rattle.jvm_steps.specs.declared.line.Action.{Action}
 use Rattle.jvm_steps.specs.declared.line.Action.TheVariants as action
 use Rattle.jvm_steps.specs.declared.line.Line.{Line}
-use Rattle.jvm_steps.specs.Acts.{placed_line, comes_to, acts_alone, acts_asked, acts_done, acts_absent, acts_invokestatic, resumes_line, gives_back_line, returns_or_ends, acts_return, acts_out, prints_number, acts_println, acts_by, acts}
+use Rattle.jvm_steps.specs.Acts.{placed_line, comes_to, acts_alone, acts_asked, acts_done, acts_invokestatic, resumes_line, gives_back_line, returns_or_ends, acts_return, acts_out, prints_number, acts_println, acts_by, acts}
 use Rattle.jvm_steps.specs.Lines.{invokes_by, local_action, line_at}
 use Rattle.jvm_steps.proofs.Phases.{none-fresh}
 use Rattle.jvm_steps.proofs.Tied.{instruction_by, IsRuleOf, IsTied, Tie, tied-at}

@@ -11,7 +11,7 @@ use Rattle.jvm_model.specs.Methods.{method_code}
 use Rattle.jvm_model.specs.Programs.{class_at, place_of_method}
 use Rattle.jvm_steps.specs.declared.line.Action.{Action}
 use Rattle.jvm_steps.specs.declared.line.Line.{Line}
-use Rattle.jvm_steps.specs.Lines.{line_at, line_of, line_with, action_of}
+use Rattle.jvm_steps.specs.Lines.{line_at, line_with}
 
 abbrev KeepsFamily : Line → Type 0
 KeepsFamily l = l.family ≡ family_of l.instr.op

@@ -17,7 +17,7 @@ use Rattle.jvm_model.specs.declared.family.Family.TheVariants as family
 use Rattle.jvm_model.specs.declared.program.Program.{Program}
 use Rattle.jvm_model.specs.Data.{Locals, Operands, Local, Nop, Constant, Load, Store, Arrange, BinaryOfInts, BinaryOfLongs, DivisionOfInts, DivisionOfLongs, ShiftOfLong, UnaryOfInt, UnaryOfLong, Lcmp, Iinc, Branch, Goto, Switch, Jsr, Ret, Return, Operation, Within, Getstatic, Putstatic, Invokestatic, Invokevirtual, Athrow, Monitor, Newarray, Arraylength, LoadElement, StoreElement, Instruction}
 use Rattle.jvm_model.specs.Families.{family_of}
-use Rattle.jvm_model.specs.Lines.{value_in, slot_in, increment_in, target_in, keys_in, local_of, constant_in, getstatic_of, invokevirtual_of, pool_operation, ObjectRow, object_among, object_rows, newarray_of, other_operation, operation_by, is_last, next_of, targets_of, instruction_of}
+use Rattle.jvm_model.specs.Lines.{value_in, slot_in, increment_in, target_in, keys_in, local_of, constant_in, getstatic_of, invokevirtual_of, pool_operation, ObjectRow, object_among, object_rows, other_operation, operation_by, is_last, next_of, targets_of, instruction_of}
 use Rattle.jvm_model.specs.LocalRules.{within}
 use Rattle.jvm_model.specs.Methods.{method_code}
 use Rattle.jvm_model.specs.Originals.{original}

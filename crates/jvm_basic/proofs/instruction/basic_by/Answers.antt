@@ -1,5 +1,5 @@
 -- the rule of its family is the instruction's
-use Rattle.std.proofs.Common.{◌≡◌, ◌∙◌, ap}
+use Rattle.std.proofs.Common.{◌∙◌, ap}
 use Rattle.jvm_model.specs.Families.{family_of}
 use Rattle.jvm_basic.specs.Outcomes.{effect_of, after}
 use Rattle.jvm_basic.specs.Rules.{does}
