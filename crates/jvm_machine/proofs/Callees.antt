@@ -1,200 +1,55 @@
 -- The frame that begins on a caller is the one that a method begins with, where its arguments are data that fit.
-use Rattle.std.proofs.Common.{drop-cons, ◌≡◌, ◌≢◌, ℕ, zero, suc, ◌+◌, ◌-◌, ◌<◌, ◌≤◌, Bool, true, false, List, [], ◌∷◌, ◌++◌, length, drop, take, get_or, min, cond, Option, Some, None, refl, sym, ap, ◌∙◌, ⊎_elim, add-one, arith}
-use Rattle.std.specs.Prelude.{is_some, nat_le, slice_get, replicate, reverse, ◌&&◌}
-use Rattle.std.specs.Option.{option_and_then, option_map, option_map_or}
-use Rattle.std.proofs.lemmas.Bool.{cases_lt, lt-leb, le-leb}
-use Rattle.std.proofs.lemmas.List.{length-reverse, length-take, reverse-append, get_or-reverse, get_or-take}
-use Rattle.std.proofs.lemmas.Option.{same_Some, none-some, get_or_from_slice_get, slice_get-get_or, slice_get_within}
+use Rattle.std.proofs.Common.{◌≡◌, ℕ, suc, ◌-◌, ◌<◌, ◌≤◌, Bool, true, false, List, [], ◌∷◌, ◌++◌, length, drop, take, cond, Option, Some, None, refl, sym, ap, ◌∙◌, ⊎_elim}
+use Rattle.std.specs.Prelude.{is_some, map, nat_le, nat_lt, replicate, reverse, ◌&&◌}
+use Rattle.std.specs.Option.{option_map_or}
+use Rattle.std.proofs.lemmas.Bool.{cases_lt}
 use Rattle.heap_objects.specs.declared.datum.Datum.{Datum}
-use Rattle.heap_objects.specs.declared.datum.Datum.TheVariants as datum
 use Rattle.heap_objects.specs.declared.Value.{Value}
-use Rattle.heap_objects.specs.declared.Value.TheVariants.{Int, Long, Ref, Addr}
 use Rattle.const_pool.specs.declared.descriptor.Kind.{Kind}
-use Rattle.const_pool.specs.declared.descriptor.Kind.TheVariants as kind
-use Rattle.frame_stack.specs.Widths.{width, height_of, slots_of_all}
-use Rattle.frame_stack.specs.FrameLists.{PlacedFrame, FramesView, top_operands, can_enter}
-use Rattle.frame_stack.proofs.Passing.{get-none}
+use Rattle.frame_stack.specs.Widths.{height_of, slots_of_all}
+use Rattle.frame_stack.specs.FrameLists.{PlacedFrame}
 use Rattle.jvm_model.specs.declared.operation.Line.{Line}
-use Rattle.jvm_model.specs.Data.{Locals, Operands, Began, Turn}
+use Rattle.jvm_model.specs.Data.{Locals, Began, Turn, World}
 use Rattle.jvm_model.specs.Agreement.{first_place}
 use Rattle.jvm_model.specs.Programs.{max_locals_of, max_stack_of, params_of_method}
-use Rattle.jvm_model.specs.Values.{as_value, datum_of, data_of, spread}
+use Rattle.jvm_model.specs.Values.{data_of, spread}
 use Rattle.jvm_model.specs.Rules.{invokes_with, invokes as invokes_outcome}
-use Rattle.jvm_model.specs.Applies.{still, breaks, with_frame, applies}
-use Rattle.jvm_model.specs.Attempts.{has_begun}
+use Rattle.jvm_model.specs.Applies.{still, breaks, with_frame, live_in, most_live, applies}
 use Rattle.jvm_model.specs.Installed.{Installed, world_in, placed, tabled}
 use Rattle.jvm_steps.specs.declared.parts.Parts.{Parts}
-use Rattle.jvm_steps.specs.States.{frame_in, state_with, state_in}
+use Rattle.jvm_steps.specs.declared.originals.Exception.TheVariants.{StackOverflow}
+use Rattle.jvm_steps.specs.Acts.{raising}
+use Rattle.jvm_steps.specs.Arguments.{arguments_of, can_begin, fits_with, fits_params}
+use Rattle.jvm_steps.specs.Invoking.{may_begin}
+use Rattle.jvm_steps.specs.States.{active, frame_in, state_with, state_in}
+use Rattle.jvm_steps.proofs.Arguments.{spread-data, length-slots, height-reverse, enough-data}
+use Rattle.jvm_steps.proofs.Callees.{live-is, fits-nowhere}
 use Rattle.jvm_machine.specs.Going.{ended}
 use Rattle.jvm_machine.specs.Applied.{IsTop, invokes_on, invokes_here}
-use Rattle.jvm_machine.specs.Arguments.{arguments_of, can_begin, fits_with, fits_params, with_begun, with_callee}
-
--- ---- values of their parameters' kinds
-
--- such a value is its datum
-as_value-datum : (k : Kind) (v : Value) (d : Datum) → datum_of k v ≡ Some d → v ≡ as_value d
-as_value-datum kind.Int (Int n) d e = ap as_value (same_Some (datum.Int n) d e)
-as_value-datum kind.Bool (Int n) d e = ap as_value (same_Some (datum.Int n) d e)
-as_value-datum kind.Byte (Int n) d e = ap as_value (same_Some (datum.Int n) d e)
-as_value-datum kind.Char (Int n) d e = ap as_value (same_Some (datum.Int n) d e)
-as_value-datum kind.Short (Int n) d e = ap as_value (same_Some (datum.Int n) d e)
-as_value-datum kind.Long (Long n) d e = ap as_value (same_Some (datum.Long n) d e)
-as_value-datum kind.Ref (Ref r) d e = ap as_value (same_Some (datum.Ref r) d e)
-as_value-datum _ _ d e = absurd (none-some d e)
-
-spread-one : (d : Datum) (ds : List Datum) (vs : List Value) → spread ds ≡ slots_of_all vs → spread (d ∷ ds) ≡ slots_of_all (as_value d ∷ vs)
-spread-one (datum.Int n) ds vs e = ap (λ l. Some (Int n) ∷ l) e
-spread-one (datum.Long n) ds vs e = ap (λ l. Some (Long n) ∷ None ∷ l) e
-spread-one (datum.Ref r) ds vs e = ap (λ l. Some (Ref r) ∷ l) e
-
--- so the data take the locals that the values take
-spread-data : (ks : List Kind) (vs : List Value) (ds : List Datum) → data_of ks vs ≡ Some ds → spread ds ≡ slots_of_all vs
-spread-data [] [] ds e = ap spread (sym (same_Some [] ds e))
-spread-data [] (v ∷ vs) ds e = absurd (none-some ds e)
-spread-data (k ∷ ks) [] ds e = absurd (none-some ds e)
-spread-data (k ∷ ks) (v ∷ vs) ds e = by_first (datum_of k v) (data_of ks vs) refl (spread-data ks vs) e where
-  by_first : (first : Option Datum) (rest : Option (List Datum)) → datum_of k v ≡ first → ((xs : List Datum) → rest ≡ Some xs → spread xs ≡ slots_of_all vs)
-      → option_and_then (λ d. option_map (λ xs. d ∷ xs) rest) first ≡ Some ds → spread ds ≡ slots_of_all (v ∷ vs)
-  by_first None rest f r e = absurd (none-some ds e)
-  by_first (Some d) None f r e = absurd (none-some ds e)
-  by_first (Some d) (Some xs) f r e =
-      ap spread (sym (same_Some (d ∷ xs) ds e)) ∙ (spread-one d xs vs (r xs refl) ∙ ap (λ x. slots_of_all (x ∷ vs)) (sym (as_value-datum k v d f)))
-
--- as many values as parameters, or there are no such data
-pub data_of-unequal : (ks : List Kind) (vs : List Value) → length ks ≢ length vs → data_of ks vs ≡ None
-data_of-unequal [] [] ne = absurd (ne refl)
-data_of-unequal [] (v ∷ vs) ne = refl
-data_of-unequal (k ∷ ks) [] ne = refl
-data_of-unequal (k ∷ ks) (v ∷ vs) ne =
-    ap (λ rest. option_and_then (λ d. option_map (λ ds. d ∷ ds) rest) (datum_of k v)) (data_of-unequal ks vs (λ e. ne (ap suc e))) ∙ no_more (datum_of k v)
-  where
-    no_more : (o : Option Datum) → option_and_then (λ d. option_map (λ ds. d ∷ ds) (let rest : Option (List Datum) = None in rest)) o ≡ None
-    no_more None = refl
-    no_more (Some d) = refl
-
--- ---- slots and heights
-
-height-first : (v : Value) (vs : List Value) → length (slots_of_all (v ∷ vs)) ≡ width v + length (slots_of_all vs)
-height-first (Int n) vs = omega arith
-height-first (Long n) vs = omega arith
-height-first (Ref r) vs = omega arith
-height-first (Addr t) vs = omega arith
-
-length-slots : (vs : List Value) → length (slots_of_all vs) ≡ height_of vs
-length-slots [] = refl
-length-slots (v ∷ vs) = height-first v vs ∙ ap (λ n. width v + n) (length-slots vs)
-
-height-append : (xs ys : List Value) → height_of (xs ++ ys) ≡ height_of xs + height_of ys
-height-append [] ys = omega arith
-height-append (v ∷ xs) ys = let rest = height-append xs ys in omega (arith, rest)
-
-height-reverse : (vs : List Value) → height_of (reverse vs) ≡ height_of vs
-height-reverse [] = refl
-height-reverse (v ∷ vs) =
-    ap height_of (reverse-append (v ∷ []) vs) ∙ (height-append (reverse vs) (v ∷ []) ∙ (let rest = height-reverse vs in omega (arith, rest)))
-
-length-height : (vs : List Value) → length vs ≤ height_of vs
-length-height [] = omega arith
-length-height (v ∷ vs) = let rest = length-height vs in let one = positive v in omega (arith, rest, one)
-  where
-    positive : (v : Value) → 1 ≤ width v
-    positive (Int n) = omega arith
-    positive (Long n) = omega arith
-    positive (Ref r) = omega arith
-    positive (Addr t) = omega arith
-
--- so many arguments fit into fewer locals nowhere
-pub too-many : (most count : ℕ) (fs : List PlacedFrame) → most < count → can_enter most count fs ≡ false
-too-many most count fs over =
-    ⊎_elim
-    (λ (few : length (top_operands fs) < count). ap (λ b. b && nat_le (height_of (take count (top_operands fs))) most) (lt-leb _ _ few))
-    (λ (enough : count ≤ length (top_operands fs)).
-    let long = length-height (take count (top_operands fs)) in
-    let len : length (take count (top_operands fs)) ≡ min count (length (top_operands fs)) = length-take count (top_operands fs) in
-    ap (λ b. b && nat_le (height_of (take count (top_operands fs))) most) (le-leb _ _ enough) ∙ lt-leb _ _ (omega arith))
-    (cases_lt (length (top_operands fs)) count)
-
--- ---- the test of the values
-
--- all are of their kinds from here on, or from the next one on and here
-is_some-first : (o : Option Datum) (rest : Option (List Datum)) → is_some (option_and_then (λ d. option_map (λ ds. d ∷ ds) rest) o) ≡ cond (is_some o) (is_some rest) false
-is_some-first None rest = refl
-is_some-first (Some d) None = refl
-is_some-first (Some d) (Some ds) = refl
-
-pub data_of-next : (ks : List Kind) (vs : List Value) (i : ℕ) (k : Kind) (v : Value) → i < length ks → length ks ≡ length vs → k ≡ get_or ks i k → v ≡ get_or vs i v
-    → is_some (data_of (drop i ks) (drop i vs)) ≡ cond (is_some (datum_of k v)) (is_some (data_of (drop (i + 1) ks) (drop (i + 1) vs))) false
-data_of-next ks vs i k v lt same kis vis =
-    let ksplit : drop i ks ≡ k ∷ drop (i + 1) ks = drop-cons ks i k lt ∙ (ap (λ x. x ∷ drop (suc i) ks) (sym kis) ∙ ap (λ n. k ∷ drop n ks) (sym (add-one i))) in
-    let vsplit : drop i vs ≡ v ∷ drop (i + 1) vs = drop-cons vs i v (omega arith) ∙ (ap (λ x. x ∷ drop (suc i) vs) (sym vis) ∙ ap (λ n. v ∷ drop n vs) (sym (add-one i))) in
-    ap (λ x. is_some (data_of x (drop i vs))) ksplit
-    ∙ (ap (λ y. is_some (data_of (k ∷ drop (i + 1) ks) y)) vsplit
-    ∙ is_some-first (datum_of k v) (data_of (drop (i + 1) ks) (drop (i + 1) vs)))
-
--- the i-th argument, by how many operands are above it
-argument-at : (o : Operands) (n i : ℕ) (v : Value) → slice_get o (n - 1 - i) ≡ Some v → i < n → n ≤ length o → v ≡ get_or (reverse (take n o)) i v
-argument-at o n i v e lt enough =
-    let len : length (take n o) ≡ n = length-take n o ∙ (let m : min n (length o) ≡ n = omega arith in m) in
-    sym
-    (get_or-reverse (take n o) i v (omega arith)
-    ∙ (ap (λ m. get_or (take n o) (m - 1 - i) v) len
-    ∙ (get_or-take n o (n - 1 - i) v (omega arith)
-    ∙ get_or_from_slice_get o (n - 1 - i) v v e)))
-
--- an operand that was found among so many; a deeper one was found before it
-pub enough-found : (o : Operands) (n i : ℕ) (v : Value) → slice_get o (n - 1 - i) ≡ Some v → i < n → (0 < i → n ≤ length o) → n ≤ length o
-enough-found o n zero v e lt before = let within = slice_get_within o (n - 1 - 0) v e in omega arith
-enough-found o n (suc i) v e lt before = before (omega arith)
-
--- the test of one more parameter; a list has it at its place
-kinds-next : (ks : List Kind) (o : Operands) (i : ℕ) (d : Kind) (v : Value) → i < length ks → (0 < i → length ks ≤ length o) → slice_get o (length ks - 1 - i) ≡ Some v
-    → is_some (data_of (drop i ks) (drop i (reverse (take (length ks) o))))
-    ≡ cond (is_some (datum_of (get_or ks i d) v)) (is_some (data_of (drop (i + 1) ks) (drop (i + 1) (reverse (take (length ks) o))))) false
-kinds-next ks o i d v lt before e =
-    let enough = enough-found o (length ks) i v e lt before in
-    let len : length ks ≡ length (reverse (take (length ks) o)) =
-    sym (length-reverse (take (length ks) o) ∙ (length-take (length ks) o ∙ (let m : min (length ks) (length o) ≡ length ks = omega arith in m))) in
-    data_of-next ks (reverse (take (length ks) o)) i (get_or ks i d) v lt len
-    (sym (get_or_from_slice_get ks i (get_or ks i d) (get_or ks i d) (slice_get-get_or ks i d lt)))
-    (argument-at o (length ks) i v e lt enough)
-
-pub kinds-by : (ks : List Kind) (o : Operands) (i : ℕ) (d : Kind) (v : Value) (b : Bool) → i < length ks → (0 < i → length ks ≤ length o) → slice_get o (length ks - 1 - i) ≡ Some v
-    → is_some (datum_of (get_or ks i d) v) ≡ b
-    → is_some (data_of (drop i ks) (drop i (reverse (take (length ks) o)))) ≡ cond b (is_some (data_of (drop (i + 1) ks) (drop (i + 1) (reverse (take (length ks) o))))) false
-kinds-by ks o i d v b lt before e is =
-    kinds-next ks o i d v lt before e ∙ ap (λ x. cond x (is_some (data_of (drop (i + 1) ks) (drop (i + 1) (reverse (take (length ks) o))))) false) is
-
--- one is missing
-pub kinds-missing : (ks : List Kind) (o : Operands) (i : ℕ) → i < length ks → slice_get o (length ks - 1 - i) ≡ None → is_some (data_of ks (reverse (take (length ks) o))) ≡ false
-kinds-missing ks o i lt e =
-    let few = get-none o (length ks - 1 - i) e in
-    let len : length (reverse (take (length ks) o)) ≡ min (length ks) (length o) = length-reverse (take (length ks) o) ∙ length-take (length ks) o in
-    ap is_some (data_of-unequal ks (reverse (take (length ks) o)) (λ same. absurd (omega arith)))
-
--- ---- the callee
-
--- so many operands are there as there are data
-enough-data : (ks : List Kind) (o : Operands) (args : List Datum) → data_of ks (reverse (take (length ks) o)) ≡ Some args → nat_le (length ks) (length o) ≡ true
-enough-data ks o args e =
-    ⊎_elim
-    (λ (few : length o < length ks).
-    let values : List Value = reverse (take (length ks) o) in
-    let len : length values ≡ min (length ks) (length o) = length-reverse (take (length ks) o) ∙ length-take (length ks) o in
-    absurd (none-some args (sym (data_of-unequal ks values (λ same. absurd (omega arith))) ∙ e)))
-    (λ (enough : length ks ≤ length o). le-leb _ _ enough)
-    (cases_lt (length o) (length ks))
+use Rattle.jvm_machine.specs.Arguments.{with_begun, with_callee}
 
 module _ (t : Installed) (line : Line) (callee : ℕ) (p : Parts) (f : PlacedFrame) (fs : List PlacedFrame) where
+  abbrev w : World
+  w = world_in t
+
   abbrev most : ℕ
-  most = max_locals_of (world_in t) callee
+  most = max_locals_of w callee
 
   abbrev taken : ℕ → List Value
   taken count = take count f.operands
+
+  -- the limit of live activations, as the model has it
+  abbrev few_live : Bool
+  few_live = nat_lt (suc (live_in (map active fs))) most_live
+
+  abbrev overflows : Turn
+  overflows = still (state_with (f ∷ fs) (raising w StackOverflow None p))
 
   -- the turn where the callee begins with these locals, if they are so many at most
   abbrev turn_with : ℕ → ℕ → Locals → Turn
   turn_with count depth locals =
       cond (nat_le depth most)
+      (cond few_live
       (record {
         after = with_frame (with_frame (state_with fs p) (record (frame_in f) { operands = drop count f.operands })) (record {
           method = callee;
@@ -203,20 +58,22 @@ module _ (t : Installed) (line : Line) (callee : ℕ) (p : Parts) (f : PlacedFra
           locals = locals ++ replicate (most - depth) None;
           operands = [];
           max_locals = most;
-          max_stack = max_stack_of (world_in t) callee;
+          max_stack = max_stack_of w callee;
         });
         changes = Began callee ∷ [];
       })
+      overflows)
       (still (breaks (state_with fs p) (frame_in f) line.own))
 
   abbrev told_with : Bool → ℕ → Turn
   told_with b count =
-      cond b (record { after = state_with (with_begun true t callee count (f ∷ fs)) p; changes = Began callee ∷ [] })
+      cond b
+      (cond few_live (record { after = state_with (with_begun true t callee count (f ∷ fs)) p; changes = Began callee ∷ [] }) overflows)
       (still (state_with (f ∷ fs) (ended f.method line.own p)))
 
   by_data : (ks : List Kind) (args : Option (List Datum)) → data_of ks (reverse (taken (length ks))) ≡ args
-      → applies (world_in t) (tabled t) (placed line) (invokes_outcome callee (length ks) args f.operands) (state_with fs p) (frame_in f)
-      ≡ told_with (is_some args && can_begin t callee (length ks) (f ∷ fs)) (length ks)
+      → applies w (tabled t) (placed line) (invokes_outcome callee (length ks) args f.operands) (state_with fs p) (frame_in f)
+      ≡ told_with (is_some args && can_begin w callee (length ks) (f ∷ fs)) (length ks)
   by_data ks None e = refl
   by_data ks (Some args) e =
       let values : List Value = reverse (taken (length ks)) in
@@ -227,51 +84,50 @@ module _ (t : Installed) (line : Line) (callee : ℕ) (p : Parts) (f : PlacedFra
       ∙ ap (λ b. told_with (b && nat_le (height_of (taken (length ks))) most) (length ks)) (sym (enough-data ks f.operands args e)))
 
   by_params : (params : Option (List Kind))
-      → applies (world_in t) (tabled t) (placed line) (invokes_with callee params f.operands) (state_with fs p) (frame_in f)
-      ≡ told_with (fits_with t callee (f ∷ fs) params) (option_map_or length params 0)
+      → applies w (tabled t) (placed line) (invokes_with callee params f.operands) (state_with fs p) (frame_in f)
+      ≡ told_with (fits_with w callee (f ∷ fs) params) (option_map_or length params 0)
   by_params None = refl
   by_params (Some ks) = by_data ks (data_of ks (reverse (taken (length ks)))) refl
 
--- where the arguments are there and fit the callee begins; else the run ends
-abbrev pub invoked : Installed → Line → ℕ → ℕ → Parts → List PlacedFrame → Bool → Turn
-invoked t line method callee p fs b =
-    cond b (record { after = state_with (with_callee true t callee fs) p; changes = Began callee ∷ [] }) (still (state_with fs (ended method line.own p)))
+-- where the arguments are there and fit the callee begins, or is one too many; else the run ends
+abbrev pub invoked : Installed → Line → ℕ → ℕ → Parts → List PlacedFrame → Bool → Bool → Turn
+invoked t line method callee p fs few b =
+    cond b
+    (cond few (record { after = state_with (with_callee t callee fs) p; changes = Began callee ∷ [] }) (still (state_with fs (raising (world_in t) StackOverflow None p))))
+    (still (state_with fs (ended method line.own p)))
 
-pub invokes-is : (t : Installed) (line : Line) (method callee : ℕ) (p : Parts) (fs : List PlacedFrame) → IsTop method fs
-    → invokes_on t line callee p fs ≡ invoked t line method callee p fs (fits_params t callee fs)
+invokes-is : (t : Installed) (line : Line) (method callee : ℕ) (p : Parts) (fs : List PlacedFrame) → IsTop method fs
+    → invokes_on t line callee p fs ≡ invoked t line method callee p fs (may_begin fs) (fits_params (world_in t) callee fs)
 invokes-is t line method callee p [] top = absurd top
 invokes-is t line method callee p (f ∷ fs) top =
-    by_params t line callee p f fs (params_of_method t.program callee) ∙ ap (λ m. invoked t line m callee p (f ∷ fs) (fits_params t callee (f ∷ fs))) (sym top)
+    by_params t line callee p f fs (params_of_method t.program callee)
+    ∙ (ap (λ n. invoked t line f.method callee p (f ∷ fs) (nat_lt (suc n) most_live) (fits_params (world_in t) callee (f ∷ fs))) (live-is fs)
+    ∙ ap (λ m. invoked t line m callee p (f ∷ fs) (may_begin (f ∷ fs)) (fits_params (world_in t) callee (f ∷ fs))) (sym top))
 
--- what the code has done, by whether the callee began
-pub record IsInvoked (t : Installed) (line : Line) (method callee : ℕ) (p : Parts) (frames : FramesView) (b : Bool) : Type 0 where
-  pub ends : b ≡ false → state_in (ended method line.own (record p { frames = frames })) ≡ (invokes_here t line callee p).after
-  pub begins : b ≡ true → state_in (record p { frames = frames }) ≡ (invokes_here t line callee p).after
-  pub tells : b ≡ has_begun (invokes_here t line callee p).changes
+-- by whether there is room for one more, and the callee's arguments fit, as the code has found
+pub invokes-by : (t : Installed) (line : Line) (method callee : ℕ) (p : Parts) (w : World) (few b : Bool) → IsTop method p.frames.frames → w ≡ world_in t
+    → may_begin p.frames.frames ≡ few → fits_params w callee p.frames.frames ≡ b → invokes_here t line callee p ≡ invoked t line method callee p p.frames.frames few b
+invokes-by t line method callee p w few b top of may fits =
+    invokes-is t line method callee p p.frames.frames top
+    ∙ (ap (λ x. invoked t line method callee p p.frames.frames x (fits_params (world_in t) callee p.frames.frames)) may
+    ∙ (ap (λ x. invoked t line method callee p p.frames.frames few (fits_params x callee p.frames.frames)) (sym of)
+    ∙ ap (λ x. invoked t line method callee p p.frames.frames few x) fits))
 
-pub is-invoked : (t : Installed) (line : Line) (method callee : ℕ) (p : Parts) (frames : FramesView) (b : Bool) → IsTop method p.frames.frames
-    → b ≡ fits_params t callee p.frames.frames → frames.frames ≡ with_callee b t callee p.frames.frames → IsInvoked t line method callee p frames b
-is-invoked t line method callee p frames b top fits made =
-    let told : Bool → Turn = invoked t line method callee p p.frames.frames in
-    let turn : invokes_here t line callee p ≡ told b = invokes-is t line method callee p p.frames.frames top ∙ ap told (sym fits) in
-    record {
-      ends = λ e. ap (λ fs. state_with fs (ended method line.own p)) (made ∙ ap (λ x. with_callee x t callee p.frames.frames) e) ∙ sym (ap (λ (a : Turn). a.after) (turn ∙ ap told e));
-      begins = λ e. ap (λ fs. state_with fs p) (made ∙ ap (λ x. with_callee x t callee p.frames.frames) e) ∙ sym (ap (λ (a : Turn). a.after) (turn ∙ ap told e));
-      tells = sym (ap (λ (a : Turn). has_begun a.changes) turn ∙ begun b);
-    }
-  where
-    begun : (b : Bool) → has_begun (invoked t line method callee p p.frames.frames b).changes ≡ b
-    begun true = refl
-    begun false = refl
+-- ---- arguments that fit
 
--- more parameters than locals
-pub fits-nowhere : (t : Installed) (callee : ℕ) (fs : List PlacedFrame) (ks : List Kind) → params_of_method t.program callee ≡ Some ks → max_locals_of (world_in t) callee < length ks
-    → fits_params t callee fs ≡ false
-fits-nowhere t callee fs ks known over =
-    ap (fits_with t callee fs) known
-    ∙ (ap (λ b. is_some (data_of ks (arguments_of (length ks) fs)) && b) (too-many (max_locals_of (world_in t) callee) (length ks) fs over)
-    ∙ never (is_some (data_of ks (arguments_of (length ks) fs))))
-  where
-    never : (b : Bool) → (b && false) ≡ false
-    never true = refl
-    never false = refl
+-- they are no more than the locals
+pub fits-within : (w : World) (callee : ℕ) (fs : List PlacedFrame) (ks : List Kind) → params_of_method w.program callee ≡ Some ks → fits_params w callee fs ≡ true
+    → length ks ≤ max_locals_of w callee
+fits-within w callee fs ks known fits =
+    ⊎_elim
+    (λ (over : max_locals_of w callee < length ks). absurd (let e : true ≡ false = sym fits ∙ fits-nowhere w callee fs ks known over in cc))
+    (λ (within : length ks ≤ max_locals_of w callee). within)
+    (cases_lt (max_locals_of w callee) (length ks))
+
+-- and the frame begins
+pub fits-begins : (w : World) (callee : ℕ) (fs : List PlacedFrame) (ks : List Kind) → params_of_method w.program callee ≡ Some ks → fits_params w callee fs ≡ true
+    → can_begin w callee (length ks) fs ≡ true
+fits-begins w callee fs ks known fits = by (is_some (data_of ks (arguments_of (length ks) fs))) (sym (ap (fits_with w callee fs) known) ∙ fits) where
+  by : (b : Bool) → (b && can_begin w callee (length ks) fs) ≡ true → can_begin w callee (length ks) fs ≡ true
+  by true e = e
+  by false e = absurd cc

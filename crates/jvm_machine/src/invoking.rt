@@ -1,94 +1,61 @@
 //! Invocation (JVM Specification 2.6, 2.6.1, 2.6.4).
 
-ghost use Rattle.std.specs.Prelude.{◌≡◌, ◌<◌, ◌^◌, length, is_some, IfOk};
-ghost use Rattle.jvm_machine.specs.Arguments.{with_callee};
-ghost use Rattle.jvm_model.specs.Values.{datum_of, data_of};
+ghost use Rattle.std.specs.Prelude.{◌≡◌, ◌≤◌, true, IfOk, OnOk};
+ghost use Rattle.jvm_model.specs.Installed.{world_in};
+ghost use Rattle.jvm_model.specs.Programs.{max_locals_of};
+ghost use Rattle.jvm_steps.specs.Arguments.{can_begin, fits_params};
+ghost use Rattle.jvm_steps.specs.Invoking.{may_begin};
 ghost use Rattle.jvm_machine.specs.Applied.{Becomes, TellsBegun, IsTop, invokes_here};
-ghost use Rattle.jvm_machine.specs.Arguments.{arguments_of, can_begin, with_begun, fits_params};
+ghost use Rattle.jvm_machine.specs.Arguments.{with_begun, with_callee};
 
 use crate::applying::break_off;
 use crate::tables::Tables;
-use const_pool::Kind;
 use frame_stack::Frames;
-use heap_objects::Value;
 use jf_bytes::NoMemory;
 use jvm_model::Line;
-use jvm_steps::Parts;
+use jvm_steps::{Exception, Parts, fits_params, may_begin, raise};
 
-/// Whether an argument of this kind may be the value: boolean, byte, char and short are ints.
-fn is_of_kind(kind: Kind, value: Value) -> bool
-    ensures { result ≡ is_some (datum_of kind value) }
-{
-    match (kind, value) {
-        (Kind::Int | Kind::Bool | Kind::Byte | Kind::Char | Kind::Short, Value::Int(_)) => true,
-        (Kind::Long, Value::Long(_)) => true,
-        (Kind::Ref, Value::Ref(_)) => true,
-        _ => false,
-    }
-}
-
-/// Whether the topmost operands are as many as the parameters, each of its kind, the first parameter's the deepest.
-fn are_of_kinds(params: &[Kind], frames: &Frames) -> bool
-    requires { length params.now < 2 ^ 16 }
-    ensures { result ≡ is_some (data_of params.now
-        (arguments_of (length params.now) frames.now.frames)) }
-{
-    let count = params.len();
-    for i in 0..count {
-        let Some(value) = frames.peek((count - 1 - i) as u16) else {
-            return false;
-        };
-        if !is_of_kind(params[i], value) {
-            return false;
-        }
-    }
-    true
-}
-
-/// Begins a frame of a method on the current one, which gives it so many arguments. False, with nothing changed, where they
-/// are fewer or do not fit into the locals. There are fewer than 2^32 frames, or memory runs out.
+/// Begins a frame of a method on the current one, which gives it so many arguments. False, with
+/// nothing changed, where they are fewer or do not fit into the locals.
 pub fn begin_frame(
     tables: &Tables,
     frames: &mut Frames,
     method: u32,
-    args: u16,
+    args: usize,
 ) -> Result<bool, NoMemory>
-    ensures answer { IfOk result (λ b. b ≡ can_begin tables.now method args frames.old.frames) }
+    requires few { may_begin frames.old.frames ≡ true }
+    requires args { args ≤ max_locals_of (world_in tables.now) method }
+    ensures answer { IfOk result (λ b. b ≡
+        can_begin (world_in tables.now) method args frames.old.frames) }
     ensures frames { IfOk result (λ b. frames.new.frames ≡
         with_begun b tables.now method args frames.old.frames) }
 {
     let max_locals = tables.max_locals(method);
     let max_stack = tables.max_stack(method);
-    if frames.depth() == u32::MAX {
-        return Err(NoMemory);
-    }
     frames.reserve(max_locals, max_stack)?;
-    if !frames.enter(method as usize, method, max_locals, max_stack, args) {
+    if !frames.enter(method as usize, method, max_locals, max_stack, args as u16) {
         return Ok(false);
     }
     frames.go(tables.first(method));
     Ok(true)
 }
 
-/// Begins a method, where its arguments are there and fit.
-fn begin_callee(tables: &Tables, frames: &mut Frames, method: u32) -> Result<bool, NoMemory>
-    ensures answer { IfOk result (λ b. b ≡ fits_params tables.now method frames.old.frames) }
-    ensures frames { IfOk result (λ b. frames.new.frames ≡
-        with_callee b tables.now method frames.old.frames) }
+/// Begins a method, whose arguments are there and fit.
+fn begin_callee(tables: &Tables, frames: &mut Frames, method: u32) -> Result<(), NoMemory>
+    requires few { may_begin frames.old.frames ≡ true }
+    requires fits { fits_params (world_in tables.now) method frames.old.frames ≡ true }
+    ensures { OnOk result
+        (frames.new.frames ≡ with_callee tables.now method frames.old.frames) }
 {
     let Some(params) = tables.params(method) else {
-        return Ok(false);
+        return Ok(());
     };
-    if params.len() > tables.max_locals(method) as usize {
-        return Ok(false);
-    }
-    if !are_of_kinds(params.as_slice(), frames) {
-        return Ok(false);
-    }
-    begin_frame(tables, frames, method, params.len() as u16)
+    begin_frame(tables, frames, method, params.len())?;
+    Ok(())
 }
 
-/// Begins a method: its caller stays at the instruction without the arguments. Answers whether it began.
+/// Begins a method, unless that were one activation too many: its caller stays at the instruction
+/// without the arguments. Answers whether it began.
 pub fn invoke(
     tables: &Tables,
     parts: &mut Parts,
@@ -100,9 +67,15 @@ pub fn invoke(
     ensures state { Becomes result parts.new (invokes_here tables.now line callee parts.old) }
     ensures begun { TellsBegun result (invokes_here tables.now line callee parts.old) }
 {
-    let begun = begin_callee(tables, &mut parts.frames, callee)?;
-    if !begun {
+    let originals = tables.originals();
+    if !fits_params(originals, &parts.frames, callee) {
         break_off(parts, method, line.own);
+        return Ok(false);
     }
-    Ok(begun)
+    if !may_begin(&parts.frames) {
+        raise(originals, parts, Exception::StackOverflow)?;
+        return Ok(false);
+    }
+    begin_callee(tables, &mut parts.frames, callee)?;
+    Ok(true)
 }

@@ -3,7 +3,7 @@
 ghost use Rattle.std.specs.Prelude.{◌≡◌, ◌<◌, ◌^◌, length};
 ghost use Rattle.const_pool.specs.Members.{reference_view};
 ghost use Rattle.std.specs.Option.{option_and_then};
-ghost use Rattle.jvm_model.specs.Lines.{constant_in, pool_operation, named_operation};
+ghost use Rattle.jvm_model.specs.Lines.{constant_in, pool_operation, other_operation};
 ghost use Rattle.const_pool.specs.declared.class.ClassFile.{ClassFile as Class};
 ghost use Rattle.jvm_model.specs.Resolved.{own_method, resolved_constant, resolved_binary};
 ghost use Rattle.jvm_model.specs.Resolved.{resolved_in, resolved_of};
@@ -123,14 +123,17 @@ fn pool_operation(class: &ClassFile, op: u8, index: u16) -> Option<Resolved>
     }
 }
 
-/// What an instruction does that names a member.
-fn named_operation(class: &ClassFile, op: u8, arg: &Arg) -> Option<Resolved>
+/// What an instruction of no family does: of those, the part that runs so far has only such with names.
+fn other_operation(class: &ClassFile, op: u8, arg: &Arg) -> Option<Resolved>
     requires { length class.now.methods < 2 ^ 32 }
     ensures { let operation = other_operation class.now op arg.now in
         result ≡ option_and_then (resolved_in class.now) operation }
 {
     match arg {
         Arg::Pool(index) => pool_operation(class, op, *index),
+        // newarray, and those that see objects
+        Arg::Array(_) => None,
+        Arg::Plain => None,
         _ => None,
     }
 }
@@ -141,7 +144,7 @@ pub fn resolved_of(class: &ClassFile, instr: &Instr) -> Option<Resolved>
     ensures { result ≡ resolved_of class.now instr.now }
 {
     match family_of(instr.op) {
-        Family::Elsewhere => named_operation(class, instr.op, &instr.arg),
+        Family::Elsewhere => other_operation(class, instr.op, &instr.arg),
         family => local_operation(family, &class.pool, &instr.arg),
     }
 }

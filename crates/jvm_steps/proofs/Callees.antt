@@ -97,7 +97,7 @@ pub came-to : (result : Result (Unit {0}) NoMemory) (new done : Parts) (state : 
     → OnOk result (state_in new ≡ state)
 came-to result new done state same made = on_ok_weaker result (λ (e : new ≡ done). ap state_in e ∙ same) made
 
-live-is : (fs : List PlacedFrame) → live_in (map active fs) ≡ length fs
+pub live-is : (fs : List PlacedFrame) → live_in (map active fs) ≡ length fs
 live-is [] = refl
 live-is (f ∷ fs) = ap suc (live-is fs)
 

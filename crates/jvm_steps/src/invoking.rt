@@ -73,7 +73,7 @@ fn slots_for(params: &[Kind]) -> usize
 }
 
 /// Whether a method's arguments are there and fit into its locals.
-fn fits_params(originals: &Originals, frames: &Frames, method: u32) -> bool
+pub fn fits_params(originals: &Originals, frames: &Frames, method: u32) -> bool
     ensures { result ≡ fits_params originals.now method frames.now.frames }
 {
     let Some(params) = originals.params(method) else {
@@ -92,7 +92,7 @@ fn fits_params(originals: &Originals, frames: &Frames, method: u32) -> bool
 // ---- a method begins
 
 /// Whether one more activation may be live.
-fn may_begin(frames: &Frames) -> bool
+pub fn may_begin(frames: &Frames) -> bool
     ensures { result ≡ may_begin frames.now.frames }
 {
     frames.depth() < MOST_LIVE

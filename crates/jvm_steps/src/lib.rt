@@ -28,10 +28,12 @@ mod supertypes;
 mod throwing;
 
 pub use descriptor::shape_of;
+pub use invoking::{fits_params, may_begin};
 pub use line::{Action, Line};
 pub use members::{code_of, field_at, is_out, is_println, is_reference, method_at, method_named};
 pub use originals::{Exception, Originals};
 pub use parts::{Here, Parts, where_now};
+pub use raising::raise;
 pub use settling::settle;
 pub use starting::{make_ready, parts_before, start};
 pub use stepping::step;
