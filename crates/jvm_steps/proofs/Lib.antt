@@ -14,3 +14,5 @@ mod Actions
 pub mod LineActs
 pub mod LineSteps
 pub mod OpenClasses
+pub mod Leading
+mod PlainSteps

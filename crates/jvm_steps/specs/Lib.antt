@@ -9,3 +9,4 @@ pub mod Before
 pub mod Arguments
 pub mod Invoking
 pub mod Entries
+pub mod Runs

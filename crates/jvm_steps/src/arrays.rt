@@ -36,4 +36,3 @@ pub fn make_array(
 {
     Err(NoMemory)
 }
-

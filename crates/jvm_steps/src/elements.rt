@@ -41,4 +41,3 @@ pub fn store_element(
 {
     Err(NoMemory)
 }
-

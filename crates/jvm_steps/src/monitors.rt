@@ -21,4 +21,3 @@ pub fn watch(
 {
     Err(NoMemory)
 }
-

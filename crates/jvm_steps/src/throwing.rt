@@ -21,4 +21,3 @@ pub fn throw_object(
 {
     Err(NoMemory)
 }
-
