@@ -95,7 +95,7 @@ mark-off [] k = refl
 mark-off (m ∷ methods) zero = refl
 mark-off (m ∷ methods) (suc k) = mark-off methods k
 
-no-events : (methods : List Member) (w : World) (n : ℕ) → step_events (marking_of (map (λ m. Off) methods)) w n ≡ []
+pub no-events : (methods : List Member) (w : World) (n : ℕ) → step_events (marking_of (map (λ m. Off) methods)) w n ≡ []
 no-events methods w n =
     ap (λ (marks : ℕ → Mark). step_events (always marks) w n) (fun_ext (mark-off methods)) ∙ step_events-off w n
 

@@ -8,5 +8,6 @@ pub mod MainFrames
 pub mod Steps
 pub mod Machines
 pub mod BothWays
+mod Onward
 mod Within
 mod Families

@@ -12,3 +12,4 @@ pub mod View
 pub mod Running
 pub mod Turns
 pub mod Advances
+pub mod Several

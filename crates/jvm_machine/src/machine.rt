@@ -1,12 +1,13 @@
 //! The machine: it runs original code, or the versions of a class's methods, and tells what their probes tell.
 
-ghost use Rattle.std.specs.Prelude.{◌≡◌, ◌^◌, ◌<◌, ◌&&◌, false, length, OnOk, OnErr, IfOk};
+ghost use Rattle.std.specs.Prelude.{◌≡◌, ◌+◌, ◌^◌, ◌<◌, ◌&&◌, true, false, length, OnOk, OnErr, IfOk};
 ghost use Rattle.jvm_model.specs.Images.{IsImage};
 ghost use Rattle.jvm_model.specs.OneClass.{IsBuiltProgram};
 ghost use Rattle.jvm_model.specs.Programs.{first_class};
 ghost use Rattle.jvm_model.specs.Starting.{StartsReady};
 ghost use Rattle.jvm_steps.specs.Prepared.{FitsOriginals};
 ghost use Rattle.jvm_machine.specs.Advances.{Advances, broken_in};
+ghost use Rattle.jvm_machine.specs.Several.{RunsOn, stopped_in};
 ghost use Rattle.jvm_machine.specs.Turns.{Turns, IsGoingOn};
 ghost use Rattle.jvm_machine.specs.View.{made, shown, live_of, with_image, is_resting, has_ended};
 
@@ -19,7 +20,7 @@ use code_model::Homes;
 use const_pool::ClassFile;
 use jf_bytes::{NoMemory, Seq};
 use jvm_model::{Ending, Event, Mark, Program};
-use jvm_steps::{Originals, Parts, parts_before};
+use jvm_steps::{Originals, Parts, parts_before, run};
 use std::alloc::Global;
 use std::marker::Model;
 
@@ -154,6 +155,26 @@ impl Vm {
             None if self.parts.ending.is_some() => Turn::Ended,
             None => Turn::Settled,
         }
+    }
+
+    /// Makes steps of original code, at most so many and none behind the end of the run; none where versions are installed. It is
+    /// quicker than so many calls of `step`. After want of memory the machine is broken.
+    pub fn run_on(&mut self, most: u64) -> Result<(), NoMemory>
+        requires started { self.old.started ≡ true }
+        requires whole { self.old.broken ≡ false }
+        requires resting { self.old.told ≡ 0 }
+        requires below { self.old.clock + most < 2 ^ 63 }
+        ensures ok { OnOk result (RunsOn self.old most self.new) }
+        ensures err { OnErr result (self.new ≡ stopped_in self.old self.new) }
+    {
+        if self.versions.is_some() {
+            return Ok(());
+        }
+        self.broken = true;
+        let made = run(self.alloc, &self.originals, &mut self.parts, most)?;
+        self.clock += made;
+        self.broken = false;
+        Ok(())
     }
 
     /// The number of steps that were begun after the start.

@@ -18,3 +18,5 @@ pub mod Above
 pub mod OpenClasses
 pub mod ElementLemmas
 pub mod ElementActs
+pub mod Leading
+mod PlainSteps

@@ -11,3 +11,4 @@ pub mod Invoking
 pub mod Entries
 pub mod Raising
 pub mod Elements
+pub mod Runs

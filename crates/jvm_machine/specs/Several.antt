@@ -1,0 +1,18 @@
+-- Several steps in one call.
+use Rattle.std.specs.Prelude.{◌≡◌, ℕ, ◌+◌, ◌<◌, ◌≤◌, true, false, [], is_some}
+use Rattle.jvm_model.specs.EventLists.{step_events}
+use Rattle.jvm_model.specs.Run.{run}
+use Rattle.jvm_model.specs.StandsFor.{marking_of}
+use Rattle.jvm_machine.specs.View.{View, world}
+
+-- The machine has made so many steps, at most as many as it was to make and none behind the end of the run, and they have told nothing.
+pub record RunsOn (old : View) (most : ℕ) (new : View) : Type 0 where
+  pub steps : ℕ
+  pub within : steps ≤ most
+  pub stepped : new ≡ record old { clock = old.clock + steps; top = new.top }
+  pub before : (n : ℕ) → old.clock ≤ n → n < new.clock → is_some (run (world old) n).ending ≡ false
+  pub silent : (n : ℕ) → old.clock < n → n ≤ new.clock → step_events (marking_of old.marks) (world old) n ≡ []
+
+-- memory ran out in one of the steps
+abbrev pub stopped_in : View → View → View
+stopped_in old new = record old { broken = true; told = new.told; done = new.done; top = new.top }

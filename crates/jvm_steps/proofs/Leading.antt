@@ -1,0 +1,50 @@
+-- Steps that lead from one state to another, one after the other.
+use Rattle.std.proofs.Common.{◌≡◌, ℕ, zero, suc, ◌+◌, ◌-◌, ◌<◌, ◌≤◌, Bool, true, false, inl, inr, refl, sym, ap, subst, ◌∙◌, arith}
+use Rattle.std.specs.Prelude.{is_some}
+use Rattle.std.proofs.lemmas.Bool.{cases_lt}
+use Rattle.jvm_model.specs.declared.state.State.{State}
+use Rattle.jvm_model.specs.Data.{World}
+use Rattle.jvm_model.specs.Originals.{original}
+use Rattle.jvm_model.specs.Run.{step}
+use Rattle.jvm_steps.specs.Runs.{Leads, steps_from, steps_from-zero, steps_from-suc}
+
+module _ (w : World) where
+  abbrev next : State → State
+  next s = (step w (original w.program) s).after
+
+  -- first so many steps, and then so many
+  pub steps-parts : (n m : ℕ) (s : State) → steps_from w (n + m) s ≡ steps_from w m (steps_from w n s)
+  steps-parts n zero s =
+      let same : n + 0 ≡ n = omega arith in
+      ap (λ k. steps_from w k s) same ∙ sym (steps_from-zero w (steps_from w n s))
+  steps-parts n (suc m) s =
+      let same : n + suc m ≡ suc (n + m) = omega arith in
+      ap (λ k. steps_from w k s) same
+      ∙ (steps_from-suc w (n + m) s
+      ∙ (ap next (steps-parts n m s) ∙ sym (steps_from-suc w m (steps_from w n s))))
+
+  pub leads-none : (s : State) → Leads w s 0 s
+  leads-none s = record { made = sym (steps_from-zero w s); before = λ k less. absurd (omega arith) }
+
+  pub leads-one : (old new : State) → is_some old.ending ≡ false → new ≡ next old → Leads w old 1 new
+  leads-one old new going is = record {
+    made = is ∙ (ap next (sym (steps_from-zero w old)) ∙ sym (steps_from-suc w 0 old));
+    before = λ k less.
+        let none : 0 ≡ k = omega arith in
+        subst (λ n. is_some (steps_from w n old).ending ≡ false) none
+        (ap (λ (s : State). is_some s.ending) (steps_from-zero w old) ∙ going);
+  }
+
+  pub leads-on : (old mid new : State) (n m : ℕ) → Leads w old n mid → Leads w mid m new → Leads w old (n + m) new
+  leads-on old mid new n m first second = record {
+    made = second.made ∙ (ap (steps_from w m) first.made ∙ sym (steps-parts n m old));
+    before = λ k less. elim (cases_lt k n) [
+      | inl below ↦ first.before k below
+      | inr above ↦
+          (let same : n + (k - n) ≡ k = omega arith in
+          let state : steps_from w k old ≡ steps_from w (k - n) mid =
+          ap (λ j. steps_from w j old) (sym same)
+          ∙ (steps-parts n (k - n) old ∙ ap (steps_from w (k - n)) (sym first.made)) in
+          ap (λ (s : State). is_some s.ending) state ∙ second.before (k - n) (omega arith))
+    ];
+  }

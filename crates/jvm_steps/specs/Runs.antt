@@ -1,0 +1,48 @@
+-- Several steps of the run of original code.
+use Rattle.std.specs.Prelude.{◌≡◌, ℕ, zero, suc, ◌<◌, false, List, [], ◌∷◌, Some, None, is_some, refl}
+use Rattle.frame_stack.specs.FrameLists.{PlacedFrame}
+use Rattle.jvm_model.specs.declared.state.State.{State}
+use Rattle.jvm_model.specs.Data.{World}
+use Rattle.jvm_model.specs.Moves.{fresh}
+use Rattle.jvm_model.specs.Originals.{original}
+use Rattle.jvm_model.specs.Run.{step}
+use Rattle.jvm_steps.specs.declared.line.Action.TheVariants.{Local}
+use Rattle.jvm_steps.specs.declared.line.Line.{Line}
+use Rattle.jvm_steps.specs.declared.parts.Parts.{Parts}
+use Rattle.jvm_steps.specs.Lines.{line_at}
+use Rattle.jvm_steps.specs.States.{state_with}
+
+-- the state after so many steps
+unfoldable pub steps_from : World → ℕ → State → State
+steps_from w zero s = s
+steps_from w (suc n) s = (step w (original w.program) (steps_from w n s)).after
+
+pub steps_from-zero : (w : World) (s : State) → steps_from w 0 s ≡ s
+unfolding steps_from
+steps_from-zero w s = refl
+
+pub steps_from-suc : (w : World) (n : ℕ) (s : State) → steps_from w (suc n) s ≡ (step w (original w.program) (steps_from w n s)).after
+unfolding steps_from
+steps_from-suc w n s = refl
+
+-- So many steps lead from one state to another, none of them behind the end of the run.
+pub record Leads (w : World) (old : State) (n : ℕ) (new : State) : Type 0 where
+  pub made : new ≡ steps_from w n old
+  pub before : (k : ℕ) → k < n → is_some (steps_from w k old).ending ≡ false
+
+-- ---- steps that the current frame does by itself
+
+-- it stands at this line, which it does by itself
+abbrev pub IsPlainLine : World → List PlacedFrame → Line → Type 0
+IsPlainLine w [] line = ⊥
+IsPlainLine w (f ∷ fs) line = (line_at w.program f.version f.place ≡ Some line) × (line.action ≡ Local)
+
+-- the run goes on, nothing is thrown, and no class is left to be initialized
+pub record IsCalm (p : Parts) : Type 0 where
+  pub ending : p.ending ≡ None
+  pub thrown : p.thrown ≡ None
+  pub ready : fresh p.shared.phases ≡ 0
+
+-- so many steps change the frames to these, whatever else there is
+abbrev pub LeadsPlainly : World → List PlacedFrame → ℕ → List PlacedFrame → Type 0
+LeadsPlainly w old n new = (p : Parts) → IsCalm p → Leads w (state_with old p) n (state_with new p)

@@ -1,0 +1,67 @@
+//! Steps of instructions that the current frame does by itself: nothing but the frames changes, and nothing follows.
+
+ghost use Rattle.std.specs.Prelude.{◌≡◌, ◌≤◌, true, false};
+ghost use Rattle.std.specs.Option.{IfSome};
+ghost use Rattle.jvm_basic.specs.declared.effect.Effect.TheVariants.{Next};
+ghost use Rattle.jvm_basic.specs.Outcomes.{effect_of, after};
+ghost use Rattle.jvm_basic.specs.Rules.{rule_of};
+ghost use Rattle.jvm_model.specs.Families.{family_of};
+ghost use Rattle.jvm_steps.specs.Runs.{IsPlainLine, LeadsPlainly};
+
+use crate::line::{Action, Line};
+use crate::originals::Originals;
+use crate::parts::where_now;
+use frame_stack::Frames;
+use jvm_basic::{Effect, basic_by};
+
+/// The line at which the current frame stands, where the frame does it by itself.
+fn plain_line<'a>(originals: &'a Originals, frames: &Frames) -> Option<&'a Line>
+    ensures line { IfSome result (λ l. IsPlainLine originals.now frames.now.frames l.now) }
+    ensures family { IfSome result (λ l. l.now.family ≡ family_of l.now.instr.op) }
+{
+    let here = where_now(frames)?;
+    let line = originals.line(here.version, here.place)?;
+    match line.action {
+        Action::Local => Some(line),
+        _ => None,
+    }
+}
+
+/// Does a line within the current frame. False, with nothing changed, where the frame does not go on.
+fn pass_line(line: &Line, frames: &mut Frames) -> bool
+    requires { line.now.family ≡ family_of line.now.instr.op }
+    ensures gone { let line = line.now in
+        result ≡ true
+        → effect_of (rule_of line.instr line.constant line.next) frames.old ≡ Next }
+    ensures frames { let line = line.now in
+        frames.new ≡ after (rule_of line.instr line.constant line.next) frames.old }
+    ensures kept { result ≡ false → frames.new ≡ frames.old }
+{
+    let effect = basic_by(line.family, &line.instr, line.constant, line.next, frames);
+    matches!(effect, Effect::Next)
+}
+
+/// A step, where the current frame does it by itself; else nothing has changed.
+fn plain_step(originals: &Originals, frames: &mut Frames) -> bool
+    ensures gone { result ≡ true
+        → LeadsPlainly originals.now frames.old.frames 1 frames.new.frames }
+    ensures kept { result ≡ false → frames.new ≡ frames.old }
+{
+    match plain_line(originals, frames) {
+        Some(line) => pass_line(line, frames),
+        None => false,
+    }
+}
+
+/// Steps that the current frame does by itself, at most so many: how many it has made.
+pub fn plain_steps(originals: &Originals, frames: &mut Frames, most: u64) -> u64
+    ensures within { result ≤ most }
+    ensures made { LeadsPlainly originals.now frames.old.frames result frames.new.frames }
+{
+    for made in 0..most {
+        if !plain_step(originals, frames) {
+            return made;
+        }
+    }
+    most
+}
