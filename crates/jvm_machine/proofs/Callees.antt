@@ -21,7 +21,7 @@ use Rattle.jvm_steps.specs.declared.originals.Exception.TheVariants.{StackOverfl
 use Rattle.jvm_steps.specs.Acts.{raising}
 use Rattle.jvm_steps.specs.Arguments.{arguments_of, can_begin, fits_with, fits_params}
 use Rattle.jvm_steps.specs.Invoking.{may_begin}
-use Rattle.jvm_steps.specs.States.{active, frame_in, state_with, state_in}
+use Rattle.jvm_steps.specs.States.{active, frame_in, state_with}
 use Rattle.jvm_steps.proofs.Arguments.{spread-data, length-slots, height-reverse, enough-data}
 use Rattle.jvm_steps.proofs.Callees.{live-is, fits-nowhere}
 use Rattle.jvm_machine.specs.Going.{ended}

@@ -1,4 +1,5 @@
-//! What an instruction's operand names (JVM Specification 5.4.3), in a class whose methods a u32 can number.
+//! What an instruction's operand names (JVM Specification 5.4.3), in a class whose methods a u32
+//! can number.
 
 ghost use Rattle.std.specs.Prelude.{◌≡◌, ◌<◌, ◌^◌, length};
 ghost use Rattle.const_pool.specs.Members.{reference_view};
@@ -7,8 +8,8 @@ ghost use Rattle.jvm_model.specs.Lines.{constant_in, pool_operation, other_opera
 ghost use Rattle.const_pool.specs.declared.class.ClassFile.{ClassFile as Class};
 ghost use Rattle.jvm_model.specs.Resolved.{own_method, resolved_constant, resolved_binary};
 ghost use Rattle.jvm_model.specs.Resolved.{resolved_in, resolved_of};
-ghost use Rattle.jvm_machine.specs.Lookups.{resolved_by};
-ghost use Rattle.jvm_machine.specs.Lookups.{resolved_getstatic, resolved_invokevirtual, resolved_invokestatic};
+ghost use Rattle.jvm_machine.specs.Lookups.{resolved_by, resolved_getstatic};
+ghost use Rattle.jvm_machine.specs.Lookups.{resolved_invokestatic, resolved_invokevirtual};
 
 use code_model::{Arg, Instr};
 use const_pool::{ClassFile, Const, Kind, MemberRef, Pool};
@@ -123,7 +124,8 @@ fn pool_operation(class: &ClassFile, op: u8, index: u16) -> Option<Resolved>
     }
 }
 
-/// What an instruction of no family does: of those, the part that runs so far has only such with names.
+/// What an instruction of no family does, by the form of its operand. Of those the part that runs
+/// so far has only some with a pool index.
 fn other_operation(class: &ClassFile, op: u8, arg: &Arg) -> Option<Resolved>
     requires { length class.now.methods < 2 ^ 32 }
     ensures { let operation = other_operation class.now op arg.now in
