@@ -101,6 +101,13 @@ impl Heap {
         self.used
     }
 
+    /// Whether there is room for so many slots more.
+    pub fn has_room(&self, asked: usize) -> bool
+        ensures { result ≡ nat_le (self.now.used + asked) self.now.limit }
+    {
+        charged(self.limit, self.used, asked).is_some()
+    }
+
     fn find(&self, object: u32) -> Option<&Object>
         ensures found { option_copied result ≡ object_at object self.now.objects }
         ensures fits { IfSome result (λ o. length_of o.now < 2 ^ 32) }

@@ -16,7 +16,7 @@ use Rattle.jfluid_cli.proofs.Outputs.{shown-going}
 use Rattle.jfluid_cli.proofs.Steps.{HasRun, clock-run, ran-on, ran-out, ran-all}
 
 -- nothing but the clock and the place has changed
-going-onward : (old v : View) (most : ℕ) → IsGoing old → RunsOn old most v → IsGoing v
+pub going-onward : (old v : View) (most : ℕ) → IsGoing old → RunsOn old most v → IsGoing v
 going-onward old v most going runs = record {
   started = ap (λ (x : View). x.started) runs.stepped ∙ going.started;
   whole = ap (λ (x : View). x.broken) runs.stepped ∙ going.whole;

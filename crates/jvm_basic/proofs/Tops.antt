@@ -60,4 +60,8 @@ pub dropped-twice : (o : Operands) → drop 1 (drop 1 o) ≡ drop 2 o
 dropped-twice [] = refl
 dropped-twice (v ∷ o) = refl
 
-pub ruleset dropped = (sound-dropped, dropped-operands, dropped-locals, dropped-holds, dropped-top, dropped-twice)
+pub dropped-thrice : (o : Operands) → drop 2 (drop 1 o) ≡ drop 3 o
+dropped-thrice [] = refl
+dropped-thrice (v ∷ o) = refl
+
+pub ruleset dropped = (sound-dropped, dropped-operands, dropped-locals, dropped-holds, dropped-top, dropped-twice, dropped-thrice)

@@ -109,6 +109,21 @@ fn do_family(
     }
 }
 
+/// The same as `basic`, for an instruction whose family is known: no table is looked up.
+pub fn basic_by(
+    family: Family,
+    instr: &Instr,
+    constant: Option<Value>,
+    next: u16,
+    frames: &mut Frames,
+) -> Effect
+    requires { family ≡ family_of instr.now.op }
+    ensures effect { result ≡ effect_of (rule_of instr.now constant next) frames.old }
+    ensures frames { frames.new ≡ after (rule_of instr.now constant next) frames.old }
+{
+    do_family(family, &instr.arg, constant, next, frames)
+}
+
 /// Does one instruction as far as its frame goes (JVM Specification 2.11, 6.5): the constant is that of an ldc, and `next` the
 /// offset behind the instruction. An effect other than Next leaves the frames as they were.
 pub fn basic(instr: &Instr, constant: Option<Value>, next: u16, frames: &mut Frames) -> Effect

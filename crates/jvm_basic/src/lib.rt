@@ -13,10 +13,10 @@ mod stack;
 
 pub use arithmetic::calculate;
 pub use effect::Effect;
-pub use instruction::{basic, value_of};
+pub use instruction::{basic, basic_by, value_of};
 pub use locals::load_from;
-pub use moving::{drop_two, go_on, put};
-pub use reading::recall;
+pub use moving::{drop_one, drop_three, drop_two, go_on, put, replace, replace_two};
+pub use reading::{int_of, recall, ref_of};
 
 #[cfg(test)]
 mod tests;

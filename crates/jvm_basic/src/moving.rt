@@ -89,3 +89,14 @@ pub fn drop_two(frames: &mut Frames, place: u16) -> Effect
     frames.pop();
     go_on(frames, place)
 }
+
+/// Without the three topmost operands.
+#[tactic(auto, using(crate::proofs::Tops::tops, crate::proofs::Tops::dropped))]
+pub fn drop_three(frames: &mut Frames, place: u16) -> Effect
+    requires sound { AreSound frames.old.frames }
+    ensures effect { result ≡ effect_of (λ l o. GoesOn l (drop 3 o) place) frames.old }
+    ensures frames { frames.new ≡ after (λ l o. GoesOn l (drop 3 o) place) frames.old }
+{
+    frames.pop();
+    drop_two(frames, place)
+}

@@ -1,16 +1,18 @@
 -- What `basic` has done to the top frame is what the line comes to.
-use Rattle.std.proofs.Common.{◌≡◌, ℕ, Bool, true, false, List, [], ◌∷◌, cond, refl, ap, ◌∙◌}
+use Rattle.std.proofs.Common.{◌≡◌, ℕ, Bool, true, false, List, [], ◌∷◌, Some, cond, refl, ap, ◌∙◌}
 use Rattle.std.specs.Prelude.{nat_le}
 use Rattle.frame_stack.specs.Widths.{height_of}
 use Rattle.frame_stack.specs.FrameLists.{PlacedFrame, FramesView}
 use Rattle.jvm_model.specs.Data.{World}
 use Rattle.jvm_model.specs.Applies.{breaks, with_frame}
-use Rattle.jvm_basic.specs.declared.effect.Effect.TheVariants.{Next, Bad, Other}
+use Rattle.jvm_model.specs.LocalRules.{by_zero}
+use Rattle.jvm_basic.specs.declared.effect.Effect.TheVariants.{Next, Throws, Bad, Other}
 use Rattle.jvm_basic.specs.Outcomes.{Outcome, GoesOn, Raises, Breaks, Leaves, effect_in, frames_in, with_top, asked, effect_of, after}
 use Rattle.jvm_basic.specs.Rules.{rule_of}
 use Rattle.jvm_steps.specs.declared.line.Line.{Line}
 use Rattle.jvm_steps.specs.declared.parts.Parts.{Parts}
-use Rattle.jvm_steps.specs.Acts.{IsTop, comes_to, acts_alone, on_top, on_parts, ended}
+use Rattle.jvm_steps.specs.declared.originals.Exception.TheVariants.{Arithmetic}
+use Rattle.jvm_steps.specs.Acts.{IsTop, comes_to, acts_alone, on_top, on_parts, ended, raising}
 use Rattle.jvm_steps.specs.States.{frame_in, state_with, state_in}
 
 module _ (w : World) (line : Line) (p : Parts) where
@@ -48,6 +50,17 @@ module _ (w : World) (line : Line) (p : Parts) where
   other-is Breaks f fs e = absurd cc
   other-is Leaves f fs e = refl
 
+  -- a division by zero
+  throws-is : (x : Outcome) (f : PlacedFrame) (fs : List PlacedFrame) (class : ℕ) → effect_in x (f ∷ fs) ≡ Throws class
+      → state_with (frames_in x (f ∷ fs)) (raising w Arithmetic (Some by_zero) p) ≡ comes_to w line (state_with fs p) (frame_in f) x
+  throws-is (GoesOn l o place) f fs class e = absurd (never (nat_le (height_of o) f.max_stack) e) where
+    never : (b : Bool) → cond b Next Bad ≡ Throws class → ⊥
+    never true e = absurd cc
+    never false e = absurd cc
+  throws-is (Raises raised) f fs class e = refl
+  throws-is Breaks f fs class e = absurd cc
+  throws-is Leaves f fs class e = absurd cc
+
   next-on : (method : ℕ) (fs : List PlacedFrame) → IsTop method fs
       → effect_in (asked (rule_of line.instr line.constant line.next) fs) fs ≡ Next
       → state_with (frames_in (asked (rule_of line.instr line.constant line.next) fs) fs) p ≡ on_top (acts_alone w line) p fs
@@ -69,6 +82,18 @@ module _ (w : World) (line : Line) (p : Parts) where
   other-on method (f ∷ fs) top e =
       ap (λ m. state_with (frames_in (rule_of line.instr line.constant line.next f.locals f.operands) (f ∷ fs)) (ended m line.instr.at p)) top
       ∙ other-is (rule_of line.instr line.constant line.next f.locals f.operands) f fs e
+
+  throws-on : (method class : ℕ) (fs : List PlacedFrame) → IsTop method fs
+      → effect_in (asked (rule_of line.instr line.constant line.next) fs) fs ≡ Throws class
+      → state_with (frames_in (asked (rule_of line.instr line.constant line.next) fs) fs) (raising w Arithmetic (Some by_zero) p) ≡ on_top (acts_alone w line) p fs
+  throws-on method class [] top e = absurd top
+  throws-on method class (f ∷ fs) top e = throws-is (rule_of line.instr line.constant line.next f.locals f.operands) f fs class e
+
+  pub goes-throws : (method class : ℕ) (frames : FramesView) → IsTop method p.frames.frames
+      → effect_of (rule_of line.instr line.constant line.next) p.frames ≡ Throws class → frames ≡ after (rule_of line.instr line.constant line.next) p.frames
+      → state_in (raising w Arithmetic (Some by_zero) (record p { frames = frames })) ≡ on_parts (acts_alone w line) p
+  goes-throws method class frames top e made =
+      ap (λ (s : FramesView). state_with s.frames (raising w Arithmetic (Some by_zero) p)) made ∙ throws-on method class p.frames.frames top e
 
   pub goes-next : (method : ℕ) (frames : FramesView) → IsTop method p.frames.frames
       → effect_of (rule_of line.instr line.constant line.next) p.frames ≡ Next → frames ≡ after (rule_of line.instr line.constant line.next) p.frames

@@ -1,6 +1,7 @@
 -- Values on top of a caller as the arguments of a method: their kinds, and the locals that they take.
+use Rattle.std.proofs.lemmas.List.Sums.{sum_by-cons}
 use Rattle.std.proofs.Common.{drop-cons, ◌≡◌, ◌≢◌, ℕ, zero, suc, ◌+◌, ◌-◌, ◌<◌, ◌≤◌, Bool, true, false, List, [], ◌∷◌, ◌++◌, length, drop, take, get_or, min, cond, Option, Some, None, refl, sym, ap, ◌∙◌, ⊎_elim, add-one, arith}
-use Rattle.std.specs.Prelude.{is_some, nat_le, slice_get, reverse, ◌&&◌}
+use Rattle.std.specs.Prelude.{count_by, is_some, nat_le, slice_get, reverse, ◌&&◌}
 use Rattle.std.specs.Option.{option_and_then, option_map}
 use Rattle.std.proofs.lemmas.Bool.{cases_lt, lt-leb, le-leb}
 use Rattle.std.proofs.lemmas.List.{length-reverse, length-take, reverse-append, get_or-reverse, get_or-take}
@@ -16,6 +17,7 @@ use Rattle.frame_stack.specs.FrameLists.{PlacedFrame, top_operands, can_enter}
 use Rattle.frame_stack.proofs.Passing.{get-none}
 use Rattle.jvm_model.specs.Data.{Operands}
 use Rattle.jvm_model.specs.Values.{as_value, datum_of, data_of, spread}
+use Rattle.jvm_steps.specs.Arguments.{is_long_kind, slots_for}
 
 -- ---- values of their parameters' kinds
 
@@ -47,6 +49,33 @@ spread-data (k ∷ ks) (v ∷ vs) ds e = by_first (datum_of k v) (data_of ks vs)
   by_first (Some d) None f r e = absurd (none-some ds e)
   by_first (Some d) (Some xs) f r e =
       ap spread (sym (same_Some (d ∷ xs) ds e)) ∙ (spread-one d xs vs (r xs refl) ∙ ap (λ x. slots_of_all (x ∷ vs)) (sym (as_value-datum k v d f)))
+
+-- a value of a kind is as wide as the kind
+width-kind : (k : Kind) (v : Value) (d : Datum) → datum_of k v ≡ Some d → width v ≡ 1 + cond (is_long_kind k) 1 0
+width-kind kind.Int (Int n) d e = refl
+width-kind kind.Bool (Int n) d e = refl
+width-kind kind.Byte (Int n) d e = refl
+width-kind kind.Char (Int n) d e = refl
+width-kind kind.Short (Int n) d e = refl
+width-kind kind.Long (Long n) d e = refl
+width-kind kind.Ref (Ref r) d e = refl
+width-kind _ _ d e = absurd (none-some d e)
+
+-- so the values take the locals that their kinds tell
+pub height-kinds : (ks : List Kind) (vs : List Value) (ds : List Datum) → data_of ks vs ≡ Some ds → height_of vs ≡ slots_for ks
+height-kinds [] [] ds e = refl
+height-kinds [] (v ∷ vs) ds e = absurd (none-some ds e)
+height-kinds (k ∷ ks) [] ds e = absurd (none-some ds e)
+height-kinds (k ∷ ks) (v ∷ vs) ds e = by_first (datum_of k v) (data_of ks vs) refl (height-kinds ks vs) e where
+  by_first : (first : Option Datum) (rest : Option (List Datum)) → datum_of k v ≡ first → ((xs : List Datum) → rest ≡ Some xs → height_of vs ≡ slots_for ks)
+      → option_and_then (λ d. option_map (λ xs. d ∷ xs) rest) first ≡ Some ds → height_of (v ∷ vs) ≡ slots_for (k ∷ ks)
+  by_first None rest f r e = absurd (none-some ds e)
+  by_first (Some d) None f r e = absurd (none-some ds e)
+  by_first (Some d) (Some xs) f r e =
+      let one = width-kind k v d f in
+      let others = r xs refl in
+      let count : count_by is_long_kind (k ∷ ks) ≡ cond (is_long_kind k) 1 0 + count_by is_long_kind ks = sum_by-cons (λ x. cond (is_long_kind x) 1 0) k ks in
+      omega (arith, one, others, count)
 
 -- as many values as parameters, or there are no such data
 pub data_of-unequal : (ks : List Kind) (vs : List Value) → length ks ≢ length vs → data_of ks vs ≡ None

@@ -11,6 +11,7 @@ use Rattle.jvm_model.specs.declared.program.MethodPlace.{MethodPlace}
 use Rattle.jvm_model.specs.declared.program.Program.{Program}
 use Rattle.jvm_model.specs.Methods.{code_of, method_code, method_params, member_shape}
 use Rattle.jvm_model.specs.Programs.{class_at}
+use Rattle.jvm_model.specs.SharedState.{kind_for, string}
 use Rattle.jvm_steps.specs.declared.line.Line.{Line}
 use Rattle.jvm_steps.specs.declared.originals.Exception.{Exception}
 use Rattle.jvm_steps.specs.declared.originals.Exceptions.{Exceptions}
@@ -98,8 +99,8 @@ line-place p (Some place) at = line-class p place (class_at p place.class) at
 -- ---- all of them
 
 pub IsPrepared-entries : (p : Program) (methods : List Method) (x : Exceptions) → length p.classes < 2 ^ 24 → methods ≡ map (entry_at p) p.methods
-    → ((e : Exception) → exception_in x e ≡ exception_kind p e) → IsPrepared p methods x
-IsPrepared-entries p methods x few is raised =
+    → ((e : Exception) → exception_in x e ≡ exception_kind p e) → x.string ≡ kind_for p string → IsPrepared p methods x
+IsPrepared-entries p methods x few is raised text =
     let entry : (k : ℕ) → slice_get methods k ≡ option_map (entry_at p) (slice_get p.methods k) = λ k. ap (λ ms. slice_get ms k) is ∙ slice_get-map (entry_at p) p.methods k in
     record {
       few = few;
@@ -108,4 +109,5 @@ IsPrepared-entries p methods x few is raised =
       max_locals = λ k. ap (λ (o : Option Method). option_map_or (λ m. m.max_locals) o 0) (entry k) ∙ locals-place p (slice_get p.methods k);
       lines = λ k at. ap (option_and_then (line_in at)) (entry k) ∙ line-place p (slice_get p.methods k) at;
       raised = raised;
+      string = text;
     }

@@ -10,9 +10,13 @@ pub mod Tied
 pub mod Tabled
 pub mod Positions
 pub mod Entries
+pub mod LineFamilies
 mod Actions
 pub mod LineActs
 pub mod LineSteps
+pub mod Above
 pub mod OpenClasses
 pub mod Leading
 mod PlainSteps
+pub mod ElementLemmas
+pub mod ElementActs

@@ -1,7 +1,7 @@
 -- What a line does is what applies by the instruction that it stands for.
 use Rattle.std.proofs.Common.{◌≡◌, ℕ, Bool, true, false, cond, List, [], ◌∷◌, ◌++◌, Option, Some, None, refl, sym, ap, subst, ◌∙◌}
-use Rattle.std.specs.Prelude.{slice_get, length, ℤ}
-use Rattle.std.specs.Option.{option_map}
+use Rattle.std.specs.Prelude.{drop, nat_le, slice_get, length, ℤ, pos, negsuc, ◌+◌, ◌==◌}
+use Rattle.std.specs.Option.{option_and_then, option_map}
 use Rattle.std.proofs.lemmas.Bool.{false≢true}
 use Rattle.std.proofs.lemmas.List.{append-nil}
 use Rattle.std.proofs.lemmas.Option.{same_Some, none-some}
@@ -16,30 +16,36 @@ use Rattle.jvm_model.specs.declared.state.Entry.TheVariants.{Active, Initializin
 use Rattle.jvm_model.specs.declared.state.Frame.{Frame}
 use Rattle.jvm_model.specs.declared.state.Phase.{Phase}
 use Rattle.jvm_model.specs.declared.state.Phase.TheVariants.{Fresh, Running, Ready, Erroneous}
+use Rattle.jvm_model.specs.declared.state.Shared.{Shared}
 use Rattle.jvm_model.specs.declared.state.State.{State}
-use Rattle.jvm_model.specs.Applies.{breaks, goes, throws_at, resumes, gives_back, applies}
-use Rattle.jvm_model.specs.Data.{Locals, Operands, World, Text, Local, Nop, Constant, Load, Store, Arrange, BinaryOfInts, BinaryOfLongs, DivisionOfInts, DivisionOfLongs, ShiftOfLong, UnaryOfInt, UnaryOfLong, Lcmp, Iinc, Branch, Goto, Switch, Jsr, Ret, Return, Operation, Within, Getstatic, Putstatic, Invokestatic, Invokevirtual, Athrow, Instruction, Outcome, GoesOn, Subroutine, Invokes, Returns, Throws, Raises, Initializes, Exits, Breaks, Next, Target, Back, Done, Keys}
-use Rattle.jvm_model.specs.Lines.{is_last, targets_of}
-use Rattle.jvm_model.specs.LocalRules.{arithmetic_exception, divides_these, goes_if, holds, tests, switches_on, goes_back, returns, returns_datum, within}
+use Rattle.jvm_model.specs.Applies.{breaks, enters_subroutine, goes, throws_at, resumes, gives_back, applies}
+use Rattle.jvm_model.specs.Data.{Locals, Operands, World, Text, Local, Nop, Constant, Load, Store, Arrange, BinaryOfInts, BinaryOfLongs, DivisionOfInts, DivisionOfLongs, ShiftOfLong, UnaryOfInt, UnaryOfLong, Lcmp, Iinc, Branch, Goto, Switch, Jsr, Ret, Return, Operation, Within, Getstatic, Putstatic, Invokestatic, Invokevirtual, Athrow, Monitor, Newarray, Arraylength, LoadElement, StoreElement, Instruction, Outcome, GoesOn, Subroutine, Invokes, Returns, Throws, Raises, Initializes, Exits, Breaks, Next, Target, Back, Done, Keys}
+use Rattle.jvm_model.specs.Lines.{ends, is_last, targets_of}
+use Rattle.jvm_model.specs.LocalRules.{arithmetic_exception, by_zero, divides_these, goes_if, holds, tests, switches_on, goes_back, replaces, returns, returns_datum, within}
 use Rattle.jvm_model.specs.Moves.{fresh}
+use Rattle.jvm_model.specs.Lookup.{is_below}
+use Rattle.jvm_model.specs.ObjectRules.{Access, ToNull, ToAnother, Outside, Inside, Storing, access_to, array_kind, array_length, done, fits_array, loads_at, loads_element, makes, makes_array, measures, place_of, stores_at, stores_element, storing_of, throws, watches}
 use Rattle.jvm_model.specs.Originals.{original}
-use Rattle.jvm_model.specs.Programs.{class_of_reference, method_of_reference, params_of_method}
-use Rattle.jvm_model.specs.Rules.{is_out, is_println, is_print_stream, does, done, when_ready, missing_field, gets_field, invokes, invokes_method, invokes_with, invokes_static, line_text, prints}
+use Rattle.jvm_model.specs.Programs.{class_of_reference, declared_method, method_of_reference, name_at, params_of_method}
+use Rattle.jvm_model.specs.Rules.{is_out, is_println, is_print_stream, does, when_ready, missing_field, gets_field, invokes, invokes_method, invokes_with, invokes_static, line_text, prints}
 use Rattle.jvm_model.specs.Run.{starts}
-use Rattle.jvm_model.specs.SharedState.{field_of_reference, no_class_definition, no_such_method, phase_of, raised}
+use Rattle.jvm_model.specs.SharedState.{class_of, field_of_reference, no_class_definition, no_such_method, phase_of, null_pointer, raised, throwable}
 use Rattle.jvm_model.specs.StackForms.{forms_of}
-use Rattle.jvm_model.specs.Values.{arguments, as_value, datum_of, loaded, local_in, int_of, arranged, with_value}
+use Rattle.jvm_model.specs.Values.{arguments, as_value, datum_of, loaded, local_in, int_of, ref_of, arranged, with_value}
 use Rattle.jvm_basic.specs.Rules.{goes_at, placed}
 use Rattle.jvm_basic.proofs.Asked.{is_simple, pushes-simple, replaces-simple, leaves-simple, stores-simple, increments-simple}
 use Rattle.jvm_steps.specs.declared.line.Action.{Action}
 use Rattle.jvm_steps.specs.declared.line.Action.TheVariants as action
 use Rattle.jvm_steps.specs.declared.line.Line.{Line}
-use Rattle.jvm_steps.specs.Acts.{placed_line, comes_to, acts_alone, resumes_line, gives_back_line, returns_or_ends, acts_return, acts_out, prints_number, acts_println, acts_by, acts}
-use Rattle.jvm_steps.specs.Lines.{local_action, line_at}
+use Rattle.jvm_steps.specs.Acts.{placed_line, comes_to, acts_alone, acts_asked, acts_done, acts_absent, acts_invokestatic, resumes_line, gives_back_line, returns_or_ends, acts_return, acts_out, prints_number, acts_println, acts_by, acts}
+use Rattle.jvm_steps.specs.Lines.{invokes_by, local_action, line_at}
 use Rattle.jvm_steps.proofs.Phases.{none-fresh}
 use Rattle.jvm_steps.proofs.Tied.{instruction_by, IsRuleOf, IsTied, Tie, tied-at}
 
 -- ---- what an instruction asks for that its frame does by itself
+
+abbrev divided : Outcome
+divided = Raises arithmetic_exception (Some by_zero)
 
 -- it goes on, throws for a division by zero, or breaks; control goes on behind it only where it is not the last
 abbrev IsOwn : Bool → Outcome → Type 0
@@ -47,7 +53,7 @@ IsOwn last (GoesOn m o Next) = last ≡ false
 IsOwn last (GoesOn m o (Target k)) = Unit {0}
 IsOwn last (GoesOn m o (Back t)) = Unit {0}
 IsOwn last Subroutine = last ≡ false
-IsOwn last (Raises name) = name ≡ arithmetic_exception
+IsOwn last (Raises name message) = Raises name message ≡ divided
 IsOwn last (Breaks false) = Unit {0}
 IsOwn last (Breaks true) = ⊥
 IsOwn last (Invokes m args below) = ⊥
@@ -116,7 +122,7 @@ within-own (Return k) m o h = absurd (none-some k (sym h))
 own-starts : (last : Bool) (q : Outcome) → IsOwn last q → starts q ≡ None
 own-starts last (GoesOn m o to) h = refl
 own-starts last Subroutine h = refl
-own-starts last (Raises name) h = refl
+own-starts last (Raises name message) h = refl
 own-starts last (Breaks b) h = refl
 own-starts last (Invokes m args below) h = absurd h
 own-starts last (Returns d) h = absurd h
@@ -143,7 +149,7 @@ module _ (w : World) (t : Text) (line : Line) (s : State) (f : Frame) where
   own-same op last Subroutine h =
       ap (λ b. (applies w t (by_next op (cond b None (Some line.next))) Subroutine s f).after) h
       ∙ at-same f.locals (Addr line.next ∷ f.operands) (slice_get (targets_of line.instr.arg) 0)
-  own-same op last (Raises name) h = ap (λ x. throws_at s f (raised w s.shared x)) h
+  own-same op last (Raises name message) h = ap (λ q. (applies w t (by_next op (cond last None (Some line.next))) q s f).after) h
   own-same op last (Breaks false) h = refl
   own-same op last (Breaks true) h = absurd h
   own-same op last (Invokes m args below) h = absurd h
@@ -197,7 +203,7 @@ return-starts (Returns d) h = refl
 return-starts (Breaks b) h = refl
 return-starts (GoesOn m o to) h = absurd h
 return-starts Subroutine h = absurd h
-return-starts (Raises name) h = absurd h
+return-starts (Raises name message) h = absurd h
 return-starts (Invokes m args below) h = absurd h
 return-starts (Throws r) h = absurd h
 return-starts (Initializes c) h = absurd h
@@ -210,7 +216,7 @@ return-same w line op s f (Breaks true) h = refl
 return-same w line op s f (Breaks false) h = absurd h
 return-same w line op s f (GoesOn m o to) h = absurd h
 return-same w line op s f Subroutine h = absurd h
-return-same w line op s f (Raises name) h = absurd h
+return-same w line op s f (Raises name message) h = absurd h
 return-same w line op s f (Invokes m args below) h = absurd h
 return-same w line op s f (Throws r) h = absurd h
 return-same w line op s f (Initializes c) h = absurd h
@@ -261,7 +267,7 @@ out-acts : (w : World) (line : Line) (s : State) (f : Frame) (r : Reference) →
 out-acts w line s f r is =
     chosen-acts w (instruction_by (Getstatic r) line) s f (acts_out line s f) (is_out r)
     (done s.shared (GoesOn f.locals (Ref 3 ∷ f.operands) Next))
-    (gets_field (missing_field w.program r) (field_of_reference w.program r) s.shared f.locals f.operands)
+    (gets_field w.program (missing_field w.program r) (field_of_reference w.program r) s.shared f.locals f.operands)
     is
     (quiet-acts w (instruction_by (Getstatic r) line) s f (GoesOn f.locals (Ref 3 ∷ f.operands) Next) (acts_out line s f) refl refl)
 
@@ -292,22 +298,114 @@ module _ (w : World) (line : Line) (r : Reference) (s : State) (f : Frame) where
       chosen-acts w (instruction_by (Invokevirtual r) line) s f (acts_println line s f) (is_println r) (prints s.shared f.locals f.operands) (done s.shared (Breaks false)) is
       (prints-as f.operands)
 
--- ---- invokestatic
+-- ---- what the model's rule asks for, at the line's place
 
--- what applies does not ask which operation it is
-placed-same : (w : World) (line : Line) (r : Reference) (s : State) (f : Frame) (q : Outcome)
-    → (applies w (original w.program) (instruction_by (Invokestatic r) line) q s f).after ≡ (applies w (original w.program) (placed_line line) q s f).after
-placed-same w line r s f (GoesOn m o Next) = refl
-placed-same w line r s f (GoesOn m o (Target k)) = refl
-placed-same w line r s f (GoesOn m o (Back t)) = refl
-placed-same w line r s f Subroutine = refl
-placed-same w line r s f (Raises name) = refl
-placed-same w line r s f (Breaks b) = refl
-placed-same w line r s f (Invokes m args below) = refl
-placed-same w line r s f (Returns d) = refl
-placed-same w line r s f (Throws x) = refl
-placed-same w line r s f (Initializes c) = refl
-placed-same w line r s f (Exits n) = refl
+-- what applies does not ask which operation it is, where control goes on behind it
+placed-same : (w : World) (line : Line) (op : Operation) (s : State) (f : Frame) (q : Outcome) → ends op ≡ false
+    → (applies w (original w.program) (instruction_by op line) q s f).after ≡ (applies w (original w.program) (placed_line line) q s f).after
+placed-same w line op s f (GoesOn m o Next) behind = ap (λ b. goes s f line.instr.at m o (cond b None (Some line.next))) behind
+placed-same w line op s f (GoesOn m o (Target k)) behind = refl
+placed-same w line op s f (GoesOn m o (Back t)) behind = refl
+placed-same w line op s f Subroutine behind =
+    ap (λ b. enters_subroutine s f (instruction_by op line) (cond b None (Some line.next))) behind
+placed-same w line op s f (Raises name message) behind = refl
+placed-same w line op s f (Breaks b) behind = refl
+placed-same w line op s f (Invokes m args below) behind = refl
+placed-same w line op s f (Returns d) behind = refl
+placed-same w line op s f (Throws x) behind = refl
+placed-same w line op s f (Initializes c) behind = refl
+placed-same w line op s f (Exits n) behind = refl
+
+asked-acts : (w : World) (line : Line) (op : Operation) (s : State) (f : Frame) (q : Outcome) → ends op ≡ false → starts q ≡ None
+    → ActsAs w (instruction_by op line) s f (done s.shared q) (acts_asked w line s f q)
+asked-acts w line op s f q behind starts_none =
+    quiet-acts w (instruction_by op line) s f q (acts_asked w line s f q) starts_none (placed-same w line op s f q behind)
+
+-- where nothing is written
+record IsSilent (d : Done) : Type 0 where
+  starts_none : starts d.outcome ≡ None
+  wrote : d.wrote ≡ []
+
+done-acts : (w : World) (line : Line) (op : Operation) (s : State) (f : Frame) (d : Done) → ends op ≡ false → IsSilent d
+    → ActsAs w (instruction_by op line) s f d (acts_done w line s f d)
+done-acts w line op s f d behind silent = record {
+  starts_none = silent.starts_none;
+  applied =
+      ap (λ out. (applies w (original w.program) (instruction_by op line) d.outcome (record s { shared = d.shared; output = out }) f).after)
+      (ap (λ xs. s.output ++ xs) silent.wrote ∙ append-nil s.output)
+      ∙ placed-same w line op (record s { shared = d.shared }) f d.outcome behind;
+}
+
+-- ---- instructions that see objects
+
+chosen-starts : (b : Bool) (x y : Outcome) → starts x ≡ None → starts y ≡ None → starts (cond b x y) ≡ None
+chosen-starts true x y hx hy = hx
+chosen-starts false x y hx hy = hy
+
+replaces-starts : (taken : ℕ) (v : Option Value) (m : Locals) (o : Operands) → starts (replaces taken v m o) ≡ None
+replaces-starts taken v m o = own-starts false _ (simple-own _ (replaces-simple taken v m o))
+
+measures-starts : (x : Option ℕ) (s : Shared) (m : Locals) (o : Operands) → starts (measures x s m o) ≡ None
+measures-starts None s m o = refl
+measures-starts (Some r) s m o = chosen-starts (r == 0) _ _ refl (replaces-starts 1 _ m o)
+
+watches-starts : (x : Option ℕ) (m : Locals) (o : Operands) → starts (watches x m o) ≡ None
+watches-starts None m o = refl
+watches-starts (Some r) m o = chosen-starts (r == 0) _ _ refl refl
+
+loads-starts : (k : Kind) (x : Option (ℕ × ℤ)) (s : Shared) (m : Locals) (o : Operands) → starts (loads_element k x s m o) ≡ None
+loads-starts k None s m o = refl
+loads-starts k (Some at) s m o = by (access_to k at.0 at.1 s.heap) where
+  by : (access : Access) → starts (loads_at access at.0 at.1 s m o) ≡ None
+  by ToNull = refl
+  by ToAnother = refl
+  by Outside = refl
+  by (Inside slot) = replaces-starts 2 _ m o
+
+chosen-silent : (b : Bool) (x y : Done) → IsSilent x → IsSilent y → IsSilent (cond b x y)
+chosen-silent true x y hx hy = hx
+chosen-silent false x y hx hy = hy
+
+makes-silent : (k : ℕ) (x : Option ℤ) (s : Shared) (m : Locals) (o : Operands) → IsSilent (makes k x s m o)
+makes-silent k None s m o = record { starts_none = refl; wrote = refl }
+makes-silent k (Some (negsuc n)) s m o = record { starts_none = refl; wrote = refl }
+makes-silent k (Some (pos count)) s m o =
+    chosen-silent (nat_le (s.heap.used + (1 + count)) s.heap.limit) _ _ (record { starts_none = refl; wrote = refl }) (record { starts_none = refl; wrote = refl })
+
+stores-silent : (p : Program) (k : Kind) (x : Option Storing) (s : Shared) (m : Locals) (o : Operands) → IsSilent (stores_element p k x s m o)
+stores-silent p k None s m o = record { starts_none = refl; wrote = refl }
+stores-silent p k (Some x) s m o = by (access_to k x.array x.index s.heap) where
+  by : (access : Access) → IsSilent (stores_at p access x.array x.index x.datum s m o)
+  by ToNull = record { starts_none = refl; wrote = refl }
+  by ToAnother = record { starts_none = refl; wrote = refl }
+  by Outside = record { starts_none = refl; wrote = refl }
+  by (Inside slot) = chosen-silent (fits_array p x.datum x.array s.heap) _ _ (record { starts_none = refl; wrote = refl }) (record { starts_none = refl; wrote = refl })
+
+-- athrow goes on nowhere
+module _ (w : World) (line : Line) (s : State) (f : Frame) where
+  abbrev ThrowsAs : Outcome → Type 0
+  ThrowsAs q = ActsAs w (instruction_by Athrow line) s f (done s.shared q) (acts_asked w line s f q)
+
+  chosen-throws : (b : Bool) (x y : Outcome) → ThrowsAs x → ThrowsAs y → ThrowsAs (cond b x y)
+  chosen-throws true x y hx hy = hx
+  chosen-throws false x y hx hy = hy
+
+  raises-as : (name : List ℕ) (message : Option (List ℕ)) → ThrowsAs (Raises name message)
+  raises-as name message = quiet-acts w (instruction_by Athrow line) s f (Raises name message) _ refl refl
+
+  throws-as : (r : ℕ) → ThrowsAs (Throws r)
+  throws-as r = quiet-acts w (instruction_by Athrow line) s f (Throws r) _ refl refl
+
+  unverifiable-as : ThrowsAs (Breaks false)
+  unverifiable-as = quiet-acts w (instruction_by Athrow line) s f (Breaks false) _ refl refl
+
+  athrow-acts : (x : Option ℕ) → ThrowsAs (throws w s.shared x)
+  athrow-acts None = unverifiable-as
+  athrow-acts (Some r) =
+      chosen-throws (r == 0) _ _ (raises-as null_pointer None)
+      (chosen-throws (is_below w.program (class_of w.program s.shared r) throwable) _ _ (throws-as r) unverifiable-as)
+
+-- ---- invokestatic
 
 invokes-starts : (method count : ℕ) (args : Option (List Datum)) (o : Operands) → starts (invokes method count args o) ≡ None
 invokes-starts method count None o = refl
@@ -319,25 +417,33 @@ method-starts method (Some params) o = invokes-starts method (length params) (ar
 
 module _ (w : World) (line : Line) (r : Reference) (s : State) (f : Frame) (none : fresh s.shared.phases ≡ 0) where
   abbrev StaticAs : Done → Type 0
-  StaticAs d = ActsAs w (instruction_by (Invokestatic r) line) s f d (applies w (original w.program) (placed_line line) d.outcome s f).after
+  StaticAs d = ActsAs w (instruction_by (Invokestatic r) line) s f d (acts_asked w line s f d.outcome)
 
   asks-as : (q : Outcome) → starts q ≡ None → StaticAs (done s.shared q)
-  asks-as q starts_none =
-      quiet-acts w (instruction_by (Invokestatic r) line) s f q (applies w (original w.program) (placed_line line) q s f).after starts_none (placed-same w line r s f q)
+  asks-as q starts_none = asked-acts w line (Invokestatic r) s f q refl starts_none
 
   -- no class is fresh
-  phase-as : (class : ℕ) (q : Outcome) → starts q ≡ None → (x : Option Phase) → phase_of s.shared class ≡ x → StaticAs (when_ready x class s.shared (done s.shared q))
+  phase-as : (class : ℕ) (q : Outcome) → starts q ≡ None → (x : Option Phase) → phase_of s.shared class ≡ x
+      → StaticAs (when_ready w.program x class s.shared (done s.shared q))
   phase-as class q starts_none (Some Ready) is = asks-as q starts_none
   phase-as class q starts_none (Some Running) is = asks-as q starts_none
   phase-as class q starts_none (Some Fresh) is = absurd (none-fresh s.shared.phases class none is)
-  phase-as class q starts_none (Some Erroneous) is = asks-as (Raises no_class_definition) refl
-  phase-as class q starts_none None is = asks-as (Raises no_class_definition) refl
+  phase-as class q starts_none (Some Erroneous) is = asks-as (Raises no_class_definition (name_at w.program class)) refl
+  phase-as class q starts_none None is = asks-as (Raises no_class_definition (name_at w.program class)) refl
 
-  static-as : (class method : Option ℕ) → StaticAs (invokes_static w class method s.shared f.operands)
-  static-as None method = asks-as (Raises no_class_definition) refl
-  static-as (Some class) None = asks-as (Raises no_such_method) refl
-  static-as (Some class) (Some method) =
+  -- by the class and the method that the reference names
+  static-as : (class : ℕ) (method : Option ℕ)
+      → ActsAs w (instruction_by (Invokestatic r) line) s f (invokes_static w r.class (Some class) method s.shared f.operands) (acts_invokestatic w line class method s f)
+  static-as class None = asks-as (Raises no_such_method None) refl
+  static-as class (Some method) =
       phase-as class (invokes_method w method f.operands) (method-starts method (params_of_method w.program method) f.operands) (phase_of s.shared class) refl
+
+  invoked-as : (class : Option ℕ)
+      → ActsAs w (instruction_by (Invokestatic r) line) s f
+      (invokes_static w r.class class (option_and_then (declared_method w.program r.member) class) s.shared f.operands)
+      (acts_by w line s f (invokes_by w.program r class))
+  invoked-as None = asks-as (Raises no_class_definition (Some r.class)) refl
+  invoked-as (Some class) = static-as class (declared_method w.program r.member class)
 
 -- ---- every line
 
@@ -345,12 +451,16 @@ named-action : (b : Bool) (a found : Action) → cond b (Some a) None ≡ Some f
 named-action true a found e = (refl, same_Some a found e)
 named-action false a found e = absurd (none-some found e)
 
+-- by the action that the line has
+acted : (w : World) (line : Line) (s : State) (f : Frame) (op : Operation) (a : Action) → Some a ≡ Some line.action
+    → ActsAs w (instruction_by op line) s f (does w op s.shared f.locals f.operands) (acts_by w line s f a)
+    → ActsAs w (instruction_by op line) s f (does w op s.shared f.locals f.operands) (acts w line s f)
+acted w line s f op a is acts_so =
+    subst (λ x. ActsAs w (instruction_by op line) s f (does w op s.shared f.locals f.operands) (acts_by w line s f x)) (same_Some a line.action is) acts_so
+
 pub op-acts : (w : World) (line : Line) (s : State) (f : Frame) (op : Operation) → fresh s.shared.phases ≡ 0 → IsTied w.program line op
     → ActsAs w (instruction_by op line) s f (does w op s.shared f.locals f.operands) (acts w line s f)
-op-acts w line s f (Within l) none tied =
-    subst (λ a. ActsAs w (instruction_by (Within l) line) s f (does w (Within l) s.shared f.locals f.operands) (acts_by w line s f a))
-    (same_Some (local_action l) line.action tied.action)
-    (within-acts w line s f l (tied.alone l refl))
+op-acts w line s f (Within l) none tied = acted w line s f (Within l) (local_action l) tied.action (within-acts w line s f l (tied.alone l refl))
 op-acts w line s f (Getstatic r) none tied =
     let found = named-action (is_out r) action.Out line.action tied.action in
     subst (λ a. ActsAs w (instruction_by (Getstatic r) line) s f (does w (Getstatic r) s.shared f.locals f.operands) (acts_by w line s f a)) found.1
@@ -360,8 +470,24 @@ op-acts w line s f (Invokevirtual r) none tied =
     subst (λ a. ActsAs w (instruction_by (Invokevirtual r) line) s f (does w (Invokevirtual r) s.shared f.locals f.operands) (acts_by w line s f a)) found.1
     (println-acts w line r s f found.0)
 op-acts w line s f (Invokestatic r) none tied =
-    subst (λ a. ActsAs w (instruction_by (Invokestatic r) line) s f (does w (Invokestatic r) s.shared f.locals f.operands) (acts_by w line s f a))
-    (same_Some (action.Invokestatic (class_of_reference w.program r) (method_of_reference w.program r)) line.action tied.action)
-    (static-as w line r s f none (class_of_reference w.program r) (method_of_reference w.program r))
+    acted w line s f (Invokestatic r) (invokes_by w.program r (class_of_reference w.program r)) tied.action (invoked-as w line r s f none (class_of_reference w.program r))
 op-acts w line s f (Putstatic r) none tied = absurd (none-some line.action tied.action)
-op-acts w line s f Athrow none tied = absurd (none-some line.action tied.action)
+op-acts w line s f Athrow none tied = acted w line s f Athrow action.Athrow tied.action (athrow-acts w line s f (ref_of f.operands))
+op-acts w line s f Monitor none tied =
+    acted w line s f Monitor action.Monitor tied.action
+    (asked-acts w line Monitor s f (watches (ref_of f.operands) f.locals f.operands) refl (watches-starts (ref_of f.operands) f.locals f.operands))
+op-acts w line s f Arraylength none tied =
+    acted w line s f Arraylength action.Arraylength tied.action
+    (asked-acts w line Arraylength s f (measures (ref_of f.operands) s.shared f.locals f.operands) refl (measures-starts (ref_of f.operands) s.shared f.locals f.operands))
+op-acts w line s f (Newarray code) none tied =
+    acted w line s f (Newarray code) (action.Newarray (array_kind code)) tied.action
+    (done-acts w line (Newarray code) s f (makes (array_kind code) (int_of f.operands) s.shared f.locals f.operands) refl
+    (makes-silent (array_kind code) (int_of f.operands) s.shared f.locals f.operands))
+op-acts w line s f (LoadElement k) none tied =
+    acted w line s f (LoadElement k) (action.LoadElement k) tied.action
+    (asked-acts w line (LoadElement k) s f (loads_element k (place_of f.operands) s.shared f.locals f.operands) refl
+    (loads-starts k (place_of f.operands) s.shared f.locals f.operands))
+op-acts w line s f (StoreElement k) none tied =
+    acted w line s f (StoreElement k) (action.StoreElement k) tied.action
+    (done-acts w line (StoreElement k) s f (stores_element w.program k (storing_of k f.operands) s.shared f.locals f.operands) refl
+    (stores-silent w.program k (storing_of k f.operands) s.shared f.locals f.operands))

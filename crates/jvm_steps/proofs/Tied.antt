@@ -1,5 +1,6 @@
 -- What stands at an offset of the prepared code is what the text of original code has there.
-use Rattle.std.proofs.Common.{◌≡◌, ℕ, Bool, true, false, cond, Option, Some, None, refl, sym, ap, subst, ◌∙◌}
+use Rattle.std.proofs.Common.{◌≡◌, ℕ, Bool, true, false, cond, List, [], ◌∷◌, Option, Some, None, refl, sym, ap, subst, ◌∙◌}
+use Rattle.std.proofs.lemmas.Bool.{false≢true}
 use Rattle.std.specs.Prelude.{◌==◌}
 use Rattle.std.specs.Option.{option_and_then, option_map}
 use Rattle.std.proofs.lemmas.Option.{same_Some, none-some}
@@ -14,21 +15,21 @@ use Rattle.code_model.specs.Instructions.{instruction_at, end_of}
 use Rattle.jvm_model.specs.declared.family.Family.{Family}
 use Rattle.jvm_model.specs.declared.family.Family.TheVariants as family
 use Rattle.jvm_model.specs.declared.program.Program.{Program}
-use Rattle.jvm_model.specs.Data.{Locals, Operands, Local, Nop, Constant, Load, Store, Arrange, BinaryOfInts, BinaryOfLongs, DivisionOfInts, DivisionOfLongs, ShiftOfLong, UnaryOfInt, UnaryOfLong, Lcmp, Iinc, Branch, Goto, Switch, Jsr, Ret, Return, Operation, Within, Getstatic, Invokestatic, Invokevirtual, Instruction}
+use Rattle.jvm_model.specs.Data.{Locals, Operands, Local, Nop, Constant, Load, Store, Arrange, BinaryOfInts, BinaryOfLongs, DivisionOfInts, DivisionOfLongs, ShiftOfLong, UnaryOfInt, UnaryOfLong, Lcmp, Iinc, Branch, Goto, Switch, Jsr, Ret, Return, Operation, Within, Getstatic, Putstatic, Invokestatic, Invokevirtual, Athrow, Monitor, Newarray, Arraylength, LoadElement, StoreElement, Instruction}
 use Rattle.jvm_model.specs.Families.{family_of}
-use Rattle.jvm_model.specs.Lines.{value_in, slot_in, increment_in, target_in, keys_in, local_of, constant_in, getstatic_of, invokevirtual_of, pool_operation, named_operation, operation_by, is_last, next_of, targets_of, instruction_of}
+use Rattle.jvm_model.specs.Lines.{value_in, slot_in, increment_in, target_in, keys_in, local_of, constant_in, getstatic_of, invokevirtual_of, pool_operation, ObjectRow, object_among, object_rows, newarray_of, other_operation, operation_by, is_last, next_of, targets_of, instruction_of}
 use Rattle.jvm_model.specs.LocalRules.{within}
 use Rattle.jvm_model.specs.Methods.{method_code}
 use Rattle.jvm_model.specs.Originals.{original}
-use Rattle.jvm_model.specs.Programs.{class_at, place_of_method}
+use Rattle.jvm_model.specs.Programs.{class_at, class_of_reference, place_of_method}
 use Rattle.jvm_model.specs.Rules.{is_out, is_println}
 use Rattle.jvm_model.specs.Values.{as_value}
 use Rattle.jvm_basic.specs.Rules.{datum_in, placed, going, needs, rule_by, rule_of}
 use Rattle.jvm_steps.specs.declared.line.Action.{Action}
 use Rattle.jvm_steps.specs.declared.line.Action.TheVariants as action
 use Rattle.jvm_steps.specs.declared.line.Line.{Line}
-use Rattle.jvm_steps.specs.Acts.{is_last_family, next_in}
-use Rattle.jvm_steps.specs.Lines.{local_action, action_of, line_with, line_of, line_at}
+use Rattle.jvm_steps.specs.Acts.{is_athrow, is_last_family, next_in}
+use Rattle.jvm_steps.specs.Lines.{local_action, invokes_by, action_of, line_with, line_of, line_at}
 
 -- ---- a line and what it does
 
@@ -95,6 +96,11 @@ last-same family.Switch a c l e = made-last Switch true (λ keys. refl) (keys_in
 last-same (family.Return k) a c l e = known-last (Return k) l true refl e
 last-same family.Elsewhere a c l e = absurd (none-some l e)
 
+-- none of them is athrow
+local-throws : (l : Local) → is_athrow (local_action l) ≡ false
+local-throws (Return k) = refl
+local-throws l = refl
+
 -- a datum as a value is that datum
 datum-back : (c : Option Datum) → option_and_then datum_in (option_map as_value c) ≡ c
 datum-back None = refl
@@ -106,6 +112,27 @@ rule-by-is : (f : Family) → (f ≡ family.Elsewhere → ⊥) → (a : Arg) (c 
     → rule_by f a c next m o ≡ needs (local_of f a c) (λ l. going (within l) next (targets_of a)) m o
 rule-by-is family.Elsewhere apart a c next m o = absurd (apart refl)
 rule-by-is f apart a c next m o = refl
+
+-- ---- operations that see objects
+
+abbrev is_object : Operation → Bool
+is_object Athrow = true
+is_object Monitor = true
+is_object (Newarray code) = true
+is_object Arraylength = true
+is_object (LoadElement k) = true
+is_object (StoreElement k) = true
+is_object _ = false
+
+abbrev are_objects : List ObjectRow → Bool
+are_objects [] = true
+are_objects (r ∷ rest) = cond (is_object r.operation) (are_objects rest) false
+
+both : (a b : Bool) → cond a b false ≡ true → (a ≡ true) × (b ≡ true)
+both true b h = (refl, h)
+both false b h = absurd (false≢true h)
+
+-- ---- the line of an instruction
 
 module _ (p : Program) (c : ClassFile) (i : Instr) where
   abbrev constant : Option Datum
@@ -119,10 +146,11 @@ module _ (p : Program) (c : ClassFile) (i : Instr) where
   the_instruction o = option_map (λ op. record { operation = op; own = i.at; next = next_of op (end_of i); targets = targets_of i.arg }) o
 
   next-same : (f : Family) → family_of i.op ≡ f → (l : Local) → local_of f i.arg constant ≡ Some l
-      → next_of (Within l) (end_of i) ≡ cond (is_last_family (family_of i.op)) None (Some (end_of i))
+      → next_of (Within l) (end_of i) ≡ cond (is_athrow (local_action l)) None (cond (is_last_family (family_of i.op)) None (Some (end_of i)))
   next-same f is l e =
       ap (λ b. cond b None (Some (end_of i))) (last-same f i.arg constant l e)
       ∙ ap (λ x. cond (is_last_family x) None (Some (end_of i))) (sym is)
+      ∙ ap (λ b. cond b None (cond (is_last_family (family_of i.op)) None (Some (end_of i)))) (sym (local-throws l))
 
   rule-same : (f : Family) → (f ≡ family.Elsewhere → ⊥) → family_of i.op ≡ f → (l : Local) → local_of f i.arg constant ≡ Some l → (m : Locals) (o : Operands)
       → rule_of i (option_map as_value constant) (end_of i) m o ≡ placed (end_of i) (targets_of i.arg) m o (within l m o)
@@ -153,7 +181,7 @@ module _ (p : Program) (c : ClassFile) (i : Instr) where
 
   -- ---- instructions with names
 
-  -- control goes on behind each of them
+  -- control goes on behind an instruction of no family, but for athrow
   behind : family_of i.op ≡ family.Elsewhere → Some (end_of i) ≡ cond (is_last_family (family_of i.op)) None (Some (end_of i))
   behind is = ap (λ x. cond (is_last_family x) None (Some (end_of i))) (sym is)
 
@@ -183,12 +211,21 @@ module _ (p : Program) (c : ClassFile) (i : Instr) where
           tied = record { action = ap (λ x. cond x (Some action.Println) None) e; next = behind is; alone = λ k same. absurd cc };
         })
 
+  -- what invokestatic does, by whether there is the class
+  invoked-on : (r : Reference) (class : Option ℕ) → is_athrow (invokes_by p r class) ≡ false
+  invoked-on r None = refl
+  invoked-on r (Some class) = refl
+
   tied-invokestatic : family_of i.op ≡ family.Elsewhere → (o : Option Reference) → Tie p (the_line (option_map Invokestatic o)) (the_instruction (option_map Invokestatic o))
   tied-invokestatic is None = tt
   tied-invokestatic is (Some r) = record {
     op = Invokestatic r;
     is = refl;
-    tied = record { action = refl; next = behind is; alone = λ k same. absurd cc };
+    tied = record {
+      action = refl;
+      next = behind is ∙ ap (λ b. cond b None (cond (is_last_family (family_of i.op)) None (Some (end_of i)))) (sym (invoked-on r (class_of_reference p r)));
+      alone = λ k same. absurd cc;
+    };
   }
 
   abbrev TiedOperation : Option Operation → Type 0
@@ -204,14 +241,37 @@ module _ (p : Program) (c : ClassFile) (i : Instr) where
       (either (i.op == 182) _ _ (tied-invokevirtual is (named_method c.pool index))
       (either (i.op == 184) _ _ (tied-invokestatic is (named_method c.pool index)) tt))
 
-  tied-named : family_of i.op ≡ family.Elsewhere → (a : Arg) → TiedOperation (named_operation c i.op a)
-  tied-named is (arg.Pool index) = tied-pool is index
-  tied-named is _ = tt
+  -- ---- instructions that see objects
+
+  tied-object : family_of i.op ≡ family.Elsewhere → (op : Operation) → is_object op ≡ true → TiedOperation (Some op)
+  tied-object is Athrow object = record { op = Athrow; is = refl; tied = record { action = refl; next = refl; alone = λ k same. absurd cc } }
+  tied-object is Monitor object = record { op = Monitor; is = refl; tied = record { action = refl; next = behind is; alone = λ k same. absurd cc } }
+  tied-object is (Newarray code) object = record { op = Newarray code; is = refl; tied = record { action = refl; next = behind is; alone = λ k same. absurd cc } }
+  tied-object is Arraylength object = record { op = Arraylength; is = refl; tied = record { action = refl; next = behind is; alone = λ k same. absurd cc } }
+  tied-object is (LoadElement k) object = record { op = LoadElement k; is = refl; tied = record { action = refl; next = behind is; alone = λ k same. absurd cc } }
+  tied-object is (StoreElement k) object = record { op = StoreElement k; is = refl; tied = record { action = refl; next = behind is; alone = λ k same. absurd cc } }
+  tied-object is (Within l) object = absurd (false≢true object)
+  tied-object is (Getstatic r) object = absurd (false≢true object)
+  tied-object is (Putstatic r) object = absurd (false≢true object)
+  tied-object is (Invokestatic r) object = absurd (false≢true object)
+  tied-object is (Invokevirtual r) object = absurd (false≢true object)
+
+  tied-rows : family_of i.op ≡ family.Elsewhere → (rows : List ObjectRow) → are_objects rows ≡ true → TiedOperation (object_among rows i.op)
+  tied-rows is [] objects = tt
+  tied-rows is (r ∷ rest) objects =
+      let all = both (is_object r.operation) (are_objects rest) objects in
+      either (i.op == r.op) _ _ (tied-object is r.operation all.0) (tied-rows is rest all.1)
+
+  tied-other : family_of i.op ≡ family.Elsewhere → (a : Arg) → TiedOperation (other_operation c i.op a)
+  tied-other is (arg.Pool index) = tied-pool is index
+  tied-other is (arg.Array code) = either (i.op == 188) _ _ (tied-object is (Newarray code) refl) tt
+  tied-other is arg.Plain = tied-rows is object_rows refl
+  tied-other is _ = tt
 
   -- ---- every instruction
 
   tied-by : (f : Family) → family_of i.op ≡ f → TiedOperation (operation_by c i.op i.arg f)
-  tied-by family.Elsewhere is = tied-named is i.arg
+  tied-by family.Elsewhere is = tied-other is i.arg
   tied-by f is = tied-local f (λ e. absurd cc) is (local_of f i.arg constant) refl
 
   tied-instruction : Tie p (line_of p c i) (instruction_of c i)

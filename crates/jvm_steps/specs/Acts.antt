@@ -48,8 +48,15 @@ is_last_family family.Ret = true
 is_last_family (family.Return k) = true
 is_last_family _ = false
 
+-- nor behind athrow
+abbrev pub is_athrow : Action → Bool
+is_athrow action.Athrow = true
+is_athrow _ = false
+
 abbrev pub next_in : Line → Option ℕ
-next_in line = if is_last_family (family_of line.instr.op) then None else Some line.next
+next_in line =
+    if is_athrow line.action then None
+    else if is_last_family (family_of line.instr.op) then None else Some line.next
 
 -- the instruction that the line stands for, where control goes on behind it
 abbrev pub placed_line : Line → Instruction

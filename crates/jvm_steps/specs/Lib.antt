@@ -10,3 +10,5 @@ pub mod Arguments
 pub mod Invoking
 pub mod Entries
 pub mod Runs
+pub mod Raising
+pub mod Elements

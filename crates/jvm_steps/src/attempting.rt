@@ -1,6 +1,7 @@
 //! An attempt of the current frame's line.
 
 ghost use Rattle.std.specs.Prelude.{◌≡◌, ◌++◌, OnOk};
+ghost use Rattle.jvm_model.specs.Families.{family_of};
 ghost use Rattle.jvm_model.specs.Moves.{fresh};
 ghost use Rattle.jvm_model.specs.Rules.{line_text};
 ghost use Rattle.jvm_steps.specs.Acts.{IsTop, Becomes, on_parts, ended};
@@ -19,7 +20,7 @@ use crate::raising::{break_off, end_unless, raise_with};
 use crate::returning::return_by;
 use crate::throwing::throw_object;
 use jf_bytes::{NoMemory, Seq};
-use jvm_basic::{Effect, basic};
+use jvm_basic::{Effect, basic_by};
 use std::alloc::Global;
 
 /// The message of a division by zero.
@@ -41,10 +42,18 @@ fn act_alone(
     line: &Line,
 ) -> Result<(), NoMemory>
     requires top { IsTop method parts.old.frames.frames }
+    requires family { line.now.family ≡ family_of line.now.instr.op }
     ensures state { Becomes result parts.new (acts_alone originals.now line.now) parts.old }
     ensures phases { OnOk result (parts.new.shared.phases ≡ parts.old.shared.phases) }
 {
-    match basic(&line.instr, line.constant, line.next, &mut parts.frames) {
+    let effect = basic_by(
+        line.family,
+        &line.instr,
+        line.constant,
+        line.next,
+        &mut parts.frames,
+    );
+    match effect {
         Effect::Next => Ok(()),
         Effect::Throws(_) => raise_with(originals, parts, Exception::Arithmetic, BY_ZERO),
         Effect::Bad => break_here(parts, method, line.instr.at),
@@ -97,6 +106,7 @@ fn act(
     line: &Line,
 ) -> Result<(), NoMemory>
     requires top { IsTop method parts.old.frames.frames }
+    requires family { line.now.family ≡ family_of line.now.instr.op }
     requires none { fresh parts.old.shared.phases ≡ 0 }
     ensures state { Becomes result parts.new (acts originals.now line.now) parts.old }
     ensures phases { OnOk result (parts.new.shared.phases ≡ parts.old.shared.phases) }
@@ -130,7 +140,8 @@ fn act(
     }
 }
 
-/// Attempts what stands at the current frame's place: its instruction alone, without what follows from it.
+/// Attempts what stands at the current frame's place: its instruction alone, without what follows
+/// from it.
 pub fn attempt(alloc: Global, originals: &Originals, parts: &mut Parts) -> Result<(), NoMemory>
     requires { fresh parts.old.shared.phases ≡ 0 }
     ensures state { let s = state_in parts.old in

@@ -1,14 +1,224 @@
 //! Elements of arrays: iaload to saload, iastore to sastore (JVM Specification 6.5).
 
-ghost use Rattle.std.specs.Prelude.{◌≡◌, OnOk};
-ghost use Rattle.jvm_steps.specs.Acts.{IsTop, Becomes, acts_load, acts_store};
+ghost use Rattle.std.specs.Prelude.{◌≡◌, true, IfOk, IsSome, OnOk};
+ghost use Rattle.std.specs.Fmt.{signed_decimal};
+ghost use Rattle.std.specs.Option.{option_map};
+ghost use Rattle.frame_stack.specs.FrameLists.{top_operands};
+ghost use Rattle.heap_objects.specs.Heaps.{has_slot_at};
+ghost use Rattle.heap_objects.specs.Kinds.{element_of};
+ghost use Rattle.jvm_model.specs.ObjectRules.{access_to, index_in, place_of};
+ghost use Rattle.jvm_model.specs.ObjectRules.{serves, serves_object, storing_of};
+ghost use Rattle.jvm_steps.specs.Acts.{IsTop, Becomes, acts_load, acts_store, on_parts};
+ghost use Rattle.jvm_steps.specs.Elements.{access_of, acts_loaded, acts_refused, acts_stored};
+ghost use Rattle.jvm_steps.specs.Elements.{element_at, place_by, storing_by};
+ghost use Rattle.jvm_steps.specs.States.{state_in};
 
+use crate::going::datum_of;
+use crate::kinds::fits_array;
 use crate::line::Line;
-use crate::originals::Originals;
+use crate::originals::{Exception, Originals};
 use crate::parts::Parts;
+use crate::raising::{break_off, end_unless, raise, raise_with};
 use const_pool::Kind;
-use jf_bytes::NoMemory;
+use frame_stack::Frames;
+use heap_objects::{Datum, Element, Heap, Value, element_of};
+use jf_bytes::{NoMemory, Seq};
+use jvm_basic::{drop_three, recall, replace_two, value_of};
 use std::alloc::Global;
+
+/// Where an array and an index lead: the array is null, or the object none that the instruction
+/// serves, or the index is outside, or it is that of an element.
+#[derive(Clone, Copy)]
+pub enum Led {
+    ToNull,
+    ToAnother,
+    Outside,
+    Inside(u32),
+}
+
+/// An array and an index.
+#[derive(Clone, Copy)]
+pub struct Place {
+    pub array: u32,
+    pub index: i32,
+}
+
+/// What is stored, and where.
+#[derive(Clone, Copy)]
+pub struct Storing {
+    pub place: Place,
+    pub datum: Datum,
+}
+
+/// Whether instructions of a kind serve arrays of these elements.
+fn serves(kind: Kind, element: Element) -> bool
+    ensures { result ≡ serves kind element }
+{
+    match (kind, element) {
+        (Kind::Int, Element::Int)
+        | (Kind::Long, Element::Long)
+        | (Kind::Ref, Element::Reference)
+        | (Kind::Byte, Element::Byte | Element::Boolean)
+        | (Kind::Char, Element::Char)
+        | (Kind::Short, Element::Short) => true,
+        _ => false,
+    }
+}
+
+/// Whether they serve the object.
+fn serves_object(heap: &Heap, kind: Kind, object: u32) -> bool
+    ensures { result ≡ serves_object kind object heap.now }
+{
+    match heap.kind(object) {
+        Some(of_object) => serves(kind, element_of(of_object)),
+        None => false,
+    }
+}
+
+/// Whether an object has this slot.
+#[tactic(auto, using(crate::proofs::ElementLemmas::is_slot))]
+fn has_slot(heap: &Heap, object: u32, slot: u32) -> bool
+    ensures { result ≡ has_slot_at object slot heap.now }
+{
+    heap.get(object, slot).is_some()
+}
+
+/// Where an index leads in an array.
+fn led_in(heap: &Heap, array: u32, index: i32) -> Led
+    ensures { access_of result ≡ index_in array index heap.now }
+{
+    if index < 0 {
+        return Led::Outside;
+    }
+    let slot = index as u32;
+    if has_slot(heap, array, slot) {
+        Led::Inside(slot)
+    } else {
+        Led::Outside
+    }
+}
+
+/// Where an instruction of a kind is led.
+fn led_to(heap: &Heap, kind: Kind, place: &Place) -> Led
+    ensures { access_of result ≡ access_to kind place.now.array place.now.index heap.now }
+{
+    if place.array == 0 {
+        return Led::ToNull;
+    }
+    if serves_object(heap, kind, place.array) {
+        led_in(heap, place.array, place.index)
+    } else {
+        Led::ToAnother
+    }
+}
+
+/// The units of a text in ASCII.
+fn units_of(alloc: Global, bytes: &[u8]) -> Result<Seq<u16>, NoMemory>
+    ensures { IfOk result (λ units. units ≡ bytes.now) }
+{
+    let mut units = Seq::with_capacity(alloc, bytes.len())?;
+    for byte in bytes {
+        units.push(u16::from(*byte))?;
+    }
+    Ok(units)
+}
+
+/// A number in decimal.
+fn text_of(alloc: Global, n: i32) -> Result<Seq<u16>, NoMemory>
+    ensures { IfOk result (λ units. units ≡ signed_decimal n) }
+{
+    let text = n.to_string(alloc)?;
+    units_of(alloc, text.as_bytes())
+}
+
+/// What becomes of an instruction that is led to no element: an index outside is told.
+fn refuse(
+    alloc: Global,
+    originals: &Originals,
+    parts: &mut Parts,
+    method: u32,
+    line: &Line,
+    led: Led,
+    index: i32,
+) -> Result<(), NoMemory>
+    requires top { IsTop method parts.old.frames.frames }
+    ensures state { Becomes result parts.new
+        (acts_refused originals.now line.now led index) parts.old }
+    ensures phases { OnOk result (parts.new.shared.phases ≡ parts.old.shared.phases) }
+{
+    match led {
+        Led::ToNull => raise(originals, parts, Exception::NullPointer),
+        Led::Outside => {
+            let text = text_of(alloc, index)?;
+            raise_with(originals, parts, Exception::IndexOutside, text.as_slice())
+        }
+        Led::ToAnother | Led::Inside(_) => {
+            break_off(parts, method, line.instr.at);
+            Ok(())
+        }
+    }
+}
+
+/// The array and the index on top.
+fn place_of(frames: &Frames) -> Option<Place>
+    ensures { option_map place_by result ≡ place_of (top_operands frames.now.frames) }
+{
+    let Some(Value::Int(index)) = frames.peek(0) else {
+        return None;
+    };
+    match frames.peek(1) {
+        Some(Value::Ref(array)) => Some(Place { array, index }),
+        _ => None,
+    }
+}
+
+/// The array, the index and the value on top, which elements of a kind may have.
+fn storing_of(frames: &Frames, kind: Kind) -> Option<Storing>
+    ensures { option_map storing_by result ≡ storing_of kind (top_operands frames.now.frames) }
+{
+    let value = frames.peek(0)?;
+    let Some(Value::Int(index)) = frames.peek(1) else {
+        return None;
+    };
+    let Some(Value::Ref(array)) = frames.peek(2) else {
+        return None;
+    };
+    let datum = datum_of(kind, value)?;
+    Some(Storing {
+        place: Place { array, index },
+        datum,
+    })
+}
+
+/// The element to which an instruction of a kind is led.
+#[tactic(auto, using(crate::proofs::ElementLemmas::element_in))]
+fn element_at(heap: &Heap, kind: Kind, place: &Place) -> Option<Datum>
+    ensures { let access = access_to kind place.now.array place.now.index heap.now in
+        result ≡ element_at access place.now.array heap.now }
+{
+    if place.array == 0 {
+        return None;
+    }
+    if !serves_object(heap, kind, place.array) {
+        return None;
+    }
+    if place.index < 0 {
+        return None;
+    }
+    heap.get(place.array, place.index as u32)
+}
+
+/// An element takes the place of its array and the index.
+fn load(parts: &mut Parts, method: u32, line: &Line, datum: Datum)
+    requires top { IsTop method parts.old.frames.frames }
+    requires place { IsSome (place_of (top_operands parts.old.frames.frames)) }
+    ensures state { state_in parts.new ≡ on_parts (acts_loaded line.now datum) parts.old }
+    ensures phases { parts.new.shared.phases ≡ parts.old.shared.phases }
+{
+    recall(&parts.frames);
+    let effect = replace_two(&mut parts.frames, value_of(datum), line.next);
+    end_unless(parts, method, line.instr.at, effect);
+}
 
 /// Loads an element of an array that instructions of this kind serve.
 pub fn load_element(
@@ -23,7 +233,30 @@ pub fn load_element(
     ensures state { Becomes result parts.new (acts_load originals.now line.now kind) parts.old }
     ensures phases { OnOk result (parts.new.shared.phases ≡ parts.old.shared.phases) }
 {
-    Err(NoMemory)
+    let Some(place) = place_of(&parts.frames) else {
+        break_off(parts, method, line.instr.at);
+        return Ok(());
+    };
+    let Some(datum) = element_at(&parts.shared.heap, kind, &place) else {
+        let led = led_to(&parts.shared.heap, kind, &place);
+        return refuse(alloc, originals, parts, method, line, led, place.index);
+    };
+    load(parts, method, line, datum);
+    Ok(())
+}
+
+/// An element takes the value, whose operands are taken off.
+fn store(parts: &mut Parts, method: u32, line: &Line, array: u32, slot: u32, datum: Datum)
+    requires top { IsTop method parts.old.frames.frames }
+    requires slot { has_slot_at array slot parts.old.shared.heap ≡ true }
+    ensures state { state_in parts.new
+        ≡ on_parts (acts_stored line.now array slot datum) parts.old }
+    ensures phases { parts.new.shared.phases ≡ parts.old.shared.phases }
+{
+    parts.shared.heap.put(array, slot, datum);
+    recall(&parts.frames);
+    let effect = drop_three(&mut parts.frames, line.next);
+    end_unless(parts, method, line.instr.at, effect);
 }
 
 /// Stores an element of an array that instructions of this kind serve.
@@ -39,5 +272,19 @@ pub fn store_element(
     ensures state { Becomes result parts.new (acts_store originals.now line.now kind) parts.old }
     ensures phases { OnOk result (parts.new.shared.phases ≡ parts.old.shared.phases) }
 {
-    Err(NoMemory)
+    let Some(storing) = storing_of(&parts.frames, kind) else {
+        break_off(parts, method, line.instr.at);
+        return Ok(());
+    };
+    let place = storing.place;
+    let led = led_to(&parts.shared.heap, kind, &place);
+    let Led::Inside(slot) = led else {
+        return refuse(alloc, originals, parts, method, line, led, place.index);
+    };
+    let program = originals.program();
+    if !fits_array(program, &parts.shared.heap, storing.datum, place.array) {
+        return raise(originals, parts, Exception::ArrayStore);
+    }
+    store(parts, method, line, place.array, slot, storing.datum);
+    Ok(())
 }

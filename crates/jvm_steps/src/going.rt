@@ -5,15 +5,16 @@ ghost use Rattle.frame_stack.specs.FrameLists.{top_operands};
 ghost use Rattle.heap_objects.specs.declared.Value.TheVariants.{Ref};
 ghost use Rattle.jvm_basic.specs.Outcomes.{GoesOn, effect_of, after};
 ghost use Rattle.jvm_model.specs.Values.{as_value, datum_of};
-ghost use Rattle.jvm_steps.specs.Acts.{is_last_family, next_in, printable};
+ghost use Rattle.jvm_model.specs.Families.{family_of};
+ghost use Rattle.jvm_steps.specs.Acts.{is_athrow, is_last_family, next_in, printable};
 ghost use Rattle.jvm_steps.specs.Going.{takes_result, resume_effect, resume_frames, top_datum};
 
-use crate::line::Line;
+use crate::line::{Action, Line};
 use const_pool::Kind;
 use frame_stack::Frames;
 use heap_objects::{Datum, Value};
 use jvm_basic::{Effect, drop_two, go_on, put, recall};
-use jvm_model::{Family, family_of};
+use jvm_model::Family;
 
 /// System.out's object.
 const OUT: u32 = 3;
@@ -31,13 +32,22 @@ fn is_last(family: Family) -> bool
     }
 }
 
+/// Whether it is athrow.
+fn is_athrow(action: &Action) -> bool
+    ensures { result ≡ is_athrow action.now }
+{
+    match action {
+        Action::Athrow => true,
+        _ => false,
+    }
+}
+
 /// The offset behind a line, unless control never goes on there.
 pub fn next_in(line: &Line) -> Option<u16>
+    requires { line.now.family ≡ family_of line.now.instr.op }
     ensures { result ≡ next_in line.now }
 {
-    // Read by itself, so that its range is known.
-    let op = line.instr.op;
-    if is_last(family_of(op)) {
+    if is_athrow(&line.action) || is_last(line.family) {
         None
     } else {
         Some(line.next)
@@ -64,7 +74,8 @@ fn value_of(datum: Datum) -> Value
     }
 }
 
-/// The datum that a value is, where a descriptor of this kind may have it: boolean, byte, char and short are ints.
+/// The datum that a value is, where a descriptor of this kind may have it: boolean, byte, char and
+/// short are ints.
 pub fn datum_of(kind: Kind, value: Value) -> Option<Datum>
     ensures { result ≡ datum_of kind value }
 {

@@ -9,6 +9,7 @@ mod elements;
 mod going;
 mod handlers;
 mod invoking;
+mod kinds;
 mod line;
 mod lookup;
 mod members;
@@ -24,6 +25,7 @@ mod returning;
 mod settling;
 mod starting;
 mod stepping;
+mod supertypes;
 mod throwing;
 
 pub use descriptor::shape_of;

@@ -1,9 +1,10 @@
 //! Classes and methods of a program by their names (JVM Specification 5.4.3).
 
 ghost use Rattle.std.specs.Prelude.{◌≡◌, ◌<◌, ◌^◌, length, position, IfSome};
-ghost use Rattle.std.specs.Option.{option_and_then};
+ghost use Rattle.std.specs.Option.{option_copied};
 ghost use Rattle.const_pool.specs.Members.{reference_view};
-ghost use Rattle.jvm_model.specs.Programs.{class_named, declared_method, has_name, number_from, same_place};
+ghost use Rattle.jvm_model.specs.Programs.{class_named, has_name, name_at};
+ghost use Rattle.jvm_model.specs.Programs.{declared_method, number_from, same_place};
 
 use crate::members::method_named;
 use const_pool::{ClassFile, MemberRef};
@@ -30,6 +31,17 @@ fn has_bytes(name: &[u8], class: &ClassFile) -> bool
     }
 }
 
+/// The name of the class at a position, where there is one.
+pub fn name_at(program: &Program, class: u32) -> Option<&Text16>
+    ensures { option_copied result ≡ name_at program.now class }
+{
+    let found = program.classes.get(class as usize)?;
+    match found.pool.class_name(found.this_class) {
+        Ok(name) => Some(name),
+        Err(_) => None,
+    }
+}
+
 /// Where the class with this name stands.
 pub fn position_of(classes: &[ClassFile], name: &Text16) -> Option<usize>
     ensures { result ≡ position (has_name name.now) classes.now }
@@ -38,7 +50,7 @@ pub fn position_of(classes: &[ClassFile], name: &Text16) -> Option<usize>
 }
 
 /// Where the class stands whose name is these bytes.
-fn position_of_bytes(classes: &[ClassFile], name: &[u8]) -> Option<usize>
+pub fn position_of_bytes(classes: &[ClassFile], name: &[u8]) -> Option<usize>
     ensures { result ≡ position (has_name name.now) classes.now }
 {
     classes.iter().position(|class| has_bytes(name, class))
@@ -86,20 +98,11 @@ fn number_of(places: &[MethodPlace], class: usize, at: usize) -> Option<u32>
 }
 
 /// The number of the method that a reference names in the class at a position.
-fn declared_method(program: &Program, reference: &MemberRef<'_>, class: u32) -> Option<u32>
+pub fn declared_method(program: &Program, reference: &MemberRef<'_>, class: u32) -> Option<u32>
     requires { length program.now.methods < 2 ^ 32 }
     ensures { result ≡ declared_method program.now (reference_view reference.now).member class }
 {
     let found = program.classes.get(class as usize)?;
     let at = method_named(found, reference.name, reference.descriptor)?;
     number_of(program.methods.as_slice(), class as usize, at)
-}
-
-/// The same, where there is a class.
-pub fn declared_in(program: &Program, reference: &MemberRef<'_>, class: Option<u32>) -> Option<u32>
-    requires { length program.now.methods < 2 ^ 32 }
-    ensures { let member = (reference_view reference.now).member in
-        result ≡ option_and_then (declared_method program.now member) class }
-{
-    declared_method(program, reference, class?)
 }

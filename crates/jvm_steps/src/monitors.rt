@@ -1,12 +1,15 @@
-//! monitorenter and monitorexit (JVM Specification 6.5): of one thread nothing but the null check is left.
+//! monitorenter and monitorexit (JVM Specification 6.5): of one thread nothing but the null check
+//! is left.
 
 ghost use Rattle.std.specs.Prelude.{◌≡◌, OnOk};
 ghost use Rattle.jvm_steps.specs.Acts.{IsTop, Becomes, acts_monitor};
 
 use crate::line::Line;
-use crate::originals::Originals;
+use crate::originals::{Exception, Originals};
 use crate::parts::Parts;
+use crate::raising::{break_off, end_unless, raise};
 use jf_bytes::NoMemory;
+use jvm_basic::{drop_one, ref_of};
 
 /// Takes the object off.
 pub fn watch(
@@ -19,5 +22,14 @@ pub fn watch(
     ensures state { Becomes result parts.new (acts_monitor originals.now line.now) parts.old }
     ensures phases { OnOk result (parts.new.shared.phases ≡ parts.old.shared.phases) }
 {
-    Err(NoMemory)
+    let Some(reference) = ref_of(&parts.frames) else {
+        break_off(parts, method, line.instr.at);
+        return Ok(());
+    };
+    if reference == 0 {
+        return raise(originals, parts, Exception::NullPointer);
+    }
+    let effect = drop_one(&mut parts.frames, line.next);
+    end_unless(parts, method, line.instr.at, effect);
+    Ok(())
 }

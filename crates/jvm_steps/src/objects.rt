@@ -16,7 +16,7 @@ use std::alloc::Global;
 const BUILT_IN: usize = 53;
 
 /// The number from which on kinds are arrays'.
-const ARRAY: u32 = 16_777_216;
+pub const ARRAY: u32 = 16_777_216;
 
 /// How many classes stand before the built-in ones.
 fn user_count(program: &Program) -> u32
@@ -42,18 +42,18 @@ fn kind_of_class(program: &Program, class: u32) -> u32
     }
 }
 
-/// The position of the class of objects of a kind that is no array's.
-fn class_of_base(program: &Program, base: u32) -> u32
+/// The position of the class of a base of kinds; a primitive element has none.
+pub fn class_of_base(program: &Program, base: u32) -> Option<u32>
     requires { length program.now.classes < 2 ^ 24 }
-    ensures { result ≡ unwrap_or (class_of_base program.now base) 0 }
+    ensures { result ≡ class_of_base program.now base }
 {
     if base < 16 {
-        return 0;
+        return None;
     }
     if base < 256 {
-        user_count(program) + (base - 16)
+        Some(user_count(program) + (base - 16))
     } else {
-        base - 256
+        Some(base - 256)
     }
 }
 
@@ -62,10 +62,12 @@ pub fn class_of_kind(program: &Program, kind: u32) -> u32
     requires { length program.now.classes < 2 ^ 24 }
     ensures { result ≡ class_of_kind program.now kind }
 {
-    if kind < ARRAY {
-        class_of_base(program, kind)
-    } else {
-        user_count(program)
+    if kind >= ARRAY {
+        return user_count(program);
+    }
+    match class_of_base(program, kind) {
+        Some(class) => class,
+        None => 0,
     }
 }
 

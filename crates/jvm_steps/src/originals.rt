@@ -1,7 +1,9 @@
-//! The original code of a program, prepared: what stands at each offset is looked up once, and found by its offset from then on.
+//! The original code of a program, prepared: what stands at each offset is looked up once, and is
+//! found by its offset from then on.
 
 ghost use Rattle.std.specs.Prelude.{◌≡◌, ◌<◌, ◌^◌, length, IfOk};
-ghost use Rattle.std.specs.Option.{option_copied};
+ghost use Rattle.std.specs.Option.{option_copied, IfSome};
+ghost use Rattle.jvm_model.specs.Families.{family_of};
 ghost use Rattle.jvm_model.specs.Programs.{max_stack_of, max_locals_of, params_of_method};
 ghost use Rattle.jvm_model.specs.SharedState.{kind_for, string};
 ghost use Rattle.jvm_steps.specs.Lines.{line_at};
@@ -98,7 +100,8 @@ impl Originals {
 
     /// The line at an offset of a method's code, by two look-ups.
     pub fn line(&self, method: usize, place: u16) -> Option<&Line>
-        ensures { option_copied result ≡ line_at self.now.program method place }
+        ensures line { option_copied result ≡ line_at self.now.program method place }
+        ensures family { IfSome result (λ l. l.now.family ≡ family_of l.now.instr.op) }
     {
         self.methods
             .get(method)?

@@ -3,8 +3,10 @@
 ghost use Rattle.std.specs.Prelude.{◌≡◌, ◌<◌, ◌^◌, length, map, unwrap_or, IfOk};
 ghost use Rattle.jvm_model.specs.SharedState.{kind_for, string};
 ghost use Rattle.jvm_steps.specs.declared.originals.Exception.{Exception as TheException};
-ghost use Rattle.jvm_steps.specs.Entries.{code_line, entry_at, entry_of, lines_of, no_method, params_of};
-ghost use Rattle.jvm_steps.specs.Prepared.{exception_kind, exception_in, FitsOriginals, HasShortCode};
+ghost use Rattle.jvm_steps.specs.Entries.{code_line, lines_of, params_of};
+ghost use Rattle.jvm_steps.specs.Entries.{entry_at, entry_of, no_method};
+ghost use Rattle.jvm_steps.specs.Prepared.{FitsOriginals, HasShortCode};
+ghost use Rattle.jvm_steps.specs.Prepared.{exception_kind, exception_in};
 
 use crate::descriptor::shape_of;
 use crate::line::Line;
@@ -32,7 +34,7 @@ fn code_line(
 {
     let found = instr_at(alloc, code, at)?;
     match found {
-        Some(instr) => Ok(line_of(program, class, instr)),
+        Some(instr) => line_of(alloc, program, class, instr),
         None => Ok(None),
     }
 }

@@ -1,7 +1,10 @@
 //! How a run breaks off, and the exceptions that the machine makes (JVM Specification 2.10).
 
-ghost use Rattle.std.specs.Prelude.{◌≡◌, None, Some, OnOk};
+ghost use Rattle.std.specs.Prelude.{◌≡◌, None, Some, IfOk, OnOk};
+ghost use Rattle.heap_objects.specs.Heaps.{next_number, with_text};
 ghost use Rattle.jvm_steps.specs.Acts.{ended, ended_unless, raising};
+ghost use Rattle.jvm_steps.specs.Raising.{heap_made, heap_with_both, reference_made};
+ghost use Rattle.jvm_steps.specs.Raising.{reference_of_both, with_both};
 
 use crate::originals::{Exception, Originals};
 use crate::parts::Parts;
@@ -11,7 +14,7 @@ use jvm_basic::Effect;
 use jvm_model::Ending;
 
 /// The object that is thrown where an exception does not fit into the heap.
-const RESERVED: u32 = 1;
+pub const RESERVED: u32 = 1;
 
 /// Ends the run at this offset of the method; the frame stays as it was.
 pub fn break_off(parts: &mut Parts, method: u32, own: u16)
@@ -30,11 +33,51 @@ pub fn end_unless(parts: &mut Parts, method: u32, own: u16, effect: Effect)
     }
 }
 
+/// Makes an exception of this kind, whose two fields are null, and gives its number.
+fn make(heap: &mut Heap, kind: u32) -> Result<u32, NoMemory>
+    ensures heap { OnOk result (heap.new ≡ heap_made kind heap.old) }
+    ensures number { IfOk result (λ r. r ≡ reference_made heap.old) }
+{
+    match heap.instance(kind, &[Datum::Ref(0), Datum::Ref(0)]) {
+        Ok(number) => Ok(number),
+        Err(HeapError::HeapFull) => Ok(RESERVED),
+        Err(HeapError::NoMemory) => Err(NoMemory),
+    }
+}
+
+/// Makes the text of a message and then the exception. Where there is room for both nothing but
+/// memory can be wanting.
+fn make_both(heap: &mut Heap, string: u32, kind: u32, message: &[u16]) -> Result<u32, HeapError>
+    ensures heap { OnOk result (heap.new ≡ with_both string kind message.now heap.old) }
+    ensures number { IfOk result (λ r. r ≡ next_number (with_text string message.now heap.old)) }
+{
+    let text = heap.text(string, message)?;
+    heap.instance(kind, &[Datum::Ref(text), Datum::Ref(0)])
+}
+
+/// Makes an exception of this kind behind its message, and gives its number.
+fn make_with(heap: &mut Heap, string: u32, kind: u32, message: &[u16]) -> Result<u32, NoMemory>
+    ensures heap { OnOk result (heap.new ≡ heap_with_both string kind message.now heap.old) }
+    ensures number { IfOk result (λ r. r ≡ reference_of_both string message.now heap.old) }
+{
+    if !heap.has_room(1 + message.len() + 3) {
+        return Ok(RESERVED);
+    }
+    match make_both(heap, string, kind, message) {
+        Ok(number) => Ok(number),
+        Err(HeapError::HeapFull) => Err(NoMemory),
+        Err(HeapError::NoMemory) => Err(NoMemory),
+    }
+}
+
 /// Throws an exception that the machine makes, without a message.
 pub fn raise(originals: &Originals, parts: &mut Parts, exception: Exception) -> Result<(), NoMemory>
     ensures { OnOk result (parts.new ≡ raising originals.now exception None parts.old) }
 {
-    Err(NoMemory)
+    let kind = originals.kind_of(exception);
+    let thrown = make(&mut parts.shared.heap, kind)?;
+    parts.thrown = Some(thrown);
+    Ok(())
 }
 
 /// Throws an exception that the machine makes, with this message.
@@ -44,7 +87,12 @@ pub fn raise_with(
     exception: Exception,
     message: &[u16],
 ) -> Result<(), NoMemory>
-    ensures { OnOk result (parts.new ≡ raising originals.now exception (Some message.now) parts.old) }
+    ensures { let told = Some message.now in
+        OnOk result (parts.new ≡ raising originals.now exception told parts.old) }
 {
-    Err(NoMemory)
+    let string = originals.string_kind();
+    let kind = originals.kind_of(exception);
+    let thrown = make_with(&mut parts.shared.heap, string, kind, message)?;
+    parts.thrown = Some(thrown);
+    Ok(())
 }

@@ -1,6 +1,6 @@
 //! What an instruction does, with the names that it gives looked up (JVM Specification 5.4.3, 6.5).
 
-ghost use Rattle.std.specs.Prelude.{◌≡◌, ◌<◌, ◌^◌};
+ghost use Rattle.std.specs.Prelude.{◌≡◌, ◌<◌, ◌^◌, IfOk};
 ghost use Rattle.std.specs.Option.{option_and_then, option_map};
 ghost use Rattle.code_model.specs.Instructions.{end_of};
 ghost use Rattle.const_pool.specs.References.{named_field, named_method};
@@ -10,18 +10,25 @@ ghost use Rattle.jvm_model.specs.Lines.{constant_in, local_of, number_of};
 ghost use Rattle.jvm_model.specs.Values.{as_value};
 ghost use Rattle.jvm_model.specs.declared.family.Family.TheVariants.{Given};
 ghost use Rattle.jvm_model.specs.Lines.{getstatic_of, invokevirtual_of};
-ghost use Rattle.jvm_model.specs.Lines.{pool_operation, named_operation, operation_of};
+ghost use Rattle.jvm_model.specs.Lines.{newarray_of, object_among, object_rows};
+ghost use Rattle.jvm_model.specs.Lines.{pool_operation, other_operation, operation_of};
+ghost use Rattle.jvm_model.specs.Families.{family_of};
 ghost use Rattle.jvm_steps.specs.Lines.{action_of, line_of, line_with, local_action};
 ghost use Rattle.jvm_steps.specs.Prepared.{FitsOriginals};
 
 use crate::line::{Action, Line};
-use crate::lookup::{class_named, declared_in};
+use crate::lookup::{class_named, declared_method};
 use crate::members::{field_at, is_out, is_println, method_at};
 use code_model::{Arg, Instr};
-use const_pool::{ClassFile, Const, Pool};
+use const_pool::{ClassFile, Const, Kind, Pool};
 use heap_objects::{Datum, Value};
+use jf_bytes::{NoMemory, Seq};
 use jvm_basic::value_of;
 use jvm_model::{Family, Program, family_of};
+use std::alloc::Global;
+
+/// The kind of an array of one dimension, to which the code of its elements is added.
+const ARRAY: u32 = 16777216;
 
 /// The number that an entry of the pool is.
 fn number_of(entry: &Const) -> Option<Datum>
@@ -115,50 +122,119 @@ fn invokevirtual(pool: &Pool, index: u16) -> Option<Action>
 }
 
 /// invokestatic: the class and the method that are named, by one walk over the classes.
-fn invokestatic(program: &Program, pool: &Pool, index: u16) -> Option<Action>
+fn invokestatic(
+    alloc: Global,
+    program: &Program,
+    pool: &Pool,
+    index: u16,
+) -> Result<Option<Action>, NoMemory>
     requires { FitsOriginals program.now }
     ensures { let method = named_method pool.now index in
-        result ≡ option_and_then (action_of program.now) (option_map Invokestatic method) }
+        IfOk result (λ a. a
+        ≡ option_and_then (action_of program.now) (option_map Invokestatic method)) }
 {
-    let method = method_at(pool, index)?;
-    let class = class_named(program, method.class);
-    let number = declared_in(program, &method, class);
-    Some(Action::Invokestatic(class, number))
+    let Some(method) = method_at(pool, index) else {
+        return Ok(None);
+    };
+    let Some(class) = class_named(program, method.class) else {
+        let name = Seq::from_slice(alloc, method.class.units())?;
+        return Ok(Some(Action::Absent(name)));
+    };
+    let number = declared_method(program, &method, class);
+    Ok(Some(Action::Invokestatic(class, number)))
 }
 
 /// What an instruction with a pool index does: getstatic, invokevirtual and invokestatic.
-fn pool_action(program: &Program, class: &ClassFile, op: u8, index: u16) -> Option<Action>
+fn pool_action(
+    alloc: Global,
+    program: &Program,
+    class: &ClassFile,
+    op: u8,
+    index: u16,
+) -> Result<Option<Action>, NoMemory>
     requires { FitsOriginals program.now }
-    ensures { result ≡ option_and_then (action_of program.now) (pool_operation class.now op index) }
+    ensures { IfOk result (λ a. a
+        ≡ option_and_then (action_of program.now) (pool_operation class.now op index)) }
 {
     match op {
-        178 => getstatic(&class.pool, index),
-        182 => invokevirtual(&class.pool, index),
-        184 => invokestatic(program, &class.pool, index),
+        178 => Ok(getstatic(&class.pool, index)),
+        182 => Ok(invokevirtual(&class.pool, index)),
+        184 => invokestatic(alloc, program, &class.pool, index),
+        _ => Ok(None),
+    }
+}
+
+/// newarray, with the kind of its array.
+fn newarray(op: u8, code: u8) -> Option<Action>
+    ensures { (p : TheProgram) → result ≡ option_and_then (action_of p) (newarray_of op code) }
+{
+    match op {
+        188 => Some(Action::Newarray(ARRAY + code as u32)),
         _ => None,
     }
 }
 
-/// What an instruction does that names a member.
-fn named_action(program: &Program, class: &ClassFile, op: u8, arg: &Arg) -> Option<Action>
+/// What an instruction without an operand does that sees objects.
+fn object_action(op: u8) -> Option<Action>
+    ensures { (p : TheProgram) →
+        result ≡ option_and_then (action_of p) (object_among object_rows op) }
+{
+    match op {
+        46 => Some(Action::LoadElement(Kind::Int)),
+        47 => Some(Action::LoadElement(Kind::Long)),
+        50 => Some(Action::LoadElement(Kind::Ref)),
+        51 => Some(Action::LoadElement(Kind::Byte)),
+        52 => Some(Action::LoadElement(Kind::Char)),
+        53 => Some(Action::LoadElement(Kind::Short)),
+        79 => Some(Action::StoreElement(Kind::Int)),
+        80 => Some(Action::StoreElement(Kind::Long)),
+        83 => Some(Action::StoreElement(Kind::Ref)),
+        84 => Some(Action::StoreElement(Kind::Byte)),
+        85 => Some(Action::StoreElement(Kind::Char)),
+        86 => Some(Action::StoreElement(Kind::Short)),
+        190 => Some(Action::Arraylength),
+        191 => Some(Action::Athrow),
+        194 | 195 => Some(Action::Monitor),
+        _ => None,
+    }
+}
+
+/// What an instruction of no family does, by the form of its operand.
+fn other_action(
+    alloc: Global,
+    program: &Program,
+    class: &ClassFile,
+    op: u8,
+    arg: &Arg,
+) -> Result<Option<Action>, NoMemory>
     requires { FitsOriginals program.now }
-    ensures { let operation = named_operation class.now op arg.now in
-        result ≡ option_and_then (action_of program.now) operation }
+    ensures { let operation = other_operation class.now op arg.now in
+        IfOk result (λ a. a ≡ option_and_then (action_of program.now) operation) }
 {
     match arg {
-        Arg::Pool(index) => pool_action(program, class, op, *index),
-        _ => None,
+        Arg::Pool(index) => pool_action(alloc, program, class, op, *index),
+        Arg::Array(code) => Ok(newarray(op, *code)),
+        Arg::Plain => Ok(object_action(op)),
+        _ => Ok(None),
     }
 }
 
 /// What an instruction of a class does; none where it has no rule.
-fn action_of(program: &Program, class: &ClassFile, instr: &Instr) -> Option<Action>
-    requires { FitsOriginals program.now }
-    ensures { result ≡ option_and_then (action_of program.now) (operation_of class.now instr.now) }
+fn action_of(
+    alloc: Global,
+    program: &Program,
+    class: &ClassFile,
+    family: Family,
+    instr: &Instr,
+) -> Result<Option<Action>, NoMemory>
+    requires program { FitsOriginals program.now }
+    requires family { family ≡ family_of instr.now.op }
+    ensures { IfOk result (λ a. a
+        ≡ option_and_then (action_of program.now) (operation_of class.now instr.now)) }
 {
-    match family_of(instr.op) {
-        Family::Elsewhere => named_action(program, class, instr.op, &instr.arg),
-        family => local_action(family, &class.pool, &instr.arg),
+    match family {
+        Family::Elsewhere => other_action(alloc, program, class, instr.op, &instr.arg),
+        family => Ok(local_action(family, &class.pool, &instr.arg)),
     }
 }
 
@@ -169,15 +245,17 @@ fn value_in(pool: &Pool, arg: &Arg) -> Option<Value>
     Some(value_of(constant_in(pool, arg)?))
 }
 
-/// An instruction with its constant, the offset behind it and what it does.
-fn line_with(class: &ClassFile, instr: Instr, action: Action) -> Line
-    requires { end_of instr < 2 ^ 16 }
+/// An instruction with its family, its constant, the offset behind it and what it does.
+fn line_with(class: &ClassFile, family: Family, instr: Instr, action: Action) -> Line
+    requires ends { end_of instr < 2 ^ 16 }
+    requires family { family ≡ family_of instr.op }
     ensures { result ≡ line_with class.now instr action }
 {
     let constant = value_in(&class.pool, &instr.arg);
     let next = instr.next_offset();
     Line {
         instr,
+        family,
         constant,
         next,
         action,
@@ -185,11 +263,21 @@ fn line_with(class: &ClassFile, instr: Instr, action: Action) -> Line
 }
 
 /// What stands where an instruction of a class does.
-pub fn line_of(program: &Program, class: &ClassFile, instr: Instr) -> Option<Line>
+pub fn line_of(
+    alloc: Global,
+    program: &Program,
+    class: &ClassFile,
+    instr: Instr,
+) -> Result<Option<Line>, NoMemory>
     requires program { FitsOriginals program.now }
     requires ends { end_of instr < 2 ^ 16 }
-    ensures { result ≡ line_of program.now class.now instr }
+    ensures { IfOk result (λ line. line ≡ line_of program.now class.now instr) }
 {
-    let action = action_of(program, class, &instr)?;
-    Some(line_with(class, instr, action))
+    // Read by itself, so that its range is known.
+    let op = instr.op;
+    let family = family_of(op);
+    match action_of(alloc, program, class, family, &instr)? {
+        Some(action) => Ok(Some(line_with(class, family, instr, action))),
+        None => Ok(None),
+    }
 }

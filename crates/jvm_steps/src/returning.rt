@@ -40,7 +40,8 @@ fn return_with(originals: &Originals, parts: &mut Parts, datum: Option<Datum>)
     give_back(originals, parts, datum);
 }
 
-/// A return of a value of this kind: where its operand is missing or of another kind, the activation ends with the run.
+/// A return of a value of this kind: where its operand is missing or of another kind, the
+/// activation ends with the run.
 fn return_value(originals: &Originals, parts: &mut Parts, method: u32, own: u16, kind: Kind)
     ensures state { state_in parts.new
         ≡ returns_given originals.now.program method own kind parts.old }

@@ -1,5 +1,5 @@
-//! What follows from an instruction by itself (JVM Specification 2.10, 5.5): a throw goes to a handler or ends activations, and a run
-//! with nothing left ends, or begins `main`.
+//! What follows from an instruction by itself (JVM Specification 2.10, 5.5): a throw goes to a
+//! handler or ends activations, and a run with nothing left ends, or begins `main`.
 
 ghost use Rattle.std.specs.Prelude.{◌≡◌, [], false, map, None, Some, is_some, IfOk, OnOk};
 ghost use Rattle.jvm_model.specs.Applies.{has_room, still};
@@ -29,7 +29,8 @@ fn empty(frames: &mut Frames)
     while frames.pop().is_some() {}
 }
 
-/// Puts an object in the place of the operands. False, with nothing changed, where they have no room for it.
+/// Puts an object in the place of the operands. False, with nothing changed, where they have no room
+/// for it.
 fn put_alone(frames: &mut Frames, object: u32) -> bool
     ensures answer { result ≡ fits_alone frames.old.frames }
     ensures frames { frames.new.frames ≡ with_alone object frames.old.frames }
@@ -80,7 +81,8 @@ fn meet_frame(originals: &Originals, parts: &mut Parts, object: u32, here: Here)
     }
 }
 
-/// A throw goes to a handler of the current frame or ends its activation, and with no frame left it ends the run.
+/// A throw goes to a handler of the current frame or ends its activation, and with no frame left it
+/// ends the run.
 fn meet_throw(originals: &Originals, parts: &mut Parts, object: u32)
     requires ending { parts.old.ending ≡ None }
     requires thrown { parts.old.thrown ≡ Some object }
@@ -104,7 +106,8 @@ fn begin_frame(originals: &Originals, frames: &mut Frames, main: u32) -> Result<
     requires none { frames.old.frames ≡ [] }
     requires main { main ≡ originals.now.program.main }
     ensures answer { IfOk result (λ b. b ≡ has_room originals.now main argument_array) }
-    ensures frames { IfOk result (λ b. map active frames.new.frames ≡ main_entries b originals.now) }
+    ensures frames { IfOk result (λ b.
+        map active frames.new.frames ≡ main_entries b originals.now) }
 {
     let max_locals = originals.max_locals(main);
     let max_stack = originals.max_stack(main);
@@ -153,7 +156,8 @@ fn begin_or_end(originals: &Originals, parts: &mut Parts) -> Result<(), NoMemory
 fn make_move(originals: &Originals, parts: &mut Parts) -> Result<bool, NoMemory>
     ensures answer { let w = originals.now in
         IfOk result (λ b. b ≡ is_some (move w (original w.program) (state_in parts.old))) }
-    ensures state { OnOk result (state_in parts.new ≡ after_move originals.now (state_in parts.old)) }
+    ensures state { OnOk result
+        (state_in parts.new ≡ after_move originals.now (state_in parts.old)) }
     ensures shared { OnOk result (parts.new.shared ≡ parts.old.shared) }
 {
     if parts.ending.is_some() {
@@ -173,7 +177,8 @@ fn make_move(originals: &Originals, parts: &mut Parts) -> Result<bool, NoMemory>
 /// Makes all moves, up to where none applies.
 pub fn settle(originals: &Originals, parts: &mut Parts) -> Result<(), NoMemory>
     ensures state { let w = originals.now in
-        OnOk result (state_in parts.new ≡ (settled w (original w.program) (still (state_in parts.old))).after) }
+        let turn = still (state_in parts.old) in
+        OnOk result (state_in parts.new ≡ (settled w (original w.program) turn).after) }
     ensures phases { OnOk result (parts.new.shared.phases ≡ parts.old.shared.phases) }
 {
     while make_move(originals, parts)? {}

@@ -17,7 +17,8 @@ use crate::settling::settle;
 use jf_bytes::NoMemory;
 use std::alloc::Global;
 
-/// Whether nothing follows by itself: the run has ended, or there is a frame, and nothing is thrown.
+/// Whether nothing follows by itself: the run has ended, or there is a frame, and nothing is
+/// thrown.
 fn is_at_rest(parts: &Parts) -> bool
     ensures { result ≡ is_at_rest parts.now }
 {
@@ -43,8 +44,8 @@ fn finish(originals: &Originals, parts: &mut Parts) -> Result<(), NoMemory>
     settle(originals, parts)
 }
 
-/// One step of the run of original code: an attempt of the current frame's instruction, with all that follows. Every class is initialized
-/// or being initialized.
+/// One step of the run of original code: an attempt of the current frame's instruction, with all
+/// that follows. Every class is initialized or being initialized.
 pub fn step(alloc: Global, originals: &Originals, parts: &mut Parts) -> Result<(), NoMemory>
     requires { fresh parts.old.shared.phases ≡ 0 }
     ensures state { let w = originals.now in OnOk result

@@ -1,12 +1,28 @@
 //! athrow (JVM Specification 2.10, 6.5).
 
-ghost use Rattle.std.specs.Prelude.{◌≡◌, OnOk};
+ghost use Rattle.std.specs.Prelude.{◌≡◌, ◌<◌, ◌^◌, length, OnOk};
+ghost use Rattle.jvm_model.specs.Lookup.{is_below};
+ghost use Rattle.jvm_model.specs.SharedState.{class_of, throwable};
 ghost use Rattle.jvm_steps.specs.Acts.{IsTop, Becomes, acts_athrow};
 
+use crate::handlers::class_of;
 use crate::line::Line;
-use crate::originals::Originals;
+use crate::originals::{Exception, Originals};
 use crate::parts::Parts;
+use crate::raising::{break_off, raise};
+use crate::supertypes::is_below_bytes;
 use jf_bytes::NoMemory;
+use jvm_basic::ref_of;
+use jvm_model::{Program, Shared};
+
+/// Whether an object is a Throwable.
+fn is_throwable(program: &Program, shared: &Shared, object: u32) -> bool
+    requires { length program.now.classes < 2 ^ 24 }
+    ensures { result ≡ is_below program.now (class_of program.now shared.now object) throwable }
+{
+    let class = class_of(program, &shared.heap, object) as usize;
+    is_below_bytes(program, class, b"java/lang/Throwable")
+}
 
 /// Throws the object on top, which has to be a Throwable.
 pub fn throw_object(
@@ -19,5 +35,17 @@ pub fn throw_object(
     ensures state { Becomes result parts.new (acts_athrow originals.now line.now) parts.old }
     ensures phases { OnOk result (parts.new.shared.phases ≡ parts.old.shared.phases) }
 {
-    Err(NoMemory)
+    let Some(object) = ref_of(&parts.frames) else {
+        break_off(parts, method, line.instr.at);
+        return Ok(());
+    };
+    if object == 0 {
+        return raise(originals, parts, Exception::NullPointer);
+    }
+    if is_throwable(originals.program(), &parts.shared, object) {
+        parts.thrown = Some(object);
+    } else {
+        break_off(parts, method, line.instr.at);
+    }
+    Ok(())
 }

@@ -1,7 +1,7 @@
 use Rattle.std.proofs.Common.{arith, sym, ◌∙◌, ap}
 use Rattle.std.specs.Prelude.{is_some, Option}
 use Rattle.jvm_model.specs.declared.ending.Ending.{Ending}
-use Rattle.jfluid_cli.proofs.Onward.{ended-onward, run-onward, told-onward}
+use Rattle.jfluid_cli.proofs.Onward.{ended-onward, going-onward, run-onward, told-onward}
 use Rattle.jfluid_cli.proofs.running.run_for.Goals as goal
 
 pub returns-then-is_some-clause-told : goal.returns-then-is_some-clause-told
@@ -12,8 +12,9 @@ returns-then-is_some-clause-told c =
 pub loop-init : goal.loop-init
 loop-init c =
     let runs = c.in_ok-run_on.ensures.ok in
+    let going = going-onward c.args.vm.now c.run_on.new.self c.args.steps c.requires.going runs in
     let goes = sym (ended-onward c.args.vm.now c.run_on.new.self c.args.steps c.requires.going runs)
-        ∙ (ap (λ (e : Option Ending). is_some e) (sym (c.ending.ensures c.requires.going.whole))
+        ∙ (ap (λ (e : Option Ending). is_some e) (sym (c.ending.ensures going.whole))
         ∙ (sym c.is_some.ensures ∙ c.if-is_some.false)) in
     record {
       reached = omega arith;

@@ -1,24 +1,37 @@
-use Rattle.std.proofs.Common.{sym, ap, ◌∙◌}
+use Rattle.std.proofs.Common.{Some, sym, ap, ◌∙◌}
 use Rattle.std.proofs.lemmas.Result.{on_ok_weaker}
+use Rattle.jvm_model.specs.LocalRules.{by_zero}
+use Rattle.jvm_steps.specs.declared.originals.Exception.TheVariants.{Arithmetic}
+use Rattle.jvm_steps.specs.Acts.{acts_alone, on_parts, raising}
 use Rattle.jvm_steps.specs.States.{state_in}
-use Rattle.jvm_steps.proofs.Alone.{goes-next, goes-bad, goes-other}
+use Rattle.jvm_steps.proofs.Alone.{goes-next, goes-bad, goes-other, goes-throws}
+use Rattle.jvm_steps.proofs.Callees.{came-to}
 use Rattle.jvm_steps.proofs.attempting.act_alone.Goals as goal
 
 pub returns-in-Next-clause-state : goal.returns-in-Next-clause-state
 returns-in-Next-clause-state c =
-    goes-next c.args.originals.now c.args.line.now c.args.parts.now c.args.method c.basic.new.frames c.requires.top
-    (sym c.basic.ensures.effect ∙ c.in-Next.is) c.basic.ensures.frames
+    goes-next c.args.originals.now c.args.line.now c.args.parts.now c.args.method c.basic_by-effect.new.frames c.requires.top
+    (sym c.basic_by-effect.ensures.effect ∙ c.in-Next.is) c.basic_by-effect.ensures.frames
+
+pub returns-in-Throws-clause-state : goal.returns-in-Throws-clause-state
+returns-in-Throws-clause-state c =
+    let w = c.args.originals.now in
+    let p = c.args.parts.now in
+    came-to c.raise_with.result c.raise_with.new.parts (raising w Arithmetic (Some by_zero) (record p { frames = c.basic_by-effect.new.frames })) (on_parts (acts_alone w c.args.line.now) p)
+    (goes-throws w c.args.line.now p c.args.method c.in-Throws.field-0 c.basic_by-effect.new.frames c.requires.top
+    (sym c.basic_by-effect.ensures.effect ∙ c.in-Throws.is) c.basic_by-effect.ensures.frames)
+    c.raise_with.ensures
 
 pub returns-in-Bad-clause-state : goal.returns-in-Bad-clause-state
 returns-in-Bad-clause-state c =
     on_ok_weaker c.break_here.result
-    (λ e. ap state_in e ∙ goes-bad c.args.originals.now c.args.line.now c.args.parts.now c.args.method c.basic.new.frames c.requires.top
-    (sym c.basic.ensures.effect ∙ c.in-Bad.is) c.basic.ensures.frames)
+    (λ e. ap state_in e ∙ goes-bad c.args.originals.now c.args.line.now c.args.parts.now c.args.method c.basic_by-effect.new.frames c.requires.top
+    (sym c.basic_by-effect.ensures.effect ∙ c.in-Bad.is) c.basic_by-effect.ensures.frames)
     c.break_here.ensures
 
 pub returns-in-Other-clause-state : goal.returns-in-Other-clause-state
 returns-in-Other-clause-state c =
     on_ok_weaker c.break_here-in-Other.result
-    (λ e. ap state_in e ∙ goes-other c.args.originals.now c.args.line.now c.args.parts.now c.args.method c.basic.new.frames c.requires.top
-    (sym c.basic.ensures.effect ∙ c.in-Other.is) c.basic.ensures.frames)
+    (λ e. ap state_in e ∙ goes-other c.args.originals.now c.args.line.now c.args.parts.now c.args.method c.basic_by-effect.new.frames c.requires.top
+    (sym c.basic_by-effect.ensures.effect ∙ c.in-Other.is) c.basic_by-effect.ensures.frames)
     c.break_here-in-Other.ensures

@@ -1,20 +1,30 @@
 use Rattle.std.proofs.Common.{sym, ap, ◌∙◌}
-use Rattle.std.specs.Prelude.{Some}
-use Rattle.jvm_steps.proofs.OpenClasses.{becomes-ready, becomes-running}
+use Rattle.std.specs.Prelude.{Some, None}
+use Rattle.jvm_model.specs.declared.state.Phase.TheVariants.{Ready, Running, Erroneous}
+use Rattle.jvm_steps.proofs.OpenClasses.{becomes-open, becomes-unusable}
 use Rattle.jvm_steps.proofs.Phases.{none-fresh}
 use Rattle.jvm_steps.proofs.invoking.invoke_static.Goals as goal
 
 pub returns-in-Some-Ready-clause-state : goal.returns-in-Some-Ready-clause-state
 returns-in-Some-Ready-clause-state c =
-    becomes-ready c.invoke.result c.invoke.new.parts c.args.parts.now c.args.originals.now c.args.line.now c.args.class c.args.callee c.in-Some.class c.in-Some-callee.callee
-    c.in-Some.is c.in-Some-callee.is (sym c.at.ensures ∙ (c.in-Some-Ready.is ∙ ap Some c.in-Some-Ready.field-0-is)) c.invoke.ensures.state
+    becomes-open c.invoke.result c.invoke.new.parts c.args.parts.now c.args.originals.now c.args.line.now c.args.class c.args.callee c.in-Some.callee c.in-Some.is (Some Ready) tt
+    (sym c.at.ensures ∙ (c.in-Some-Ready.is ∙ ap Some c.in-Some-Ready.field-0-is)) c.invoke.ensures.state
 
 pub returns-in-Some-Running-clause-state : goal.returns-in-Some-Running-clause-state
 returns-in-Some-Running-clause-state c =
-    becomes-running c.invoke-in-Some-Running.result c.invoke-in-Some-Running.new.parts c.args.parts.now c.args.originals.now c.args.line.now c.args.class c.args.callee c.in-Some.class
-    c.in-Some-callee.callee c.in-Some.is c.in-Some-callee.is (sym c.at.ensures ∙ (c.in-Some-Running.is ∙ ap Some c.in-Some-Running.field-0-is))
-    c.invoke-in-Some-Running.ensures.state
+    becomes-open c.invoke-in-Some-Running.result c.invoke-in-Some-Running.new.parts c.args.parts.now c.args.originals.now c.args.line.now c.args.class c.args.callee c.in-Some.callee c.in-Some.is (Some Running) tt
+    (sym c.at.ensures ∙ (c.in-Some-Running.is ∙ ap Some c.in-Some-Running.field-0-is)) c.invoke-in-Some-Running.ensures.state
 
 pub returns-in-Some-Fresh-clause-state : goal.returns-in-Some-Fresh-clause-state
-returns-in-Some-Fresh-clause-state c = absurd (none-fresh c.args.parts.now.shared.phases c.in-Some.class c.requires.none
-    (sym c.at.ensures ∙ (c.in-Some-Fresh.is ∙ ap Some c.in-Some-Fresh.field-0-is)))
+returns-in-Some-Fresh-clause-state c =
+    absurd (none-fresh c.args.parts.now.shared.phases c.args.class c.requires.none (sym c.at.ensures ∙ (c.in-Some-Fresh.is ∙ ap Some c.in-Some-Fresh.field-0-is)))
+
+pub returns-in-Some-Erroneous-clause-state : goal.returns-in-Some-Erroneous-clause-state
+returns-in-Some-Erroneous-clause-state c =
+    becomes-unusable c.raise_unusable-in-Some-Erroneous.result c.raise_unusable-in-Some-Erroneous.new.parts c.args.parts.now c.args.originals.now c.args.line.now c.args.class c.args.callee c.in-Some.callee c.args.method
+    c.in-Some.is c.requires.top (Some Erroneous) tt (sym c.at.ensures ∙ (c.in-Some-Erroneous.is ∙ ap Some c.in-Some-Erroneous.field-0-is)) c.raise_unusable-in-Some-Erroneous.ensures
+
+pub returns-in-None-clause-state : goal.returns-in-None-clause-state
+returns-in-None-clause-state c =
+    becomes-unusable c.raise_unusable-in-None.result c.raise_unusable-in-None.new.parts c.args.parts.now c.args.originals.now c.args.line.now c.args.class c.args.callee c.in-Some.callee c.args.method
+    c.in-Some.is c.requires.top None tt (sym c.at.ensures ∙ c.in-None.is) c.raise_unusable-in-None.ensures

@@ -8,5 +8,5 @@ use Rattle.jvm_steps.proofs.resolving.action_of.Goals as goal
 pub returns-in_default : goal.returns-in_default
 returns-in_default c =
     c.local_action.ensures
-    ∙ (family-acted c.args.program.now c.args.class.now c.args.instr.now.op c.args.instr.now.arg c.family_of.result c.in_default.not-Elsewhere
-    ∙ ap (λ f. option_and_then (action_of c.args.program.now) (operation_by c.args.class.now c.args.instr.now.op c.args.instr.now.arg f)) c.family_of.ensures)
+    ∙ (family-acted c.args.program.now c.args.class.now c.args.instr.now.op c.args.instr.now.arg c.args.family c.in_default.not-Elsewhere
+    ∙ ap (λ f. option_and_then (action_of c.args.program.now) (operation_by c.args.class.now c.args.instr.now.op c.args.instr.now.arg f)) c.requires.family)

@@ -1,0 +1,45 @@
+-- The family that is kept in a line is its instruction's.
+use Rattle.std.proofs.Common.{◌≡◌, ℕ, Option, Some, None, refl, sym, subst}
+use Rattle.std.specs.Borrow.{Bor}
+use Rattle.std.specs.Option.{IfSome, option_and_then, option_copied, option_map}
+use Rattle.const_pool.specs.declared.class.ClassFile.{ClassFile}
+use Rattle.code_model.specs.declared.instr.Instr.{Instr}
+use Rattle.code_model.specs.Instructions.{instruction_at}
+use Rattle.jvm_model.specs.declared.program.Program.{Program}
+use Rattle.jvm_model.specs.Families.{family_of}
+use Rattle.jvm_model.specs.Methods.{method_code}
+use Rattle.jvm_model.specs.Programs.{class_at, place_of_method}
+use Rattle.jvm_steps.specs.declared.line.Action.{Action}
+use Rattle.jvm_steps.specs.declared.line.Line.{Line}
+use Rattle.jvm_steps.specs.Lines.{line_at, line_of, line_with, action_of}
+
+abbrev KeepsFamily : Line → Type 0
+KeepsFamily l = l.family ≡ family_of l.instr.op
+
+each-then : {A : Type 0} (f : A → Option Line) → ((x : A) → IfSome (f x) KeepsFamily) → (o : Option A) → IfSome (option_and_then f o) KeepsFamily
+each-then f each None = tt
+each-then f each (Some x) = each x
+
+made-with : (c : ClassFile) (i : Instr) (a : Option Action) → IfSome (option_map (line_with c i) a) KeepsFamily
+made-with c i None = tt
+made-with c i (Some a) = refl
+
+kept-at : (p : Program) (method at : ℕ) → IfSome (line_at p method at) KeepsFamily
+kept-at p method at =
+    each-then _
+    (λ place. each-then _
+    (λ c. each-then _
+    (λ code. each-then _
+    (λ i. made-with c i _)
+    (instruction_at code.code at))
+    (method_code c place.position))
+    (class_at p place.class))
+    (place_of_method p method)
+
+seen : (r : Option (Bor Line)) → IfSome (option_copied r) KeepsFamily → IfSome r (λ l. l.now.family ≡ family_of l.now.instr.op)
+seen None h = tt
+seen (Some l) h = h
+
+pub keeps-family : (p : Program) (method at : ℕ) (r : Option (Bor Line)) → option_copied r ≡ line_at p method at
+    → IfSome r (λ l. l.now.family ≡ family_of l.now.instr.op)
+keeps-family p method at r found = seen r (subst (λ (o : Option Line). IfSome o KeepsFamily) (sym found) (kept-at p method at))

@@ -1,0 +1,46 @@
+-- Elements of arrays (JVM Specification 6.5): where an array and an index lead, and what becomes of a state by that.
+use Rattle.std.specs.Prelude.{ℕ, ◌∷◌, drop, Option, Some, None, ℤ}
+use Rattle.heap_objects.specs.declared.datum.Datum.{Datum}
+use Rattle.heap_objects.specs.Heaps.{HeapView, slot_at, with_slot_at}
+use Rattle.jvm_model.specs.declared.state.Frame.{Frame}
+use Rattle.jvm_model.specs.declared.state.State.{State}
+use Rattle.jvm_model.specs.Applies.{goes}
+use Rattle.jvm_model.specs.Data.{World}
+use Rattle.jvm_model.specs.ObjectRules.{Access, ToNull, ToAnother, Outside, Inside, Storing, refused}
+use Rattle.jvm_model.specs.Values.{as_value}
+use Rattle.jvm_steps.specs.declared.elements.Led.{Led}
+use Rattle.jvm_steps.specs.declared.elements.Led.TheVariants as led
+use Rattle.jvm_steps.specs.declared.elements.Place.{Place}
+use Rattle.jvm_steps.specs.declared.elements.Storing.{Storing as TheStoring}
+use Rattle.jvm_steps.specs.declared.line.Line.{Line}
+use Rattle.jvm_steps.specs.Acts.{acts_asked}
+
+abbrev pub access_of : Led → Access
+access_of led.ToNull = ToNull
+access_of led.ToAnother = ToAnother
+access_of led.Outside = Outside
+access_of (led.Inside slot) = Inside slot
+
+abbrev pub place_by : Place → ℕ × ℤ
+place_by x = (x.array, x.index)
+
+abbrev pub storing_by : TheStoring → Storing
+storing_by x = record { array = x.place.array; index = x.place.index; datum = x.datum }
+
+-- the element to which the access leads
+abbrev pub element_at : Access → ℕ → HeapView → Option Datum
+element_at (Inside slot) r h = slot_at r slot h
+element_at _ r h = None
+
+-- it leads to no element
+abbrev pub acts_refused : World → Line → Led → ℤ → State → Frame → State
+acts_refused w line l i s f = acts_asked w line s f (refused (access_of l) i)
+
+-- the element is loaded
+abbrev pub acts_loaded : Line → Datum → State → Frame → State
+acts_loaded line d s f = goes s f line.instr.at f.locals (as_value d ∷ drop 2 f.operands) (Some line.next)
+
+-- the value is stored there
+abbrev pub acts_stored : Line → ℕ → ℕ → Datum → State → Frame → State
+acts_stored line r slot d s f =
+    goes (record s { shared = record s.shared { heap = with_slot_at r slot d s.shared.heap } }) f line.instr.at f.locals (drop 3 f.operands) (Some line.next)
