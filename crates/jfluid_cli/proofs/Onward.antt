@@ -54,9 +54,9 @@ run-onward old v most before runs goes =
       later = runs.stepped;
       goes_on = λ m le. elim (cases_lt m v.clock) [
         | inl below ↦ elim (cases_lt m old.clock) [
-            | inl early ↦ before m (omega arith)
-            | inr late ↦ runs.before m late below
-          ]
+          | inl early ↦ before m (omega arith)
+          | inr late ↦ runs.before m late below
+        ]
         | inr above ↦
             (let same : v.clock ≡ m = omega (arith, clock, le, above) in
             subst (λ n. is_ended_at old n ≡ false) same goes)
@@ -105,12 +105,12 @@ told-onward p old v most going runs told =
     let started : v.started ≡ true = (going-onward old v most going runs).started in
     let marking : Marking = marking_of old.marks in
     let made : events_before v ≡ events_of marking (world old) (old.clock + runs.steps) =
-        ap (λ (x : View). events_before x) runs.stepped
-        ∙ ap (λ b. cond b (events_of marking (world old) (old.clock + runs.steps)) []) going.started in
+    ap (λ (x : View). events_before x) runs.stepped
+    ∙ ap (λ b. cond b (events_of marking (world old) (old.clock + runs.steps)) []) going.started in
     let known : events_of marking (world old) old.clock ≡ events_before old =
-        sym (ap (λ b. cond b (events_of marking (world old) old.clock) []) going.started) in
+    sym (ap (λ b. cond b (events_of marking (world old) old.clock) []) going.started) in
     let silent : events_of marking (world old) (old.clock + runs.steps) ≡ events_of marking (world old) old.clock =
-        silent-events marking (world old) old.clock runs.steps (λ k above le. runs.silent k above (omega (arith, clock, le))) in
+    silent-events marking (world old) old.clock runs.steps (λ k above le. runs.silent k above (omega (arith, clock, le))) in
     let calls : calls_of p ≤ old.clock + 1 = subst (λ b. calls_of p ≤ cond b (old.clock + 1) 0) going.started told.calls in
     record {
       events = told.events ∙ sym (ap profile_of (made ∙ (silent ∙ known)));
