@@ -3,6 +3,7 @@ pub mod Outputs
 pub mod Telling
 pub mod Selected
 pub mod Steps
+pub mod Onward
 pub mod Underway
 pub mod ToldFiles
 pub mod Complete
