@@ -1,5 +1,5 @@
 -- What an instruction's definition says of its parts.
-use Rattle.std.proofs.Common.{◌≡◌, ℕ, Bool, true, false, cond, List, [], ◌∷◌, Option, Some, None, refl, sym, ap, ◌∙◌}
+use Rattle.std.proofs.Common.{◌≡◌, ℕ, Bool, true, false, cond, Option, Some, None, refl, sym, ap, subst, ◌∙◌}
 use Rattle.std.specs.Prelude.{is_some, ◌==◌}
 use Rattle.std.specs.Option.{option_and_then, option_map, option_map_or}
 use Rattle.const_pool.specs.declared.class.ClassFile.{ClassFile}
@@ -7,13 +7,13 @@ use Rattle.const_pool.specs.References.{Reference, named_field, named_method}
 use Rattle.code_model.specs.declared.instr.Arg.{Arg}
 use Rattle.code_model.specs.declared.instr.Arg.TheVariants as arg
 use Rattle.code_model.specs.declared.instr.Instr.{Instr}
-use Rattle.jvm_model.specs.Data.{Local, Operation, Within, Getstatic, Invokestatic, Invokevirtual, Newarray}
+use Rattle.jvm_model.specs.Data.{Local, Operation, Within, Getstatic, Invokestatic, Invokevirtual}
 use Rattle.jvm_model.specs.declared.family.Family.{Family}
 use Rattle.jvm_model.specs.declared.family.Family.TheVariants as family
 use Rattle.jvm_model.specs.declared.operation.Resolved.{Resolved}
 use Rattle.jvm_model.specs.declared.operation.Resolved.TheVariants as resolved
 use Rattle.jvm_model.specs.Families.{family_of}
-use Rattle.jvm_model.specs.Lines.{getstatic_of, invokevirtual_of, pool_operation, newarray_of, ObjectRow, object_rows, object_among, other_operation, operation_by, operation_of, local_of, constant_in}
+use Rattle.jvm_model.specs.Lines.{getstatic_of, invokevirtual_of, pool_operation, other_operation, operation_by, operation_of, local_of, constant_in}
 use Rattle.jvm_model.specs.Resolved.{own_method, resolved_in, resolved_of}
 use Rattle.jvm_model.specs.Rules.{is_out, is_println}
 use Rattle.jvm_model.specs.StaticClass.{calls_own, runs_in}
@@ -61,57 +61,11 @@ by-opcode c false false false f m = refl
 pub pool-agrees : (c : ClassFile) (op index : ℕ) → Agrees c (pool_operation c op index)
 pool-agrees c op index = by-opcode c (op == 178) (op == 182) (op == 184) (named_field c.pool index) (named_method c.pool index)
 
--- ---- operations that see objects
-
-newarray-runs : (c : ClassFile) (code : ℕ) (b : Bool) → b ≡ option_map_or (calls_own c) (cond b (Some (Newarray code)) None) false
-newarray-runs c code true = refl
-newarray-runs c code false = refl
-
--- each row of the table
-abbrev AreObjects : List ObjectRow → Type 0
-AreObjects [] = Unit {0}
-AreObjects (r ∷ rs) = ((c : ClassFile) → calls_own c r.operation ≡ true) × AreObjects rs
-
-objects-run : (c : ClassFile) (rs : List ObjectRow) (op : ℕ) → AreObjects rs → is_some (object_among rs op) ≡ option_map_or (calls_own c) (object_among rs op) false
-objects-run c [] op each = refl
-objects-run c (r ∷ rs) op each = by (op == r.op) where
-  by : (b : Bool) → is_some (cond b (Some r.operation) (object_among rs op)) ≡ option_map_or (calls_own c) (cond b (Some r.operation) (object_among rs op)) false
-  by true = sym (each.0 c)
-  by false = objects-run c rs op each.1
-
-all-objects : AreObjects object_rows
-all-objects = (
-  (λ c. refl), (λ c. refl), (λ c. refl), (λ c. refl), (λ c. refl), (λ c. refl), (λ c. refl), (λ c. refl),
-  (λ c. refl), (λ c. refl), (λ c. refl), (λ c. refl), (λ c. refl), (λ c. refl), (λ c. refl), (λ c. refl), tt,
-)
-
--- ---- instructions of no family
-
--- by the form of the operand
-abbrev pub other_runs : ClassFile → Instr → Arg → Bool
-other_runs c i (arg.Pool index) = is_some (resolved_of c i)
-other_runs c i (arg.Array code) = i.op == 188
-other_runs c i arg.Plain = is_some (object_among object_rows i.op)
-other_runs c i _ = false
-
-other-runs_by : (c : ClassFile) (i : Instr) (a : Arg) → a ≡ i.arg → family_of i.op ≡ family.Elsewhere → other_runs c i a ≡ option_map_or (calls_own c) (other_operation c i.op a) false
-other-runs_by c i (arg.Pool index) same is =
-    ap (λ f. is_some (option_and_then (resolved_in c) (operation_by c i.op i.arg f))) is
-    ∙ (ap (λ a. is_some (option_and_then (resolved_in c) (other_operation c i.op a))) (sym same) ∙ pool-agrees c i.op index)
-other-runs_by c i (arg.Array code) same is = newarray-runs c code (i.op == 188)
-other-runs_by c i arg.Plain same is = objects-run c object_rows i.op all-objects
-other-runs_by c i (arg.Value n) same is = refl
-other-runs_by c i (arg.Local n) same is = refl
-other-runs_by c i (arg.Inc n d) same is = refl
-other-runs_by c i (arg.Target n) same is = refl
-other-runs_by c i (arg.Table d low ts) same is = refl
-other-runs_by c i (arg.Lookup d ks ts) same is = refl
-other-runs_by c i (arg.Interface n m z) same is = refl
-other-runs_by c i (arg.Multi n m) same is = refl
-
-pub runs-other : (c : ClassFile) (i : Instr) → family_of i.op ≡ family.Elsewhere → other_runs c i i.arg ≡ runs_in c i
-runs-other c i is =
-    other-runs_by c i i.arg refl is ∙ sym (ap (λ f. option_map_or (calls_own c) (operation_by c i.op i.arg f) false) is)
+-- an instruction of no family with an index of the pool
+pub runs-pool : (c : ClassFile) (i : Instr) (index : ℕ) → i.arg ≡ arg.Pool index → family_of i.op ≡ family.Elsewhere → is_some (resolved_of c i) ≡ runs_in c i
+runs-pool c i index at is =
+    let found : operation_of c i ≡ pool_operation c i.op index = ap (operation_by c i.op i.arg) is ∙ ap (other_operation c i.op) at in
+    subst (Agrees c) (sym found) (pool-agrees c i.op index)
 
 -- ---- instructions that see their frame alone
 
