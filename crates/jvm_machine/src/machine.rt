@@ -157,8 +157,9 @@ impl Vm {
         }
     }
 
-    /// Makes steps of original code, at most so many and none behind the end of the run; none where versions are installed. It is
-    /// quicker than so many calls of `step`. After want of memory the machine is broken.
+    /// Makes steps of original code, at most so many and none behind the end of the run; none where
+    /// versions are installed. It is quicker than so many calls of `step`. After want of memory the
+    /// machine is broken.
     pub fn run_on(&mut self, most: u64) -> Result<(), NoMemory>
         requires started { self.old.started ≡ true }
         requires whole { self.old.broken ≡ false }
