@@ -1,6 +1,7 @@
 //! The machine: it runs original code, or the versions of a class's methods, and tells what their probes tell.
 
-ghost use Rattle.std.specs.Prelude.{◌≡◌, ◌+◌, ◌^◌, ◌<◌, ◌&&◌, true, false, length, OnOk, OnErr, IfOk};
+ghost use Rattle.std.specs.Prelude.{◌≡◌, ◌+◌, ◌^◌, ◌<◌, ◌&&◌, true, false, length};
+ghost use Rattle.std.specs.Prelude.{OnOk, OnErr, IfOk};
 ghost use Rattle.jvm_model.specs.Images.{IsImage};
 ghost use Rattle.jvm_model.specs.OneClass.{IsBuiltProgram};
 ghost use Rattle.jvm_model.specs.Programs.{first_class};
