@@ -71,6 +71,7 @@ fn put_immediate(frames: &mut Frames, arg: &Arg, next: u16) -> Effect
 }
 
 /// What an instruction of a family does.
+#[inline(always)]
 fn do_family(
     family: Family,
     arg: &Arg,
@@ -109,7 +110,9 @@ fn do_family(
     }
 }
 
-/// The same as `basic`, for an instruction whose family is known: no table is looked up.
+/// The same as `basic`, for an instruction whose family is known: no table is looked up. It is
+/// inlined: a step would spend as long on passing the family and the constant as on the rest.
+#[inline(always)]
 pub fn basic_by(
     family: Family,
     instr: &Instr,

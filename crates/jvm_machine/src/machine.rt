@@ -1,6 +1,7 @@
 //! The machine: it runs original code, or the versions of a class's methods, and tells what their probes tell.
 
-ghost use Rattle.std.specs.Prelude.{◌≡◌, ◌+◌, ◌^◌, ◌<◌, ◌&&◌, true, false, length, OnOk, OnErr, IfOk};
+ghost use Rattle.std.specs.Prelude.{◌≡◌, ◌+◌, ◌^◌, ◌<◌, ◌&&◌, true, false, length};
+ghost use Rattle.std.specs.Prelude.{OnOk, OnErr, IfOk};
 ghost use Rattle.jvm_model.specs.Images.{IsImage};
 ghost use Rattle.jvm_model.specs.OneClass.{IsBuiltProgram};
 ghost use Rattle.jvm_model.specs.Programs.{first_class};
@@ -157,8 +158,9 @@ impl Vm {
         }
     }
 
-    /// Makes steps of original code, at most so many and none behind the end of the run; none where versions are installed. It is
-    /// quicker than so many calls of `step`. After want of memory the machine is broken.
+    /// Makes steps of original code, at most so many and none behind the end of the run; none where
+    /// versions are installed. It is quicker than so many calls of `step`. After want of memory the
+    /// machine is broken.
     pub fn run_on(&mut self, most: u64) -> Result<(), NoMemory>
         requires started { self.old.started ≡ true }
         requires whole { self.old.broken ≡ false }

@@ -1,4 +1,5 @@
-//! Steps of instructions that the current frame does by itself: nothing but the frames changes, and nothing follows.
+//! Steps of instructions that the current frame does by itself: nothing but the frames changes,
+//! and nothing follows.
 
 ghost use Rattle.std.specs.Prelude.{◌≡◌, ◌≤◌, true, false};
 ghost use Rattle.std.specs.Option.{IfSome};
@@ -27,7 +28,8 @@ fn plain_line<'a>(originals: &'a Originals, frames: &Frames) -> Option<&'a Line>
     }
 }
 
-/// Does a line within the current frame. False, with nothing changed, where the frame does not go on.
+/// Does a line within the current frame. False, with nothing changed, where the frame does not
+/// go on.
 fn pass_line(line: &Line, frames: &mut Frames) -> bool
     requires { line.now.family ≡ family_of line.now.instr.op }
     ensures gone { let line = line.now in

@@ -98,8 +98,8 @@ fn step_on(
     Ok(plain + 1)
 }
 
-/// Steps of the run of original code, at most so many, and none behind its end: how many it has made. Every class is initialized or
-/// being initialized.
+/// Steps of the run of original code, at most so many, and none behind its end: how many it has
+/// made. Every class is initialized or being initialized.
 pub fn run(
     alloc: Global,
     originals: &Originals,
