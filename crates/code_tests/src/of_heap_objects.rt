@@ -1,6 +1,7 @@
 //! Heaps by hand: each None, false and full heap at its edge, narrow arrays, interned texts.
 
 use heap_objects::{Datum, Heap, HeapError};
+use jf_bytes::Seq;
 use std::alloc::Global;
 
 const CLASS: u32 = 256;
@@ -31,6 +32,16 @@ fn put(heap: &mut Heap, object: u32, slot: u32, value: Datum) -> bool {
     heap.put(object, slot, value)
 }
 
+fn put_unit(heap: &mut Heap, object: u32, at: u32, unit: u16) -> bool {
+    heap.put_unit(object, at, unit)
+}
+
+/// A text of units that are copied before, and not by the heap.
+fn own_text(alloc: Global, heap: &mut Heap, units: &[u16]) -> Result<u32, HeapError> {
+    let own = Seq::from_slice(alloc, units)?;
+    heap.own_text(TEXT, own)
+}
+
 /// Whether a text took more units; None where there is no text, or no memory.
 fn append(heap: &mut Heap, object: u32, units: &[u16]) -> Option<bool> {
     if heap.units(object).is_none() {
@@ -44,11 +55,12 @@ fn append(heap: &mut Heap, object: u32, units: &[u16]) -> Option<bool> {
 }
 
 /// Whether a text took other units; None where there is no text, or no memory.
-fn replace(heap: &mut Heap, object: u32, units: &[u16]) -> Option<bool> {
+fn replace(alloc: Global, heap: &mut Heap, object: u32, units: &[u16]) -> Option<bool> {
     if heap.units(object).is_none() {
         return None;
     }
-    match heap.replace(object, units) {
+    let own = Seq::from_slice(alloc, units).ok()?;
+    match heap.replace(object, own) {
         Ok(()) => Some(true),
         Err(HeapError::HeapFull) => Some(false),
         Err(HeapError::NoMemory) => None,
@@ -99,8 +111,15 @@ fn what_objects_have(rt: HostRuntime) {
     }
 }
 
-/// Makes an instance, an array, a text or an interned text, with so many fields, elements or units.
-fn make(heap: &mut Heap, sort: u8, fields: &[Datum], units: &[u16]) -> Result<u32, HeapError> {
+/// Makes an instance, an array, a text, one of units that are given away, or an interned text, with so many fields, elements
+/// or units.
+fn make(
+    alloc: Global,
+    heap: &mut Heap,
+    sort: u8,
+    fields: &[Datum],
+    units: &[u16],
+) -> Result<u32, HeapError> {
     match sort {
         0 => heap.instance(CLASS, fields),
         1 => heap.array(
@@ -109,6 +128,7 @@ fn make(heap: &mut Heap, sort: u8, fields: &[Datum], units: &[u16]) -> Result<u3
             u32::try_from(fields.len()).unwrap_or(0),
         ),
         2 => heap.text(TEXT, units),
+        3 => own_text(alloc, heap, units),
         _ => heap.intern(TEXT, units),
     }
 }
@@ -117,17 +137,17 @@ fn make(heap: &mut Heap, sort: u8, fields: &[Datum], units: &[u16]) -> Result<u3
 /// before and behind those that fit.
 fn at_the_limit(alloc: Global, sort: u8) -> ([Result<u32, HeapError>; 3], [u32; 2]) {
     let mut heap = Heap::new(alloc, 9);
-    let more = make(&mut heap, sort, &[Datum::Int(1); 9], &[1; 9]);
+    let more = make(alloc, &mut heap, sort, &[Datum::Int(1); 9], &[1; 9]);
     let before = heap.used();
-    let exact = make(&mut heap, sort, &[Datum::Int(1); 8], &[1; 8]);
+    let exact = make(alloc, &mut heap, sort, &[Datum::Int(1); 8], &[1; 8]);
     let behind = heap.used();
-    let next = make(&mut heap, sort, &[], &[]);
+    let next = make(alloc, &mut heap, sort, &[], &[]);
     ([more, exact, next], [before, behind])
 }
 
 #[test]
 fn a_limit_that_is_exact_and_one_slot_more(rt: HostRuntime) {
-    for sort in 0..4u8 {
+    for sort in 0..5u8 {
         let wanted = ([FULL, Ok(1), FULL], [0, 9]);
         assert_eq!(rt; at_the_limit(rt.alloc(), sort), wanted, "of sort {sort}");
     }
@@ -162,10 +182,10 @@ const UP_TO_THE_LIMIT: [ChangeRow; 2] = [
     (Change::Append(&[5]), false, &[1, 2, 3, 5, 5, 5]),
 ];
 
-fn change_text(heap: &mut Heap, change: &Change) -> Option<bool> {
+fn change_text(alloc: Global, heap: &mut Heap, change: &Change) -> Option<bool> {
     match change {
         Change::Append(units) => append(heap, 1, units),
-        Change::Replace(units) => replace(heap, 1, units),
+        Change::Replace(units) => replace(alloc, heap, 1, units),
     }
 }
 
@@ -176,7 +196,7 @@ fn is_changed_so(alloc: Global, rows: &[ChangeRow]) -> bool {
         return false;
     }
     for (change, made, held) in rows {
-        if change_text(&mut heap, change) != Some(*made) || !holds(&heap, 1, held) {
+        if change_text(alloc, &mut heap, change) != Some(*made) || !holds(&heap, 1, held) {
             return false;
         }
     }
@@ -187,6 +207,32 @@ fn is_changed_so(alloc: Global, rows: &[ChangeRow]) -> bool {
 fn a_text_that_grows(rt: HostRuntime) {
     assert!(rt; is_changed_so(rt.alloc(), &CHANGES));
     assert!(rt; is_changed_so(rt.alloc(), &UP_TO_THE_LIMIT));
+}
+
+#[test]
+fn a_unit_in_place(rt: HostRuntime) {
+    let mut heap = Heap::new(rt.alloc(), 100);
+    assert_eq!(rt; array(&mut heap, INTS, Datum::Int(0), 5), Ok(1));
+    assert_eq!(rt; text(&mut heap, &[1, 2, 3]), Ok(2));
+    // The object, a place of it, and whether a unit can be put there.
+    let rows = [
+        (0, 0, false),
+        (1, 0, false),
+        (2, 0, true),
+        (2, 2, true),
+        (2, 3, false),
+        (2, u32::MAX, false),
+        (3, 0, false),
+    ];
+    for (object, at, done) in rows {
+        assert_eq!(rt;
+            put_unit(&mut heap, object, at, 65_535),
+            done,
+            "at {at} of {object}"
+        );
+    }
+    assert!(rt; holds(&heap, 2, &[65_535, 2, 65_535]));
+    assert_eq!(rt; (heap.get(1, 0), heap.used()), (Some(Datum::Int(0)), 10));
 }
 
 #[test]

@@ -7,7 +7,7 @@ use Rattle.heap_objects.specs.declared.object.Object.{Object}
 use Rattle.heap_objects.specs.declared.object.Object.TheVariants.{Instance, Array, Text}
 use Rattle.heap_objects.specs.declared.error.HeapError.{HeapError}
 use Rattle.heap_objects.specs.declared.error.HeapError.TheVariants.{HeapFull}
-use Rattle.heap_objects.specs.Objects.{kind_of, length_of, cost_of, total_cost, slots_of, units_of, kept_by, has_slot, with_slot, with_units, with_more_units, object_at, changed_at}
+use Rattle.heap_objects.specs.Objects.{kind_of, length_of, cost_of, total_cost, slots_of, units_of, kept_by, has_slot, has_unit, with_slot, with_unit, with_units, with_more_units, object_at, changed_at}
 use Rattle.heap_objects.specs.Kinds.{element_of}
 use Rattle.heap_objects.specs.Kept.{kept}
 use Rattle.heap_objects.specs.Interning.{number_of, with_number}
@@ -36,6 +36,9 @@ slot_at object slot h = option_and_then (λ o. slice_get (slots_of o) slot) (obj
 
 abbrev pub has_slot_at : ℕ → ℕ → HeapView → Bool
 has_slot_at object slot h = option_map_or (has_slot slot) (object_at object h.objects) false
+
+abbrev pub has_unit_at : ℕ → ℕ → HeapView → Bool
+has_unit_at object at h = option_map_or (has_unit at) (object_at object h.objects) false
 
 abbrev pub kind_at : ℕ → HeapView → Option ℕ
 kind_at object h = option_map kind_of (object_at object h.objects)
@@ -99,6 +102,10 @@ with_changed f object h = record h { objects = changed_at f (object - 1) h.objec
 -- a value was put into a slot
 abbrev pub with_slot_at : ℕ → ℕ → Datum → HeapView → HeapView
 with_slot_at object slot v h = with_changed (with_slot slot v) object h
+
+-- a unit was put at a place of a text
+abbrev pub with_unit_at : ℕ → ℕ → ℕ → HeapView → HeapView
+with_unit_at object at unit h = with_changed (with_unit at unit) object h
 
 -- how many slots more a text takes with these units in place of its own
 abbrev pub growth_of : ℕ → List ℕ → HeapView → ℕ

@@ -1,5 +1,5 @@
 -- Objects, and lists of them in order of allocation (JVM Specification 2.7).
-use Rattle.std.specs.Prelude.{ℕ, zero, suc, ◌+◌, ◌-◌, ◌==◌, ◌++◌, Bool, List, [], ◌∷◌, length, Option, Some, None, nat_lt, slice_get, slice_set, sum_by, unwrap_or, if◌then◌else◌}
+use Rattle.std.specs.Prelude.{ℕ, zero, suc, ◌+◌, ◌-◌, ◌==◌, ◌++◌, Bool, false, List, [], ◌∷◌, length, Option, Some, None, nat_lt, slice_get, slice_set, sum_by, unwrap_or, if◌then◌else◌}
 use Rattle.std.specs.Option.{option_map}
 use Rattle.heap_objects.specs.declared.datum.Datum.{Datum}
 use Rattle.heap_objects.specs.declared.object.Object.{Object}
@@ -49,6 +49,17 @@ with_slot slot v (Instance kind fields) = Instance kind (slice_set fields slot v
 with_slot slot v (Array a) = Array (with_element slot v a)
 with_slot slot v (Text kind units) = Text kind units
 
+abbrev pub has_unit : ℕ → Object → Bool
+has_unit at (Instance kind fields) = false
+has_unit at (Array a) = false
+has_unit at (Text kind units) = nat_lt at (length units)
+
+-- a unit was put at a place of a text
+abbrev pub with_unit : ℕ → ℕ → Object → Object
+with_unit at unit (Instance kind fields) = Instance kind fields
+with_unit at unit (Array a) = Array a
+with_unit at unit (Text kind units) = Text kind (slice_set units at unit)
+
 -- a text has these units
 abbrev pub with_units : List ℕ → Object → Object
 with_units units (Instance kind fields) = Instance kind fields
@@ -75,6 +86,10 @@ changed_at f (suc place) (o ∷ objects) = o ∷ changed_at f place objects
 -- a value was put into a slot of the object at a place
 abbrev pub with_slot_in : ℕ → ℕ → Datum → List Object → List Object
 with_slot_in place slot v objects = changed_at (with_slot slot v) place objects
+
+-- a unit was put at a place of the text at a place of the list
+abbrev pub with_unit_in : ℕ → ℕ → ℕ → List Object → List Object
+with_unit_in place at unit objects = changed_at (with_unit at unit) place objects
 
 -- the text at a place has these units
 abbrev pub with_units_in : ℕ → List ℕ → List Object → List Object

@@ -9,7 +9,7 @@ use crate::array::ArrayObject;
 use crate::datum::Datum;
 use crate::error::HeapError;
 use crate::interned::Interned;
-use crate::lists::{append_at, item_at, put_at, replace_at};
+use crate::lists::{append_at, item_at, put_at, put_unit_at, replace_at};
 use crate::object::Object;
 use jf_bytes::{NoMemory, Seq};
 use std::alloc::Global;
@@ -73,7 +73,7 @@ impl Heap {
     ghost use Rattle.heap_objects.specs.Interning.{number_of};
     ghost use Rattle.heap_objects.specs.Heaps.{IsSound, empty_heap, ExceedsLimit, IsFullExactly};
     ghost use Rattle.heap_objects.specs.Heaps.{slot_at, has_slot_at, kind_at, length_at, units_at};
-    ghost use Rattle.heap_objects.specs.Heaps.{IsKeptBy, IsText, with_slot_at};
+    ghost use Rattle.heap_objects.specs.Heaps.{IsKeptBy, IsText, with_slot_at, has_unit_at, with_unit_at};
     ghost use Rattle.heap_objects.specs.Heaps.{next_number, with_object, with_instance};
     ghost use Rattle.heap_objects.specs.Heaps.{with_array, with_text};
     ghost use Rattle.heap_objects.specs.Heaps.{interned_number, with_interned, CannotIntern};
@@ -208,6 +208,19 @@ impl Heap {
         Ok(number)
     }
 
+    /// Makes a text of these units, which are not copied, and gives its number. An Err changes nothing.
+    pub fn own_text(&mut self, kind: u32, units: Seq<u16>) -> Result<u32, HeapError>
+        ensures full { IsFullExactly result (ExceedsLimit (1 + length units) self.old) }
+        ensures number { IfOk result (λ n. n ≡ next_number self.old) }
+        ensures heap { self.new ≡ changed_if (is_ok result) (with_text kind units) self.old }
+    {
+        let Some(used) = charged(self.limit, self.used, 1 + units.len()) else {
+            return Err(HeapError::HeapFull);
+        };
+        let number = self.add(Object::Text(kind, units), used)?;
+        Ok(number)
+    }
+
     /// Makes the text that these units are interned as, where none was interned yet.
     #[tactic(auto, using(crate::proofs::HeapLemmas::length_within, crate::proofs::HeapLemmas::cost_more))]
     fn intern_new(&mut self, kind: u32, units: &[u16]) -> Result<u32, HeapError>
@@ -255,6 +268,17 @@ impl Heap {
         put_at(&mut self.objects, object as usize - 1, slot as usize, value)
     }
 
+    /// Puts a unit at a place of a text. False, with nothing changed, where there is no such text or place.
+    pub fn put_unit(&mut self, object: u32, at: u32, unit: u16) -> bool
+        ensures answer { result ≡ has_unit_at object at self.old }
+        ensures heap { self.new ≡ changed_if result (with_unit_at object at unit) self.old }
+    {
+        if object == 0 {
+            return false;
+        }
+        put_unit_at(&mut self.objects, object as usize - 1, at as usize, unit)
+    }
+
     /// Adds units at the end of a text, which takes a slot for each. An Err changes nothing.
     pub fn append(&mut self, object: u32, units: &[u16]) -> Result<(), HeapError>
         requires { IsText object self.old }
@@ -270,19 +294,20 @@ impl Heap {
         Ok(())
     }
 
-    /// Gives a text these units in place of its own. It takes as many slots as it gets longer. An Err changes nothing.
-    pub fn replace(&mut self, object: u32, units: &[u16]) -> Result<(), HeapError>
+    /// Gives a text these units, which are not copied, in place of its own. It takes as many slots as it gets longer. An
+    /// Err changes nothing.
+    pub fn replace(&mut self, object: u32, units: Seq<u16>) -> Result<(), HeapError>
         requires { IsText object self.old }
-        ensures full { IsFullExactly result (GrowsPastLimit object units.now self.old) }
+        ensures full { IsFullExactly result (GrowsPastLimit object units self.old) }
         ensures heap { self.new
-            ≡ changed_if (is_ok result) (with_units_replaced object units.now) self.old }
+            ≡ changed_if (is_ok result) (with_units_replaced object units) self.old }
     {
         let before = self.len(object).unwrap_or(0) as usize;
         let grown = units.len().saturating_sub(before);
         let Some(used) = charged(self.limit, self.used, grown) else {
             return Err(HeapError::HeapFull);
         };
-        replace_at(self.alloc, &mut self.objects, object as usize - 1, units)?;
+        replace_at(&mut self.objects, object as usize - 1, units);
         self.used = used;
         Ok(())
     }

@@ -3,13 +3,12 @@
 ghost use Rattle.std.specs.Prelude.{◌≡◌, ◌<◌, ◌≤◌, ◌+◌, false, length, slice_get, is_ok};
 ghost use Rattle.std.specs.Option.{option_copied, option_map_or};
 ghost use Rattle.heap_objects.specs.Changes.{changed_if};
-ghost use Rattle.heap_objects.specs.Objects.{has_slot, total_cost, growth_in};
-ghost use Rattle.heap_objects.specs.Objects.{with_slot_in, with_units_in, with_more_units_in};
+ghost use Rattle.heap_objects.specs.Objects.{has_slot, has_unit, total_cost, growth_in};
+ghost use Rattle.heap_objects.specs.Objects.{with_slot_in, with_unit_in, with_units_in, with_more_units_in};
 
 use crate::datum::Datum;
 use crate::object::Object;
-use jf_bytes::NoMemory;
-use std::alloc::Global;
+use jf_bytes::{NoMemory, Seq};
 
 /// The object at a place, where there is one.
 pub fn item_at(objects: &[Object], place: usize) -> Option<&Object>
@@ -30,6 +29,19 @@ pub fn put_at(objects: &mut [Object], place: usize, slot: usize, value: Datum) -
     objects[place].put(slot, value)
 }
 
+/// Puts a unit at a place of a text. False, with nothing changed, where there is no such text or place.
+pub fn put_unit_at(objects: &mut [Object], place: usize, at: usize, unit: u16) -> bool
+    ensures answer { result ≡ option_map_or (has_unit at) (slice_get objects.old place) false }
+    ensures objects { objects.new
+        ≡ changed_if result (with_unit_in place at unit) objects.old }
+    ensures cost { total_cost objects.new ≡ total_cost objects.old }
+{
+    if place >= objects.len() {
+        return false;
+    }
+    objects[place].put_unit(at, unit)
+}
+
 /// Adds units at the end of a text. An Err changes nothing.
 pub fn append_at(objects: &mut [Object], place: usize, units: &[u16]) -> Result<(), NoMemory>
     requires { place < length objects.old }
@@ -41,19 +53,12 @@ pub fn append_at(objects: &mut [Object], place: usize, units: &[u16]) -> Result<
     Ok(())
 }
 
-/// Gives a text other units. An Err changes nothing.
-pub fn replace_at(
-    alloc: Global,
-    objects: &mut [Object],
-    place: usize,
-    units: &[u16],
-) -> Result<(), NoMemory>
+/// Gives a text other units.
+pub fn replace_at(objects: &mut [Object], place: usize, units: Seq<u16>)
     requires { place < length objects.old }
-    ensures objects { objects.new
-        ≡ changed_if (is_ok result) (with_units_in place units.now) objects.old }
+    ensures objects { objects.new ≡ with_units_in place units objects.old }
     ensures cost { total_cost objects.new
-        ≤ total_cost objects.old + growth_in place units.now objects.old }
+        ≤ total_cost objects.old + growth_in place units objects.old }
 {
-    objects[place].replace(alloc, units)?;
-    Ok(())
+    objects[place].replace(units);
 }

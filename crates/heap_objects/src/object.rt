@@ -7,7 +7,7 @@ ghost use Rattle.heap_objects.specs.Changes.{changed_if};
 use crate::array::ArrayObject;
 use crate::datum::Datum;
 use jf_bytes::Seq;
-use std::alloc::{AllocError, Global};
+use std::alloc::AllocError;
 
 /// An object: an instance with its class and its fields, an array, or a text with its class and its UTF-16 units. Classes
 /// are told by their kinds.
@@ -20,7 +20,7 @@ pub enum Object {
 
 impl Object {
     ghost use Rattle.heap_objects.specs.Objects.{kind_of, length_of, slots_of, units_of, kept_by};
-    ghost use Rattle.heap_objects.specs.Objects.{has_slot, with_slot, with_units, with_more_units};
+    ghost use Rattle.heap_objects.specs.Objects.{has_slot, with_slot, has_unit, with_unit, with_units, with_more_units};
 
     /// The kind of its class, or of the array.
     pub fn kind(&self) -> u32
@@ -91,6 +91,24 @@ impl Object {
         }
     }
 
+    /// Puts a unit at a place of a text. False, with nothing changed, where there is none.
+    pub fn put_unit(&mut self, at: usize, unit: u16) -> bool
+        ensures answer { result ≡ has_unit at self.old }
+        ensures object { self.new ≡ changed_if result (with_unit at unit) self.old }
+    {
+        match self {
+            Object::Instance(_, _) => false,
+            Object::Array(_) => false,
+            Object::Text(_, units) => {
+                if at >= units.len() {
+                    return false;
+                }
+                units.set(at, unit);
+                true
+            }
+        }
+    }
+
     /// Adds units at the end of a text. An Err changes nothing.
     pub fn append(&mut self, units: &[u16]) -> Result<(), AllocError>
         ensures { self.new ≡ changed_if (is_ok result) (with_more_units units.now) self.old }
@@ -102,17 +120,14 @@ impl Object {
         }
     }
 
-    /// Gives a text other units. An Err changes nothing.
-    pub fn replace(&mut self, alloc: Global, units: &[u16]) -> Result<(), AllocError>
-        ensures { self.new ≡ changed_if (is_ok result) (with_units units.now) self.old }
+    /// Gives a text other units.
+    pub fn replace(&mut self, units: Seq<u16>)
+        ensures { self.new ≡ with_units units self.old }
     {
         match self {
-            Object::Instance(_, _) => Ok(()),
-            Object::Array(_) => Ok(()),
-            Object::Text(_, old) => {
-                *old = Seq::from_slice(alloc, units)?;
-                Ok(())
-            }
+            Object::Instance(_, _) => {}
+            Object::Array(_) => {}
+            Object::Text(_, old) => *old = units,
         }
     }
 }

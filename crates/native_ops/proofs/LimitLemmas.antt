@@ -5,9 +5,9 @@ use Rattle.heap_objects.specs.declared.datum.Datum.{Datum}
 use Rattle.heap_objects.specs.declared.datum.Datum.TheVariants.{Int}
 use Rattle.heap_objects.specs.Changes.{changed_if}
 use Rattle.heap_objects.specs.Interning.{number_of, with_number}
-use Rattle.heap_objects.specs.Heaps.{HeapView, has_slot_at, with_slot_at, units_at, growth_of, with_units_added, with_units_replaced, with_interned, with_text, with_instance, with_array, next_number}
+use Rattle.heap_objects.specs.Heaps.{HeapView, has_slot_at, with_slot_at, has_unit_at, with_unit_at, units_at, growth_of, with_units_added, with_units_replaced, with_interned, with_text, with_instance, with_array, next_number}
 use Rattle.native_ops.specs.declared.effect.Effect.{Effect}
-use Rattle.native_ops.specs.declared.effect.Effect.TheVariants.{Answers, MakesText, MakesArray, MakesInstance, Appends, Replaces, Resizes, Interns, Prints, Reads, Stores, SetsFields, GivesClass, GivesBox}
+use Rattle.native_ops.specs.declared.effect.Effect.TheVariants.{Answers, MakesText, MakesArray, MakesInstance, Appends, Replaces, PutsUnit, Resizes, Interns, Prints, Reads, Stores, SetsFields, GivesClass, GivesBox}
 use Rattle.native_ops.specs.Numbers.{string_kind, class_kind}
 use Rattle.native_ops.specs.Objects.{size_at, text_at}
 use Rattle.native_ops.specs.MadeViews.{MadeView, object_of_class, object_of_box}
@@ -60,6 +60,7 @@ after-limit (MakesInstance kind fields) w =
     either (is_full (1 + length fields) w.heap) w.heap.limit w.heap (with_instance kind fields w.heap) refl refl
 after-limit (Appends object units) w = append-limit object units w.heap
 after-limit (Replaces object units value) w = replace-limit object units w.heap
+after-limit (PutsUnit object at unit) w = either (has_unit_at object at w.heap) w.heap.limit (with_unit_at object at unit w.heap) w.heap refl refl
 after-limit (Resizes object size) w = replace-limit object (resized size (text_at object w.heap)) w.heap
 after-limit (Interns units) w = intern-limit units w.heap
 after-limit (Prints units) w = refl

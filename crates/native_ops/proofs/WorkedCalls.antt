@@ -119,6 +119,12 @@ found_pair : answers 23 (Ref 1 ∷ Int (pos 66560) ∷ []) (with (Text 23 (97 �
 unfolding rows
 found_pair = refl
 
+part_of_an_array : objects_after 11 (Ref 1 ∷ Ref 2 ∷ Int (pos 1) ∷ Int (pos 2) ∷ [])
+    (with (Text 23 [] ∷ Array (record { kind = 16777221; items = Int (pos 97) ∷ Int (pos 98) ∷ Int (pos 99) ∷ [] }) ∷ []) 9 [])
+    ≡ Text 23 (codes "bc") ∷ Array (record { kind = 16777221; items = Int (pos 97) ∷ Int (pos 98) ∷ Int (pos 99) ∷ [] }) ∷ []
+unfolding rows
+part_of_an_array = refl
+
 -- ---- the builders
 
 appended_null : objects_after 35 (Ref 3 ∷ Ref 0 ∷ []) abc ≡ Text 23 (codes "abc") ∷ Text 23 (codes "abd") ∷ Text 24 (codes "abnull") ∷ []
@@ -150,6 +156,18 @@ no_room = refl
 deleted : objects_after 45 (Ref 3 ∷ Int (pos 0) ∷ []) abc ≡ Text 23 (codes "abc") ∷ Text 23 (codes "abd") ∷ Text 24 (codes "b") ∷ []
 unfolding rows
 deleted = refl
+
+put_in_place : objects_after 43 (Ref 3 ∷ Int (pos 1) ∷ Int (pos 65635) ∷ []) abc ≡ Text 23 (codes "abc") ∷ Text 23 (codes "abd") ∷ Text 24 (codes "ac") ∷ []
+unfolding rows
+put_in_place = refl
+
+put_answers_nothing : answers 43 (Ref 3 ∷ Int (pos 1) ∷ Int (pos 99) ∷ []) abc ≡ Value None
+unfolding rows
+put_answers_nothing = refl
+
+put_behind : answers 43 (Ref 3 ∷ Int (pos 2) ∷ Int (pos 99) ∷ []) abc ≡ Throws 38
+unfolding rows
+put_behind = refl
 
 -- ---- streams and java/lang/System
 

@@ -1,12 +1,12 @@
 -- java/lang/StringBuilder and java/lang/StringBuffer: what their native methods do, each by its arguments and the heap. The receiver
 -- is the argument at place 0.
-use Rattle.std.specs.Prelude.{ℕ, ◌+◌, ◌++◌, ℤ, pos, negsuc, List, [], Some, None, length, take, drop, slice_set, if◌then◌else◌}
+use Rattle.std.specs.Prelude.{ℕ, ◌+◌, ◌++◌, ℤ, pos, negsuc, List, [], Some, None, length, take, drop, if◌then◌else◌}
 use Rattle.std.specs.Option.{option_map_or}
 use Rattle.heap_objects.specs.declared.datum.Datum.{Datum}
 use Rattle.heap_objects.specs.declared.datum.Datum.TheVariants.{Ref}
 use Rattle.heap_objects.specs.Heaps.{HeapView}
 use Rattle.native_ops.specs.declared.effect.Effect.{Effect}
-use Rattle.native_ops.specs.declared.effect.Effect.TheVariants.{MakesText, Appends, Replaces, Resizes}
+use Rattle.native_ops.specs.declared.effect.Effect.TheVariants.{MakesText, Appends, Replaces, PutsUnit, Resizes}
 use Rattle.native_ops.specs.declared.method.Printable.{Printable}
 use Rattle.native_ops.specs.declared.method.BuilderMethod.{BuilderMethod}
 use Rattle.native_ops.specs.declared.method.BuilderMethod.TheVariants.{Init, InitCapacity, InitText, Append, Length, CharAt, SetCharAt, SetLength, DeleteCharAt, ToText}
@@ -31,7 +31,7 @@ append what args h =
 
 abbrev pub set_char_at : ℕ → ℤ → ℕ → HeapView → Effect
 set_char_at object place unit h =
-    option_map_or (λ i. Replaces object (slice_set (text_at object h) i unit) None) (place_in place (length (text_at object h)))
+    option_map_or (λ at. PutsUnit object at unit) (place_in place (length (text_at object h)))
     (throws string_index_out_of_bounds_exception)
 
 abbrev pub set_length : ℕ → ℤ → Effect

@@ -6,7 +6,7 @@ use Rattle.heap_objects.specs.declared.error.HeapError.{HeapError}
 use Rattle.heap_objects.specs.declared.error.HeapError.TheVariants.{HeapFull, NoMemory}
 use Rattle.heap_objects.specs.Changes.{changed_if}
 use Rattle.heap_objects.specs.Interning.{number_of}
-use Rattle.heap_objects.specs.Heaps.{HeapView, ExceedsLimit, IsFullExactly, next_number, with_text, with_array, with_instance, with_units_added, with_units_replaced, with_interned, growth_of, units_at, has_slot_at, with_slot_at}
+use Rattle.heap_objects.specs.Heaps.{HeapView, ExceedsLimit, IsFullExactly, next_number, with_text, with_array, with_instance, with_units_added, with_units_replaced, with_interned, growth_of, units_at, has_slot_at, with_slot_at, has_unit_at, with_unit_at}
 use Rattle.native_ops.specs.declared.answer.Answer.{Answer}
 use Rattle.native_ops.specs.declared.answer.Answer.TheVariants.{Value, Throws, Bad}
 use Rattle.native_ops.specs.Numbers.{out_of_memory_error, string_kind, class_kind}
@@ -90,6 +90,12 @@ heap_with_replace object units h =
     if is_some (units_at object h)
     then (if is_full (growth_of object units h) h then h else with_units_replaced object units h)
     else h
+
+abbrev pub answer_of_unit : ℕ → ℕ → HeapView → Answer
+answer_of_unit object at h = if has_unit_at object at h then Value None else Bad
+
+abbrev pub heap_with_unit : ℕ → ℕ → ℕ → HeapView → HeapView
+heap_with_unit object at unit h = changed_if (has_unit_at object at h) (with_unit_at object at unit) h
 
 -- the first so many units, with units of 0 behind them where there are fewer
 abbrev pub resized : ℕ → List ℕ → List ℕ

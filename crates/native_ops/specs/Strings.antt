@@ -32,7 +32,7 @@ init_range object units range =
 
 abbrev pub init_part : ℕ → ℕ → ℤ → ℤ → HeapView → Effect
 init_part object array from count h =
-    unless_null array (init_range object (chars_at array h) (counted_range from count (length (chars_at array h))))
+    unless_null array (init_range object (chars_at array h) (counted_range from count (size_at array h)))
 
 -- ---- reading
 

@@ -4,11 +4,11 @@ use Rattle.heap_objects.specs.Heaps.{HeapView}
 use Rattle.native_ops.specs.declared.answer.Answer.{Answer}
 use Rattle.native_ops.specs.declared.answer.Answer.TheVariants.{Value}
 use Rattle.native_ops.specs.declared.effect.Effect.{Effect}
-use Rattle.native_ops.specs.declared.effect.Effect.TheVariants.{Answers, MakesText, MakesArray, MakesInstance, Appends, Replaces, Resizes, Interns, Prints, Reads, Stores, SetsFields, GivesClass, GivesBox}
+use Rattle.native_ops.specs.declared.effect.Effect.TheVariants.{Answers, MakesText, MakesArray, MakesInstance, Appends, Replaces, PutsUnit, Resizes, Interns, Prints, Reads, Stores, SetsFields, GivesClass, GivesBox}
 use Rattle.native_ops.specs.declared.io.Io.{Io}
 use Rattle.native_ops.specs.MadeViews.{MadeView}
 use Rattle.native_ops.specs.Ports.{answer_of_read, after_read, with_output}
-use Rattle.native_ops.specs.Making.{answer_of_text, heap_with_text, answer_of_array, heap_with_array, answer_of_instance, heap_with_instance, answer_of_append, heap_with_append, answer_of_replace, heap_with_replace, answer_of_resize, heap_with_resize, answer_of_intern, heap_with_interned, with_values, with_fields, answer_of_class, heap_after_class, made_after_class, answer_of_box, heap_after_box, made_after_box}
+use Rattle.native_ops.specs.Making.{answer_of_text, heap_with_text, answer_of_array, heap_with_array, answer_of_instance, heap_with_instance, answer_of_append, heap_with_append, answer_of_replace, heap_with_replace, answer_of_unit, heap_with_unit, answer_of_resize, heap_with_resize, answer_of_intern, heap_with_interned, with_values, with_fields, answer_of_class, heap_after_class, made_after_class, answer_of_box, heap_after_box, made_after_box}
 
 -- the heap, what was made once, and the input and output
 pub record World : Type 0 where
@@ -27,6 +27,7 @@ answer_of (MakesArray kind values) w = answer_of_array values w.heap
 answer_of (MakesInstance kind fields) w = answer_of_instance fields w.heap
 answer_of (Appends object units) w = answer_of_append object units w.heap
 answer_of (Replaces object units value) w = answer_of_replace object units value w.heap
+answer_of (PutsUnit object at unit) w = answer_of_unit object at w.heap
 answer_of (Resizes object size) w = answer_of_resize object size w.heap
 answer_of (Interns units) w = answer_of_intern units w.heap
 answer_of (Prints units) w = Value None
@@ -44,6 +45,7 @@ after (MakesArray kind values) w = record w { heap = heap_with_array kind values
 after (MakesInstance kind fields) w = record w { heap = heap_with_instance kind fields w.heap }
 after (Appends object units) w = record w { heap = heap_with_append object units w.heap }
 after (Replaces object units value) w = record w { heap = heap_with_replace object units w.heap }
+after (PutsUnit object at unit) w = record w { heap = heap_with_unit object at unit w.heap }
 after (Resizes object size) w = record w { heap = heap_with_resize object size w.heap }
 after (Interns units) w = record w { heap = heap_with_interned units w.heap }
 after (Prints units) w = record w { io = with_output units w.io }

@@ -9,7 +9,7 @@ use crate::method::{BuilderMethod, Printable};
 use crate::numbers::{
     NEGATIVE_ARRAY_SIZE_EXCEPTION, NULL_POINTER_EXCEPTION, STRING_INDEX_OUT_OF_BOUNDS_EXCEPTION,
 };
-use crate::places::place_in;
+use crate::places::{place_in, small_place_in};
 use crate::reading::{number_as_int, size_at, text_at};
 use crate::shown::{is_null_array, shown};
 use crate::strings::{char_at, init_text, own_units};
@@ -40,21 +40,13 @@ fn append(alloc: Global, what: Printable, args: &[Datum], heap: &Heap) -> Result
 }
 
 /// setCharAt(IC)V.
-fn set_char_at(
-    alloc: Global,
-    object: u32,
-    place: i32,
-    unit: u16,
-    heap: &Heap,
-) -> Result<Effect, NoMemory>
-    ensures { IfOk result (λ e. e ≡ set_char_at object place unit heap.now) }
+fn set_char_at(object: u32, place: i32, unit: u16, heap: &Heap) -> Effect
+    ensures { result ≡ set_char_at object place unit heap.now }
 {
-    let mut units = own_units(alloc, object, heap)?;
-    let Some(place) = place_in(place, units.len()) else {
-        return Ok(throws(STRING_INDEX_OUT_OF_BOUNDS_EXCEPTION));
-    };
-    units.set(place, unit);
-    Ok(Effect::Replaces(object, units, None))
+    match small_place_in(place, text_at(object, heap).len()) {
+        Some(at) => Effect::PutsUnit(object, at, unit),
+        None => throws(STRING_INDEX_OUT_OF_BOUNDS_EXCEPTION),
+    }
 }
 
 /// setLength(I)V.
@@ -105,7 +97,7 @@ pub fn builder_effect(
         BuilderMethod::Length => Ok(gives_int(number_as_int(size_at(this, heap) as usize))),
         BuilderMethod::CharAt => Ok(char_at(this, int_in(args, 1), heap)),
         BuilderMethod::SetCharAt => {
-            set_char_at(alloc, this, int_in(args, 1), char_in(args, 2), heap)
+            Ok(set_char_at(this, int_in(args, 1), char_in(args, 2), heap))
         }
         BuilderMethod::SetLength => Ok(set_length(this, int_in(args, 1))),
         BuilderMethod::DeleteCharAt => delete_char_at(alloc, this, int_in(args, 1), heap),

@@ -11,8 +11,8 @@ use crate::effect::Effect;
 use crate::io::{Io, print, read_byte};
 use crate::made::Made;
 use crate::making::{
-    append, intern, make_array, make_instance, make_text, object_answer, put_fields, put_values,
-    replace, resize,
+    append, intern, make_array, make_instance, make_text, object_answer, put_fields, put_unit,
+    put_values, replace, resize,
 };
 use heap_objects::{Datum, Heap};
 use jf_bytes::NoMemory;
@@ -59,11 +59,12 @@ pub fn carry_out(
 {
     match effect {
         Effect::Answers(answer) => Ok(answer),
-        Effect::MakesText(units) => make_text(units.as_slice(), heap),
+        Effect::MakesText(units) => make_text(units, heap),
         Effect::MakesArray(kind, values) => make_array(kind, values.as_slice(), heap),
         Effect::MakesInstance(kind, fields) => make_instance(kind, fields.as_slice(), heap),
         Effect::Appends(object, units) => append(object, units.as_slice(), heap),
-        Effect::Replaces(object, units, value) => replace(object, units.as_slice(), value, heap),
+        Effect::Replaces(object, units, value) => replace(object, units, value, heap),
+        Effect::PutsUnit(object, at, unit) => Ok(put_unit(object, at, unit, heap)),
         Effect::Resizes(object, size) => resize(alloc, object, size, heap),
         Effect::Interns(units) => intern(units.as_slice(), heap),
         Effect::Prints(units) => print(alloc, units, io),

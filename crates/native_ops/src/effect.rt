@@ -22,6 +22,8 @@ pub enum Effect {
     Appends(u32, Seq<u16>),
     /// A text gets units in place of its own.
     Replaces(u32, Seq<u16>, Option<Datum>),
+    /// A unit is put at a place of a text.
+    PutsUnit(u32, u32, u16),
     /// A text is cut, or gets units of 0 at its end, until it has so many.
     Resizes(u32, u32),
     /// The text that units are interned as is the answer.

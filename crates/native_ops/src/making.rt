@@ -5,7 +5,7 @@ ghost use Rattle.heap_objects.specs.Changes.{changed_if};
 ghost use Rattle.native_ops.specs.Making.{answer_of_text, heap_with_text, answer_of_instance, heap_with_instance};
 ghost use Rattle.native_ops.specs.Making.{put_at, with_values, with_fields, answer_of_array, heap_with_array};
 ghost use Rattle.native_ops.specs.Making.{answer_of_append, heap_with_append, answer_of_replace, heap_with_replace};
-ghost use Rattle.native_ops.specs.Making.{resized, answer_of_resize, heap_with_resize, answer_of_intern, heap_with_interned};
+ghost use Rattle.native_ops.specs.Making.{answer_of_unit, heap_with_unit, resized, answer_of_resize, heap_with_resize, answer_of_intern, heap_with_interned};
 ghost use Rattle.native_ops.specs.Making.{object_answer, change_answer};
 
 use crate::answer::Answer;
@@ -40,11 +40,11 @@ fn change_answer(changed: Result<(), HeapError>, value: Option<Datum>) -> Result
 }
 
 /// A new String.
-pub fn make_text(units: &[u16], heap: &mut Heap) -> Result<Answer, NoMemory>
-    ensures answer { IfOk result (λ a. a ≡ answer_of_text units.now heap.old) }
-    ensures heap { heap.new ≡ changed_if (is_ok result) (heap_with_text units.now) heap.old }
+pub fn make_text(units: Seq<u16>, heap: &mut Heap) -> Result<Answer, NoMemory>
+    ensures answer { IfOk result (λ a. a ≡ answer_of_text units heap.old) }
+    ensures heap { heap.new ≡ changed_if (is_ok result) (heap_with_text units) heap.old }
 {
-    object_answer(heap.text(STRING_KIND, units))
+    object_answer(heap.own_text(STRING_KIND, units))
 }
 
 /// A new instance.
@@ -120,13 +120,13 @@ pub fn append(object: u32, units: &[u16], heap: &mut Heap) -> Result<Answer, NoM
 /// Gives a text units in place of its own.
 pub fn replace(
     object: u32,
-    units: &[u16],
+    units: Seq<u16>,
     value: Option<Datum>,
     heap: &mut Heap,
 ) -> Result<Answer, NoMemory>
-    ensures answer { IfOk result (λ a. a ≡ answer_of_replace object units.now value heap.old) }
+    ensures answer { IfOk result (λ a. a ≡ answer_of_replace object units value heap.old) }
     ensures heap { heap.new
-        ≡ changed_if (is_ok result) (heap_with_replace object units.now) heap.old }
+        ≡ changed_if (is_ok result) (heap_with_replace object units) heap.old }
 {
     if heap.units(object).is_none() {
         return Ok(Answer::Bad);
@@ -134,12 +134,25 @@ pub fn replace(
     change_answer(heap.replace(object, units), value)
 }
 
+/// Puts a unit at a place of a text.
+pub fn put_unit(object: u32, at: u32, unit: u16, heap: &mut Heap) -> Answer
+    ensures answer { result ≡ answer_of_unit object at heap.old }
+    ensures heap { heap.new ≡ heap_with_unit object at unit heap.old }
+{
+    if heap.put_unit(object, at, unit) {
+        Answer::Value(None)
+    } else {
+        Answer::Bad
+    }
+}
+
 /// The first so many units, with units of 0 behind them where there are fewer.
 fn resized(alloc: Global, size: usize, units: &[u16]) -> Result<Seq<u16>, NoMemory>
     ensures { IfOk result (λ r. r ≡ resized size units.now) }
 {
     let kept = size.min(units.len());
-    let mut made = Seq::from_slice(alloc, &units[..kept])?;
+    let mut made = Seq::with_capacity(alloc, size)?;
+    made.extend_from_slice(&units[..kept])?;
     for _ in kept..size {
         made.push(0)?;
     }
@@ -159,7 +172,7 @@ pub fn resize(alloc: Global, object: u32, size: u32, heap: &mut Heap) -> Result<
         return Ok(Answer::Throws(OUT_OF_MEMORY_ERROR));
     }
     let units = resized(alloc, size as usize, text_at(object, heap))?;
-    replace(object, units.as_slice(), None, heap)
+    replace(object, units, None, heap)
 }
 
 /// The text that units are interned as.

@@ -15,6 +15,21 @@ pub fn place_in(place: i32, size: usize) -> Option<usize>
     if place < size { Some(place) } else { None }
 }
 
+/// The same, as a number of 32 bits.
+pub fn small_place_in(place: i32, size: usize) -> Option<u32>
+    ensures { result ≡ place_in place size }
+{
+    if place < 0 {
+        return None;
+    }
+    let place = place.cast_unsigned();
+    if (place as usize) < size {
+        Some(place)
+    } else {
+        None
+    }
+}
+
 /// From one place to another, where both are of so many or its end, and in this order.
 pub fn range_in(from: i32, to: i32, size: usize) -> Option<(usize, usize)>
     ensures { result ≡ range_in from to size }

@@ -1,6 +1,6 @@
 //! What rules read of objects.
 
-ghost use Rattle.std.specs.Prelude.{◌≡◌, ◌≤◌, IfOk, map, slice_get};
+ghost use Rattle.std.specs.Prelude.{◌≡◌, ◌≤◌, IfOk, slice_get};
 ghost use Rattle.native_ops.specs.Objects.{text_at, size_at, kind_or_none, has_kind, values_at, chars_at, char_in_datum, number_as_int};
 ghost use Rattle.native_ops.specs.Places.{between};
 ghost use Rattle.native_ops.specs.Objects.{int_field, long_field, reference_field};
@@ -141,21 +141,42 @@ fn char_in_datum(value: Datum) -> u16
     }
 }
 
-/// The units that values stand for.
-fn chars_of(alloc: Global, values: &[Datum]) -> Result<Seq<u16>, NoMemory>
-    ensures { IfOk result (λ units. units ≡ map char_in_datum values.now) }
+/// A unit in an array of char.
+#[tactic(auto, using(crate::proofs::ObjectLemmas::char_is))]
+fn char_at(object: u32, slot: u32, heap: &Heap) -> Option<u16>
+    ensures { result ≡ slice_get (chars_at object heap.now) slot }
 {
-    let mut units = Seq::with_capacity(alloc, values.len())?;
-    for value in values {
-        units.push(char_in_datum(*value))?;
+    Some(char_in_datum(value_at(object, slot, heap)?))
+}
+
+/// The units in an array of char from one place to another.
+pub fn chars_between(
+    alloc: Global,
+    object: u32,
+    from: usize,
+    to: usize,
+    heap: &Heap,
+) -> Result<Seq<u16>, NoMemory>
+    requires order { from ≤ to }
+    requires within { to ≤ size_at object heap.now }
+    ensures { IfOk result (λ units. units ≡ between from to (chars_at object heap.now)) }
+{
+    let mut units = Seq::with_capacity(alloc, to - from)?;
+    let _size = size_at(object, heap);
+    for slot in from..to {
+        let Some(unit) = char_at(object, slot as u32, heap) else {
+            return Ok(units);
+        };
+        units.push(unit)?;
     }
     Ok(units)
 }
 
 /// The units in an array of char.
+#[tactic(auto, using(crate::proofs::ObjectLemmas::chars_whole))]
 pub fn chars_at(alloc: Global, object: u32, heap: &Heap) -> Result<Seq<u16>, NoMemory>
     ensures { IfOk result (λ units. units ≡ chars_at object heap.now) }
 {
-    let values = values_at(alloc, object, heap)?;
-    chars_of(alloc, values.as_slice())
+    let size = size_at(object, heap);
+    chars_between(alloc, object, 0, size as usize, heap)
 }

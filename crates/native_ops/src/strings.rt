@@ -1,7 +1,7 @@
 //! java/lang/String.
 
 ghost use Rattle.std.specs.Prelude.{◌≡◌, ◌≤◌, IfOk, IfSome, length, map, option_and_then, slice_get};
-ghost use Rattle.native_ops.specs.Objects.{text_at};
+ghost use Rattle.native_ops.specs.Objects.{text_at, size_at, chars_at};
 ghost use Rattle.native_ops.specs.Places.{place_in, range_in, range_from};
 ghost use Rattle.heap_objects.specs.Cells.{char_datum};
 ghost use Rattle.native_ops.specs.Strings.{init_text, init_chars, init_range, init_part, char_at, equals, compare_to, compare_to_object};
@@ -15,7 +15,7 @@ use crate::numbers::{
     STRING_KIND,
 };
 use crate::places::{counted_range, place_in, place_of_character, range_from, range_in};
-use crate::reading::{chars_at, has_kind, number_as_int, size_at, text_at};
+use crate::reading::{chars_at, chars_between, has_kind, number_as_int, size_at, text_at};
 use crate::shown::{is_null_array, shown};
 use crate::texts::{begins_with, compared_texts, hash_of_text, joined, same_units};
 use heap_objects::{Datum, Heap};
@@ -48,16 +48,17 @@ fn init_chars(alloc: Global, object: u32, array: u32, heap: &Heap) -> Result<Eff
 fn init_range(
     alloc: Global,
     object: u32,
-    units: &[u16],
+    array: u32,
     range: Option<(usize, usize)>,
+    heap: &Heap,
 ) -> Result<Effect, NoMemory>
-    requires { IfSome range (λ r. (r.0 ≤ r.1) × (r.1 ≤ length units.now)) }
-    ensures { IfOk result (λ e. e ≡ init_range object units.now range) }
+    requires { IfSome range (λ r. (r.0 ≤ r.1) × (r.1 ≤ size_at array heap.now)) }
+    ensures { IfOk result (λ e. e ≡ init_range object (chars_at array heap.now) range) }
 {
     let Some((from, to)) = range else {
         return Ok(throws(STRING_INDEX_OUT_OF_BOUNDS_EXCEPTION));
     };
-    let part = Seq::from_slice(alloc, &units[from..to])?;
+    let part = chars_between(alloc, array, from, to, heap)?;
     Ok(Effect::Replaces(object, part, None))
 }
 
@@ -75,13 +76,8 @@ fn init_part(
     if array == 0 {
         return Ok(throws(NULL_POINTER_EXCEPTION));
     }
-    let units = chars_at(alloc, array, heap)?;
-    init_range(
-        alloc,
-        object,
-        units.as_slice(),
-        counted_range(from, count, units.len()),
-    )
+    let range = counted_range(from, count, size_at(array, heap) as usize);
+    init_range(alloc, object, array, range, heap)
 }
 
 /// The unit at a place.

@@ -115,7 +115,8 @@ pub fn begins_with(front: &[u16], units: &[u16]) -> bool
 pub fn joined(alloc: Global, one: &[u16], other: &[u16]) -> Result<Seq<u16>, NoMemory>
     ensures { IfOk result (λ units. units ≡ one.now ++ other.now) }
 {
-    let mut units = Seq::from_slice(alloc, one)?;
+    let mut units = Seq::with_capacity(alloc, one.len() + other.len())?;
+    units.extend_from_slice(one)?;
     units.extend_from_slice(other)?;
     Ok(units)
 }

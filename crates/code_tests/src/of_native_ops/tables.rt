@@ -25,11 +25,12 @@ macro_rules! rows {
     };
 }
 
-static STRINGS: [Row; 29] = rows![
+static STRINGS: [Row; 30] = rows![
     ["java/lang/String" "<init>" "()V" [Datum::Ref(1)], Native::Value(None), ""]
     ["java/lang/String" "<init>" "(Ljava/lang/String;)V" [Datum::Ref(1), Datum::Ref(0)], Native::Throws(34), ""]
     ["java/lang/String" "<init>" "([C)V" [Datum::Ref(1), Datum::Ref(6)], Native::Value(None), ""]
     ["java/lang/String" "<init>" "([CII)V" [Datum::Ref(1), Datum::Ref(6), Datum::Int(1), Datum::Int(2)], Native::Throws(38), ""]
+    ["java/lang/String" "<init>" "([CII)V" [Datum::Ref(1), Datum::Ref(6), Datum::Int(1), Datum::Int(1)], Native::Value(None), ""]
     ["java/lang/String" "length" "()I" [Datum::Ref(1)], Native::Value(Some(Datum::Int(3))), ""]
     ["java/lang/String" "charAt" "(I)C" [Datum::Ref(1), Datum::Int(2)], Native::Value(Some(Datum::Int(99))), ""]
     ["java/lang/String" "charAt" "(I)C" [Datum::Ref(1), Datum::Int(3)], Native::Throws(38), ""]
@@ -61,7 +62,7 @@ pub fn strings() -> &'static [Row] {
     &STRINGS
 }
 
-static BUILDERS: [Row; 17] = rows![
+static BUILDERS: [Row; 18] = rows![
     ["java/lang/StringBuilder" "<init>" "(I)V" [Datum::Ref(4), Datum::Int(-1)], Native::Throws(33), ""]
     ["java/lang/StringBuilder" "<init>" "(Ljava/lang/String;)V" [Datum::Ref(4), Datum::Ref(1)], Native::Value(None), ""]
     ["java/lang/StringBuilder" "append" "(Ljava/lang/String;)Ljava/lang/StringBuilder;" [Datum::Ref(4), Datum::Ref(0)], Native::Value(Some(Datum::Ref(4))), "abnull"]
@@ -74,6 +75,7 @@ static BUILDERS: [Row; 17] = rows![
     ["java/lang/StringBuilder" "length" "()I" [Datum::Ref(4)], Native::Value(Some(Datum::Int(2))), ""]
     ["java/lang/StringBuilder" "charAt" "(I)C" [Datum::Ref(4), Datum::Int(-1)], Native::Throws(38), ""]
     ["java/lang/StringBuilder" "setCharAt" "(IC)V" [Datum::Ref(4), Datum::Int(2), Datum::Int(99)], Native::Throws(38), ""]
+    ["java/lang/StringBuilder" "setCharAt" "(IC)V" [Datum::Ref(4), Datum::Int(1), Datum::Int(99)], Native::Value(None), ""]
     ["java/lang/StringBuilder" "setLength" "(I)V" [Datum::Ref(4), Datum::Int(5)], Native::Value(None), ""]
     ["java/lang/StringBuilder" "setLength" "(I)V" [Datum::Ref(4), Datum::Int(2147483647)], Native::Throws(51), ""]
     ["java/lang/StringBuilder" "deleteCharAt" "(I)Ljava/lang/StringBuilder;" [Datum::Ref(4), Datum::Int(0)], Native::Value(Some(Datum::Ref(4))), "b"]

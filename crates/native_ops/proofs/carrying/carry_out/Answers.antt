@@ -19,8 +19,6 @@ pub returns-in-Replaces-clause-world : goal.returns-in-Replaces-clause-world
 returns-in-Replaces-clause-world c =
     let old = world c.args.heap.now c.args.made.now c.args.io.now in
     let done = is_ok c.replace.result in
-    heap_changed done (heap_with_replace c.in-Replaces.object c.as_slice-in-Replaces.result.now) c.args.heap.now c.replace.new.heap
+    heap_changed done (heap_with_replace c.in-Replaces.object c.in-Replaces.units) c.args.heap.now c.replace.new.heap
     c.args.made.now c.args.io.now c.replace.ensures.heap
-    ∙ (ap (λ units. changed_if done (λ (w : World). record w { heap = heap_with_replace c.in-Replaces.object units w.heap }) old)
-    c.as_slice-in-Replaces.ensures
-    ∙ ap (λ e. changed_if done (after e) old) (sym c.in-Replaces.is))
+    ∙ ap (λ e. changed_if done (after e) old) (sym c.in-Replaces.is)
