@@ -52,3 +52,5 @@ pub mod WorkedInitializers
 pub mod WorkedLimits
 pub mod WorkedArrays
 pub mod WorkedFamilies
+pub mod WorkedClasses
+pub mod WorkedInvocations

@@ -3,7 +3,7 @@
 -- and then what is selected.
 use Rattle.std.specs.Prelude.{ℕ, Bool, true, false, List, [], ◌∷◌, length, drop, Option, Some, None, Result, nat_lt, codes, ◌&&◌, if◌then◌else◌}
 use Rattle.std.specs.Bool.{beq}
-use Rattle.std.specs.Option.{option_and_then, option_map, option_map_or}
+use Rattle.std.specs.Option.{option_and_then, option_map}
 use Rattle.heap_objects.specs.declared.datum.Datum.TheVariants as datum
 use Rattle.heap_objects.specs.Heaps.{HeapView, with_slot_at, with_units_replaced}
 use Rattle.const_pool.specs.declared.descriptor.Kind.{Kind}
