@@ -45,6 +45,7 @@ pub mod QuietChanges
 pub mod QuietRun
 pub mod QuietEvents
 pub mod EventClocks
+pub mod LoadsAgain
 pub mod WorkedPrograms
 pub mod WorkedRuns
 pub mod WorkedThrows

@@ -127,9 +127,9 @@ in_library s =
     else if same_text s.name (codes "java/io/PrintStream") then with_methods (item 257 (codes "println") (codes "(I)V") ∷ item 257 (codes "flush") (codes "()V") ∷ []) s
     else if same_text s.name string then with_methods (initializer ∷ []) s
     else if same_text s.name system then with_fields (
-        item 9 (codes "in") (codes "Ljava/io/InputStream;") ∷ item 9 (codes "out") (codes "Ljava/io/PrintStream;") ∷ item 9 (codes "err") (codes "Ljava/io/PrintStream;") ∷ []) s
+    item 9 (codes "in") (codes "Ljava/io/InputStream;") ∷ item 9 (codes "out") (codes "Ljava/io/PrintStream;") ∷ item 9 (codes "err") (codes "Ljava/io/PrintStream;") ∷ []) s
     else if same_text s.name throwable then with_methods (initializer ∷ []) (
-        with_fields (item 2 (codes "message") (codes "Ljava/lang/String;") ∷ item 2 (codes "cause") (codes "Ljava/lang/Throwable;") ∷ []) s)
+    with_fields (item 2 (codes "message") (codes "Ljava/lang/String;") ∷ item 2 (codes "cause") (codes "Ljava/lang/Throwable;") ∷ []) s)
     else if same_text s.name (codes "java/lang/Error") then with_methods (initializer ∷ []) s
     else s
 
@@ -269,11 +269,11 @@ long n = datum.Long (pos n)
 abbrev pub fields : Program
 fields = program_of (
     with_fields (item 8 (codes "n") (codes "I") ∷ item 0 (codes "a") (codes "I") ∷ item 0 (codes "z") (codes "Z")
-        ∷ item 8 (codes "s") (codes "Z") ∷ item 0 (codes "j") (codes "J") ∷ [])
-        (class a object_name (codes "K" ∷ []))
+    ∷ item 8 (codes "s") (codes "Z") ∷ item 0 (codes "j") (codes "J") ∷ [])
+    (class a object_name (codes "K" ∷ []))
     ∷ with_fields (item 8 (codes "t") (codes "B") ∷ item 0 (codes "b") (codes "B") ∷ item 0 (codes "c") (codes "C")
-        ∷ item 0 (codes "h") (codes "S") ∷ item 0 (codes "r") (codes "Ljava/lang/Object;") ∷ [])
-        (class b a [])
+    ∷ item 0 (codes "h") (codes "S") ∷ item 0 (codes "r") (codes "Ljava/lang/Object;") ∷ [])
+    (class b a [])
     ∷ with_fields (item 25 (codes "k") (codes "I") ∷ []) (interface (codes "K") [])
     ∷ class (codes "C") object_name (codes "L" ∷ [])
     ∷ with_fields (item 0 (codes "l") (codes "I") ∷ []) (record (interface (codes "L") []) { above = Some a })
@@ -555,6 +555,15 @@ multianewarray-slots = refl
 
 pub multianewarray-goes_on : asked creating cube creatable (counts 2 2 1 ++ Ref 2 ∷ []) ≡ with_operands (Ref 5 ∷ Ref 2 ∷ [])
 multianewarray-goes_on = refl
+
+abbrev pub square : Naming
+square = Multianewarray (codes "[[I") 2
+
+pub multianewarray-square : both 5 (made_by square (Int (pos 2) ∷ Int (pos 2) ∷ [])) ≡ (Some (ref 6), Some (ref 7))
+multianewarray-square = refl
+
+pub multianewarray-square-slots : (made_by square (Int (pos 2) ∷ Int (pos 2) ∷ [])).used ≡ 15
+multianewarray-square-slots = refl
 
 -- below a dimension of 0 there is nothing
 pub multianewarray-zero : both 5 (made_by cube (counts 2 0 3)) ≡ (Some (ref 6), Some (ref 7))

@@ -28,9 +28,9 @@ to_int = codes "()I"
 abbrev pub calling : Program
 calling = program_of (
     with_methods (
-        coded 1 (codes "<init>") (codes "()V") ∷ coded 1 (codes "v") (codes "(I)I") ∷ coded 2 (codes "x") to_int
-        ∷ coded 9 (codes "s") (codes "(IJ)I") ∷ item 1025 (codes "w") to_int ∷ item 257 (codes "n") to_int ∷ item 265 (codes "sn") to_int ∷ [])
-        (class a object_name [])
+    coded 1 (codes "<init>") (codes "()V") ∷ coded 1 (codes "v") (codes "(I)I") ∷ coded 2 (codes "x") to_int
+    ∷ coded 9 (codes "s") (codes "(IJ)I") ∷ item 1025 (codes "w") to_int ∷ item 257 (codes "n") to_int ∷ item 265 (codes "sn") to_int ∷ [])
+    (class a object_name [])
     ∷ with_methods (coded 1 (codes "v") (codes "(I)I") ∷ coded 1 (codes "x") to_int ∷ []) (class b a [])
     ∷ class (codes "C") b []
     ∷ with_methods (item 1025 (codes "i") to_int ∷ []) (interface (codes "I") [])
@@ -281,9 +281,9 @@ constants = program_of (record (with_fields (
     ∷ constant (codes "s") (codes "Ljava/lang/String;") 9 ∷ constant (codes "t") (codes "Ljava/lang/String;") 12
     ∷ item 8 (codes "n") (codes "I") ∷ constant (codes "j") (codes "J") 7 ∷ constant (codes "c") (codes "C") 11 ∷ [])
     (class a object_name [])) {
-    constants = const.Integer (pos 2) ∷ const.Integer (pos 300) ∷ const.Long (pos 9) ∷ const.Gap
-        ∷ const.Text 10 ∷ const.Utf8 (codes "hi") ∷ const.Integer (negsuc 0) ∷ const.Text 13 ∷ const.Utf8 (codes "hi") ∷ [];
-} ∷ [])
+      constants = const.Integer (pos 2) ∷ const.Integer (pos 300) ∷ const.Long (pos 9) ∷ const.Gap
+          ∷ const.Text 10 ∷ const.Utf8 (codes "hi") ∷ const.Integer (negsuc 0) ∷ const.Text 13 ∷ const.Utf8 (codes "hi") ∷ [];
+    } ∷ [])
 
 -- so many of the 40 slots were used
 abbrev pub with_used : ℕ → Shared

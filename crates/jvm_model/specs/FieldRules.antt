@@ -104,8 +104,8 @@ field_owner p s r m object = receiver object (has_field p s r m object) (Breaks 
 abbrev pub gets_of : Program → Reference → MemberPlace → Option ℕ → Shared → Locals → Operands → Done
 gets_of p r m None s l o = done s (Breaks false)
 gets_of p r m (Some object) s l o =
-    unless_refused s (field_owner p s r m object) (λ object.
-    done s (replaces 1 (option_map as_value (slot_at object (slot_of p m) s.heap)) l o))
+    unless_refused s (field_owner p s r m object) (λ owner.
+    done s (replaces 1 (option_map as_value (slot_at owner (slot_of p m) s.heap)) l o))
 
 abbrev pub gets_instance : Program → Reference → Shared → Locals → Operands → Done
 gets_instance p r s l o = unless_refused s (named_field p s.loaded false r) (λ m. gets_of p r m (ref_of o) s l o)
@@ -123,8 +123,8 @@ putting_of k _ = None
 abbrev pub puts_into : Program → Reference → MemberPlace → Option Putting → Shared → Locals → Operands → Done
 puts_into p r m None s l o = done s (Breaks false)
 puts_into p r m (Some x) s l o =
-    unless_refused s (field_owner p s r m x.object) (λ object.
-    done (record s { heap = with_slot_at object (slot_of p m) x.datum s.heap }) (GoesOn l (drop 2 o) Next))
+    unless_refused s (field_owner p s r m x.object) (λ owner.
+    done (record s { heap = with_slot_at owner (slot_of p m) x.datum s.heap }) (GoesOn l (drop 2 o) Next))
 
 abbrev pub puts_instance : Program → Reference → Shared → Locals → Operands → Done
 puts_instance p r s l o =
