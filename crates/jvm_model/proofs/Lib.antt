@@ -45,6 +45,7 @@ pub mod QuietChanges
 pub mod QuietRun
 pub mod QuietEvents
 pub mod EventClocks
+pub mod LoadsAgain
 pub mod WorkedPrograms
 pub mod WorkedRuns
 pub mod WorkedThrows
@@ -52,3 +53,5 @@ pub mod WorkedInitializers
 pub mod WorkedLimits
 pub mod WorkedArrays
 pub mod WorkedFamilies
+pub mod WorkedClasses
+pub mod WorkedInvocations

@@ -15,6 +15,13 @@ pub mod SharedState
 pub mod LocalRules
 pub mod ObjectRules
 pub mod Rules
+pub mod Naming
+pub mod FieldRules
+pub mod CreationRules
+pub mod SuperCalls
+pub mod InvocationRules
+pub mod NamingRules
+pub mod Constants
 pub mod Applies
 pub mod Moves
 pub mod Normal

@@ -9,8 +9,9 @@ use Rattle.const_pool.specs.References.{NameAndType, Reference, named_text}
 use Rattle.heap_objects.specs.Heaps.{HeapView, empty_heap, kind_at, with_instance, with_array, with_text, with_slot_at, next_number}
 use Rattle.jvm_model.specs.Data.{Datum, Phase, Fresh, Ready, Program, Shared, World}
 use Rattle.jvm_model.specs.KindNumbers.{user_count, base_of_class, class_of_base, first_array, kind_number}
+use Rattle.jvm_model.specs.Descriptors.{same_text}
 use Rattle.jvm_model.specs.Methods.{is_member}
-use Rattle.jvm_model.specs.Programs.{class_at, class_named, class_of_reference, has_built_in_name}
+use Rattle.jvm_model.specs.Programs.{class_at, class_named, class_of_reference, has_built_in_name, has_name}
 
 -- ---- classes
 
@@ -134,6 +135,9 @@ negative_array_size = codes "java/lang/NegativeArraySizeException"
 abbrev pub array_store : List ℕ
 array_store = codes "java/lang/ArrayStoreException"
 
+abbrev pub system : List ℕ
+system = codes "java/lang/System"
+
 -- ---- before the start
 
 -- the value that a static field of this descriptor has at first (2.3, 2.4)
@@ -143,6 +147,25 @@ zero_for (unit ∷ rest) = if unit == 74 then datum.Long (pos 0) else if unit ==
 
 abbrev pub zeros : ClassFile → List Datum
 zeros c = map (λ (m : Member). zero_for (unwrap_or (named_text c.pool m.descriptor) [])) c.fields
+
+-- System's fields in, out and err hold objects 2, 3 and 4 (heap_before); all others are zero
+abbrev pub system_stream : List ℕ → Option ℕ
+system_stream name =
+    if same_text name (codes "in") then Some 2
+    else if same_text name (codes "out") then Some 3
+    else if same_text name (codes "err") then Some 4
+    else None
+
+abbrev pub system_static : ClassFile → Member → Datum
+system_static c m =
+    option_map_or datum.Ref (option_and_then system_stream (named_text c.pool m.name))
+    (zero_for (unwrap_or (named_text c.pool m.descriptor) []))
+
+abbrev pub static_zeros : ClassFile → List Datum
+static_zeros c = if has_name system c then map (system_static c) c.fields else zeros c
+
+abbrev pub statics_before : Program → ℕ → List Datum
+statics_before p class = option_map_or static_zeros (class_at p class) []
 
 -- the built-in classes are ready from the beginning, without any code (5.3, 5.5)
 abbrev pub phase_before : ClassFile → Phase
