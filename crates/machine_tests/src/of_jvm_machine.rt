@@ -29,7 +29,11 @@ fn admitted(alloc: Global) -> Result<Admitted, Fail> {
         heap: Some(1024),
         actions: Seq::new(alloc),
     };
-    Ok(admit(alloc, class, &main, &plan).ok().ok_or("not admitted")?)
+    Ok(
+        admit(alloc, class, &main, &plan)
+            .ok()
+            .ok_or("not admitted")?,
+    )
 }
 
 /// The next turn of a machine that has made few steps.

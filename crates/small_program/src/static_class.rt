@@ -24,11 +24,7 @@ fn has_plain_name(class: &ClassFile, method: &Member) -> bool
 }
 
 /// Whether a class of static methods may have the method.
-fn is_static_method(
-    alloc: Global,
-    class: &ClassFile,
-    method: &Member,
-) -> Result<bool, NoMemory>
+fn is_static_method(alloc: Global, class: &ClassFile, method: &Member) -> Result<bool, NoMemory>
     requires methods { length class.now.methods < 2 ^ 32 }
     requires formed { IsMember IsMethodAttribute class.now.pool method.now }
     ensures { IfOk result (λ runs. IsTrue runs ↔ IsStaticMethod class.now method.now) }
