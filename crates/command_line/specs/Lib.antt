@@ -1,0 +1,3 @@
+pub mod Described
+pub mod Words
+pub mod Chosen
