@@ -1,3 +1,5 @@
 pub mod Found
+pub mod Refusals
+pub mod Sound
 pub mod WorkedWords
 pub mod WorkedChoices

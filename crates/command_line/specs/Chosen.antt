@@ -1,8 +1,9 @@
 -- What the words and a plan ask for together.
-use Rattle.std.specs.Prelude.{ℕ, List, Option, Some, None, unwrap_or}
+use Rattle.std.specs.Prelude.{◌≤◌, ℕ, List, Option, Some, None, unwrap_or}
 use Rattle.std.specs.Option.{option_map}
 use Rattle.plan_text.specs.declared.plan.Action.{Action}
 use Rattle.plan_text.specs.declared.plan.Plan.{Plan}
+use Rattle.plan_text.specs.Numbers.{greatest_steps, least_heap, greatest_heap}
 use Rattle.command_line.specs.Words.{Read}
 use Rattle.command_line.specs.declared.chosen.Command.{Command}
 
@@ -38,6 +39,11 @@ chosen_for words plan main = record {
 -- none where neither names a main class
 abbrev pub chosen : Read → Plan → Option Chosen
 chosen words plan = option_map (chosen_for words plan) (either words.main plan.main)
+
+-- what a run and its heap ask for
+pub record IsInBounds (c : Chosen) : Type 0 where
+  pub budget : c.budget ≤ greatest_steps
+  pub heap : (least_heap ≤ c.heap) × (c.heap ≤ greatest_heap)
 
 -- what the program holds of it
 abbrev pub chosen_in : Command → Chosen

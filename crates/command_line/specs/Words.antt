@@ -1,5 +1,5 @@
 -- What the words say, which of them are refused, and what is read of them.
-use Rattle.std.specs.Prelude.{◌≡◌, ◌≢◌, ◌==◌, ◌&&◌, ◌||◌, ℕ, Bool, true, false, not, List, [], length}
+use Rattle.std.specs.Prelude.{◌≡◌, ◌≢◌, ◌<◌, ◌≤◌, IfSome, ◌==◌, ◌&&◌, ◌||◌, ℕ, Bool, true, false, not, List, [], length}
 use Rattle.std.specs.Prelude.{Option, Some, None, is_some, is_none, map, unwrap_or, nat_lt, codes, Result, Ok, Err}
 use Rattle.std.specs.Option.{option_map, option_and_then, option_map_or}
 use Rattle.jf_bytes.specs.Unicode.{utf16_of}
@@ -97,6 +97,13 @@ read_of s = record {
   plan = s.plan;
   files = s.files;
 }
+
+-- what holds of all that is read
+pub record IsSound (r : Read) : Type 0 where
+  pub files : (0 < length r.files) × (length r.files ≤ most_files)
+  pub budget : IfSome r.budget (λ steps. steps ≤ greatest_steps)
+  pub one_plan : (is_some r.root && is_some r.plan) ≡ false
+  pub main : (is_none r.main && is_none r.plan) ≡ false
 
 -- ---- what the program holds
 

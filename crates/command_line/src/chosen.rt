@@ -1,9 +1,10 @@
 //! What the words and a plan ask for together.
 
-ghost use Rattle.std.specs.Prelude.{◌≡◌, unwrap_or};
+ghost use Rattle.std.specs.Prelude.{◌≡◌, ◌&&◌, is_none, unwrap_or, IfSome};
 ghost use Rattle.std.specs.Option.{option_map};
-ghost use Rattle.command_line.specs.Words.{read_in};
-ghost use Rattle.command_line.specs.Chosen.{chosen, chosen_in, either, usual_budget};
+ghost use Rattle.plan_text.specs.Bounds.{IsWithin};
+ghost use Rattle.command_line.specs.Words.{IsSound, read_in};
+ghost use Rattle.command_line.specs.Chosen.{IsInBounds, chosen, chosen_in, either, usual_budget};
 
 use crate::words::Words;
 use jf_bytes::Text16;
@@ -50,7 +51,11 @@ fn budget_of(words: &Words<'_>, plan: &Plan) -> u64
 /// What accepted words and the plan, which they or their root gave, ask for: main class and budget are the words', else the
 /// plan's; heap, args and actions are the plan's. None where neither names a main class, which is a refusal of the words.
 pub fn command_of<'a>(words: &'a Words<'_>, plan: &'a Plan) -> Option<Command<'a>>
-    ensures { option_map chosen_in result ≡ chosen (read_in words.entry.now) plan.entry.now }
+    ensures chosen { option_map chosen_in result ≡ chosen (read_in words.entry.now) plan.entry.now }
+    ensures none { is_none result
+        ≡ (is_none words.entry.now.main && is_none plan.entry.now.main) }
+    ensures sound { IsSound (read_in words.entry.now) → IsWithin plan.entry.now
+        → IfSome result (λ command. IsInBounds (chosen_in command)) }
 {
     let main = main_of(words, plan)?;
     Some(Command {

@@ -1,12 +1,10 @@
 //! What the words say, and which of them are refused.
 
-ghost use Rattle.std.specs.Prelude.{◌≡◌, ◌≢◌, ◌≤◌, codes, map, IfOk, IfSome};
+ghost use Rattle.std.specs.Prelude.{◌≡◌, codes, map, IfOk};
 ghost use Rattle.std.specs.Option.{option_map};
-ghost use Rattle.std.specs.String.{string_bytes};
 ghost use Rattle.clap.specs.Words.{found_of, rows_of, all_of, first_of, kind_of};
-ghost use Rattle.plan_text.specs.Numbers.{greatest_steps, number_of as number_said};
-ghost use Rattle.command_line.specs.Words.{IsAccepted, IsMatched, IsRead, IsRefusal, given_in};
-ghost use Rattle.command_line.specs.Words.{budget_said, class_said, files_in, said_in, text, texts};
+ghost use Rattle.command_line.specs.Words.{IsAccepted, IsMatched, IsRead, IsRefusal, IsSound, given_in};
+ghost use Rattle.command_line.specs.Words.{budget_said, class_said, files_in, read_in, said_in, text, texts};
 ghost use Rattle.command_line.specs.Words.{has_bad_budget as bad_budget, has_bad_files as bad_files};
 ghost use Rattle.command_line.specs.Words.{has_two_plans as two_plans, is_refused as refused};
 ghost use Rattle.command_line.specs.Words.{lacks_main as no_main};
@@ -18,6 +16,7 @@ use clap::{ArgMatches, Error as ClapError};
 use jf_bytes::{NoMemory, Text16, from_utf8};
 use plan_text::{number_of, slashed};
 use std::alloc::{AllocError, AllocFailed, Global};
+use std::convert::AsStr;
 use thiserror::Error;
 
 /// So many files a command may have.
@@ -103,8 +102,8 @@ fn refusal(alloc: Global, error: &ClapError) -> WordsError
 }
 
 /// What clap makes of the words.
-fn matches_of<'a>(alloc: Global, words: &'a [String]) -> Result<ArgMatches<'a>, WordsError>
-    ensures { IsMatched (map string_bytes words.entry.now) result }
+fn matches_of<'a, S: AsStr>(alloc: Global, words: &'a [S]) -> Result<ArgMatches<'a>, WordsError>
+    ensures { IsMatched (map S.text words.entry.now) result }
 {
     let command = described(alloc)?;
     match command.try_get_matches_from(words) {
@@ -195,7 +194,7 @@ fn is_refused(given: &Given<'_>) -> bool
 
 /// The main class that a word names, with slashes for dots.
 fn class_of(alloc: Global, word: Option<&str>) -> Result<Option<Text16>, NoMemory>
-    ensures { IfOk result (λ class. class ≡ class_said (option_map (λ w. w.now) word.entry)) }
+    ensures { IfOk result (λ class. class ≡ class_said (text word.entry)) }
 {
     let Some(word) = word else {
         return Ok(None);
@@ -206,16 +205,16 @@ fn class_of(alloc: Global, word: Option<&str>) -> Result<Option<Text16>, NoMemor
 
 /// The budget that a word spells.
 fn budget_of(word: Option<&str>) -> Option<u64>
-    ensures value { result ≡ budget_said (option_map (λ w. w.now) word.entry) }
-    ensures small { IfSome result (λ steps. steps ≤ greatest_steps) }
+    ensures { result ≡ budget_said (text word.entry) }
 {
     number_of(word?, GREATEST_BUDGET)
 }
 
 /// What is read of words that clap takes.
+#[tactic(auto, using(crate::proofs::Sound::sound))]
 fn accepted<'a>(alloc: Global, given: Given<'a>) -> Result<Words<'a>, WordsError>
     ensures answer { IsAccepted (given_in given.entry) result }
-    ensures small { IfOk result (λ words. IfSome words.budget (λ steps. steps ≤ greatest_steps)) }
+    ensures sound { IfOk result (λ words. IsSound (read_in words)) }
 {
     if is_refused(&given) {
         return Err(WordsError::Refused);
@@ -236,9 +235,9 @@ fn accepted<'a>(alloc: Global, given: Given<'a>) -> Result<Words<'a>, WordsError
 /// Of the words that clap takes, those are refused that have `--root` and `--plan`, no file or more than 1,024, a budget that is
 /// not 1 to 13 digits or is above 1,000,000,000,000, or neither `--main` nor `--plan`. With `--plan` alone only the plan can name
 /// the main class, so `command_of` decides once it was read.
-pub fn read_words<'a>(alloc: Global, words: &'a [String]) -> Result<Words<'a>, WordsError>
-    ensures read { IsRead (map string_bytes words.entry.now) result }
-    ensures small { IfOk result (λ words. IfSome words.budget (λ steps. steps ≤ greatest_steps)) }
+pub fn read_words<'a, S: AsStr>(alloc: Global, words: &'a [S]) -> Result<Words<'a>, WordsError>
+    ensures read { IsRead (map S.text words.entry.now) result }
+    ensures sound { IfOk result (λ words. IsSound (read_in words)) }
 {
     let matches = matches_of(alloc, words)?;
     let given = given_by(alloc, &matches)?;
