@@ -1,3 +1,4 @@
 pub mod Described
 pub mod Words
 pub mod Chosen
+pub mod Input

@@ -1,9 +1,11 @@
-//! The words of the command, as clap takes them, and what they and a plan ask for together.
+//! The words of the command, as clap takes them, what they and a plan ask for together, and the input of a run.
 #![tactic(auto)]
 
 mod chosen;
 mod described;
+mod input;
 mod words;
 
 pub use chosen::{Command, command_of};
+pub use input::{InputError, take_input};
 pub use words::{Words, WordsError, read_words};
