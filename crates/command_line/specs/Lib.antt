@@ -2,3 +2,4 @@ pub mod Described
 pub mod Words
 pub mod Chosen
 pub mod Input
+pub mod Raw

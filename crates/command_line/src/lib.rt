@@ -4,8 +4,10 @@
 mod chosen;
 mod described;
 mod input;
+mod raw;
 mod words;
 
 pub use chosen::{Command, command_of};
 pub use input::{InputError, take_input};
+pub use raw::{RawError, raw_words, texts_of};
 pub use words::{Words, WordsError, read_words};
