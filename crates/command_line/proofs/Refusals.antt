@@ -5,7 +5,7 @@ use Rattle.clap.specs.Kinds.{HasKind, IsAmong, Kinds}
 use Rattle.clap.specs.declared.error.Error.{Error}
 use Rattle.clap.specs.declared.error.kind.ErrorKind.{ErrorKind}
 use Rattle.command_line.specs.Described.{jfluid}
-use Rattle.command_line.specs.Words.{IsMatched, IsRefusal}
+use Rattle.command_line.specs.Reading.{IsMatched, IsRefusal}
 use Rattle.command_line.specs.declared.words.WordsError.{WordsError}
 use Rattle.command_line.specs.declared.words.WordsError.TheVariants.{Clap, Refused, NoMemory}
 

@@ -1,17 +1,13 @@
 -- What the words say, which of them are refused, and what is read of them.
-use Rattle.std.specs.Prelude.{◌≡◌, ◌≢◌, ◌<◌, ◌≤◌, IfSome, ◌==◌, ◌&&◌, ◌||◌, ℕ, Bool, true, false, not, List, [], length}
+use Rattle.std.specs.Prelude.{◌≡◌, ◌<◌, ◌≤◌, IfSome, ◌==◌, ◌&&◌, ◌||◌, ℕ, Bool, true, false, List, [], length}
 use Rattle.std.specs.Prelude.{Option, Some, None, is_some, is_none, map, unwrap_or, nat_lt, codes, Result, Ok, Err}
 use Rattle.std.specs.Option.{option_map, option_and_then, option_map_or}
 use Rattle.jf_bytes.specs.Unicode.{utf16_of}
 use Rattle.plan_text.specs.Numbers.{number_of, greatest_steps}
 use Rattle.plan_text.specs.Roots.{slashed}
 use Rattle.std.specs.Borrow.{Bor}
-use Rattle.clap.specs.Words.{Row, all_of, first_of, matches_of, fault_of, found_of, rows_of}
-use Rattle.clap.specs.declared.error.kind.ErrorKind.{ErrorKind}
-use Rattle.clap.specs.declared.error.kind.ErrorKind.TheVariants.{OutOfMemory}
-use Rattle.clap.specs.declared.parser.matches.ArgMatches.{ArgMatches}
+use Rattle.clap.specs.Words.{Row, all_of, first_of, matches_of, fault_of}
 use Rattle.command_line.specs.Described.{jfluid}
-use Rattle.command_line.specs.declared.words.Given.{Given}
 use Rattle.command_line.specs.declared.words.Words.{Words}
 use Rattle.command_line.specs.declared.words.WordsError.{WordsError}
 use Rattle.command_line.specs.declared.words.WordsError.TheVariants.{Clap, Refused, NoMemory}
@@ -114,15 +110,6 @@ texts = map (λ s. s.now)
 abbrev pub text : Option (Bor (List ℕ)) → Option (List ℕ)
 text = option_map (λ s. s.now)
 
-abbrev pub given_in : Given → Said
-given_in g = record {
-  main = text g.main;
-  root = text g.root;
-  budget = text g.budget;
-  plan = text g.plan;
-  files = texts g.files.items;
-}
-
 abbrev pub read_in : Words → Read
 read_in w = record {
   main = w.main;
@@ -133,26 +120,6 @@ read_in w = record {
 }
 
 -- ---- what is answered
-
--- of an error of clap's
-abbrev pub IsRefusal : ErrorKind → WordsError → Type 0
-IsRefusal kind (Clap message) = kind ≢ OutOfMemory
-IsRefusal kind Refused = ⊥
-IsRefusal kind NoMemory = Unit {0}
-
--- what clap answers
-abbrev pub IsMatched : List (List ℕ) → Result ArgMatches WordsError → Type 0
-IsMatched words (Ok m) = AreTaken words × (rows_of (found_of m) ≡ matches_of jfluid words)
-IsMatched words (Err (Clap message)) = ¬ (AreTaken words)
-IsMatched words (Err Refused) = ⊥
-IsMatched words (Err NoMemory) = Unit {0}
-
--- what is answered for words that clap takes
-abbrev pub IsAccepted : Said → Result Words WordsError → Type 0
-IsAccepted s (Ok w) = (is_refused s ≡ false) × (read_in w ≡ read_of s)
-IsAccepted s (Err (Clap message)) = ⊥
-IsAccepted s (Err Refused) = is_refused s ≡ true
-IsAccepted s (Err NoMemory) = Unit {0}
 
 -- what is answered for words: of the text of a refusal by clap nothing is said
 abbrev pub IsRead : List (List ℕ) → Result Words WordsError → Type 0

@@ -3,8 +3,9 @@
 ghost use Rattle.std.specs.Prelude.{◌≡◌, codes, map, IfOk};
 ghost use Rattle.std.specs.Option.{option_map};
 ghost use Rattle.clap.specs.Words.{found_of, rows_of, all_of, first_of, kind_of};
-ghost use Rattle.command_line.specs.Words.{IsAccepted, IsMatched, IsRead, IsRefusal, IsSound, given_in};
-ghost use Rattle.command_line.specs.Words.{budget_said, class_said, files_in, read_in, said_in, text, texts};
+ghost use Rattle.command_line.specs.Reading.{IsAccepted, IsMatched, IsRefusal, given_in};
+ghost use Rattle.command_line.specs.Words.{IsRead, IsSound, budget_said, class_said, files_in};
+ghost use Rattle.command_line.specs.Words.{read_in, said_in, text, texts};
 ghost use Rattle.command_line.specs.Words.{has_bad_budget as bad_budget, has_bad_files as bad_files};
 ghost use Rattle.command_line.specs.Words.{has_two_plans as two_plans, is_refused as refused};
 ghost use Rattle.command_line.specs.Words.{lacks_main as no_main};
