@@ -1,9 +1,9 @@
 -- Words and plans, with what they ask for together.
-use Rattle.std.proofs.Common.{◌≡◌, ℕ, List, [], ◌∷◌, Some, None, refl, codes}
+use Rattle.std.proofs.Common.{◌≡◌, [], ◌∷◌, Some, None, refl, codes}
 use Rattle.plan_text.specs.declared.plan.Plan.{Plan}
 use Rattle.plan_text.specs.Lines.{silent_plan}
 use Rattle.command_line.specs.Words.{Read}
-use Rattle.command_line.specs.Chosen.{Chosen, chosen}
+use Rattle.command_line.specs.Chosen.{chosen}
 
 abbrev silent_words : Read
 silent_words = record { main = None; root = None; budget = None; plan = None; files = [] }

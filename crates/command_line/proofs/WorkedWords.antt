@@ -5,7 +5,7 @@ use Rattle.clap.specs.Kinds.{Kinds}
 use Rattle.clap.specs.declared.error.kind.ErrorKind.TheVariants.{ArgumentConflict, DisplayHelp, InvalidValue, UnknownArgument}
 use Rattle.clap.proofs.OnLiterals.{clap_on_literals}
 use Rattle.command_line.specs.Described.{jfluid}
-use Rattle.command_line.specs.Words.{AreTaken, Read, Said, is_refused, read_of, said}
+use Rattle.command_line.specs.Words.{AreTaken, Read, is_refused, read_of, said}
 
 -- clap takes the words, no rule refuses them, and this is read
 record AreReadAs (words : List (List ℕ)) (r : Read) : Type 0 where

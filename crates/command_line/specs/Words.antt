@@ -1,6 +1,6 @@
 -- What the words say, which of them are refused, and what is read of them.
 use Rattle.std.specs.Prelude.{◌≡◌, ◌<◌, ◌≤◌, IfSome, ◌==◌, ◌&&◌, ◌||◌, ℕ, Bool, true, false, List, [], length}
-use Rattle.std.specs.Prelude.{Option, Some, None, is_some, is_none, map, unwrap_or, nat_lt, codes, Result, Ok, Err}
+use Rattle.std.specs.Prelude.{Option, is_some, is_none, map, unwrap_or, nat_lt, codes, Result, Ok, Err}
 use Rattle.std.specs.Option.{option_map, option_and_then, option_map_or}
 use Rattle.jf_bytes.specs.Unicode.{utf16_of}
 use Rattle.plan_text.specs.Numbers.{number_of, greatest_steps}

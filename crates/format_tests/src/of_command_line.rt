@@ -54,7 +54,11 @@ const ROWS: [(&str, usize, &str); 13] = [
     ("jfluid --main=P", 1025, "refused"),
     ("jfluid --main=P", 0, "refused"),
     ("jfluid", 1, "refused"),
-    ("jfluid --root=-x G --main= --budget 007", 1, " 7 Some(\"-x\") 2 F"),
+    (
+        "jfluid --root=-x G --main= --budget 007",
+        1,
+        " 7 Some(\"-x\") 2 F",
+    ),
     ("jfluid --main=P --budget=00000000000007", 1, "refused"),
     ("jfluid --plan p", 1, "- Some(\"p\") F"),
     ("jfluid --plan p --root r --main P", 1, "refused"),
@@ -64,7 +68,11 @@ const ROWS: [(&str, usize, &str); 13] = [
         1,
         "error: the argument '--main <CLASS>' cannot be used multiple times",
     ),
-    ("jfluid --images", 1, "error: unexpected argument '--images' found"),
+    (
+        "jfluid --images",
+        1,
+        "error: unexpected argument '--images' found",
+    ),
     (
         "jfluid --main P --help",
         1,

@@ -1,5 +1,5 @@
 -- The command has the arguments of the definition, one after the other.
-use Rattle.std.proofs.Common.{ap₂, ◌≡◌, ◌∙◌}
+use Rattle.std.proofs.Common.{ap₂, ◌∙◌}
 use Rattle.std.proofs.lemmas.Result.{IfOk-weaker}
 use Rattle.clap.specs.Words.{with_rule}
 use Rattle.command_line.proofs.described.described.Goals as goal
