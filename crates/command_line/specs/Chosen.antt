@@ -1,11 +1,19 @@
 -- What the words and a plan ask for together.
-use Rattle.std.specs.Prelude.{◌≤◌, ℕ, List, Option, Some, None, unwrap_or}
+use Rattle.std.specs.Prelude.{◌≡◌, ◌≤◌, ℕ, List, Result, Ok, Option, Some, None, unwrap_or}
 use Rattle.std.specs.Option.{option_map}
 use Rattle.plan_text.specs.declared.plan.Action.{Action}
 use Rattle.plan_text.specs.declared.plan.Plan.{Plan}
+use Rattle.plan_text.specs.declared.plan.PlanError.{PlanError}
+use Rattle.plan_text.specs.Lines.{silent_plan}
+use Rattle.plan_text.specs.Plans.{IsPlanOf}
 use Rattle.plan_text.specs.Numbers.{greatest_steps, least_heap, greatest_heap}
 use Rattle.command_line.specs.Words.{Read}
 use Rattle.command_line.specs.declared.chosen.Command.{Command}
+
+-- what is answered where no plan's file is named: the plan of the word for a root, or the silent one
+abbrev pub IsOwnPlan : Option (List ℕ) → Result Plan PlanError → Type 0
+IsOwnPlan (Some root) r = IsPlanOf root r
+IsOwnPlan None r = r ≡ Ok silent_plan
 
 -- the first of two, where it is there, else the second
 abbrev pub either : {A : Type 0} → Option A → Option A → Option A

@@ -1,14 +1,15 @@
 //! What the words and a plan ask for together.
 
-ghost use Rattle.std.specs.Prelude.{◌≡◌, ◌&&◌, is_none, unwrap_or, IfSome};
+ghost use Rattle.std.specs.Prelude.{◌≡◌, ◌&&◌, is_none, unwrap_or, IfOk, IfSome};
 ghost use Rattle.std.specs.Option.{option_map};
 ghost use Rattle.plan_text.specs.Bounds.{IsWithin};
-ghost use Rattle.command_line.specs.Words.{IsSound, read_in};
-ghost use Rattle.command_line.specs.Chosen.{IsInBounds, chosen, chosen_in, either, usual_budget};
+ghost use Rattle.command_line.specs.Words.{IsSound, read_in, text};
+ghost use Rattle.command_line.specs.Chosen.{IsInBounds, IsOwnPlan, chosen, chosen_in, either, usual_budget};
 
 use crate::words::Words;
 use jf_bytes::Text16;
-use plan_text::{Action, Plan};
+use plan_text::{Action, Plan, PlanError, plan_of_root, silent};
+use std::alloc::Global;
 
 /// The most steps, where neither the words nor the plan say it.
 const USUAL_BUDGET: u64 = 100_000_000;
@@ -33,7 +34,8 @@ pub struct Command<'a> {
 
 /// The main class of the words, else of the plan.
 fn main_of<'a>(words: &'a Words<'_>, plan: &'a Plan) -> Option<&'a Text16>
-    ensures { option_map (λ class. class.now) result ≡ either words.entry.now.main plan.entry.now.main }
+    ensures { option_map (λ class. class.now) result
+        ≡ either words.entry.now.main plan.entry.now.main }
 {
     match words.main.as_ref() {
         Some(class) => Some(class),
@@ -46,6 +48,19 @@ fn budget_of(words: &Words<'_>, plan: &Plan) -> u64
     ensures { result ≡ unwrap_or (either words.now.budget plan.now.budget) usual_budget }
 {
     words.budget.or(plan.budget).unwrap_or(USUAL_BUDGET)
+}
+
+/// The plan of words that name no plan's file: their root is selected before the first step, or the plan is silent.
+///
+/// The error is `plan_of_root`'s: the word names no method.
+pub fn own_plan(alloc: Global, words: &Words<'_>) -> Result<Plan, PlanError>
+    ensures own { IsOwnPlan (text words.now.root) result }
+    ensures within { IfOk result IsWithin }
+{
+    match words.root {
+        Some(root) => plan_of_root(alloc, root),
+        None => Ok(silent(alloc)),
+    }
 }
 
 /// What accepted words and the plan, which they or their root gave, ask for: main class and budget are the words', else the

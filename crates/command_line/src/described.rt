@@ -17,7 +17,7 @@ const EXAMPLES: &str = "Examples:
   jfluid --main app.Shapes --root 'app.Shapes.area(I)I' Shapes.class Square.class
   jfluid --plan shapes.plan --budget 5000000 Shapes.class Square.class
 
-The program reads standard input and writes standard output. The report goes to standard error.";
+The Java program reads standard input and writes standard output. The report goes to standard error.";
 
 /// What help says of each option.
 const MAIN: &str = "The main class, as app.Shapes [default: the plan's]";

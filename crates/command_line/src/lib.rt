@@ -7,7 +7,7 @@ mod input;
 mod raw;
 mod words;
 
-pub use chosen::{Command, command_of};
+pub use chosen::{Command, command_of, own_plan};
 pub use input::{InputError, take_input};
 pub use raw::{RawError, raw_words, texts_of};
 pub use words::{Words, WordsError, read_words};

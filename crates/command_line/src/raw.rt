@@ -13,7 +13,7 @@ use thiserror::Error;
 /// The room for a word that is tried first, in bytes.
 const FIRST_ROOM: usize = 256;
 
-/// How often the room is doubled: no system passes on a word of that length.
+/// How many rooms are tried, each twice as large as the one before. No system passes on a longer word.
 const MOST_TRIES: u32 = 32;
 
 /// Why words are no texts.
@@ -73,7 +73,8 @@ fn word_at<R: Env>(alloc: Global, runtime: &R, number: usize) -> Result<Option<S
     Err(NoMemory)
 }
 
-/// The words of the process, of which the first is the program's name. No clause speaks of what a process was given.
+/// The words of the process, of which the first is the program's name, for the program's `main`. No clause speaks of what a
+/// process was given.
 pub fn raw_words<R: Env>(alloc: Global, runtime: &R) -> Result<Vec<Seq<u8>>, NoMemory> {
     let mut words = Vec::new(alloc);
     for number in 0..usize::MAX {
@@ -85,7 +86,7 @@ pub fn raw_words<R: Env>(alloc: Global, runtime: &R) -> Result<Vec<Seq<u8>>, NoM
     Ok(words)
 }
 
-/// The words as texts.
+/// The words as texts, for `read_words`. The top call answers `NotText` as a refusal of the words.
 pub fn texts_of<'a>(alloc: Global, words: &'a [Seq<u8>]) -> Result<Vec<&'a str>, RawError>
     ensures found { IfOk result (λ found.
         AreTexts words.entry.now × (texts found.items ≡ words.entry.now)) }
