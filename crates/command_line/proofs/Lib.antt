@@ -1,4 +1,5 @@
 pub mod Found
+pub mod Taken
 pub mod Refusals
 pub mod Sound
 pub mod WorkedWords

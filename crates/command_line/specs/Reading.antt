@@ -5,7 +5,7 @@ use Rattle.clap.specs.declared.error.kind.ErrorKind.{ErrorKind}
 use Rattle.clap.specs.declared.error.kind.ErrorKind.TheVariants.{OutOfMemory}
 use Rattle.clap.specs.declared.parser.matches.ArgMatches.{ArgMatches}
 use Rattle.command_line.specs.Described.{jfluid}
-use Rattle.command_line.specs.Words.{AreTaken, Said, is_refused, read_in, read_of, text, texts}
+use Rattle.command_line.specs.Words.{Said, is_refused, is_taken, read_in, read_of, text, texts}
 use Rattle.command_line.specs.declared.words.Given.{Given}
 use Rattle.command_line.specs.declared.words.Words.{Words}
 use Rattle.command_line.specs.declared.words.WordsError.{WordsError}
@@ -19,8 +19,8 @@ IsRefusal kind NoMemory = Unit {0}
 
 -- what clap answers
 abbrev pub IsMatched : List (List ℕ) → Result ArgMatches WordsError → Type 0
-IsMatched words (Ok m) = AreTaken words × (rows_of (found_of m) ≡ matches_of jfluid words)
-IsMatched words (Err (Clap message)) = ¬ (AreTaken words)
+IsMatched words (Ok m) = (is_taken words ≡ true) × (rows_of (found_of m) ≡ matches_of jfluid words)
+IsMatched words (Err (Clap message)) = is_taken words ≡ false
 IsMatched words (Err Refused) = ⊥
 IsMatched words (Err NoMemory) = Unit {0}
 

@@ -6,7 +6,7 @@ use Rattle.jf_bytes.specs.Unicode.{utf16_of}
 use Rattle.plan_text.specs.Numbers.{number_of, greatest_steps}
 use Rattle.plan_text.specs.Roots.{slashed}
 use Rattle.std.specs.Borrow.{Bor}
-use Rattle.clap.specs.Words.{Row, all_of, first_of, matches_of, fault_of}
+use Rattle.clap.specs.Words.{Row, all_of, first_of, matches_of, takes}
 use Rattle.command_line.specs.Described.{jfluid}
 use Rattle.command_line.specs.declared.words.Words.{Words}
 use Rattle.command_line.specs.declared.words.WordsError.{WordsError}
@@ -14,9 +14,9 @@ use Rattle.command_line.specs.declared.words.WordsError.TheVariants.{Clap, Refus
 
 -- ---- what clap takes
 
--- The words have no fault, by what clap states for every simple command. Words that ask for help have one.
-abbrev pub AreTaken : List (List ℕ) → Type 0
-AreTaken words = fault_of jfluid words ≡ []
+-- what clap states for every simple command; words that ask for help are not taken
+unfoldable pub is_taken : List (List ℕ) → Bool
+is_taken words = takes jfluid words
 
 -- the value of each option that was used, and the files in the order of the words
 pub record Said : Type 0 where
@@ -123,7 +123,8 @@ read_in w = record {
 
 -- what is answered for words: of the text of a refusal by clap nothing is said
 abbrev pub IsRead : List (List ℕ) → Result Words WordsError → Type 0
-IsRead words (Ok w) = AreTaken words × (is_refused (said words) ≡ false) × (read_in w ≡ read_of (said words))
-IsRead words (Err (Clap message)) = ¬ (AreTaken words)
-IsRead words (Err Refused) = AreTaken words × (is_refused (said words) ≡ true)
+IsRead words (Ok w) =
+    (is_taken words ≡ true) × (is_refused (said words) ≡ false) × (read_in w ≡ read_of (said words))
+IsRead words (Err (Clap message)) = is_taken words ≡ false
+IsRead words (Err Refused) = (is_taken words ≡ true) × (is_refused (said words) ≡ true)
 IsRead words (Err NoMemory) = Unit {0}
