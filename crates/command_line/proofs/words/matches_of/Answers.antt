@@ -1,5 +1,5 @@
 -- clap's matches say that it takes the words, and its error that it doesn't.
-use Rattle.std.proofs.Common.{map, ap, subst, refl, ◌∙◌}
+use Rattle.std.proofs.Common.{map}
 use Rattle.clap.specs.Words.{app_of}
 use Rattle.command_line.proofs.Refusals.{matched_by_clap, refused_by_clap}
 use Rattle.command_line.proofs.words.matches_of.Goals as goal
