@@ -7,6 +7,8 @@ mod of_class_reader;
 #[cfg(test)]
 mod of_class_writer;
 #[cfg(test)]
+mod of_command_line;
+#[cfg(test)]
 mod of_const_pool;
 #[cfg(test)]
 mod of_int_ops;

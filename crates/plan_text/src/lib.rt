@@ -6,6 +6,7 @@ mod numbers;
 mod plan;
 mod roots;
 
-pub use lines::{answer_is_one, read_plan};
+pub use lines::{answer_is_one, read_plan, silent};
+pub use numbers::number_of;
 pub use plan::{Action, LineCause, Plan, PlanError, RootName, plan_of_root};
 pub use roots::slashed;

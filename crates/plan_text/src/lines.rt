@@ -84,8 +84,8 @@ fn halves(line: &str) -> Option<(&str, &str)>
     line.split_once(' ')
 }
 
-/// The plan of no line.
-fn silent(alloc: Global) -> Plan
+/// The plan of no line, also of words that name no plan.
+pub fn silent(alloc: Global) -> Plan
     ensures { result ≡ silent_plan }
 {
     Plan {

@@ -1,0 +1,6 @@
+pub mod Found
+pub mod Taken
+pub mod Refusals
+pub mod Sound
+pub mod WorkedWords
+pub mod WorkedChoices

@@ -1,0 +1,13 @@
+-- The command has the arguments of the definition, one after the other.
+use Rattle.std.proofs.Common.{ap₂, ◌∙◌}
+use Rattle.std.proofs.lemmas.Result.{IfOk-weaker}
+use Rattle.clap.specs.Words.{with_rule}
+use Rattle.command_line.proofs.described.described.Goals as goal
+
+pub returns : goal.returns
+returns c =
+    let main = c.in_ok-command.ensures ∙ ap₂ with_rule c.named.ensures c.option-main.ensures.rule in
+    let root = c.in_ok-command-2.ensures ∙ ap₂ with_rule main c.option-root.ensures.rule in
+    let budget = c.in_ok-command-3.ensures ∙ ap₂ with_rule root c.option-budget.ensures.rule in
+    let plan = c.in_ok-command-4.ensures ∙ ap₂ with_rule budget c.option-plan.ensures.rule in
+    IfOk-weaker c.with_arg-5.result _ _ (λ more is. is ∙ ap₂ with_rule plan c.files.ensures.rule) c.with_arg-5.ensures

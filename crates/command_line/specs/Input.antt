@@ -1,0 +1,28 @@
+-- The input of a run: all that a source has left.
+use Rattle.std.specs.Prelude.{◌≡◌, ◌<◌, ◌≤◌, ℕ, List, length, Option, Result, Ok, Err, IfErr, IfSome, OnOk}
+use Rattle.jf_bytes.specs.Streams.{Rose}
+use Rattle.command_line.specs.declared.input.InputError.{InputError}
+use Rattle.command_line.specs.declared.input.InputError.TheVariants.{Failed, TooLong, NoMemory}
+
+-- so many bytes input may have
+abbrev pub most_input : ℕ
+most_input = 16777216
+
+-- what is answered, by the bytes that the source had left, where it tells them
+abbrev pub IsInput : Option (List ℕ) → Result (List ℕ) InputError → Type 0
+IsInput left (Ok bytes) = (length bytes ≤ most_input) × IfSome left (λ all. bytes ≡ all)
+IsInput left (Err TooLong) = IfSome left (λ all. most_input < length all)
+IsInput left (Err Failed) = Unit {0}
+IsInput left (Err NoMemory) = Unit {0}
+
+-- only a failed take raises the count of faults
+abbrev pub InputErrorCause : ℕ → ℕ → InputError → Type 0
+InputErrorCause old new Failed = Rose old new
+InputErrorCause old new TooLong = new ≡ old
+InputErrorCause old new NoMemory = new ≡ old
+
+-- the count of faults never falls, an `Ok` leaves it, and each error has its cause
+pub record InputCause (old new : ℕ) (result : Result (List ℕ) InputError) : Type 0 where
+  pub later : old ≤ new
+  pub ok : OnOk result (new ≡ old)
+  pub err : IfErr result (InputErrorCause old new)

@@ -1,0 +1,83 @@
+//! The command as clap knows it, with the text of its help.
+
+ghost use Rattle.std.specs.Prelude.{◌≡◌, IfOk, codes, false};
+ghost use Rattle.clap.specs.Words.{app_of, new_app, rule_of, with_rule};
+ghost use Rattle.command_line.specs.Described.{files as the_files, jfluid, option as option_named};
+
+use clap::{Arg, ArgAction, Command};
+use std::alloc::{AllocError, Global};
+
+/// What help says of the program.
+const ABOUT: &str =
+    "Runs a Java program of version 50 or older, and profiles what chosen methods call";
+
+/// What help says behind the options.
+const EXAMPLES: &str = "Examples:
+  jfluid --main Shapes Shapes.class Square.class
+  jfluid --main app.Shapes --root 'app.Shapes.area(I)I' Shapes.class Square.class
+  jfluid --plan shapes.plan --budget 5000000 Shapes.class Square.class
+
+The Java program reads standard input and writes standard output. The report goes to standard error.";
+
+/// What help says of each option.
+const MAIN: &str = "The main class, as app.Shapes [default: the plan's]";
+
+const ROOT: &str = "Profiles this method, as 'app.Shapes.area(I)I'";
+
+const BUDGET: &str = "Stops after so many instructions [default: the plan's, else 100000000]";
+
+const PLAN: &str = "A file that says what to run, and which methods to profile when";
+
+/// An option that is given as `--name VALUE` or `--name=VALUE`.
+fn option<'a>(alloc: Global, name: &'a str, value: &'a str, help: &'a str) -> Arg<'a>
+    ensures rule { rule_of result ≡ option_named name.entry.now }
+    ensures local { result.global ≡ false }
+{
+    Arg::new(alloc, name)
+        .long(name)
+        .value_name(value)
+        .help(help)
+}
+
+/// The words that are no option.
+fn files<'a>(alloc: Global) -> Arg<'a>
+    ensures rule { rule_of result ≡ the_files }
+    ensures local { result.global ≡ false }
+{
+    Arg::new(alloc, "FILE")
+        .action(ArgAction::Append)
+        .help("A class file of the program, 1 to 1,024 of them")
+}
+
+/// The command with one argument more.
+fn with_arg<'a>(command: Command<'a>, arg: Arg<'a>) -> Result<Command<'a>, AllocError>
+    requires local { arg.global ≡ false }
+    ensures { IfOk result (λ more.
+        app_of more ≡ with_rule (app_of command.entry) (rule_of arg.entry)) }
+{
+    command.arg(arg)
+}
+
+/// The command without its arguments.
+fn named<'a>(alloc: Global) -> Command<'a>
+    ensures { app_of result ≡ new_app (codes "jfluid") }
+{
+    Command::new(alloc, "jfluid")
+        .about(ABOUT)
+        .after_help(EXAMPLES)
+}
+
+/// The command with its help.
+pub fn described<'a>(alloc: Global) -> Result<Command<'a>, AllocError>
+    ensures { IfOk result (λ command. app_of command ≡ jfluid) }
+{
+    let main = option(alloc, "main", "CLASS", MAIN);
+    let root = option(alloc, "root", "METHOD", ROOT);
+    let budget = option(alloc, "budget", "STEPS", BUDGET);
+    let plan = option(alloc, "plan", "PLAN", PLAN);
+    let command = with_arg(named(alloc), main)?;
+    let command = with_arg(command, root)?;
+    let command = with_arg(command, budget)?;
+    let command = with_arg(command, plan)?;
+    with_arg(command, files(alloc))
+}
