@@ -10,10 +10,10 @@ use Rattle.jvm_model.specs.Data.{World}
 use Rattle.jvm_model.specs.EventLists.{Marking, step_events, events_of, events_of-suc}
 use Rattle.jvm_model.specs.StandsFor.{marking_of}
 use Rattle.jvm_machine.specs.Several.{RunsOn, stopped_in}
-use Rattle.jvm_machine.specs.View.{View, world, shown}
-use Rattle.jfluid_cli.specs.Runs.{IsGoing, IsTold, RanFor, SameProgram, Stepped, events_before, is_ended_at}
+use Rattle.jvm_machine.specs.View.{View, world, shown, has_ended}
+use Rattle.jfluid_cli.specs.Runs.{IsGoing, IsTold, RanFor, SameProgram, events_before, is_ended_at}
 use Rattle.jfluid_cli.proofs.Outputs.{shown-going}
-use Rattle.jfluid_cli.proofs.Steps.{HasRun, clock-run, ran-on, ran-out, ran-all}
+use Rattle.jfluid_cli.proofs.Steps.{HasRun, has_ended-going, ran-all}
 
 -- nothing but the clock and the place has changed
 pub going-onward : (old v : View) (most : ℕ) → IsGoing old → RunsOn old most v → IsGoing v
@@ -44,6 +44,10 @@ pub ended-onward : (old v : View) (most : ℕ) → IsGoing old → RunsOn old mo
 ended-onward old v most going runs =
     ap (λ (s : State). is_some s.ending) (shown-going v (going-onward old v most going runs))
     ∙ ap (λ (x : View). is_ended_at x v.clock) runs.stepped
+
+over-onward : (old v : View) (most : ℕ) → IsGoing old → RunsOn old most v → has_ended v ≡ is_ended_at old v.clock
+over-onward old v most going runs =
+    has_ended-going v (going-onward old v most going runs).started ∙ ap (λ (x : View). is_ended_at x v.clock) runs.stepped
 
 pub run-onward : (old v : View) (most : ℕ) → ((m : ℕ) → m ≤ old.clock → is_ended_at old m ≡ false)
     → RunsOn old most v → is_ended_at old v.clock ≡ false → HasRun old v (v.clock - old.clock)
@@ -83,6 +87,21 @@ out-onward old v most before runs ended =
       ];
     }
 
+-- all steps were made, or the run has ended
+pub ran-onward : (old v : View) (most : ℕ) (ended : Bool) → 0 < most → IsGoing old → ((m : ℕ) → m ≤ old.clock → is_ended_at old m ≡ false)
+    → RunsOn old most v → ended ≡ is_some (shown v).ending → RanFor old v most ended
+ran-onward old v most true some going before runs answer =
+    out-onward old v most before runs (sym (ended-onward old v most going runs) ∙ sym answer)
+ran-onward old v most false some going before runs answer =
+    let goes : is_ended_at old v.clock ≡ false = sym (ended-onward old v most going runs) ∙ sym answer in
+    let clock : v.clock ≡ old.clock + runs.steps = ap (λ (x : View). x.clock) runs.stepped in
+    let whole : most ≤ runs.steps = elim (cases_lt runs.steps most) [
+      | inl fewer ↦ absurd (false≢true (sym goes ∙ (sym (over-onward old v most going runs) ∙ runs.all fewer)))
+      | inr many ↦ many
+    ] in
+    let count : v.clock - old.clock ≡ most = omega (arith, clock, whole, runs.within) in
+    ran-all old v most some going (subst (HasRun old v) count (run-onward old v most before runs goes))
+
 -- ---- the tree
 
 silent-events : (marking : Marking) (w : World) (clock n : ℕ)
@@ -117,11 +136,3 @@ told-onward p old v most going runs told =
       clock = omega (arith, clock, told.clock);
       calls = subst (λ b. calls_of p ≤ cond b (v.clock + 1) 0) (sym started) (omega (arith, clock, calls));
     }
-
--- ---- step by step from there
-
-pub further-onward : (old v w : View) (at : ℕ) → old.clock ≤ at → IsGoing old → HasRun old v (at - old.clock)
-    → Stepped v w false → HasRun old w (at + 1 - old.clock)
-further-onward old v w at reached going has stepped =
-    let count : at - old.clock + 1 ≡ at + 1 - old.clock = omega (arith, reached) in
-    subst (HasRun old w) count (ran-on old v w (at - old.clock) going has stepped)

@@ -57,6 +57,7 @@ view_at t after told done clock = record {
   marks = t.marks;
   image = t.image;
   homes = t.homes;
+  runs_original = false;
   started = true;
   broken = false;
   clock = clock;

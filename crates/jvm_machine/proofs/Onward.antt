@@ -31,12 +31,16 @@ pub record GoesOnward (old : View) (w : World) (r : Option Rewritten) (after : S
   pub running : AreRunning w r after told started false clock
   pub runs : RunsOn old most (seen_in w r after told started false clock)
 
+reached-at : (w : World) (s after : State) (clock n : ℕ) → s ≡ run w clock → Leads w s n after → after ≡ run w (clock + n)
+reached-at w s after clock n stands leads = leads.made ∙ (ap (steps_from w n) stands ∙ steps-run w clock n)
+
 onward-at : (w : World) (s after : State) (clock n most : ℕ) → IsOriginal (seen_in w None s 0 true false clock) s → n ≤ most → Leads w s n after
-    → after.shared.phases ≡ s.shared.phases → GoesOnward (seen_in w None s 0 true false clock) w None after 0 true (clock + n) most
-onward-at w s after clock n most is few leads phases = record {
+    → (n < most → is_some after.ending ≡ true) → after.shared.phases ≡ s.shared.phases
+    → GoesOnward (seen_in w None s 0 true false clock) w None after 0 true (clock + n) most
+onward-at w s after clock n most is few leads ends phases = record {
   running = record {
     starts = is.starts;
-    stands = λ whole. leads.made ∙ (ap (steps_from w n) (is.stands refl) ∙ steps-run w clock n);
+    stands = λ whole. reached-at w s after clock n (is.stands refl) leads;
     ready = λ whole started. ap fresh phases ∙ is.ready refl refl;
     told = refl;
     early = λ early. absurd cc;
@@ -44,6 +48,7 @@ onward-at w s after clock n most is few leads phases = record {
   runs = record {
     steps = n;
     within = few;
+    all = λ fewer. sym (ap (λ (x : State). is_some x.ending) (reached-at w s after clock n (is.stands refl) leads)) ∙ ends fewer;
     stepped = refl;
     before = λ k reached below.
         let same : clock + (k - clock) ≡ k = omega arith in
@@ -55,16 +60,18 @@ onward-at w s after clock n most is few leads phases = record {
 }
 
 pub goes_onward : (v : View) (w : World) (r : Option Rewritten) (s after : State) (told : ℕ) (started broken : Bool) (clock n most : ℕ)
-    → seen_in w r s told started broken clock ≡ v → AreRunning w r s told started broken clock → is_some r ≡ false → v.started ≡ true → v.broken ≡ false
-    → v.told ≡ 0 → n ≤ most → Leads w s n after → after.shared.phases ≡ s.shared.phases → GoesOnward v w r after told started (clock + n) most
-goes_onward v w (Some r) s after told started broken clock n most sees is none started_is whole rests few leads phases = absurd (false≢true (sym none))
-goes_onward v w None s after told false broken clock n most sees is none started_is whole rests few leads phases =
+    → seen_in w r s told started broken clock ≡ v → AreRunning w r s told started broken clock → v.runs_original ≡ true → v.started ≡ true → v.broken ≡ false
+    → v.told ≡ 0 → n ≤ most → Leads w s n after → (n < most → is_some after.ending ≡ true) → after.shared.phases ≡ s.shared.phases
+    → GoesOnward v w r after told started (clock + n) most
+goes_onward v w (Some r) s after told started broken clock n most sees is none started_is whole rests few leads ends phases =
+    absurd (let versions : false ≡ v.runs_original = ap (λ (x : View). x.runs_original) sees in false≢true (versions ∙ none))
+goes_onward v w None s after told false broken clock n most sees is none started_is whole rests few leads ends phases =
     absurd (let early : false ≡ v.started = ap (λ (x : View). x.started) sees in false≢true (early ∙ started_is))
-goes_onward v w None s after told true true clock n most sees is none started_is whole rests few leads phases =
+goes_onward v w None s after told true true clock n most sees is none started_is whole rests few leads ends phases =
     absurd (let broken : true ≡ v.broken = ap (λ (x : View). x.broken) sees in false≢true (sym (broken ∙ whole)))
-goes_onward v w None s after told true false clock n most sees is none started_is whole rests few leads phases =
+goes_onward v w None s after told true false clock n most sees is none started_is whole rests few leads ends phases =
     let old : ℕ → View = λ k. seen_in w None s k true false clock in
     let told_is : told ≡ 0 = ap (λ (x : View). x.told) sees ∙ rests in
     subst (λ (x : View). GoesOnward x w None after told true (clock + n) most) sees
     (subst (λ k. GoesOnward (old k) w None after k true (clock + n) most) (sym told_is)
-    (onward-at w s after clock n most (subst (λ k. IsOriginal (old k) s) told_is is) few leads phases))
+    (onward-at w s after clock n most (subst (λ k. IsOriginal (old k) s) told_is is) few leads ends phases))

@@ -27,7 +27,7 @@ top_of _ = None
 abbrev pub is_done : Installed → ℕ → State → Bool
 is_done t told s = told == 0 || is_none (leave_passed t.image s.stack)
 
--- what a clause sees
+-- what a clause sees where versions are installed
 abbrev pub seen : Installed → State → ℕ → Bool → Bool → ℕ → View
 seen t s told started broken clock = record {
   program = t.program;
@@ -35,6 +35,7 @@ seen t s told started broken clock = record {
   marks = t.marks;
   image = t.image;
   homes = t.homes;
+  runs_original = false;
   started = started;
   broken = broken;
   clock = clock;
@@ -80,7 +81,7 @@ pub record IsOriginal (v : View) (state : State) : Type 0 where
 
 -- what is seen of the parts of a machine
 abbrev pub seen_in : World → Option Rewritten → State → ℕ → Bool → Bool → ℕ → View
-seen_in w r s told started broken clock = seen (installed_in w r) s told started broken clock
+seen_in w r s told started broken clock = record (seen (installed_in w r) s told started broken clock) { runs_original = is_none r }
 
 abbrev pub AreRunning : World → Option Rewritten → State → ℕ → Bool → Bool → ℕ → Type 0
 AreRunning w None s told started broken clock = IsOriginal (seen_in w None s told started broken clock) s

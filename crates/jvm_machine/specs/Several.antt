@@ -3,12 +3,14 @@ use Rattle.std.specs.Prelude.{◌≡◌, ℕ, ◌+◌, ◌<◌, ◌≤◌, true,
 use Rattle.jvm_model.specs.EventLists.{step_events}
 use Rattle.jvm_model.specs.Run.{run}
 use Rattle.jvm_model.specs.StandsFor.{marking_of}
-use Rattle.jvm_machine.specs.View.{View, world}
+use Rattle.jvm_machine.specs.View.{View, world, has_ended}
 
--- The machine has made so many steps, at most as many as it was to make and none behind the end of the run, and they have told nothing.
+-- The machine has made so many steps of original code: as many as it was to make, or else the run has ended. None of them
+-- is behind the end of the run, and they have told nothing.
 pub record RunsOn (old : View) (most : ℕ) (new : View) : Type 0 where
   pub steps : ℕ
   pub within : steps ≤ most
+  pub all : steps < most → has_ended new ≡ true
   pub stepped : new ≡ record old { clock = old.clock + steps; top = new.top }
   pub before : (n : ℕ) → old.clock ≤ n → n < new.clock → is_some (run (world old) n).ending ≡ false
   pub silent : (n : ℕ) → old.clock < n → n ≤ new.clock → step_events (marking_of old.marks) (world old) n ≡ []

@@ -19,15 +19,16 @@ pub record Place : Type 0 where
   pub at : ℕ
 
 -- A machine of a program, with its input; the marks of the versions of the first class's methods that it runs, their image and
--- homes. It has made the start, or not; memory has run out, or not; the clock is the number of steps begun
--- after the start; so many events of the step in hand were told; whether its instruction was done; and the current frame
--- stands here.
+-- homes; whether none were installed, so that original code runs. It has made the start, or not; memory has run out, or not;
+-- the clock is the number of steps begun after the start; so many events of the step in hand were told; whether its
+-- instruction was done; and the current frame stands here.
 pub record View : Type 0 where
   pub program : Program
   pub input : List ℕ
   pub marks : List Mark
   pub image : ClassFile
   pub homes : List (Option Homes)
+  pub runs_original : Bool
   pub started : Bool
   pub broken : Bool
   pub clock : ℕ
@@ -43,6 +44,7 @@ made program input = record {
   marks = map (λ m. Off) (first_class program).methods;
   image = first_class program;
   homes = map (λ m. None) (first_class program).methods;
+  runs_original = true;
   started = false;
   broken = false;
   clock = 0;
@@ -69,7 +71,7 @@ live_of v = min (length (shown v).stack) (2 ^ 32 - 1)
 
 -- the versions of an image
 abbrev pub with_image : List Mark → ClassFile → List (Option Homes) → View → View
-with_image marks image homes v = record v { marks = marks; image = image; homes = homes }
+with_image marks image homes v = record v { marks = marks; image = image; homes = homes; runs_original = false }
 
 abbrev pub has_ended : View → Bool
 has_ended v = is_some (state_of v).ending

@@ -158,10 +158,10 @@ impl Vm {
         }
     }
 
-    /// Makes steps of original code, at most so many and none behind the end of the run; none where
-    /// versions are installed. It is quicker than so many calls of `step`. After want of memory the
-    /// machine is broken.
+    /// Makes so many steps of original code, or those up to the end of the run. It is quicker than so
+    /// many calls of `step`. After want of memory the machine is broken.
     pub fn run_on(&mut self, most: u64) -> Result<(), NoMemory>
+        requires original { self.old.runs_original ≡ true }
         requires started { self.old.started ≡ true }
         requires whole { self.old.broken ≡ false }
         requires resting { self.old.told ≡ 0 }
@@ -169,14 +169,18 @@ impl Vm {
         ensures ok { OnOk result (RunsOn self.old most self.new) }
         ensures err { OnErr result (self.new ≡ stopped_in self.old self.new) }
     {
-        if self.versions.is_some() {
-            return Ok(());
-        }
         self.broken = true;
         let made = run(self.alloc, &self.originals, &mut self.parts, most)?;
         self.clock += made;
         self.broken = false;
         Ok(())
+    }
+
+    /// Whether no versions were installed, so that original code runs.
+    pub fn runs_original(&self) -> bool
+        ensures { result ≡ self.now.runs_original }
+    {
+        self.versions.is_none()
     }
 
     /// The number of steps that were begun after the start.

@@ -9,6 +9,8 @@ mod of_context_tree;
 #[cfg(test)]
 mod of_inject_events;
 #[cfg(test)]
+mod of_jvm_machine;
+#[cfg(test)]
 mod of_profile_report;
 #[cfg(test)]
 mod trees;
