@@ -1,14 +1,15 @@
 -- Several steps of original code take the machine further along the run.
-use Rattle.std.proofs.Common.{◌≡◌, ℕ, zero, suc, ◌+◌, ◌-◌, ◌<◌, ◌≤◌, Bool, true, false, Option, Some, None, refl, sym, ap, subst, ◌∙◌, arith}
+use Rattle.std.proofs.Common.{◌≡◌, ℕ, zero, suc, ◌+◌, ◌-◌, ◌<◌, ◌≤◌, Bool, true, false, List, Option, Some, None, refl, sym, ap, subst, ◌∙◌, arith}
 use Rattle.std.specs.Prelude.{is_some}
 use Rattle.std.proofs.lemmas.Bool.{false≢true}
 use Rattle.jvm_model.specs.declared.state.State.{State}
 use Rattle.jvm_model.specs.Data.{Turn, World}
-use Rattle.jvm_model.specs.Moves.{fresh}
 use Rattle.jvm_model.specs.Originals.{original}
 use Rattle.jvm_model.specs.Programs.{first_class}
 use Rattle.jvm_model.specs.Run.{run, step, turn_in-suc}
 use Rattle.jvm_steps.specs.Runs.{Leads, steps_from, steps_from-zero, steps_from-suc}
+use Rattle.jvm_steps.specs.declared.markers.Marker.{Marker}
+use Rattle.jvm_machine.specs.Original.{ArePlain}
 use Rattle.jvm_machine.specs.Prepared.{Rewritten}
 use Rattle.jvm_machine.specs.Running.{IsOriginal, AreRunning, seen_in}
 use Rattle.jvm_machine.specs.Several.{RunsOn}
@@ -32,12 +33,11 @@ pub record GoesOnward (old : View) (w : World) (r : Option Rewritten) (after : S
   pub runs : RunsOn old most (seen_in w r after told started false clock)
 
 onward-at : (w : World) (s after : State) (clock n most : ℕ) → IsOriginal (seen_in w None s 0 true false clock) s → n ≤ most → Leads w s n after
-    → after.shared.phases ≡ s.shared.phases → GoesOnward (seen_in w None s 0 true false clock) w None after 0 true (clock + n) most
-onward-at w s after clock n most is few leads phases = record {
+    → GoesOnward (seen_in w None s 0 true false clock) w None after 0 true (clock + n) most
+onward-at w s after clock n most is few leads = record {
   running = record {
     starts = is.starts;
     stands = λ whole. leads.made ∙ (ap (steps_from w n) (is.stands refl) ∙ steps-run w clock n);
-    ready = λ whole started. ap fresh phases ∙ is.ready refl refl;
     told = refl;
     early = λ early. absurd cc;
   };
@@ -56,15 +56,20 @@ onward-at w s after clock n most is few leads phases = record {
 
 pub goes_onward : (v : View) (w : World) (r : Option Rewritten) (s after : State) (told : ℕ) (started broken : Bool) (clock n most : ℕ)
     → seen_in w r s told started broken clock ≡ v → AreRunning w r s told started broken clock → is_some r ≡ false → v.started ≡ true → v.broken ≡ false
-    → v.told ≡ 0 → n ≤ most → Leads w s n after → after.shared.phases ≡ s.shared.phases → GoesOnward v w r after told started (clock + n) most
-goes_onward v w (Some r) s after told started broken clock n most sees is none started_is whole rests few leads phases = absurd (false≢true (sym none))
-goes_onward v w None s after told false broken clock n most sees is none started_is whole rests few leads phases =
+    → v.told ≡ 0 → n ≤ most → Leads w s n after → GoesOnward v w r after told started (clock + n) most
+goes_onward v w (Some r) s after told started broken clock n most sees is none started_is whole rests few leads = absurd (false≢true (sym none))
+goes_onward v w None s after told false broken clock n most sees is none started_is whole rests few leads =
     absurd (let early : false ≡ v.started = ap (λ (x : View). x.started) sees in false≢true (early ∙ started_is))
-goes_onward v w None s after told true true clock n most sees is none started_is whole rests few leads phases =
+goes_onward v w None s after told true true clock n most sees is none started_is whole rests few leads =
     absurd (let broken : true ≡ v.broken = ap (λ (x : View). x.broken) sees in false≢true (sym (broken ∙ whole)))
-goes_onward v w None s after told true false clock n most sees is none started_is whole rests few leads phases =
+goes_onward v w None s after told true false clock n most sees is none started_is whole rests few leads =
     let old : ℕ → View = λ k. seen_in w None s k true false clock in
     let told_is : told ≡ 0 = ap (λ (x : View). x.told) sees ∙ rests in
     subst (λ (x : View). GoesOnward x w None after told true (clock + n) most) sees
     (subst (λ k. GoesOnward (old k) w None after k true (clock + n) most) (sym told_is)
-    (onward-at w s after clock n most (subst (λ k. IsOriginal (old k) s) told_is is) few leads phases))
+    (onward-at w s after clock n most (subst (λ k. IsOriginal (old k) s) told_is is) few leads))
+
+-- original code may have markers
+pub plain-none : (r : Option Rewritten) (ms : List Marker) → is_some r ≡ false → ArePlain r ms
+plain-none None ms none = tt
+plain-none (Some r) ms none = absurd (false≢true (sym none))
