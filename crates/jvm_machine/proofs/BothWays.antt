@@ -10,19 +10,18 @@ use Rattle.jvm_model.specs.declared.state.State.{State}
 use Rattle.jvm_model.specs.Data.{Turn, World}
 use Rattle.jvm_model.specs.EventLists.{step_events, events_of-zero, events_of-suc}
 use Rattle.jvm_model.specs.Images.{IsImage}
-use Rattle.jvm_model.specs.Moves.{fresh}
 use Rattle.jvm_model.specs.OneClass.{IsBuiltProgram}
 use Rattle.jvm_model.specs.Originals.{original}
 use Rattle.jvm_model.specs.Programs.{first_class}
 use Rattle.jvm_model.specs.Run.{before, step, turn_in-zero, turn_in-more}
 use Rattle.jvm_model.specs.StandsFor.{mark_at, marking_of}
-use Rattle.jvm_model.specs.Starting.{StartsReady}
+use Rattle.jvm_steps.specs.Before.{CanStart}
 use Rattle.jvm_model.proofs.ImageAgrees.{Agrees-image}
 use Rattle.jvm_model.proofs.QuietEvents.{always, events-off}
 use Rattle.jvm_machine.specs.declared.probes.Probe.{Probe}
 use Rattle.jvm_machine.specs.Advances.{Advances}
 use Rattle.jvm_machine.specs.Moves.{Move, clock_in}
-use Rattle.jvm_machine.specs.Original.{stepped_original, moved_in, CanMove, KeepsReady}
+use Rattle.jvm_machine.specs.Original.{stepped_original, moved_in, CanMove}
 use Rattle.jvm_machine.specs.Prepared.{Rewritten, installed}
 use Rattle.jvm_machine.specs.Running.{IsRunning, IsOriginal, AreRunning, seen, seen_in, shown_of}
 use Rattle.jvm_machine.specs.Turns.{IsGoingOn}
@@ -44,11 +43,10 @@ early-in w r s told false true clock is early whole = absurd cc
 pub some-classes : (p : Program) → IsBuiltProgram p → 0 < length p.classes
 some-classes p built = subst (λ cs. 0 < length cs) (sym built.program.classes) (omega arith)
 
-pub is_made : (w : World) (s : State) → StartsReady w.program → s ≡ before w → AreRunning w None s 0 false false 0
+pub is_made : (w : World) (s : State) → CanStart w.program → s ≡ before w → AreRunning w None s 0 false false 0
 is_made w s starts empty = record {
   starts = starts;
   stands = λ whole. empty;
-  ready = λ whole started. absurd cc;
   told = refl;
   early = λ early. refl;
 }
@@ -110,25 +108,23 @@ abbrev moved_to : State → ℕ → Option Probe → Move
 moved_to after told probe = record { state = after; told = told; probe = probe }
 
 original-goes : (w : World) (s after : State) (started : Bool) (clock : ℕ) → IsOriginal (seen_in w None s 0 started false clock) s
-    → after ≡ stepped_original w started s → fresh after.shared.phases ≡ 0
+    → after ≡ stepped_original w started s
     → GoesOnIn (seen_in w None s 0 started false clock) w None (clock_in 0 started clock) (moved_to after 0 None)
-original-goes w s after false clock is moved ready = record {
+original-goes w s after false clock is moved = record {
   running = record {
     starts = is.starts;
     stands = λ whole. moved ∙ sym (ap (λ (a : Turn). a.after) (turn_in-zero w (original w.program)));
-    ready = λ whole started. ready;
     told = refl;
     early = λ early. absurd cc;
   };
   advances = record { all = sym (ap length (no-events (first_class w.program).methods w 0)); stepped = refl };
 }
-original-goes w s after true clock is moved ready = record {
+original-goes w s after true clock is moved = record {
   running = record {
     starts = is.starts;
     stands = λ whole. moved
         ∙ (ap (λ (x : State). (step w (original w.program) x).after) (is.stands refl)
         ∙ sym (ap (λ (a : Turn). a.after) (turn_in-more w (original w.program) clock)));
-    ready = λ whole started. ready;
     told = refl;
     early = λ early. absurd cc;
   };
@@ -138,8 +134,8 @@ original-goes w s after true clock is moved ready = record {
 -- what going on needs
 pub can-move : (w : World) (r : Option Rewritten) (s : State) (told : ℕ) (started broken : Bool) (clock : ℕ) → AreRunning w r s told started broken clock
     → broken ≡ false → CanMove w r started s
-can-move w None s told false broken clock is whole = (is.stands whole, is.starts)
-can-move w None s told true broken clock is whole = is.ready whole refl
+can-move w None s told false broken clock is whole = record { before = is.stands whole; plain = is.starts.plain; room = is.starts.room }
+can-move w None s told true broken clock is whole = tt
 can-move w (Some r) s told started broken clock is whole = λ early. record {
   before = (early-in w (Some r) s told started broken clock is early whole).2;
   plain = is.built.plain;
@@ -149,21 +145,21 @@ can-move w (Some r) s told started broken clock is whole = λ early. record {
 pub is_advanced_in : (v : View) (w : World) (r : Option Rewritten) (s after : State) (told next : ℕ) (probe : Option Probe) (started broken : Bool) (clock n : ℕ)
     → seen_in w r s told started broken clock ≡ v → AreRunning w r s told started broken clock → v.broken ≡ false → IsGoingOn v
     → after ≡ (moved_in w r started told s).state → next ≡ (moved_in w r started told s).told → probe ≡ (moved_in w r started told s).probe
-    → KeepsReady r after.shared.phases → n ≡ clock_in told started clock
+    → n ≡ clock_in told started clock
     → GoesOnIn v w r n (moved_to after next probe)
-is_advanced_in v w (Some r) s after told next probe started broken clock n sees is whole going moved stops passes ready now =
+is_advanced_in v w (Some r) s after told next probe started broken clock n sees is whole going moved stops passes now =
     let goes = is_advanced v (installed w r) s after told next probe started broken clock n sees is whole going moved stops passes now in
     record { running = goes.running; advances = goes.advances }
-is_advanced_in v w None s after told next probe started true clock n sees is whole going moved stops passes ready now =
+is_advanced_in v w None s after told next probe started true clock n sees is whole going moved stops passes now =
     absurd (let broken : true ≡ v.broken = ap (λ (x : View). x.broken) sees in cc)
-is_advanced_in v w None s after told next probe started false clock n sees is whole going moved stops passes ready now =
+is_advanced_in v w None s after told next probe started false clock n sees is whole going moved stops passes now =
     let old : ℕ → View = λ k. seen_in w None s k started false clock in
     let same : moved_to after next probe ≡ moved_to after 0 None = ap (λ k. moved_to after k probe) stops ∙ ap (moved_to after 0) passes in
     subst (λ (x : View). GoesOnIn x w None n (moved_to after next probe)) sees
     (subst (λ (m : Move). GoesOnIn (old told) w None n m) (sym same)
     (subst (λ k. GoesOnIn (old told) w None k (moved_to after 0 None)) (sym now)
     (subst (λ k. GoesOnIn (old k) w None (clock_in k started clock) (moved_to after 0 None)) (sym is.told)
-    (original-goes w s after started clock (subst (λ k. IsOriginal (old k) s) is.told is) moved ready))))
+    (original-goes w s after started clock (subst (λ k. IsOriginal (old k) s) is.told is) moved))))
 
 -- what is shown is the model's, of the last step or of the step before
 pub shown-in : (w : World) (r : Option Rewritten) (s : State) (told : ℕ) (started broken : Bool) (clock : ℕ) → AreRunning w r s told started broken clock → broken ≡ false

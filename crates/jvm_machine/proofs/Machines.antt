@@ -14,6 +14,7 @@ use Rattle.jvm_machine.specs.declared.probes.Probe.{Probe}
 use Rattle.jvm_machine.specs.Advances.{Advances}
 use Rattle.jvm_machine.specs.Moves.{leave_passed, rest_by, Move, entered, stepped, begun_move, rest_of, moved_on, clock_in}
 use Rattle.jvm_machine.specs.Probes.{event_of}
+use Rattle.jvm_model.proofs.AppliesMoves.{live-moves}
 use Rattle.jvm_machine.specs.Running.{IsRunning, finished, is_done, seen, shown_of, top_of}
 use Rattle.jvm_machine.specs.Turns.{IsGoingOn}
 use Rattle.jvm_model.specs.OneClass.{IsBuiltProgram}
@@ -196,7 +197,7 @@ shown-is t s told started broken clock is whole = by_done (is_done t told s) ref
   v = seen t s told started broken clock
 
   same-shown : (x : State) → shown_of (moved (by_homes t.homes) x) ≡ shown_of x
-  same-shown x = ap (λ n. record { output = x.output; ending = x.ending; live = n }) (length-map x.stack (moved_entry (by_homes t.homes)))
+  same-shown x = ap (λ n. record { output = x.output; ending = x.ending; live = n }) (live-moves (by_homes t.homes) x.stack)
 
   by_done : (b : Bool) → is_done t told s ≡ b → shown_of s ≡ shown_of (shown v)
   by_done false undone = is.waits whole undone ∙ sym (ap (λ b. shown_of (cond b (state_of v) (run (world_in t) (clock - 1)))) undone)

@@ -1,14 +1,15 @@
 -- Several steps of original code take the machine further along the run.
-use Rattle.std.proofs.Common.{◌≡◌, ℕ, zero, suc, ◌+◌, ◌-◌, ◌<◌, ◌≤◌, Bool, true, false, Option, Some, None, refl, sym, ap, subst, ◌∙◌, arith}
+use Rattle.std.proofs.Common.{◌≡◌, ℕ, zero, suc, ◌+◌, ◌-◌, ◌<◌, ◌≤◌, Bool, true, false, List, Option, Some, None, refl, sym, ap, subst, ◌∙◌, arith}
 use Rattle.std.specs.Prelude.{is_some}
 use Rattle.std.proofs.lemmas.Bool.{false≢true}
 use Rattle.jvm_model.specs.declared.state.State.{State}
 use Rattle.jvm_model.specs.Data.{Turn, World}
-use Rattle.jvm_model.specs.Moves.{fresh}
 use Rattle.jvm_model.specs.Originals.{original}
 use Rattle.jvm_model.specs.Programs.{first_class}
 use Rattle.jvm_model.specs.Run.{run, step, turn_in-suc}
 use Rattle.jvm_steps.specs.Runs.{Leads, steps_from, steps_from-zero, steps_from-suc}
+use Rattle.jvm_steps.specs.declared.markers.Marker.{Marker}
+use Rattle.jvm_machine.specs.Original.{ArePlain}
 use Rattle.jvm_machine.specs.Prepared.{Rewritten}
 use Rattle.jvm_machine.specs.Running.{IsOriginal, AreRunning, seen_in}
 use Rattle.jvm_machine.specs.Several.{RunsOn}
@@ -35,13 +36,11 @@ reached-at : (w : World) (s after : State) (clock n : ℕ) → s ≡ run w clock
 reached-at w s after clock n stands leads = leads.made ∙ (ap (steps_from w n) stands ∙ steps-run w clock n)
 
 onward-at : (w : World) (s after : State) (clock n most : ℕ) → IsOriginal (seen_in w None s 0 true false clock) s → n ≤ most → Leads w s n after
-    → (n < most → is_some after.ending ≡ true) → after.shared.phases ≡ s.shared.phases
-    → GoesOnward (seen_in w None s 0 true false clock) w None after 0 true (clock + n) most
-onward-at w s after clock n most is few leads ends phases = record {
+    → (n < most → is_some after.ending ≡ true) → GoesOnward (seen_in w None s 0 true false clock) w None after 0 true (clock + n) most
+onward-at w s after clock n most is few leads ends = record {
   running = record {
     starts = is.starts;
     stands = λ whole. reached-at w s after clock n (is.stands refl) leads;
-    ready = λ whole started. ap fresh phases ∙ is.ready refl refl;
     told = refl;
     early = λ early. absurd cc;
   };
@@ -61,17 +60,23 @@ onward-at w s after clock n most is few leads ends phases = record {
 
 pub goes_onward : (v : View) (w : World) (r : Option Rewritten) (s after : State) (told : ℕ) (started broken : Bool) (clock n most : ℕ)
     → seen_in w r s told started broken clock ≡ v → AreRunning w r s told started broken clock → v.runs_original ≡ true → v.started ≡ true → v.broken ≡ false
-    → v.told ≡ 0 → n ≤ most → Leads w s n after → (n < most → is_some after.ending ≡ true) → after.shared.phases ≡ s.shared.phases
-    → GoesOnward v w r after told started (clock + n) most
-goes_onward v w (Some r) s after told started broken clock n most sees is none started_is whole rests few leads ends phases =
+    → v.told ≡ 0 → n ≤ most → Leads w s n after → (n < most → is_some after.ending ≡ true) → GoesOnward v w r after told started (clock + n) most
+goes_onward v w (Some r) s after told started broken clock n most sees is none started_is whole rests few leads ends =
     absurd (let versions : false ≡ v.runs_original = ap (λ (x : View). x.runs_original) sees in false≢true (versions ∙ none))
-goes_onward v w None s after told false broken clock n most sees is none started_is whole rests few leads ends phases =
+goes_onward v w None s after told false broken clock n most sees is none started_is whole rests few leads ends =
     absurd (let early : false ≡ v.started = ap (λ (x : View). x.started) sees in false≢true (early ∙ started_is))
-goes_onward v w None s after told true true clock n most sees is none started_is whole rests few leads ends phases =
+goes_onward v w None s after told true true clock n most sees is none started_is whole rests few leads ends =
     absurd (let broken : true ≡ v.broken = ap (λ (x : View). x.broken) sees in false≢true (sym (broken ∙ whole)))
-goes_onward v w None s after told true false clock n most sees is none started_is whole rests few leads ends phases =
+goes_onward v w None s after told true false clock n most sees is none started_is whole rests few leads ends =
     let old : ℕ → View = λ k. seen_in w None s k true false clock in
     let told_is : told ≡ 0 = ap (λ (x : View). x.told) sees ∙ rests in
     subst (λ (x : View). GoesOnward x w None after told true (clock + n) most) sees
     (subst (λ k. GoesOnward (old k) w None after k true (clock + n) most) (sym told_is)
-    (onward-at w s after clock n most (subst (λ k. IsOriginal (old k) s) told_is is) few leads ends phases))
+    (onward-at w s after clock n most (subst (λ k. IsOriginal (old k) s) told_is is) few leads ends))
+
+-- original code may have markers
+pub plain-original : (v : View) (w : World) (r : Option Rewritten) (ms : List Marker) (s : State) (told : ℕ) (started broken : Bool) (clock : ℕ)
+    → seen_in w r s told started broken clock ≡ v → v.runs_original ≡ true → ArePlain r ms
+plain-original v w None ms s told started broken clock sees none = tt
+plain-original v w (Some r) ms s told started broken clock sees none =
+    absurd (let versions : false ≡ v.runs_original = ap (λ (x : View). x.runs_original) sees in false≢true (versions ∙ none))

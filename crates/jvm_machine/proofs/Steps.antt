@@ -16,7 +16,8 @@ use Rattle.jvm_model.specs.declared.state.Frame.{Frame}
 use Rattle.jvm_model.specs.declared.state.State.{State}
 use Rattle.jvm_model.specs.Data.{Change, Loads, Began, Left, Turn, World}
 use Rattle.jvm_model.specs.declared.ending.Ending.TheVariants.{Unverifiable}
-use Rattle.jvm_model.specs.Applies.{new_frame, has_room}
+use Rattle.jvm_model.specs.Applies.{new_frame, has_room, live_in}
+use Rattle.jvm_model.proofs.AppliesMoves.{live-moves}
 use Rattle.jvm_model.specs.Moves.{argument_array}
 use Rattle.jvm_model.specs.Agreement.{rewritten, Agrees, is_return_operation, is_left_by, leave_probe_of, entry_kind, entry_probe_of, is_entry_kind, is_leave_kind}
 use Rattle.jvm_model.specs.Attempts.{has_begun, attempt_placed, ready, start_placed}
@@ -299,7 +300,7 @@ module _ (t : Installed) (built : IsBuilt (class_in t)) (of : IsProgramOf (class
           → shown_of (state_at (home_at t.homes now_is.has_frame.frame.version now_is.has_frame.frame.place + 6) (there n)) ≡ shown_of (now (n + 1 - 1))
       shown-before at =
           let back : n + 1 - 1 ≡ n = omega arith in
-          let long : suc (length (moved_stack (by_homes t.homes) now_is.has_frame.below)) ≡ length (now n).stack = ap suc (length-map now_is.has_frame.below (moved_entry (by_homes t.homes))) ∙ sym (ap length now_is.has_frame.is) in
+          let long : suc (live_in (moved_stack (by_homes t.homes) now_is.has_frame.below)) ≡ live_in (now n).stack = ap suc (live-moves (by_homes t.homes) now_is.has_frame.below) ∙ sym (ap live_in now_is.has_frame.is) in
           ap shown_of at ∙ (ap (λ x. record { output = (now n).output; ending = (now n).ending; live = x }) long ∙ sym (ap (λ k. shown_of (now k)) back))
 
   pub step-is : (n : ℕ) → is_some (now n).ending ≡ false → IsStep t (n + 1) (stepped t (there n))

@@ -5,6 +5,7 @@ use Rattle.jvm_model.specs.declared.ending.Ending.{Ending}
 use Rattle.jvm_model.specs.declared.state.State.{State}
 use Rattle.jvm_model.specs.declared.state.Entry.TheVariants.{Active}
 use Rattle.jvm_model.specs.Agreement.{Agrees}
+use Rattle.jvm_model.specs.Applies.{live_in}
 use Rattle.jvm_model.specs.Moved.{moved}
 use Rattle.jvm_model.specs.Run.{run}
 use Rattle.jvm_model.specs.StandsFor.{by_homes}
@@ -12,8 +13,7 @@ use Rattle.jvm_model.specs.OneClass.{IsBuiltProgram}
 use Rattle.jvm_model.specs.Programs.{first_class}
 use Rattle.jvm_model.specs.Installed.{Installed}
 use Rattle.jvm_model.specs.Data.{World}
-use Rattle.jvm_model.specs.Moves.{fresh}
-use Rattle.jvm_model.specs.Starting.{StartsReady}
+use Rattle.jvm_steps.specs.Before.{CanStart}
 use Rattle.jvm_machine.specs.Moves.{leave_passed, rest_of}
 use Rattle.jvm_machine.specs.Prepared.{Rewritten, installed_in}
 use Rattle.jvm_machine.specs.View.{View, Place, world, state_of, is_resting, events_now}
@@ -58,7 +58,7 @@ pub record Shown : Type 0 where
   pub live : ℕ
 
 abbrev pub shown_of : State → Shown
-shown_of s = record { output = s.output; ending = s.ending; live = length s.stack }
+shown_of s = record { output = s.output; ending = s.ending; live = live_in s.stack }
 
 -- The program is of a built class, and the versions agree with it. Unless memory has run out, the state is, once the step is done, the
 -- run's with its frames at their homes; before its instruction is done it shows what the step before has shown; and the
@@ -71,11 +71,10 @@ pub record IsRunning (v : View) (state : State) : Type 0 where
   pub told : v.broken ≡ false → is_resting v ≡ false → v.told ≡ length (events_now v)
   pub early : v.started ≡ false → (v.clock ≡ 0) × (v.told ≡ 0)
 
--- No versions were installed: unless memory has run out, the state is the run's, and behind the start no class is left to be initialized.
+-- No versions were installed: unless memory has run out, the state is the run's.
 pub record IsOriginal (v : View) (state : State) : Type 0 where
-  pub starts : StartsReady v.program
+  pub starts : CanStart v.program
   pub stands : v.broken ≡ false → state ≡ state_of v
-  pub ready : v.broken ≡ false → v.started ≡ true → fresh state.shared.phases ≡ 0
   pub told : v.told ≡ 0
   pub early : v.started ≡ false → v.clock ≡ 0
 

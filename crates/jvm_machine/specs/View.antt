@@ -1,5 +1,5 @@
 -- What a clause sees of a machine: what it runs, in which versions, and how far it has come.
-use Rattle.std.specs.Prelude.{ℕ, ◌+◌, ◌-◌, ◌^◌, Bool, true, false, List, length, map, min, Option, None, is_some, ◌==◌, if◌then◌else◌}
+use Rattle.std.specs.Prelude.{ℕ, ◌+◌, ◌-◌, ◌^◌, Bool, true, false, List, map, min, Option, None, is_some, ◌==◌, if◌then◌else◌}
 use Rattle.const_pool.specs.declared.class.ClassFile.{ClassFile}
 use Rattle.code_model.specs.declared.laying.Homes.{Homes}
 use Rattle.jvm_model.specs.declared.event.Event.{Event}
@@ -7,6 +7,7 @@ use Rattle.jvm_model.specs.declared.event.Mark.{Mark}
 use Rattle.jvm_model.specs.declared.event.Mark.TheVariants.{Off}
 use Rattle.jvm_model.specs.declared.state.State.{State}
 use Rattle.jvm_model.specs.declared.program.Program.{Program}
+use Rattle.jvm_model.specs.Applies.{live_in}
 use Rattle.jvm_model.specs.Data.{World}
 use Rattle.jvm_model.specs.Programs.{first_class}
 use Rattle.jvm_model.specs.EventLists.{step_events}
@@ -67,7 +68,7 @@ shown v = if v.done then state_of v else run (world v) (v.clock - 1)
 
 -- the live activations, as far as 32 bits tell
 abbrev pub live_of : View → ℕ
-live_of v = min (length (shown v).stack) (2 ^ 32 - 1)
+live_of v = min (live_in (shown v).stack) (2 ^ 32 - 1)
 
 -- the versions of an image
 abbrev pub with_image : List Mark → ClassFile → List (Option Homes) → View → View

@@ -5,7 +5,7 @@ ghost use Rattle.std.specs.Prelude.{OnOk, OnErr, IfOk};
 ghost use Rattle.jvm_model.specs.Images.{IsImage};
 ghost use Rattle.jvm_model.specs.OneClass.{IsBuiltProgram};
 ghost use Rattle.jvm_model.specs.Programs.{first_class};
-ghost use Rattle.jvm_model.specs.Starting.{StartsReady};
+ghost use Rattle.jvm_steps.specs.Before.{CanStart};
 ghost use Rattle.jvm_steps.specs.Prepared.{FitsOriginals};
 ghost use Rattle.jvm_machine.specs.Advances.{Advances, broken_in};
 ghost use Rattle.jvm_machine.specs.Several.{RunsOn, stopped_in};
@@ -19,9 +19,9 @@ use crate::tables::Versions;
 use crate::turn::Turn;
 use code_model::Homes;
 use const_pool::ClassFile;
-use jf_bytes::{NoMemory, Seq};
+use jf_bytes::{NoMemory, Seq, Stack};
 use jvm_model::{Ending, Event, Mark, Program};
-use jvm_steps::{Originals, Parts, parts_before, run};
+use jvm_steps::{Marker, Originals, Parts, parts_before, run};
 use std::alloc::Global;
 use std::marker::Model;
 
@@ -35,6 +35,7 @@ pub struct Vm {
     /// None until some were installed: then original code runs.
     versions: Option<Versions>,
     parts: Parts,
+    markers: Stack<Marker>,
     told: u32,
     started: bool,
     broken: bool,
@@ -42,22 +43,25 @@ pub struct Vm {
 }
 
 impl Model for Vm {
+    ghost use Rattle.std.specs.Prelude.{◌≡◌, false};
     ghost use Rattle.jvm_machine.specs.View.{View};
+    ghost use Rattle.jvm_machine.specs.Original.{ArePlain};
     ghost use Rattle.jvm_machine.specs.Running.{AreRunning, seen_in};
-    ghost use Rattle.jvm_steps.specs.States.{state_in};
+    ghost use Rattle.jvm_steps.specs.Markers.{state_of};
 
     ghost Value = { View };
 
-    ghost view = { λ v. seen_in v.originals v.versions (state_in v.parts) v.told v.started v.broken v.clock };
+    ghost view = { λ v. seen_in v.originals v.versions (state_of v.markers v.parts) v.told v.started v.broken v.clock };
 
-    ghost invariant = { λ v. AreRunning v.originals v.versions (state_in v.parts) v.told v.started v.broken v.clock };
+    ghost invariant = { λ v. (v.broken ≡ false → ArePlain v.versions v.markers)
+        × AreRunning v.originals v.versions (state_of v.markers v.parts) v.told v.started v.broken v.clock };
 }
 
 impl Vm {
     /// A machine that will run the program from its main method. It looks up every offset of every original code once.
     pub fn new(alloc: Global, program: Program, input: Vec<u8>) -> Result<Vm, NoMemory>
         requires fits { FitsOriginals program }
-        requires starts { StartsReady program }
+        requires starts { CanStart program }
         ensures { IfOk result (λ vm. vm ≡ made program input.items) }
     {
         let parts = parts_before(alloc, &program)?;
@@ -67,6 +71,7 @@ impl Vm {
             originals,
             versions: None,
             parts,
+            markers: Stack::new(alloc),
             told: 0,
             started: false,
             broken: false,
@@ -122,6 +127,7 @@ impl Vm {
             &self.originals,
             &self.versions,
             &mut self.parts,
+            &mut self.markers,
             started,
             self.told,
         )?;
@@ -170,7 +176,13 @@ impl Vm {
         ensures err { OnErr result (self.new ≡ stopped_in self.old self.new) }
     {
         self.broken = true;
-        let made = run(self.alloc, &self.originals, &mut self.parts, most)?;
+        let made = run(
+            self.alloc,
+            &self.originals,
+            &mut self.parts,
+            &mut self.markers,
+            most,
+        )?;
         self.clock += made;
         self.broken = false;
         Ok(())

@@ -1,16 +1,17 @@
 //! One call of `step` over original code, or over the versions that are installed.
 
-ghost use Rattle.std.specs.Prelude.{◌≡◌, None, OnOk, IfOk};
-ghost use Rattle.jvm_model.specs.Moves.{fresh};
-ghost use Rattle.jvm_steps.specs.States.{state_in};
-ghost use Rattle.jvm_machine.specs.Moves.{MovesTo, TellsAs, PassesAs};
-ghost use Rattle.jvm_machine.specs.Original.{CanStep, CanMove, KeepsReady};
+ghost use Rattle.std.specs.Prelude.{◌≡◌, [], false, None, OnOk, IfOk};
+ghost use Rattle.jvm_model.specs.Installed.{world_in};
+ghost use Rattle.jvm_steps.specs.Before.{IsAtStart};
+ghost use Rattle.jvm_steps.specs.Markers.{state_of};
+ghost use Rattle.jvm_machine.specs.Moves.{TellsAs, PassesAs, moved_on};
+ghost use Rattle.jvm_machine.specs.Original.{ArePlain, CanStep, CanMove, MovesAll};
 ghost use Rattle.jvm_machine.specs.Original.{stepped_original, moved_in};
 
 use crate::stepping::{Advance, move_on};
 use crate::tables::{Tables, Versions};
-use jf_bytes::NoMemory;
-use jvm_steps::{Originals, Parts, start, step};
+use jf_bytes::{NoMemory, Stack};
+use jvm_steps::{Marker, Originals, Parts, start, step};
 use std::alloc::Global;
 
 /// The start, or one step of original code.
@@ -18,17 +19,17 @@ fn step_original(
     alloc: Global,
     originals: &Originals,
     parts: &mut Parts,
+    markers: &mut Stack<Marker>,
     started: bool,
 ) -> Result<(), NoMemory>
-    requires { CanStep originals.now started (state_in parts.old) }
-    ensures state { OnOk result
-        (state_in parts.new ≡ stepped_original originals.now started (state_in parts.old)) }
-    ensures phases { OnOk result (fresh parts.new.shared.phases ≡ 0) }
+    requires { CanStep originals.now started (state_of markers.old parts.old) }
+    ensures { let s = state_of markers.old parts.old in OnOk result
+        (state_of markers.new parts.new ≡ stepped_original originals.now started s) }
 {
     if started {
-        step(alloc, originals, parts)
+        step(alloc, originals, parts, markers)
     } else {
-        start(originals, parts)
+        start(originals, parts, markers)
     }
 }
 
@@ -37,20 +38,42 @@ fn move_original(
     alloc: Global,
     originals: &Originals,
     parts: &mut Parts,
+    markers: &mut Stack<Marker>,
     started: bool,
 ) -> Result<Advance, NoMemory>
-    requires { CanStep originals.now started (state_in parts.old) }
-    ensures state { OnOk result
-        (state_in parts.new ≡ stepped_original originals.now started (state_in parts.old)) }
-    ensures phases { OnOk result (fresh parts.new.shared.phases ≡ 0) }
+    requires { CanStep originals.now started (state_of markers.old parts.old) }
+    ensures state { let s = state_of markers.old parts.old in OnOk result
+        (state_of markers.new parts.new ≡ stepped_original originals.now started s) }
     ensures told { IfOk result (λ a. a.told ≡ 0) }
     ensures probe { IfOk result (λ a. a.probe ≡ None) }
 {
-    step_original(alloc, originals, parts, started)?;
+    step_original(alloc, originals, parts, markers, started)?;
     Ok(Advance {
         told: 0,
         probe: None,
     })
+}
+
+/// The same over versions, whose frames have no markers beside them.
+fn move_versions(
+    alloc: Global,
+    tables: &Tables,
+    parts: &mut Parts,
+    markers: &Stack<Marker>,
+    started: bool,
+    told: u32,
+) -> Result<Advance, NoMemory>
+    requires plain { markers.now ≡ [] }
+    requires early { started ≡ false
+        → IsAtStart (world_in tables.now) (state_of markers.now parts.old) }
+    ensures moved { let m = moved_on tables.now started told (state_of markers.now parts.old) in
+        MovesAll result markers.now parts.new m }
+    ensures told { let m = moved_on tables.now started told (state_of markers.now parts.old) in
+        TellsAs result m }
+    ensures probe { let m = moved_on tables.now started told (state_of markers.now parts.old) in
+        PassesAs result m }
+{
+    move_on(alloc, tables, parts, started, told)
 }
 
 /// Goes on with the step in hand, or begins the next one.
@@ -59,24 +82,27 @@ pub fn go_on(
     originals: &Originals,
     versions: &Option<Versions>,
     parts: &mut Parts,
+    markers: &mut Stack<Marker>,
     started: bool,
     told: u32,
 ) -> Result<Advance, NoMemory>
-    requires { CanMove originals.now versions.now started (state_in parts.old) }
-    ensures moved { let m = moved_in originals.now versions.now started told (state_in parts.old) in
-        MovesTo result parts.new m }
-    ensures told { let m = moved_in originals.now versions.now started told (state_in parts.old) in
-        TellsAs result m }
-    ensures probe { let m = moved_in originals.now versions.now started told (state_in parts.old) in
-        PassesAs result m }
-    ensures phases { OnOk result (KeepsReady versions.now parts.new.shared.phases) }
+    requires able { CanMove originals.now versions.now started (state_of markers.old parts.old) }
+    requires plain { ArePlain versions.now markers.old }
+    ensures moved { let s = state_of markers.old parts.old in
+        MovesAll result markers.new parts.new (moved_in originals.now versions.now started told s) }
+    ensures told { let s = state_of markers.old parts.old in
+        TellsAs result (moved_in originals.now versions.now started told s) }
+    ensures probe { let s = state_of markers.old parts.old in
+        PassesAs result (moved_in originals.now versions.now started told s) }
+    ensures plain { OnOk result (ArePlain versions.now markers.new) }
 {
     match versions {
-        None => move_original(alloc, originals, parts, started),
-        Some(versions) => move_on(
+        None => move_original(alloc, originals, parts, markers, started),
+        Some(versions) => move_versions(
             alloc,
             &Tables::new(originals, versions),
             parts,
+            markers,
             started,
             told,
         ),

@@ -97,12 +97,13 @@ line-place p (Some place) at = line-class p place (class_at p place.class) at
 
 -- ---- all of them
 
-pub IsPrepared-entries : (p : Program) (methods : List Method) (x : Exceptions) → length p.classes < 2 ^ 24 → methods ≡ map (entry_at p) p.methods
+pub IsPrepared-entries : (p : Program) (methods : List Method) (x : Exceptions) → length p.classes < 2 ^ 24 → length p.methods < 2 ^ 32 → methods ≡ map (entry_at p) p.methods
     → ((e : Exception) → exception_in x e ≡ exception_kind p e) → x.string ≡ kind_for p string → IsPrepared p methods x
-IsPrepared-entries p methods x few is raised text =
+IsPrepared-entries p methods x few numbered is raised text =
     let entry : (k : ℕ) → slice_get methods k ≡ option_map (entry_at p) (slice_get p.methods k) = λ k. ap (λ ms. slice_get ms k) is ∙ slice_get-map (entry_at p) p.methods k in
     record {
       few = few;
+      numbered = numbered;
       params = λ k. ap (option_and_then (λ (m : Method). m.params)) (entry k) ∙ params-place p (slice_get p.methods k);
       max_stack = λ k. ap (λ (o : Option Method). option_map_or (λ m. m.max_stack) o 0) (entry k) ∙ stack-place p (slice_get p.methods k);
       max_locals = λ k. ap (λ (o : Option Method). option_map_or (λ m. m.max_locals) o 0) (entry k) ∙ locals-place p (slice_get p.methods k);

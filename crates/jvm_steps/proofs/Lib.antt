@@ -1,11 +1,14 @@
 pub mod MovesOn
+pub mod MarkedStacks
+pub mod Initializations
+pub mod Carried
+pub mod MarkedParts
+pub mod InitializerFrames
 pub mod OperandsAlone
 pub mod MainFrames
-pub mod ReadyStarts
 pub mod Arguments
 pub mod Callees
 pub mod Alone
-pub mod Phases
 pub mod Tied
 pub mod Tabled
 pub mod Positions
@@ -14,6 +17,8 @@ pub mod LineFamilies
 mod Actions
 pub mod LineActs
 pub mod LineSteps
+pub mod Beneath
+pub mod Behind
 pub mod Above
 pub mod OpenClasses
 pub mod ElementLemmas

@@ -22,7 +22,6 @@ use Rattle.jvm_model.specs.Applies.{breaks, enters_subroutine, goes, resumes, gi
 use Rattle.jvm_model.specs.Data.{Locals, Operands, World, Text, Local, Nop, Constant, Load, Store, Arrange, BinaryOfInts, BinaryOfLongs, DivisionOfInts, DivisionOfLongs, ShiftOfLong, UnaryOfInt, UnaryOfLong, Lcmp, Iinc, Branch, Goto, Switch, Jsr, Ret, Return, Operation, Within, Getstatic, Putstatic, Invokestatic, Invokevirtual, Athrow, Monitor, Newarray, Arraylength, LoadElement, StoreElement, Instruction, Outcome, GoesOn, Subroutine, Invokes, Returns, Throws, Raises, Initializes, Exits, Breaks, Next, Target, Back, Done, Keys}
 use Rattle.jvm_model.specs.Lines.{ends, is_last, targets_of}
 use Rattle.jvm_model.specs.LocalRules.{arithmetic_exception, by_zero, divides_these, goes_if, holds, tests, switches_on, goes_back, replaces, returns, returns_datum, within}
-use Rattle.jvm_model.specs.Moves.{fresh}
 use Rattle.jvm_model.specs.Lookup.{is_below}
 use Rattle.jvm_model.specs.ObjectRules.{Access, ToNull, ToAnother, Outside, Inside, Storing, access_to, array_kind, done, fits_array, loads_at, loads_element, makes, measures, place_of, stores_at, stores_element, storing_of, throws, watches}
 use Rattle.jvm_model.specs.Originals.{original}
@@ -37,9 +36,8 @@ use Rattle.jvm_basic.proofs.Asked.{is_simple, pushes-simple, replaces-simple, le
 use Rattle.jvm_steps.specs.declared.line.Action.{Action}
 use Rattle.jvm_steps.specs.declared.line.Action.TheVariants as action
 use Rattle.jvm_steps.specs.declared.line.Line.{Line}
-use Rattle.jvm_steps.specs.Acts.{placed_line, comes_to, acts_alone, acts_asked, acts_done, acts_invokestatic, resumes_line, gives_back_line, returns_or_ends, acts_return, acts_out, prints_number, acts_println, acts_by, acts}
-use Rattle.jvm_steps.specs.Lines.{invokes_by, local_action, line_at}
-use Rattle.jvm_steps.proofs.Phases.{none-fresh}
+use Rattle.jvm_steps.specs.Acts.{placed_line, comes_to, acts_alone, acts_asked, acts_done, acts_invokestatic, resumes_line, gives_back_line, returns_or_ends, acts_return, acts_out, prints_number, acts_println, acts_by, acts, awaited, fresh_class}
+use Rattle.jvm_steps.specs.Lines.{action_of, invokes_by, local_action, line_at}
 use Rattle.jvm_steps.proofs.Tied.{instruction_by, IsRuleOf, IsTied, Tie, tied-at}
 
 -- ---- what an instruction asks for that its frame does by itself
@@ -118,7 +116,36 @@ within-own Jsr m o h = refl
 within-own (Ret slot) m o h = back-own (local_in m slot) m o
 within-own (Return k) m o h = absurd (none-some k (sym h))
 
--- nothing is initialized before
+-- the activation stays, and no class is initialized before
+abbrev pub stays : Outcome → Bool
+stays (Returns d) = false
+stays (Breaks true) = false
+stays (Initializes c) = false
+stays _ = true
+
+stays-starts : (q : Outcome) → stays q ≡ true → starts q ≡ None
+stays-starts (Returns d) h = refl
+stays-starts (Breaks b) h = refl
+stays-starts (Initializes c) h = absurd (false≢true h)
+stays-starts (GoesOn m o to) h = refl
+stays-starts Subroutine h = refl
+stays-starts (Raises name message) h = refl
+stays-starts (Invokes m args below) h = refl
+stays-starts (Throws r) h = refl
+stays-starts (Exits n) h = refl
+
+own-stays : (last : Bool) (q : Outcome) → IsOwn last q → stays q ≡ true
+own-stays last (GoesOn m o to) h = refl
+own-stays last Subroutine h = refl
+own-stays last (Raises name message) h = refl
+own-stays last (Breaks false) h = refl
+own-stays last (Breaks true) h = absurd h
+own-stays last (Invokes m args below) h = absurd h
+own-stays last (Returns d) h = absurd h
+own-stays last (Throws r) h = absurd h
+own-stays last (Initializes c) h = absurd h
+own-stays last (Exits n) h = absurd h
+
 own-starts : (last : Bool) (q : Outcome) → IsOwn last q → starts q ≡ None
 own-starts last (GoesOn m o to) h = refl
 own-starts last Subroutine h = refl
@@ -322,14 +349,14 @@ asked-acts w line op s f q behind starts_none =
     quiet-acts w (instruction_by op line) s f q (acts_asked w line s f q) starts_none (placed-same w line op s f q behind)
 
 -- where nothing is written
-record IsSilent (d : Done) : Type 0 where
-  starts_none : starts d.outcome ≡ None
-  wrote : d.wrote ≡ []
+pub record IsSilent (d : Done) : Type 0 where
+  pub kept : stays d.outcome ≡ true
+  pub wrote : d.wrote ≡ []
 
 done-acts : (w : World) (line : Line) (op : Operation) (s : State) (f : Frame) (d : Done) → ends op ≡ false → IsSilent d
     → ActsAs w (instruction_by op line) s f d (acts_done w line s f d)
 done-acts w line op s f d behind silent = record {
-  starts_none = silent.starts_none;
+  starts_none = stays-starts d.outcome silent.kept;
   applied =
       ap (λ out. (applies w (original w.program) (instruction_by op line) d.outcome (record s { shared = d.shared; output = out }) f).after)
       (ap (λ xs. s.output ++ xs) silent.wrote ∙ append-nil s.output)
@@ -338,48 +365,48 @@ done-acts w line op s f d behind silent = record {
 
 -- ---- instructions that see objects
 
-chosen-starts : (b : Bool) (x y : Outcome) → starts x ≡ None → starts y ≡ None → starts (cond b x y) ≡ None
-chosen-starts true x y hx hy = hx
-chosen-starts false x y hx hy = hy
+chosen-stays : (b : Bool) (x y : Outcome) → stays x ≡ true → stays y ≡ true → stays (cond b x y) ≡ true
+chosen-stays true x y hx hy = hx
+chosen-stays false x y hx hy = hy
 
-replaces-starts : (taken : ℕ) (v : Option Value) (m : Locals) (o : Operands) → starts (replaces taken v m o) ≡ None
-replaces-starts taken v m o = own-starts false _ (simple-own _ (replaces-simple taken v m o))
+replaces-stays : (taken : ℕ) (v : Option Value) (m : Locals) (o : Operands) → stays (replaces taken v m o) ≡ true
+replaces-stays taken v m o = own-stays false _ (simple-own _ (replaces-simple taken v m o))
 
-measures-starts : (x : Option ℕ) (s : Shared) (m : Locals) (o : Operands) → starts (measures x s m o) ≡ None
-measures-starts None s m o = refl
-measures-starts (Some r) s m o = chosen-starts (r == 0) _ _ refl (replaces-starts 1 _ m o)
+pub measures-stays : (x : Option ℕ) (s : Shared) (m : Locals) (o : Operands) → stays (measures x s m o) ≡ true
+measures-stays None s m o = refl
+measures-stays (Some r) s m o = chosen-stays (r == 0) _ _ refl (replaces-stays 1 _ m o)
 
-watches-starts : (x : Option ℕ) (m : Locals) (o : Operands) → starts (watches x m o) ≡ None
-watches-starts None m o = refl
-watches-starts (Some r) m o = chosen-starts (r == 0) _ _ refl refl
+pub watches-stays : (x : Option ℕ) (m : Locals) (o : Operands) → stays (watches x m o) ≡ true
+watches-stays None m o = refl
+watches-stays (Some r) m o = chosen-stays (r == 0) _ _ refl refl
 
-loads-starts : (k : Kind) (x : Option (ℕ × ℤ)) (s : Shared) (m : Locals) (o : Operands) → starts (loads_element k x s m o) ≡ None
-loads-starts k None s m o = refl
-loads-starts k (Some at) s m o = by (access_to k at.0 at.1 s.heap) where
-  by : (access : Access) → starts (loads_at access at.0 at.1 s m o) ≡ None
+pub loads-stays : (k : Kind) (x : Option (ℕ × ℤ)) (s : Shared) (m : Locals) (o : Operands) → stays (loads_element k x s m o) ≡ true
+loads-stays k None s m o = refl
+loads-stays k (Some at) s m o = by (access_to k at.0 at.1 s.heap) where
+  by : (access : Access) → stays (loads_at access at.0 at.1 s m o) ≡ true
   by ToNull = refl
   by ToAnother = refl
   by Outside = refl
-  by (Inside slot) = replaces-starts 2 _ m o
+  by (Inside slot) = replaces-stays 2 _ m o
 
 chosen-silent : (b : Bool) (x y : Done) → IsSilent x → IsSilent y → IsSilent (cond b x y)
 chosen-silent true x y hx hy = hx
 chosen-silent false x y hx hy = hy
 
-makes-silent : (k : ℕ) (x : Option ℤ) (s : Shared) (m : Locals) (o : Operands) → IsSilent (makes k x s m o)
-makes-silent k None s m o = record { starts_none = refl; wrote = refl }
-makes-silent k (Some (negsuc n)) s m o = record { starts_none = refl; wrote = refl }
+pub makes-silent : (k : ℕ) (x : Option ℤ) (s : Shared) (m : Locals) (o : Operands) → IsSilent (makes k x s m o)
+makes-silent k None s m o = record { kept = refl; wrote = refl }
+makes-silent k (Some (negsuc n)) s m o = record { kept = refl; wrote = refl }
 makes-silent k (Some (pos count)) s m o =
-    chosen-silent (nat_le (s.heap.used + (1 + count)) s.heap.limit) _ _ (record { starts_none = refl; wrote = refl }) (record { starts_none = refl; wrote = refl })
+    chosen-silent (nat_le (s.heap.used + (1 + count)) s.heap.limit) _ _ (record { kept = refl; wrote = refl }) (record { kept = refl; wrote = refl })
 
-stores-silent : (p : Program) (k : Kind) (x : Option Storing) (s : Shared) (m : Locals) (o : Operands) → IsSilent (stores_element p k x s m o)
-stores-silent p k None s m o = record { starts_none = refl; wrote = refl }
+pub stores-silent : (p : Program) (k : Kind) (x : Option Storing) (s : Shared) (m : Locals) (o : Operands) → IsSilent (stores_element p k x s m o)
+stores-silent p k None s m o = record { kept = refl; wrote = refl }
 stores-silent p k (Some x) s m o = by (access_to k x.array x.index s.heap) where
   by : (access : Access) → IsSilent (stores_at p access x.array x.index x.datum s m o)
-  by ToNull = record { starts_none = refl; wrote = refl }
-  by ToAnother = record { starts_none = refl; wrote = refl }
-  by Outside = record { starts_none = refl; wrote = refl }
-  by (Inside slot) = chosen-silent (fits_array p x.datum x.array s.heap) _ _ (record { starts_none = refl; wrote = refl }) (record { starts_none = refl; wrote = refl })
+  by ToNull = record { kept = refl; wrote = refl }
+  by ToAnother = record { kept = refl; wrote = refl }
+  by Outside = record { kept = refl; wrote = refl }
+  by (Inside slot) = chosen-silent (fits_array p x.datum x.array s.heap) _ _ (record { kept = refl; wrote = refl }) (record { kept = refl; wrote = refl })
 
 -- athrow goes on nowhere
 module _ (w : World) (line : Line) (s : State) (f : Frame) where
@@ -405,45 +432,68 @@ module _ (w : World) (line : Line) (s : State) (f : Frame) where
       chosen-throws (r == 0) _ _ (raises-as null_pointer None)
       (chosen-throws (is_below w.program (class_of w.program s.shared r) throwable) _ _ (throws-as r) unverifiable-as)
 
+pub throws-stays : (w : World) (s : Shared) (x : Option ℕ) → stays (throws w s x) ≡ true
+throws-stays w s None = refl
+throws-stays w s (Some r) =
+    chosen-stays (r == 0) _ _ refl (chosen-stays (is_below w.program (class_of w.program s r) throwable) _ _ refl refl)
+
 -- ---- invokestatic
 
-invokes-starts : (method count : ℕ) (args : Option (List Datum)) (o : Operands) → starts (invokes method count args o) ≡ None
-invokes-starts method count None o = refl
-invokes-starts method count (Some args) o = refl
+invokes-stays : (method count : ℕ) (args : Option (List Datum)) (o : Operands) → stays (invokes method count args o) ≡ true
+invokes-stays method count None o = refl
+invokes-stays method count (Some args) o = refl
 
-method-starts : (method : ℕ) (params : Option (List Kind)) (o : Operands) → starts (invokes_with method params o) ≡ None
-method-starts method None o = refl
-method-starts method (Some params) o = invokes-starts method (length params) (arguments params o) o
+pub method-stays : (method : ℕ) (params : Option (List Kind)) (o : Operands) → stays (invokes_with method params o) ≡ true
+method-stays method None o = refl
+method-stays method (Some params) o = invokes-stays method (length params) (arguments params o) o
 
-module _ (w : World) (line : Line) (r : Reference) (s : State) (f : Frame) (none : fresh s.shared.phases ≡ 0) where
+module _ (w : World) (line : Line) (r : Reference) (s : State) (f : Frame) where
   abbrev StaticAs : Done → Type 0
   StaticAs d = ActsAs w (instruction_by (Invokestatic r) line) s f d (acts_asked w line s f d.outcome)
 
-  asks-as : (q : Outcome) → starts q ≡ None → StaticAs (done s.shared q)
-  asks-as q starts_none = asked-acts w line (Invokestatic r) s f q refl starts_none
+  asks-as : (q : Outcome) → stays q ≡ true → StaticAs (done s.shared q)
+  asks-as q kept = asked-acts w line (Invokestatic r) s f q refl (stays-starts q kept)
 
-  -- no class is fresh
-  phase-as : (class : ℕ) (q : Outcome) → starts q ≡ None → (x : Option Phase) → phase_of s.shared class ≡ x
+  -- by the phase of its class, which is not fresh
+  phase-as : (class : ℕ) (q : Outcome) → stays q ≡ true → (x : Option Phase) → fresh_class class x ≡ None
       → StaticAs (when_ready w.program x class s.shared (done s.shared q))
-  phase-as class q starts_none (Some Ready) is = asks-as q starts_none
-  phase-as class q starts_none (Some Running) is = asks-as q starts_none
-  phase-as class q starts_none (Some Fresh) is = absurd (none-fresh s.shared.phases class none is)
-  phase-as class q starts_none (Some Erroneous) is = asks-as (Raises no_class_definition (name_at w.program class)) refl
-  phase-as class q starts_none None is = asks-as (Raises no_class_definition (name_at w.program class)) refl
+  phase-as class q kept (Some Ready) none = asks-as q kept
+  phase-as class q kept (Some Running) none = asks-as q kept
+  phase-as class q kept (Some Fresh) none = absurd cc
+  phase-as class q kept (Some Erroneous) none = asks-as (Raises no_class_definition (name_at w.program class)) refl
+  phase-as class q kept None none = asks-as (Raises no_class_definition (name_at w.program class)) refl
 
   -- by the class and the method that the reference names
-  static-as : (class : ℕ) (method : Option ℕ)
+  static-as : (class : ℕ) (method : Option ℕ) → awaited s.shared (action.Invokestatic class method) ≡ None
       → ActsAs w (instruction_by (Invokestatic r) line) s f (invokes_static w r.class (Some class) method s.shared f.operands) (acts_invokestatic w line class method s f)
-  static-as class None = asks-as (Raises no_such_method None) refl
-  static-as class (Some method) =
-      phase-as class (invokes_method w method f.operands) (method-starts method (params_of_method w.program method) f.operands) (phase_of s.shared class) refl
+  static-as class None none = asks-as (Raises no_such_method None) refl
+  static-as class (Some method) none =
+      phase-as class (invokes_method w method f.operands) (method-stays method (params_of_method w.program method) f.operands) (phase_of s.shared class) none
 
-  invoked-as : (class : Option ℕ)
+  invoked-as : (class : Option ℕ) → awaited s.shared (invokes_by w.program r class) ≡ None
       → ActsAs w (instruction_by (Invokestatic r) line) s f
       (invokes_static w r.class class (option_and_then (declared_method w.program r.member) class) s.shared f.operands)
       (acts_by w line s f (invokes_by w.program r class))
-  invoked-as None = asks-as (Raises no_class_definition (Some r.class)) refl
-  invoked-as (Some class) = static-as class (declared_method w.program r.member class)
+  invoked-as None none = asks-as (Raises no_class_definition (Some r.class)) refl
+  invoked-as (Some class) none = static-as class (declared_method w.program r.member class) none
+
+  -- and where it is, what the instruction asks for
+  phase-awaits : (class c : ℕ) (d : Done) (x : Option Phase) → fresh_class class x ≡ Some c → when_ready w.program x class s.shared d ≡ done s.shared (Initializes c)
+  phase-awaits class c d (Some Fresh) is = ap (λ k. done s.shared (Initializes k)) (same_Some class c is)
+  phase-awaits class c d (Some Ready) is = absurd (none-some c is)
+  phase-awaits class c d (Some Running) is = absurd (none-some c is)
+  phase-awaits class c d (Some Erroneous) is = absurd (none-some c is)
+  phase-awaits class c d None is = absurd (none-some c is)
+
+  static-awaits : (class c : ℕ) (method : Option ℕ) → awaited s.shared (action.Invokestatic class method) ≡ Some c
+      → invokes_static w r.class (Some class) method s.shared f.operands ≡ done s.shared (Initializes c)
+  static-awaits class c None is = absurd (none-some c is)
+  static-awaits class c (Some method) is = phase-awaits class c (done s.shared (invokes_method w method f.operands)) (phase_of s.shared class) is
+
+  invoked-awaits : (class : Option ℕ) (c : ℕ) → awaited s.shared (invokes_by w.program r class) ≡ Some c
+      → invokes_static w r.class class (option_and_then (declared_method w.program r.member) class) s.shared f.operands ≡ done s.shared (Initializes c)
+  invoked-awaits None c is = absurd (none-some c is)
+  invoked-awaits (Some class) c is = static-awaits class c (declared_method w.program r.member class) is
 
 -- ---- every line
 
@@ -458,7 +508,7 @@ acted : (w : World) (line : Line) (s : State) (f : Frame) (op : Operation) (a : 
 acted w line s f op a is acts_so =
     subst (λ x. ActsAs w (instruction_by op line) s f (does w op s.shared f.locals f.operands) (acts_by w line s f x)) (same_Some a line.action is) acts_so
 
-pub op-acts : (w : World) (line : Line) (s : State) (f : Frame) (op : Operation) → fresh s.shared.phases ≡ 0 → IsTied w.program line op
+pub op-acts : (w : World) (line : Line) (s : State) (f : Frame) (op : Operation) → awaited s.shared line.action ≡ None → IsTied w.program line op
     → ActsAs w (instruction_by op line) s f (does w op s.shared f.locals f.operands) (acts w line s f)
 op-acts w line s f (Within l) none tied = acted w line s f (Within l) (local_action l) tied.action (within-acts w line s f l (tied.alone l refl))
 op-acts w line s f (Getstatic r) none tied =
@@ -470,15 +520,18 @@ op-acts w line s f (Invokevirtual r) none tied =
     subst (λ a. ActsAs w (instruction_by (Invokevirtual r) line) s f (does w (Invokevirtual r) s.shared f.locals f.operands) (acts_by w line s f a)) found.1
     (println-acts w line r s f found.0)
 op-acts w line s f (Invokestatic r) none tied =
-    acted w line s f (Invokestatic r) (invokes_by w.program r (class_of_reference w.program r)) tied.action (invoked-as w line r s f none (class_of_reference w.program r))
+    acted w line s f (Invokestatic r) (invokes_by w.program r (class_of_reference w.program r)) tied.action
+    (invoked-as w line r s f (class_of_reference w.program r)
+    (ap (awaited s.shared) (same_Some (invokes_by w.program r (class_of_reference w.program r)) line.action tied.action) ∙ none))
 op-acts w line s f (Putstatic r) none tied = absurd (none-some line.action tied.action)
 op-acts w line s f Athrow none tied = acted w line s f Athrow action.Athrow tied.action (athrow-acts w line s f (ref_of f.operands))
 op-acts w line s f Monitor none tied =
     acted w line s f Monitor action.Monitor tied.action
-    (asked-acts w line Monitor s f (watches (ref_of f.operands) f.locals f.operands) refl (watches-starts (ref_of f.operands) f.locals f.operands))
+    (asked-acts w line Monitor s f (watches (ref_of f.operands) f.locals f.operands) refl
+    (stays-starts _ (watches-stays (ref_of f.operands) f.locals f.operands)))
 op-acts w line s f Arraylength none tied =
     acted w line s f Arraylength action.Arraylength tied.action
-    (asked-acts w line Arraylength s f (measures (ref_of f.operands) s.shared f.locals f.operands) refl (measures-starts (ref_of f.operands) s.shared f.locals f.operands))
+    (asked-acts w line Arraylength s f (measures (ref_of f.operands) s.shared f.locals f.operands) refl (stays-starts _ (measures-stays (ref_of f.operands) s.shared f.locals f.operands)))
 op-acts w line s f (Newarray code) none tied =
     acted w line s f (Newarray code) (action.Newarray (array_kind code)) tied.action
     (done-acts w line (Newarray code) s f (makes (array_kind code) (int_of f.operands) s.shared f.locals f.operands) refl
@@ -486,8 +539,35 @@ op-acts w line s f (Newarray code) none tied =
 op-acts w line s f (LoadElement k) none tied =
     acted w line s f (LoadElement k) (action.LoadElement k) tied.action
     (asked-acts w line (LoadElement k) s f (loads_element k (place_of f.operands) s.shared f.locals f.operands) refl
-    (loads-starts k (place_of f.operands) s.shared f.locals f.operands))
+    (stays-starts _ (loads-stays k (place_of f.operands) s.shared f.locals f.operands)))
 op-acts w line s f (StoreElement k) none tied =
     acted w line s f (StoreElement k) (action.StoreElement k) tied.action
     (done-acts w line (StoreElement k) s f (stores_element w.program k (storing_of k f.operands) s.shared f.locals f.operands) refl
     (stores-silent w.program k (storing_of k f.operands) s.shared f.locals f.operands))
+
+-- a line that awaits a class is one of an invocation, whose class is initialized before
+local-awaits : (s : Shared) (l : Local) → awaited s (local_action l) ≡ None
+local-awaits s (Return k) = refl
+local-awaits s l = refl
+
+pub op-awaits : (w : World) (line : Line) (s : State) (f : Frame) (op : Operation) (c : ℕ) → awaited s.shared line.action ≡ Some c → IsTied w.program line op
+    → does w op s.shared f.locals f.operands ≡ done s.shared (Initializes c)
+op-awaits w line s f op c is tied = by op tied.action where
+  -- with another action none is awaited
+  never : (a : Action) → Some a ≡ Some line.action → awaited s.shared a ≡ None → ⊥
+  never a same none = none-some c (sym none ∙ (ap (awaited s.shared) (same_Some a line.action same) ∙ is))
+
+  by : (o : Operation) → action_of w.program o ≡ Some line.action → does w o s.shared f.locals f.operands ≡ done s.shared (Initializes c)
+  by (Within l) e = absurd (never (local_action l) e (local-awaits s.shared l))
+  by (Getstatic r) e = absurd (let found = named-action (is_out r) action.Out line.action e in never action.Out (ap Some found.1) refl)
+  by (Invokevirtual r) e = absurd (let found = named-action (is_println r) action.Println line.action e in never action.Println (ap Some found.1) refl)
+  by (Invokestatic r) e =
+      invoked-awaits w line r s f (class_of_reference w.program r) c
+      (ap (awaited s.shared) (same_Some (invokes_by w.program r (class_of_reference w.program r)) line.action e) ∙ is)
+  by (Putstatic r) e = absurd (none-some line.action e)
+  by Athrow e = absurd (never action.Athrow e refl)
+  by Monitor e = absurd (never action.Monitor e refl)
+  by Arraylength e = absurd (never action.Arraylength e refl)
+  by (Newarray code) e = absurd (never (action.Newarray (array_kind code)) e refl)
+  by (LoadElement k) e = absurd (never (action.LoadElement k) e refl)
+  by (StoreElement k) e = absurd (never (action.StoreElement k) e refl)

@@ -2,11 +2,13 @@
 -- that can not be used not at all.
 use Rattle.std.proofs.Common.{◌≡◌, ℕ, List, [], ◌∷◌, slice_get, Option, Some, None, Result, refl, sym, ap, subst, ◌∙◌}
 use Rattle.std.specs.Result.{OnOk}
+use Rattle.std.proofs.lemmas.Option.{none-some}
 use Rattle.jf_bytes.specs.declared.error.NoMemory.{NoMemory}
 use Rattle.frame_stack.specs.FrameLists.{PlacedFrame}
 use Rattle.jvm_model.specs.declared.state.Frame.{Frame}
 use Rattle.jvm_model.specs.declared.state.State.{State}
 use Rattle.jvm_model.specs.declared.state.Phase.{Phase}
+use Rattle.jvm_model.specs.declared.state.Shared.{Shared}
 use Rattle.jvm_model.specs.declared.state.Phase.TheVariants.{Fresh, Ready, Running, Erroneous}
 use Rattle.jvm_model.specs.Data.{World}
 use Rattle.jvm_model.specs.Applies.{applies}
@@ -14,10 +16,11 @@ use Rattle.jvm_model.specs.Originals.{original}
 use Rattle.jvm_model.specs.Programs.{name_at}
 use Rattle.jvm_model.specs.ObjectRules.{done}
 use Rattle.jvm_model.specs.Rules.{when_ready, invokes_method}
+use Rattle.jvm_steps.specs.declared.line.Action.TheVariants.{Invokestatic}
 use Rattle.jvm_steps.specs.declared.line.Line.{Line}
 use Rattle.jvm_steps.specs.declared.originals.Exception.TheVariants.{NoClassDefinition}
 use Rattle.jvm_steps.specs.declared.parts.Parts.{Parts}
-use Rattle.jvm_steps.specs.Acts.{Becomes, IsTop, placed_line, acts_invokestatic, on_parts, on_top, raising}
+use Rattle.jvm_steps.specs.Acts.{Becomes, IsTop, placed_line, acts_invokestatic, awaited, fresh_class, on_parts, on_top, raising}
 use Rattle.jvm_steps.specs.Invoking.{acts_invoke}
 use Rattle.jvm_steps.specs.States.{frame_in, state_in, state_with}
 use Rattle.jvm_steps.proofs.Callees.{came-to}
@@ -88,3 +91,9 @@ becomes-unusable result new old w line class callee m method known top phase is 
     subst (λ (x : Option ℕ). Becomes result new (acts_invokestatic w line class x) old) (sym known)
     (came-to result new (raising w NoClassDefinition (name_at w.program class) old) (on_parts (acts_invokestatic w line class (Some m)) old)
     (sym (on-unusable w line class m old phase is e method old.frames.frames top)) made)
+
+-- the class is not fresh where none is awaited
+pub never-fresh : (s : Shared) (class : ℕ) (callee : Option ℕ) (m : ℕ) → callee ≡ Some m → awaited s (Invokestatic class callee) ≡ None
+    → slice_get s.phases class ≡ Some Fresh → ⊥
+never-fresh s class callee m known none is =
+    none-some class (sym none ∙ (ap (λ x. awaited s (Invokestatic class x)) known ∙ ap (fresh_class class) is))

@@ -1,23 +1,28 @@
 -- What the current frame does by itself is a step of the run: nothing follows from it.
-use Rattle.std.proofs.Common.{◌≡◌, ℕ, ◌+◌, Bool, true, false, cond, List, [], ◌∷◌, Option, Some, None, refl, sym, ap, ◌∙◌}
+use Rattle.std.proofs.Common.{◌≡◌, ℕ, suc, ◌+◌, Bool, true, false, cond, List, [], ◌∷◌, length, map, Option, Some, None, refl, sym, ap, ◌∙◌}
 use Rattle.std.specs.Prelude.{is_some, is_none, nat_le, ◌&&◌, ◌||◌}
 use Rattle.frame_stack.specs.Widths.{height_of}
 use Rattle.frame_stack.specs.FrameLists.{PlacedFrame, FramesView, has_frame}
 use Rattle.jvm_model.specs.declared.ending.Ending.{Ending}
+use Rattle.jvm_model.specs.declared.state.State.{State}
 use Rattle.jvm_model.specs.Data.{World, Text}
 use Rattle.jvm_model.specs.Originals.{original}
 use Rattle.jvm_model.specs.Run.{step}
 use Rattle.jvm_basic.specs.declared.effect.Effect.TheVariants.{Next}
-use Rattle.jvm_basic.specs.Outcomes.{Outcome, GoesOn, Raises, Breaks, Leaves, frames_in, with_top, asked, effect_of, after}
+use Rattle.jvm_basic.specs.Outcomes.{Outcome, GoesOn, Raises, Breaks, Leaves, can_hold, frames_in, with_top, asked, effect_of, after}
 use Rattle.jvm_basic.specs.Rules.{rule_of}
 use Rattle.jvm_steps.specs.declared.line.Line.{Line}
+use Rattle.jvm_steps.specs.declared.markers.Marker.{Marker}
 use Rattle.jvm_steps.specs.declared.parts.Parts.{Parts}
-use Rattle.jvm_steps.specs.Acts.{acts_by, attempts_line, is_at_rest}
+use Rattle.jvm_steps.specs.Acts.{acts_by, attempts_line, attempts_on, awaited, awaited_by, awaited_on, is_at_rest}
+use Rattle.jvm_steps.specs.Lines.{line_at}
+use Rattle.jvm_steps.specs.Markers.{marker_on, state_of, with_markers}
 use Rattle.jvm_steps.specs.Runs.{IsCalm, IsPlainLine, LeadsPlainly}
-use Rattle.jvm_steps.specs.States.{frame_in, state_with}
+use Rattle.jvm_steps.specs.States.{active, frame_in, state_with}
 use Rattle.jvm_steps.proofs.Alone.{goes-next}
 use Rattle.jvm_steps.proofs.Leading.{leads-none, leads-one, leads-on}
-use Rattle.jvm_steps.proofs.LineSteps.{rests, step-is}
+use Rattle.jvm_steps.proofs.Carried.{comes-carried, length-active}
+use Rattle.jvm_steps.proofs.LineSteps.{going-on, rests, step-attempts, top-frame}
 
 -- ---- nothing follows
 
@@ -37,41 +42,78 @@ at-rest None (Some r) framed none calm is = absurd cc
 at-rest None None true none calm is = refl
 at-rest None None false none calm is = absurd cc
 
-goes : (ending : Option Ending) → ending ≡ None → (is_none ending && true) ≡ true
-goes None none = refl
-goes (Some e) none = absurd cc
+-- the frames are as many
+still-many : (x : Outcome) (fs : List PlacedFrame) → length (frames_in x fs) ≡ length fs
+still-many (GoesOn l o place) [] = refl
+still-many (GoesOn l o place) (f ∷ fs) = by (nat_le (height_of o) f.max_stack) where
+  by : (b : Bool) → length (cond b (with_top l o place (f ∷ fs)) (f ∷ fs)) ≡ length (f ∷ fs)
+  by true = refl
+  by false = refl
+still-many (Raises class) fs = refl
+still-many Breaks fs = refl
+still-many Leaves fs = refl
+
+-- the run goes on with such frames, or rests, where nothing is thrown and no marker stands on them
+framed : (n : ℕ) (ms : List Marker) (fs : List PlacedFrame) → marker_on n ms ≡ None → length fs ≡ n → has_frame fs ≡ true
+    → (has_frame fs && is_none (marker_on (length fs) ms)) ≡ true
+framed n ms fs none many is =
+    ap (λ b. b && is_none (marker_on (length fs) ms)) is ∙ ap is_none (ap (λ k. marker_on k ms) many ∙ none)
+
+goes : (ending : Option Ending) (b : Bool) → ending ≡ None → b ≡ true → (is_none ending && b) ≡ true
+goes None true none is = refl
+goes None false none is = absurd cc
+goes (Some e) b none is = absurd cc
 
 -- ---- a step
 
-plain-at : (w : World) (line : Line) (p : Parts) (fs : List PlacedFrame) (room : Option ℕ) (new : FramesView) → IsCalm p → IsPlainLine w fs line
+plain-at : (w : World) (line : Line) (ms : List Marker) (p : Parts) (fs : List PlacedFrame) (room : Option ℕ) (new : FramesView) → IsCalm (length fs) ms p
+    → IsPlainLine w fs line
     → (let old : FramesView = record { frames = fs; room = room } in effect_of (rule_of line.instr line.constant line.next) old ≡ Next)
     → (let old : FramesView = record { frames = fs; room = room } in new ≡ after (rule_of line.instr line.constant line.next) old)
-    → state_with new.frames p ≡ (step w (original w.program) (state_with fs p)).after
-plain-at w line p [] room new calm stands e made = absurd stands
-plain-at w line p (f ∷ fs) room new calm stands e made =
+    → with_markers ms (state_with new.frames p) ≡ (step w (original w.program) (with_markers ms (state_with fs p))).after
+plain-at w line ms p [] room new calm stands e made = absurd stands
+plain-at w line ms p (f ∷ fs) room new calm stands e made =
     let old : FramesView = record { frames = f ∷ fs; room = room } in
     let q : Parts = record p { frames = old } in
     let r : Parts = record p { frames = new } in
-    let framed : has_frame new.frames ≡ true =
-    ap (λ (s : FramesView). has_frame s.frames) made ∙ still-framed (asked (rule_of line.instr line.constant line.next) (f ∷ fs)) f fs in
-    step-is w q (state_with new.frames p) (state_with new.frames p) calm.ready (goes p.ending calm.ending)
-    (goes-next w line q f.method new refl e made
-    ∙ sym (ap (attempts_line w (state_with fs p) (frame_in f)) stands.0 ∙ ap (acts_by w line (state_with fs p) (frame_in f)) stands.1))
-    (rests w (original w.program) r (at-rest p.ending p.thrown (has_frame new.frames) calm.ending calm.thrown framed))
+    let x : Outcome = asked (rule_of line.instr line.constant line.next) (f ∷ fs) in
+    let has : has_frame new.frames ≡ true = ap (λ (s : FramesView). has_frame s.frames) made ∙ still-framed x f fs in
+    let many : length new.frames ≡ length (f ∷ fs) = ap (λ (s : FramesView). length s.frames) made ∙ still-many x (f ∷ fs) in
+    let free : marker_on (suc (length (map active fs))) ms ≡ None = ap (λ n. marker_on (suc n) ms) (length-active fs) ∙ calm.unmarked in
+    let going = going-on ms q (goes p.ending (has_frame (f ∷ fs) && is_none (marker_on (length (f ∷ fs)) ms)) calm.ending (framed (length (f ∷ fs)) ms (f ∷ fs) calm.unmarked refl refl)) in
+    let s : State = state_with fs p in
+    let attempted : with_markers ms (state_with new.frames p) ≡ attempts_line w (with_markers ms s) (frame_in f) (line_at w.program f.version f.place) =
+        ap (with_markers ms) (goes-next w line q f.method new refl e made)
+        ∙ (comes-carried ms w line s (frame_in f) (rule_of line.instr line.constant line.next f.locals f.operands) free
+        ∙ sym (ap (attempts_line w (with_markers ms s) (frame_in f)) stands.0 ∙ ap (acts_by w line (with_markers ms s) (frame_in f)) stands.1)) in
+    step-attempts w (state_of ms q) going
+    (ap (awaited_on w p.shared) (top-frame ms f fs calm.unmarked) ∙ (ap (awaited_by p.shared) stands.0 ∙ ap (awaited p.shared) stands.1))
+    (with_markers ms (state_with new.frames p)) (with_markers ms (state_with new.frames p))
+    (attempted ∙ sym (ap (attempts_on w (state_of ms q)) (top-frame ms f fs calm.unmarked)))
+    (rests w (original w.program) ms r
+    (at-rest p.ending p.thrown (has_frame new.frames && is_none (marker_on (length new.frames) ms)) calm.ending calm.thrown (framed (length (f ∷ fs)) ms new.frames calm.unmarked many has)))
 
-goes-on : (p : Parts) → IsCalm p → is_some p.ending ≡ false
-goes-on p calm = ap is_some calm.ending
+goes-on : (n : ℕ) (ms : List Marker) (p : Parts) → IsCalm n ms p → is_some p.ending ≡ false
+goes-on n ms p calm = ap is_some calm.ending
 
 pub plain-one : (w : World) (line : Line) (old new : FramesView) → IsPlainLine w old.frames line
     → effect_of (rule_of line.instr line.constant line.next) old ≡ Next → new ≡ after (rule_of line.instr line.constant line.next) old
     → LeadsPlainly w old.frames 1 new.frames
-plain-one w line old new stands e made = λ p calm.
-    leads-one w (state_with old.frames p) (state_with new.frames p) (goes-on p calm) (plain-at w line p old.frames old.room new calm stands e made)
+plain-one w line old new stands e made = record {
+  many = ap (λ (s : FramesView). length s.frames) made ∙ still-many (asked (rule_of line.instr line.constant line.next) old.frames) old.frames;
+  leads = λ ms p calm.
+      leads-one w (with_markers ms (state_with old.frames p)) (with_markers ms (state_with new.frames p)) (goes-on (length old.frames) ms p calm)
+      (plain-at w line ms p old.frames old.room new calm stands e made);
+}
 
 pub plain-none : (w : World) (fs : List PlacedFrame) → LeadsPlainly w fs 0 fs
-plain-none w fs = λ p calm. leads-none w (state_with fs p)
+plain-none w fs = record { many = refl; leads = λ ms p calm. leads-none w (with_markers ms (state_with fs p)) }
 
 pub plain-on : (w : World) (old mid new : List PlacedFrame) (n m : ℕ) → LeadsPlainly w old n mid → LeadsPlainly w mid m new
     → LeadsPlainly w old (n + m) new
-plain-on w old mid new n m first second = λ p calm.
-    leads-on w (state_with old p) (state_with mid p) (state_with new p) n m (first p calm) (second p calm)
+plain-on w old mid new n m first second = record {
+  many = second.many ∙ first.many;
+  leads = λ ms p calm.
+      leads-on w (with_markers ms (state_with old p)) (with_markers ms (state_with mid p)) (with_markers ms (state_with new p)) n m (first.leads ms p calm)
+      (second.leads ms p (record { ending = calm.ending; thrown = calm.thrown; unmarked = ap (λ k. marker_on k ms) first.many ∙ calm.unmarked }));
+}

@@ -14,6 +14,9 @@ use Rattle.jvm_model.specs.declared.program.Program.{Program}
 use Rattle.jvm_model.specs.declared.state.Entry.{Entry}
 use Rattle.jvm_model.specs.declared.state.Entry.TheVariants.{Active, Initializing}
 use Rattle.jvm_model.specs.declared.state.Frame.{Frame}
+use Rattle.jvm_model.specs.declared.state.Phase.{Phase}
+use Rattle.jvm_model.specs.declared.state.Phase.TheVariants.{Fresh}
+use Rattle.jvm_model.specs.declared.state.Shared.{Shared}
 use Rattle.jvm_model.specs.declared.state.State.{State}
 use Rattle.jvm_model.specs.Data.{Operands, World, Nop, Within, Instruction, Outcome, Returns, Done}
 use Rattle.jvm_model.specs.Applies.{breaks, goes, throws_at, applies}
@@ -23,7 +26,7 @@ use Rattle.jvm_model.specs.LocalRules.{returns, arithmetic_exception, by_zero}
 use Rattle.jvm_model.specs.ObjectRules.{loads_element, makes, measures, place_of, stores_element, storing_of, throws, watches}
 use Rattle.jvm_model.specs.Originals.{original}
 use Rattle.jvm_model.specs.Rules.{is_print_stream, line_text, invokes_static}
-use Rattle.jvm_model.specs.SharedState.{no_class_definition, raised}
+use Rattle.jvm_model.specs.SharedState.{no_class_definition, phase_of, raised}
 use Rattle.jvm_model.specs.Values.{as_value, int_of, ref_of, with_value}
 use Rattle.jvm_basic.specs.declared.effect.Effect.{Effect}
 use Rattle.jvm_basic.specs.declared.effect.Effect.TheVariants.{Next, Throws, Bad, Other}
@@ -32,9 +35,11 @@ use Rattle.jvm_basic.specs.Rules.{rule_of}
 use Rattle.jvm_steps.specs.declared.line.Action.{Action}
 use Rattle.jvm_steps.specs.declared.line.Action.TheVariants as action
 use Rattle.jvm_steps.specs.declared.line.Line.{Line}
+use Rattle.jvm_steps.specs.declared.markers.Marker.{Marker}
 use Rattle.jvm_steps.specs.declared.originals.Exception.{Exception}
 use Rattle.jvm_steps.specs.declared.parts.Parts.{Parts}
 use Rattle.jvm_steps.specs.Lines.{line_at}
+use Rattle.jvm_steps.specs.Markers.{is_unmarked, state_of, with_markers}
 use Rattle.jvm_steps.specs.Prepared.{exception_name}
 use Rattle.jvm_steps.specs.States.{frame_in, state_with, state_in}
 
@@ -217,10 +222,54 @@ abbrev pub raising : World → Exception → Option (List ℕ) → Parts → Par
 raising w e message p =
     let a = raised w p.shared (exception_name e) message in record p { shared = a.shared; thrown = Some a.reference }
 
--- nothing follows by itself: the run has ended, or there is a frame, and nothing is thrown
-abbrev pub is_at_rest : Parts → Bool
-is_at_rest p = is_some p.ending || (is_none p.thrown && has_frame p.frames.frames)
+-- nothing follows by itself: the run has ended, or nothing is thrown, and there is a frame with no marker on it
+abbrev pub is_at_rest : List Marker → Parts → Bool
+is_at_rest ms p = is_some p.ending || (is_none p.thrown && (has_frame p.frames.frames && is_unmarked ms p))
 
--- the run has not ended, and there is a frame
-abbrev pub goes_on_in : Parts → Bool
-goes_on_in p = is_none p.ending && has_frame p.frames.frames
+-- the run has not ended, and there is a frame with no marker on it
+abbrev pub goes_on_in : List Marker → Parts → Bool
+goes_on_in ms p = is_none p.ending && (has_frame p.frames.frames && is_unmarked ms p)
+
+-- ---- a class that is initialized before
+
+abbrev pub fresh_class : ℕ → Option Phase → Option ℕ
+fresh_class class (Some Fresh) = Some class
+fresh_class class _ = None
+
+-- before a line with this action (5.5): that of a static method that is invoked, where it is fresh
+abbrev pub awaited : Shared → Action → Option ℕ
+awaited s (action.Invokestatic class (Some method)) = fresh_class class (phase_of s class)
+awaited s _ = None
+
+abbrev pub awaited_by : Shared → Option Line → Option ℕ
+awaited_by s None = None
+awaited_by s (Some line) = awaited s line.action
+
+-- before the line of the current frame
+abbrev pub awaited_on : World → Shared → List Entry → Option ℕ
+awaited_on w s (Active f ∷ below) = awaited_by s (line_at w.program f.version f.place)
+awaited_on w s _ = None
+
+abbrev pub awaited_in : World → State → Option ℕ
+awaited_in w s = awaited_on w s.shared s.stack
+
+-- where none is, the line is attempted
+abbrev pub IsAttempt : World → Option ℕ → State → State → Type 0
+IsAttempt w None old new = new ≡ attempts_on w old old.stack
+IsAttempt w (Some class) old new = new ≡ old
+
+-- a return that no caller sees: the activation of a static initializer ends
+abbrev pub ends_initializer : Line → State → Frame → Outcome → State
+ends_initializer line s f (Returns d) = s
+ends_initializer line s f _ = record s { ending = Some (Unverifiable f.method line.instr.at) }
+
+abbrev pub acts_end : Line → Option Kind → State → Frame → State
+acts_end line k s f = ends_initializer line s f (returns k f.operands)
+
+-- the parts are then, beneath these markers, what becomes of the state by its top frame
+abbrev pub becomes_beneath : List Marker → (State → Frame → State) → Parts → List PlacedFrame → State
+becomes_beneath ms does p [] = state_of ms p
+becomes_beneath ms does p (f ∷ fs) = does (with_markers ms (state_with fs p)) (frame_in f)
+
+abbrev pub BecomesBeneath : {A : Type 0} → Result A NoMemory → List Marker → Parts → (State → Frame → State) → Parts → Type 0
+BecomesBeneath result ms new does old = OnOk result (state_of ms new ≡ becomes_beneath ms does old old.frames.frames)

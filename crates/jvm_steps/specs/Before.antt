@@ -1,4 +1,4 @@
--- The state before the start of a program, on whatever input, and what the start makes ready.
+-- The state before the start of a program, on whatever input, and what makes the first class ready.
 use Rattle.std.specs.Prelude.{◌≡◌, ◌≤◌, ℕ, List, [], ◌∷◌, ◌++◌}
 use Rattle.jvm_model.specs.declared.program.Program.{Program}
 use Rattle.jvm_model.specs.declared.state.Phase.TheVariants.{Ready}
@@ -12,7 +12,12 @@ use Rattle.jvm_model.specs.SharedState.{with_phase}
 abbrev pub BeforeEach : Program → (State → Type 0) → Type 0
 BeforeEach p Holds = (input : List ℕ) → Holds (before (record { program = p; input = input }))
 
--- before the start, of a program without arguments whose heap has room for the objects of the start
+-- A program that can start so far: it has no arguments, and its heap has room for the objects of the start.
+pub record CanStart (p : Program) : Type 0 where
+  pub plain : p.args ≡ []
+  pub room : 1024 ≤ p.heap
+
+-- before the start of such a program
 pub record IsAtStart (w : World) (s : State) : Type 0 where
   pub before : s ≡ before w
   pub plain : w.program.args ≡ []

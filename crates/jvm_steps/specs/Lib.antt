@@ -1,4 +1,5 @@
 pub mod States
+pub mod Markers
 pub mod Lines
 pub mod Prepared
 pub mod Settling
@@ -8,6 +9,7 @@ pub mod Returning
 pub mod Before
 pub mod Arguments
 pub mod Invoking
+pub mod Initializing
 pub mod Entries
 pub mod Raising
 pub mod Elements

@@ -9,11 +9,11 @@ use Rattle.jvm_model.specs.declared.program.Program.{Program}
 use Rattle.jvm_model.specs.LocalRules.{arithmetic_exception}
 use Rattle.jvm_model.specs.Methods.{code_of}
 use Rattle.jvm_model.specs.Programs.{params_of_method, max_stack_of, max_locals_of}
-use Rattle.jvm_model.specs.SharedState.{kind_for, string, array_store, index_outside, negative_array_size, no_class_definition, no_such_method, null_pointer, stack_overflow}
+use Rattle.jvm_model.specs.SharedState.{kind_for, string, array_store, in_initializer, index_outside, negative_array_size, no_class_definition, no_such_method, null_pointer, stack_overflow}
 use Rattle.jvm_steps.specs.declared.line.Line.{Line}
 use Rattle.jvm_steps.specs.declared.originals.Method.{Method}
 use Rattle.jvm_steps.specs.declared.originals.Exception.{Exception}
-use Rattle.jvm_steps.specs.declared.originals.Exception.TheVariants.{Arithmetic, ArrayStore, IndexOutside, NegativeArraySize, NoClassDefinition, NoSuchMethod, NullPointer, StackOverflow}
+use Rattle.jvm_steps.specs.declared.originals.Exception.TheVariants.{Arithmetic, ArrayStore, InInitializer, IndexOutside, NegativeArraySize, NoClassDefinition, NoSuchMethod, NullPointer, StackOverflow}
 use Rattle.jvm_steps.specs.declared.originals.Exceptions.{Exceptions}
 use Rattle.jvm_steps.specs.Lines.{line_at}
 
@@ -37,6 +37,7 @@ pub record FitsOriginals (p : Program) : Type 0 where
 abbrev pub exception_name : Exception → List ℕ
 exception_name Arithmetic = arithmetic_exception
 exception_name ArrayStore = array_store
+exception_name InInitializer = in_initializer
 exception_name IndexOutside = index_outside
 exception_name NegativeArraySize = negative_array_size
 exception_name NoClassDefinition = no_class_definition
@@ -51,6 +52,7 @@ exception_kind p e = kind_for p (exception_name e)
 abbrev pub exception_in : Exceptions → Exception → ℕ
 exception_in x Arithmetic = x.arithmetic
 exception_in x ArrayStore = x.array_store
+exception_in x InInitializer = x.in_initializer
 exception_in x IndexOutside = x.index_outside
 exception_in x NegativeArraySize = x.negative_array_size
 exception_in x NoClassDefinition = x.no_class_definition
@@ -65,6 +67,7 @@ line_in place m = option_flatten (slice_get m.lines place)
 
 pub record IsPrepared (p : Program) (methods : List Method) (exceptions : Exceptions) : Type 0 where
   pub few : length p.classes < 2 ^ 24
+  pub numbered : length p.methods < 2 ^ 32
   pub params : (k : ℕ) → option_and_then (λ m. m.params) (slice_get methods k) ≡ params_of_method p k
   pub max_stack : (k : ℕ) → option_map_or (λ m. m.max_stack) (slice_get methods k) 0 ≡ max_stack_of (record { program = p; input = [] }) k
   pub max_locals : (k : ℕ) → option_map_or (λ m. m.max_locals) (slice_get methods k) 0 ≡ max_locals_of (record { program = p; input = [] }) k

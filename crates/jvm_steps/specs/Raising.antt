@@ -8,8 +8,9 @@ use Rattle.jvm_model.specs.SharedState.{null}
 abbrev pub reference_made : HeapView → ℕ
 reference_made h = if nat_le (h.used + 3) h.limit then next_number h else 1
 
-abbrev pub heap_made : ℕ → HeapView → HeapView
-heap_made kind h = if nat_le (h.used + 3) h.limit then with_instance kind (null ∷ null ∷ []) h else h
+-- with this cause
+abbrev pub heap_made : ℕ → ℕ → HeapView → HeapView
+heap_made kind cause h = if nat_le (h.used + 3) h.limit then with_instance kind (null ∷ Ref cause ∷ []) h else h
 
 -- behind the text of its message
 abbrev pub with_both : ℕ → ℕ → List ℕ → HeapView → HeapView

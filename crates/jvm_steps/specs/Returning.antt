@@ -1,8 +1,9 @@
 -- Returns over the parts of a machine.
-use Rattle.std.specs.Prelude.{ℕ, Option, Some, None}
+use Rattle.std.specs.Prelude.{ℕ, Bool, true, Option, Some, None, is_some}
 use Rattle.heap_objects.specs.declared.datum.Datum.{Datum}
 use Rattle.const_pool.specs.declared.descriptor.Kind.{Kind}
 use Rattle.frame_stack.specs.FrameLists.{top_operands, without_frame}
+use Rattle.jvm_model.specs.Data.{Operands}
 use Rattle.jvm_model.specs.declared.program.Program.{Program}
 use Rattle.jvm_model.specs.declared.state.State.{State}
 use Rattle.jvm_steps.specs.declared.parts.Parts.{Parts}
@@ -21,3 +22,8 @@ returns_found p method own (Some d) parts = let s = left_by parts in gives_back_
 
 abbrev pub returns_given : Program → ℕ → ℕ → Kind → Parts → State
 returns_given p method own k parts = returns_found p method own (top_datum k (top_operands parts.frames.frames)) parts
+
+-- the operand on top is a result of this kind, where there is to be one
+abbrev pub has_result : Option Kind → Operands → Bool
+has_result None o = true
+has_result (Some k) o = is_some (top_datum k o)

@@ -1,15 +1,16 @@
 -- Several steps of the run of original code.
-use Rattle.std.specs.Prelude.{◌≡◌, ℕ, zero, suc, ◌<◌, false, List, [], ◌∷◌, Some, None, is_some, refl}
+use Rattle.std.specs.Prelude.{◌≡◌, ℕ, zero, suc, ◌<◌, false, List, [], ◌∷◌, length, Some, None, is_some, refl}
 use Rattle.frame_stack.specs.FrameLists.{PlacedFrame}
 use Rattle.jvm_model.specs.declared.state.State.{State}
 use Rattle.jvm_model.specs.Data.{World}
-use Rattle.jvm_model.specs.Moves.{fresh}
 use Rattle.jvm_model.specs.Originals.{original}
 use Rattle.jvm_model.specs.Run.{step}
 use Rattle.jvm_steps.specs.declared.line.Action.TheVariants.{Local}
 use Rattle.jvm_steps.specs.declared.line.Line.{Line}
+use Rattle.jvm_steps.specs.declared.markers.Marker.{Marker}
 use Rattle.jvm_steps.specs.declared.parts.Parts.{Parts}
 use Rattle.jvm_steps.specs.Lines.{line_at}
+use Rattle.jvm_steps.specs.Markers.{marker_on, with_markers}
 use Rattle.jvm_steps.specs.States.{state_with}
 
 -- the state after so many steps
@@ -37,12 +38,13 @@ abbrev pub IsPlainLine : World → List PlacedFrame → Line → Type 0
 IsPlainLine w [] line = ⊥
 IsPlainLine w (f ∷ fs) line = (line_at w.program f.version f.place ≡ Some line) × (line.action ≡ Local)
 
--- the run goes on, nothing is thrown, and no class is left to be initialized
-pub record IsCalm (p : Parts) : Type 0 where
+-- the run goes on, nothing is thrown, and no marker stands on so many frames
+pub record IsCalm (n : ℕ) (ms : List Marker) (p : Parts) : Type 0 where
   pub ending : p.ending ≡ None
   pub thrown : p.thrown ≡ None
-  pub ready : fresh p.shared.phases ≡ 0
+  pub unmarked : marker_on n ms ≡ None
 
--- so many steps change the frames to these, whatever else there is
-abbrev pub LeadsPlainly : World → List PlacedFrame → ℕ → List PlacedFrame → Type 0
-LeadsPlainly w old n new = (p : Parts) → IsCalm p → Leads w (state_with old p) n (state_with new p)
+-- So many steps change the frames to these, which are as many, whatever else there is.
+pub record LeadsPlainly (w : World) (old : List PlacedFrame) (n : ℕ) (new : List PlacedFrame) : Type 0 where
+  pub many : length new ≡ length old
+  pub leads : (ms : List Marker) (p : Parts) → IsCalm (length old) ms p → Leads w (with_markers ms (state_with old p)) n (with_markers ms (state_with new p))

@@ -36,7 +36,6 @@ pub fn measure(
 ) -> Result<(), NoMemory>
     requires top { IsTop method parts.old.frames.frames }
     ensures state { Becomes result parts.new (acts_arraylength originals.now line.now) parts.old }
-    ensures phases { OnOk result (parts.new.shared.phases ≡ parts.old.shared.phases) }
 {
     let Some(reference) = ref_of(&parts.frames) else {
         break_off(parts, method, line.instr.at);
@@ -68,7 +67,6 @@ pub fn make_array(
 ) -> Result<(), NoMemory>
     requires top { IsTop method parts.old.frames.frames }
     ensures state { Becomes result parts.new (acts_newarray originals.now line.now kind) parts.old }
-    ensures phases { OnOk result (parts.new.shared.phases ≡ parts.old.shared.phases) }
 {
     let Some(count) = int_of(&parts.frames) else {
         break_off(parts, method, line.instr.at);

@@ -1,11 +1,13 @@
 //! An attempt of the current frame's line.
 
-ghost use Rattle.std.specs.Prelude.{◌≡◌, ◌++◌, OnOk};
+ghost use Rattle.std.specs.Prelude.{◌≡◌, ◌++◌, ◌-◌, None, true, is_some, length, IfOk, OnOk};
 ghost use Rattle.jvm_model.specs.Families.{family_of};
-ghost use Rattle.jvm_model.specs.Moves.{fresh};
 ghost use Rattle.jvm_model.specs.Rules.{line_text};
+ghost use Rattle.jvm_model.specs.SharedState.{phase_of};
 ghost use Rattle.jvm_steps.specs.Acts.{IsTop, Becomes, on_parts, ended};
-ghost use Rattle.jvm_steps.specs.Acts.{acts, acts_alone, acts_out, acts_println, attempts_on};
+ghost use Rattle.jvm_steps.specs.Acts.{acts, acts_alone, acts_out, acts_println};
+ghost use Rattle.jvm_steps.specs.Acts.{BecomesBeneath, IsAttempt, awaited, awaited_in, fresh_class};
+ghost use Rattle.jvm_steps.specs.Markers.{marker_on, state_of};
 ghost use Rattle.jvm_steps.specs.States.{state_in};
 
 use crate::arrays::{make_array, measure};
@@ -13,14 +15,16 @@ use crate::elements::{load_element, store_element};
 use crate::going::{drop_printed, printable, put_out};
 use crate::invoking::invoke_static;
 use crate::line::{Action, Line};
+use crate::markers::{Marker, marker_on};
 use crate::monitors::watch;
 use crate::originals::{Exception, Originals};
 use crate::parts::{Parts, where_now};
 use crate::raising::{break_off, end_unless, raise_with};
-use crate::returning::return_by;
+use crate::returning::{end_initializer, return_by};
 use crate::throwing::throw_object;
-use jf_bytes::{NoMemory, Seq};
+use jf_bytes::{NoMemory, Seq, Stack};
 use jvm_basic::{Effect, basic_by};
+use jvm_model::{Phase, Shared};
 use std::alloc::Global;
 
 /// The message of a division by zero.
@@ -44,7 +48,6 @@ fn act_alone(
     requires top { IsTop method parts.old.frames.frames }
     requires family { line.now.family ≡ family_of line.now.instr.op }
     ensures state { Becomes result parts.new (acts_alone originals.now line.now) parts.old }
-    ensures phases { OnOk result (parts.new.shared.phases ≡ parts.old.shared.phases) }
 {
     let effect = basic_by(
         line.family,
@@ -66,7 +69,6 @@ fn act_alone(
 fn act_out(parts: &mut Parts, method: u32, line: &Line)
     requires top { IsTop method parts.old.frames.frames }
     ensures state { state_in parts.new ≡ on_parts (acts_out line.now) parts.old }
-    ensures phases { parts.new.shared.phases ≡ parts.old.shared.phases }
 {
     let effect = put_out(&mut parts.frames, line.next);
     end_unless(parts, method, line.instr.at, effect);
@@ -85,7 +87,6 @@ fn write_line(alloc: Global, output: &mut Seq<u8>, n: i32) -> Result<(), NoMemor
 fn act_println(alloc: Global, parts: &mut Parts, method: u32, line: &Line) -> Result<(), NoMemory>
     requires top { IsTop method parts.old.frames.frames }
     ensures state { Becomes result parts.new (acts_println line.now) parts.old }
-    ensures phases { OnOk result (parts.new.shared.phases ≡ parts.old.shared.phases) }
 {
     let Some(n) = printable(&parts.frames) else {
         break_off(parts, method, line.instr.at);
@@ -107,9 +108,8 @@ fn act(
 ) -> Result<(), NoMemory>
     requires top { IsTop method parts.old.frames.frames }
     requires family { line.now.family ≡ family_of line.now.instr.op }
-    requires none { fresh parts.old.shared.phases ≡ 0 }
+    requires none { awaited parts.old.shared line.now.action ≡ None }
     ensures state { Becomes result parts.new (acts originals.now line.now) parts.old }
-    ensures phases { OnOk result (parts.new.shared.phases ≡ parts.old.shared.phases) }
 {
     match &line.action {
         Action::Local => act_alone(originals, parts, method, line),
@@ -140,20 +140,106 @@ fn act(
     }
 }
 
+// ---- a class is initialized before
+
+/// The class itself, where it is fresh.
+fn fresh_class(shared: &Shared, class: u32) -> Option<u32>
+    ensures { result ≡ fresh_class class (phase_of shared.now class) }
+{
+    match shared.phases.at(class as usize) {
+        Some(Phase::Fresh) => Some(class),
+        Some(Phase::Running | Phase::Ready | Phase::Erroneous) => None,
+        None => None,
+    }
+}
+
+/// The class that is initialized before a line with this action, if one is (5.5).
+fn awaited(shared: &Shared, action: &Action) -> Option<u32>
+    ensures { result ≡ awaited shared.now action.now }
+{
+    match action {
+        Action::Invokestatic(class, Some(_)) => fresh_class(shared, *class),
+        _ => None,
+    }
+}
+
+// ---- beneath the markers
+
+/// Does a line of the frame of a static initializer: at its return no caller goes on.
+fn act_initializer(
+    alloc: Global,
+    originals: &Originals,
+    parts: &mut Parts,
+    markers: &Stack<Marker>,
+    method: u32,
+    line: &Line,
+) -> Result<(), NoMemory>
+    requires top { IsTop method parts.old.frames.frames }
+    requires family { line.now.family ≡ family_of line.now.instr.op }
+    requires none { awaited parts.old.shared line.now.action ≡ None }
+    requires unmarked { marker_on (length parts.old.frames.frames) markers.now ≡ None }
+    requires beneath {
+        is_some (marker_on (length parts.old.frames.frames - 1) markers.now) ≡ true }
+    ensures { BecomesBeneath result markers.now parts.new
+        (acts originals.now line.now) parts.old }
+{
+    match line.action {
+        Action::Return(kind) => {
+            end_initializer(parts, method, line, kind);
+            Ok(())
+        }
+        _ => act(alloc, originals, parts, method, line),
+    }
+}
+
+/// Does a line of the current frame, beneath the markers.
+fn act_marked(
+    alloc: Global,
+    originals: &Originals,
+    parts: &mut Parts,
+    markers: &Stack<Marker>,
+    method: u32,
+    line: &Line,
+) -> Result<(), NoMemory>
+    requires top { IsTop method parts.old.frames.frames }
+    requires family { line.now.family ≡ family_of line.now.instr.op }
+    requires none { awaited parts.old.shared line.now.action ≡ None }
+    requires unmarked { marker_on (length parts.old.frames.frames) markers.now ≡ None }
+    ensures { BecomesBeneath result markers.now parts.new
+        (acts originals.now line.now) parts.old }
+{
+    if marker_on(markers, parts.frames.depth() - 1).is_some() {
+        act_initializer(alloc, originals, parts, markers, method, line)
+    } else {
+        act(alloc, originals, parts, method, line)
+    }
+}
+
 /// Attempts what stands at the current frame's place: its instruction alone, without what follows
-/// from it.
-pub fn attempt(alloc: Global, originals: &Originals, parts: &mut Parts) -> Result<(), NoMemory>
-    requires { fresh parts.old.shared.phases ≡ 0 }
-    ensures state { let s = state_in parts.old in
-        OnOk result (state_in parts.new ≡ attempts_on originals.now s s.stack) }
-    ensures phases { OnOk result (parts.new.shared.phases ≡ parts.old.shared.phases) }
+/// from it. Where a class has to be initialized before, its position is the answer, and nothing has
+/// changed.
+pub fn attempt(
+    alloc: Global,
+    originals: &Originals,
+    parts: &mut Parts,
+    markers: &Stack<Marker>,
+) -> Result<Option<u32>, NoMemory>
+    requires { marker_on (length parts.old.frames.frames) markers.now ≡ None }
+    ensures answer { IfOk result (λ o.
+        o ≡ awaited_in originals.now (state_of markers.now parts.old)) }
+    ensures state { IfOk result (λ o. IsAttempt originals.now o
+        (state_of markers.now parts.old) (state_of markers.now parts.new)) }
 {
     let Some(here) = where_now(&parts.frames) else {
-        return Ok(());
+        return Ok(None);
     };
     let Some(line) = originals.line(here.version, here.place) else {
         break_off(parts, here.method, 0);
-        return Ok(());
+        return Ok(None);
     };
-    act(alloc, originals, parts, here.method, line)
+    if let Some(class) = awaited(&parts.shared, &line.action) {
+        return Ok(Some(class));
+    }
+    act_marked(alloc, originals, parts, markers, here.method, line)?;
+    Ok(None)
 }

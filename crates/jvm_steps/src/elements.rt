@@ -144,7 +144,6 @@ fn refuse(
     requires top { IsTop method parts.old.frames.frames }
     ensures state { Becomes result parts.new
         (acts_refused originals.now line.now led index) parts.old }
-    ensures phases { OnOk result (parts.new.shared.phases ≡ parts.old.shared.phases) }
 {
     match led {
         Led::ToNull => raise(originals, parts, Exception::NullPointer),
@@ -213,7 +212,6 @@ fn load(parts: &mut Parts, method: u32, line: &Line, datum: Datum)
     requires top { IsTop method parts.old.frames.frames }
     requires place { IsSome (place_of (top_operands parts.old.frames.frames)) }
     ensures state { state_in parts.new ≡ on_parts (acts_loaded line.now datum) parts.old }
-    ensures phases { parts.new.shared.phases ≡ parts.old.shared.phases }
 {
     recall(&parts.frames);
     let effect = replace_two(&mut parts.frames, value_of(datum), line.next);
@@ -231,7 +229,6 @@ pub fn load_element(
 ) -> Result<(), NoMemory>
     requires top { IsTop method parts.old.frames.frames }
     ensures state { Becomes result parts.new (acts_load originals.now line.now kind) parts.old }
-    ensures phases { OnOk result (parts.new.shared.phases ≡ parts.old.shared.phases) }
 {
     let Some(place) = place_of(&parts.frames) else {
         break_off(parts, method, line.instr.at);
@@ -251,7 +248,6 @@ fn store(parts: &mut Parts, method: u32, line: &Line, array: u32, slot: u32, dat
     requires slot { has_slot_at array slot parts.old.shared.heap ≡ true }
     ensures state { state_in parts.new
         ≡ on_parts (acts_stored line.now array slot datum) parts.old }
-    ensures phases { parts.new.shared.phases ≡ parts.old.shared.phases }
 {
     parts.shared.heap.put(array, slot, datum);
     recall(&parts.frames);
@@ -270,7 +266,6 @@ pub fn store_element(
 ) -> Result<(), NoMemory>
     requires top { IsTop method parts.old.frames.frames }
     ensures state { Becomes result parts.new (acts_store originals.now line.now kind) parts.old }
-    ensures phases { OnOk result (parts.new.shared.phases ≡ parts.old.shared.phases) }
 {
     let Some(storing) = storing_of(&parts.frames, kind) else {
         break_off(parts, method, line.instr.at);

@@ -1,11 +1,11 @@
 //! Invocation (JVM Specification 2.6, 2.6.1, 5.5, 6.5).
 
-ghost use Rattle.std.specs.Prelude.{◌≡◌, ◌<◌, ◌^◌, false, true, length, is_some, IfOk, OnOk};
-ghost use Rattle.jvm_model.specs.Moves.{fresh};
+ghost use Rattle.std.specs.Prelude.{◌≡◌, ◌<◌, ◌^◌, None, false, true, length, is_some, IfOk, OnOk};
 ghost use Rattle.jvm_model.specs.Values.{data_of, datum_of};
 ghost use Rattle.jvm_model.specs.Programs.{name_at};
+ghost use Rattle.jvm_steps.specs.declared.line.Action.TheVariants.{Invokestatic};
 ghost use Rattle.jvm_steps.specs.declared.originals.Exception.TheVariants.{NoClassDefinition};
-ghost use Rattle.jvm_steps.specs.Acts.{IsTop, Becomes, acts_invokestatic, raising};
+ghost use Rattle.jvm_steps.specs.Acts.{IsTop, Becomes, acts_invokestatic, awaited, raising};
 ghost use Rattle.jvm_steps.specs.Arguments.{arguments_of, can_begin, with_begun};
 ghost use Rattle.jvm_steps.specs.Arguments.{fits_params, is_long_kind, slots_for, with_callee};
 ghost use Rattle.jvm_steps.specs.Invoking.{acts_invoke, may_begin};
@@ -148,7 +148,6 @@ fn overflow(
     requires top { IsTop method parts.old.frames.frames }
     requires many { may_begin parts.old.frames.frames ≡ false }
     ensures state { Becomes result parts.new (acts_invoke originals.now line.now callee) parts.old }
-    ensures phases { OnOk result (parts.new.shared.phases ≡ parts.old.shared.phases) }
 {
     if fits_params(originals, &parts.frames, callee) {
         return raise(originals, parts, Exception::StackOverflow);
@@ -168,7 +167,6 @@ fn begin(
     requires top { IsTop method parts.old.frames.frames }
     requires few { may_begin parts.old.frames.frames ≡ true }
     ensures state { Becomes result parts.new (acts_invoke originals.now line.now callee) parts.old }
-    ensures phases { OnOk result (parts.new.shared.phases ≡ parts.old.shared.phases) }
 {
     let begun = begin_callee(originals, &mut parts.frames, callee)?;
     if !begun {
@@ -187,7 +185,6 @@ fn invoke(
 ) -> Result<(), NoMemory>
     requires top { IsTop method parts.old.frames.frames }
     ensures state { Becomes result parts.new (acts_invoke originals.now line.now callee) parts.old }
-    ensures phases { OnOk result (parts.new.shared.phases ≡ parts.old.shared.phases) }
 {
     if may_begin(&parts.frames) {
         begin(originals, parts, method, line, callee)
@@ -199,7 +196,7 @@ fn invoke(
 // ---- invokestatic
 
 /// NoClassDefFoundError, with the name of the class that can not be used.
-fn raise_unusable(originals: &Originals, parts: &mut Parts, class: u32) -> Result<(), NoMemory>
+pub fn raise_unusable(originals: &Originals, parts: &mut Parts, class: u32) -> Result<(), NoMemory>
     ensures { let w = originals.now in OnOk result
         (parts.new ≡ raising w NoClassDefinition (name_at w.program class) parts.old) }
 {
@@ -209,8 +206,7 @@ fn raise_unusable(originals: &Originals, parts: &mut Parts, class: u32) -> Resul
     }
 }
 
-/// Invokes a static method of a class, where it has the method; the class is initialized, or is
-/// being.
+/// Invokes a static method of a class, where it has the method; the class is not fresh.
 pub fn invoke_static(
     originals: &Originals,
     parts: &mut Parts,
@@ -220,10 +216,9 @@ pub fn invoke_static(
     callee: Option<u32>,
 ) -> Result<(), NoMemory>
     requires top { IsTop method parts.old.frames.frames }
-    requires none { fresh parts.old.shared.phases ≡ 0 }
+    requires none { awaited parts.old.shared (Invokestatic class callee) ≡ None }
     ensures state { Becomes result parts.new
         (acts_invokestatic originals.now line.now class callee) parts.old }
-    ensures phases { OnOk result (parts.new.shared.phases ≡ parts.old.shared.phases) }
 {
     let Some(callee) = callee else {
         return raise(originals, parts, Exception::NoSuchMethod);
@@ -231,7 +226,7 @@ pub fn invoke_static(
     match parts.shared.phases.at(class as usize) {
         Some(Phase::Ready) => invoke(originals, parts, method, line, callee),
         Some(Phase::Running) => invoke(originals, parts, method, line, callee),
-        // No class is so.
+        // Does not come: such a class is initialized before.
         Some(Phase::Fresh) => raise_unusable(originals, parts, class),
         Some(Phase::Erroneous) => raise_unusable(originals, parts, class),
         None => raise_unusable(originals, parts, class),

@@ -4,9 +4,9 @@ ghost use Rattle.std.specs.Prelude.{◌≡◌, ◌<◌, ◌^◌, length, positio
 ghost use Rattle.std.specs.Option.{option_copied};
 ghost use Rattle.const_pool.specs.Members.{reference_view};
 ghost use Rattle.jvm_model.specs.Programs.{class_named, has_name, name_at};
-ghost use Rattle.jvm_model.specs.Programs.{declared_method, number_from, same_place};
+ghost use Rattle.jvm_model.specs.Programs.{declared_method, initializer_of, number_from, same_place, super_of};
 
-use crate::members::method_named;
+use crate::members::{initializer_in, method_named};
 use const_pool::{ClassFile, MemberRef};
 use jf_bytes::Text16;
 use jvm_model::{MethodPlace, Program};
@@ -105,4 +105,26 @@ pub fn declared_method(program: &Program, reference: &MemberRef<'_>, class: u32)
     let found = program.classes.get(class as usize)?;
     let at = method_named(found, reference.name, reference.descriptor)?;
     number_of(program.methods.as_slice(), class as usize, at)
+}
+
+/// The number of the static initializer of the class at a position, where it has one.
+pub fn initializer_of(program: &Program, class: u32) -> Option<u32>
+    requires { length program.now.methods < 2 ^ 32 }
+    ensures { result ≡ initializer_of program.now class }
+{
+    let found = program.classes.get(class as usize)?;
+    let at = initializer_in(found)?;
+    number_of(program.methods.as_slice(), class as usize, at)
+}
+
+/// The superclass of the class at a position, where it is a class of the program.
+pub fn super_of(program: &Program, class: u32) -> Option<u32>
+    requires { length program.now.classes < 2 ^ 32 }
+    ensures { result ≡ super_of program.now class }
+{
+    let found = program.classes.get(class as usize)?;
+    match found.pool.class_name(found.super_class) {
+        Ok(name) => class_named(program, name),
+        Err(_) => None,
+    }
 }

@@ -5,6 +5,7 @@ ghost use Rattle.std.specs.Option.{option_copied, option_map};
 ghost use Rattle.const_pool.specs.Members.{reference_view};
 ghost use Rattle.const_pool.specs.References.{name_type_of, named_field, named_method};
 ghost use Rattle.jvm_model.specs.Methods.{code_of, same_text_at, is_member, method_named};
+ghost use Rattle.jvm_model.specs.Programs.{initializer_name};
 ghost use Rattle.jvm_model.specs.Rules.{is_reference, is_out, is_println};
 
 use const_pool::{Attribute, ClassFile, CodeAttribute, Const, Member, MemberRef, Pool};
@@ -46,6 +47,35 @@ pub fn method_named(class: &ClassFile, name: &Text16, descriptor: &Text16) -> Op
 {
     for (at, method) in class.methods.as_slice().iter().enumerate() {
         if is_member(&class.pool, name, descriptor, method) {
+            return Some(at);
+        }
+    }
+    None
+}
+
+/// Whether an entry is the text of these bytes.
+fn are_bytes_at(pool: &Pool, index: u16, bytes: &[u8]) -> bool
+    ensures { result ≡ same_text_at pool.now index bytes.now }
+{
+    match pool.text(index) {
+        Ok(found) => found.is_bytes(bytes),
+        Err(_) => false,
+    }
+}
+
+/// Whether a method is a static initializer (2.9).
+fn is_initializer(pool: &Pool, member: &Member) -> bool
+    ensures { result ≡ is_member pool.now initializer_name member.now }
+{
+    are_bytes_at(pool, member.name, b"<clinit>") && are_bytes_at(pool, member.descriptor, b"()V")
+}
+
+/// The position of a class's static initializer, where it has one.
+pub fn initializer_in(class: &ClassFile) -> Option<usize>
+    ensures { result ≡ method_named class.now initializer_name }
+{
+    for (at, method) in class.methods.as_slice().iter().enumerate() {
+        if is_initializer(&class.pool, method) {
             return Some(at);
         }
     }

@@ -20,7 +20,6 @@ pub fn watch(
 ) -> Result<(), NoMemory>
     requires top { IsTop method parts.old.frames.frames }
     ensures state { Becomes result parts.new (acts_monitor originals.now line.now) parts.old }
-    ensures phases { OnOk result (parts.new.shared.phases ≡ parts.old.shared.phases) }
 {
     let Some(reference) = ref_of(&parts.frames) else {
         break_off(parts, method, line.instr.at);

@@ -31,6 +31,7 @@ pub struct Method {
 pub enum Exception {
     Arithmetic,
     ArrayStore,
+    InInitializer,
     IndexOutside,
     NegativeArraySize,
     NoClassDefinition,
@@ -44,6 +45,7 @@ pub enum Exception {
 pub struct Exceptions {
     pub arithmetic: u32,
     pub array_store: u32,
+    pub in_initializer: u32,
     pub index_outside: u32,
     pub negative_array_size: u32,
     pub no_class_definition: u32,
@@ -94,6 +96,7 @@ impl Originals {
     pub fn program(&self) -> &Program
         ensures program { result.now ≡ self.now.program }
         ensures few { length result.now.classes < 2 ^ 24 }
+        ensures numbered { length result.now.methods < 2 ^ 32 }
     {
         &self.program
     }
@@ -144,6 +147,7 @@ impl Originals {
         match exception {
             Exception::Arithmetic => self.exceptions.arithmetic,
             Exception::ArrayStore => self.exceptions.array_store,
+            Exception::InInitializer => self.exceptions.in_initializer,
             Exception::IndexOutside => self.exceptions.index_outside,
             Exception::NegativeArraySize => self.exceptions.negative_array_size,
             Exception::NoClassDefinition => self.exceptions.no_class_definition,

@@ -150,6 +150,7 @@ pub fn exceptions_of(program: &Program) -> Exceptions
     Exceptions {
         arithmetic: kind_for(program, b"java/lang/ArithmeticException"),
         array_store: kind_for(program, b"java/lang/ArrayStoreException"),
+        in_initializer: kind_for(program, b"java/lang/ExceptionInInitializerError"),
         index_outside: kind_for(program, b"java/lang/ArrayIndexOutOfBoundsException"),
         negative_array_size: kind_for(program, b"java/lang/NegativeArraySizeException"),
         no_class_definition: kind_for(program, b"java/lang/NoClassDefFoundError"),

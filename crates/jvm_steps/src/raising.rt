@@ -33,12 +33,12 @@ pub fn end_unless(parts: &mut Parts, method: u32, own: u16, effect: Effect)
     }
 }
 
-/// Makes an exception of this kind, whose two fields are null, and gives its number.
-fn make(heap: &mut Heap, kind: u32) -> Result<u32, NoMemory>
-    ensures heap { OnOk result (heap.new ≡ heap_made kind heap.old) }
+/// Makes an exception of this kind without a message, with this cause, and gives its number.
+pub fn make(heap: &mut Heap, kind: u32, cause: u32) -> Result<u32, NoMemory>
+    ensures heap { OnOk result (heap.new ≡ heap_made kind cause heap.old) }
     ensures number { IfOk result (λ r. r ≡ reference_made heap.old) }
 {
-    match heap.instance(kind, &[Datum::Ref(0), Datum::Ref(0)]) {
+    match heap.instance(kind, &[Datum::Ref(0), Datum::Ref(cause)]) {
         Ok(number) => Ok(number),
         Err(HeapError::HeapFull) => Ok(RESERVED),
         Err(HeapError::NoMemory) => Err(NoMemory),
@@ -75,7 +75,7 @@ pub fn raise(originals: &Originals, parts: &mut Parts, exception: Exception) -> 
     ensures { OnOk result (parts.new ≡ raising originals.now exception None parts.old) }
 {
     let kind = originals.kind_of(exception);
-    let thrown = make(&mut parts.shared.heap, kind)?;
+    let thrown = make(&mut parts.shared.heap, kind, 0)?;
     parts.thrown = Some(thrown);
     Ok(())
 }

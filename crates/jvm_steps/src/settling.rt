@@ -1,20 +1,25 @@
 //! What follows from an instruction by itself (JVM Specification 2.10, 5.5): a throw goes to a
-//! handler or ends activations, and a run with nothing left ends, or begins `main`.
+//! handler or ends activations, an initialization goes on, and a run with nothing left ends, or
+//! begins `main`.
 
 ghost use Rattle.std.specs.Prelude.{◌≡◌, [], false, map, None, Some, is_some, IfOk, OnOk};
 ghost use Rattle.jvm_model.specs.Applies.{has_room, still};
 ghost use Rattle.jvm_model.specs.Moves.{argument_array, main_or_end, move, settled};
 ghost use Rattle.jvm_model.specs.Originals.{original};
+ghost use Rattle.jvm_steps.specs.Initializing.{after_marker};
+ghost use Rattle.jvm_steps.specs.Markers.{state_of};
 ghost use Rattle.jvm_steps.specs.States.{active, here_of, state_in};
 ghost use Rattle.jvm_steps.specs.Settling.{emptied, fits_alone, with_alone, own_of};
 ghost use Rattle.jvm_steps.specs.Settling.{after_move, caught_at, caught_top, main_entries};
 
 use crate::handlers::{class_of, handler_for};
+use crate::initializing::{fail, go_on};
+use crate::markers::{Marker, take_marker};
 use crate::originals::Originals;
 use crate::parts::{Here, Parts, where_now};
 use frame_stack::Frames;
 use heap_objects::Value;
-use jf_bytes::NoMemory;
+use jf_bytes::{NoMemory, Stack};
 use jvm_model::Ending;
 
 /// The argument array's object.
@@ -55,7 +60,6 @@ fn go_to_handler(originals: &Originals, parts: &mut Parts, object: u32, here: He
     requires { here_of parts.old.frames.frames ≡ Some here }
     ensures state { state_in parts.new ≡
         caught_at originals.now object target parts.old.frames.frames parts.old }
-    ensures shared { parts.new.shared ≡ parts.old.shared }
 {
     parts.thrown = None;
     if put_alone(&mut parts.frames, object) {
@@ -70,7 +74,6 @@ fn meet_frame(originals: &Originals, parts: &mut Parts, object: u32, here: Here)
     requires { here_of parts.old.frames.frames ≡ Some here }
     ensures state { state_in parts.new ≡
         caught_top originals.now object parts.old.frames.frames parts.old }
-    ensures shared { parts.new.shared ≡ parts.old.shared }
 {
     let class = class_of(originals.program(), &parts.shared.heap, object) as usize;
     match handler_for(originals, here.version, class, here.place) {
@@ -87,7 +90,6 @@ fn meet_throw(originals: &Originals, parts: &mut Parts, object: u32)
     requires ending { parts.old.ending ≡ None }
     requires thrown { parts.old.thrown ≡ Some object }
     ensures state { state_in parts.new ≡ after_move originals.now (state_in parts.old) }
-    ensures shared { parts.new.shared ≡ parts.old.shared }
 {
     match where_now(&parts.frames) {
         Some(here) => meet_frame(originals, parts, object, here),
@@ -121,11 +123,10 @@ fn begin_frame(originals: &Originals, frames: &mut Frames, main: u32) -> Result<
 }
 
 /// `main` begins, or the run ends where it has no local for its argument.
-pub fn begin_main(originals: &Originals, parts: &mut Parts) -> Result<(), NoMemory>
+fn begin_main(originals: &Originals, parts: &mut Parts) -> Result<(), NoMemory>
     requires { parts.old.frames.frames ≡ [] }
     ensures state { let w = originals.now in OnOk result (state_in parts.new ≡
         (main_or_end w (original w.program) (state_in parts.old) false).after) }
-    ensures shared { OnOk result (parts.new.shared ≡ parts.old.shared) }
 {
     let main = originals.program().main;
     if begin_frame(originals, &mut parts.frames, main)? {
@@ -141,7 +142,6 @@ fn begin_or_end(originals: &Originals, parts: &mut Parts) -> Result<(), NoMemory
     requires { parts.old.frames.frames ≡ [] }
     ensures state { let w = originals.now in OnOk result (state_in parts.new ≡
         (main_or_end w (original w.program) (state_in parts.old) parts.old.begun).after) }
-    ensures shared { OnOk result (parts.new.shared ≡ parts.old.shared) }
 {
     if !parts.begun {
         return begin_main(originals, parts);
@@ -152,13 +152,13 @@ fn begin_or_end(originals: &Originals, parts: &mut Parts) -> Result<(), NoMemory
 
 // ---- every move
 
-/// Makes a move. False, with nothing changed, where none applies.
-fn make_move(originals: &Originals, parts: &mut Parts) -> Result<bool, NoMemory>
+/// A move of the frames, where no marker stands on the current one. False, with nothing changed,
+/// where none applies.
+fn move_frame(originals: &Originals, parts: &mut Parts) -> Result<bool, NoMemory>
     ensures answer { let w = originals.now in
         IfOk result (λ b. b ≡ is_some (move w (original w.program) (state_in parts.old))) }
     ensures state { OnOk result
         (state_in parts.new ≡ after_move originals.now (state_in parts.old)) }
-    ensures shared { OnOk result (parts.new.shared ≡ parts.old.shared) }
 {
     if parts.ending.is_some() {
         return Ok(false);
@@ -174,13 +174,54 @@ fn make_move(originals: &Originals, parts: &mut Parts) -> Result<bool, NoMemory>
     Ok(true)
 }
 
-/// Makes all moves, up to where none applies.
-pub fn settle(originals: &Originals, parts: &mut Parts) -> Result<(), NoMemory>
-    ensures state { let w = originals.now in
-        let turn = still (state_in parts.old) in
-        OnOk result (state_in parts.new ≡ (settled w (original w.program) turn).after) }
-    ensures phases { OnOk result (parts.new.shared.phases ≡ parts.old.shared.phases) }
+/// A throw meets the initialization of a class, or it goes on, after its marker was taken off.
+fn move_marker(
+    originals: &Originals,
+    parts: &mut Parts,
+    markers: &mut Stack<Marker>,
+    marker: Marker,
+) -> Result<(), NoMemory>
+    ensures { OnOk result (state_of markers.new parts.new
+        ≡ after_marker originals.now (state_of markers.old parts.old) parts.old.thrown
+        marker.class marker.part) }
 {
-    while make_move(originals, parts)? {}
+    match parts.thrown {
+        Some(object) => fail(originals, parts, marker.class, object),
+        None => go_on(originals, parts, markers, marker.class, marker.part),
+    }
+}
+
+/// Makes a move. False, with nothing changed, where none applies.
+fn make_move(
+    originals: &Originals,
+    parts: &mut Parts,
+    markers: &mut Stack<Marker>,
+) -> Result<bool, NoMemory>
+    ensures answer { let w = originals.now in IfOk result (λ b.
+        b ≡ is_some (move w (original w.program) (state_of markers.old parts.old))) }
+    ensures state { OnOk result (state_of markers.new parts.new
+        ≡ after_move originals.now (state_of markers.old parts.old)) }
+{
+    if parts.ending.is_some() {
+        return Ok(false);
+    }
+    let Some(marker) = take_marker(parts, markers) else {
+        return move_frame(originals, parts);
+    };
+    move_marker(originals, parts, markers, marker)?;
+    Ok(true)
+}
+
+/// Makes all moves, up to where none applies.
+pub fn settle(
+    originals: &Originals,
+    parts: &mut Parts,
+    markers: &mut Stack<Marker>,
+) -> Result<(), NoMemory>
+    ensures { let w = originals.now in
+        let turn = still (state_of markers.old parts.old) in OnOk result
+        (state_of markers.new parts.new ≡ (settled w (original w.program) turn).after) }
+{
+    while make_move(originals, parts, markers)? {}
     Ok(())
 }

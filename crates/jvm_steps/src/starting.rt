@@ -1,26 +1,27 @@
-//! The state before the start, in which the built-in classes are loaded and ready, and the start of a program that starts without any code
-//! but `main` (JVM Specification 5.2, 5.3, 5.5).
+//! The state before the start, in which the built-in classes are loaded and ready, and the start (JVM Specification 5.2, 5.3, 5.5).
 
 ghost use Rattle.std.specs.Prelude.{◌≡◌, ◌<◌, ◌≤◌, ◌^◌, [], IfOk, OnOk, length, map, unwrap_or};
 ghost use Rattle.const_pool.specs.References.{named_text};
 ghost use Rattle.jvm_model.specs.Programs.{has_built_in_name};
 ghost use Rattle.jvm_model.specs.SharedState.{built_in_from, phase_before, shared_before, zero_for, zeros};
-ghost use Rattle.jvm_model.specs.Moves.{fresh};
 ghost use Rattle.jvm_model.specs.Originals.{original};
-ghost use Rattle.jvm_model.specs.Run.{before, start};
-ghost use Rattle.jvm_model.specs.Starting.{StartsReady, ready_in};
+ghost use Rattle.jvm_model.specs.Run.{main_class, start, starts_with};
+ghost use Rattle.jvm_model.specs.Starting.{ready_in};
 ghost use Rattle.jvm_steps.specs.Before.{BeforeEach, IsAtStart, with_first};
+ghost use Rattle.jvm_steps.specs.Markers.{state_of};
 ghost use Rattle.jvm_steps.specs.States.{state_in};
 
+use crate::initializing::{initialize, set_phase};
+use crate::markers::Marker;
 use crate::objects::{heap_before, make_arguments};
 use crate::originals::Originals;
 use crate::parts::Parts;
-use crate::settling::begin_main;
+use crate::settling::settle;
 use base_classes::is_built_in;
 use const_pool::{ClassFile, Member, Pool};
 use frame_stack::Frames;
 use heap_objects::Datum;
-use jf_bytes::{NoMemory, Seq};
+use jf_bytes::{NoMemory, Seq, Stack};
 use jvm_model::{Phase, Program, Shared};
 use std::alloc::Global;
 
@@ -158,13 +159,11 @@ fn load_first(shared: &mut Shared) -> Result<(), NoMemory>
     ensures { OnOk result (shared.new ≡ with_first shared.old) }
 {
     shared.loaded.push(0)?;
-    if !shared.phases.is_empty() {
-        shared.phases.set(0, Phase::Ready);
-    }
+    set_phase(shared, 0, Phase::Ready);
     Ok(())
 }
 
-/// What comes before `main` in the start: the argument array is made, and the main class is loaded, and ready.
+/// What comes before `main` where nothing else runs at the start: the argument array is made, and the main class is loaded, and ready.
 pub fn make_ready(originals: &Originals, parts: &mut Parts) -> Result<(), NoMemory>
     requires { IsAtStart originals.now (state_in parts.old) }
     ensures { OnOk result (state_in parts.new ≡ ready_in originals.now) }
@@ -173,14 +172,43 @@ pub fn make_ready(originals: &Originals, parts: &mut Parts) -> Result<(), NoMemo
     load_first(&mut parts.shared)
 }
 
-/// The start: `main` begins, or the run ends where it has no local for its argument. No class is left to be initialized.
-pub fn start(originals: &Originals, parts: &mut Parts) -> Result<(), NoMemory>
-    requires before { state_in parts.old ≡ before originals.now }
-    requires ready { StartsReady originals.now.program }
-    ensures state { let w = originals.now in
-        OnOk result (state_in parts.new ≡ (start w (original w.program)).after) }
-    ensures phases { OnOk result (fresh parts.new.shared.phases ≡ 0) }
+/// The position of the main class: that of the method `main`.
+fn main_class(program: &Program) -> u32
+    ensures { result ≡ main_class program.now }
 {
-    make_ready(originals, parts)?;
-    begin_main(originals, parts)
+    match program.methods.get(program.main as usize) {
+        Some(place) => place.class,
+        None => 0,
+    }
+}
+
+/// The main class is loaded, and its initialization begins.
+fn load_main(
+    originals: &Originals,
+    parts: &mut Parts,
+    markers: &mut Stack<Marker>,
+) -> Result<(), NoMemory>
+    requires { IsAtStart originals.now (state_of markers.old parts.old) }
+    ensures { let w = originals.now in OnOk result (state_of markers.new parts.new
+        ≡ starts_with w (main_class w.program)) }
+{
+    let class = main_class(originals.program());
+    make_arguments(originals.program(), &mut parts.shared.heap)?;
+    parts.shared.loaded.push(class)?;
+    initialize(parts, markers, class)
+}
+
+/// The start: the main class is loaded and initialized, and `main` begins where no static
+/// initializer runs before; or the run ends.
+pub fn start(
+    originals: &Originals,
+    parts: &mut Parts,
+    markers: &mut Stack<Marker>,
+) -> Result<(), NoMemory>
+    requires { IsAtStart originals.now (state_of markers.old parts.old) }
+    ensures { let w = originals.now in OnOk result
+        (state_of markers.new parts.new ≡ (start w (original w.program)).after) }
+{
+    load_main(originals, parts, markers)?;
+    settle(originals, parts, markers)
 }

@@ -1,74 +1,134 @@
 //! One step: the current frame's instruction, and all that follows from it.
 
-ghost use Rattle.std.specs.Prelude.{◌≡◌, ◌≤◌, ◌<◌, true, None, is_some, IfOk, OnOk};
+ghost use Rattle.std.specs.Prelude.{◌≡◌, ◌≤◌, ◌<◌, Some, true, None, is_some, IfOk, OnOk};
 ghost use Rattle.jvm_model.specs.Applies.{still};
-ghost use Rattle.jvm_model.specs.Moves.{fresh, settled};
+ghost use Rattle.jvm_model.specs.Moves.{settled};
 ghost use Rattle.jvm_model.specs.Originals.{original};
-ghost use Rattle.jvm_model.specs.Run.{step};
-ghost use Rattle.jvm_steps.specs.Acts.{is_at_rest, goes_on_in};
+ghost use Rattle.jvm_model.specs.Run.{is_ready, step};
+ghost use Rattle.jvm_model.specs.SharedState.{phase_of};
+ghost use Rattle.jvm_steps.specs.Acts.{awaited_in, is_at_rest, goes_on_in};
+ghost use Rattle.jvm_steps.specs.Markers.{is_unmarked, state_of};
 ghost use Rattle.jvm_steps.specs.Runs.{Leads};
-ghost use Rattle.jvm_steps.specs.States.{state_in};
 
 use crate::attempting::attempt;
+use crate::initializing::initialize;
+use crate::markers::{Marker, marker_on};
 use crate::originals::Originals;
 use crate::parts::Parts;
 use crate::plain::plain_steps;
 use crate::settling::settle;
-use jf_bytes::NoMemory;
+use jf_bytes::{NoMemory, Stack};
+use jvm_model::{Phase, Shared};
 use std::alloc::Global;
 
-/// Whether nothing follows by itself: the run has ended, or there is a frame, and nothing is
-/// thrown.
-fn is_at_rest(parts: &Parts) -> bool
-    ensures { result ≡ is_at_rest parts.now }
+/// Whether no marker stands on the current frame.
+fn is_unmarked(parts: &Parts, markers: &Stack<Marker>) -> bool
+    ensures { result ≡ is_unmarked markers.now parts.now }
 {
-    parts.ending.is_some() || (parts.thrown.is_none() && parts.frames.depth() > 0)
+    marker_on(markers, parts.frames.depth()).is_none()
 }
 
-/// Whether the run has not ended, and there is a frame.
-fn goes_on(parts: &Parts) -> bool
-    ensures { result ≡ goes_on_in parts.now }
+/// Whether nothing follows by itself: the run has ended, or nothing is thrown, and there is a frame
+/// with no marker on it.
+fn is_at_rest(parts: &Parts, markers: &Stack<Marker>) -> bool
+    ensures { result ≡ is_at_rest markers.now parts.now }
 {
-    parts.ending.is_none() && parts.frames.depth() > 0
+    parts.ending.is_some()
+        || (parts.thrown.is_none() && (parts.frames.depth() > 0 && is_unmarked(parts, markers)))
+}
+
+/// Whether the run has not ended, and there is a frame with no marker on it.
+fn goes_on(parts: &Parts, markers: &Stack<Marker>) -> bool
+    ensures { result ≡ goes_on_in markers.now parts.now }
+{
+    parts.ending.is_none() && (parts.frames.depth() > 0 && is_unmarked(parts, markers))
 }
 
 /// All that follows by itself.
-fn finish(originals: &Originals, parts: &mut Parts) -> Result<(), NoMemory>
-    ensures state { let w = originals.now in OnOk result (state_in parts.new
-        ≡ (settled w (original w.program) (still (state_in parts.old))).after) }
-    ensures phases { OnOk result (parts.new.shared.phases ≡ parts.old.shared.phases) }
+fn finish(
+    originals: &Originals,
+    parts: &mut Parts,
+    markers: &mut Stack<Marker>,
+) -> Result<(), NoMemory>
+    ensures { let w = originals.now in
+        let turn = still (state_of markers.old parts.old) in OnOk result
+        (state_of markers.new parts.new ≡ (settled w (original w.program) turn).after) }
 {
-    if is_at_rest(parts) {
+    if is_at_rest(parts, markers) {
         return Ok(());
     }
-    settle(originals, parts)
+    settle(originals, parts, markers)
+}
+
+/// Whether a class is initialized.
+fn is_ready(shared: &Shared, class: u32) -> bool
+    ensures { result ≡ is_ready (phase_of shared.now class) }
+{
+    match shared.phases.at(class as usize) {
+        Some(Phase::Ready) => true,
+        Some(Phase::Fresh | Phase::Running | Phase::Erroneous) => false,
+        None => false,
+    }
+}
+
+/// A step whose instruction awaits the initialization of a class. Where the class is ready then, no
+/// code of its own has run, and the instruction is attempted in the same step.
+fn step_behind(
+    alloc: Global,
+    originals: &Originals,
+    parts: &mut Parts,
+    markers: &mut Stack<Marker>,
+    class: u32,
+) -> Result<(), NoMemory>
+    requires going { goes_on_in markers.old parts.old ≡ true }
+    requires awaits {
+        awaited_in originals.now (state_of markers.old parts.old) ≡ Some class }
+    ensures { let w = originals.now in let s = state_of markers.old parts.old in OnOk result
+        (state_of markers.new parts.new ≡ (step w (original w.program) s).after) }
+{
+    initialize(parts, markers, class)?;
+    settle(originals, parts, markers)?;
+    if !is_ready(&parts.shared, class) {
+        return Ok(());
+    }
+    attempt(alloc, originals, parts, markers)?;
+    finish(originals, parts, markers)
 }
 
 /// One step of the run of original code: an attempt of the current frame's instruction, with all
-/// that follows. Every class is initialized or being initialized.
-pub fn step(alloc: Global, originals: &Originals, parts: &mut Parts) -> Result<(), NoMemory>
-    requires { fresh parts.old.shared.phases ≡ 0 }
-    ensures state { let w = originals.now in OnOk result
-        (state_in parts.new ≡ (step w (original w.program) (state_in parts.old)).after) }
-    ensures phases { OnOk result (parts.new.shared.phases ≡ parts.old.shared.phases) }
+/// that follows.
+pub fn step(
+    alloc: Global,
+    originals: &Originals,
+    parts: &mut Parts,
+    markers: &mut Stack<Marker>,
+) -> Result<(), NoMemory>
+    ensures { let w = originals.now in let s = state_of markers.old parts.old in OnOk result
+        (state_of markers.new parts.new ≡ (step w (original w.program) s).after) }
 {
-    if !goes_on(parts) {
+    if !goes_on(parts, markers) {
         return Ok(());
     }
-    attempt(alloc, originals, parts)?;
-    finish(originals, parts)
+    match attempt(alloc, originals, parts, markers)? {
+        Some(class) => step_behind(alloc, originals, parts, markers, class),
+        None => finish(originals, parts, markers),
+    }
 }
 
 /// Steps that the current frame does by itself, at most so many: how many it has made.
-fn step_plainly(originals: &Originals, parts: &mut Parts, most: u64) -> u64
-    requires ending { parts.old.ending ≡ None }
-    requires ready { fresh parts.old.shared.phases ≡ 0 }
+fn step_plainly(
+    originals: &Originals,
+    parts: &mut Parts,
+    markers: &Stack<Marker>,
+    most: u64,
+) -> u64
+    requires { parts.old.ending ≡ None }
     ensures within { result ≤ most }
-    ensures made { Leads originals.now (state_in parts.old) result (state_in parts.new) }
+    ensures made { Leads originals.now (state_of markers.now parts.old) result
+        (state_of markers.now parts.new) }
     ensures ending { parts.new.ending ≡ None }
-    ensures phases { parts.new.shared.phases ≡ parts.old.shared.phases }
 {
-    if parts.thrown.is_some() {
+    if parts.thrown.is_some() || !is_unmarked(parts, markers) {
         return 0;
     }
     plain_steps(originals, &mut parts.frames, most)
@@ -79,43 +139,41 @@ fn step_on(
     alloc: Global,
     originals: &Originals,
     parts: &mut Parts,
+    markers: &mut Stack<Marker>,
     most: u64,
 ) -> Result<u64, NoMemory>
     requires some { 0 < most }
     requires ending { parts.old.ending ≡ None }
-    requires ready { fresh parts.old.shared.phases ≡ 0 }
     ensures some { IfOk result (λ n. 0 < n) }
     ensures within { IfOk result (λ n. n ≤ most) }
-    ensures made { IfOk result (λ n.
-        Leads originals.now (state_in parts.old) n (state_in parts.new)) }
-    ensures phases { OnOk result (parts.new.shared.phases ≡ parts.old.shared.phases) }
+    ensures made { IfOk result (λ n. Leads originals.now (state_of markers.old parts.old) n
+        (state_of markers.new parts.new)) }
 {
-    let plain = step_plainly(originals, parts, most);
+    let plain = step_plainly(originals, parts, markers, most);
     if plain == most {
         return Ok(plain);
     }
-    step(alloc, originals, parts)?;
+    step(alloc, originals, parts, markers)?;
     Ok(plain + 1)
 }
 
 /// Steps of the run of original code, at most so many, and none behind its end: how many it has
-/// made. Every class is initialized or being initialized.
+/// made.
 pub fn run(
     alloc: Global,
     originals: &Originals,
     parts: &mut Parts,
+    markers: &mut Stack<Marker>,
     most: u64,
 ) -> Result<u64, NoMemory>
-    requires { fresh parts.old.shared.phases ≡ 0 }
     ensures within { IfOk result (λ n. n ≤ most) }
-    ensures made { IfOk result (λ n.
-        Leads originals.now (state_in parts.old) n (state_in parts.new)) }
+    ensures made { IfOk result (λ n. Leads originals.now (state_of markers.old parts.old) n
+        (state_of markers.new parts.new)) }
     ensures ended { IfOk result (λ n. n < most → is_some parts.new.ending ≡ true) }
-    ensures phases { OnOk result (parts.new.shared.phases ≡ parts.old.shared.phases) }
 {
     let mut made = 0;
     while made < most && parts.ending.is_none() {
-        made += step_on(alloc, originals, parts, most - made)?;
+        made += step_on(alloc, originals, parts, markers, most - made)?;
     }
     Ok(made)
 }

@@ -33,7 +33,6 @@ pub fn throw_object(
 ) -> Result<(), NoMemory>
     requires top { IsTop method parts.old.frames.frames }
     ensures state { Becomes result parts.new (acts_athrow originals.now line.now) parts.old }
-    ensures phases { OnOk result (parts.new.shared.phases ≡ parts.old.shared.phases) }
 {
     let Some(object) = ref_of(&parts.frames) else {
         break_off(parts, method, line.instr.at);

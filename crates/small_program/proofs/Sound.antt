@@ -22,11 +22,10 @@ use Rattle.jvm_model.specs.OneClass.{IsProgramOf, IsBuiltProgram}
 use Rattle.jvm_model.specs.declared.program.MethodPlace.{MethodPlace}
 use Rattle.jvm_model.specs.Programs.{class_named, first_class, no_class, number_from, number_of_method, same_place}
 use Rattle.jvm_model.specs.SmallClass.{main_member, is_public_static, public_static}
-use Rattle.jvm_model.specs.Starting.{StartsReady}
 use Rattle.jvm_model.specs.StaticClass.{IsStaticClass}
 use Rattle.jvm_model.specs.StandsFor.{IsBuilt}
 use Rattle.jvm_model.proofs.Numbers.{place-coded}
-use Rattle.jvm_model.proofs.ReadyStart.{IsAlone-static, StartsReady-static}
+use Rattle.jvm_model.proofs.ReadyStart.{IsAlone-static}
 use Rattle.jvm_steps.specs.Prepared.{HasShortCodes, FitsOriginals}
 use Rattle.admit_check.specs.Admission.{declared_main, main_of_class, main_in, IsSoundProgram}
 use Rattle.small_program.specs.Admission.{IsSmall}
@@ -173,13 +172,10 @@ fits-sound c p name formed sound = record {
   codes = subst (AllByRecursion HasShortCodes) (sym sound.classes_are) (HasShortCodes-formed c formed, files-short);
 }
 
-starts-sound : (c : ClassFile) (p : Program) (name : List ℕ) → IsStaticClass c → IsSoundProgram (c ∷ []) name p → p.args ≡ [] → 1024 ≤ p.heap → StartsReady p
-starts-sound c p name static sound plain room = StartsReady-static c p static (of-sound c p name static sound) files-built_in plain room
-
 pub runnable-sound : (c : ClassFile) (p : Program) (name : List ℕ) (root : Option ℕ) → IsClassFile c → IsStaticClass c → ((k : ℕ) → root ≡ Some k → IsSmall c)
     → IsSoundProgram (c ∷ []) name p → p.args ≡ [] → 1024 ≤ p.heap → IsRunnable p root
 runnable-sound c p name root formed static small sound plain room = record {
   fits = fits-sound c p name formed sound;
-  starts = starts-sound c p name static sound plain room;
+  starts = record { plain = plain; room = room };
   built = λ k e. built-sound c p name formed static (small k e) sound plain room;
 }

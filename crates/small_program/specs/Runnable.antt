@@ -3,7 +3,7 @@ use Rattle.std.specs.Prelude.{◌≡◌, ◌≤◌, ℕ, [], Option, Some, unwra
 use Rattle.plan_text.specs.declared.plan.Plan.{Plan}
 use Rattle.jvm_model.specs.declared.program.Program.{Program}
 use Rattle.jvm_model.specs.OneClass.{IsBuiltProgram}
-use Rattle.jvm_model.specs.Starting.{StartsReady}
+use Rattle.jvm_steps.specs.Before.{CanStart}
 use Rattle.jvm_steps.specs.Prepared.{FitsOriginals}
 
 -- the limit of the heap
@@ -15,8 +15,8 @@ pub record IsUsual (plan : Plan) : Type 0 where
   pub args : plan.args ≡ []
   pub heap : 1024 ≤ heap_of plan
 
--- Its original code can be prepared, it starts with `main`, and where there is a root its first class can be rewritten.
+-- Its original code can be prepared, it can start, and where there is a root its first class can be rewritten.
 pub record IsRunnable (p : Program) (root : Option ℕ) : Type 0 where
   pub fits : FitsOriginals p
-  pub starts : StartsReady p
+  pub starts : CanStart p
   pub built : (k : ℕ) → root ≡ Some k → IsBuiltProgram p

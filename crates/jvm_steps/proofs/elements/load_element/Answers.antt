@@ -4,8 +4,10 @@ use Rattle.jvm_steps.specs.Elements.{place_by}
 use Rattle.jvm_steps.proofs.ElementActs.{is-loaded}
 use Rattle.jvm_steps.proofs.elements.load_element.Goals as goal
 
-pub returns-clause-state : goal.returns-clause-state
-returns-clause-state c =
+pub returns : goal.returns
+returns c = record {
+  state =
     c.load.ensures.state
     ∙ is-loaded c.args.originals.now c.args.line.now c.args.kind c.args.parts.now c.in-Some.place.array c.in-Some.place.index c.in-Some-element_at.datum
-    (sym (ap (option_map place_by) c.in-Some.is) ∙ c.place_of.ensures) (sym c.in-Some-element_at.is ∙ c.element_at.ensures)
+    (sym (ap (option_map place_by) c.in-Some.is) ∙ c.place_of.ensures) (sym c.in-Some-element_at.is ∙ c.element_at.ensures);
+}

@@ -1,21 +1,19 @@
-use Rattle.std.proofs.Common.{rules, sym, subst, ap, ◌∙◌}
+use Rattle.std.proofs.Common.{sym, subst, ap, ◌∙◌}
 use Rattle.std.specs.Prelude.{◌<◌}
 use Rattle.jvm_model.specs.declared.state.State.{State}
 use Rattle.jvm_model.specs.Applies.{still}
 use Rattle.jvm_model.specs.Moves.{left, settled}
 use Rattle.jvm_model.specs.Originals.{original}
-use Rattle.jvm_steps.specs.States.{state_in}
+use Rattle.jvm_steps.specs.Markers.{state_of}
 use Rattle.jvm_steps.proofs.MovesOn.{moved_on, fewer_left}
 use Rattle.jvm_steps.proofs.settling.settle.Goals as goal
 
 pub loop-smaller : goal.loop-smaller
 loop-smaller c =
-    subst (λ s. left s < left (state_in c.loop.parts)) (sym c.in_ok-make_move.ensures.state)
-    (fewer_left c.args.originals.now (state_in c.loop.parts) (sym c.in_ok-make_move.ensures.answer ∙ c.if-branch.true))
+    subst (λ s. left s < left (state_of c.loop.markers c.loop.parts)) (sym c.in_ok-make_move.ensures.state)
+    (fewer_left c.args.originals.now (state_of c.loop.markers c.loop.parts) (sym c.in_ok-make_move.ensures.answer ∙ c.if-branch.true))
 
 pub loop-preserved : goal.loop-preserved
-loop-preserved c = record {
-  same = ap (λ (s : State). (settled c.args.originals.now (original c.args.originals.now.program) (still s)).after) c.in_ok-make_move.ensures.state
-      ∙ moved_on c.args.originals.now (state_in c.loop.parts) ∙ c.loop.invariant.same;
-  phases = search rules;
-}
+loop-preserved c =
+    ap (λ (s : State). (settled c.args.originals.now (original c.args.originals.now.program) (still s)).after) c.in_ok-make_move.ensures.state
+    ∙ moved_on c.args.originals.now (state_of c.loop.markers c.loop.parts) ∙ c.loop.invariant

@@ -3,14 +3,13 @@ use Rattle.std.proofs.Common.{◌≡◌}
 use Rattle.jvm_model.specs.Applies.{still}
 use Rattle.jvm_model.specs.Moves.{left, settled}
 use Rattle.jvm_model.specs.Originals.{original}
-use Rattle.jvm_steps.specs.States.{state_in}
+use Rattle.jvm_steps.specs.Markers.{state_of}
 use Rattle.jvm_steps.proofs.settling.settle.Given as goal
 
 abbrev pub invariant-loop : goal.invariant-loop
-invariant-loop l = record {
-  same : (settled l.originals (original l.originals.program) (still (state_in l.parts))).after ≡ (settled l.originals (original l.originals.program) (still (state_in l.fn.parts))).after;
-  phases : l.parts.shared.phases ≡ l.fn.parts.shared.phases;
-}
+invariant-loop l =
+    (settled l.originals (original l.originals.program) (still (state_of l.markers l.parts))).after
+    ≡ (settled l.originals (original l.originals.program) (still (state_of l.fn.markers l.fn.parts))).after
 
 abbrev pub decreases-loop : goal.decreases-loop
-decreases-loop l = left (state_in l.parts)
+decreases-loop l = left (state_of l.markers l.parts)

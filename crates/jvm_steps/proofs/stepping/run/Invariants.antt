@@ -1,13 +1,12 @@
 -- so many steps lead to the state
 use Rattle.std.proofs.Common.{◌≡◌, ◌≤◌, ◌-◌}
+use Rattle.jvm_steps.specs.Markers.{state_of}
 use Rattle.jvm_steps.specs.Runs.{Leads}
-use Rattle.jvm_steps.specs.States.{state_in}
 use Rattle.jvm_steps.proofs.stepping.run.Given as goal
 
 pub record Loops (l : goal.Live-loop-made) : Type 0 where
   pub within : l.made ≤ l.most
-  pub leads : Leads l.originals (state_in l.fn.parts) l.made (state_in l.parts)
-  pub phases : l.parts.shared.phases ≡ l.fn.parts.shared.phases
+  pub leads : Leads l.originals (state_of l.fn.markers l.fn.parts) l.made (state_of l.markers l.parts)
 
 abbrev pub invariant-loop-made : goal.invariant-loop-made
 invariant-loop-made l = Loops l

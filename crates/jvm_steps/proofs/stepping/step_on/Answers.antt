@@ -1,13 +1,13 @@
 use Rattle.std.proofs.Common.{ap}
 use Rattle.std.specs.Prelude.{is_some}
-use Rattle.jvm_steps.specs.States.{state_in}
+use Rattle.jvm_steps.specs.Markers.{state_of}
 use Rattle.jvm_steps.proofs.Leading.{leads-one, leads-on}
 use Rattle.jvm_steps.proofs.stepping.step_on.Goals as goal
 
 pub returns-clause-made : goal.returns-clause-made
 returns-clause-made c =
     let w = c.args.originals.now in
-    let mid = state_in c.step_plainly-plain.new.parts in
-    let new = state_in c.step.new.parts in
-    leads-on w (state_in c.args.parts.now) mid new c.step_plainly-plain.result 1 c.step_plainly-plain.ensures.made
-    (leads-one w mid new (ap is_some c.step_plainly-plain.ensures.ending) c.in_ok-step.ensures.state)
+    let mid = state_of c.args.markers.now c.step_plainly-plain.new.parts in
+    let new = state_of c.step.new.markers c.step.new.parts in
+    leads-on w (state_of c.args.markers.now c.args.parts.now) mid new c.step_plainly-plain.result 1 c.step_plainly-plain.ensures.made
+    (leads-one w mid new (ap is_some c.step_plainly-plain.ensures.ending) c.in_ok-step.ensures)

@@ -1,6 +1,6 @@
 use Rattle.std.proofs.Common.{◌≡◌, ◌-◌, ◌^◌, false, length, min, sym, ap, ◌∙◌, arith}
-use Rattle.std.proofs.lemmas.List.{length-map}
-use Rattle.jvm_steps.specs.States.{active, state_in}
+use Rattle.jvm_steps.specs.Markers.{state_of}
+use Rattle.jvm_steps.proofs.InitializerFrames.{live-of}
 use Rattle.jvm_machine.specs.Running.{Shown}
 use Rattle.jvm_machine.specs.View.{View, live_of}
 use Rattle.jvm_machine.proofs.BothWays.{shown-in}
@@ -11,7 +11,7 @@ returns c = λ whole.
     let unbroken : c.self.inside.broken ≡ false = ap (λ (v : View). v.broken) c.self.view_is ∙ whole in
     let few : c.depth.result ≡ min (length c.self.inside.parts.frames.frames) (2 ^ 32 - 1) = omega arith in
     few
-    ∙ (ap (λ n. min n (2 ^ 32 - 1)) (sym (length-map c.self.inside.parts.frames.frames active))
-    ∙ (ap (λ (x : Shown). min x.live (2 ^ 32 - 1)) (shown-in c.self.inside.originals c.self.inside.versions (state_in c.self.inside.parts) c.self.inside.told
-    c.self.inside.started c.self.inside.broken c.self.inside.clock c.self.invariant unbroken)
+    ∙ (ap (λ n. min n (2 ^ 32 - 1)) (sym (live-of c.self.inside.markers c.self.inside.parts))
+    ∙ (ap (λ (x : Shown). min x.live (2 ^ 32 - 1)) (shown-in c.self.inside.originals c.self.inside.versions (state_of c.self.inside.markers c.self.inside.parts) c.self.inside.told
+    c.self.inside.started c.self.inside.broken c.self.inside.clock c.self.invariant.1 unbroken)
     ∙ ap live_of c.self.view_is))

@@ -1,0 +1,198 @@
+//! The initialization of classes (JVM Specification 5.5), part by part.
+
+ghost use Rattle.std.specs.Prelude.{◌≡◌, ◌<◌, ◌^◌, suc, [], true, None, length, IfOk, OnOk};
+ghost use Rattle.jvm_model.specs.Applies.{new_frame, with_frame};
+ghost use Rattle.jvm_model.specs.Lookup.{is_below};
+ghost use Rattle.jvm_model.specs.Moves.{after_super, initializes, runs_initializer};
+ghost use Rattle.jvm_model.specs.Moves.{with_super, wrapped};
+ghost use Rattle.jvm_model.specs.Originals.{original};
+ghost use Rattle.jvm_model.specs.Programs.{initializer_of, super_of};
+ghost use Rattle.jvm_model.specs.SharedState.{class_of, error, phase_of, with_phase};
+ghost use Rattle.jvm_steps.specs.Initializing.{begins_class, failing};
+ghost use Rattle.jvm_steps.specs.Invoking.{may_begin};
+ghost use Rattle.jvm_steps.specs.Markers.{marker_on, state_of};
+
+use crate::handlers::class_of;
+use crate::invoking::{may_begin, raise_unusable};
+use crate::lookup::{initializer_of, super_of};
+use crate::markers::{Marker, mark};
+use crate::originals::{Exception, Originals};
+use crate::parts::Parts;
+use crate::raising::{make, raise};
+use crate::supertypes::is_below_bytes;
+use jf_bytes::{NoMemory, Stack};
+use jvm_model::{Part, Phase, Program, Shared};
+
+/// Gives a class this phase.
+pub fn set_phase(shared: &mut Shared, class: u32, phase: Phase)
+    ensures { shared.new ≡ with_phase shared.old class phase }
+{
+    if (class as usize) < shared.phases.len() {
+        shared.phases.set(class as usize, phase);
+    }
+}
+
+/// The initialization of a class begins: its marker stands on the current frame.
+pub fn initialize(
+    parts: &mut Parts,
+    markers: &mut Stack<Marker>,
+    class: u32,
+) -> Result<(), NoMemory>
+    ensures { OnOk result (state_of markers.new parts.new
+        ≡ begins_class class (state_of markers.old parts.old)) }
+{
+    set_phase(&mut parts.shared, class, Phase::Running);
+    mark(parts, markers, class, Part::Constants)
+}
+
+// ---- a throw meets an initialization
+
+/// Whether an object is an Error.
+fn is_error(program: &Program, shared: &Shared, object: u32) -> bool
+    requires { length program.now.classes < 2 ^ 24 }
+    ensures { result ≡ is_below program.now (class_of program.now shared.now object) error }
+{
+    let class = class_of(program, &shared.heap, object) as usize;
+    is_below_bytes(program, class, b"java/lang/Error")
+}
+
+/// What is thrown on: an Error itself, or an ExceptionInInitializerError with the object as its
+/// cause.
+fn wrap(originals: &Originals, shared: &mut Shared, object: u32) -> Result<u32, NoMemory>
+    ensures shared { OnOk result (shared.new ≡ (wrapped originals.now shared.old object).shared) }
+    ensures object { IfOk result (λ r. r ≡ (wrapped originals.now shared.old object).reference) }
+{
+    if is_error(originals.program(), shared, object) {
+        return Ok(object);
+    }
+    let kind = originals.kind_of(Exception::InInitializer);
+    make(&mut shared.heap, kind, object)
+}
+
+/// The initialization of a class fails with an object: the class can not be used from now on.
+pub fn fail(
+    originals: &Originals,
+    parts: &mut Parts,
+    class: u32,
+    object: u32,
+) -> Result<(), NoMemory>
+    ensures { OnOk result (parts.new ≡ failing originals.now class object parts.old) }
+{
+    let thrown = wrap(originals, &mut parts.shared, object)?;
+    set_phase(&mut parts.shared, class, Phase::Erroneous);
+    parts.thrown = Some(thrown);
+    Ok(())
+}
+
+// ---- the superclass
+
+/// The superclass of a class is initialized, where it is fresh; where it can not be used
+/// NoClassDefFoundError is thrown.
+fn initialize_above(
+    originals: &Originals,
+    parts: &mut Parts,
+    markers: &mut Stack<Marker>,
+    class: u32,
+    above: u32,
+) -> Result<(), NoMemory>
+    ensures { OnOk result (state_of markers.new parts.new
+        ≡ after_super originals.now (state_of markers.old parts.old) class above
+        (phase_of parts.old.shared above)) }
+{
+    mark(parts, markers, class, Part::Initializer)?;
+    match parts.shared.phases.at(above as usize) {
+        Some(Phase::Fresh) => initialize(parts, markers, above),
+        Some(Phase::Erroneous) => raise_unusable(originals, parts, above),
+        Some(Phase::Running) => Ok(()),
+        Some(Phase::Ready) => Ok(()),
+        None => Ok(()),
+    }
+}
+
+/// The same, where it has one that is a class of the program.
+fn initialize_super(
+    originals: &Originals,
+    parts: &mut Parts,
+    markers: &mut Stack<Marker>,
+    class: u32,
+) -> Result<(), NoMemory>
+    ensures { OnOk result (state_of markers.new parts.new
+        ≡ with_super originals.now (state_of markers.old parts.old) class
+        (super_of originals.now.program class)) }
+{
+    match super_of(originals.program(), class) {
+        Some(above) => initialize_above(originals, parts, markers, class, above),
+        None => mark(parts, markers, class, Part::Initializer),
+    }
+}
+
+// ---- the static initializer
+
+/// Begins a static initializer, which has no arguments, on the current frame.
+fn begin_initializer(
+    originals: &Originals,
+    parts: &mut Parts,
+    markers: &Stack<Marker>,
+    method: u32,
+) -> Result<(), NoMemory>
+    requires few { may_begin parts.old.frames.frames ≡ true }
+    requires below { marker_on (suc (length parts.old.frames.frames)) markers.now ≡ None }
+    ensures { let w = originals.now in OnOk result (state_of markers.now parts.new
+        ≡ with_frame (state_of markers.now parts.old)
+        (new_frame w (original w.program) method [])) }
+{
+    let max_locals = originals.max_locals(method);
+    let max_stack = originals.max_stack(method);
+    parts.frames.reserve(max_locals, max_stack)?;
+    parts
+        .frames
+        .enter(method as usize, method, max_locals, max_stack, 0);
+    Ok(())
+}
+
+/// The static initializer of a class begins, where it has one; where that were one activation too
+/// many StackOverflowError is thrown.
+fn run_initializer(
+    originals: &Originals,
+    parts: &mut Parts,
+    markers: &mut Stack<Marker>,
+    class: u32,
+) -> Result<(), NoMemory>
+    ensures { let w = originals.now in OnOk result (state_of markers.new parts.new
+        ≡ (runs_initializer w (original w.program) (state_of markers.old parts.old) class
+        (initializer_of w.program class)).after) }
+{
+    mark(parts, markers, class, Part::Finish)?;
+    let Some(method) = initializer_of(originals.program(), class) else {
+        return Ok(());
+    };
+    if may_begin(&parts.frames) {
+        begin_initializer(originals, parts, markers, method)
+    } else {
+        raise(originals, parts, Exception::StackOverflow)
+    }
+}
+
+// ---- every part
+
+/// The initialization of a class goes on with this part, after its marker was taken off.
+pub fn go_on(
+    originals: &Originals,
+    parts: &mut Parts,
+    markers: &mut Stack<Marker>,
+    class: u32,
+    part: Part,
+) -> Result<(), NoMemory>
+    ensures { let w = originals.now in OnOk result (state_of markers.new parts.new
+        ≡ (initializes w (original w.program) (state_of markers.old parts.old) class part).after) }
+{
+    match part {
+        Part::Constants => mark(parts, markers, class, Part::Superclass),
+        Part::Superclass => initialize_super(originals, parts, markers, class),
+        Part::Initializer => run_initializer(originals, parts, markers, class),
+        Part::Finish => {
+            set_phase(&mut parts.shared, class, Phase::Ready);
+            Ok(())
+        }
+    }
+}
