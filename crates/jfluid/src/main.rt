@@ -1,4 +1,4 @@
-//! jfluid: runs a class file and reports on its run.
+//! jfluid: runs class files and reports on their run.
 #![tactic(auto)]
 
 use jf_bytes::{DiskFiles, LateFile, StdSink, StdSource};

@@ -1,5 +1,5 @@
 -- What a run that was carried out leaves to its answer.
-use Rattle.std.proofs.Common.{◌≡◌, ℕ, ◌<◌, true, false, List, length, Option, Some, sym, ap, subst, ◌∙◌, arith, inl, inr}
+use Rattle.std.proofs.Common.{◌≡◌, ℕ, ◌<◌, true, false, List, length, take, Option, Some, sym, ap, subst, ◌∙◌, arith, inl, inr}
 use Rattle.std.specs.Prelude.{◌⊎◌, Result, Ok, Err, IfOk, IfErr, IsOk, OnOk, MatchResult}
 use Rattle.std.specs.Option.{option_and_then}
 use Rattle.jf_bytes.specs.Streams.{Rose}
@@ -14,14 +14,14 @@ use Rattle.jfluid_cli.specs.declared.running.Stop.TheVariants as stop
 use Rattle.jfluid_cli.specs.Calls.{IsReported, IsRun}
 use Rattle.jfluid_cli.specs.Sinks.{Streams, IsUntold}
 use Rattle.jfluid_cli.specs.Stages.{IsStopped}
-use Rattle.small_program.specs.Admission.{Runs}
 use Rattle.jfluid_cli.specs.Asking.{asked_by}
 use Rattle.jfluid_cli.specs.Runs.{IsCarriedOut, SameProgram, StopCause, is_ended_at}
 use Rattle.jvm_model.specs.declared.program.Program.{Program}
 use Rattle.jvm_model.specs.OneClass.{IsBuiltProgram}
 use Rattle.jvm_model.specs.Programs.{first_class}
 use Rattle.jfluid_cli.specs.Selections.{IsSelected, marks_for}
-use Rattle.jfluid_cli.specs.Top.{answer_for, report_of, reported_of, root_of, root_of_answer}
+use Rattle.jfluid_cli.specs.Contents.{classes_for}
+use Rattle.jfluid_cli.specs.Top.{RunAs, answer_for, report_of, reported_of, root_by, root_of, root_of_answer}
 use Rattle.jfluid_cli.specs.Words.{Command, command_of}
 
 -- the run had not ended before the step where it stopped
@@ -66,16 +66,17 @@ run-answer (Err r) outcome s budget text k ok untold why carried cause =
 -- ---- the root of the words
 
 -- what is reported for the root of an admitted program is what is reported of the words
-pub root-reported : (words : List (List ℕ)) (command : Command) (root : Option ℕ)
-    (program : Program) (v : View) → command_of words ≡ Some command
-    → Runs (answer_for (asked_by command) (first_class program)) (first_class program) program root
+pub root-reported : (words : List (List ℕ)) (command : Command) (contents : List (List ℕ))
+    (root : Option ℕ) (program : Program) (v : View) → command_of words ≡ Some command
+    → length command.files ≡ length contents
+    → RunAs (asked_by command) (classes_for contents program) program root
     → v.program ≡ program → report_of root v ≡ reported_of words v
-root-reported words command root program v commanded runs same =
-    let is : root_of words (first_class v.program) ≡ root =
-    ap (option_and_then (λ (k : Command). root_of_answer
-    (answer_for (asked_by k) (first_class v.program)))) commanded
-    ∙ (ap (λ (p : Program). root_of_answer (answer_for (asked_by command) (first_class p))) same
-    ∙ (ap root_of_answer runs.admitted ∙ runs.root_is)) in
+root-reported words command contents root program v commanded many runs same =
+    let is : root_of words v.program ≡ root =
+    ap (option_and_then (λ (k : Command). root_by k v.program)) commanded
+    ∙ (ap (root_by command) same
+    ∙ (ap (λ (n : ℕ). root_of_answer (answer_for (asked_by command) (take n program.classes))) many
+    ∙ (ap root_of_answer runs.admitted ∙ runs.root_is))) in
     ap (λ (o : Option ℕ). report_of o v) (sym is)
 
 -- the machine goes on in the versions that it was made with

@@ -1,12 +1,10 @@
 -- What a call leaves before a refusal's line is put.
 use Rattle.std.proofs.Common.{◌≡◌, ℕ, true, false, List, [], ◌∷◌, Option, Some, None, refl, sym, ap, subst, ◌∙◌, inl, inr}
-use Rattle.std.specs.Prelude.{Result, Ok, Err, IfSome, IsSome, IsSomeAnd, MatchResult, cond}
-use Rattle.std.specs.Option.{option_map, option_map_or}
-use Rattle.jf_bytes.specs.Streams.{Told, HasTold, PutsFront}
-use Rattle.jf_bytes.specs.Unicode.{utf16_of}
-use Rattle.plan_text.specs.Roots.{slashed}
+use Rattle.std.specs.Prelude.{Result, Ok, Err, IfSome, IsSome, IsSomeAnd, MatchResult}
+use Rattle.std.specs.Option.{option_map_or}
+use Rattle.std.proofs.lemmas.Option.{same_Some}
+use Rattle.jf_bytes.specs.Streams.{Told, IsToldAs, PutsFront}
 use Rattle.jvm_model.specs.declared.program.Program.{Program}
-use Rattle.jvm_model.specs.Programs.{first_class}
 use Rattle.jvm_model.specs.Run.{output_of}
 use Rattle.jvm_machine.specs.View.{View}
 use Rattle.jfluid_cli.specs.declared.kept.Kept.{Kept}
@@ -16,14 +14,16 @@ use Rattle.jfluid_cli.specs.Calls.{Call, given_of, IsReported, IsRun, IsTrueOf, 
 use Rattle.jfluid_cli.specs.Asking.{asked_by, IsFine}
 use Rattle.jfluid_cli.specs.Causes.{Given, Accepts, IsAccepted, IsDue}
 use Rattle.jfluid_cli.specs.Sinks.{IsUntold}
-use Rattle.jfluid_cli.specs.Stages.{IsEarly, IsLoaded, HasFetchCause, is_early, IsStopped, IsSameRun, IsCarried}
+use Rattle.jfluid_cli.specs.Contents.{AreToldAs, SpellAlone, classes_for}
+use Rattle.jfluid_cli.specs.Stages.{AreUnfit, IsEarly, IsLoaded, HasFetchCause, is_early, IsStopped, IsSameRun, IsCarried}
 use Rattle.jfluid_cli.specs.Origins.{HasOrigin, IsOnlyProgram}
 use Rattle.jfluid_cli.specs.Refusals.{status_of}
 use Rattle.jfluid_cli.specs.Runs.{PutsAtMost, SameProgram, IsCarriedOut, output_at, world_on}
 use Rattle.jfluid_cli.specs.Selections.{IsSelected, RunsProgram}
-use Rattle.jfluid_cli.specs.Top.{HasNoProgram, IsProgram, file_word, report_of, reported_of}
-use Rattle.jfluid_cli.specs.Words.{Command, Options, command_of, options_of, budget_of, is_class_file}
+use Rattle.jfluid_cli.specs.Top.{HasNoProgram, IsProgram, report_of, reported_of}
+use Rattle.jfluid_cli.specs.Words.{Command, command_of, budget_of, file_words}
 use Rattle.jfluid_cli.proofs.Answered.{root-reported, selected-later}
+use Rattle.jfluid_cli.proofs.Pairs.{zip-length}
 
 not_both : false ≡ true → ⊥
 not_both e = cc
@@ -36,7 +36,7 @@ not_six s early six = not_both (subst (λ (n : ℕ). is_early n ≡ true) six ea
 pub carried-early : (c : Call) (r : Refusal) → c.kept ≡ None
     → IsUntold c.streams.out c.streams.out_after → IsUntold c.streams.report c.streams.report_after
     → IsEarly (given_of c) r
-    → HasFetchCause (file_word c.words) c.files c.files_after (status_of r)
+    → HasFetchCause (file_words c.words) c.files c.files_after r
     → (status_of r ≡ 3 → (p : Program) → IsAccepted (given_of c) p → ⊥)
     → IsCarried c (Err r)
 carried-early c r none out report early fetch file = record {
@@ -62,38 +62,38 @@ carried-early c r none out report early fetch file = record {
   untold = report;
 }
 
--- the file of a command is the third word
-named : (file : List ℕ) (b : _) (o : Option Options) (main : List ℕ) (k : Command)
-    → cond b (option_map (λ (x : Options). let y : Command =
-    record { main = main; file = file; options = x } in y) o) None ≡ Some k → k.file ≡ file
-named file true (Some x) main k e =
-    sym (ap (λ (y : Option Command). option_map_or (λ (z : Command). z.file) y file) e)
-named file true None main k e = absurd cc
-named file false o main k e = absurd cc
+-- the files of a command are those of the words
+pub files-said : (words : List (List ℕ)) (k : Command) → command_of words ≡ Some k
+    → k.files ≡ file_words words
+files-said words k e =
+    sym (ap (λ (o : Option Command). option_map_or (λ (c : Command). c.files) o []) e)
 
-pub file-word : (words : List (List ℕ)) (k : Command) → command_of words ≡ Some k
-    → k.file ≡ file_word words
-file-word [] k e = absurd cc
-file-word (program ∷ []) k e = absurd cc
-file-word (program ∷ main ∷ []) k e = absurd cc
-file-word (program ∷ main ∷ file ∷ more) k e =
-    named file (is_class_file file) (options_of more) (slashed (utf16_of main)) k e
+-- what the files tell under the same words is the same
+pub same-told : (files : Told) (words xs ys : List (List ℕ)) → AreToldAs (Some files) words xs
+    → AreToldAs (Some files) words ys → xs ≡ ys
+same-told files [] [] [] left right = refl
+same-told files [] [] (y ∷ ys) left right = absurd right
+same-told files [] (x ∷ xs) ys left right = absurd left
+same-told files (word ∷ words) [] ys left right = absurd left
+same-told files (word ∷ words) (x ∷ xs) [] left right = absurd right
+same-told files (word ∷ words) (x ∷ xs) (y ∷ ys) left right =
+    let here : x ≡ y = same_Some x y (sym left.0 ∙ right.0) in
+    let rest : xs ≡ ys = same-told files words xs ys left.1 right.1 in
+    cc (here, rest)
 
--- what is accepted is no file without a program
-pub not-accepted : (g : Given) (k : Command) → g.asked ≡ Some k
-    → HasTold g.told k.file (HasNoProgram (asked_by k)) → (program : Program)
-    → IsAccepted g program → ⊥
-not-accepted g k asked none program a =
-    let both : (let o : Option Command = Some k in o ≡ Some a.command) = sym asked
-    ∙ a.accepts.asked in
-    let same : k ≡ a.command = cc in
-    let has : HasTold g.told a.command.file (HasNoProgram (asked_by a.command)) =
-    subst (λ (x : Command). HasTold g.told x.file (HasNoProgram (asked_by x))) same none in
-    let files : HasTold (Some a.files) a.command.file (HasNoProgram (asked_by a.command)) =
-    subst (λ (t : Option Told). HasTold t a.command.file
-    (HasNoProgram (asked_by a.command))) a.telling has in
-    subst (λ (o : Option (List ℕ)). IsSomeAnd o (HasNoProgram (asked_by a.command)))
-    a.told_as files program a.root a.program_is
+-- what is accepted has a program in its files
+pub not-accepted : (g : Given) (k : Command) → g.asked ≡ Some k → AreUnfit g.told k
+    → (program : Program) → IsAccepted g program → ⊥
+not-accepted g k asked (contents, told_as, none) program a =
+    let same : k ≡ a.command = same_Some k a.command (sym asked ∙ a.accepts.asked) in
+    let files : AreToldAs (Some a.files) a.command.files contents =
+    subst (λ (t : Option Told). AreToldAs t a.command.files contents) a.telling
+    (subst (λ (x : Command). AreToldAs g.told x.files contents) same told_as) in
+    let one : a.contents ≡ contents =
+    same-told a.files a.command.files a.contents contents a.told_as files in
+    subst (λ (x : Command). HasNoProgram (asked_by x) contents) same none program a.root
+    (subst (λ (xs : List (List ℕ)). IsProgram (asked_by a.command) xs program a.root) one
+    a.program_is)
 
 -- ---- want of memory
 
@@ -108,7 +108,7 @@ memory-refused c = record {
   made = λ six. absurd cc;
   stopped = λ six. absurd cc;
   not_fetched = λ seven. absurd cc;
-  name = λ seven. absurd cc;
+  name = λ at seven. absurd cc;
   calm = λ seven other. absurd (other refl);
 }
 
@@ -128,11 +128,9 @@ outputs-same v w n m same at =
 pub record IsMade (c : Call) (command : Command) (root : Option ℕ) (made : Kept) : Type 0 where
   pub commanded : command_of c.words ≡ Some command
   pub fine : IsFine command
-  pub bytes : List ℕ
   pub program : Program
-  pub loaded : IsLoaded c.told command bytes program root
+  pub loaded : IsLoaded c.told command made.classes program root
   pub runs : RunsProgram program made.vm
-  pub classes : made.classes ≡ bytes ∷ []
   pub input : made.input ≡ []
   pub selected : IsSelected root made.vm
 
@@ -150,13 +148,13 @@ made-origin c command root made k is same =
       command = command;
       commanded = is.commanded;
       fine = is.fine;
-      bytes = is.bytes;
-      classes = same.classes ∙ is.classes;
-      told_as = is.loaded.told_as;
+      told_as = subst (AreToldAs c.told command.files) (sym same.classes) is.loaded.told_as;
       root = root;
       program =
-          subst (λ (p : Program). IsProgram (asked_by command) is.bytes p root) program_is
-          is.loaded.program_is;
+          subst (λ (xs : List (List ℕ)). IsProgram (asked_by command) xs k.vm.program root)
+          (sym same.classes)
+          (subst (λ (p : Program). IsProgram (asked_by command) made.classes p root) program_is
+          is.loaded.program_is);
       selected = selected-later root made.vm k.vm same.program is.selected;
       input = same.input ∙ is.input;
       no_input = same.program.input ∙ is.runs.input_is;
@@ -164,13 +162,10 @@ made-origin c command root made k is same =
 
 made-only : (c : Call) (command : Command) (root : Option ℕ) (made k : Kept)
     → IsMade c command root made → IsSameRun made k → IsOnlyProgram k
-made-only c command root made k is same = record {
-  bytes = is.bytes;
-  classes = same.classes ∙ is.classes;
-  only = λ x file. is.loaded.one x file
-      ∙ ap first_class (sym (same.program.program ∙ is.runs.program_is));
-  faultless = is.loaded.faultless;
-}
+made-only c command root made k is same =
+    subst (λ (xs : List (List ℕ)). SpellAlone xs (classes_for xs k.vm.program)) (sym same.classes)
+    (subst (λ (p : Program). SpellAlone made.classes (classes_for made.classes p))
+    (sym (same.program.program ∙ is.runs.program_is)) is.loaded.alone)
 
 made-true : (c : Call) (command : Command) (root : Option ℕ) (made k : Kept)
     → IsMade c command root made → c.kept ≡ Some k → IsSameRun made k
@@ -201,7 +196,8 @@ made-run c command root made k status is same ran = record {
   calm = ran.calm;
   report = subst (λ (text : List ℕ). IsReported k.vm text c.streams.report c.streams.report_after
       status)
-      (root-reported c.words command root is.program k.vm is.commanded
+      (root-reported c.words command made.classes root is.program k.vm is.commanded
+      (zip-length (IsToldAs c.told) command.files made.classes is.loaded.told_as)
       is.loaded.program_is.runs (same.program.program ∙ is.runs.program_is)) ran.report;
 }
 
@@ -220,7 +216,7 @@ stopped-refused c command k r accepts kept calm stopped = elim stopped.why [
     made = λ _. subst (λ (o : Option Kept). IsSome o) (sym kept) refl;
     stopped = λ _. rose;
     not_fetched = λ seven. absurd cc;
-    name = λ seven. absurd cc;
+    name = λ at seven. absurd cc;
     calm = λ seven nine. calm;
   })
   | inr memory ↦ subst (IsRefused c) (sym memory) (memory-refused c)
@@ -264,13 +260,13 @@ pub carried-refused : (c : Call) (k : Command) (r : Refusal) → command_of c.wo
     → c.kept ≡ None → IsUntold c.streams.out c.streams.out_after
     → IsUntold c.streams.report c.streams.report_after
     → (let g : Given = record { asked = Some k; told = c.told } in IsEarly g r)
-    → HasFetchCause k.file c.files c.files_after (status_of r)
-    → (status_of r ≡ 3 → HasTold c.told k.file (HasNoProgram (asked_by k)))
+    → HasFetchCause k.files c.files c.files_after r
+    → (status_of r ≡ 3 → AreUnfit c.told k)
     → IsCarried c (Err r)
 carried-refused c k r commanded none out report early fetch refuses =
     carried-early c r none out report
     (subst (λ (o : Option Command). let g : Given =
     record { asked = o; told = c.told } in IsEarly g r) (sym commanded) early)
-    (subst (λ (name : List ℕ). HasFetchCause name c.files c.files_after (status_of r))
-    (file-word c.words k commanded) fetch)
+    (subst (λ (names : List (List ℕ)). HasFetchCause names c.files c.files_after r)
+    (files-said c.words k commanded) fetch)
     (λ three. not-accepted (given_of c) k commanded (refuses three))

@@ -39,9 +39,9 @@ same_program : (x y : Program) → (let r : Result Program AdmitError = Ok x in 
 same_program x y e = cc e
 
 -- an answer has one program
-pub one-program : (answer : Result Program AdmitError) (c d : ClassFile) (p q : Program)
-    (r s : Option ℕ) → Runs answer c p r → Runs answer d q s → p ≡ q
-one-program answer c d p q r s left right = same_program p q (sym left.admitted ∙ right.admitted)
+pub one-program : (answer : Result Program AdmitError) (cs ds : List ClassFile) (p q : Program)
+    (r s : Option ℕ) → Runs answer cs p r → Runs answer ds q s → p ≡ q
+one-program answer cs ds p q r s left right = same_program p q (sym left.admitted ∙ right.admitted)
 
 pub ending_of_same : (p q : Program) (x y : List ℕ) (budget : ℕ) → p ≡ q → x ≡ y
     → ending_of (world_on p x) budget ≡ ending_of (world_on q y) budget

@@ -1,29 +1,28 @@
 -- What a call answers, from what it left: all but the line follows from the run or the refusal.
-use Rattle.std.proofs.Common.{◌≡◌, ℕ, true, false, List, [], ◌∷◌, Option, Some, None, sym, ap, subst, ◌∙◌, inl, inr}
+use Rattle.std.proofs.Common.{◌≡◌, ℕ, true, false, List, [], Option, Some, None, sym, ap, subst, ◌∙◌, inl, inr}
 use Rattle.std.specs.Prelude.{◌⊎◌, Ok, Err, IfSome, IsSome, IsSomeAnd}
 use Rattle.std.proofs.lemmas.Bool.{cases_eq}
 use Rattle.std.proofs.lemmas.Option.{same_Some, none-some}
-use Rattle.jf_bytes.specs.Streams.{Told, IsToldAs, PutsAll, PutsFront, Rose, contents_at}
+use Rattle.jf_bytes.specs.Streams.{Told, PutsAll, PutsFront, Rose}
 use Rattle.const_pool.specs.declared.class.ClassFile.{ClassFile}
 use Rattle.jvm_model.specs.declared.program.Program.{Program}
-use Rattle.class_reader.specs.Files.{IsFile}
-use Rattle.jvm_model.specs.Programs.{first_class}
 use Rattle.jvm_model.specs.Run.{ending_of}
-use Rattle.small_program.specs.Admission.{Runs}
 use Rattle.jfluid_cli.specs.declared.kept.Kept.{Kept}
 use Rattle.jfluid_cli.specs.declared.refusal.Refusal.{Refusal}
 use Rattle.jfluid_cli.specs.declared.refusal.Refusal.TheVariants.{NoMemory}
 use Rattle.jfluid_cli.specs.Calls.{Call, given_of, IsRun, IsTrueOf, IsRefused, IsAnswered, PutsLine, AllCalm}
 use Rattle.jfluid_cli.specs.Asking.{asked_by, IsFine}
 use Rattle.jfluid_cli.specs.Causes.{Accepts, AreAccepted, IsAccepted, IsUnfit, OfWords}
+use Rattle.jfluid_cli.specs.Contents.{AreToldAs, classes_for}
 use Rattle.jfluid_cli.specs.Sinks.{SinkView, IsUntold, PutsOrRose}
 use Rattle.jfluid_cli.specs.Stages.{IsCarried}
 use Rattle.jfluid_cli.specs.Origins.{HasOrigin, IsOnlyProgram}
 use Rattle.jfluid_cli.specs.Refusals.{status_of, IsRefusalStatus, refusal_line}
 use Rattle.jfluid_cli.specs.Runs.{ending_at, world_on}
-use Rattle.jfluid_cli.specs.Top.{IsCalm, IsProgram, answer_for, is_run, is_status, file_word, reported_of, status_of_ending}
-use Rattle.jfluid_cli.specs.Words.{Command, budget_of}
-use Rattle.jfluid_cli.proofs.Carried.{memory-refused}
+use Rattle.jfluid_cli.specs.Top.{IsCalm, IsProgram, RunAs, answer_for, is_run, is_status, reported_of, status_of_ending}
+use Rattle.jfluid_cli.specs.Words.{Command, budget_of, file_words}
+use Rattle.jfluid_cli.proofs.Carried.{memory-refused, same-told}
+use Rattle.jfluid_cli.proofs.Spelled.{one-spelling}
 use Rattle.jfluid_cli.proofs.Complete.{calm_not_rose, ends_as, ending_of_same, one-program}
 
 not_both : false ≡ true → ⊥
@@ -38,26 +37,26 @@ origin-accepts : (c : Call) (k : Kept) (o : HasOrigin c.told c.words k)
     → Accepts (given_of c) o.command
 origin-accepts c k o = record { asked = o.commanded; fine = o.fine }
 
--- the bytes that the files tell for the same command are the kept ones
-same-bytes : (told : Option Told) (a b : Command) (files : Told) (kept bytes : List ℕ) → a ≡ b
-    → told ≡ Some files → IsToldAs told a.file kept → contents_at files b.file ≡ Some bytes
-    → kept ≡ bytes
-same-bytes told a b files kept bytes same telling as_told contents =
-    let here : IsToldAs (Some files) b.file kept =
-    subst (λ (t : Option Told). IsToldAs t b.file kept) telling
-    (subst (λ (x : Command). IsToldAs told x.file kept) same as_told) in
-    same_Some kept bytes (sym here ∙ contents)
+-- the contents that the files tell for the same command are the kept ones
+same-contents : (told : Option Told) (a b : Command) (files : Told) (kept contents : List (List ℕ))
+    → a ≡ b → told ≡ Some files → AreToldAs told a.files kept
+    → AreToldAs (Some files) b.files contents → kept ≡ contents
+same-contents told a b files kept contents same telling left right =
+    let here : AreToldAs (Some files) b.files kept =
+    subst (λ (t : Option Told). AreToldAs t b.files kept) telling
+    (subst (λ (x : Command). AreToldAs told x.files kept) same left) in
+    same-told files b.files kept contents here right
 
 kept-fit : (c : Call) (k : Kept) → HasOrigin c.told c.words k → IsUnfit (given_of c) → ⊥
 kept-fit c k o u =
     let same : o.command ≡ u.command =
     same-command (given_of c).asked o.command u.command o.commanded u.accepts.asked in
-    let bytes : o.bytes ≡ u.bytes =
-    same-bytes c.told o.command u.command u.files o.bytes u.bytes same u.telling o.told_as
+    let one : k.classes ≡ u.contents =
+    same-contents c.told o.command u.command u.files k.classes u.contents same u.telling o.told_as
     u.told_as in
     u.none k.vm.program o.root
-    (subst (λ (bs : List ℕ). IsProgram (asked_by u.command) bs k.vm.program o.root) bytes
-    (subst (λ (x : Command). IsProgram (asked_by x) o.bytes k.vm.program o.root) same
+    (subst (λ (xs : List (List ℕ)). IsProgram (asked_by u.command) xs k.vm.program o.root) one
+    (subst (λ (x : Command). IsProgram (asked_by x) k.classes k.vm.program o.root) same
     o.program))
 
 kept-ends : (c : Call) (k : Kept) (p : Program) (budget : ℕ) → HasOrigin c.told c.words k
@@ -66,24 +65,20 @@ kept-ends : (c : Call) (k : Kept) (p : Program) (budget : ℕ) → HasOrigin c.t
 kept-ends c k p budget o alone a =
     let same : o.command ≡ a.command =
     same-command (given_of c).asked o.command a.command o.commanded a.accepts.asked in
-    let bytes : o.bytes ≡ a.bytes =
-    same-bytes c.told o.command a.command a.files o.bytes a.bytes same a.telling o.told_as
+    let one : k.classes ≡ a.contents =
+    same-contents c.told o.command a.command a.files k.classes a.contents same a.telling o.told_as
     a.told_as in
-    let both : alone.bytes ∷ [] ≡ a.bytes ∷ [] = sym alone.classes
-    ∙ (o.classes ∙ ap (λ (bs : List ℕ). bs ∷ []) bytes) in
-    let held : a.bytes ≡ alone.bytes = cc in
-    let class : ClassFile = first_class p in
-    let own : ClassFile = first_class k.vm.program in
-    let class_is : class ≡ own =
-    alone.only class (subst (λ (bs : List ℕ). IsFile bs class) held a.program_is.file) in
-    let runs : Runs (answer_for (asked_by a.command) class) own k.vm.program o.root =
-    subst (λ (x : ClassFile). Runs (answer_for (asked_by a.command) x) own k.vm.program o.root)
-    (sym class_is)
-    (subst (λ (x : Command). Runs (answer_for (asked_by x) own) own k.vm.program o.root)
-    same o.program.runs) in
+    let own : List ClassFile = classes_for k.classes k.vm.program in
+    let is : IsProgram (asked_by a.command) k.classes p a.root =
+    subst (λ (xs : List (List ℕ)). IsProgram (asked_by a.command) xs p a.root) (sym one)
+    a.program_is in
+    let classes : classes_for k.classes p ≡ own =
+    one-spelling k.classes own (classes_for k.classes p) alone is.files in
     ending_of_same k.vm.program p k.vm.input [] budget
-    (one-program (answer_for (asked_by a.command) class) own class k.vm.program p o.root a.root
-    runs a.program_is.runs) o.no_input
+    (one-program (answer_for (asked_by a.command) own) own own k.vm.program p o.root a.root
+    (subst (λ (x : Command). RunAs (asked_by x) own k.vm.program o.root) same o.program.runs)
+    (subst (λ (cs : List ClassFile). RunAs (asked_by a.command) cs p a.root) classes is.runs))
+    o.no_input
 
 -- something is kept
 held : (o : Option Kept) (P Q : Kept → Type 0) → IsSome o → IfSome o P → IfSome o Q → (k : Kept)
@@ -223,28 +218,28 @@ answered-refusal c r status is known always refused line =
 abbrev pub told-after : Call → SinkView → Call
 told-after c after = record c { streams = record c.streams { report_after = after } }
 
-put-line : (old mid new : SinkView) (told : Refusal) (word file : List ℕ) → IsUntold old mid
-    → word ≡ file → PutsOrRose mid new (refusal_line told word)
-    → PutsOrRose old new (refusal_line told file)
-put-line old mid new told word file untold is puts =
-    let here : PutsOrRose old new (refusal_line told word) = record {
-      front = subst (λ (o : Option (List ℕ)). PutsFront o new.taken (refusal_line told word))
+put-line : (old mid new : SinkView) (told : Refusal) (words files : List (List ℕ)) → IsUntold old mid
+    → words ≡ files → PutsOrRose mid new (refusal_line told words)
+    → PutsOrRose old new (refusal_line told files)
+put-line old mid new told words files untold is puts =
+    let here : PutsOrRose old new (refusal_line told words) = record {
+      front = subst (λ (o : Option (List ℕ)). PutsFront o new.taken (refusal_line told words))
           untold.taken puts.front;
       whole = elim puts.whole [
         | inl all ↦ inl (subst
-            (λ (o : Option (List ℕ)). PutsAll o new.taken (refusal_line told word)) untold.taken
+            (λ (o : Option (List ℕ)). PutsAll o new.taken (refusal_line told words)) untold.taken
             all)
         | inr rose ↦ inr (subst (λ (n : ℕ). Rose n new.faults) untold.faults rose)
       ];
     } in
-    subst (λ (w : List ℕ). PutsOrRose old new (refusal_line told w)) is here
+    subst (λ (ws : List (List ℕ)). PutsOrRose old new (refusal_line told ws)) is here
 
-pub answered-told : (c : Call) (after : SinkView) (r told : Refusal) (status : ℕ) (word : List ℕ)
-    → IsCarried c (Err r) → (told ≡ r) ⊎ (told ≡ NoMemory) → status ≡ status_of told
-    → IsRefusalStatus status → word ≡ file_word c.words
-    → PutsOrRose c.streams.report_after after (refusal_line told word)
+pub answered-told : (c : Call) (after : SinkView) (r told : Refusal) (status : ℕ)
+    (words : List (List ℕ)) → IsCarried c (Err r) → (told ≡ r) ⊎ (told ≡ NoMemory)
+    → status ≡ status_of told → IsRefusalStatus status → words ≡ file_words c.words
+    → PutsOrRose c.streams.report_after after (refusal_line told words)
     → IsAnswered (told-after c after) status
-answered-told c after r told status word carried was is known named puts =
+answered-told c after r told status words carried was is known named puts =
     let d : Call = told-after c after in
     let first : IsRefused d r = record {
       due = carried.refused.due;
@@ -268,5 +263,5 @@ answered-told c after r told status word carried was is known named puts =
       | inr memory ↦
           subst (IsRefused d) (sym memory) (memory-refused d)
     ])
-    (put-line c.streams.report c.streams.report_after after told word
-    (file_word c.words) carried.untold named puts)
+    (put-line c.streams.report c.streams.report_after after told words
+    (file_words c.words) carried.untold named puts)

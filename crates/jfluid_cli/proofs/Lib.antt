@@ -5,7 +5,11 @@ pub mod Selected
 pub mod Steps
 pub mod Onward
 pub mod Underway
+pub mod Pairs
+pub mod FileWords
+pub mod WorkedWords
 pub mod ToldFiles
+pub mod Spelled
 pub mod Complete
 pub mod Early
 pub mod Answered

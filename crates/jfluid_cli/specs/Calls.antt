@@ -1,19 +1,20 @@
 -- What a call of the program leaves: all that it promises.
-use Rattle.std.specs.Prelude.{◌≡◌, ◌≢◌, ℕ, ◌⊎◌, true, false, List, [], Option, None, IfSome, IsSome, IsSomeAnd}
+use Rattle.std.specs.Prelude.{◌≡◌, ◌≢◌, ℕ, ◌⊎◌, true, false, List, [], Option, Some, None, slice_get, IfSome, IsSome, IsSomeAnd}
 use Rattle.jf_bytes.specs.Streams.{Told, PutsAll, PutsFront, Rose}
 use Rattle.jvm_model.specs.declared.program.Program.{Program}
 use Rattle.jvm_model.specs.Run.{ending_of}
 use Rattle.jvm_machine.specs.View.{View}
 use Rattle.jfluid_cli.specs.declared.kept.Kept.{Kept}
 use Rattle.jfluid_cli.specs.declared.refusal.Refusal.{Refusal}
+use Rattle.jfluid_cli.specs.declared.refusal.Refusal.TheVariants.{NotFetched}
 use Rattle.jfluid_cli.specs.Asking.{IsFine}
 use Rattle.jfluid_cli.specs.Causes.{Given, IsAccepted, IsUnfit, IsDue, OfWords}
 use Rattle.jfluid_cli.specs.Origins.{HasOrigin, IsOnlyProgram}
 use Rattle.jfluid_cli.specs.Refusals.{status_of, refusal_line}
 use Rattle.jfluid_cli.specs.Runs.{IsCarriedOut, PutsAtMost, ending_at, world_on}
 use Rattle.jfluid_cli.specs.Sinks.{SinkView, FilesView, Streams, PutsOrRose}
-use Rattle.jfluid_cli.specs.Top.{IsCalm, is_run, is_refused, is_status, file_word, reported_of, status_of_ending}
-use Rattle.jfluid_cli.specs.Words.{command_of, budget_of}
+use Rattle.jfluid_cli.specs.Top.{IsCalm, is_run, is_refused, is_status, reported_of, status_of_ending}
+use Rattle.jfluid_cli.specs.Words.{command_of, budget_of, file_words}
 
 -- ---- a call
 
@@ -76,17 +77,20 @@ pub record IsRefused (c : Call) (r : Refusal) : Type 0 where
   -- nothing is kept, but with 6, and perhaps with 9
   pub refused : is_refused (status_of r) ≡ true → c.kept ≡ None
   pub made : status_of r ≡ 6 → IsSome c.kept
-  -- a fault's count rose, and its name is that of the file; with 2, 3 and 6 no fetch failed
+  -- a fault's count rose, and the last failed name is that of the file; with 2, 3 and 6 no fetch
+  -- failed
   pub stopped : status_of r ≡ 6 → Rose c.streams.out.faults c.streams.out_after.faults
   pub not_fetched : status_of r ≡ 7 → Rose c.files.faults c.files_after.faults
-  pub name : status_of r ≡ 7 → c.files_after.last_failed ≡ file_word c.words
+  pub name :
+      (at : ℕ) → r ≡ NotFetched at →
+      slice_get (file_words c.words) at ≡ Some c.files_after.last_failed
   pub calm : status_of r ≢ 7 → status_of r ≢ 9 → c.files_after.faults ≡ c.files.faults
 
 -- its line was put, or a front of it where the report's count of faults rose
 abbrev pub PutsLine : Call → Refusal → Type 0
 PutsLine c r =
     let s = c.streams in
-    PutsOrRose s.report s.report_after (refusal_line r (file_word c.words))
+    PutsOrRose s.report s.report_after (refusal_line r (file_words c.words))
 
 -- ---- the answer
 
@@ -112,7 +116,7 @@ pub record IsAnswered (c : Call) (status : ℕ) : Type 0 where
   -- and wherever they are one that is not carried out; that is for its words, so no file is asked
   pub plan_only :
       OfWords (given_of c) (λ k. IsFine k → ⊥) → (status ≡ 2) ⊎ (status ≡ 9)
-  -- 3 wherever the words are accepted, and no program is told
+  -- 3 wherever the words are accepted, and all files are told, but no program
   pub file_only :
       IsUnfit (given_of c) → IsCalm c.files.faults c.files_after.faults →
       (status ≡ 3) ⊎ (status ≡ 9)

@@ -2,6 +2,7 @@ pub mod Sinks
 pub mod Refusals
 pub mod Runs
 pub mod Words
+pub mod Contents
 pub mod Top
 pub mod Causes
 pub mod Origins

@@ -1,5 +1,5 @@
 -- The refusals of the program: their statuses, and the line that is put to the report.
-use Rattle.std.specs.Prelude.{◌≡◌, ℕ, ◌⊎◌, Bool, List, ◌++◌, codes, if◌then◌else◌}
+use Rattle.std.specs.Prelude.{◌≡◌, ℕ, ◌⊎◌, List, ◌++◌, Option, Some, None, codes}
 use Rattle.std.specs.Fmt.{decimal}
 use Rattle.class_reader.specs.declared.error.ReadError.{ReadError}
 use Rattle.class_reader.specs.declared.error.ReadError.TheVariants as fault
@@ -13,19 +13,20 @@ use Rattle.admit_check.specs.declared.error.ShapeCause.{ShapeCause}
 use Rattle.admit_check.specs.declared.error.ShapeCause.TheVariants as shape
 use Rattle.inject_events.specs.declared.error.Cause.{Cause}
 use Rattle.inject_events.specs.declared.error.Cause.TheVariants as limit
-use Rattle.small_program.specs.Admission.{is_of_class}
+use Rattle.small_program.specs.Admission.{class_in}
+use Rattle.jfluid_cli.specs.Contents.{word_at}
 use Rattle.jfluid_cli.specs.declared.refusal.Refusal.{Refusal}
 use Rattle.jfluid_cli.specs.declared.refusal.Refusal.TheVariants.{Words, BadRoot, NotRead, NotAdmitted, NotBuilt, NotBuiltPlan, NotFetched, OutFailed, NoMemory}
 
 abbrev pub status_of : Refusal → ℕ
 status_of Words = 2
 status_of BadRoot = 2
-status_of (NotRead why) = 3
+status_of (NotRead at why) = 3
 status_of (NotAdmitted why) = 3
-status_of NotBuilt = 3
+status_of (NotBuilt at) = 3
 status_of NotBuiltPlan = 3
 status_of OutFailed = 6
-status_of NotFetched = 7
+status_of (NotFetched at) = 7
 status_of NoMemory = 9
 
 -- the statuses of refusals
@@ -96,21 +97,24 @@ admission_cause admit.NoMain = codes "NoMain"
 admission_cause (admit.NoSuchRoot action) = codes "NoSuchRoot " ++ decimal action
 admission_cause admit.NoMemory = codes "NoMemory"
 
--- a fault of a class is told of its file, which is called by its word
-abbrev pub told_of : Bool → List ℕ → List ℕ → List ℕ
-told_of named file cause =
-    if named then codes "jfluid: " ++ (file ++ (codes ": " ++ (cause ++ codes "\n")))
-    else codes "jfluid: " ++ (cause ++ codes "\n")
+-- what is told of a file, which is called by its word
+abbrev pub told_of_file : List ℕ → List ℕ → List ℕ
+told_of_file file cause = codes "jfluid: " ++ (file ++ (codes ": " ++ (cause ++ codes "\n")))
+
+-- a fault of a class is told of its file
+abbrev pub told_of : List (List ℕ) → Option ℕ → List ℕ → List ℕ
+told_of files (Some at) cause = told_of_file (word_at files at) cause
+told_of files None cause = codes "jfluid: " ++ (cause ++ codes "\n")
 
 -- the line, with its end; a file is called by its word
-abbrev pub refusal_line : Refusal → List ℕ → List ℕ
-refusal_line Words file = codes "jfluid: words refused\n"
-refusal_line BadRoot file = codes "jfluid: plan: BadLine 0 Root\n"
-refusal_line (NotRead why) file =
-    codes "jfluid: " ++ (file ++ (codes ": " ++ (cause_of why ++ codes "\n")))
-refusal_line (NotAdmitted why) file = told_of (is_of_class why) file (admission_cause why)
-refusal_line NotBuilt file = codes "jfluid: " ++ (file ++ codes ": NotBuilt\n")
-refusal_line NotBuiltPlan file = codes "jfluid: NotBuiltPlan\n"
-refusal_line OutFailed file = codes "jfluid: output failed\n"
-refusal_line NotFetched file = codes "jfluid: " ++ (file ++ codes ": fetch failed\n")
-refusal_line NoMemory file = codes "jfluid: no memory\n"
+abbrev pub refusal_line : Refusal → List (List ℕ) → List ℕ
+refusal_line Words files = codes "jfluid: words refused\n"
+refusal_line BadRoot files = codes "jfluid: plan: BadLine 0 Root\n"
+refusal_line (NotRead at why) files = told_of_file (word_at files at) (cause_of why)
+refusal_line (NotAdmitted why) files = told_of files (class_in why) (admission_cause why)
+refusal_line (NotBuilt at) files = codes "jfluid: " ++ (word_at files at ++ codes ": NotBuilt\n")
+refusal_line NotBuiltPlan files = codes "jfluid: NotBuiltPlan\n"
+refusal_line OutFailed files = codes "jfluid: output failed\n"
+refusal_line (NotFetched at) files =
+    codes "jfluid: " ++ (word_at files at ++ codes ": fetch failed\n")
+refusal_line NoMemory files = codes "jfluid: no memory\n"

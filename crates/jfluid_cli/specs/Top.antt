@@ -1,14 +1,12 @@
--- What the status of a call means, which bytes are a program, and what is reported of a run.
-use Rattle.std.specs.Prelude.{◌≡◌, ℕ, ◌<◌, ◌⊎◌, Bool, false, List, [], ◌∷◌, Option, Some, None, Result, Ok, Err, slice_get, unwrap_or, ◌==◌}
+-- What the status of a call means, which contents are a program, and what is reported of a run.
+use Rattle.std.specs.Prelude.{◌≡◌, ℕ, ◌<◌, Bool, false, List, [], ◌∷◌, Option, Some, None, Result, Ok, Err, ◌==◌}
 use Rattle.std.specs.Option.{option_and_then}
 use Rattle.std.specs.List.{list_any}
 use Rattle.jf_bytes.specs.Streams.{greatest}
 use Rattle.const_pool.specs.declared.class.ClassFile.{ClassFile}
-use Rattle.class_reader.specs.Files.{IsFile}
 use Rattle.jvm_model.specs.declared.ending.Ending.{Ending}
 use Rattle.jvm_model.specs.declared.ending.Ending.TheVariants.{Returned, Exited, Uncaught, Unverifiable}
 use Rattle.jvm_model.specs.declared.program.Program.{Program}
-use Rattle.jvm_model.specs.Programs.{first_class}
 use Rattle.admit_check.specs.declared.error.AdmitError.{AdmitError}
 use Rattle.admit_check.specs.Admission.{admission_of}
 use Rattle.small_program.specs.declared.admission.Refused.{Refused}
@@ -16,9 +14,8 @@ use Rattle.small_program.specs.Admission.{selected, Runs, IsRefusedFor}
 use Rattle.jfluid_cli.specs.declared.asking.Asked.{Asked}
 use Rattle.jfluid_cli.specs.Asking.{asked_by}
 use Rattle.jvm_machine.specs.View.{View, world}
-use Rattle.jfluid_cli.specs.declared.refusal.Refusal.{Refusal}
-use Rattle.jfluid_cli.specs.declared.refusal.Refusal.TheVariants.{NotFetched, NoMemory}
-use Rattle.jfluid_cli.specs.Words.{command_of}
+use Rattle.jfluid_cli.specs.Contents.{AreFiles, classes_for}
+use Rattle.jfluid_cli.specs.Words.{Command, command_of}
 use Rattle.jfluid_cli.specs.Runs.{ending_at}
 use Rattle.profile_report.specs.Reports.{report_text}
 use Rattle.jvm_model.specs.Projection.{projection}
@@ -51,29 +48,31 @@ is_status = is_among (0 ∷ 1 ∷ 2 ∷ 3 ∷ 4 ∷ 6 ∷ 7 ∷ 8 ∷ 9 ∷ 10 �
 
 -- ---- the program
 
--- what admission answers for a class
-abbrev pub answer_for : Asked → ClassFile → Result Program AdmitError
-answer_for a c = admission_of (c ∷ []) a.main a.plan
+-- what admission answers for classes
+abbrev pub answer_for : Asked → List ClassFile → Result Program AdmitError
+answer_for a classes = admission_of classes a.main a.plan
 
--- The bytes are a file of a class that runs so far, as the first one of this program with this root.
-pub record IsProgram (a : Asked) (bytes : List ℕ) (program : Program) (root : Option ℕ) : Type 0
-  where
-    pub file : IsFile bytes (first_class program)
-    pub runs : Runs (answer_for a (first_class program)) (first_class program) program root
+-- These classes run so far, as this program with this root.
+abbrev pub RunAs : Asked → List ClassFile → Program → Option ℕ → Type 0
+RunAs a classes program root = Runs (answer_for a classes) classes program root
 
--- a class is spelled that is refused so
-abbrev pub HasRefused : Asked → Refused → List ℕ → Type 0
-HasRefused a refused bytes =
-    (c : ClassFile) × IsFile bytes c × IsRefusedFor (answer_for a c) c refused
+-- The contents are files of classes that run so far, as the first ones of this program with this
+-- root.
+pub record IsProgram (a : Asked) (contents : List (List ℕ)) (program : Program) (root : Option ℕ)
+    : Type 0 where
+  pub files : AreFiles contents (classes_for contents program)
+  pub runs : RunAs a (classes_for contents program) program root
+
+-- classes are spelled that are refused so
+abbrev pub HasRefused : Asked → Refused → List (List ℕ) → Type 0
+HasRefused a refused contents =
+    (classes : List ClassFile)
+    × AreFiles contents classes × IsRefusedFor (answer_for a classes) classes refused
 
 -- no program is spelled
-abbrev pub HasNoProgram : Asked → List ℕ → Type 0
-HasNoProgram a bytes =
-    (program : Program) (root : Option ℕ) → IsProgram a bytes program root → ⊥
-
--- what a fetch refuses
-abbrev pub IsFetchRefusal : Refusal → Type 0
-IsFetchRefusal refusal = (refusal ≡ NotFetched) ⊎ (refusal ≡ NoMemory)
+abbrev pub HasNoProgram : Asked → List (List ℕ) → Type 0
+HasNoProgram a contents =
+    (program : Program) (root : Option ℕ) → IsProgram a contents program root → ⊥
 
 -- ---- the report
 
@@ -89,18 +88,18 @@ abbrev pub root_of_answer : Result Program AdmitError → Option ℕ
 root_of_answer (Ok program) = selected program.acts
 root_of_answer (Err fault) = None
 
--- the root that the words name in a class
-abbrev pub root_of : List (List ℕ) → ClassFile → Option ℕ
-root_of words c =
-    option_and_then (λ command. root_of_answer (answer_for (asked_by command) c)) (command_of words)
+-- the root that a command names in the classes of its files, with which the program begins
+abbrev pub root_by : Command → Program → Option ℕ
+root_by command program =
+    root_of_answer (answer_for (asked_by command) (classes_for command.files program))
+
+-- the root that the words name
+abbrev pub root_of : List (List ℕ) → Program → Option ℕ
+root_of words program = option_and_then (λ command. root_by command program) (command_of words)
 
 -- what is reported of the run of these words
 abbrev pub reported_of : List (List ℕ) → View → List ℕ
-reported_of words v = report_of (root_of words (first_class v.program)) v
-
--- the third word, which is the file's name
-abbrev pub file_word : List (List ℕ) → List ℕ
-file_word words = unwrap_or (slice_get words 2) []
+reported_of words v = report_of (root_of words v.program) v
 
 -- ---- counts of faults
 

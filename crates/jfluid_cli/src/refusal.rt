@@ -1,16 +1,17 @@
 //! What the program answers in place of a report.
 
-ghost use Rattle.std.specs.Prelude.{◌≡◌, ◌⊎◌, true, false, IfOk};
+ghost use Rattle.std.specs.Prelude.{◌≡◌, ◌⊎◌, true, false, map, IfOk};
 ghost use Rattle.std.specs.String.{string_bytes};
 ghost use Rattle.jf_bytes.specs.Streams.{PutsAll, Rose};
-ghost use Rattle.jfluid_cli.specs.Refusals.{status_of, IsRefusalStatus, cause_of, refusal_line};
+ghost use Rattle.jfluid_cli.specs.Contents.{word_at as word_in};
+ghost use Rattle.jfluid_cli.specs.Refusals.{status_of, IsRefusalStatus, cause_of, refusal_line, told_of_file};
 ghost use Rattle.jfluid_cli.specs.Sinks.{PutsOrRose, sink_view};
 
 use crate::causes::admission_cause;
 use admit_check::AdmitError;
 use class_reader::ReadError;
 use jf_bytes::Sink;
-use small_program::is_of_class;
+use small_program::class_in;
 use std::alloc::{AllocError, Global};
 
 /// Why the program gives no report. Each has a status, and a line that is put to the report.
@@ -20,18 +21,21 @@ pub enum Refusal {
     Words,
     /// The word for the root is outside its grammar: status 2.
     BadRoot,
-    /// The file is no class file, and this is its first fault: status 3.
-    NotRead(ReadError),
+    /// The file at this position is the first that is no class file, and this is its first fault:
+    /// status 3.
+    NotRead(u32, ReadError),
     /// The program is not admitted, and this is its first fault: status 3.
     NotAdmitted(AdmitError),
-    /// The class is not one of static methods alone, of which the machine runs each instruction: status 3.
-    NotBuilt,
+    /// The class of the file at this position is the first that does not run so far: there is one
+    /// before it, or it is not one of static methods alone, of which the machine runs each
+    /// instruction: status 3.
+    NotBuilt(u32),
     /// There is a root, and the class is not small, or the root is a method of a built-in class: status 3.
     NotBuiltPlan,
     /// A put of the program's output failed: status 6.
     OutFailed,
-    /// The file could not be fetched: status 7.
-    NotFetched,
+    /// The file at this position could not be fetched: status 7.
+    NotFetched(u32),
     /// Status 9.
     NoMemory,
 }
@@ -44,12 +48,12 @@ impl Refusal {
     {
         match self {
             Refusal::Words | Refusal::BadRoot => 2,
-            Refusal::NotRead(_)
+            Refusal::NotRead(..)
             | Refusal::NotAdmitted(_)
-            | Refusal::NotBuilt
+            | Refusal::NotBuilt(_)
             | Refusal::NotBuiltPlan => 3,
             Refusal::OutFailed => 6,
-            Refusal::NotFetched => 7,
+            Refusal::NotFetched(_) => 7,
             Refusal::NoMemory => 9,
         }
     }
@@ -74,41 +78,59 @@ fn cause(alloc: Global, fault: ReadError) -> Result<String, AllocError>
     }
 }
 
+/// The word of the file at a position.
+fn word_at(files: &[String], at: u32) -> &str
+    ensures { result.now ≡ word_in (map string_bytes files.now) at }
+{
+    match files.get(at as usize) {
+        Some(word) => word.as_str(),
+        None => "",
+    }
+}
+
 /// The line of a file that is not read.
 fn fault_line(alloc: Global, fault: ReadError, file: &str) -> Result<String, AllocError>
-    ensures { IfOk result (λ line.
-        string_bytes line ≡ refusal_line (Refusal.NotRead fault) file.now) }
+    ensures { IfOk result (λ line. string_bytes line ≡ told_of_file file.now (cause_of fault)) }
 {
     let cause = cause(alloc, fault)?;
     format!(in alloc; "jfluid: {file}: {cause}\n")
 }
 
 /// The line of a program that is not admitted.
-fn admission_line(alloc: Global, fault: AdmitError, file: &str) -> Result<String, AllocError>
+fn admission_line(alloc: Global, fault: AdmitError, files: &[String]) -> Result<String, AllocError>
     ensures { IfOk result (λ line.
-        string_bytes line ≡ refusal_line (Refusal.NotAdmitted fault) file.now) }
+        string_bytes line ≡ refusal_line (Refusal.NotAdmitted fault) (map string_bytes files.now)) }
 {
     let cause = admission_cause(alloc, fault)?;
-    if is_of_class(fault) {
-        format!(in alloc; "jfluid: {file}: {cause}\n")
-    } else {
-        format!(in alloc; "jfluid: {cause}\n")
+    match class_in(fault) {
+        Some(at) => {
+            let file = word_at(files, at);
+            format!(in alloc; "jfluid: {file}: {cause}\n")
+        }
+        None => format!(in alloc; "jfluid: {cause}\n"),
     }
 }
 
 /// The line of a refusal; a file is called by its word.
-fn line(alloc: Global, refusal: Refusal, file: &str) -> Result<String, AllocError>
-    ensures { IfOk result (λ line. string_bytes line ≡ refusal_line refusal file.now) }
+fn line(alloc: Global, refusal: Refusal, files: &[String]) -> Result<String, AllocError>
+    ensures { IfOk result (λ line.
+        string_bytes line ≡ refusal_line refusal (map string_bytes files.now)) }
 {
     match refusal {
         Refusal::Words => String::from_str(alloc, "jfluid: words refused\n"),
         Refusal::BadRoot => String::from_str(alloc, "jfluid: plan: BadLine 0 Root\n"),
-        Refusal::NotRead(fault) => fault_line(alloc, fault, file),
-        Refusal::NotAdmitted(fault) => admission_line(alloc, fault, file),
-        Refusal::NotBuilt => format!(in alloc; "jfluid: {file}: NotBuilt\n"),
+        Refusal::NotRead(at, fault) => fault_line(alloc, fault, word_at(files, at)),
+        Refusal::NotAdmitted(fault) => admission_line(alloc, fault, files),
+        Refusal::NotBuilt(at) => {
+            let file = word_at(files, at);
+            format!(in alloc; "jfluid: {file}: NotBuilt\n")
+        }
         Refusal::NotBuiltPlan => String::from_str(alloc, "jfluid: NotBuiltPlan\n"),
         Refusal::OutFailed => String::from_str(alloc, "jfluid: output failed\n"),
-        Refusal::NotFetched => format!(in alloc; "jfluid: {file}: fetch failed\n"),
+        Refusal::NotFetched(at) => {
+            let file = word_at(files, at);
+            format!(in alloc; "jfluid: {file}: fetch failed\n")
+        }
         Refusal::NoMemory => String::from_str(alloc, "jfluid: no memory\n"),
     }
 }
@@ -127,13 +149,13 @@ pub fn put_bytes<P: Sink>(report: &mut P, bytes: &[u8]) -> bool
 
 /// Puts the line of a refusal, and answers which refusal it was in the end: where no memory is left
 /// for the line, that.
-pub fn tell<P: Sink>(alloc: Global, refusal: Refusal, file: &str, report: &mut P) -> Refusal
+pub fn tell<P: Sink>(alloc: Global, refusal: Refusal, files: &[String], report: &mut P) -> Refusal
     ensures told { (result ≡ refusal) ⊎ (result ≡ Refusal.NoMemory) }
     ensures line { let old = sink_view (P.taken report.old) (P.faults report.old) in
         let new = sink_view (P.taken report.new) (P.faults report.new) in
-        PutsOrRose old new (refusal_line result file.now) }
+        PutsOrRose old new (refusal_line result (map string_bytes files.now)) }
 {
-    match line(alloc, refusal, file) {
+    match line(alloc, refusal, files) {
         Ok(line) => {
             let _put = put_bytes(report, line.as_bytes());
             refusal

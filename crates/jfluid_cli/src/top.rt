@@ -7,8 +7,8 @@ ghost use Rattle.jfluid_cli.specs.Stages.{IsStopped, IsSameRun, IsCarried};
 ghost use Rattle.jfluid_cli.specs.Runs.{IsFresh, IsTold, is_ended_at, IsGoing, PutsAtMost};
 ghost use Rattle.jfluid_cli.specs.Selections.{IsSelected};
 ghost use Rattle.jfluid_cli.specs.Sinks.{Streams, IsUntold, sink_view, files_view};
-ghost use Rattle.jfluid_cli.specs.Top.{report_of, file_word};
-ghost use Rattle.jfluid_cli.specs.Words.{greatest_budget};
+ghost use Rattle.jfluid_cli.specs.Top.{report_of};
+ghost use Rattle.jfluid_cli.specs.Words.{greatest_budget, file_words as file_words_in};
 
 use crate::kept::Kept;
 use crate::loading::prepare;
@@ -84,7 +84,7 @@ fn run_made<O: Sink, P: Sink>(
     answered
 }
 
-/// Does what the words say: fetches, reads, admits and runs the class, and reports on it.
+/// Does what the words say: fetches, reads, admits and runs the classes, and reports on them.
 fn carry_out<F: Files, O: Sink, P: Sink>(
     alloc: Global,
     words: &[String],
@@ -124,30 +124,33 @@ fn carry_out<F: Files, O: Sink, P: Sink>(
     run_made(alloc, made_of, root, budget, out, report, kept)
 }
 
-/// The file's word, which a refusal's line names.
-fn third_word(words: &[String]) -> &str
-    ensures { result.now ≡ file_word (map string_bytes words.now) }
+/// The words of the files, of which a refusal's line names one.
+fn file_words(words: &[String]) -> &[String]
+    ensures { map string_bytes result.now ≡ file_words_in (map string_bytes words.now) }
 {
-    match words.get(2) {
-        Some(word) => word.as_str(),
-        None => "",
+    match read_words(words) {
+        Some(command) => command.files,
+        None => &[],
     }
 }
 
-/// Does what the words `jfluid MAIN FILE [BUDGET [ROOT]]` say: fetches the class file FILE, runs
-/// its class MAIN (dots are slashes) for at most BUDGET steps, puts what the program writes to
-/// `out` and the report to `report`, and answers the exit status. BUDGET is 1 to 13 decimal digits
+/// Does what the words `jfluid MAIN FILE.. [BUDGET [ROOT]]` say: fetches the class files, reads them,
+/// both in the order of the words, admits them, runs the class MAIN (dots are slashes) for at most
+/// BUDGET steps, puts what the program writes to `out` and the report to `report`, and answers the
+/// exit status. Each word behind MAIN that ends with `.class`, up to the first that does not, is a
+/// FILE; there are 1 to 1,024. So far a program of one class runs. BUDGET is 1 to 13 decimal digits
 /// and at most 1,000,000,000,000; where it is left out it is 100,000,000. ROOT is a method: class,
 /// dot, name and descriptor, as in `P1.f(I)I`. Its activations and what they call are profiled: the
 /// class is rewritten before the start, and the report has the tree of calling contexts. Without it
 /// the tree is empty. Nothing is taken from `input` and nothing put to `images`. What was run is
 /// left in `kept`.
 ///
-/// The statuses are 0, the run returned, with the budget's last step at the latest; 2, the words
-/// are refused; 3, the file is no class file, its program is not admitted, or it is outside the
-/// part of the language that runs so far; 4, the budget was spent before the run ended; 6, a put of output failed; 7, the file could
-/// not be fetched; 8, a put of the report failed; 9, no memory was left; 10, the code is
-/// unverifiable. With 2, 3, 6, 7 and 9 a line on `report` says it.
+/// The statuses are 0, the run returned, with the budget's last step at the latest; 1, it ended
+/// uncaught; 2, the words are refused; 3, a file is no class file, the program is not admitted, or a
+/// class is outside the part of the language that runs so far; 4, the budget was spent before the run
+/// ended; 6, a put of output failed; 7, a file could not be fetched; 8, a put of the report failed;
+/// 9, no memory was left; 10, the code is unverifiable. With 2, 3, 6, 7 and 9 a line on `report` says
+/// it, and names the file that is at fault.
 pub fn jfluid<F: Files, I: Source, O: Sink, P: Sink, G: Sink>(
     alloc: Global,
     words: &[String],
@@ -181,5 +184,5 @@ pub fn jfluid<F: Files, I: Source, O: Sink, P: Sink, G: Sink>(
         Ok(status) => return status,
         Err(refusal) => refusal,
     };
-    tell(alloc, refusal, third_word(words), report).status()
+    tell(alloc, refusal, file_words(words), report).status()
 }

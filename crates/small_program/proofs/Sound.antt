@@ -1,6 +1,6 @@
--- An admitted program of one class of static methods is one that runs.
+-- An admitted program of classes that run is one that the machine runs.
 use Rattle.std.proofs.Common.{◌≡◌, ℕ, zero, suc, ◌+◌, ◌<◌, ◌≤◌, Bool, true, false, List, [], ◌∷◌, length, slice_get, cond, Option, Some, None, refl, sym, ap, subst, ◌∙◌, arith}
-use Rattle.std.specs.Prelude.{map, nat_lt, unwrap_or, ◌==◌}
+use Rattle.std.specs.Prelude.{map, nat_lt, unwrap_or, IfSome, ◌==◌}
 use Rattle.std.specs.List.{AllByRecursion}
 use Rattle.std.specs.Option.{option_and_then, option_map_or}
 use Rattle.std.proofs.lemmas.Bool.{ltb-true, eq-eqb, and_from}
@@ -28,7 +28,7 @@ use Rattle.jvm_model.proofs.Numbers.{place-coded}
 use Rattle.jvm_model.proofs.ReadyStart.{IsAlone-static}
 use Rattle.jvm_steps.specs.Prepared.{HasShortCodes, FitsOriginals}
 use Rattle.admit_check.specs.Admission.{declared_main, main_of_class, main_in, IsSoundProgram}
-use Rattle.small_program.specs.Admission.{IsSmall}
+use Rattle.small_program.specs.Admission.{AllRun, IsSmall, RunsWith}
 use Rattle.small_program.specs.Runnable.{IsRunnable}
 use Rattle.small_program.proofs.BuiltIn.{files-built_in, files-short}
 use Rattle.small_program.proofs.Formed.{HasShortCodes-formed}
@@ -173,9 +173,41 @@ fits-sound c p name formed sound = record {
 }
 
 pub runnable-sound : (c : ClassFile) (p : Program) (name : List ℕ) (root : Option ℕ) → IsClassFile c → IsStaticClass c → ((k : ℕ) → root ≡ Some k → IsSmall c)
-    → IsSoundProgram (c ∷ []) name p → p.args ≡ [] → 1024 ≤ p.heap → IsRunnable p root
-runnable-sound c p name root formed static small sound plain room = record {
+    → IfSome root (λ k. k < length c.methods) → IsSoundProgram (c ∷ []) name p → p.args ≡ [] → 1024 ≤ p.heap → IsRunnable p root
+runnable-sound c p name root formed static small own sound plain room = record {
   fits = fits-sound c p name formed sound;
   starts = record { plain = plain; room = room };
   built = λ k e. built-sound c p name formed static (small k e) sound plain room;
+  known = subst (λ (x : ClassFile). IfSome root (λ k. k < length x.methods)) (sym (first-sound c p name sound)) own;
 }
+
+-- ---- the classes that run
+
+-- the first of the classes is the one that a root is of
+same-first : (c : ClassFile) (rest : List ClassFile) (k : ℕ) (fits : RunsWith (c ∷ rest) k) → fits.class ≡ c
+same-first c rest k fits = sym (same_Some c fits.class fits.first)
+
+small-fits : (c : ClassFile) (rest : List ClassFile) (root : Option ℕ) → IfSome root (RunsWith (c ∷ rest)) → (k : ℕ) → root ≡ Some k → IsSmall c
+small-fits c rest None fits k e = absurd (none-some k e)
+small-fits c rest (Some j) fits k e = subst IsSmall (same-first c rest j fits) fits.small
+
+own-fits : (c : ClassFile) (rest : List ClassFile) (root : Option ℕ) → IfSome root (RunsWith (c ∷ rest)) → IfSome root (λ k. k < length c.methods)
+own-fits c rest None fits = tt
+own-fits c rest (Some j) fits = subst (λ (x : ClassFile). j < length x.methods) (same-first c rest j fits) fits.own
+
+-- no class is named, so there is no main method
+no-main : (p : Program) (name : List ℕ) → main_in p 0 name ≡ Some p.main → ⊥
+no-main p name e =
+    option_and_then_some (λ class. cond (nat_lt class 0) (main_of_class p class) None) (class_named p name) p.main e (λ class named is. by_test class (nat_lt class 0) refl is)
+  where
+    by_test : (class : ℕ) (b : Bool) → nat_lt class 0 ≡ b → cond b (main_of_class p class) None ≡ Some p.main → ⊥
+    by_test class false t is = none-some p.main is
+    by_test class true t is = let less : class < 0 = ltb-true class 0 t in absurd (omega (arith, less))
+
+-- classes that run and are a sound program are one, which the machine runs
+pub classes-runnable : (classes : List ClassFile) (p : Program) (name : List ℕ) (root : Option ℕ) → AllByRecursion IsClassFile classes → AllRun classes
+    → IfSome root (RunsWith classes) → IsSoundProgram classes name p → p.args ≡ [] → 1024 ≤ p.heap → IsRunnable p root
+classes-runnable [] p name root formed built fits sound plain room = absurd (no-main p name sound.main_is)
+classes-runnable (c ∷ []) p name root formed built fits sound plain room =
+    runnable-sound c p name root formed.0 (built 0 c refl).static (small-fits c [] root fits) (own-fits c [] root fits) sound plain room
+classes-runnable (c ∷ d ∷ rest) p name root formed built fits sound plain room = absurd (let e = (built 1 d refl).first in omega (arith, e))

@@ -1,8 +1,9 @@
 -- What the machine asks of a program and of its root.
-use Rattle.std.specs.Prelude.{◌≡◌, ◌≤◌, ℕ, [], Option, Some, unwrap_or}
+use Rattle.std.specs.Prelude.{◌≡◌, ◌≤◌, ◌<◌, ℕ, [], length, Option, Some, IfSome, unwrap_or}
 use Rattle.plan_text.specs.declared.plan.Plan.{Plan}
 use Rattle.jvm_model.specs.declared.program.Program.{Program}
 use Rattle.jvm_model.specs.OneClass.{IsBuiltProgram}
+use Rattle.jvm_model.specs.Programs.{first_class}
 use Rattle.jvm_steps.specs.Before.{CanStart}
 use Rattle.jvm_steps.specs.Prepared.{FitsOriginals}
 
@@ -15,8 +16,9 @@ pub record IsUsual (plan : Plan) : Type 0 where
   pub args : plan.args ≡ []
   pub heap : 1024 ≤ heap_of plan
 
--- Its original code can be prepared, it can start, and where there is a root its first class can be rewritten.
+-- Its original code can be prepared, it can start, and where there is a root its first class can be rewritten and has the root.
 pub record IsRunnable (p : Program) (root : Option ℕ) : Type 0 where
   pub fits : FitsOriginals p
   pub starts : CanStart p
   pub built : (k : ℕ) → root ≡ Some k → IsBuiltProgram p
+  pub known : IfSome root (λ k. k < length (first_class p).methods)

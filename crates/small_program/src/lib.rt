@@ -1,5 +1,5 @@
-//! The part of what is admitted that runs so far: a class of a plain shape that is small, and a root of it. It goes when the
-//! machine runs whatever is admitted.
+//! The part of what is admitted that runs so far: a program of one class, which has static methods alone, and with a root of its own
+//! is small. It goes when the machine runs whatever is admitted.
 #![tactic(auto)]
 
 mod admission;
@@ -11,4 +11,4 @@ mod small_shapes;
 mod static_class;
 mod static_code;
 
-pub use admission::{Admitted, Refused, admit, is_of_class};
+pub use admission::{Admitted, Refused, admit, class_in};

@@ -1,10 +1,7 @@
 use Rattle.std.proofs.Common.{subst, sym}
-use Rattle.jf_bytes.specs.Streams.{HasTold}
 use Rattle.jfluid_cli.specs.declared.asking.Asked.{Asked}
-use Rattle.jfluid_cli.specs.Top.{HasNoProgram}
 use Rattle.jfluid_cli.specs.Views.{command_view}
-use Rattle.jfluid_cli.proofs.Early.{loaded, fetched}
-use Rattle.jfluid_cli.proofs.ToldFiles.{told_none}
+use Rattle.jfluid_cli.proofs.Early.{due-fetch, loaded, fetched, unfit}
 use Rattle.small_program.specs.Runnable.{IsUsual}
 use Rattle.jfluid_cli.proofs.UsualPlans.{usual-said}
 use Rattle.jfluid_cli.proofs.loading.load.Goals as goal
@@ -14,26 +11,29 @@ read_program-requires-clause-usual g c =
     subst (λ (a : Asked). IsUsual a.plan) c.requires.asked
     (usual-said (command_view c.args.command).options.root)
 
-pub returns-in-Ok-clause-ok : goal.returns-in-Ok-clause-ok
-returns-in-Ok-clause-ok g c =
-    loaded (g.F.Files.contents c.args.files.now)
-    (command_view c.args.command) c.args.asked.now c.in_ok-bytes.bytes.items c.deref.result.now
-    c.in-Ok.program.program c.in-Ok.program.root
-    c.in_ok-bytes.ensures.found (sym c.deref.ensures.value) c.requires.asked c.in-Ok.ensures.ok
-    c.in-Ok.ensures.one c.in-Ok.ensures.faultless
-
-pub returns-in-Err-clause-refuses : goal.returns-in-Err-clause-refuses
-returns-in-Err-clause-refuses g c three =
-    subst (λ (a : Asked). HasTold (g.F.Files.contents c.args.files.now) c.args.command.file.now
-    (HasNoProgram a)) (sym c.requires.asked)
-    (told_none c.args.asked.now (g.F.Files.contents c.args.files.now) c.args.command.file.now
-    c.in_ok-bytes.bytes.items c.in_ok-bytes.ensures.found
-    (subst (HasNoProgram c.args.asked.now) c.deref.ensures.value (c.in-Err.ensures.refuses three)))
-
 pub returns-in-Err-clause-early : goal.returns-in-Err-clause-early
 returns-in-Err-clause-early g c = λ given accepts told.
-    c.in-Err.ensures.early given
+    due-fetch given (command_view c.args.command) (g.F.Files.contents c.args.files.now)
+    c.in-Err.refusal accepts told c.in-Err.ensures.refused
+
+pub returns-in-Ok-read_program-clause-ok : goal.returns-in-Ok-read_program-clause-ok
+returns-in-Ok-read_program-clause-ok g c =
+    loaded (g.F.Files.contents c.args.files.now)
+    (command_view c.args.command) c.args.asked.now c.in-Ok.contents c.as_slice.result.now
+    c.in-Ok-read_program.program.program c.in-Ok-read_program.program.root
+    c.in-Ok.ensures.found (sym c.as_slice.ensures) c.requires.asked c.in-Ok-read_program.ensures.ok
+    c.in-Ok-read_program.ensures.alone
+
+pub returns-in-Err-read_program-clause-refuses : goal.returns-in-Err-read_program-clause-refuses
+returns-in-Err-read_program-clause-refuses g c three =
+    unfit (g.F.Files.contents c.args.files.now) (command_view c.args.command) c.args.asked.now
+    c.in-Ok.contents c.as_slice.result.now c.in-Ok.ensures.found (sym c.as_slice.ensures)
+    c.requires.asked (c.in-Err-read_program.ensures.refuses three)
+
+pub returns-in-Err-read_program-clause-early : goal.returns-in-Err-read_program-clause-early
+returns-in-Err-read_program-clause-early g c = λ given accepts told.
+    c.in-Err-read_program.ensures.early given
     (fetched given (command_view c.args.command)
-    (g.F.Files.contents c.args.files.now) c.args.asked.now c.in_ok-bytes.bytes.items
-    c.deref.result.now accepts told c.requires.asked c.in_ok-bytes.ensures.found
-    (sym c.deref.ensures.value))
+    (g.F.Files.contents c.args.files.now) c.args.asked.now c.in-Ok.contents
+    c.as_slice.result.now accepts told c.requires.asked c.in-Ok.ensures.found
+    (sym c.as_slice.ensures))

@@ -1,4 +1,5 @@
-use Rattle.std.proofs.Common.{refl, sym}
+use Rattle.std.proofs.Common.{List, ℕ, refl, sym, subst}
+use Rattle.jfluid_cli.specs.Stages.{IsLoaded}
 use Rattle.jfluid_cli.specs.Views.{command_view}
 use Rattle.jfluid_cli.proofs.Carried.{carried-refused, carried-run}
 use Rattle.jfluid_cli.proofs.top.carry_out.Goals as goal
@@ -21,11 +22,12 @@ returns g c =
           (record {
             commanded = sym c.in-Some.ensures.command;
             fine = c.in-Ok.ensures.fine;
-            bytes = l.bytes.items;
             program = l.program.program;
-            loaded = c.in-Ok.ensures.ok;
+            loaded = subst (λ (contents : List (List ℕ)). IsLoaded (g.F.Files.contents c.args.files.now)
+                (command_view c.in-Some.command) contents l.program.program l.program.root)
+                (sym c.in-Ok-make.ensures.classes)
+                c.in-Ok.ensures.ok;
             runs = c.in-Ok-make.ensures.runs;
-            classes = c.in-Ok-make.ensures.classes;
             input = c.in-Ok-make.ensures.input;
             selected = c.in-Ok-make.ensures.selected;
           })

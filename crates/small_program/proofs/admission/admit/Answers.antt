@@ -1,49 +1,47 @@
-use Rattle.std.proofs.Common.{◌≡◌, List, [], ◌∷◌, Ok, Err, sym, subst}
+use Rattle.std.proofs.Common.{List, ℕ, sym, subst}
 use Rattle.const_pool.specs.declared.class.ClassFile.{ClassFile}
-use Rattle.admit_check.specs.Admission.{admission_of, IsSoundProgram}
-use Rattle.small_program.specs.Admission.{IsRefusedFor}
-use Rattle.small_program.proofs.Answered.{outside, refuses, runs-as, foreign-as, same-as, runnable-as}
-use Rattle.small_program.proofs.Sound.{first-sound, runnable-sound}
+use Rattle.small_program.specs.Admission.{AllRun, AreRoots, IsOutside, IsRefusedFor}
+use Rattle.small_program.proofs.Answered.{refuses, runs-as, foreign-as, runnable-as}
+use Rattle.small_program.proofs.Sound.{classes-runnable}
 use Rattle.small_program.proofs.AskedPrograms.{asked-of, usual-args, usual-heap}
 use Rattle.small_program.proofs.admission.admit.Goals as goal
+use Rattle.small_program.proofs.admission.admit.Goals.{After-run_as}
 
-pub returns-then-not-is_static-clause-refused : goal.returns-then-not-is_static-clause-refused
-returns-then-not-is_static-clause-refused c =
-    outside c.in-Ok.program c.in_ok-is_static.is_static _ c.args.class
-    (subst (λ (cs : List ClassFile). admission_of cs c.args.main.now c.args.plan.now ≡ Ok c.in-Ok.program) c.in_ok-classes.ensures c.in-Ok.ensures.admitted)
-    c.if-not-is_static.true c.in_ok-is_static.ensures
+-- the classes run, and these are their roots
+record IsKnown (classes : List ClassFile) (roots : ℕ) : Type 0 where
+  built : AllRun classes
+  decided : AreRoots classes roots
 
-pub returns-else-not-is_static-clause-same : goal.returns-else-not-is_static-clause-same
-returns-else-not-is_static-clause-same c =
-    same-as c.run_as.result c.in-Ok.program c.args.class
-    (first-sound c.args.class c.in-Ok.program c.args.main.now (subst (λ (cs : List ClassFile). IsSoundProgram cs c.args.main.now c.in-Ok.program) c.in_ok-classes.ensures c.in-Ok.ensures.sound))
-    c.run_as.ensures.program
+known : (c : After-run_as) → IsKnown c.args.classes c.in_ok-roots.roots
+known c = record {
+  built = subst AllRun c.as_slice.ensures
+      (subst (IsOutside c.as_slice.result.now) c.in-None.is c.in_ok-outside.ensures);
+  decided = subst (λ (cs : List ClassFile). AreRoots cs c.in_ok-roots.roots) c.as_slice-2.ensures c.in_ok-roots.ensures;
+}
 
-pub returns-else-not-is_static-clause-runnable : goal.returns-else-not-is_static-clause-runnable
-returns-else-not-is_static-clause-runnable c =
-    let admitted = subst (λ (cs : List ClassFile). admission_of cs c.args.main.now c.args.plan.now ≡ Ok c.in-Ok.program) c.in_ok-classes.ensures c.in-Ok.ensures.admitted in
-    let asked = asked-of (c.args.class ∷ []) c.args.main.now c.args.plan.now c.in-Ok.program admitted in
-    runnable-as c.run_as.result c.in-Ok.program c.args.class c.in_ok-small.small _
-    (λ root small. runnable-sound c.args.class c.in-Ok.program c.args.main.now root c.requires.formed (c.in_ok-is_static.ensures.0 c.if-not-is_static.false) small
-    (subst (λ (cs : List ClassFile). IsSoundProgram cs c.args.main.now c.in-Ok.program) c.in_ok-classes.ensures c.in-Ok.ensures.sound)
+pub returns-in-None-clause-runnable : goal.returns-in-None-clause-runnable
+returns-in-None-clause-runnable c =
+    let is = known c in
+    let asked = asked-of c.args.classes c.args.main.now c.args.plan.now c.in-Ok.program c.in-Ok.ensures.admitted in
+    runnable-as c.run_as.result c.in-Ok.program c.args.classes c.in_ok-roots.roots
+    (λ root fits. classes-runnable c.args.classes c.in-Ok.program c.args.main.now root c.requires.formed is.built fits c.in-Ok.ensures.sound
     (usual-args c.args.plan.now c.in-Ok.program c.requires.usual asked) (usual-heap c.args.plan.now c.in-Ok.program c.requires.usual asked))
-    c.in_ok-small.ensures c.run_as.ensures.program c.run_as.ensures.own
+    is.decided c.run_as.ensures.program c.run_as.ensures.own
 
-pub returns-else-not-is_static-clause-runs : goal.returns-else-not-is_static-clause-runs
-returns-else-not-is_static-clause-runs c =
-    runs-as c.run_as.result c.in-Ok.program _ c.args.class c.in_ok-small.small _ (c.in_ok-is_static.ensures.0 c.if-not-is_static.false) c.in_ok-small.ensures
-    (subst (λ (cs : List ClassFile). admission_of cs c.args.main.now c.args.plan.now ≡ Ok c.in-Ok.program) c.in_ok-classes.ensures c.in-Ok.ensures.admitted)
-    c.len-methods.ensures c.run_as.ensures.program c.run_as.ensures.root c.run_as.ensures.own
+pub returns-in-None-clause-runs : goal.returns-in-None-clause-runs
+returns-in-None-clause-runs c =
+    let is = known c in
+    runs-as c.run_as.result c.in-Ok.program _ c.args.classes c.in_ok-roots.roots is.built is.decided c.in-Ok.ensures.admitted c.run_as.ensures.program
+    c.run_as.ensures.root c.run_as.ensures.own
 
-pub returns-else-not-is_static-clause-refused : goal.returns-else-not-is_static-clause-refused
-returns-else-not-is_static-clause-refused c =
-    foreign-as c.run_as.result c.in-Ok.program _ c.args.class c.in_ok-small.small _ (c.in_ok-is_static.ensures.0 c.if-not-is_static.false) c.in_ok-small.ensures
-    (subst (λ (cs : List ClassFile). admission_of cs c.args.main.now c.args.plan.now ≡ Ok c.in-Ok.program) c.in_ok-classes.ensures c.in-Ok.ensures.admitted)
-    c.len-methods.ensures c.run_as.ensures.errors c.run_as.ensures.foreign
+pub returns-in-None-clause-refused : goal.returns-in-None-clause-refused
+returns-in-None-clause-refused c =
+    let is = known c in
+    foreign-as c.run_as.result c.in-Ok.program _ c.args.classes c.in_ok-roots.roots is.built is.decided c.in-Ok.ensures.admitted c.run_as.ensures.errors
+    c.run_as.ensures.foreign
 
 pub returns-in-Err-clause-refused : goal.returns-in-Err-clause-refused
 returns-in-Err-clause-refused c =
-    subst (IsRefusedFor _ c.args.class) (sym c.refusal_of.ensures)
-    (refuses c.in-Err.fault c.in_ok-is_static.is_static _ c.args.class
-    (λ told. subst (λ (cs : List ClassFile). admission_of cs c.args.main.now c.args.plan.now ≡ Err c.in-Err.fault) c.in_ok-classes.ensures (c.in-Err.ensures.admitted told))
-    c.in_ok-is_static.ensures)
+    subst (IsRefusedFor _ c.args.classes) (sym c.refusal_of.ensures)
+    (refuses c.in-Err.fault c.in_ok-outside.outside _ c.args.classes c.in-Err.ensures.admitted
+    (subst (λ (cs : List ClassFile). IsOutside cs c.in_ok-outside.outside) c.as_slice.ensures c.in_ok-outside.ensures))

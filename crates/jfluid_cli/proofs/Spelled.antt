@@ -1,0 +1,151 @@
+-- The classes that contents spell, and the program that they are or are not.
+use Rattle.std.proofs.Common.{◌≡◌, ℕ, List, [], ◌∷◌, length, take, Option, Some, None, Result, Ok, Err, refl, sym, ap, subst, ◌∙◌, ◌<◌, get_or, inl, inr}
+use Rattle.std.specs.Prelude.{◌⊎◌, IfSome}
+use Rattle.std.proofs.lemmas.Option.{slice_get_read}
+use Rattle.const_pool.specs.declared.class.ClassFile.{ClassFile}
+use Rattle.class_reader.specs.declared.error.ReadError.{ReadError}
+use Rattle.class_reader.specs.Files.{IsFile, IsFirstFault}
+use Rattle.class_reader.proofs.Files.{one_class, no_first_fault}
+use Rattle.jvm_model.specs.declared.program.Program.{Program}
+use Rattle.admit_check.specs.declared.error.AdmitError.{AdmitError}
+use Rattle.small_program.specs.declared.admission.Refused.{Refused}
+use Rattle.small_program.specs.declared.admission.Refused.TheVariants as refused
+use Rattle.small_program.specs.Admission.{selected, HasUnbuiltRoot, IsRefusedFor, Runs, RunsWith}
+use Rattle.jfluid_cli.specs.declared.asking.Asked.{Asked}
+use Rattle.jfluid_cli.specs.declared.refusal.Refusal.{Refusal}
+use Rattle.jfluid_cli.specs.Refusals.{status_of}
+use Rattle.jfluid_cli.specs.Stages.{IsUnread, IsReadRefusal}
+use Rattle.jfluid_cli.specs.Contents.{AreFiles, IsFaultAt, SpellsAlone, SpellAlone, classes_for}
+use Rattle.jfluid_cli.specs.Top.{IsProgram, HasNoProgram, RunAs, answer_for}
+use Rattle.jfluid_cli.proofs.Pairs.{zip-weaken, zip-length, zip-at}
+
+-- ---- one content
+
+pub spells-alone : (bytes : List ℕ) (c : ClassFile) → IsFile bytes c → SpellsAlone bytes c
+spells-alone bytes c file = record {
+  file = file;
+  only = λ d other. one_class bytes d c other.spells file.spells;
+  faultless = λ fault first. no_first_fault bytes c fault file first;
+}
+
+-- ---- several
+
+pub files-alone : (contents : List (List ℕ)) (classes : List ClassFile) → SpellAlone contents classes
+    → AreFiles contents classes
+files-alone contents classes alone =
+    zip-weaken SpellsAlone IsFile contents classes (λ bytes c is. is.file) alone
+
+-- the content at a position is no class file, and those before it are
+pub unread-at : (contents : List (List ℕ)) (classes : List ClassFile) (at : ℕ) (bytes : List ℕ)
+    (r : Refusal) → at < length contents → bytes ≡ get_or contents at bytes
+    → SpellAlone (take at contents) classes → IsUnread bytes at r → IsReadRefusal contents r
+unread-at contents classes at bytes r within is alone (inl (fault, unread, first)) =
+    inl (at, fault, unread, record {
+      bytes = bytes;
+      there = slice_get_read contents (length contents) at bytes refl within is;
+      first = first;
+      classes = classes;
+      earlier = files-alone (take at contents) classes alone;
+    })
+unread-at contents classes at bytes r within is alone (inr memory) = inr memory
+
+both : (c d : ClassFile) (cs ds : List ClassFile) → c ≡ d → cs ≡ ds → c ∷ cs ≡ d ∷ ds
+both c d cs ds e f = cc (e, f)
+
+-- contents spell one list of classes
+pub one-spelling : (contents : List (List ℕ)) (classes others : List ClassFile)
+    → SpellAlone contents classes → AreFiles contents others → others ≡ classes
+one-spelling [] [] [] alone files = refl
+one-spelling [] [] (d ∷ others) alone files = absurd files
+one-spelling [] (c ∷ classes) others alone files = absurd alone
+one-spelling (bytes ∷ contents) [] others alone files = absurd alone
+one-spelling (bytes ∷ contents) (c ∷ classes) [] alone files = absurd files
+one-spelling (bytes ∷ contents) (c ∷ classes) (d ∷ others) alone files =
+    both d c others classes (alone.0.only d files.0)
+    (one-spelling contents classes others alone.1 files.1)
+
+-- a program begins with the classes that its contents spell
+pub begins : (contents : List (List ℕ)) (classes : List ClassFile) (p : Program)
+    → SpellAlone contents classes → take (length classes) p.classes ≡ classes
+    → classes_for contents p ≡ classes
+begins contents classes p alone first =
+    ap (λ (n : ℕ). take n p.classes) (zip-length SpellsAlone contents classes alone) ∙ first
+
+pub spelled-program : (a : Asked) (contents : List (List ℕ)) (classes : List ClassFile) (p : Program)
+    (root : Option ℕ) → SpellAlone contents classes → take (length classes) p.classes ≡ classes
+    → RunAs a classes p root → IsProgram a contents p root
+spelled-program a contents classes p root alone first runs =
+    let same : classes_for contents p ≡ classes = begins contents classes p alone first in
+    record {
+      files = subst (AreFiles contents) (sym same) (files-alone contents classes alone);
+      runs = subst (λ (cs : List ClassFile). RunAs a cs p root) (sym same) runs;
+    }
+
+pub spelled-alone : (contents : List (List ℕ)) (classes : List ClassFile) (p : Program)
+    → SpellAlone contents classes → take (length classes) p.classes ≡ classes
+    → SpellAlone contents (classes_for contents p)
+spelled-alone contents classes p alone first =
+    subst (SpellAlone contents) (sym (begins contents classes p alone first)) alone
+
+-- ---- no program
+
+
+same-ok : (x y : Program) → ◌≡◌ {A = Result Program AdmitError} (Ok x) (Ok y) → x ≡ y
+same-ok x y e = cc e
+
+not-ok : (x : Program) (fault : AdmitError) → ◌≡◌ {A = Result Program AdmitError} (Ok x) (Err fault) → ⊥
+not-ok x fault e = cc e
+
+-- what runs with its root has no root that it does not run with
+not-unbuilt : (a : Result Program AdmitError) (classes : List ClassFile) (p : Program) (root : Option ℕ)
+    → Runs a classes p root → HasUnbuiltRoot a classes → ⊥
+not-unbuilt a classes p root runs unbuilt =
+    let same : p ≡ unbuilt.program = same-ok p unbuilt.program (sym runs.admitted ∙ unbuilt.admitted) in
+    let is : root ≡ Some unbuilt.root =
+    sym runs.root_is ∙ (ap (λ (q : Program). selected q.acts) same ∙ unbuilt.root_is) in
+    unbuilt.unbuilt (subst (λ (o : Option ℕ). IfSome o (RunsWith classes)) is runs.rooted)
+
+-- what runs is not refused but for want of memory
+not-both : (a : Result Program AdmitError) (classes : List ClassFile) (p : Program) (root : Option ℕ)
+    (why : Refused) → Runs a classes p root → IsRefusedFor a classes why → why ≡ refused.NoMemory
+not-both a classes p root (refused.Fault fault) runs is =
+    absurd (not-ok p fault (sym runs.admitted ∙ is.0))
+not-both a classes p root (refused.NotBuilt at) runs is =
+    absurd (is.1.outside (runs.built at is.1.class is.1.there))
+not-both a classes p root refused.NotBuiltPlan runs is = absurd (not-unbuilt a classes p root runs is)
+not-both a classes p root refused.NoMemory runs is = refl
+
+pub other-fault : (fault : AdmitError) → refused.Fault fault ≡ refused.NoMemory → ⊥
+other-fault fault e = cc e
+
+pub other-place : (at : ℕ) → refused.NotBuilt at ≡ refused.NoMemory → ⊥
+other-place at e = cc e
+
+pub other-plan : refused.NotBuiltPlan ≡ refused.NoMemory → ⊥
+other-plan e = cc e
+
+-- classes that are refused are no program
+pub none-refused : (a : Asked) (contents : List (List ℕ)) (classes : List ClassFile) (why : Refused)
+    → SpellAlone contents classes → IsRefusedFor (answer_for a classes) classes why
+    → (why ≡ refused.NoMemory → ⊥) → HasNoProgram a contents
+none-refused a contents classes why alone refused other p root program =
+    let same : classes_for contents p ≡ classes =
+    one-spelling contents classes (classes_for contents p) alone program.files in
+    other (not-both (answer_for a classes) classes p root why
+    (subst (λ (cs : List ClassFile). RunAs a cs p root) same program.runs) refused)
+
+-- contents with a fault are no program
+pub none-faulty : (a : Asked) (contents : List (List ℕ)) (at : ℕ) (fault : ReadError)
+    → IsFaultAt contents at fault → HasNoProgram a contents
+none-faulty a contents at fault is p root program =
+    let here = zip-at IsFile contents (classes_for contents p) at is.bytes program.files is.there in
+    no_first_fault is.bytes here.other fault here.holds is.first
+
+not_three : ◌≡◌ {A = ℕ} 9 3 → ⊥
+not_three e = cc
+
+pub none-unread : (a : Asked) (contents : List (List ℕ)) (r : Refusal) → IsReadRefusal contents r
+    → status_of r ≡ 3 → HasNoProgram a contents
+none-unread a contents r (inl (at, fault, unread, is)) three = none-faulty a contents at fault is
+none-unread a contents r (inr memory) three =
+    absurd (not_three (sym (ap status_of memory) ∙ three))
