@@ -5,7 +5,8 @@ ghost use Rattle.std.specs.Option.{option_map};
 ghost use Rattle.const_pool.specs.References.{name_type_of};
 ghost use Rattle.jvm_model.specs.Kinds.{is_subkind};
 ghost use Rattle.jvm_model.specs.Layouts.{layout};
-ghost use Rattle.jvm_model.specs.Lookup.{place_in, resolved_field, resolved_method};
+ghost use Rattle.jvm_model.specs.Load.{is_among};
+ghost use Rattle.jvm_model.specs.Lookup.{place_in, resolved_field, resolved_method, superclasses};
 ghost use Rattle.jvm_model.specs.Selection.{Overrides, overrides, selected};
 ghost use Rattle.class_index.specs.Indices.{IsLinkable};
 ghost use Rattle.class_index.specs.Members.{place_view};
@@ -23,7 +24,7 @@ use crate::rows::Row;
 use crate::selecting::selected;
 use crate::super_calls::invoked_special;
 use crate::telling::answer;
-use crate::walks::layout_of;
+use crate::walks::{is_superclass, layout_of};
 use class_index::{Index, Order, Wanted};
 use const_pool::Kind;
 use jf_bytes::{NoMemory, Seq, Text16};
@@ -86,6 +87,13 @@ impl Linker {
         self.index.program()
     }
 
+    /// The program with its tables, by which names are found.
+    pub fn index(&self) -> &Index
+        ensures { result.now ≡ self.now.program }
+    {
+        &self.index
+    }
+
     /// The loaded classes, in order.
     pub fn loaded(&self) -> &[u32]
         ensures { result.now ≡ self.now.loaded }
@@ -115,6 +123,14 @@ impl Linker {
         ensures { result ≡ is_subkind self.now.program (parts_of lower) (parts_of upper) }
     {
         is_subkind(&self.index, self.state.rows.as_slice(), lower, upper)
+    }
+
+    /// Whether a class is the other one, or inherits from it.
+    pub fn extends(&self, lower: u32, upper: u32) -> bool
+        requires { IsLoaded self.now lower }
+        ensures { result ≡ is_among upper (superclasses self.now.program lower) }
+    {
+        is_superclass(&self.index, self.state.rows.as_slice(), lower, upper)
     }
 
     /// The field that a reference stands for (5.4.3.2).

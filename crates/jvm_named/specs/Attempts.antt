@@ -1,0 +1,22 @@
+-- An attempt of an instruction that names a class or a member: what it names is loaded before (JVM Specification 5.3, 5.4.3).
+use Rattle.std.specs.Prelude.{ℕ, List, ◌++◌}
+use Rattle.frame_stack.specs.FrameLists.{FramesView, top_operands}
+use Rattle.jvm_model.specs.Data.{Operands, Program, Shared}
+use Rattle.jvm_model.specs.Naming.{Naming, newly_loaded}
+use Rattle.jvm_model.specs.NamingRules.{does_named}
+use Rattle.class_linker.specs.Linkers.{LinkerView}
+use Rattle.jvm_named.specs.Answers.{Rule}
+
+-- with the classes that the instruction loads
+abbrev pub loaded_for : Program → Naming → Shared → FramesView → List ℕ
+loaded_for p n s f = s.loaded ++ newly_loaded p s.loaded n (top_operands f.frames)
+
+abbrev pub shared_loaded : Program → Naming → Shared → FramesView → Shared
+shared_loaded p n s f = record s { loaded = loaded_for p n s f }
+
+abbrev pub linker_loaded : Naming → Shared → LinkerView → FramesView → LinkerView
+linker_loaded n s l f = record l { loaded = loaded_for l.program n s f }
+
+-- the rule of the instruction, over what is loaded then
+abbrev pub attempts : Program → Naming → Shared → FramesView → Rule
+attempts p n s f l o = does_named p n (shared_loaded p n s f) l o

@@ -1,0 +1,5 @@
+pub mod Names
+pub mod Answers
+pub mod Objects
+pub mod Resolved
+pub mod Attempts

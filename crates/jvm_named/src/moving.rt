@@ -1,0 +1,1 @@
+//! How the frame goes on behind an instruction that names something.
