@@ -1,10 +1,12 @@
 -- What holds of the objects of a heap and the classes that are loaded: the class of an object is loaded, or that of an array's elements
 -- (JVM Specification 5.3, 5.4).
-use Rattle.std.specs.Prelude.{◌≡◌, ℕ, List, Some}
+use Rattle.std.specs.Prelude.{◌≡◌, ℕ, List, Option, Some}
+use Rattle.std.specs.Option.{option_map_or}
 use Rattle.std.specs.List.{AllByRecursion}
 use Rattle.heap_objects.specs.declared.object.Object.{Object}
 use Rattle.heap_objects.specs.Heaps.{HeapView}
 use Rattle.heap_objects.specs.Objects.{kind_of}
+use Rattle.jvm_model.specs.declared.program.Program.{Program}
 use Rattle.jvm_model.specs.KindNumbers.{user_count}
 use Rattle.jvm_model.specs.Kinds.{kind_named}
 use Rattle.jvm_model.specs.Naming as naming
@@ -12,21 +14,29 @@ use Rattle.jvm_model.specs.Programs.{class_named}
 use Rattle.jvm_model.specs.SharedState.{class_of_kind}
 use Rattle.class_linker.specs.Linkers.{IsKnown, IsLoaded, LinkerView}
 
+-- the class of this kind is loaded, and of an array's the elements' class
+pub record IsUsable (l : LinkerView) (kind : ℕ) : Type 0 where
+  pub known : IsKnown l kind
+  pub of_class : IsLoaded l (class_of_kind l.program kind)
+
 abbrev pub IsOfLoaded : LinkerView → Object → Type 0
-IsOfLoaded l o = IsKnown l (kind_of o)
+IsOfLoaded l o = IsUsable l (kind_of o)
 
 -- and java/lang/Object is, which is the class of arrays
 pub record AreLoaded (l : LinkerView) (h : HeapView) : Type 0 where
   pub objects : AllByRecursion (IsOfLoaded l) h.objects
   pub root : IsLoaded l (user_count l.program)
 
--- The kind that a name stands for, once it was resolved: its class is loaded, and of an array's the elements' class.
+-- the kind that a name stands for, once it was resolved
 pub record IsResolved (l : LinkerView) (name : List ℕ) (kind : ℕ) : Type 0 where
   pub named : kind_named l.program name ≡ Some kind
-  pub known : IsKnown l kind
-  pub of_class : IsLoaded l (class_of_kind l.program kind)
+  pub usable : IsUsable l kind
 
 -- the class in which an invokespecial stands is loaded
 abbrev pub HasLoadedCaller : LinkerView → naming.Naming → Type 0
 HasLoadedCaller l (naming.Invokespecial caller r interface) = (class : ℕ) → class_named l.program caller ≡ Some class → IsLoaded l class
 HasLoadedCaller l _ = Unit {0}
+
+-- the class of an object of this kind, and 0 where there is no object
+abbrev pub class_at_kind : Program → Option ℕ → ℕ
+class_at_kind p kind = option_map_or (class_of_kind p) kind 0
