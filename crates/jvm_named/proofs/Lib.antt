@@ -1,0 +1,5 @@
+mod KindLemmas
+mod Loads
+mod Behind
+mod ObjectLemmas
+mod Resolutions
