@@ -1,1 +1,6 @@
 mod NumberLaws
+mod KindLemmas
+mod Loads
+mod Behind
+mod ObjectLemmas
+mod Resolutions

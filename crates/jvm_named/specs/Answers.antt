@@ -1,11 +1,12 @@
 -- What an instruction comes to, by the outcome of its rule: the answer, and what becomes of the current frame (JVM Specification 2.6,
 -- 4.9.2, 6.5).
-use Rattle.std.specs.Prelude.{◌≡◌, ℕ, false, List, length, Result, Ok, Err, IfOk, OnOk, codes, if◌then◌else◌}
+use Rattle.std.specs.Prelude.{◌≡◌, ℕ, false, List, length, Result, Ok, Err, IfOk, OnOk, codes, ◌==◌, if◌then◌else◌}
 use Rattle.jf_bytes.specs.declared.error.NoMemory.{NoMemory}
 use Rattle.frame_stack.specs.FrameLists.{PlacedFrame, FramesView, with_frames, top_operands}
 use Rattle.jvm_basic.specs.Outcomes.{can_hold, top_locals, with_top}
 use Rattle.jvm_model.specs.CreationRules.{class_cast, instantiation_error}
-use Rattle.jvm_model.specs.Data.{Locals, Operands, Shared, Next, Outcome, GoesOn, Invokes, Raises, Throws, Initializes, Breaks, Done}
+use Rattle.jvm_model.specs.declared.state.Shared.{Shared}
+use Rattle.jvm_model.specs.Data.{Locals, Operands, Next, Outcome, GoesOn, Invokes, Raises, Throws, Initializes, Breaks, Done}
 use Rattle.jvm_model.specs.InvocationRules.{abstract_method, unsatisfied_link}
 use Rattle.jvm_model.specs.Load.{circular_class}
 use Rattle.jvm_model.specs.Lookup.{incompatible_change}
@@ -32,6 +33,14 @@ exception_name exception.NoSuchField = no_such_field
 exception_name exception.NoSuchMethod = no_such_method
 exception_name exception.NullPointer = null_pointer
 exception_name exception.UnsatisfiedLink = unsatisfied_link
+
+-- that of the built-in class at this place, where it is the error of a load or of a resolution
+abbrev pub exception_numbered : ℕ → Exception
+exception_numbered number =
+    if number == 42 then exception.NoClassDefinition else
+    if number == 45 then exception.ClassCircularity else
+    if number == 49 then exception.NoSuchField else
+    if number == 50 then exception.NoSuchMethod else exception.IncompatibleClassChange
 
 abbrev pub refusal_view : Refusal → Outcome
 refusal_view (refusal.Raises e message) = Raises (exception_name e) message

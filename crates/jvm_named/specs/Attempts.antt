@@ -1,7 +1,9 @@
 -- An attempt of an instruction that names a class or a member: what it names is loaded before (JVM Specification 5.3, 5.4.3).
 use Rattle.std.specs.Prelude.{ℕ, List, ◌++◌}
 use Rattle.frame_stack.specs.FrameLists.{FramesView, top_operands}
-use Rattle.jvm_model.specs.Data.{Operands, Program, Shared}
+use Rattle.jvm_model.specs.declared.program.Program.{Program}
+use Rattle.jvm_model.specs.declared.state.Shared.{Shared}
+use Rattle.jvm_model.specs.Data.{Operands}
 use Rattle.jvm_model.specs.Naming.{Naming, newly_loaded}
 use Rattle.jvm_model.specs.NamingRules.{does_named}
 use Rattle.class_linker.specs.Linkers.{LinkerView}

@@ -1,12 +1,16 @@
 -- What is left of each rule of an instruction that names a class or a member, where the name was resolved to this kind (JVM
 -- Specification 5.4.3, 6.5).
-use Rattle.std.specs.Prelude.{ℕ, Bool, true, false, Result}
+use Rattle.std.specs.Prelude.{ℕ, Bool, true, false, Some, Result, pos}
 use Rattle.std.specs.Bool.{beq}
 use Rattle.const_pool.specs.References.{Reference}
 use Rattle.jvm_model.specs.CreationRules.{answers, array_over, casts_to, counts_of, makes_by_counts, makes_instance}
-use Rattle.jvm_model.specs.Data.{Locals, Operands, Program, Shared, Outcome, Done}
+use Rattle.heap_objects.specs.declared.Value.TheVariants.{Int}
+use Rattle.jvm_model.specs.declared.program.Program.{Program}
+use Rattle.jvm_model.specs.declared.state.Shared.{Shared}
+use Rattle.jvm_model.specs.Data.{Locals, Operands, Next, Outcome, GoesOn, Done}
 use Rattle.jvm_model.specs.FieldRules.{gets_of, held_of, is_static_field, kind_by, pushes_static, puts_into, putting_of, sets_static}
 use Rattle.jvm_model.specs.InvocationRules.{Selecting, Virtual, OfInterface, Special, arguments_by, invokes_on, invokes_with_static, names_interface}
+use Rattle.jvm_model.specs.LocalRules.{replaces}
 use Rattle.jvm_model.specs.Lookup.{MemberPlace, resolved_field, resolved_method}
 use Rattle.jvm_model.specs.Naming.{◌>>=◌, Naming, New, Getfield, Putfield, Getstatic, Putstatic, Invokevirtual, Invokespecial, Invokestatic, Invokeinterface, Checkcast, Instanceof, Anewarray, Multianewarray, found, unless_refused, where_fitting}
 use Rattle.jvm_model.specs.ObjectRules.{done, makes}
@@ -76,3 +80,9 @@ does_resolved p kind (Checkcast name) s l o = done s (casts_to p name (ref_of o)
 does_resolved p kind (Instanceof name) s l o = done s (answers p name (ref_of o) s l o)
 does_resolved p kind (Anewarray name) s l o = makes (array_over kind) (int_of o) s l o
 does_resolved p kind (Multianewarray name dimensions) s l o = makes_by_counts kind dimensions (counts_of dimensions o) s l o
+
+-- ---- checkcast and instanceof of null, which resolve nothing
+
+abbrev pub skips : Naming → Locals → Operands → Outcome
+skips (Instanceof name) l o = replaces 1 (Some (Int (pos 0))) l o
+skips n l o = GoesOn l o Next
