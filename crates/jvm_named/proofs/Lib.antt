@@ -4,3 +4,6 @@ mod Loads
 mod Behind
 mod ObjectLemmas
 mod Resolutions
+mod Arguments
+mod BuiltInLemmas
+mod TargetLemmas

@@ -5,6 +5,7 @@
 mod arrays;
 mod asked;
 mod attempting;
+mod built_in;
 mod calls;
 mod casts;
 mod constants;
@@ -20,6 +21,7 @@ mod receivers;
 mod resolution;
 mod static_fields;
 mod statics;
+mod targets;
 
 pub use asked::{Asked, Exception, Refusal};
 pub use attempting::attempt;
