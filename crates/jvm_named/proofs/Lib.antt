@@ -3,3 +3,4 @@ mod Loads
 mod Behind
 mod ObjectLemmas
 mod Resolutions
+mod NumberLaws

@@ -3,3 +3,5 @@ pub mod Answers
 pub mod Objects
 pub mod Resolved
 pub mod Attempts
+pub mod Held
+pub mod Numbers
