@@ -4,3 +4,4 @@ mod Behind
 mod ObjectLemmas
 mod Resolutions
 mod NumberLaws
+mod Going

@@ -1,3 +1,4 @@
+pub mod Members
 pub mod Names
 pub mod Answers
 pub mod Objects

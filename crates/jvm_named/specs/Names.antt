@@ -1,21 +1,8 @@
--- The names that instructions give, as the definitions have them.
-use Rattle.std.specs.Prelude.{ℕ, List, Option}
-use Rattle.std.specs.Option.{option_map}
-use Rattle.const_pool.specs.declared.descriptor.Kind.{Kind}
-use Rattle.const_pool.specs.declared.descriptor.Shape.{Shape}
-use Rattle.const_pool.specs.References.{Reference, name_type_of}
-use Rattle.jvm_model.specs.Descriptors.{shape_of}
+-- The instructions with the names that they give, as the definitions have them.
 use Rattle.jvm_model.specs.Naming as model
-use Rattle.jvm_named.specs.declared.naming.MemberName.{MemberName}
 use Rattle.jvm_named.specs.declared.naming.Naming.{Naming}
 use Rattle.jvm_named.specs.declared.naming.Naming.TheVariants as naming
-
-abbrev pub reference_of : MemberName → Reference
-reference_of m = record { class = m.class; member = name_type_of m.name m.descriptor }
-
--- the kinds of the parameters that a method's descriptor tells
-abbrev pub params_by : List ℕ → Option (List Kind)
-params_by descriptor = option_map (λ (shape : Shape). shape.params) (shape_of descriptor)
+use Rattle.jvm_named.specs.Members.{reference_of}
 
 abbrev pub naming_view : Naming → model.Naming
 naming_view (naming.New name) = model.New name

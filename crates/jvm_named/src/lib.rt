@@ -12,6 +12,7 @@ mod creation;
 mod fields;
 mod held;
 mod instances;
+mod members;
 mod moving;
 mod naming;
 mod numbers;
@@ -20,6 +21,7 @@ mod receivers;
 mod resolution;
 mod static_fields;
 mod statics;
+mod values;
 
 pub use asked::{Asked, Exception, Refusal};
 pub use attempting::attempt;
