@@ -22,7 +22,7 @@ use Rattle.jvm_model.specs.Descriptors.{shape_of}
 use Rattle.jvm_model.specs.InvocationRules.{arguments_by, receiver_in, with_receiver}
 use Rattle.jvm_model.specs.Values.{arguments, data_of, datum_of}
 use Rattle.jvm_model.proofs.Shapes.{method_sound}
-use Rattle.jvm_named.specs.MemberNames.{params_by}
+use Rattle.jvm_named.specs.Members.{params_by}
 use Rattle.jvm_named.specs.Targets.{as_datum, data_in, is_reference, reference_in}
 
 -- as many values as parameters, or there are no such data

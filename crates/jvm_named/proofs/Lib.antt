@@ -7,3 +7,4 @@ mod Resolutions
 mod Arguments
 mod BuiltInLemmas
 mod TargetLemmas
+mod Going

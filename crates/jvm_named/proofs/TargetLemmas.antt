@@ -25,7 +25,7 @@ use Rattle.jvm_named.specs.declared.targets.Target.{Target as TheTarget}
 use Rattle.jvm_named.specs.Answers.{refusal_view}
 use Rattle.jvm_named.specs.Does.{IsDone, changed}
 use Rattle.jvm_named.specs.Objects.{class_at_kind}
-use Rattle.jvm_named.specs.Places.{at_place}
+use Rattle.jvm_named.specs.Members.{at_place}
 use Rattle.jvm_named.specs.Resolved.{invokes_instance, invokes_static_method, method_found}
 use Rattle.jvm_named.specs.Targets.{Target, as_datum, data_in, instance_target, invokes_target, static_target, target_in, unless_unready, unready_by}
 

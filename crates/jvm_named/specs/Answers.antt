@@ -3,14 +3,18 @@
 use Rattle.std.specs.Prelude.{◌≡◌, ℕ, false, List, length, Result, Ok, Err, IfOk, OnOk, codes, ◌==◌, if◌then◌else◌}
 use Rattle.jf_bytes.specs.declared.error.NoMemory.{NoMemory}
 use Rattle.frame_stack.specs.FrameLists.{PlacedFrame, FramesView, with_frames, top_operands}
+use Rattle.jvm_basic.specs.declared.effect.Effect.{Effect}
+use Rattle.jvm_basic.specs.declared.effect.Effect.TheVariants as effect
 use Rattle.jvm_basic.specs.Outcomes.{can_hold, top_locals, with_top}
 use Rattle.jvm_model.specs.CreationRules.{class_cast, instantiation_error}
 use Rattle.jvm_model.specs.declared.state.Shared.{Shared}
 use Rattle.jvm_model.specs.Data.{Locals, Operands, Next, Outcome, GoesOn, Invokes, Raises, Throws, Initializes, Breaks, Done}
 use Rattle.jvm_model.specs.InvocationRules.{abstract_method, unsatisfied_link}
 use Rattle.jvm_model.specs.Load.{circular_class}
-use Rattle.jvm_model.specs.Lookup.{incompatible_change}
+use Rattle.jvm_model.specs.Lookup.{MemberPlace, incompatible_change}
 use Rattle.jvm_model.specs.SharedState.{negative_array_size, no_class_definition, no_such_field, no_such_method, null_pointer}
+use Rattle.jvm_named.specs.declared.place.Place.{Place}
+use Rattle.jvm_named.specs.Members.{at_place}
 use Rattle.jvm_named.specs.declared.asked.Exception.{Exception}
 use Rattle.jvm_named.specs.declared.asked.Exception.TheVariants as exception
 use Rattle.jvm_named.specs.declared.asked.Refusal.{Refusal}
@@ -53,6 +57,10 @@ abbrev pub found_view : {A : Type 0} → Result A Refusal → Result A Outcome
 found_view (Ok x) = Ok x
 found_view (Err e) = Err (refusal_view e)
 
+abbrev pub place_found : Result Place Refusal → Result MemberPlace Outcome
+place_found (Ok m) = Ok (at_place m)
+place_found (Err e) = Err (refusal_view e)
+
 -- ---- answers
 
 pub data Answer : Type 0 where
@@ -83,6 +91,19 @@ frames_in q next fs = fs
 
 -- ---- a rule sees the locals and operands of the current frame
 
+abbrev pub Asks : Type 0
+Asks = Locals → Operands → Outcome
+
+abbrev pub asked_on : Asks → FramesView → Outcome
+asked_on asks f = asks (top_locals f.frames) (top_operands f.frames)
+
+abbrev pub answer_of : Asks → FramesView → Answer
+answer_of asks f = answer_in (asked_on asks f) f.frames
+
+abbrev pub frames_of : Asks → ℕ → FramesView → FramesView
+frames_of asks next f = with_frames (frames_in (asked_on asks f) next f.frames) f
+
+-- a rule that may change what is shared
 abbrev pub Rule : Type 0
 Rule = Locals → Operands → Done
 
@@ -112,3 +133,11 @@ Moves result new rule next old = OnOk result (new ≡ frames_by rule next old)
 -- and what is shared
 abbrev pub Shares : Result Asked NoMemory → Shared → Rule → FramesView → Type 0
 Shares result new rule f = OnOk result (new ≡ shared_by rule f)
+
+-- ---- a frame that goes on
+
+abbrev pub asked_by : Effect → Asked
+asked_by effect.Next = asked.Next
+asked_by (effect.Throws class) = asked.TooDeep
+asked_by effect.Bad = asked.TooDeep
+asked_by effect.Other = asked.TooDeep

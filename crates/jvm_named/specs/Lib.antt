@@ -1,4 +1,4 @@
-pub mod MemberNames
+pub mod Members
 pub mod Names
 pub mod Answers
 pub mod Objects
@@ -6,7 +6,6 @@ pub mod Resolved
 pub mod Attempts
 pub mod Held
 pub mod Numbers
-pub mod Places
 pub mod Targets
 pub mod Does
 pub mod BuiltInCalls

@@ -1,8 +1,8 @@
--- The names that instructions give, as the definitions have them.
+-- The instructions with the names that they give, as the definitions have them.
 use Rattle.jvm_model.specs.Naming as model
-pub use Rattle.jvm_named.specs.MemberNames.{params_by, reference_of}
 use Rattle.jvm_named.specs.declared.naming.Naming.{Naming}
 use Rattle.jvm_named.specs.declared.naming.Naming.TheVariants as naming
+use Rattle.jvm_named.specs.Members.{reference_of}
 
 abbrev pub naming_view : Naming → model.Naming
 naming_view (naming.New name) = model.New name

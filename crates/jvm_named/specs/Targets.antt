@@ -23,7 +23,9 @@ use Rattle.jvm_named.specs.declared.targets.By.{By}
 use Rattle.jvm_named.specs.declared.targets.By.TheVariants as by
 use Rattle.jvm_named.specs.declared.targets.Target.{Target as TheTarget}
 use Rattle.jvm_named.specs.Objects.{class_at_kind}
-use Rattle.jvm_named.specs.Places.{at_place}
+use Rattle.jvm_named.specs.declared.asked.Refusal.{Refusal}
+use Rattle.jvm_named.specs.Answers.{refusal_view}
+use Rattle.jvm_named.specs.Members.{at_place}
 use Rattle.jvm_named.specs.Resolved.{method_found}
 
 -- ---- arguments
@@ -46,6 +48,12 @@ is_reference _ = false
 abbrev pub reference_in : Option Value → ℕ
 reference_in (Some (Ref r)) = r
 reference_in _ = 0
+
+-- ---- what a step finds, by a view, or what is asked for where it is refused
+
+abbrev pub found_as : {A B : Type 0} → (A → B) → Result A Refusal → Result B Outcome
+found_as view (Ok x) = Ok (view x)
+found_as view (Err e) = Err (refusal_view e)
 
 -- ---- the method
 

@@ -4,11 +4,10 @@ ghost use Rattle.std.specs.Prelude.{◌≡◌, ◌≤◌, ◌++◌, ℕ, List, [
 ghost use Rattle.std.specs.List.{list_any};
 ghost use Rattle.std.specs.Option.{option_map};
 ghost use Rattle.const_pool.specs.Members.{reference_view};
-ghost use Rattle.frame_stack.specs.FrameLists.{top_operands, with_frames};
+ghost use Rattle.frame_stack.specs.FrameLists.{top_operands};
 ghost use Rattle.heap_objects.specs.Heaps.{kind_at, with_slot_at, with_units_replaced};
 ghost use Rattle.jvm_basic.specs.Outcomes.{top_locals};
 ghost use Rattle.jvm_model.specs.CreationRules.{is_text_class, text_names};
-ghost use Rattle.jvm_model.specs.Data.{GoesOn, Next};
 ghost use Rattle.jvm_model.specs.Descriptors.{same_text};
 ghost use Rattle.jvm_model.specs.InvocationRules.{initialized_object, initializes_object};
 ghost use Rattle.jvm_model.specs.InvocationRules.{is_plain_initializer, prints_line, receiver_in};
@@ -19,15 +18,15 @@ ghost use Rattle.jvm_model.specs.Naming.{extends};
 ghost use Rattle.jvm_model.specs.Rules.{is_println, line_text};
 ghost use Rattle.jvm_model.specs.SharedState.{null, throwable};
 ghost use Rattle.class_linker.specs.Linkers.{IsLoaded};
-ghost use Rattle.jvm_named.specs.Answers.{answer_in, answer_view, frames_in};
 ghost use Rattle.jvm_named.specs.BuiltInCalls.{HasBuiltIn, built_in_by, printed_in, runs_known};
 ghost use Rattle.jvm_named.specs.Does.{Does, changed};
 ghost use Rattle.jvm_named.specs.Objects.{AreLoaded, class_at_kind};
-ghost use Rattle.jvm_named.specs.Places.{at_place};
+ghost use Rattle.jvm_named.specs.Members.{at_place};
 ghost use Rattle.jvm_named.specs.Targets.{data_in};
 
 use crate::asked::{Asked, Refusal};
 use crate::instances::{class_of_kind, kind_of_object};
+use crate::moving::drop_operands;
 use crate::place::Place;
 use crate::receivers::receiver_below;
 use class_index::Index;
@@ -36,7 +35,6 @@ use const_pool::MemberRef;
 use frame_stack::Frames;
 use heap_objects::{Datum, Heap, HeapError, Value};
 use jf_bytes::{NoMemory, Seq, Text16};
-use jvm_basic::{Effect, go_on, recall};
 use jvm_model::{Program, Shared};
 use std::alloc::Global;
 
@@ -225,29 +223,6 @@ fn initialize_object(
     Ok(())
 }
 
-// ---- how the frame goes on
-
-/// The frame goes on without so many operands.
-fn go_without(frames: &mut Frames, count: u16, next: u16) -> Asked
-    ensures answer { let fs = frames.old.frames in answer_view result
-        ≡ answer_in (GoesOn (top_locals fs) (drop count (top_operands fs)) Next) fs }
-    ensures frames { let fs = frames.old.frames in frames.new ≡ with_frames
-        (frames_in (GoesOn (top_locals fs) (drop count (top_operands fs)) Next) next fs)
-        frames.old }
-{
-    recall(frames);
-    for _ in 0..count {
-        frames.pop();
-    }
-    recall(frames);
-    match go_on(frames, next) {
-        Effect::Next => Asked::Next,
-        Effect::Throws(_) => Asked::TooDeep,
-        Effect::Bad => Asked::TooDeep,
-        Effect::Other => Asked::TooDeep,
-    }
-}
-
 // ---- println
 
 /// The number that println prints, where it is its one argument.
@@ -294,7 +269,7 @@ fn print_line(
     match printed(frames, count) {
         Some(n) => {
             write_line(alloc, output, n)?;
-            Ok(go_without(frames, count, next))
+            Ok(drop_operands(frames, count, next))
         }
         None => Ok(Asked::Refused(Refusal::Breaks)),
     }
@@ -322,7 +297,7 @@ fn initialize(
 {
     let object = receiver_below(frames, count);
     initialize_object(alloc, linker, &mut shared.heap, class, object)?;
-    Ok(go_without(frames, count, next))
+    Ok(drop_operands(frames, count, next))
 }
 
 // ---- a method of a built-in class

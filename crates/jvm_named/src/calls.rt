@@ -13,7 +13,7 @@ ghost use Rattle.jvm_named.specs.BuiltInCalls.{HasBuiltIn};
 ghost use Rattle.jvm_named.specs.Does.{Does, changed};
 ghost use Rattle.jvm_named.specs.Numbers.{AreNumbers};
 ghost use Rattle.jvm_named.specs.Objects.{AreLoaded, HasLoadedCaller, IsResolved};
-ghost use Rattle.jvm_named.specs.Places.{at_place};
+ghost use Rattle.jvm_named.specs.Members.{at_place};
 ghost use Rattle.jvm_named.specs.Resolved.{invokes_instance, invokes_static_method};
 ghost use Rattle.jvm_named.specs.Targets.{HasCaller, by_view, data_in};
 

@@ -13,6 +13,7 @@ mod creation;
 mod fields;
 mod held;
 mod instances;
+mod members;
 mod moving;
 mod naming;
 mod numbers;
@@ -22,6 +23,7 @@ mod resolution;
 mod static_fields;
 mod statics;
 mod targets;
+mod values;
 
 pub use asked::{Asked, Exception, Refusal};
 pub use attempting::attempt;

@@ -1,7 +1,7 @@
 //! Instructions with the names that they give, as a line keeps them.
 
 ghost use Rattle.std.specs.Prelude.{◌≡◌};
-ghost use Rattle.jvm_named.specs.MemberNames.{params_by, reference_of};
+ghost use Rattle.jvm_named.specs.Members.{params_by, reference_of};
 
 use const_pool::Kind;
 use jf_bytes::{Seq, Text16};
@@ -26,7 +26,7 @@ pub struct MethodName {
 impl Model for MethodName {
     ghost use Rattle.std.specs.Prelude.{◌≡◌};
     ghost use Rattle.const_pool.specs.References.{Reference};
-    ghost use Rattle.jvm_named.specs.MemberNames.{params_by, reference_of};
+    ghost use Rattle.jvm_named.specs.Members.{params_by, reference_of};
 
     ghost Value = { Reference };
 

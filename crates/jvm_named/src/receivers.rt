@@ -8,6 +8,7 @@ ghost use Rattle.jvm_model.specs.Values.{arguments, datum_of};
 ghost use Rattle.jvm_named.specs.Targets.{data_in, is_reference, reference_in};
 
 use crate::naming::MethodName;
+use crate::values::datum_of;
 use const_pool::Kind;
 use frame_stack::Frames;
 use heap_objects::Value;
@@ -16,14 +17,7 @@ use heap_objects::Value;
 fn is_of_kind(kind: Kind, value: Value) -> bool
     ensures { result ≡ is_some (datum_of kind value) }
 {
-    match kind {
-        Kind::Int | Kind::Bool | Kind::Byte | Kind::Char | Kind::Short => {
-            matches!(value, Value::Int(_))
-        }
-        Kind::Long => matches!(value, Value::Long(_)),
-        Kind::Ref => matches!(value, Value::Ref(_)),
-        Kind::Float | Kind::Double => false,
-    }
+    datum_of(kind, value).is_some()
 }
 
 /// Whether the topmost operands are as many as the parameters, each of its kind, the first parameter's the deepest.

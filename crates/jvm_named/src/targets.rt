@@ -15,19 +15,20 @@ ghost use Rattle.jvm_model.specs.SharedState.{no_class_definition};
 ghost use Rattle.jvm_model.specs.SuperCalls.{invoked_special};
 ghost use Rattle.class_index.specs.Members.{place_view};
 ghost use Rattle.class_linker.specs.Linkers.{IsLoaded};
-ghost use Rattle.jvm_named.specs.Answers.{refusal_view};
+ghost use Rattle.jvm_named.specs.Answers.{place_found, refusal_view};
 ghost use Rattle.jvm_named.specs.Objects.{AreLoaded, IsResolved, IsUsable};
-ghost use Rattle.jvm_named.specs.Places.{at_place, found_as};
+ghost use Rattle.jvm_named.specs.Members.{at_place};
 ghost use Rattle.jvm_named.specs.Resolved.{method_found};
-ghost use Rattle.jvm_named.specs.Targets.{HasCaller, by_view, instance_target, receiver_class};
-ghost use Rattle.jvm_named.specs.Targets.{static_target, target_in, unready_by};
+ghost use Rattle.jvm_named.specs.Targets.{HasCaller, by_view, found_as, instance_target};
+ghost use Rattle.jvm_named.specs.Targets.{receiver_class, static_target, target_in, unready_by};
 
 use crate::asked::{Exception, Refusal};
 use crate::instances::{class_of_kind, kind_of_object};
 use crate::naming::{MemberName, MethodName};
 use crate::place::Place;
-use crate::resolution::exception_numbered;
 use crate::receivers::{argument_count, receiver_below};
+use crate::resolution::exception_numbered;
+use crate::statics::name_at;
 use class_index::{ABSTRACT, STATIC, has_flag};
 use class_linker::{Linker, Resolved};
 use frame_stack::Frames;
@@ -88,7 +89,7 @@ fn found_in(
     member: &MemberName,
 ) -> Result<Place, Refusal>
     requires { IsLoaded linker.now class }
-    ensures { found_as at_place result ≡ found (resolved_method linker.now.program class interface
+    ensures { place_found result ≡ found (resolved_method linker.now.program class interface
         (name_type_of member.now.name member.now.descriptor)) }
 {
     match linker.resolve_method(class, interface, &member.name, &member.descriptor) {
@@ -99,7 +100,7 @@ fn found_in(
 
 /// The method, where it is static as it is asked for, or is not.
 fn fitting(program: &Program, m: Place, fixed: bool) -> Result<Place, Refusal>
-    ensures { found_as at_place result
+    ensures { place_found result
         ≡ where_fitting (beq (is_static program.now (at_place m)) fixed) (at_place m) }
 {
     if is_static(program, m) == fixed {
@@ -118,7 +119,7 @@ fn method_found(
     method: &MethodName,
 ) -> Result<Place, Refusal>
     requires { IsUsable linker.now kind }
-    ensures { found_as at_place result
+    ensures { place_found result
         ≡ method_found linker.now.program kind interface fixed method.now }
 {
     let class = class_of_kind(linker, kind);
@@ -251,44 +252,41 @@ pub fn instance_target(
 
 // ---- a static method
 
-/// The name of the class at a position, where there is one.
-fn name_at(alloc: Global, program: &Program, class: u32) -> Result<Option<Text16>, NoMemory>
-    ensures { IfOk result (λ name. name ≡ name_at program.now class) }
+/// A text with the same units.
+fn copied(alloc: Global, text: &Text16) -> Result<Text16, NoMemory>
+    ensures { IfOk result (λ copy. copy ≡ text.now) }
 {
-    let Some(file) = program.classes.get(class as usize) else {
-        return Ok(None);
-    };
-    match file.pool.class_name(file.this_class) {
-        Ok(name) => Ok(Some(Text16::new(Vec::from_slice(alloc, name.units())?))),
-        Err(_) => Ok(None),
-    }
+    Ok(Text16::new(Vec::from_slice(alloc, text.units())?))
 }
 
 /// NoClassDefFoundError, with the name of the class that can not be used.
-fn unusable(alloc: Global, program: &Program, class: u32) -> Result<Option<Refusal>, NoMemory>
-    ensures { IfOk result (λ refusal. option_map refusal_view refusal
-        ≡ Some (Raises no_class_definition (name_at program.now class))) }
+fn unusable(alloc: Global, linker: &Linker, class: u32) -> Result<Refusal, NoMemory>
+    ensures { IfOk result (λ refusal. refusal_view refusal
+        ≡ Raises no_class_definition (name_at linker.now.program class)) }
 {
-    let name = name_at(alloc, program, class)?;
-    Ok(Some(Refusal::Raises(Exception::NoClassDefinition, name)))
+    let message = match name_at(linker, class) {
+        Some(name) => Some(copied(alloc, name)?),
+        None => None,
+    };
+    Ok(Refusal::Raises(Exception::NoClassDefinition, message))
 }
 
 /// What is asked for where a class has to be initialized before, or can not be used (5.5).
 fn unready(
     alloc: Global,
-    program: &Program,
+    linker: &Linker,
     class: u32,
     phase: Option<Phase>,
 ) -> Result<Option<Refusal>, NoMemory>
     ensures { IfOk result (λ refusal. option_map refusal_view refusal
-        ≡ unready_by program.now class phase) }
+        ≡ unready_by linker.now.program class phase) }
 {
     match phase {
         Some(Phase::Ready) => Ok(None),
         Some(Phase::Running) => Ok(None),
         Some(Phase::Fresh) => Ok(Some(Refusal::Initializes(class))),
-        Some(Phase::Erroneous) => unusable(alloc, program, class),
-        None => unusable(alloc, program, class),
+        Some(Phase::Erroneous) => Ok(Some(unusable(alloc, linker, class)?)),
+        None => Ok(Some(unusable(alloc, linker, class)?)),
     }
 }
 
@@ -313,7 +311,7 @@ pub fn static_target(
         Err(refusal) => return Ok(Err(refusal)),
     };
     let phase = shared.phases.at(m.class as usize);
-    if let Some(refusal) = unready(alloc, linker.program(), m.class, phase)? {
+    if let Some(refusal) = unready(alloc, linker, m.class, phase)? {
         return Ok(Err(refusal));
     }
     match argument_count(false, method, frames) {

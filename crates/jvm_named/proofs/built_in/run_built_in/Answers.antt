@@ -6,7 +6,7 @@ use Rattle.jvm_model.specs.Naming.{extends}
 use Rattle.heap_objects.specs.Heaps.{kind_at}
 use Rattle.jvm_named.specs.Objects.{class_at_kind}
 use Rattle.jvm_named.specs.Does.{Does, IsDone, changed}
-use Rattle.jvm_named.specs.Places.{at_place}
+use Rattle.jvm_named.specs.Members.{at_place}
 use Rattle.jvm_named.specs.Targets.{data_in}
 use Rattle.jvm_named.proofs.BuiltInLemmas.{breaks, runs-known, runs-nothing}
 use Rattle.jvm_named.proofs.built_in.run_built_in.Goals as goal

@@ -3,8 +3,7 @@ use Rattle.std.specs.Prelude.{IfOk}
 use Rattle.frame_stack.specs.FrameLists.{top_operands}
 use Rattle.jvm_basic.specs.Outcomes.{top_locals}
 use Rattle.jvm_named.specs.Does.{Does, changed}
-use Rattle.jvm_named.specs.Places.{found_as}
-use Rattle.jvm_named.specs.Targets.{static_target, target_in}
+use Rattle.jvm_named.specs.Targets.{found_as, static_target, target_in}
 use Rattle.jvm_named.proofs.TargetLemmas.{does-target, static-rule, refuses, refuses-target}
 use Rattle.jvm_named.proofs.calls.invoke_fixed.Goals as goal
 
