@@ -5,3 +5,6 @@ mod ObjectLemmas
 mod Resolutions
 mod NumberLaws
 mod Going
+mod Slots
+mod Quiet
+mod Carried

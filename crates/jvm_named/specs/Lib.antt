@@ -6,3 +6,4 @@ pub mod Resolved
 pub mod Attempts
 pub mod Held
 pub mod Numbers
+pub mod Fields
