@@ -6,8 +6,8 @@ ghost use Rattle.const_pool.specs.References.{name_type_of};
 ghost use Rattle.jvm_model.specs.Kinds.{is_subkind};
 ghost use Rattle.jvm_model.specs.Layouts.{layout};
 ghost use Rattle.jvm_model.specs.Load.{is_among};
-ghost use Rattle.jvm_model.specs.Lookup.{place_in, resolved_field, resolved_method, superclass_of};
-ghost use Rattle.jvm_model.specs.Lookup.{superclasses};
+ghost use Rattle.jvm_model.specs.Lookup.{is_subtype, place_in, resolved_field, resolved_method};
+ghost use Rattle.jvm_model.specs.Lookup.{superclass_of, superclasses};
 ghost use Rattle.jvm_model.specs.Selection.{Overrides, overrides, selected};
 ghost use Rattle.class_index.specs.Indices.{IsLinkable};
 ghost use Rattle.class_index.specs.Members.{place_view};
@@ -25,7 +25,7 @@ use crate::rows::Row;
 use crate::selecting::selected;
 use crate::super_calls::invoked_special;
 use crate::telling::answer;
-use crate::walks::{is_superclass, layout_of, slots_above};
+use crate::walks::{is_subtype, is_superclass, layout_of, slots_above};
 use class_index::{Index, Order, Wanted};
 use const_pool::Kind;
 use jf_bytes::{NoMemory, Seq, Text16};
@@ -132,6 +132,14 @@ impl Linker {
         ensures { result ≡ is_among upper (superclasses self.now.program lower) }
     {
         is_superclass(&self.index, self.state.rows.as_slice(), lower, upper)
+    }
+
+    /// Whether a class is the other one, or inherits from it, or implements it.
+    pub fn is_subtype(&self, lower: u32, upper: u32) -> bool
+        requires { IsLoaded self.now lower }
+        ensures { result ≡ is_subtype self.now.program lower upper }
+    {
+        is_subtype(&self.index, self.state.rows.as_slice(), lower, upper)
     }
 
     /// The field that a reference stands for (5.4.3.2).

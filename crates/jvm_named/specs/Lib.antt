@@ -7,3 +7,6 @@ pub mod Attempts
 pub mod Held
 pub mod Numbers
 pub mod Fields
+pub mod Targets
+pub mod Does
+pub mod BuiltInCalls

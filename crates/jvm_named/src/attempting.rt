@@ -9,7 +9,9 @@ ghost use Rattle.jvm_model.specs.NamingRules.{does_named};
 ghost use Rattle.jvm_named.specs.Answers.{Answers, Moves, Shares, answer_of, answer_view};
 ghost use Rattle.jvm_named.specs.Answers.{frames_of, wrote_by};
 ghost use Rattle.jvm_named.specs.Attempts.{IsFound, attempts, linker_loaded, linker_with};
+ghost use Rattle.jvm_named.specs.BuiltInCalls.{HasBuiltIn};
 ghost use Rattle.jvm_named.specs.Names.{naming_view};
+ghost use Rattle.jvm_named.specs.Numbers.{AreNumbers};
 ghost use Rattle.jvm_named.specs.Objects.{AreLoaded, HasDimensions, HasLoadedCaller};
 ghost use Rattle.jvm_named.specs.Resolved.{skips};
 
@@ -17,6 +19,7 @@ use crate::asked::{Asked, Refusal};
 use crate::doing::do_resolved;
 use crate::moving::{keep, replace};
 use crate::naming::Naming;
+use crate::numbers::MethodNumbers;
 use crate::resolution::resolve;
 use class_linker::Linker;
 use frame_stack::Frames;
@@ -109,6 +112,7 @@ fn skip(frames: &mut Frames, naming: &Naming, next: u16) -> Asked
 fn do_found(
     alloc: Global,
     linker: &Linker,
+    numbers: &MethodNumbers,
     shared: &mut Shared,
     frames: &mut Frames,
     output: &mut Seq<u8>,
@@ -119,6 +123,8 @@ fn do_found(
     requires linked { linker.now.loaded ≡ shared.old.loaded }
     requires found { IsFound linker.now (naming_view naming.now)
         (top_operands frames.old.frames) found }
+    requires numbers { AreNumbers linker.now.program numbers.now }
+    requires built_in { HasBuiltIn linker.now }
     requires objects { AreLoaded linker.now shared.old.heap }
     requires caller { HasLoadedCaller linker.now (naming_view naming.now) }
     requires dimensions { HasDimensions (naming_view naming.now) }
@@ -135,17 +141,20 @@ fn do_found(
     match found {
         None => Ok(skip(frames, naming, next)),
         Some(Err(refusal)) => Ok(Asked::Refused(refusal)),
-        Some(Ok(kind)) => do_resolved(alloc, linker, shared, frames, output, naming, kind, next),
+        Some(Ok(kind)) => do_resolved(
+            alloc, linker, numbers, shared, frames, output, naming, kind, next,
+        ),
     }
 }
 
 /// Attempts an instruction that names a class or a member (JVM Specification 5.4.3, 6.5): loads what it names, and does what its rule
-/// says over what is loaded then. `next` is the place behind it, and `output` what was written so far. The class of each object has to
-/// be loaded, and that in which an invokespecial stands; the class of each object is then, too. An Err says that memory ran out, and
+/// says over what is loaded then. `next` is the place behind it, and `output` what was written so far. The built-in classes have to be
+/// loaded, the class of each object, and that in which an invokespecial stands; they are then, too. An Err says that memory ran out, and
 /// nothing of what is changed.
 pub fn attempt(
     alloc: Global,
     linker: &mut Linker,
+    numbers: &MethodNumbers,
     shared: &mut Shared,
     frames: &mut Frames,
     output: &mut Seq<u8>,
@@ -153,6 +162,8 @@ pub fn attempt(
     next: u16,
 ) -> Result<Asked, NoMemory>
     requires linked { linker.old.loaded ≡ shared.old.loaded }
+    requires numbers { AreNumbers linker.old.program numbers.now }
+    requires built_in { HasBuiltIn linker.old }
     requires objects { AreLoaded linker.old shared.old.heap }
     requires caller { HasLoadedCaller linker.old (naming_view naming.now) }
     requires dimensions { HasDimensions (naming_view naming.now) }
@@ -167,8 +178,9 @@ pub fn attempt(
         (attempts linker.old.program (naming_view naming.now) shared.old frames.old) frames.old) }
     ensures linker { OnOk result (linker.new
         ≡ linker_loaded (naming_view naming.now) shared.old linker.old frames.old) }
+    ensures built_in { OnOk result (HasBuiltIn linker.new) }
     ensures objects { OnOk result (AreLoaded linker.new shared.new.heap) }
 {
     let found = find(linker, &mut shared.loaded, frames, naming)?;
-    do_found(alloc, linker, shared, frames, output, naming, found, next)
+    do_found(alloc, linker, numbers, shared, frames, output, naming, found, next)
 }

@@ -3,7 +3,9 @@
 ghost use Rattle.std.specs.Prelude.{◌≡◌, ◌++◌, OnOk};
 ghost use Rattle.jvm_model.specs.Naming.{resolved_name};
 ghost use Rattle.jvm_named.specs.Answers.{Answers, Moves, Shares, wrote_by};
+ghost use Rattle.jvm_named.specs.BuiltInCalls.{HasBuiltIn};
 ghost use Rattle.jvm_named.specs.Names.{naming_view};
+ghost use Rattle.jvm_named.specs.Numbers.{AreNumbers};
 ghost use Rattle.jvm_named.specs.Objects.{AreLoaded, HasDimensions, HasLoadedCaller, IsResolved};
 ghost use Rattle.jvm_named.specs.Resolved.{does_resolved};
 
@@ -15,6 +17,7 @@ use crate::creation::make_new;
 use crate::fields::{get_field, put_field};
 use crate::multi_arrays::make_arrays;
 use crate::naming::Naming;
+use crate::numbers::MethodNumbers;
 use crate::statics::{get_static, put_static};
 use class_linker::Linker;
 use frame_stack::Frames;
@@ -26,6 +29,7 @@ use std::alloc::Global;
 pub fn do_resolved(
     alloc: Global,
     linker: &Linker,
+    numbers: &MethodNumbers,
     shared: &mut Shared,
     frames: &mut Frames,
     output: &mut Seq<u8>,
@@ -34,6 +38,8 @@ pub fn do_resolved(
     next: u16,
 ) -> Result<Asked, NoMemory>
     requires resolved { IsResolved linker.now (resolved_name (naming_view naming.now)) kind }
+    requires numbers { AreNumbers linker.now.program numbers.now }
+    requires built_in { HasBuiltIn linker.now }
     requires objects { AreLoaded linker.now shared.old.heap }
     requires caller { HasLoadedCaller linker.now (naming_view naming.now) }
     requires dimensions { HasDimensions (naming_view naming.now) }
@@ -55,16 +61,16 @@ pub fn do_resolved(
         Naming::Getstatic(member) => get_static(alloc, linker, shared, frames, member, kind, next),
         Naming::Putstatic(member) => put_static(alloc, linker, shared, frames, member, kind, next),
         Naming::Invokevirtual(method) => {
-            invoke_virtual(alloc, linker, shared, frames, output, method, kind, next)
+            invoke_virtual(alloc, linker, numbers, shared, frames, output, method, kind, next)
         }
         Naming::Invokespecial(caller, method, interface) => invoke_special(
-            alloc, linker, shared, frames, output, caller, *interface, method, kind, next,
+            alloc, linker, numbers, shared, frames, output, caller, *interface, method, kind, next,
         ),
         Naming::Invokestatic(method) => {
-            invoke_static(alloc, linker, shared, frames, output, method, kind, next)
+            invoke_static(alloc, linker, numbers, shared, frames, output, method, kind, next)
         }
         Naming::Invokeinterface(method) => {
-            invoke_interface(alloc, linker, shared, frames, output, method, kind, next)
+            invoke_interface(alloc, linker, numbers, shared, frames, output, method, kind, next)
         }
         Naming::Checkcast(name) => Ok(cast(linker, shared, frames, name, kind, next)),
         Naming::Instanceof(name) => Ok(tell_instance(linker, shared, frames, name, kind, next)),

@@ -5,6 +5,7 @@
 mod arrays;
 mod asked;
 mod attempting;
+mod built_in;
 mod calls;
 mod casts;
 mod classes;
@@ -24,6 +25,7 @@ mod receivers;
 mod resolution;
 mod static_fields;
 mod statics;
+mod targets;
 mod values;
 
 pub use asked::{Asked, Exception, Refusal};

@@ -73,3 +73,18 @@ pub fn drop_two(frames: &mut Frames, next: u16) -> Asked
     recall(frames);
     asked_by(jvm_basic::drop_two(frames, next))
 }
+
+/// Without so many topmost operands.
+#[tactic(auto, using(crate::proofs::Going::asked_if))]
+pub fn drop_operands(frames: &mut Frames, count: u16, next: u16) -> Asked
+    ensures answer { answer_view result
+        ≡ answer_of (λ l o. GoesOn l (drop count o) Next) frames.old }
+    ensures frames { frames.new
+        ≡ frames_of (λ l o. GoesOn l (drop count o) Next) next frames.old }
+{
+    recall(frames);
+    for _ in 0..count {
+        frames.pop();
+    }
+    keep(frames, next)
+}
