@@ -8,3 +8,7 @@ mod Arguments
 mod BuiltInLemmas
 mod TargetLemmas
 mod Going
+mod Slots
+mod Quiet
+mod Carried
+mod Attempted

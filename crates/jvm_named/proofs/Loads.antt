@@ -1,6 +1,7 @@
 -- A load without a fault (JVM Specification 5.3): the name stands for a kind, whose class is loaded then.
 use Rattle.std.proofs.Common.{◌≡◌, ℕ, zero, suc, ◌+◌, ◌*◌, ◌<◌, ◌≤◌, Bool, true, false, List, [], ◌∷◌, ◌++◌, ap, sym, subst, refl, ◌∙◌, lit<, arith}
-use Rattle.std.specs.Prelude.{length, drop, Option, Some, None, position, nat_le, nat_lt, unwrap_or, not, ◌==◌, ◌||◌, ◌&&◌, if◌then◌else◌}
+use Rattle.std.proofs.lemmas.Nat.{div-mul-add}
+use Rattle.std.specs.Prelude.{◌/◌, length, drop, Option, Some, None, position, nat_le, nat_lt, unwrap_or, not, ◌==◌, ◌||◌, ◌&&◌, if◌then◌else◌}
 use Rattle.std.specs.List.{position_or_len}
 use Rattle.std.specs.Option.{option_map}
 use Rattle.jvm_model.specs.declared.program.Program.{Program}
@@ -190,23 +191,28 @@ named-class test xs at e = by (nat_lt (position_or_len test xs) (length xs)) ref
 module _ (l : LinkerView) (few : length l.program.classes ≤ 4149) (root : IsLoaded l (user_count l.program)) where
   of-named : (dimensions : ℕ) (own : List ℕ) → (class : ℕ) × (class_named l.program own ≡ Some class) × (is_among class l.loaded ≡ true)
       → (kind : ℕ) × (option_map kind_number (parts_named l.program (record { dimensions = dimensions; element = Named own })) ≡ Some kind) × IsUsable l kind
+      × (kind / 16777216 ≡ dimensions)
   of-named dimensions own (class, found, there) =
       let within : class < length l.program.classes = named-class (has_name own) l.program.classes class found in
       (dimensions * 16777216 + base_of_class l.program class,
       ap (λ o. option_map kind_number (option_map (λ base. record { dimensions = dimensions; base = base }) (option_map (base_of_class l.program) o))) found,
-      of-class l root dimensions (base_of_class l.program class) class (base-below l.program class within few) (class-back l.program class within few) there)
+      of-class l root dimensions (base_of_class l.program class) class (base-below l.program class within few) (class-back l.program class within few) there,
+      div-mul-add dimensions 16777216 (base_of_class l.program class) (base-below l.program class within few))
 
   by-meaning : (dimensions : ℕ) (e : Element) (fault : Option Fault)
       → IsMeaning (record { dimensions = dimensions; element = e }) → Loads l.program e (record { loaded = l.loaded; fault = fault })
       → (kind : ℕ) × (option_map kind_number (parts_named l.program (record { dimensions = dimensions; element = e })) ≡ Some kind) × IsUsable l kind
+      × (kind / 16777216 ≡ dimensions)
   by-meaning dimensions (Primitive code) fault is loads =
-      (dimensions * 16777216 + code, refl, of-primitive l root dimensions code (is.deep code refl) (is.small code refl))
+      (dimensions * 16777216 + code, refl, of-primitive l root dimensions code (is.deep code refl) (is.small code refl),
+      div-mul-add dimensions 16777216 code (let small : code < 16 = is.small code refl in omega arith))
   by-meaning dimensions (Named own) fault is loads = of-named dimensions own (loads.class own refl)
 
 -- the name of a load without a fault stands for a kind, whose class is loaded then
 pub resolves : (p : Program) (name loaded : List ℕ) → (load_of p loaded name).fault ≡ None → length p.classes ≤ 4149
     → is_among (user_count p) (load_of p loaded name).loaded ≡ true
     → (kind : ℕ) × (kind_named p name ≡ Some kind) × IsUsable (record { program = p; loaded = (load_of p loaded name).loaded }) kind
+    × (kind / 16777216 ≡ (meaning_of name).dimensions)
 resolves p name loaded none few root =
     by-meaning (record { program = p; loaded = (load_of p loaded name).loaded }) few root (meaning_of name).dimensions (meaning_of name).element
     (load_of p loaded name).fault (means name) (loads p name loaded none)

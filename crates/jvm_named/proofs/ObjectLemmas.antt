@@ -25,25 +25,25 @@ among-front class (x ∷ xs) ys is = by (class == x) is (among-front class xs ys
     by true is rest = refl
     by false is rest = rest is
 
-abbrev with_more : LinkerView → List ℕ → LinkerView
+abbrev pub with_more : LinkerView → List ℕ → LinkerView
 with_more l more = record l { loaded = l.loaded ++ more }
 
 module _ (l : LinkerView) (more : List ℕ) where
-  pub loaded-more : (class : ℕ) → IsLoaded l class → IsLoaded (with_more l more) class
-  loaded-more class is = among-front class l.loaded more is
+  pub loaded_more : (class : ℕ) → IsLoaded l class → IsLoaded (with_more l more) class
+  loaded_more class is = among-front class l.loaded more is
 
-  pub usable-more : (kind : ℕ) → IsUsable l kind → IsUsable (with_more l more) kind
-  usable-more kind is = record {
-    known = λ class e. loaded-more class (is.known class e);
-    of_class = loaded-more (class_of_kind l.program kind) is.of_class;
+  pub usable_more : (kind : ℕ) → IsUsable l kind → IsUsable (with_more l more) kind
+  usable_more kind is = record {
+    known = λ class e. loaded_more class (is.known class e);
+    of_class = loaded_more (class_of_kind l.program kind) is.of_class;
   }
 
   each-more : (os : List Object) → AllByRecursion (IsOfLoaded l) os → AllByRecursion (IsOfLoaded (with_more l more)) os
   each-more [] each = tt
-  each-more (o ∷ os) each = (usable-more (kind_of o) each.0, each-more os each.1)
+  each-more (o ∷ os) each = (usable_more (kind_of o) each.0, each-more os each.1)
 
-  pub objects-more : (h : HeapView) → AreLoaded l h → AreLoaded (with_more l more) h
-  objects-more h are = record { objects = each-more h.objects are.objects; root = loaded-more (user_count l.program) are.root }
+  pub objects_more : (h : HeapView) → AreLoaded l h → AreLoaded (with_more l more) h
+  objects_more h are = record { objects = each-more h.objects are.objects; root = loaded_more (user_count l.program) are.root }
 
 -- ---- an object
 
@@ -53,8 +53,8 @@ module _ (l : LinkerView) where
   found-usable (o ∷ os) zero kind each e = subst (IsUsable l) (let same : Some (kind_of o) ≡ Some kind → kind_of o ≡ kind = λ e. cc in same e) each.0
   found-usable (o ∷ os) (suc at) kind each e = found-usable os at kind each.1 e
 
-  pub object-usable : (h : HeapView) (object kind : ℕ) → AreLoaded l h → kind_at object h ≡ Some kind → IsUsable l kind
-  object-usable h object kind are e = by (object == 0) e
+  pub object_usable : (h : HeapView) (object kind : ℕ) → AreLoaded l h → kind_at object h ≡ Some kind → IsUsable l kind
+  object_usable h object kind are e = by (object == 0) e
     where
       by : (b : Bool) → option_map kind_of (if b then None else slice_get h.objects (object - 1)) ≡ Some kind → IsUsable l kind
       by true e = absurd (let no : None ≡ Some kind → ⊥ = λ e. cc in no e)
@@ -64,8 +64,8 @@ module _ (l : LinkerView) where
   each-with [] o each is = (is, tt)
   each-with (first ∷ os) o each is = (each.0, each-with os o each.1 is)
 
-  pub objects-with : (h : HeapView) (o : Object) → AreLoaded l h → IsOfLoaded l o → AreLoaded l (with_object o h)
-  objects-with h o are is = record { objects = each-with h.objects o are.objects is; root = are.root }
+  pub objects_with : (h : HeapView) (o : Object) → AreLoaded l h → IsOfLoaded l o → AreLoaded l (with_object o h)
+  objects_with h o are is = record { objects = each-with h.objects o are.objects is; root = are.root }
 
   slot-kind : (slot : ℕ) (v : Datum) (o : Object) → kind_of (with_slot slot v o) ≡ kind_of o
   slot-kind slot v (Instance kind fields) = refl
@@ -78,5 +78,5 @@ module _ (l : LinkerView) where
   each-slot slot v zero (o ∷ os) each = (subst (IsUsable l) (sym (slot-kind slot v o)) each.0, each.1)
   each-slot slot v (suc at) (o ∷ os) each = (each.0, each-slot slot v at os each.1)
 
-  pub objects-slot : (h : HeapView) (object slot : ℕ) (v : Datum) → AreLoaded l h → AreLoaded l (with_slot_at object slot v h)
-  objects-slot h object slot v are = record { objects = each-slot slot v (object - 1) h.objects are.objects; root = are.root }
+  pub objects_slot : (h : HeapView) (object slot : ℕ) (v : Datum) → AreLoaded l h → AreLoaded l (with_slot_at object slot v h)
+  objects_slot h object slot v are = record { objects = each-slot slot v (object - 1) h.objects are.objects; root = are.root }

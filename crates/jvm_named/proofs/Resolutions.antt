@@ -1,6 +1,6 @@
 -- What the linker's answer to a load says of the resolution (JVM Specification 5.4.3.1).
 use Rattle.std.proofs.Common.{◌≡◌, ℕ, ◌≤◌, Bool, true, false, List, [], ◌∷◌, ◌++◌, ap, sym, subst, refl, ◌∙◌, arith}
-use Rattle.std.specs.Prelude.{length, drop, Option, Some, None, Result, Ok, Err, unwrap_or}
+use Rattle.std.specs.Prelude.{◌/◌, length, drop, Option, Some, None, Result, Ok, Err, unwrap_or}
 use Rattle.std.proofs.lemmas.List.{append-nil}
 use Rattle.class_linker.specs.declared.answers.Loaded.{Loaded}
 use Rattle.class_linker.specs.declared.answers.Loaded.TheVariants.{New, Already, Throws, NoMemory}
@@ -8,7 +8,7 @@ use Rattle.class_linker.specs.Linkers.{IsLoaded, LinkerView, absent_name, answer
 use Rattle.jvm_model.specs.declared.program.Program.{Program}
 use Rattle.jvm_model.specs.Data.{Outcome, Raises}
 use Rattle.jvm_model.specs.KindNumbers.{user_count}
-use Rattle.jvm_model.specs.Kinds.{kind_named}
+use Rattle.jvm_model.specs.Kinds.{kind_named, meaning_of}
 use Rattle.jvm_model.specs.Load.{Fault, NoClass, Circular, Incompatible, Loading, error_of, is_among, load_of}
 use Rattle.jvm_model.specs.Naming.{New as NewNaming, kind_unless, message_of, resolved_kind}
 use Rattle.jvm_model.proofs.LoadsAgain.{newly-loaded}
@@ -83,14 +83,15 @@ module _ (p : Program) (before name : List ℕ) where
   finds kind classes few root (none, is, given) = by (resolves p name before none few (rooted root))
     where
       by : (k : ℕ) × (kind_named p name ≡ Some k) × IsUsable (record { program = p; loaded = (load_of p before name).loaded }) k
+          × (k / 16777216 ≡ (meaning_of name).dimensions)
           → Finds p before name classes kind
-      by (k, named, usable) =
+      by (k, named, usable, deep) =
           let same : k ≡ kind = sym (ap (λ o. unwrap_or o 0) named) ∙ is in
           let of_kind : kind_named p name ≡ Some kind = named ∙ ap Some same in
           record {
             found = sym (ap (λ o. kind_unless o (kind_named p name)) none ∙ ap (λ o. kind_unless None o) of_kind);
             loaded = ap (λ cs. before ++ cs) (sym given) ∙ whole p before name;
-            resolved = record { named = of_kind; usable = subst (IsUsable (record { program = p; loaded = (load_of p before name).loaded })) same usable };
+            resolved = record { named = of_kind; dimensions = ap (λ n. n / 16777216) (sym same) ∙ deep; usable = subst (IsUsable (record { program = p; loaded = (load_of p before name).loaded })) same usable };
           }
 
   pub finds-already : (kind : ℕ) → length p.classes ≤ 4149 → is_among (user_count p) before ≡ true

@@ -6,6 +6,7 @@ pub mod Resolved
 pub mod Attempts
 pub mod Held
 pub mod Numbers
+pub mod Fields
 pub mod Targets
 pub mod Does
 pub mod BuiltInCalls

@@ -44,6 +44,13 @@ impl MethodName {
         MethodName { member, params }
     }
 
+    /// The name of its class.
+    pub fn class(&self) -> &Text16
+        ensures { result.now ≡ self.now.class }
+    {
+        &self.member.class
+    }
+
     /// Its class, its name and its descriptor.
     pub fn member(&self) -> &MemberName
         ensures { reference_of result.now ≡ self.now }

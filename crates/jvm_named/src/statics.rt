@@ -1,7 +1,7 @@
 //! getstatic and putstatic (JVM Specification 5.4.3.2, 5.5, 6.5), where the class of the field's name was resolved.
 
 ghost use Rattle.std.specs.Prelude.{◌≡◌, IfOk};
-ghost use Rattle.std.specs.Option.{option_copied, option_map};
+ghost use Rattle.std.specs.Option.{option_map};
 ghost use Rattle.frame_stack.specs.FrameLists.{top_operands};
 ghost use Rattle.jvm_model.specs.Data.{Raises};
 ghost use Rattle.jvm_model.specs.FieldRules.{held_of, kind_by, pushes_static, sets_static, static_field};
@@ -17,6 +17,7 @@ ghost use Rattle.jvm_named.specs.Objects.{IsUsable};
 ghost use Rattle.jvm_named.specs.Resolved.{gets_static, puts_static};
 
 use crate::asked::{Asked, Exception, Refusal};
+use crate::classes::name_at;
 use crate::held::{held_by, narrowed};
 use crate::members::field_found;
 use crate::moving::{drop_one, put};
@@ -34,17 +35,6 @@ use jvm_model::{Phase, Shared};
 use std::alloc::Global;
 
 // ---- classes that are not initialized
-
-/// The name of the class at a position, where there is one.
-pub fn name_at(linker: &Linker, class: u32) -> Option<&Text16>
-    ensures { option_copied result ≡ name_at linker.now.program class }
-{
-    let file = linker.index().file(class)?;
-    match file.pool.class_name(file.this_class) {
-        Ok(name) => Some(name),
-        Err(_) => None,
-    }
-}
 
 /// NoClassDefFoundError, with the name of a class that can not be used.
 pub fn raise_unusable(alloc: Global, linker: &Linker, class: u32) -> Result<Asked, NoMemory>
@@ -161,6 +151,7 @@ fn set_field(
         (held_of kind o) shared.old l o) next frames.old }
     ensures shared { shared.new ≡ shared_by (λ l o. sets_static (at_place field)
         (held_of kind o) shared.old l o) frames.old }
+    ensures heap { shared.new.heap ≡ shared.old.heap }
 {
     let Some(datum) = held_of(frames, kind) else {
         return Asked::Refused(Refusal::Breaks);
@@ -189,6 +180,7 @@ fn put_field(
     ensures shared { Shares result shared.new
         (λ l o. initialized linker.now.program field.class shared.old
         (sets_static (at_place field) (held_of kind o) shared.old l o)) frames.old }
+    ensures heap { shared.new.heap ≡ shared.old.heap }
 {
     match shared.phases.at(field.class as usize) {
         Some(Phase::Ready) => Ok(set_field(alloc, shared, frames, field, kind, next)),
@@ -217,6 +209,7 @@ pub fn put_static(
         frames.old }
     ensures shared { Shares result shared.new
         (puts_static linker.now.program kind (reference_of member.now) shared.old) frames.old }
+    ensures heap { shared.new.heap ≡ shared.old.heap }
 {
     match field_found(linker, kind, true, member) {
         Ok(field) => {
