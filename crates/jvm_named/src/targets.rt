@@ -28,7 +28,7 @@ use crate::naming::{MemberName, MethodName};
 use crate::place::Place;
 use crate::receivers::{argument_count, receiver_below};
 use crate::resolution::exception_numbered;
-use crate::statics::name_at;
+use crate::classes::name_at;
 use class_index::{ABSTRACT, STATIC, has_flag};
 use class_linker::{Linker, Resolved};
 use frame_stack::Frames;
