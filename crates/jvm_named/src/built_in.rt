@@ -1,14 +1,11 @@
 //! The methods of built-in classes that have no Code and are there so far (JVM Specification 6.5).
 
 ghost use Rattle.std.specs.Prelude.{◌≡◌, ◌≤◌, ◌++◌, ℕ, List, [], length, drop, OnOk};
-ghost use Rattle.std.specs.List.{list_any};
 ghost use Rattle.std.specs.Option.{option_map};
 ghost use Rattle.const_pool.specs.Members.{reference_view};
 ghost use Rattle.frame_stack.specs.FrameLists.{top_operands};
 ghost use Rattle.heap_objects.specs.Heaps.{kind_at, with_slot_at, with_units_replaced};
 ghost use Rattle.jvm_basic.specs.Outcomes.{top_locals};
-ghost use Rattle.jvm_model.specs.CreationRules.{is_text_class, text_names};
-ghost use Rattle.jvm_model.specs.Descriptors.{same_text};
 ghost use Rattle.jvm_model.specs.InvocationRules.{initialized_object, initializes_object};
 ghost use Rattle.jvm_model.specs.InvocationRules.{is_plain_initializer, prints_line, receiver_in};
 ghost use Rattle.jvm_model.specs.InvocationRules.{reference_to, runs_built_in};
@@ -25,6 +22,7 @@ ghost use Rattle.jvm_named.specs.Members.{at_place};
 ghost use Rattle.jvm_named.specs.Targets.{data_in};
 
 use crate::asked::{Asked, Refusal};
+use crate::classes::is_text_class;
 use crate::instances::{class_of_kind, kind_of_object};
 use crate::moving::drop_operands;
 use crate::place::Place;
@@ -34,7 +32,7 @@ use class_linker::Linker;
 use const_pool::MemberRef;
 use frame_stack::Frames;
 use heap_objects::{Datum, Heap, HeapError, Value};
-use jf_bytes::{NoMemory, Seq, Text16};
+use jf_bytes::{NoMemory, Seq};
 use jvm_model::{Program, Shared};
 use std::alloc::Global;
 
@@ -133,28 +131,6 @@ fn has_class(linker: &Linker, heap: &Heap, object: u32, above: u32) -> bool
 
 // ---- initializers
 
-/// Whether this is the name of a class whose objects are texts.
-fn is_text_name(name: &Text16) -> bool
-    ensures { result ≡ list_any (same_text name.now) text_names }
-{
-    name.is_bytes(b"java/lang/String")
-        || name.is_bytes(b"java/lang/StringBuilder")
-        || name.is_bytes(b"java/lang/StringBuffer")
-}
-
-/// Whether the objects of a class are texts.
-fn is_text_class(program: &Program, class: u32) -> bool
-    ensures { result ≡ is_text_class program.now class }
-{
-    match program.classes.get(class as usize) {
-        Some(file) => match file.pool.class_name(file.this_class) {
-            Ok(name) => is_text_name(name),
-            Err(_) => false,
-        },
-        None => false,
-    }
-}
-
 /// The name of the class of all that is thrown.
 static THROWABLE: [u16; 19] = [
     106, 97, 118, 97, 47, 108, 97, 110, 103, 47, 84, 104, 114, 111, 119, 97, 98, 108, 101,
@@ -213,7 +189,7 @@ fn initialize_object(
         ≡ initialized_object linker.now.program class object heap.old) }
     ensures objects { OnOk result (AreLoaded linker.now heap.new) }
 {
-    if is_text_class(linker.program(), class) {
+    if is_text_class(linker, class) {
         return clear_text(alloc, heap, object);
     }
     if is_throwable(linker, class) {

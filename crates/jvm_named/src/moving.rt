@@ -86,5 +86,6 @@ pub fn drop_operands(frames: &mut Frames, count: u16, next: u16) -> Asked
     for _ in 0..count {
         frames.pop();
     }
+    recall(frames);
     keep(frames, next)
 }

@@ -23,12 +23,12 @@ ghost use Rattle.jvm_named.specs.Targets.{HasCaller, by_view, found_as, instance
 ghost use Rattle.jvm_named.specs.Targets.{receiver_class, static_target, target_in, unready_by};
 
 use crate::asked::{Exception, Refusal};
+use crate::classes::name_at;
 use crate::instances::{class_of_kind, kind_of_object};
 use crate::naming::{MemberName, MethodName};
 use crate::place::Place;
 use crate::receivers::{argument_count, receiver_below};
 use crate::resolution::exception_numbered;
-use crate::classes::name_at;
 use class_index::{ABSTRACT, STATIC, has_flag};
 use class_linker::{Linker, Resolved};
 use frame_stack::Frames;
