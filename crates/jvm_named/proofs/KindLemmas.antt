@@ -1,7 +1,8 @@
 -- The kinds of classes and arrays, and what they are of.
-use Rattle.std.proofs.Common.{◌≡◌, ℕ, zero, suc, ◌+◌, ◌-◌, ◌*◌, ◌<◌, ◌≤◌, Bool, true, false, List, [], ◌∷◌, ap, sym, subst, refl, ◌∙◌, arith}
+use Rattle.std.proofs.Common.{◌≡◌, ℕ, zero, suc, ◌+◌, ◌-◌, ◌*◌, ◌<◌, ◌≤◌, Bool, true, false, List, [], ◌∷◌, ap, sym, subst, refl, ◌∙◌, lit<, arith}
 use Rattle.std.proofs.lemmas.Nat.{mod-mul-add}
-use Rattle.std.specs.Prelude.{length, Option, Some, None, nat_lt, unwrap_or, ◌==◌, ◌%◌, if◌then◌else◌}
+use Rattle.std.proofs.Math.Nat.{mod-add-div', mod-lt}
+use Rattle.std.specs.Prelude.{length, Option, Some, None, nat_lt, unwrap_or, ◌==◌, ◌/◌, ◌%◌, ◌^◌, if◌then◌else◌}
 use Rattle.jvm_model.specs.declared.program.Program.{Program}
 use Rattle.jvm_model.specs.KindNumbers.{base_of_class, class_of_base, first_array, user_count}
 use Rattle.jvm_model.specs.SharedState.{class_of_kind}
@@ -98,3 +99,11 @@ module _ (l : LinkerView) (root : IsLoaded l (user_count l.program)) where
     where
       one_more : (n : ℕ) → (16777216 + n) % 16777216 ≡ n % 16777216
       one_more n = grind (arith)
+
+-- an array over one of fewer than 255 dimensions has a number
+pub few_over : (kind dimensions : ℕ) → kind / 16777216 ≡ dimensions → dimensions < 255 → kind + 16777216 < 2 ^ 32
+few_over kind dimensions is few =
+    let whole : kind % 16777216 + kind / 16777216 * 16777216 ≡ kind = mod-add-div' kind 16777216 in
+    let small : kind % 16777216 < 16777216 = mod-lt kind (lit< tt) in
+    let deep : kind / 16777216 < 255 = subst (λ n. n < 255) (sym is) few in
+    omega (arith, whole, small, deep)

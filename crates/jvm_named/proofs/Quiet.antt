@@ -1,15 +1,16 @@
 -- Instructions that write nothing, and those that change nothing that is shared.
 use Rattle.std.proofs.Common.{◌≡◌, ℕ, ◌+◌, Bool, true, false, List, [], ◌++◌, ap, sym, refl, ◌∙◌}
 use Rattle.std.proofs.lemmas.List.{append-nil}
-use Rattle.std.specs.Prelude.{Option, Some, None, Result, Ok, Err, ℤ, pos, negsuc, nat_le, if◌then◌else◌}
-use Rattle.heap_objects.specs.Heaps.{HeapView}
+use Rattle.std.specs.Prelude.{Option, Some, None, Result, Ok, Err, length, map, ℤ, pos, negsuc, nat_le, if◌then◌else◌}
+use Rattle.heap_objects.specs.Heaps.{HeapView, with_instance, with_text}
+use Rattle.jvm_model.specs.Layouts.{layout}
 use Rattle.jvm_model.specs.declared.program.Program.{Program}
 use Rattle.jvm_model.specs.declared.state.Shared.{Shared}
-use Rattle.jvm_model.specs.CreationRules.{allocates, array_over, has_no_instances, is_text_class, counts_of, lengths_of, makes_arrays, makes_by_counts, makes_instance, makes_object}
+use Rattle.jvm_model.specs.CreationRules.{allocates, array_over, has_no_instances, instantiation_error, is_text_class, slots_of_arrays, with_arrays, zero_of, counts_of, lengths_of, makes_arrays, makes_by_counts, makes_instance, makes_object}
 use Rattle.jvm_model.specs.declared.state.Phase.{Phase}
 use Rattle.jvm_model.specs.declared.state.Phase.TheVariants.{Fresh, Running, Ready, Erroneous}
 use Rattle.heap_objects.specs.declared.datum.Datum.{Datum}
-use Rattle.jvm_model.specs.Data.{Locals, Operands, Outcome, Done}
+use Rattle.jvm_model.specs.Data.{Locals, Operands, Outcome, Raises, Done}
 use Rattle.jvm_model.specs.FieldRules.{Putting, gets_of, kind_by, held_of, puts_into, putting_of, pushes_static, sets_static}
 use Rattle.jvm_model.specs.Lookup.{MemberPlace}
 use Rattle.jvm_model.specs.Naming.{Naming, unless_refused}
@@ -68,8 +69,11 @@ allocates-silent slots make taken s l o = if-by IsSilent (nat_le (s.heap.used + 
 
 instance-silent : (p : Program) (kind class : ℕ) (s : Shared) (l : Locals) (o : Operands) → IsSilent (makes_instance p kind class s l o)
 instance-silent p kind class s l o =
-    if-by IsSilent (has_no_instances p class) _ _ refl
-    (if-by IsSilent (is_text_class p class) _ _ (allocates-silent _ _ 0 s l o) (allocates-silent _ _ 0 s l o))
+    if-by IsSilent (has_no_instances p class) (done s (Raises instantiation_error None)) (makes_object p kind class s l o) refl
+    (if-by IsSilent (is_text_class p class) (allocates 1 (with_text kind []) 0 s l o)
+    (allocates (1 + length (layout p class)) (with_instance kind (map zero_of (layout p class))) 0 s l o)
+    (allocates-silent 1 (with_text kind []) 0 s l o)
+    (allocates-silent (1 + length (layout p class)) (with_instance kind (map zero_of (layout p class))) 0 s l o))
 
 makes-silent : (kind : ℕ) (count : Option ℤ) (s : Shared) (l : Locals) (o : Operands) → IsSilent (makes kind count s l o)
 makes-silent kind None s l o = refl
@@ -78,7 +82,7 @@ makes-silent kind (Some (pos count)) s l o = if-by IsSilent (nat_le (s.heap.used
 
 arrays-silent : (kind dimensions : ℕ) (lengths : Option (List ℕ)) (s : Shared) (l : Locals) (o : Operands) → IsSilent (makes_arrays kind dimensions lengths s l o)
 arrays-silent kind dimensions None s l o = refl
-arrays-silent kind dimensions (Some lengths) s l o = allocates-silent _ _ dimensions s l o
+arrays-silent kind dimensions (Some lengths) s l o = allocates-silent (slots_of_arrays lengths) (with_arrays kind lengths) dimensions s l o
 
 counts-silent : (kind dimensions : ℕ) (counts : Option (List ℤ)) (s : Shared) (l : Locals) (o : Operands) → IsSilent (makes_by_counts kind dimensions counts s l o)
 counts-silent kind dimensions None s l o = refl

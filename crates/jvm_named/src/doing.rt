@@ -26,6 +26,7 @@ use jvm_model::Shared;
 use std::alloc::Global;
 
 /// What the instruction does, with what it names resolved to this kind; of checkcast and instanceof where the operand is not null.
+#[tactic(auto, using(crate::proofs::Quiet::writes_new, crate::proofs::Quiet::writes_getfield, crate::proofs::Quiet::writes_putfield, crate::proofs::Quiet::writes_getstatic, crate::proofs::Quiet::writes_putstatic, crate::proofs::Quiet::writes_anewarray, crate::proofs::Quiet::writes_arrays, crate::proofs::Quiet::shared_getfield, crate::proofs::Quiet::shared_getstatic, crate::proofs::KindLemmas::few_over))]
 pub fn do_resolved(
     alloc: Global,
     linker: &Linker,
