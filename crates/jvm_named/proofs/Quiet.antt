@@ -1,7 +1,7 @@
 -- Instructions that write nothing, and those that change nothing that is shared.
 use Rattle.std.proofs.Common.{◌≡◌, ℕ, ◌+◌, Bool, true, false, List, [], ◌++◌, ap, sym, refl, ◌∙◌}
 use Rattle.std.proofs.lemmas.List.{append-nil}
-use Rattle.std.specs.Prelude.{Option, Some, None, Result, Ok, Err, length, map, ℤ, pos, negsuc, nat_le, if◌then◌else◌}
+use Rattle.std.specs.Prelude.{Option, Some, None, Result, Ok, Err, OnOk, length, map, ℤ, pos, negsuc, nat_le, if◌then◌else◌}
 use Rattle.heap_objects.specs.Heaps.{HeapView, with_instance, with_text}
 use Rattle.jvm_model.specs.Layouts.{layout}
 use Rattle.jvm_model.specs.declared.program.Program.{Program}
@@ -136,3 +136,7 @@ module _ (p : Program) (kind : ℕ) (s : Shared) (l : Locals) (o : Operands) (ou
   pub writes_arrays : (dimensions : ℕ) → output ≡ output ++ (makes_by_counts kind dimensions (counts_of dimensions o) s l o).wrote
   writes_arrays dimensions =
       nothing output (makes_by_counts kind dimensions (counts_of dimensions o) s l o) (counts-silent kind dimensions (counts_of dimensions o) s l o)
+
+pub on_ok : {A E : Type 0} (r : Result A E) (P : Type 0) → P → OnOk r P
+on_ok (Ok x) P p = p
+on_ok (Err e) P p = tt
