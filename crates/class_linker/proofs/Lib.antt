@@ -12,3 +12,4 @@ mod PassedOn
 mod Searches
 mod WorkedAnswers
 mod WorkedCalls
+mod Inherited

@@ -1,11 +1,13 @@
 //! The linker.
 
-ghost use Rattle.std.specs.Prelude.{◌≡◌, ◌↔◌, None, replicate, IfOk, IsTrue};
+ghost use Rattle.std.specs.Prelude.{◌≡◌, ◌↔◌, None, flat_map, length, replicate, true, IfOk, IsTrue};
 ghost use Rattle.std.specs.Option.{option_map};
 ghost use Rattle.const_pool.specs.References.{name_type_of};
 ghost use Rattle.jvm_model.specs.Kinds.{is_subkind};
 ghost use Rattle.jvm_model.specs.Layouts.{layout};
-ghost use Rattle.jvm_model.specs.Lookup.{place_in, resolved_field, resolved_method};
+ghost use Rattle.jvm_model.specs.Load.{is_among};
+ghost use Rattle.jvm_model.specs.Lookup.{is_subtype, place_in, resolved_field, resolved_method};
+ghost use Rattle.jvm_model.specs.Lookup.{superclass_of, superclasses};
 ghost use Rattle.jvm_model.specs.Selection.{Overrides, overrides, selected};
 ghost use Rattle.class_index.specs.Indices.{IsLinkable};
 ghost use Rattle.class_index.specs.Members.{place_view};
@@ -23,7 +25,7 @@ use crate::rows::Row;
 use crate::selecting::selected;
 use crate::super_calls::invoked_special;
 use crate::telling::answer;
-use crate::walks::layout_of;
+use crate::walks::{is_subtype, is_superclass, layout_of, slots_above};
 use class_index::{Index, Order, Wanted};
 use const_pool::Kind;
 use jf_bytes::{NoMemory, Seq, Text16};
@@ -86,6 +88,13 @@ impl Linker {
         self.index.program()
     }
 
+    /// The program with its tables, by which names are found.
+    pub fn index(&self) -> &Index
+        ensures { result.now ≡ self.now.program }
+    {
+        &self.index
+    }
+
     /// The loaded classes, in order.
     pub fn loaded(&self) -> &[u32]
         ensures { result.now ≡ self.now.loaded }
@@ -115,6 +124,22 @@ impl Linker {
         ensures { result ≡ is_subkind self.now.program (parts_of lower) (parts_of upper) }
     {
         is_subkind(&self.index, self.state.rows.as_slice(), lower, upper)
+    }
+
+    /// Whether a class is the other one, or inherits from it.
+    pub fn extends(&self, lower: u32, upper: u32) -> bool
+        requires { IsLoaded self.now lower }
+        ensures { result ≡ is_among upper (superclasses self.now.program lower) }
+    {
+        is_superclass(&self.index, self.state.rows.as_slice(), lower, upper)
+    }
+
+    /// Whether a class is the other one, or inherits from it, or implements it.
+    pub fn is_subtype(&self, lower: u32, upper: u32) -> bool
+        requires { IsLoaded self.now lower }
+        ensures { result ≡ is_subtype self.now.program lower upper }
+    {
+        is_subtype(&self.index, self.state.rows.as_slice(), lower, upper)
     }
 
     /// The field that a reference stands for (5.4.3.2).
@@ -194,6 +219,16 @@ impl Linker {
             position: above_position,
         };
         overrides(&self.index, self.state.rows.as_slice(), m1, m2)
+    }
+
+    /// How many slots of its objects the fields of a class's superclasses take, where a loaded class is the class or inherits from it.
+    pub fn slots_above(&self, lower: u32, class: u32) -> usize
+        requires loaded { IsLoaded self.now lower }
+        requires extends { is_among class (superclasses self.now.program lower) ≡ true }
+        ensures { result ≡ length
+            (flat_map (layout self.now.program) (superclass_of self.now.program class)) }
+    {
+        slots_above(&self.index, self.state.rows.as_slice(), lower, class)
     }
 
     /// The kinds of the instance fields of the class's objects, those of its superclass first.

@@ -1,9 +1,10 @@
 //! The walks over the supertypes of classes that were loaded.
 
-ghost use Rattle.std.specs.Prelude.{◌≡◌, IfSome, true};
+ghost use Rattle.std.specs.Prelude.{◌≡◌, IfSome, flat_map, length, true};
 ghost use Rattle.jvm_model.specs.Layouts.{layout};
 ghost use Rattle.jvm_model.specs.Load.{is_among};
-ghost use Rattle.jvm_model.specs.Lookup.{is_subtype, superclasses, superinterfaces, supertypes};
+ghost use Rattle.jvm_model.specs.Lookup.{is_subtype, superclass_of, superclasses};
+ghost use Rattle.jvm_model.specs.Lookup.{superinterfaces, supertypes};
 ghost use Rattle.jvm_model.specs.Programs.{super_of};
 ghost use Rattle.class_index.specs.Orders.{IsSearchedAs};
 ghost use Rattle.class_linker.specs.Passing.{IsChain};
@@ -72,6 +73,32 @@ pub fn layout_of<'a>(index: &Index, rows: &'a [Option<Row>], class: u32) -> &'a 
     ensures { result.now ≡ layout index.now class }
 {
     layout_in(rows, class)
+}
+
+/// How many slots of a class's objects the fields of its superclasses take.
+#[tactic(auto, using(crate::proofs::Inherited::layout_one))]
+fn slots_of_superclass(index: &Index, rows: &[Option<Row>], class: u32) -> usize
+    requires rows { AreRows index.now rows.now }
+    requires has { has_row rows.now class ≡ true }
+    ensures { result ≡ length (flat_map (layout index.now) (superclass_of index.now class)) }
+{
+    match superclass_of(index, rows, class) {
+        Some(above) => layout_of(index, rows, above).len(),
+        None => 0,
+    }
+}
+
+/// The same, of a class that the lower one is or inherits from.
+#[tactic(auto, using(crate::proofs::Inherited::superclass_has))]
+pub fn slots_above(index: &Index, rows: &[Option<Row>], lower: u32, class: u32) -> usize
+    requires rows { AreRows index.now rows.now }
+    requires has { has_row rows.now lower ≡ true }
+    requires extends { is_among class (superclasses index.now lower) ≡ true }
+    ensures { result ≡ length (flat_map (layout index.now) (superclass_of index.now class)) }
+{
+    // Read so that it is known that they have rows.
+    let _ = superclasses_of(index, rows, lower);
+    slots_of_superclass(index, rows, class)
 }
 
 /// Whether a class is the other one, or inherits from it, or implements it.

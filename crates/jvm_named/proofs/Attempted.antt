@@ -1,0 +1,104 @@
+-- What is loaded before an attempt, and what is found.
+use Rattle.std.proofs.Common.{◌≡◌, ℕ, Bool, true, false, List, [], ◌++◌, ap, sym, subst, refl, ◌∙◌}
+use Rattle.std.proofs.lemmas.List.{append-nil}
+use Rattle.std.specs.Prelude.{Option, Some, None, Result, Ok, Err, IfOk, drop, length, if◌then◌else◌}
+use Rattle.frame_stack.specs.FrameLists.{FramesView, top_operands}
+use Rattle.heap_objects.specs.Heaps.{HeapView}
+use Rattle.jvm_basic.specs.Outcomes.{top_locals}
+use Rattle.jvm_model.specs.declared.program.Program.{Program}
+use Rattle.jvm_model.specs.declared.state.Shared.{Shared}
+use Rattle.jvm_model.specs.Data.{Done, Locals, Operands}
+use Rattle.jvm_model.specs.Load.{load_of}
+use Rattle.jvm_model.specs.Naming.{Naming, Invokespecial, newly_loaded, resolved_kind, resolved_name, resolves, unless_refused}
+use Rattle.jvm_model.specs.NamingRules.{does_named}
+use Rattle.jvm_model.specs.ObjectRules.{done}
+use Rattle.jvm_model.specs.Programs.{class_named}
+use Rattle.jvm_model.proofs.LoadsAgain.{newly-loaded, resolved-again}
+use Rattle.class_linker.specs.Linkers.{IsLoaded, LinkerView}
+use Rattle.jvm_named.specs.declared.asked.Refusal.{Refusal}
+use Rattle.jvm_named.specs.Answers.{done_on, found_view, refusal_view}
+use Rattle.jvm_named.specs.Attempts.{IsFound, attempts, linker_with}
+use Rattle.jvm_named.specs.BuiltInCalls.{HasBuiltIn}
+use Rattle.jvm_named.specs.Objects.{AreLoaded, HasLoadedCaller, IsResolved}
+use Rattle.jvm_named.specs.Resolved.{does_resolved, skips}
+use Rattle.jvm_named.proofs.Behind.{behind, skipped}
+use Rattle.jvm_named.proofs.ObjectLemmas.{loaded_more, objects_more, with_more}
+
+-- ---- what is loaded
+
+pub nothing_loaded : (p : Program) (loaded : List ℕ) (n : Naming) (o : Operands) → resolves n o ≡ false → loaded ≡ loaded ++ newly_loaded p loaded n o
+nothing_loaded p loaded n o is =
+    sym (append-nil loaded)
+    ∙ sym (ap (λ b. loaded ++ (if b then drop (length loaded) (load_of p loaded (resolved_name n)).loaded else [])) is)
+
+pub all_loaded : (p : Program) (loaded after : List ℕ) (n : Naming) (o : Operands) → resolves n o ≡ true → after ≡ (load_of p loaded (resolved_name n)).loaded
+    → after ≡ loaded ++ newly_loaded p loaded n o
+all_loaded p loaded after n o is e = e ∙ sym (newly-loaded p loaded n o is)
+
+pub linker_same : (l : LinkerView) (loaded : List ℕ) → l.loaded ≡ loaded → l ≡ linker_with l loaded
+linker_same l loaded e = ap (λ classes. linker_with l classes) e
+
+pub linker_is : (l new : LinkerView) (loaded : List ℕ) → new.program ≡ l.program → new.loaded ≡ loaded → new ≡ linker_with l loaded
+linker_is l new loaded e f =
+    ap (λ p. let v : LinkerView = record { program = p; loaded = new.loaded } in v) e
+    ∙ ap (λ classes. let v : LinkerView = record { program = l.program; loaded = classes } in v) f
+
+-- ---- what is found
+
+pub found_by : (l : LinkerView) (n : Naming) (o : Operands) (r : Result ℕ Refusal) → resolves n o ≡ true
+    → found_view r ≡ resolved_kind l.program l.loaded (resolved_name n) → IfOk r (λ kind. IsResolved l (resolved_name n) kind) → IsFound l n o (Some r)
+found_by l n o (Ok kind) is found resolved = (is, found, resolved)
+found_by l n o (Err e) is found resolved = (is, found)
+
+pub resolved_later : (l new : LinkerView) (n : Naming) (o : Operands) (r : Result ℕ Refusal) → resolves n o ≡ true
+    → new.program ≡ l.program → new.loaded ≡ (load_of l.program l.loaded (resolved_name n)).loaded
+    → found_view r ≡ resolved_kind l.program l.loaded (resolved_name n) → found_view r ≡ resolved_kind new.program new.loaded (resolved_name n)
+resolved_later l new n o r is e f found =
+    found
+    ∙ (sym (resolved-again l.program l.loaded n o is)
+    ∙ (ap (λ classes. resolved_kind l.program classes (resolved_name n)) (sym (f ∙ sym (newly-loaded l.program l.loaded n o is)))
+    ∙ ap (λ p. resolved_kind p new.loaded (resolved_name n)) (sym e)))
+
+-- ---- what is done then
+
+pub done_skipped : (p : Program) (n : Naming) (s : Shared) (f : FramesView) → resolves n (top_operands f.frames) ≡ false
+    → done s (skips n (top_locals f.frames) (top_operands f.frames)) ≡ done_on (does_named p n s) f
+done_skipped p n s f is = sym (skipped p n s (top_locals f.frames) (top_operands f.frames) is)
+
+pub done_refused : (p : Program) (n : Naming) (s : Shared) (f : FramesView) (e : Refusal) → resolves n (top_operands f.frames) ≡ true
+    → Err (refusal_view e) ≡ resolved_kind p s.loaded (resolved_name n) → done s (refusal_view e) ≡ done_on (does_named p n s) f
+done_refused p n s f e is found =
+    sym (behind p n s (top_locals f.frames) (top_operands f.frames) is
+    ∙ ap (λ r. unless_refused s r (λ kind. does_resolved p kind n s (top_locals f.frames) (top_operands f.frames))) (sym found))
+
+pub done_found : (p : Program) (n : Naming) (s : Shared) (f : FramesView) (kind : ℕ) → resolves n (top_operands f.frames) ≡ true
+    → Ok kind ≡ resolved_kind p s.loaded (resolved_name n) → done_on (does_resolved p kind n s) f ≡ done_on (does_named p n s) f
+done_found p n s f kind is found =
+    sym (behind p n s (top_locals f.frames) (top_operands f.frames) is
+    ∙ ap (λ r. unless_refused s r (λ kind. does_resolved p kind n s (top_locals f.frames) (top_operands f.frames))) (sym found))
+
+-- ---- with what is loaded then
+
+pub is_more : (l new : LinkerView) (before after more : List ℕ) → l.loaded ≡ before → after ≡ before ++ more → new ≡ linker_with l after
+    → new ≡ with_more l more
+is_more l new before after more linked loaded is = is ∙ ap (λ classes. linker_with l classes) (loaded ∙ ap (λ classes. classes ++ more) (sym linked))
+
+module _ (l new : LinkerView) (more : List ℕ) (is : new ≡ with_more l more) where
+  pub objects_later : (h : HeapView) → AreLoaded l h → AreLoaded new h
+  objects_later h are = subst (λ v. AreLoaded v h) (sym is) (objects_more l more h are)
+
+  caller_more : (n : Naming) → HasLoadedCaller l n → HasLoadedCaller (with_more l more) n
+  caller_more (Invokespecial caller r interface) has = λ class named. loaded_more l more class (has class named)
+  caller_more n has = tt
+
+  pub caller_later : (n : Naming) → HasLoadedCaller l n → HasLoadedCaller new n
+  caller_later n has = subst (λ v. HasLoadedCaller v n) (sym is) (caller_more n has)
+
+  pub built_in_later : HasBuiltIn l → HasBuiltIn new
+  built_in_later has = subst HasBuiltIn (sym is) (λ class above within. loaded_more l more class (has class above within))
+
+  pub attempted : (n : Naming) (s : Shared) (f : FramesView) (loaded : List ℕ) → loaded ≡ s.loaded ++ newly_loaded l.program s.loaded n (top_operands f.frames)
+      → done_on (does_named new.program n (record s { loaded = loaded })) f ≡ done_on (attempts l.program n s f) f
+  attempted n s f loaded e =
+      ap (λ (v : LinkerView). does_named v.program n (record s { loaded = loaded }) (top_locals f.frames) (top_operands f.frames)) is
+      ∙ ap (λ classes. does_named l.program n (record s { loaded = classes }) (top_locals f.frames) (top_operands f.frames)) e

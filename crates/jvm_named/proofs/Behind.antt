@@ -1,0 +1,83 @@
+-- Each rule of an instruction that names something is what its resolution is followed by (JVM Specification 5.4.3.1).
+use Rattle.std.proofs.Common.{◌≡◌, ℕ, Bool, true, false, List, ◌++◌, ap, sym, refl, ◌∙◌, arith}
+use Rattle.std.specs.Prelude.{Some, Result, Ok, Err, not, pos, if◌then◌else◌}
+use Rattle.std.specs.Bool.{beq}
+use Rattle.heap_objects.specs.declared.Value.TheVariants.{Int}
+use Rattle.jvm_model.specs.CreationRules.{answers, casts_to}
+use Rattle.jvm_model.specs.declared.program.Program.{Program}
+use Rattle.jvm_model.specs.declared.state.Shared.{Shared}
+use Rattle.jvm_model.specs.Data.{Locals, Operands, Next, Outcome, GoesOn, Done}
+use Rattle.jvm_model.specs.FieldRules.{gets_of, held_of, is_static_field, kind_by, pushes_static, puts_into, putting_of, sets_static}
+use Rattle.jvm_model.specs.InvocationRules.{Selecting, Virtual, OfInterface, Special, arguments_by, invokes_on, invokes_with_static, names_interface}
+use Rattle.jvm_model.specs.LocalRules.{replaces}
+use Rattle.jvm_model.specs.Lookup.{resolved_field, resolved_method}
+use Rattle.jvm_model.specs.Naming.{◌>>=◌, Naming, New, Getfield, Putfield, Getstatic, Putstatic, Invokevirtual, Invokespecial, Invokestatic, Invokeinterface, Checkcast, Instanceof, Anewarray, Multianewarray, found, is_null, resolved_kind, resolved_name, resolves, unless_refused, where_fitting}
+use Rattle.jvm_model.specs.NamingRules.{does_named}
+use Rattle.jvm_model.specs.ObjectRules.{done}
+use Rattle.jvm_model.specs.Rules.{initialized}
+use Rattle.jvm_model.specs.Selection.{is_static}
+use Rattle.jvm_model.specs.SharedState.{class_of_kind}
+use Rattle.jvm_model.specs.Values.{ref_of}
+use Rattle.jvm_named.specs.Resolved.{does_resolved, field_found, method_found, skips}
+
+false_true : false ≡ true → ⊥
+false_true e = cc
+
+true_false : true ≡ false → ⊥
+true_false e = cc
+
+then-unless : {A B : Type 0} (s : Shared) (r : Result A Outcome) (f : A → Result B Outcome) (rule : B → Done)
+    → unless_refused s (r >>= f) rule ≡ unless_refused s r (λ x. unless_refused s (f x) rule)
+then-unless s (Ok x) f rule = refl
+then-unless s (Err q) f rule = refl
+
+null-or : (b : Bool) (null rest : Done) → not b ≡ true → (if b then null else rest) ≡ rest
+null-or true null rest is = absurd (false_true is)
+null-or false null rest is = refl
+
+null-is : (b : Bool) (null rest : Done) → not b ≡ false → (if b then null else rest) ≡ null
+null-is true null rest is = refl
+null-is false null rest is = absurd (true_false is)
+
+pub behind : (p : Program) (n : Naming) (s : Shared) (l : Locals) (o : Operands) → resolves n o ≡ true
+    → does_named p n s l o ≡ unless_refused s (resolved_kind p s.loaded (resolved_name n)) (λ kind. does_resolved p kind n s l o)
+behind p (New name) s l o is = refl
+behind p (Getfield r) s l o is =
+    then-unless s (resolved_kind p s.loaded r.class) (λ kind. field_found p kind false r) (λ m. gets_of p r m (ref_of o) s l o)
+behind p (Putfield r) s l o is =
+    then-unless s (resolved_kind p s.loaded r.class) (λ kind. field_found p kind false r) (λ m. puts_into p r m (putting_of (kind_by r) o) s l o)
+behind p (Getstatic r) s l o is =
+    then-unless s (resolved_kind p s.loaded r.class) (λ kind. field_found p kind true r) (λ m. pushes_static p m s l o)
+behind p (Putstatic r) s l o is =
+    then-unless s (resolved_kind p s.loaded r.class) (λ kind. field_found p kind true r)
+    (λ m. initialized p m.class s (sets_static m (held_of (kind_by r) o) s l o))
+behind p (Invokevirtual r) s l o is =
+    then-unless s (resolved_kind p s.loaded r.class) (λ kind. method_found p kind false false r)
+    (λ m. invokes_on p Virtual r m (arguments_by true r.member o) s l o)
+behind p (Invokespecial caller r interface) s l o is =
+    then-unless s (resolved_kind p s.loaded r.class) (λ kind. method_found p kind interface false r)
+    (λ m. invokes_on p (Special caller interface) r m (arguments_by true r.member o) s l o)
+behind p (Invokestatic r) s l o is =
+    then-unless s (resolved_kind p s.loaded r.class) (λ kind. method_found p kind false true r)
+    (λ m. initialized p m.class s (invokes_with_static p m (arguments_by false r.member o) s l o))
+behind p (Invokeinterface r) s l o is =
+    then-unless s (resolved_kind p s.loaded r.class) (λ kind. method_found p kind true false r)
+    (λ m. invokes_on p OfInterface r m (arguments_by true r.member o) s l o)
+behind p (Checkcast name) s l o is =
+    null-or (is_null o) (done s (GoesOn l o Next))
+    (unless_refused s (resolved_kind p s.loaded name) (λ kind. done s (casts_to p name (ref_of o) s l o))) is
+behind p (Instanceof name) s l o is =
+    null-or (is_null o) (done s (replaces 1 (Some (Int (pos 0))) l o))
+    (unless_refused s (resolved_kind p s.loaded name) (λ kind. done s (answers p name (ref_of o) s l o))) is
+behind p (Anewarray name) s l o is = refl
+behind p (Multianewarray name dimensions) s l o is = refl
+
+pub skipped : (p : Program) (n : Naming) (s : Shared) (l : Locals) (o : Operands) → resolves n o ≡ false
+    → does_named p n s l o ≡ done s (skips n l o)
+skipped p (Checkcast name) s l o is =
+    null-is (is_null o) (done s (GoesOn l o Next))
+    (unless_refused s (resolved_kind p s.loaded name) (λ kind. done s (casts_to p name (ref_of o) s l o))) is
+skipped p (Instanceof name) s l o is =
+    null-is (is_null o) (done s (replaces 1 (Some (Int (pos 0))) l o))
+    (unless_refused s (resolved_kind p s.loaded name) (λ kind. done s (answers p name (ref_of o) s l o))) is
+skipped p n s l o is = absurd (true_false is)

@@ -1,0 +1,120 @@
+-- The rules of invocations by the target that is found before anything is changed (JVM Specification 6.5).
+use Rattle.std.proofs.Common.{◌≡◌, ℕ, ◌≤◌, Bool, List, length, drop, take, map, min, Option, Some, None, refl, sym, ap, subst, ◌∙◌, arith}
+use Rattle.std.specs.Prelude.{false, true, reverse, Result, Ok, Err}
+use Rattle.std.specs.Option.{option_map}
+use Rattle.std.proofs.lemmas.List.{append-nil, length-map, length-reverse, length-take}
+use Rattle.heap_objects.specs.declared.datum.Datum.{Datum}
+use Rattle.heap_objects.specs.Heaps.{kind_at}
+use Rattle.const_pool.specs.References.{Reference}
+use Rattle.frame_stack.specs.FrameLists.{FramesView}
+use Rattle.jvm_model.specs.declared.program.Program.{Program}
+use Rattle.jvm_model.specs.declared.state.Phase.{Phase}
+use Rattle.jvm_model.specs.declared.state.Phase.TheVariants.{Fresh, Running, Ready, Erroneous}
+use Rattle.jvm_model.specs.declared.state.Shared.{Shared}
+use Rattle.jvm_model.specs.Data.{Locals, Operands, Outcome, Breaks, Done}
+use Rattle.jvm_model.specs.InvocationRules.{Selecting, arguments_by, invokes_on, invokes_selected, invokes_with_static, names_interface, not_of_class, receiver_in, selected_by}
+use Rattle.jvm_model.specs.Lookup.{MemberPlace}
+use Rattle.jvm_model.specs.Naming.{◌>>=◌, is_instance, present, receiver, unless_refused}
+use Rattle.jvm_model.specs.ObjectRules.{done}
+use Rattle.jvm_model.specs.Rules.{when_ready}
+use Rattle.jvm_model.specs.SharedState.{class_of, phase_of}
+use Rattle.jvm_named.specs.declared.asked.Asked.TheVariants.{Refused}
+use Rattle.jvm_named.specs.declared.asked.Refusal.{Refusal}
+use Rattle.jvm_named.specs.declared.asked.Refusal.TheVariants as refusal
+use Rattle.jvm_named.specs.declared.targets.Target.{Target as TheTarget}
+use Rattle.jvm_named.specs.Answers.{refusal_view}
+use Rattle.jvm_named.specs.Does.{IsDone, changed}
+use Rattle.jvm_named.specs.Objects.{class_at_kind}
+use Rattle.jvm_named.specs.Members.{at_place}
+use Rattle.jvm_named.specs.Resolved.{invokes_instance, invokes_static_method, method_found}
+use Rattle.jvm_named.specs.Targets.{Target, as_datum, data_in, instance_target, invokes_target, static_target, target_in, unless_unready, unready_by}
+
+-- ---- instance methods
+
+module _ (p : Program) (by : Selecting) (r : Reference) (s : Shared) (l : Locals) (o : Operands) where
+  abbrev chosen : MemberPlace → List Datum → ℕ → Result Target Outcome
+  chosen m args class = Ok (record { selected = selected_by p by m class; args = args })
+
+  abbrev with_class : MemberPlace → List Datum → Result ℕ Outcome → Result Target Outcome
+  with_class m args found = found >>= (λ object. Ok (class_at_kind p (kind_at object s.heap))) >>= chosen m args
+
+  by-receiver : (m : MemberPlace) (args : List Datum) (found : Result ℕ Outcome)
+      → invokes_target p (with_class m args found) s l o
+      ≡ unless_refused s found (λ object. invokes_selected p (selected_by p by m (class_of p s object)) args s l (drop (length args) o))
+  by-receiver m args (Ok object) = refl
+  by-receiver m args (Err e) = refl
+
+  abbrev receiver_of : List Datum → Result ℕ Outcome
+  receiver_of args = receiver (receiver_in args) (is_instance p s.heap (receiver_in args) r.class) (not_of_class by)
+
+  by-arguments : (m : MemberPlace) (found : Option (List Datum))
+      → invokes_target p (present found >>= λ args. with_class m args (receiver_of args)) s l o ≡ invokes_on p by r m found s l o
+  by-arguments m None = refl
+  by-arguments m (Some args) = by-receiver m args (receiver_of args)
+
+  by-method : (found : Result MemberPlace Outcome)
+      → invokes_target p (found >>= λ m. present (arguments_by true r.member o) >>= λ args. with_class m args (receiver_of args)) s l o
+      ≡ unless_refused s found (λ m. invokes_on p by r m (arguments_by true r.member o) s l o)
+  by-method (Ok m) = by-arguments m (arguments_by true r.member o)
+  by-method (Err e) = refl
+
+  pub instance-rule : (kind : ℕ) → invokes_target p (instance_target p kind by r s.heap o) s l o ≡ invokes_instance p kind by r s l o
+  instance-rule kind = by-method (method_found p kind (names_interface by) false r)
+
+-- ---- static methods
+
+module _ (p : Program) (r : Reference) (s : Shared) (l : Locals) (o : Operands) where
+  abbrev fixed : MemberPlace → List Datum → Result Target Outcome
+  fixed m args = Ok (record { selected = Some m; args = args })
+
+  by-present : (m : MemberPlace) (found : Option (List Datum)) → invokes_target p (present found >>= fixed m) s l o ≡ invokes_with_static p m found s l o
+  by-present m None = refl
+  by-present m (Some args) = refl
+
+  by-phase : (m : MemberPlace) (phase : Option Phase)
+      → invokes_target p (unless_unready (unready_by p m.class phase) (present (arguments_by false r.member o)) >>= fixed m) s l o
+      ≡ when_ready p phase m.class s (invokes_with_static p m (arguments_by false r.member o) s l o)
+  by-phase m (Some Ready) = by-present m (arguments_by false r.member o)
+  by-phase m (Some Running) = by-present m (arguments_by false r.member o)
+  by-phase m (Some Fresh) = refl
+  by-phase m (Some Erroneous) = refl
+  by-phase m None = refl
+
+  by-found : (found : Result MemberPlace Outcome)
+      → invokes_target p (found >>= λ m. unless_unready (unready_by p m.class (phase_of s m.class)) (present (arguments_by false r.member o)) >>= fixed m) s l o
+      ≡ unless_refused s found (λ m. when_ready p (phase_of s m.class) m.class s (invokes_with_static p m (arguments_by false r.member o) s l o))
+  by-found (Ok m) = by-phase m (phase_of s m.class)
+  by-found (Err e) = refl
+
+  pub static-rule : (kind : ℕ) → invokes_target p (static_target p kind r s o) s l o ≡ invokes_static_method p kind r s l o
+  static-rule kind = by-found (method_found p kind false true r)
+
+-- ---- a target that was found
+
+length-data : (count : ℕ) (o : Operands) → count ≤ length o → length (data_in count o) ≡ count
+length-data count o enough =
+    let all : length (data_in count o) ≡ length (reverse (take count o)) = length-map (reverse (take count o)) as_datum in
+    let back : length (reverse (take count o)) ≡ length (take count o) = length-reverse (take count o) in
+    let len : length (take count o) ≡ min count (length o) = length-take count o in
+    omega (arith, all, back, len, enough)
+
+pub does-target : (p : Program) (found : Result Target Outcome) (s : Shared) (l : Locals) (o : Operands) (t : TheTarget) → Ok (target_in o t) ≡ found → t.count ≤ length o
+    → invokes_selected p (option_map at_place t.selected) (data_in t.count o) s l (drop t.count o) ≡ invokes_target p found s l o
+does-target p found s l o t is enough =
+    ap (λ n. invokes_selected p (option_map at_place t.selected) (data_in t.count o) s l (drop n o)) (sym (length-data t.count o enough))
+    ∙ ap (λ x. invokes_target p x s l o) is
+
+-- ---- a refusal changes nothing
+
+pub refuses : (d : Done) (next : ℕ) (f : FramesView) (s : Shared) (out : List ℕ) (e : Refusal) → d ≡ done s (refusal_view e)
+    → IsDone d next (changed f s out) (changed f s out) (Refused e)
+refuses d next f s out e is = subst (λ d. IsDone d next (changed f s out) (changed f s out) (Refused e)) (sym is) (by e) where
+  by : (e : Refusal) → IsDone (done s (refusal_view e)) next (changed f s out) (changed f s out) (Refused e)
+  by (refusal.Raises class message) = record { answer = refl; frames = refl; shared = refl; output = sym (append-nil out) }
+  by (refusal.Throws object) = record { answer = refl; frames = refl; shared = refl; output = sym (append-nil out) }
+  by (refusal.Initializes class) = record { answer = refl; frames = refl; shared = refl; output = sym (append-nil out) }
+  by refusal.Breaks = record { answer = refl; frames = refl; shared = refl; output = sym (append-nil out) }
+
+pub refuses-target : (p : Program) (found : Result Target Outcome) (s : Shared) (l : Locals) (o : Operands) (e : Refusal) → Err (refusal_view e) ≡ found
+    → invokes_target p found s l o ≡ done s (refusal_view e)
+refuses-target p found s l o e is = ap (λ x. invokes_target p x s l o) (sym is)

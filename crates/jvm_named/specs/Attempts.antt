@@ -1,0 +1,36 @@
+-- An attempt of an instruction that names a class or a member: what it names is loaded before (JVM Specification 5.3, 5.4.3).
+use Rattle.std.specs.Prelude.{◌≡◌, ℕ, true, false, List, ◌++◌, Option, Some, None, Result, Ok, Err}
+use Rattle.frame_stack.specs.FrameLists.{FramesView, top_operands}
+use Rattle.jvm_model.specs.declared.program.Program.{Program}
+use Rattle.jvm_model.specs.declared.state.Shared.{Shared}
+use Rattle.jvm_model.specs.Data.{Operands}
+use Rattle.jvm_model.specs.Naming.{Naming, newly_loaded, resolved_kind, resolved_name, resolves}
+use Rattle.jvm_model.specs.NamingRules.{does_named}
+use Rattle.class_linker.specs.Linkers.{LinkerView}
+use Rattle.jvm_named.specs.declared.asked.Refusal.{Refusal}
+use Rattle.jvm_named.specs.Answers.{Rule, refusal_view}
+use Rattle.jvm_named.specs.Objects.{IsResolved}
+
+-- with the classes that the instruction loads
+abbrev pub loaded_for : Program → Naming → Shared → FramesView → List ℕ
+loaded_for p n s f = s.loaded ++ newly_loaded p s.loaded n (top_operands f.frames)
+
+abbrev pub shared_loaded : Program → Naming → Shared → FramesView → Shared
+shared_loaded p n s f = record s { loaded = loaded_for p n s f }
+
+abbrev pub linker_with : LinkerView → List ℕ → LinkerView
+linker_with l loaded = record { program = l.program; loaded = loaded }
+
+abbrev pub linker_loaded : Naming → Shared → LinkerView → FramesView → LinkerView
+linker_loaded n s l f = linker_with l (loaded_for l.program n s f)
+
+-- the rule of the instruction, over what is loaded then
+abbrev pub attempts : Program → Naming → Shared → FramesView → Rule
+attempts p n s f l o = does_named p n (shared_loaded p n s f) l o
+
+-- what was found for the name, over what is loaded now: nothing where nothing is resolved
+abbrev pub IsFound : LinkerView → Naming → Operands → Option (Result ℕ Refusal) → Type 0
+IsFound l n o None = resolves n o ≡ false
+IsFound l n o (Some (Err e)) = (resolves n o ≡ true) × (Err (refusal_view e) ≡ resolved_kind l.program l.loaded (resolved_name n))
+IsFound l n o (Some (Ok kind)) =
+    (resolves n o ≡ true) × (Ok kind ≡ resolved_kind l.program l.loaded (resolved_name n)) × IsResolved l (resolved_name n) kind

@@ -1,0 +1,12 @@
+pub mod Members
+pub mod Names
+pub mod Answers
+pub mod Objects
+pub mod Resolved
+pub mod Attempts
+pub mod Held
+pub mod Numbers
+pub mod Fields
+pub mod Targets
+pub mod Does
+pub mod BuiltInCalls

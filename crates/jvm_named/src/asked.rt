@@ -1,0 +1,42 @@
+//! What an instruction asks for.
+
+use jf_bytes::Text16;
+
+/// The class of an exception that an instruction raises.
+#[derive(Clone, Copy, Debug, PartialEq, Eq)]
+pub enum Exception {
+    AbstractMethod,
+    ClassCast,
+    ClassCircularity,
+    IncompatibleClassChange,
+    Instantiation,
+    NegativeArraySize,
+    NoClassDefinition,
+    NoSuchField,
+    NoSuchMethod,
+    NullPointer,
+    UnsatisfiedLink,
+}
+
+/// What an instruction asks for in place of going on (2.10, 5.5): an exception that the machine makes, with its message; that an object
+/// is thrown; that the class at this position is initialized before; or the end, where the code is unverifiable. The frame is as it was.
+#[derive(Debug, Drop)]
+pub enum Refusal {
+    Raises(Exception, Option<Text16>),
+    Throws(u32),
+    Initializes(u32),
+    Breaks,
+}
+
+/// What an instruction asks for.
+#[derive(Debug, Drop)]
+pub enum Asked {
+    /// The frame has gone on to the place behind the instruction.
+    Next,
+    /// The operands would be deeper than the frame's limit (4.9.2). The frame is as it was, and what is shared as the instruction leaves
+    /// it.
+    TooDeep,
+    /// The method with this number is invoked with so many topmost operands as its arguments, which the frame still has.
+    Invokes(u32, u16),
+    Refused(Refusal),
+}

@@ -1,0 +1,186 @@
+//! An attempt of an instruction that names a class or a member.
+
+ghost use Rattle.std.specs.Prelude.{◌≡◌, ◌++◌, IfOk, OnOk};
+ghost use Rattle.class_linker.specs.Linkers.{IsLoaded};
+ghost use Rattle.frame_stack.specs.FrameLists.{top_operands};
+ghost use Rattle.jvm_model.specs.KindNumbers.{user_count};
+ghost use Rattle.jvm_model.specs.Naming.{is_null, newly_loaded, resolved_name, resolves};
+ghost use Rattle.jvm_model.specs.NamingRules.{does_named};
+ghost use Rattle.jvm_named.specs.Answers.{Answers, Moves, Shares, answer_of, answer_view};
+ghost use Rattle.jvm_named.specs.Answers.{frames_of, wrote_by};
+ghost use Rattle.jvm_named.specs.Attempts.{IsFound, attempts, linker_loaded, linker_with};
+ghost use Rattle.jvm_named.specs.BuiltInCalls.{HasBuiltIn};
+ghost use Rattle.jvm_named.specs.Names.{naming_view};
+ghost use Rattle.jvm_named.specs.Numbers.{AreNumbers};
+ghost use Rattle.jvm_named.specs.Objects.{AreLoaded, HasDimensions, HasLoadedCaller};
+ghost use Rattle.jvm_named.specs.Resolved.{skips};
+
+use crate::asked::{Asked, Refusal};
+use crate::doing::do_resolved;
+use crate::moving::{keep, replace};
+use crate::naming::Naming;
+use crate::numbers::MethodNumbers;
+use crate::resolution::resolve;
+use class_linker::Linker;
+use frame_stack::Frames;
+use heap_objects::Value;
+use jf_bytes::{NoMemory, Seq, Text16};
+use jvm_basic::ref_of;
+use jvm_model::Shared;
+use std::alloc::Global;
+
+// ---- what is resolved
+
+/// Whether the null reference is on top.
+fn is_null(frames: &Frames) -> bool
+    ensures { result ≡ is_null (top_operands frames.now.frames) }
+{
+    match ref_of(frames) {
+        Some(object) => object == 0,
+        None => false,
+    }
+}
+
+/// Whether the instruction resolves what it names: checkcast and instanceof of null do not.
+fn resolves(frames: &Frames, naming: &Naming) -> bool
+    ensures { result ≡ resolves (naming_view naming.now) (top_operands frames.now.frames) }
+{
+    match naming {
+        Naming::Checkcast(_) => !is_null(frames),
+        Naming::Instanceof(_) => !is_null(frames),
+        _ => true,
+    }
+}
+
+/// The name of the class, or of the array type, that is resolved: of a member its class's.
+fn resolved_name(naming: &Naming) -> &Text16
+    ensures { result.now ≡ resolved_name (naming_view naming.now) }
+{
+    match naming {
+        Naming::New(name) => name,
+        Naming::Getfield(member) => &member.class,
+        Naming::Putfield(member) => &member.class,
+        Naming::Getstatic(member) => &member.class,
+        Naming::Putstatic(member) => &member.class,
+        Naming::Invokevirtual(method) => method.class(),
+        Naming::Invokespecial(_, method, _) => method.class(),
+        Naming::Invokestatic(method) => method.class(),
+        Naming::Invokeinterface(method) => method.class(),
+        Naming::Checkcast(name) => name,
+        Naming::Instanceof(name) => name,
+        Naming::Anewarray(name) => name,
+        Naming::Multianewarray(name, _) => name,
+    }
+}
+
+/// Resolves what the instruction names, if it resolves anything.
+fn find(
+    linker: &mut Linker,
+    loaded: &mut Seq<u32>,
+    frames: &Frames,
+    naming: &Naming,
+) -> Result<Option<Result<u32, Refusal>>, NoMemory>
+    requires linked { linker.old.loaded ≡ loaded.old }
+    requires root { IsLoaded linker.old (user_count linker.old.program) }
+    ensures found { IfOk result (λ found. IsFound linker.new (naming_view naming.now)
+        (top_operands frames.now.frames) found) }
+    ensures loaded { OnOk result (loaded.new ≡ loaded.old ++ newly_loaded linker.old.program
+        loaded.old (naming_view naming.now) (top_operands frames.now.frames)) }
+    ensures linker { OnOk result (linker.new ≡ linker_with linker.old loaded.new) }
+{
+    if !resolves(frames, naming) {
+        return Ok(None);
+    }
+    let found = resolve(linker, loaded, resolved_name(naming))?;
+    Ok(Some(found))
+}
+
+// ---- what is done then
+
+/// checkcast and instanceof of null.
+fn skip(frames: &mut Frames, naming: &Naming, next: u16) -> Asked
+    ensures answer { answer_view result ≡ answer_of (skips (naming_view naming.now)) frames.old }
+    ensures frames { frames.new ≡ frames_of (skips (naming_view naming.now)) next frames.old }
+{
+    match naming {
+        Naming::Instanceof(_) => replace(frames, Value::Int(0), next),
+        _ => keep(frames, next),
+    }
+}
+
+/// What the instruction does, with what it names found.
+fn do_found(
+    alloc: Global,
+    linker: &Linker,
+    numbers: &MethodNumbers,
+    shared: &mut Shared,
+    frames: &mut Frames,
+    output: &mut Seq<u8>,
+    naming: &Naming,
+    found: Option<Result<u32, Refusal>>,
+    next: u16,
+) -> Result<Asked, NoMemory>
+    requires linked { linker.now.loaded ≡ shared.old.loaded }
+    requires found { IsFound linker.now (naming_view naming.now)
+        (top_operands frames.old.frames) found }
+    requires numbers { AreNumbers linker.now.program numbers.now }
+    requires built_in { HasBuiltIn linker.now }
+    requires objects { AreLoaded linker.now shared.old.heap }
+    requires caller { HasLoadedCaller linker.now (naming_view naming.now) }
+    requires dimensions { HasDimensions (naming_view naming.now) }
+    ensures answer { Answers result
+        (does_named linker.now.program (naming_view naming.now) shared.old) frames.old }
+    ensures frames { Moves result frames.new
+        (does_named linker.now.program (naming_view naming.now) shared.old) next frames.old }
+    ensures shared { Shares result shared.new
+        (does_named linker.now.program (naming_view naming.now) shared.old) frames.old }
+    ensures output { OnOk result (output.new ≡ output.old ++ wrote_by
+        (does_named linker.now.program (naming_view naming.now) shared.old) frames.old) }
+    ensures objects { OnOk result (AreLoaded linker.now shared.new.heap) }
+{
+    match found {
+        None => Ok(skip(frames, naming, next)),
+        Some(Err(refusal)) => Ok(Asked::Refused(refusal)),
+        Some(Ok(kind)) => do_resolved(
+            alloc, linker, numbers, shared, frames, output, naming, kind, next,
+        ),
+    }
+}
+
+/// Attempts an instruction that names a class or a member (JVM Specification 5.4.3, 6.5): loads what it names, and does what its rule
+/// says over what is loaded then. `next` is the place behind it, and `output` what was written so far. The built-in classes have to be
+/// loaded, the class of each object, and that in which an invokespecial stands; they are then, too. An Err says that memory ran out, and
+/// nothing of what is changed.
+pub fn attempt(
+    alloc: Global,
+    linker: &mut Linker,
+    numbers: &MethodNumbers,
+    shared: &mut Shared,
+    frames: &mut Frames,
+    output: &mut Seq<u8>,
+    naming: &Naming,
+    next: u16,
+) -> Result<Asked, NoMemory>
+    requires linked { linker.old.loaded ≡ shared.old.loaded }
+    requires numbers { AreNumbers linker.old.program numbers.now }
+    requires built_in { HasBuiltIn linker.old }
+    requires objects { AreLoaded linker.old shared.old.heap }
+    requires caller { HasLoadedCaller linker.old (naming_view naming.now) }
+    requires dimensions { HasDimensions (naming_view naming.now) }
+    ensures answer { Answers result
+        (attempts linker.old.program (naming_view naming.now) shared.old frames.old) frames.old }
+    ensures frames { Moves result frames.new
+        (attempts linker.old.program (naming_view naming.now) shared.old frames.old) next
+        frames.old }
+    ensures shared { Shares result shared.new
+        (attempts linker.old.program (naming_view naming.now) shared.old frames.old) frames.old }
+    ensures output { OnOk result (output.new ≡ output.old ++ wrote_by
+        (attempts linker.old.program (naming_view naming.now) shared.old frames.old) frames.old) }
+    ensures linker { OnOk result (linker.new
+        ≡ linker_loaded (naming_view naming.now) shared.old linker.old frames.old) }
+    ensures built_in { OnOk result (HasBuiltIn linker.new) }
+    ensures objects { OnOk result (AreLoaded linker.new shared.new.heap) }
+{
+    let found = find(linker, &mut shared.loaded, frames, naming)?;
+    do_found(alloc, linker, numbers, shared, frames, output, naming, found, next)
+}

@@ -1,0 +1,366 @@
+//! invokestatic, invokevirtual, invokeinterface and invokespecial (JVM Specification 5.4.3.3, 5.4.3.4, 6.5), where the class of the
+//! method's name was resolved.
+
+ghost use Rattle.std.specs.Prelude.{◌≡◌, ◌≤◌, ◌++◌, Some, length, drop, OnOk};
+ghost use Rattle.std.specs.Option.{option_map};
+ghost use Rattle.frame_stack.specs.FrameLists.{top_operands};
+ghost use Rattle.jvm_basic.specs.Outcomes.{top_locals};
+ghost use Rattle.jvm_model.specs.InvocationRules.{OfInterface, Special, Virtual};
+ghost use Rattle.jvm_model.specs.InvocationRules.{invokes_native, invokes_selected};
+ghost use Rattle.jvm_model.specs.Naming as model;
+ghost use Rattle.jvm_named.specs.Answers.{Answers, Moves, Shares, wrote_by};
+ghost use Rattle.jvm_named.specs.BuiltInCalls.{HasBuiltIn};
+ghost use Rattle.jvm_named.specs.Does.{Does, changed};
+ghost use Rattle.jvm_named.specs.Numbers.{AreNumbers};
+ghost use Rattle.jvm_named.specs.Objects.{AreLoaded, HasLoadedCaller, IsResolved};
+ghost use Rattle.jvm_named.specs.Members.{at_place};
+ghost use Rattle.jvm_named.specs.Resolved.{invokes_instance, invokes_static_method};
+ghost use Rattle.jvm_named.specs.Targets.{HasCaller, by_view, data_in};
+
+use crate::asked::{Asked, Exception, Refusal};
+use crate::built_in::run_built_in;
+use crate::instances::user_count;
+use crate::naming::MethodName;
+use crate::numbers::MethodNumbers;
+use crate::place::Place;
+use crate::targets::{By, instance_target, is_abstract, static_target};
+use class_linker::Linker;
+use frame_stack::Frames;
+use jf_bytes::{NoMemory, Seq, Text16};
+use jvm_model::Shared;
+use std::alloc::Global;
+
+// ---- what is invoked
+
+/// A native method: a user's class has none that could be linked.
+fn invoke_native(
+    alloc: Global,
+    linker: &Linker,
+    shared: &mut Shared,
+    frames: &mut Frames,
+    output: &mut Seq<u8>,
+    m: Place,
+    count: u16,
+    next: u16,
+) -> Result<Asked, NoMemory>
+    requires within { count ≤ length (top_operands frames.old.frames) }
+    requires built_in { HasBuiltIn linker.now }
+    requires objects { AreLoaded linker.now shared.old.heap }
+    ensures done { let fs = frames.old.frames in let o = top_operands fs in
+        let rule = invokes_native linker.now.program (at_place m) (data_in count o) shared.old
+        (top_locals fs) (drop count o) in
+        Does result rule next (changed frames.old shared.old output.old)
+        (changed frames.new shared.new output.new) }
+    ensures objects { OnOk result (AreLoaded linker.now shared.new.heap) }
+{
+    if m.class < user_count(linker) {
+        return Ok(Asked::Refused(Refusal::Raises(Exception::UnsatisfiedLink, None)));
+    }
+    run_built_in(alloc, linker, shared, frames, output, m, count, next)
+}
+
+/// The method that was selected.
+fn invoke_found(
+    alloc: Global,
+    linker: &Linker,
+    numbers: &MethodNumbers,
+    shared: &mut Shared,
+    frames: &mut Frames,
+    output: &mut Seq<u8>,
+    m: Place,
+    count: u16,
+    next: u16,
+) -> Result<Asked, NoMemory>
+    requires within { count ≤ length (top_operands frames.old.frames) }
+    requires numbers { AreNumbers linker.now.program numbers.now }
+    requires built_in { HasBuiltIn linker.now }
+    requires objects { AreLoaded linker.now shared.old.heap }
+    ensures done { let fs = frames.old.frames in let o = top_operands fs in
+        let rule = invokes_selected linker.now.program (Some (at_place m)) (data_in count o)
+        shared.old (top_locals fs) (drop count o) in
+        Does result rule next (changed frames.old shared.old output.old)
+        (changed frames.new shared.new output.new) }
+    ensures objects { OnOk result (AreLoaded linker.now shared.new.heap) }
+{
+    if is_abstract(linker.program(), m) {
+        return Ok(Asked::Refused(Refusal::Raises(Exception::AbstractMethod, None)));
+    }
+    match numbers.number(m.class, m.position) {
+        Some(number) => Ok(Asked::Invokes(number, count)),
+        None => invoke_native(alloc, linker, shared, frames, output, m, count, next),
+    }
+}
+
+/// The method that was selected, if one was.
+fn invoke_selected(
+    alloc: Global,
+    linker: &Linker,
+    numbers: &MethodNumbers,
+    shared: &mut Shared,
+    frames: &mut Frames,
+    output: &mut Seq<u8>,
+    selected: Option<Place>,
+    count: u16,
+    next: u16,
+) -> Result<Asked, NoMemory>
+    requires within { count ≤ length (top_operands frames.old.frames) }
+    requires numbers { AreNumbers linker.now.program numbers.now }
+    requires built_in { HasBuiltIn linker.now }
+    requires objects { AreLoaded linker.now shared.old.heap }
+    ensures done { let fs = frames.old.frames in let o = top_operands fs in
+        let rule = invokes_selected linker.now.program (option_map at_place selected)
+        (data_in count o) shared.old (top_locals fs) (drop count o) in
+        Does result rule next (changed frames.old shared.old output.old)
+        (changed frames.new shared.new output.new) }
+    ensures objects { OnOk result (AreLoaded linker.now shared.new.heap) }
+{
+    match selected {
+        Some(m) => invoke_found(
+            alloc, linker, numbers, shared, frames, output, m, count, next,
+        ),
+        None => Ok(Asked::Refused(Refusal::Raises(Exception::AbstractMethod, None))),
+    }
+}
+
+// ---- instance methods
+
+/// An instance method, by one of the three instructions.
+fn invoke_instance(
+    alloc: Global,
+    linker: &Linker,
+    numbers: &MethodNumbers,
+    shared: &mut Shared,
+    frames: &mut Frames,
+    output: &mut Seq<u8>,
+    by: By<'_>,
+    method: &MethodName,
+    kind: u32,
+    next: u16,
+) -> Result<Asked, NoMemory>
+    requires resolved { IsResolved linker.now method.now.class kind }
+    requires caller { HasCaller linker.now (by_view by) }
+    requires numbers { AreNumbers linker.now.program numbers.now }
+    requires built_in { HasBuiltIn linker.now }
+    requires objects { AreLoaded linker.now shared.old.heap }
+    ensures done { let fs = frames.old.frames in
+        let rule = invokes_instance linker.now.program kind (by_view by.entry) method.now
+        shared.old (top_locals fs) (top_operands fs) in
+        Does result rule next (changed frames.old shared.old output.old)
+        (changed frames.new shared.new output.new) }
+    ensures objects { OnOk result (AreLoaded linker.now shared.new.heap) }
+{
+    match instance_target(linker, &shared.heap, frames, by, method, kind) {
+        Ok(target) => invoke_selected(
+            alloc,
+            linker,
+            numbers,
+            shared,
+            frames,
+            output,
+            target.selected,
+            target.count,
+            next,
+        ),
+        Err(refusal) => Ok(Asked::Refused(refusal)),
+    }
+}
+
+/// invokevirtual.
+pub fn invoke_virtual(
+    alloc: Global,
+    linker: &Linker,
+    numbers: &MethodNumbers,
+    shared: &mut Shared,
+    frames: &mut Frames,
+    output: &mut Seq<u8>,
+    method: &MethodName,
+    kind: u32,
+    next: u16,
+) -> Result<Asked, NoMemory>
+    requires resolved { IsResolved linker.now method.now.class kind }
+    requires numbers { AreNumbers linker.now.program numbers.now }
+    requires built_in { HasBuiltIn linker.now }
+    requires objects { AreLoaded linker.now shared.old.heap }
+    ensures answer { Answers result
+        (invokes_instance linker.now.program kind Virtual method.now shared.old) frames.old }
+    ensures frames { Moves result frames.new
+        (invokes_instance linker.now.program kind Virtual method.now shared.old) next frames.old }
+    ensures shared { Shares result shared.new
+        (invokes_instance linker.now.program kind Virtual method.now shared.old) frames.old }
+    ensures output { OnOk result (output.new ≡ output.old ++ wrote_by
+        (invokes_instance linker.now.program kind Virtual method.now shared.old) frames.old) }
+    ensures objects { OnOk result (AreLoaded linker.now shared.new.heap) }
+{
+    invoke_instance(
+        alloc,
+        linker,
+        numbers,
+        shared,
+        frames,
+        output,
+        By::Virtual,
+        method,
+        kind,
+        next,
+    )
+}
+
+/// invokeinterface.
+pub fn invoke_interface(
+    alloc: Global,
+    linker: &Linker,
+    numbers: &MethodNumbers,
+    shared: &mut Shared,
+    frames: &mut Frames,
+    output: &mut Seq<u8>,
+    method: &MethodName,
+    kind: u32,
+    next: u16,
+) -> Result<Asked, NoMemory>
+    requires resolved { IsResolved linker.now method.now.class kind }
+    requires numbers { AreNumbers linker.now.program numbers.now }
+    requires built_in { HasBuiltIn linker.now }
+    requires objects { AreLoaded linker.now shared.old.heap }
+    ensures answer { Answers result
+        (invokes_instance linker.now.program kind OfInterface method.now shared.old) frames.old }
+    ensures frames { Moves result frames.new
+        (invokes_instance linker.now.program kind OfInterface method.now shared.old) next frames.old }
+    ensures shared { Shares result shared.new
+        (invokes_instance linker.now.program kind OfInterface method.now shared.old) frames.old }
+    ensures output { OnOk result (output.new ≡ output.old ++ wrote_by
+        (invokes_instance linker.now.program kind OfInterface method.now shared.old) frames.old) }
+    ensures objects { OnOk result (AreLoaded linker.now shared.new.heap) }
+{
+    invoke_instance(
+        alloc,
+        linker,
+        numbers,
+        shared,
+        frames,
+        output,
+        By::OfInterface,
+        method,
+        kind,
+        next,
+    )
+}
+
+/// invokespecial in a class of this name, of an interface's method or of a class's.
+pub fn invoke_special(
+    alloc: Global,
+    linker: &Linker,
+    numbers: &MethodNumbers,
+    shared: &mut Shared,
+    frames: &mut Frames,
+    output: &mut Seq<u8>,
+    caller: &Text16,
+    interface: bool,
+    method: &MethodName,
+    kind: u32,
+    next: u16,
+) -> Result<Asked, NoMemory>
+    requires resolved { IsResolved linker.now method.now.class kind }
+    requires caller { HasLoadedCaller linker.now
+        (model.Invokespecial caller.now method.now interface) }
+    requires numbers { AreNumbers linker.now.program numbers.now }
+    requires built_in { HasBuiltIn linker.now }
+    requires objects { AreLoaded linker.now shared.old.heap }
+    ensures answer { Answers result
+        (invokes_instance linker.now.program kind (Special caller.now interface) method.now
+        shared.old) frames.old }
+    ensures frames { Moves result frames.new
+        (invokes_instance linker.now.program kind (Special caller.now interface) method.now
+        shared.old) next frames.old }
+    ensures shared { Shares result shared.new
+        (invokes_instance linker.now.program kind (Special caller.now interface) method.now
+        shared.old) frames.old }
+    ensures output { OnOk result (output.new ≡ output.old ++ wrote_by
+        (invokes_instance linker.now.program kind (Special caller.now interface) method.now
+        shared.old) frames.old) }
+    ensures objects { OnOk result (AreLoaded linker.now shared.new.heap) }
+{
+    invoke_instance(
+        alloc,
+        linker,
+        numbers,
+        shared,
+        frames,
+        output,
+        By::Special(caller, interface),
+        method,
+        kind,
+        next,
+    )
+}
+
+// ---- static methods
+
+/// invokestatic, as one fact.
+fn invoke_fixed(
+    alloc: Global,
+    linker: &Linker,
+    numbers: &MethodNumbers,
+    shared: &mut Shared,
+    frames: &mut Frames,
+    output: &mut Seq<u8>,
+    method: &MethodName,
+    kind: u32,
+    next: u16,
+) -> Result<Asked, NoMemory>
+    requires resolved { IsResolved linker.now method.now.class kind }
+    requires numbers { AreNumbers linker.now.program numbers.now }
+    requires built_in { HasBuiltIn linker.now }
+    requires objects { AreLoaded linker.now shared.old.heap }
+    ensures done { let fs = frames.old.frames in
+        let rule = invokes_static_method linker.now.program kind method.now shared.old
+        (top_locals fs) (top_operands fs) in
+        Does result rule next (changed frames.old shared.old output.old)
+        (changed frames.new shared.new output.new) }
+    ensures objects { OnOk result (AreLoaded linker.now shared.new.heap) }
+{
+    match static_target(alloc, linker, shared, frames, method, kind)? {
+        Ok(target) => invoke_selected(
+            alloc,
+            linker,
+            numbers,
+            shared,
+            frames,
+            output,
+            target.selected,
+            target.count,
+            next,
+        ),
+        Err(refusal) => Ok(Asked::Refused(refusal)),
+    }
+}
+
+/// invokestatic.
+pub fn invoke_static(
+    alloc: Global,
+    linker: &Linker,
+    numbers: &MethodNumbers,
+    shared: &mut Shared,
+    frames: &mut Frames,
+    output: &mut Seq<u8>,
+    method: &MethodName,
+    kind: u32,
+    next: u16,
+) -> Result<Asked, NoMemory>
+    requires resolved { IsResolved linker.now method.now.class kind }
+    requires numbers { AreNumbers linker.now.program numbers.now }
+    requires built_in { HasBuiltIn linker.now }
+    requires objects { AreLoaded linker.now shared.old.heap }
+    ensures answer { Answers result
+        (invokes_static_method linker.now.program kind method.now shared.old) frames.old }
+    ensures frames { Moves result frames.new
+        (invokes_static_method linker.now.program kind method.now shared.old) next frames.old }
+    ensures shared { Shares result shared.new
+        (invokes_static_method linker.now.program kind method.now shared.old) frames.old }
+    ensures output { OnOk result (output.new ≡ output.old ++ wrote_by
+        (invokes_static_method linker.now.program kind method.now shared.old) frames.old) }
+    ensures objects { OnOk result (AreLoaded linker.now shared.new.heap) }
+{
+    invoke_fixed(
+        alloc, linker, numbers, shared, frames, output, method, kind, next,
+    )
+}

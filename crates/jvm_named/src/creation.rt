@@ -1,0 +1,207 @@
+//! new (JVM Specification 2.3, 2.4, 5.5, 6.5), where the name was resolved.
+
+ghost use Rattle.std.specs.Prelude.{◌≡◌, ◌+◌, [], length, map, IfOk, OnOk};
+ghost use Rattle.heap_objects.specs.Heaps.{with_instance, with_text};
+ghost use Rattle.jvm_model.specs.CreationRules.{allocates, makes_instance, makes_object, zero_of};
+ghost use Rattle.jvm_model.specs.Layouts.{layout};
+ghost use Rattle.jvm_model.specs.Rules.{initialized};
+ghost use Rattle.jvm_model.specs.SharedState.{class_of_kind};
+ghost use Rattle.class_linker.specs.Linkers.{IsLoaded};
+ghost use Rattle.jvm_named.specs.Answers.{Answers, Moves, Shares};
+ghost use Rattle.jvm_named.specs.Objects.{AreLoaded, IsUsable};
+ghost use Rattle.jvm_named.specs.Resolved.{makes_new};
+
+use crate::asked::{Asked, Exception, Refusal};
+use crate::classes::{has_no_instances, is_text_class};
+use crate::instances::class_of_kind;
+use crate::moving::put;
+use crate::statics::raise_unusable;
+use class_linker::Linker;
+use const_pool::Kind;
+use frame_stack::Frames;
+use heap_objects::{Datum, HeapError, Value};
+use jf_bytes::{NoMemory, Seq};
+use jvm_model::{Phase, Shared};
+use std::alloc::Global;
+
+/// The OutOfMemoryError that the machine makes before the start.
+pub const RESERVED: u32 = 1;
+
+/// What a field of this kind has at first.
+fn zero_of(kind: Kind) -> Datum
+    ensures { result ≡ zero_of kind }
+{
+    match kind {
+        Kind::Long => Datum::Long(0),
+        Kind::Ref => Datum::Ref(0),
+        Kind::Int | Kind::Byte | Kind::Bool | Kind::Char | Kind::Short => Datum::Int(0),
+        Kind::Float | Kind::Double => Datum::Int(0),
+    }
+}
+
+/// What fields of these kinds have at first.
+fn zeros(alloc: Global, kinds: &[Kind]) -> Result<Seq<Datum>, NoMemory>
+    ensures { IfOk result (λ fields. fields ≡ map zero_of kinds.now) }
+{
+    let mut fields = Seq::with_capacity(alloc, kinds.len())?;
+    for kind in kinds {
+        fields.push(zero_of(*kind))?;
+    }
+    Ok(fields)
+}
+
+/// An object without anything but its fields, where there is room for it.
+#[tactic(auto, using(crate::proofs::ObjectLemmas::objects_with))]
+fn make_fields(
+    alloc: Global,
+    linker: &Linker,
+    shared: &mut Shared,
+    frames: &mut Frames,
+    kind: u32,
+    class: u32,
+    next: u16,
+) -> Result<Asked, NoMemory>
+    requires class { IsLoaded linker.now class }
+    requires usable { IsUsable linker.now kind }
+    requires objects { AreLoaded linker.now shared.old.heap }
+    ensures answer { Answers result (allocates (1 + length (layout linker.now.program class))
+        (with_instance kind (map zero_of (layout linker.now.program class))) 0 shared.old)
+        frames.old }
+    ensures frames { Moves result frames.new
+        (allocates (1 + length (layout linker.now.program class))
+        (with_instance kind (map zero_of (layout linker.now.program class))) 0 shared.old) next
+        frames.old }
+    ensures shared { Shares result shared.new
+        (allocates (1 + length (layout linker.now.program class))
+        (with_instance kind (map zero_of (layout linker.now.program class))) 0 shared.old)
+        frames.old }
+    ensures objects { OnOk result (AreLoaded linker.now shared.new.heap) }
+{
+    let kinds = linker.layout(class);
+    if !shared.heap.has_room(1 + kinds.len()) {
+        return Ok(Asked::Refused(Refusal::Throws(RESERVED)));
+    }
+    let fields = zeros(alloc, kinds)?;
+    match shared.heap.instance(kind, fields.as_slice()) {
+        Ok(number) => Ok(put(frames, Value::Ref(number), next)),
+        // There is room.
+        Err(HeapError::HeapFull) => Err(NoMemory),
+        Err(HeapError::NoMemory) => Err(NoMemory),
+    }
+}
+
+/// A text without units, where there is room for it.
+#[tactic(auto, using(crate::proofs::ObjectLemmas::objects_with))]
+fn make_text(
+    linker: &Linker,
+    shared: &mut Shared,
+    frames: &mut Frames,
+    kind: u32,
+    next: u16,
+) -> Result<Asked, NoMemory>
+    requires usable { IsUsable linker.now kind }
+    requires objects { AreLoaded linker.now shared.old.heap }
+    ensures answer { Answers result (allocates 1 (with_text kind []) 0 shared.old) frames.old }
+    ensures frames { Moves result frames.new (allocates 1 (with_text kind []) 0 shared.old) next
+        frames.old }
+    ensures shared { Shares result shared.new (allocates 1 (with_text kind []) 0 shared.old)
+        frames.old }
+    ensures objects { OnOk result (AreLoaded linker.now shared.new.heap) }
+{
+    if !shared.heap.has_room(1) {
+        return Ok(Asked::Refused(Refusal::Throws(RESERVED)));
+    }
+    match shared.heap.text(kind, &[]) {
+        Ok(number) => Ok(put(frames, Value::Ref(number), next)),
+        // There is room.
+        Err(HeapError::HeapFull) => Err(NoMemory),
+        Err(HeapError::NoMemory) => Err(NoMemory),
+    }
+}
+
+/// An object of a class, where the class has instances; it is initialized, or is being.
+fn make_instance(
+    alloc: Global,
+    linker: &Linker,
+    shared: &mut Shared,
+    frames: &mut Frames,
+    kind: u32,
+    class: u32,
+    next: u16,
+) -> Result<Asked, NoMemory>
+    requires class { IsLoaded linker.now class }
+    requires usable { IsUsable linker.now kind }
+    requires objects { AreLoaded linker.now shared.old.heap }
+    ensures answer { Answers result
+        (makes_instance linker.now.program kind class shared.old) frames.old }
+    ensures frames { Moves result frames.new
+        (makes_instance linker.now.program kind class shared.old) next frames.old }
+    ensures shared { Shares result shared.new
+        (makes_instance linker.now.program kind class shared.old) frames.old }
+    ensures objects { OnOk result (AreLoaded linker.now shared.new.heap) }
+{
+    if has_no_instances(linker, class) {
+        return Ok(Asked::Refused(Refusal::Raises(
+            Exception::Instantiation,
+            None,
+        )));
+    }
+    if is_text_class(linker, class) {
+        return make_text(linker, shared, frames, kind, next);
+    }
+    make_fields(alloc, linker, shared, frames, kind, class, next)
+}
+
+/// The same, once its class is initialized.
+fn make_initialized(
+    alloc: Global,
+    linker: &Linker,
+    shared: &mut Shared,
+    frames: &mut Frames,
+    kind: u32,
+    class: u32,
+    next: u16,
+) -> Result<Asked, NoMemory>
+    requires class { IsLoaded linker.now class }
+    requires usable { IsUsable linker.now kind }
+    requires objects { AreLoaded linker.now shared.old.heap }
+    ensures answer { Answers result (λ l o. initialized linker.now.program class shared.old
+        (makes_instance linker.now.program kind class shared.old l o)) frames.old }
+    ensures frames { Moves result frames.new
+        (λ l o. initialized linker.now.program class shared.old
+        (makes_instance linker.now.program kind class shared.old l o)) next frames.old }
+    ensures shared { Shares result shared.new
+        (λ l o. initialized linker.now.program class shared.old
+        (makes_instance linker.now.program kind class shared.old l o)) frames.old }
+    ensures objects { OnOk result (AreLoaded linker.now shared.new.heap) }
+{
+    match shared.phases.at(class as usize) {
+        Some(Phase::Ready) => make_instance(alloc, linker, shared, frames, kind, class, next),
+        Some(Phase::Running) => make_instance(alloc, linker, shared, frames, kind, class, next),
+        Some(Phase::Fresh) => Ok(Asked::Refused(Refusal::Initializes(class))),
+        Some(Phase::Erroneous) => raise_unusable(alloc, linker, class),
+        None => raise_unusable(alloc, linker, class),
+    }
+}
+
+/// new.
+pub fn make_new(
+    alloc: Global,
+    linker: &Linker,
+    shared: &mut Shared,
+    frames: &mut Frames,
+    kind: u32,
+    next: u16,
+) -> Result<Asked, NoMemory>
+    requires usable { IsUsable linker.now kind }
+    requires objects { AreLoaded linker.now shared.old.heap }
+    ensures answer { Answers result (makes_new linker.now.program kind shared.old) frames.old }
+    ensures frames { Moves result frames.new (makes_new linker.now.program kind shared.old) next
+        frames.old }
+    ensures shared { Shares result shared.new (makes_new linker.now.program kind shared.old)
+        frames.old }
+    ensures objects { OnOk result (AreLoaded linker.now shared.new.heap) }
+{
+    let class = class_of_kind(linker, kind);
+    make_initialized(alloc, linker, shared, frames, kind, class, next)
+}

@@ -1,0 +1,83 @@
+//! What an instruction that names a class or a member does, where the name was resolved.
+
+ghost use Rattle.std.specs.Prelude.{◌≡◌, ◌++◌, OnOk};
+ghost use Rattle.jvm_model.specs.Naming.{resolved_name};
+ghost use Rattle.jvm_named.specs.Answers.{Answers, Moves, Shares, wrote_by};
+ghost use Rattle.jvm_named.specs.BuiltInCalls.{HasBuiltIn};
+ghost use Rattle.jvm_named.specs.Names.{naming_view};
+ghost use Rattle.jvm_named.specs.Numbers.{AreNumbers};
+ghost use Rattle.jvm_named.specs.Objects.{AreLoaded, HasDimensions, HasLoadedCaller, IsResolved};
+ghost use Rattle.jvm_named.specs.Resolved.{does_resolved};
+
+use crate::arrays::make_array_of;
+use crate::asked::Asked;
+use crate::calls::{invoke_interface, invoke_special, invoke_static, invoke_virtual};
+use crate::casts::{cast, tell_instance};
+use crate::creation::make_new;
+use crate::fields::{get_field, put_field};
+use crate::multi_arrays::make_arrays;
+use crate::naming::Naming;
+use crate::numbers::MethodNumbers;
+use crate::statics::{get_static, put_static};
+use class_linker::Linker;
+use frame_stack::Frames;
+use jf_bytes::{NoMemory, Seq};
+use jvm_model::Shared;
+use std::alloc::Global;
+
+/// What the instruction does, with what it names resolved to this kind; of checkcast and instanceof where the operand is not null.
+#[tactic(auto, using(crate::proofs::Quiet::writes_new, crate::proofs::Quiet::writes_getfield, crate::proofs::Quiet::writes_putfield, crate::proofs::Quiet::writes_getstatic, crate::proofs::Quiet::writes_putstatic, crate::proofs::Quiet::writes_anewarray, crate::proofs::Quiet::writes_arrays, crate::proofs::Quiet::shared_getfield, crate::proofs::Quiet::shared_getstatic, crate::proofs::KindLemmas::few_over))]
+pub fn do_resolved(
+    alloc: Global,
+    linker: &Linker,
+    numbers: &MethodNumbers,
+    shared: &mut Shared,
+    frames: &mut Frames,
+    output: &mut Seq<u8>,
+    naming: &Naming,
+    kind: u32,
+    next: u16,
+) -> Result<Asked, NoMemory>
+    requires resolved { IsResolved linker.now (resolved_name (naming_view naming.now)) kind }
+    requires numbers { AreNumbers linker.now.program numbers.now }
+    requires built_in { HasBuiltIn linker.now }
+    requires objects { AreLoaded linker.now shared.old.heap }
+    requires caller { HasLoadedCaller linker.now (naming_view naming.now) }
+    requires dimensions { HasDimensions (naming_view naming.now) }
+    ensures answer { Answers result
+        (does_resolved linker.now.program kind (naming_view naming.now) shared.old) frames.old }
+    ensures frames { Moves result frames.new
+        (does_resolved linker.now.program kind (naming_view naming.now) shared.old) next
+        frames.old }
+    ensures shared { Shares result shared.new
+        (does_resolved linker.now.program kind (naming_view naming.now) shared.old) frames.old }
+    ensures output { OnOk result (output.new ≡ output.old ++ wrote_by
+        (does_resolved linker.now.program kind (naming_view naming.now) shared.old) frames.old) }
+    ensures objects { OnOk result (AreLoaded linker.now shared.new.heap) }
+{
+    match naming {
+        Naming::New(_) => make_new(alloc, linker, shared, frames, kind, next),
+        Naming::Getfield(member) => get_field(linker, shared, frames, member, kind, next),
+        Naming::Putfield(member) => put_field(linker, shared, frames, member, kind, next),
+        Naming::Getstatic(member) => get_static(alloc, linker, shared, frames, member, kind, next),
+        Naming::Putstatic(member) => put_static(alloc, linker, shared, frames, member, kind, next),
+        Naming::Invokevirtual(method) => {
+            invoke_virtual(alloc, linker, numbers, shared, frames, output, method, kind, next)
+        }
+        Naming::Invokespecial(caller, method, interface) => invoke_special(
+            alloc, linker, numbers, shared, frames, output, caller, *interface, method, kind, next,
+        ),
+        Naming::Invokestatic(method) => {
+            invoke_static(alloc, linker, numbers, shared, frames, output, method, kind, next)
+        }
+        Naming::Invokeinterface(method) => {
+            invoke_interface(alloc, linker, numbers, shared, frames, output, method, kind, next)
+        }
+        Naming::Checkcast(name) => Ok(cast(linker, shared, frames, name, kind, next)),
+        Naming::Instanceof(name) => Ok(tell_instance(linker, shared, frames, name, kind, next)),
+        Naming::Anewarray(_) => make_array_of(linker, shared, frames, kind, next),
+        Naming::Multianewarray(_, dimensions) => {
+            make_arrays(alloc, linker, shared, frames, kind, *dimensions, next)
+        }
+    }
+}

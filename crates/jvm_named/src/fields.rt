@@ -1,0 +1,339 @@
+//! getfield and putfield (JVM Specification 2.7, 5.4.3.2, 6.5), where the class of the field's name was resolved.
+
+ghost use Rattle.std.specs.Prelude.{◌≡◌, ◌==◌, count_by, false, is_some, take, true, IfOk, IfSome, OnOk, Some};
+ghost use Rattle.std.specs.Option.{option_map};
+ghost use Rattle.frame_stack.specs.FrameLists.{top_operands};
+ghost use Rattle.heap_objects.specs.Heaps.{kind_at, slot_at, with_slot_at};
+ghost use Rattle.jvm_model.specs.FieldRules.{field_owner, fields_before, gets_of, kind_by};
+ghost use Rattle.jvm_model.specs.FieldRules.{puts_into, putting_of, slot_of};
+ghost use Rattle.jvm_model.specs.Kinds.{kind_named};
+ghost use Rattle.jvm_model.specs.LocalRules.{replaces};
+ghost use Rattle.jvm_model.specs.Naming.{extends};
+ghost use Rattle.jvm_model.specs.Values.{as_value, ref_of};
+ghost use Rattle.class_linker.specs.Linkers.{IsLoaded};
+ghost use Rattle.jvm_named.specs.Answers.{Answers, Moves, Shares, answer_by, answer_of};
+ghost use Rattle.jvm_named.specs.Answers.{answer_view, frames_by, frames_of, shared_by};
+ghost use Rattle.jvm_named.specs.Fields.{has_field_at, is_of_instances, owner_found};
+ghost use Rattle.jvm_named.specs.Fields.{putting_view, writes};
+ghost use Rattle.jvm_named.specs.Members.{at_place, reference_of};
+ghost use Rattle.jvm_named.specs.Objects.{AreLoaded, IsResolved};
+ghost use Rattle.jvm_named.specs.Resolved.{gets_instance, puts_instance};
+
+use crate::asked::{Asked, Exception, Refusal};
+use crate::held::{held_by, narrowed};
+use crate::instances::{class_of_kind, kind_of_object};
+use crate::members::field_found;
+use crate::moving::{drop_two, replace};
+use crate::naming::MemberName;
+use crate::place::Place;
+use crate::values::datum_of;
+use class_index::{STATIC, has_flag};
+use class_linker::Linker;
+use const_pool::{ClassFile, Kind, Member};
+use frame_stack::Frames;
+use heap_objects::{Datum, Heap, Value};
+use jf_bytes::NoMemory;
+use jvm_basic::{ref_of, value_of};
+use jvm_model::Shared;
+
+// ---- where a field stands
+
+/// The first fields, as many as there are up to so many.
+#[tactic(auto, using(std::proofs::lemmas::List::take_all))]
+fn first_fields(fields: &[Member], count: u16) -> &[Member]
+    ensures { result.now ≡ take count fields.now }
+{
+    match fields.get(..count as usize) {
+        Some(first) => first,
+        None => fields,
+    }
+}
+
+/// Whether the objects of its class have the field.
+fn is_of_instances(field: &Member) -> bool
+    ensures { result ≡ is_of_instances field.now }
+{
+    !has_flag(field.access, STATIC)
+}
+
+/// How many of the fields are not static.
+fn instance_count(fields: &[Member]) -> usize
+    ensures { result ≡ count_by is_of_instances fields.now }
+{
+    let mut count = 0;
+    for field in fields {
+        if is_of_instances(field) {
+            count += 1;
+        }
+    }
+    count
+}
+
+/// How many instance fields a class has before this position.
+fn fields_before(file: &ClassFile, position: u16) -> usize
+    ensures { result ≡ fields_before file.now position }
+{
+    instance_count(first_fields(file.fields.as_slice(), position))
+}
+
+/// The slot of a field in the objects of a class that is the field's or inherits from it; None where it would not fit into a u32, which
+/// no class has memory for.
+fn slot_of(linker: &Linker, lower: u32, field: Place) -> Option<u32>
+    requires loaded { IsLoaded linker.now lower }
+    requires extends { extends linker.now.program lower field.class ≡ true }
+    ensures { IfSome result (λ slot. slot ≡ slot_of linker.now.program (at_place field)) }
+{
+    let above = linker.slots_above(lower, field.class);
+    let before = match linker.index().file(field.class) {
+        Some(file) => fields_before(file, field.position),
+        None => 0,
+    };
+    let slot = above.checked_add(before)?;
+    if slot > u32::MAX as usize {
+        return None;
+    }
+    Some(slot as u32)
+}
+
+/// The class of an object, where it is of the kind that an instruction names and has the field.
+fn owner_class(
+    linker: &Linker,
+    heap: &Heap,
+    kind: u32,
+    field: Place,
+    object: u32,
+) -> Option<u32>
+    requires { AreLoaded linker.now heap.now }
+    ensures has { is_some result
+        ≡ has_field_at linker.now.program (kind_at object heap.now) kind field.class }
+    ensures loaded { IfSome result (λ lower. IsLoaded linker.now lower) }
+    ensures extends { IfSome result
+        (λ lower. extends linker.now.program lower field.class ≡ true) }
+{
+    let found = kind_of_object(linker, heap, object)?;
+    if !linker.subtype(found, kind) {
+        return None;
+    }
+    let lower = class_of_kind(linker, found);
+    if linker.extends(lower, field.class) {
+        Some(lower)
+    } else {
+        None
+    }
+}
+
+/// An object that has a field, and its class.
+#[derive(Clone, Copy)]
+pub struct Owner {
+    pub object: u32,
+    pub class: u32,
+}
+
+/// The object, unless it is null, or has not the field.
+#[tactic(auto, using(crate::proofs::Slots::has_field_named))]
+fn field_owner(
+    linker: &Linker,
+    shared: &Shared,
+    member: &MemberName,
+    kind: u32,
+    field: Place,
+    object: u32,
+) -> Result<Owner, Refusal>
+    requires named { kind_named linker.now.program member.now.class ≡ Some kind }
+    requires objects { AreLoaded linker.now shared.now.heap }
+    ensures owner { owner_found result ≡ field_owner linker.now.program shared.now
+        (reference_of member.now) (at_place field) object }
+    ensures loaded { IfOk result (λ owner. IsLoaded linker.now owner.class) }
+    ensures extends { IfOk result
+        (λ owner. extends linker.now.program owner.class field.class ≡ true) }
+    ensures object { IfOk result (λ owner. (owner.object == 0) ≡ false) }
+{
+    if object == 0 {
+        return Err(Refusal::Raises(Exception::NullPointer, None));
+    }
+    match owner_class(linker, &shared.heap, kind, field, object) {
+        Some(class) => Ok(Owner { object, class }),
+        None => Err(Refusal::Breaks),
+    }
+}
+
+// ---- getfield
+
+/// The value in a slot of an object takes the object's place.
+fn read_slot(shared: &Shared, frames: &mut Frames, object: u32, slot: u32, next: u16) -> Asked
+    ensures answer { answer_view result ≡ answer_of
+        (replaces 1 (option_map as_value (slot_at object slot shared.now.heap))) frames.old }
+    ensures frames { frames.new ≡ frames_of
+        (replaces 1 (option_map as_value (slot_at object slot shared.now.heap))) next
+        frames.old }
+{
+    match shared.heap.get(object, slot) {
+        Some(datum) => replace(frames, value_of(datum), next),
+        None => Asked::Refused(Refusal::Breaks),
+    }
+}
+
+/// The value of the field of the object on top.
+fn read_field(
+    linker: &Linker,
+    shared: &Shared,
+    frames: &mut Frames,
+    member: &MemberName,
+    kind: u32,
+    field: Place,
+    next: u16,
+) -> Result<Asked, NoMemory>
+    requires named { kind_named linker.now.program member.now.class ≡ Some kind }
+    requires objects { AreLoaded linker.now shared.now.heap }
+    ensures answer { Answers result (λ l o. gets_of linker.now.program (reference_of member.now)
+        (at_place field) (ref_of o) shared.now l o) frames.old }
+    ensures frames { Moves result frames.new
+        (λ l o. gets_of linker.now.program (reference_of member.now) (at_place field) (ref_of o)
+        shared.now l o) next frames.old }
+{
+    let Some(object) = ref_of(frames) else {
+        return Ok(Asked::Refused(Refusal::Breaks));
+    };
+    match field_owner(linker, shared, member, kind, field, object) {
+        Ok(owner) => match slot_of(linker, owner.class, field) {
+            Some(slot) => Ok(read_slot(shared, frames, owner.object, slot, next)),
+            None => Err(NoMemory),
+        },
+        Err(refusal) => Ok(Asked::Refused(refusal)),
+    }
+}
+
+/// getfield.
+pub fn get_field(
+    linker: &Linker,
+    shared: &Shared,
+    frames: &mut Frames,
+    member: &MemberName,
+    kind: u32,
+    next: u16,
+) -> Result<Asked, NoMemory>
+    requires resolved { IsResolved linker.now member.now.class kind }
+    requires objects { AreLoaded linker.now shared.now.heap }
+    ensures answer { Answers result
+        (gets_instance linker.now.program kind (reference_of member.now) shared.now) frames.old }
+    ensures frames { Moves result frames.new
+        (gets_instance linker.now.program kind (reference_of member.now) shared.now) next
+        frames.old }
+{
+    match field_found(linker, kind, false, member) {
+        Ok(field) => read_field(linker, shared, frames, member, kind, field, next),
+        Err(refusal) => Ok(Asked::Refused(refusal)),
+    }
+}
+
+// ---- putfield
+
+/// An object, and what its field is to hold.
+#[derive(Clone, Copy)]
+pub struct Putting {
+    pub object: u32,
+    pub datum: Datum,
+}
+
+/// The topmost operand as a field of this kind holds it, above an object.
+fn putting_of(frames: &Frames, kind: Kind) -> Option<Putting>
+    ensures { option_map putting_view result ≡ putting_of kind (top_operands frames.now.frames) }
+{
+    let value = frames.peek(0)?;
+    let Some(Value::Ref(object)) = frames.peek(1) else {
+        return None;
+    };
+    let datum = narrowed(kind, datum_of(kind, value)?);
+    Some(Putting { object, datum })
+}
+
+/// A value goes into a slot of an object, where there is such a slot.
+pub fn put_slot(heap: &mut Heap, object: u32, slot: u32, datum: Datum)
+    requires { (object == 0) ≡ false }
+    ensures { heap.new ≡ with_slot_at object slot datum heap.old }
+{
+    heap.put(object, slot, datum);
+}
+
+/// A value goes into a slot of an object; both leave the operands.
+fn write_slot(
+    shared: &mut Shared,
+    frames: &mut Frames,
+    object: u32,
+    slot: u32,
+    datum: Datum,
+    next: u16,
+) -> Asked
+    requires object { (object == 0) ≡ false }
+    ensures answer { answer_view result ≡ answer_by (writes object slot datum shared.old) frames.old }
+    ensures frames { frames.new ≡ frames_by (writes object slot datum shared.old) next frames.old }
+    ensures shared { shared.new ≡ shared_by (writes object slot datum shared.old) frames.old }
+    ensures objects { shared.new.heap ≡ with_slot_at object slot datum shared.old.heap }
+{
+    put_slot(&mut shared.heap, object, slot, datum);
+    drop_two(frames, next)
+}
+
+/// The value goes into the field of the object below it.
+fn write_field(
+    linker: &Linker,
+    shared: &mut Shared,
+    frames: &mut Frames,
+    member: &MemberName,
+    kind: u32,
+    field: Place,
+    next: u16,
+) -> Result<Asked, NoMemory>
+    requires named { kind_named linker.now.program member.now.class ≡ Some kind }
+    requires objects { AreLoaded linker.now shared.old.heap }
+    ensures answer { Answers result
+        (λ l o. puts_into linker.now.program (reference_of member.now) (at_place field)
+        (putting_of (kind_by (reference_of member.now)) o) shared.old l o) frames.old }
+    ensures frames { Moves result frames.new
+        (λ l o. puts_into linker.now.program (reference_of member.now) (at_place field)
+        (putting_of (kind_by (reference_of member.now)) o) shared.old l o) next frames.old }
+    ensures shared { Shares result shared.new
+        (λ l o. puts_into linker.now.program (reference_of member.now) (at_place field)
+        (putting_of (kind_by (reference_of member.now)) o) shared.old l o) frames.old }
+    ensures objects { OnOk result (AreLoaded linker.now shared.new.heap) }
+{
+    let Some(putting) = putting_of(frames, held_by(member.descriptor.units())) else {
+        return Ok(Asked::Refused(Refusal::Breaks));
+    };
+    match field_owner(linker, shared, member, kind, field, putting.object) {
+        Ok(owner) => match slot_of(linker, owner.class, field) {
+            Some(slot) => {
+                let datum = putting.datum;
+                Ok(write_slot(shared, frames, owner.object, slot, datum, next))
+            }
+            None => Err(NoMemory),
+        },
+        Err(refusal) => Ok(Asked::Refused(refusal)),
+    }
+}
+
+/// putfield.
+pub fn put_field(
+    linker: &Linker,
+    shared: &mut Shared,
+    frames: &mut Frames,
+    member: &MemberName,
+    kind: u32,
+    next: u16,
+) -> Result<Asked, NoMemory>
+    requires resolved { IsResolved linker.now member.now.class kind }
+    requires objects { AreLoaded linker.now shared.old.heap }
+    ensures answer { Answers result
+        (puts_instance linker.now.program kind (reference_of member.now) shared.old) frames.old }
+    ensures frames { Moves result frames.new
+        (puts_instance linker.now.program kind (reference_of member.now) shared.old) next
+        frames.old }
+    ensures shared { Shares result shared.new
+        (puts_instance linker.now.program kind (reference_of member.now) shared.old) frames.old }
+    ensures objects { OnOk result (AreLoaded linker.now shared.new.heap) }
+{
+    match field_found(linker, kind, false, member) {
+        Ok(field) => write_field(linker, shared, frames, member, kind, field, next),
+        Err(refusal) => Ok(Asked::Refused(refusal)),
+    }
+}

@@ -1,0 +1,70 @@
+//! The fields that an instruction names (JVM Specification 5.4.3.2).
+
+ghost use Rattle.std.specs.Prelude.{◌≡◌};
+ghost use Rattle.class_linker.specs.Linkers.{IsLoaded};
+ghost use Rattle.jvm_model.specs.FieldRules.{is_static_field};
+ghost use Rattle.jvm_model.specs.Lookup.{resolved_field};
+ghost use Rattle.jvm_model.specs.Naming.{found};
+ghost use Rattle.jvm_model.specs.SharedState.{class_of_kind};
+ghost use Rattle.jvm_named.specs.Answers.{place_found};
+ghost use Rattle.jvm_named.specs.Members.{at_place, reference_of};
+ghost use Rattle.jvm_named.specs.Objects.{IsUsable};
+ghost use Rattle.jvm_named.specs.Resolved.{field_found};
+
+use crate::asked::{Exception, Refusal};
+use crate::instances::class_of_kind;
+use crate::naming::MemberName;
+use crate::place::Place;
+use crate::resolution::exception_numbered;
+use class_index::{STATIC, has_flag};
+use class_linker::{Linker, Resolved};
+
+/// Whether the field is static.
+fn is_static_field(linker: &Linker, m: Place) -> bool
+    ensures { result ≡ is_static_field linker.now.program (at_place m) }
+{
+    let Some(file) = linker.index().file(m.class) else {
+        return false;
+    };
+    match file.fields.get(m.position as usize) {
+        Some(field) => has_flag(field.access, STATIC),
+        None => false,
+    }
+}
+
+/// The field of a class that a name stands for, static or not.
+fn resolved_field(linker: &Linker, class: u32, member: &MemberName) -> Result<Place, Refusal>
+    requires { IsLoaded linker.now class }
+    ensures { place_found result
+        ≡ found (resolved_field linker.now.program class (reference_of member.now).member) }
+{
+    match linker.resolve_field(class, &member.name, &member.descriptor) {
+        Resolved::Found(class, position) => Ok(Place { class, position }),
+        Resolved::Throws(number) => Err(Refusal::Raises(exception_numbered(number), None)),
+    }
+}
+
+/// The field that a name stands for, once its class was resolved: a static one where one is asked for, and else one that is not.
+pub fn field_found(
+    linker: &Linker,
+    kind: u32,
+    is_static: bool,
+    member: &MemberName,
+) -> Result<Place, Refusal>
+    requires { IsUsable linker.now kind }
+    ensures { place_found result
+        ≡ field_found linker.now.program kind is_static (reference_of member.now) }
+{
+    let m = match resolved_field(linker, class_of_kind(linker, kind), member) {
+        Ok(m) => m,
+        Err(refusal) => return Err(refusal),
+    };
+    if is_static_field(linker, m) == is_static {
+        Ok(m)
+    } else {
+        Err(Refusal::Raises(
+            Exception::IncompatibleClassChange,
+            None,
+        ))
+    }
+}

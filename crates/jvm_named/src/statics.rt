@@ -1,0 +1,221 @@
+//! getstatic and putstatic (JVM Specification 5.4.3.2, 5.5, 6.5), where the class of the field's name was resolved.
+
+ghost use Rattle.std.specs.Prelude.{◌≡◌, IfOk};
+ghost use Rattle.std.specs.Option.{option_map};
+ghost use Rattle.frame_stack.specs.FrameLists.{top_operands};
+ghost use Rattle.jvm_model.specs.Data.{Raises};
+ghost use Rattle.jvm_model.specs.FieldRules.{held_of, kind_by, pushes_static, sets_static, static_field};
+ghost use Rattle.jvm_model.specs.LocalRules.{pushes};
+ghost use Rattle.jvm_model.specs.Programs.{name_at};
+ghost use Rattle.jvm_model.specs.Rules.{initialized};
+ghost use Rattle.jvm_model.specs.SharedState.{no_class_definition, static_at};
+ghost use Rattle.jvm_model.specs.Values.{as_value};
+ghost use Rattle.jvm_named.specs.Answers.{Answers, Moves, Shares, Stops, answer_by, answer_of};
+ghost use Rattle.jvm_named.specs.Answers.{answer_view, frames_by, frames_of, shared_by};
+ghost use Rattle.jvm_named.specs.Members.{at_place, reference_of};
+ghost use Rattle.jvm_named.specs.Objects.{IsUsable};
+ghost use Rattle.jvm_named.specs.Resolved.{gets_static, puts_static};
+
+use crate::asked::{Asked, Exception, Refusal};
+use crate::classes::name_at;
+use crate::held::{held_by, narrowed};
+use crate::members::field_found;
+use crate::moving::{drop_one, put};
+use crate::naming::MemberName;
+use crate::place::Place;
+use crate::static_fields::set_static;
+use crate::values::datum_of;
+use class_linker::Linker;
+use const_pool::Kind;
+use frame_stack::Frames;
+use heap_objects::Datum;
+use jf_bytes::{NoMemory, Text16};
+use jvm_basic::value_of;
+use jvm_model::{Phase, Shared};
+use std::alloc::Global;
+
+// ---- classes that are not initialized
+
+/// NoClassDefFoundError, with the name of a class that can not be used.
+pub fn raise_unusable(alloc: Global, linker: &Linker, class: u32) -> Result<Asked, NoMemory>
+    ensures { IfOk result (λ a. answer_view a
+        ≡ Stops (Raises no_class_definition (name_at linker.now.program class))) }
+{
+    let Some(name) = name_at(linker, class) else {
+        return Ok(Asked::Refused(Refusal::Raises(
+            Exception::NoClassDefinition,
+            None,
+        )));
+    };
+    let units = Vec::from_slice(alloc, name.units())?;
+    Ok(Asked::Refused(Refusal::Raises(
+        Exception::NoClassDefinition,
+        Some(Text16::new(units)),
+    )))
+}
+
+// ---- getstatic
+
+/// The value of a static field.
+fn static_at(shared: &Shared, field: Place) -> Option<Datum>
+    ensures { result ≡ static_at shared.now (static_field (at_place field)) }
+{
+    shared
+        .statics
+        .get(field.class as usize)?
+        .at(field.position as usize)
+}
+
+/// The value of a static field goes on top; its class is initialized, or is being.
+fn push_field(shared: &Shared, frames: &mut Frames, field: Place, next: u16) -> Asked
+    ensures answer { answer_view result ≡ answer_of (pushes (option_map as_value
+        (static_at shared.now (static_field (at_place field))))) frames.old }
+    ensures frames { frames.new ≡ frames_of (pushes (option_map as_value
+        (static_at shared.now (static_field (at_place field))))) next frames.old }
+{
+    match static_at(shared, field) {
+        Some(datum) => put(frames, value_of(datum), next),
+        None => Asked::Refused(Refusal::Breaks),
+    }
+}
+
+/// The same, once its class is initialized.
+fn push_static(
+    alloc: Global,
+    linker: &Linker,
+    shared: &Shared,
+    frames: &mut Frames,
+    field: Place,
+    next: u16,
+) -> Result<Asked, NoMemory>
+    ensures answer { Answers result
+        (pushes_static linker.now.program (at_place field) shared.now) frames.old }
+    ensures frames { Moves result frames.new
+        (pushes_static linker.now.program (at_place field) shared.now) next frames.old }
+{
+    match shared.phases.at(field.class as usize) {
+        Some(Phase::Ready) => Ok(push_field(shared, frames, field, next)),
+        Some(Phase::Running) => Ok(push_field(shared, frames, field, next)),
+        Some(Phase::Fresh) => Ok(Asked::Refused(Refusal::Initializes(field.class))),
+        Some(Phase::Erroneous) => raise_unusable(alloc, linker, field.class),
+        None => raise_unusable(alloc, linker, field.class),
+    }
+}
+
+/// getstatic.
+pub fn get_static(
+    alloc: Global,
+    linker: &Linker,
+    shared: &Shared,
+    frames: &mut Frames,
+    member: &MemberName,
+    kind: u32,
+    next: u16,
+) -> Result<Asked, NoMemory>
+    requires { IsUsable linker.now kind }
+    ensures answer { Answers result
+        (gets_static linker.now.program kind (reference_of member.now) shared.now) frames.old }
+    ensures frames { Moves result frames.new
+        (gets_static linker.now.program kind (reference_of member.now) shared.now) next
+        frames.old }
+{
+    match field_found(linker, kind, true, member) {
+        Ok(field) => push_static(alloc, linker, shared, frames, field, next),
+        Err(refusal) => Ok(Asked::Refused(refusal)),
+    }
+}
+
+// ---- putstatic
+
+/// The topmost operand as a field of this kind holds it.
+fn held_of(frames: &Frames, kind: Kind) -> Option<Datum>
+    ensures { result ≡ held_of kind (top_operands frames.now.frames) }
+{
+    let value = frames.peek(0)?;
+    let datum = datum_of(kind, value)?;
+    Some(narrowed(kind, datum))
+}
+
+/// The topmost operand goes into a static field of this kind; its class is initialized, or is being.
+fn set_field(
+    alloc: Global,
+    shared: &mut Shared,
+    frames: &mut Frames,
+    field: Place,
+    kind: Kind,
+    next: u16,
+) -> Asked
+    ensures answer { answer_view result ≡ answer_by (λ l o. sets_static (at_place field)
+        (held_of kind o) shared.old l o) frames.old }
+    ensures frames { frames.new ≡ frames_by (λ l o. sets_static (at_place field)
+        (held_of kind o) shared.old l o) next frames.old }
+    ensures shared { shared.new ≡ shared_by (λ l o. sets_static (at_place field)
+        (held_of kind o) shared.old l o) frames.old }
+    ensures heap { shared.new.heap ≡ shared.old.heap }
+{
+    let Some(datum) = held_of(frames, kind) else {
+        return Asked::Refused(Refusal::Breaks);
+    };
+    let position = field.position as usize;
+    set_static(alloc, &mut shared.statics, field.class, position, datum);
+    drop_one(frames, next)
+}
+
+/// The same, once its class is initialized.
+fn put_field(
+    alloc: Global,
+    linker: &Linker,
+    shared: &mut Shared,
+    frames: &mut Frames,
+    field: Place,
+    kind: Kind,
+    next: u16,
+) -> Result<Asked, NoMemory>
+    ensures answer { Answers result
+        (λ l o. initialized linker.now.program field.class shared.old
+        (sets_static (at_place field) (held_of kind o) shared.old l o)) frames.old }
+    ensures frames { Moves result frames.new
+        (λ l o. initialized linker.now.program field.class shared.old
+        (sets_static (at_place field) (held_of kind o) shared.old l o)) next frames.old }
+    ensures shared { Shares result shared.new
+        (λ l o. initialized linker.now.program field.class shared.old
+        (sets_static (at_place field) (held_of kind o) shared.old l o)) frames.old }
+    ensures heap { shared.new.heap ≡ shared.old.heap }
+{
+    match shared.phases.at(field.class as usize) {
+        Some(Phase::Ready) => Ok(set_field(alloc, shared, frames, field, kind, next)),
+        Some(Phase::Running) => Ok(set_field(alloc, shared, frames, field, kind, next)),
+        Some(Phase::Fresh) => Ok(Asked::Refused(Refusal::Initializes(field.class))),
+        Some(Phase::Erroneous) => raise_unusable(alloc, linker, field.class),
+        None => raise_unusable(alloc, linker, field.class),
+    }
+}
+
+/// putstatic.
+pub fn put_static(
+    alloc: Global,
+    linker: &Linker,
+    shared: &mut Shared,
+    frames: &mut Frames,
+    member: &MemberName,
+    kind: u32,
+    next: u16,
+) -> Result<Asked, NoMemory>
+    requires { IsUsable linker.now kind }
+    ensures answer { Answers result
+        (puts_static linker.now.program kind (reference_of member.now) shared.old) frames.old }
+    ensures frames { Moves result frames.new
+        (puts_static linker.now.program kind (reference_of member.now) shared.old) next
+        frames.old }
+    ensures shared { Shares result shared.new
+        (puts_static linker.now.program kind (reference_of member.now) shared.old) frames.old }
+    ensures heap { shared.new.heap ≡ shared.old.heap }
+{
+    match field_found(linker, kind, true, member) {
+        Ok(field) => {
+            let held = held_by(member.descriptor.units());
+            put_field(alloc, linker, shared, frames, field, held, next)
+        }
+        Err(refusal) => Ok(Asked::Refused(refusal)),
+    }
+}

@@ -1,0 +1,324 @@
+//! Which method an invocation comes to (JVM Specification 5.4.3.3, 5.4.3.4, 6.5), before anything is changed.
+
+ghost use Rattle.std.specs.Prelude.{◌≡◌, ◌≤◌, ℕ, length, IfOk, Some};
+ghost use Rattle.std.specs.Bool.{beq};
+ghost use Rattle.std.specs.Option.{option_and_then, option_map};
+ghost use Rattle.const_pool.specs.References.{name_type_of};
+ghost use Rattle.frame_stack.specs.FrameLists.{top_operands};
+ghost use Rattle.jvm_model.specs.InvocationRules.{names_interface, not_of_class, selected_by};
+ghost use Rattle.jvm_model.specs.Lookup.{resolved_method};
+ghost use Rattle.jvm_model.specs.Naming.{found, where_fitting};
+ghost use Rattle.jvm_model.specs.Data.{Raises};
+ghost use Rattle.jvm_model.specs.Programs.{class_named, name_at};
+ghost use Rattle.jvm_model.specs.Selection.{access_of, is_abstract, is_static};
+ghost use Rattle.jvm_model.specs.SharedState.{no_class_definition};
+ghost use Rattle.jvm_model.specs.SuperCalls.{invoked_special};
+ghost use Rattle.class_index.specs.Members.{place_view};
+ghost use Rattle.class_linker.specs.Linkers.{IsLoaded};
+ghost use Rattle.jvm_named.specs.Answers.{place_found, refusal_view};
+ghost use Rattle.jvm_named.specs.Objects.{AreLoaded, IsResolved, IsUsable};
+ghost use Rattle.jvm_named.specs.Members.{at_place};
+ghost use Rattle.jvm_named.specs.Resolved.{method_found};
+ghost use Rattle.jvm_named.specs.Targets.{HasCaller, by_view, found_as, instance_target};
+ghost use Rattle.jvm_named.specs.Targets.{receiver_class, static_target, target_in, unready_by};
+
+use crate::asked::{Exception, Refusal};
+use crate::classes::name_at;
+use crate::instances::{class_of_kind, kind_of_object};
+use crate::naming::{MemberName, MethodName};
+use crate::place::Place;
+use crate::receivers::{argument_count, receiver_below};
+use crate::resolution::exception_numbered;
+use class_index::{ABSTRACT, STATIC, has_flag};
+use class_linker::{Linker, Resolved};
+use frame_stack::Frames;
+use heap_objects::Heap;
+use jf_bytes::{NoMemory, Text16};
+use jvm_model::{Phase, Program, Shared};
+use std::alloc::Global;
+
+/// Which invocation it is: invokespecial with the name of the class in which it stands, and whether it names an interface's method.
+#[derive(Clone, Copy)]
+pub enum By<'a> {
+    Virtual,
+    OfInterface,
+    Special(&'a Text16, bool),
+}
+
+/// The method that was selected, if one was, and how many operands are its arguments.
+#[derive(Clone, Copy)]
+pub struct Target {
+    pub selected: Option<Place>,
+    pub count: u16,
+}
+
+// ---- methods
+
+/// The flags of a method.
+fn access_of(program: &Program, m: Place) -> u16
+    ensures { result ≡ access_of program.now (at_place m) }
+{
+    match program.classes.get(m.class as usize) {
+        Some(file) => match file.methods.get(m.position as usize) {
+            Some(method) => method.access,
+            None => 0,
+        },
+        None => 0,
+    }
+}
+
+fn is_static(program: &Program, m: Place) -> bool
+    ensures { result ≡ is_static program.now (at_place m) }
+{
+    has_flag(access_of(program, m), STATIC)
+}
+
+pub fn is_abstract(program: &Program, m: Place) -> bool
+    ensures { result ≡ is_abstract program.now (at_place m) }
+{
+    has_flag(access_of(program, m), ABSTRACT)
+}
+
+// ---- resolution
+
+/// The method that a name stands for in a class.
+fn found_in(
+    linker: &Linker,
+    class: u32,
+    interface: bool,
+    member: &MemberName,
+) -> Result<Place, Refusal>
+    requires { IsLoaded linker.now class }
+    ensures { place_found result ≡ found (resolved_method linker.now.program class interface
+        (name_type_of member.now.name member.now.descriptor)) }
+{
+    match linker.resolve_method(class, interface, &member.name, &member.descriptor) {
+        Resolved::Found(class, position) => Ok(Place { class, position }),
+        Resolved::Throws(number) => Err(Refusal::Raises(exception_numbered(number), None)),
+    }
+}
+
+/// The method, where it is static as it is asked for, or is not.
+fn fitting(program: &Program, m: Place, fixed: bool) -> Result<Place, Refusal>
+    ensures { place_found result
+        ≡ where_fitting (beq (is_static program.now (at_place m)) fixed) (at_place m) }
+{
+    if is_static(program, m) == fixed {
+        Ok(m)
+    } else {
+        Err(Refusal::Raises(Exception::IncompatibleClassChange, None))
+    }
+}
+
+/// The method, static or not, that a name stands for whose class was resolved to this kind.
+fn method_found(
+    linker: &Linker,
+    kind: u32,
+    interface: bool,
+    fixed: bool,
+    method: &MethodName,
+) -> Result<Place, Refusal>
+    requires { IsUsable linker.now kind }
+    ensures { place_found result
+        ≡ method_found linker.now.program kind interface fixed method.now }
+{
+    let class = class_of_kind(linker, kind);
+    match found_in(linker, class, interface, method.member()) {
+        Ok(m) => fitting(linker.program(), m, fixed),
+        Err(refusal) => Err(refusal),
+    }
+}
+
+// ---- receivers
+
+/// What a receiver asks for that is not of the named class.
+fn not_of_class(by: By<'_>) -> Refusal
+    ensures { refusal_view result ≡ not_of_class (by_view by.entry) }
+{
+    match by {
+        By::Virtual => Refusal::Breaks,
+        By::OfInterface => Refusal::Raises(Exception::IncompatibleClassChange, None),
+        By::Special(_, _) => Refusal::Breaks,
+    }
+}
+
+fn names_interface(by: By<'_>) -> bool
+    ensures { result ≡ names_interface (by_view by.entry) }
+{
+    match by {
+        By::Virtual => false,
+        By::OfInterface => true,
+        By::Special(_, interface) => interface,
+    }
+}
+
+/// The class of a receiver, where it is one that the instruction can take: the name's class was resolved to this kind.
+fn receiver_class(
+    linker: &Linker,
+    heap: &Heap,
+    by: By<'_>,
+    method: &MethodName,
+    kind: u32,
+    object: u32,
+) -> Result<u32, Refusal>
+    requires objects { AreLoaded linker.now heap.now }
+    requires resolved { IsResolved linker.now method.now.class kind }
+    ensures class { found_as (λ class. class) result
+        ≡ receiver_class linker.now.program (by_view by.entry) method.now heap.now object }
+    ensures loaded { IfOk result (λ class. IsLoaded linker.now class) }
+{
+    if object == 0 {
+        return Err(Refusal::Raises(Exception::NullPointer, None));
+    }
+    let Some(found) = kind_of_object(linker, heap, object) else {
+        return Err(not_of_class(by));
+    };
+    if !linker.subtype(found, kind) {
+        return Err(not_of_class(by));
+    }
+    Ok(class_of_kind(linker, found))
+}
+
+// ---- selection
+
+/// A place as the linker gives it.
+fn placed(found: Option<(u32, u16)>) -> Option<Place>
+    ensures { option_map at_place result ≡ option_map place_view found }
+{
+    let (class, position) = found?;
+    Some(Place { class, position })
+}
+
+/// What invokespecial takes in the class of this name.
+fn selected_special(linker: &Linker, caller: &Text16, m: Place) -> Option<Place>
+    requires { (class : ℕ) → class_named linker.now.program caller.now ≡ Some class →
+        IsLoaded linker.now class }
+    ensures { option_map at_place result ≡ option_and_then
+        (λ current. invoked_special linker.now.program current (at_place m))
+        (class_named linker.now.program caller.now) }
+{
+    let current = linker.index().class_named(caller.units())?;
+    placed(linker.special(current, m.class, m.position))
+}
+
+/// What the receiver's class has for the resolved method, or what the caller's class takes.
+fn selected_by(linker: &Linker, by: By<'_>, m: Place, class: u32) -> Option<Place>
+    requires loaded { IsLoaded linker.now class }
+    requires caller { HasCaller linker.now (by_view by) }
+    ensures { option_map at_place result
+        ≡ selected_by linker.now.program (by_view by.entry) (at_place m) class }
+{
+    match by {
+        By::Virtual => placed(linker.select(class, m.class, m.position, false)),
+        By::OfInterface => placed(linker.select(class, m.class, m.position, true)),
+        By::Special(caller, _) => selected_special(linker, caller, m),
+    }
+}
+
+// ---- an instance method
+
+/// What an instruction other than invokestatic comes to, where the class of the method's name was resolved to this kind.
+pub fn instance_target(
+    linker: &Linker,
+    heap: &Heap,
+    frames: &Frames,
+    by: By<'_>,
+    method: &MethodName,
+    kind: u32,
+) -> Result<Target, Refusal>
+    requires objects { AreLoaded linker.now heap.now }
+    requires resolved { IsResolved linker.now method.now.class kind }
+    requires caller { HasCaller linker.now (by_view by) }
+    ensures target { let o = top_operands frames.now.frames in found_as (target_in o) result
+        ≡ instance_target linker.now.program kind (by_view by.entry) method.now heap.now o }
+    ensures within { IfOk result (λ t. t.count ≤ length (top_operands frames.now.frames)) }
+{
+    let m = match method_found(linker, kind, names_interface(by), false, method) {
+        Ok(m) => m,
+        Err(refusal) => return Err(refusal),
+    };
+    let Some(count) = argument_count(true, method, frames) else {
+        return Err(Refusal::Breaks);
+    };
+    let object = receiver_below(frames, count);
+    match receiver_class(linker, heap, by, method, kind, object) {
+        Ok(class) => Ok(Target {
+            selected: selected_by(linker, by, m, class),
+            count,
+        }),
+        Err(refusal) => Err(refusal),
+    }
+}
+
+// ---- a static method
+
+/// A text with the same units.
+fn copied(alloc: Global, text: &Text16) -> Result<Text16, NoMemory>
+    ensures { IfOk result (λ copy. copy ≡ text.now) }
+{
+    Ok(Text16::new(Vec::from_slice(alloc, text.units())?))
+}
+
+/// NoClassDefFoundError, with the name of the class that can not be used.
+fn unusable(alloc: Global, linker: &Linker, class: u32) -> Result<Refusal, NoMemory>
+    ensures { IfOk result (λ refusal. refusal_view refusal
+        ≡ Raises no_class_definition (name_at linker.now.program class)) }
+{
+    let message = match name_at(linker, class) {
+        Some(name) => Some(copied(alloc, name)?),
+        None => None,
+    };
+    Ok(Refusal::Raises(Exception::NoClassDefinition, message))
+}
+
+/// What is asked for where a class has to be initialized before, or can not be used (5.5).
+fn unready(
+    alloc: Global,
+    linker: &Linker,
+    class: u32,
+    phase: Option<Phase>,
+) -> Result<Option<Refusal>, NoMemory>
+    ensures { IfOk result (λ refusal. option_map refusal_view refusal
+        ≡ unready_by linker.now.program class phase) }
+{
+    match phase {
+        Some(Phase::Ready) => Ok(None),
+        Some(Phase::Running) => Ok(None),
+        Some(Phase::Fresh) => Ok(Some(Refusal::Initializes(class))),
+        Some(Phase::Erroneous) => Ok(Some(unusable(alloc, linker, class)?)),
+        None => Ok(Some(unusable(alloc, linker, class)?)),
+    }
+}
+
+/// What invokestatic comes to, where the class of the method's name was resolved to this kind.
+pub fn static_target(
+    alloc: Global,
+    linker: &Linker,
+    shared: &Shared,
+    frames: &Frames,
+    method: &MethodName,
+    kind: u32,
+) -> Result<Result<Target, Refusal>, NoMemory>
+    requires { IsUsable linker.now kind }
+    ensures target { let o = top_operands frames.now.frames in
+        IfOk result (λ t. found_as (target_in o) t
+        ≡ static_target linker.now.program kind method.now shared.now o) }
+    ensures within { IfOk result (λ t.
+        IfOk t (λ t. t.count ≤ length (top_operands frames.now.frames))) }
+{
+    let m = match method_found(linker, kind, false, true, method) {
+        Ok(m) => m,
+        Err(refusal) => return Ok(Err(refusal)),
+    };
+    let phase = shared.phases.at(m.class as usize);
+    if let Some(refusal) = unready(alloc, linker, m.class, phase)? {
+        return Ok(Err(refusal));
+    }
+    match argument_count(false, method, frames) {
+        Some(count) => Ok(Ok(Target {
+            selected: Some(m),
+            count,
+        })),
+        None => Ok(Err(Refusal::Breaks)),
+    }
+}
