@@ -97,7 +97,7 @@ fn next(vm: &mut Vm) -> Turn {
     vm.step()
 }
 
-/// Whether the run has ended in one of its first turns.
+/// Whether the run has ended in one of its first 20 turns.
 fn ends(vm: &mut Vm) -> bool {
     for _ in 0..20 {
         match next(vm) {
