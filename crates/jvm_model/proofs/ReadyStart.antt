@@ -19,7 +19,7 @@ use Rattle.jvm_model.specs.OneClass.{IsProgramOf}
 use Rattle.jvm_model.specs.Programs.{name_of, has_name, has_built_in_name, class_named, super_of, number_of_method, initializer_name, initializer_of}
 use Rattle.jvm_model.specs.Run.{loaded_turn, main_class, starts_with, start}
 use Rattle.jvm_model.specs.SharedState.{phase_of, with_phase, shared_before, phase_before}
-use Rattle.jvm_model.specs.SmallClass.{begins_with, is_free_name, is_plain_name}
+use Rattle.jvm_model.specs.SmallClass.{begins_with, is_free_name}
 use Rattle.jvm_model.specs.Starting.{IsReadyAbove, StartsReady, phases_ready, ready_in, begun_in, unbegun_in, begins_or_ends}
 use Rattle.jvm_model.specs.StaticClass.{IsStaticClass}
 use Rattle.jvm_model.proofs.ImageMethods.{has_code, each-nth}
@@ -144,29 +144,9 @@ StartsReady-alone c p alone of built_in plain room = record {
   room = room;
 }
 
--- ---- a class of static methods is such a class
-
-plain-other : (c : ClassFile) (m : Member) → option_map_or is_plain_name (named_text c.pool m.name) false ≡ true → is_member c.pool initializer_name m ≡ false
-plain-other c m plain =
-    let named = passed is_plain_name (named_text c.pool m.name) plain in
-    ap (λ o. option_map_or (λ t. same_text t (codes "<clinit>")) o false && same_text_at c.pool m.descriptor (codes "()V")) named.1
-    ∙ ap (λ b. b && same_text_at c.pool m.descriptor (codes "()V")) (isnt named.0 named.2)
-  where
-    isnt : (name : List ℕ) → is_plain_name name ≡ true → same_text name (codes "<clinit>") ≡ false
-    isnt name plain = not-both (same_text name (codes "<clinit>")) (λ e. (
-        let is : name ≡ codes "<clinit>" = same-is name (codes "<clinit>") e in
-        let no : false ≡ true = sym (ap is_plain_name is) ∙ plain in cc))
-
-pub IsAlone-static : (c : ClassFile) → IsStaticClass c → IsAlone c
-IsAlone-static c static = record {
-  name = static.name;
-  super = static.super;
-  methods = each-nth (λ m. is_member c.pool initializer_name m ≡ false) c.methods (λ k m e. plain-other c m (static.methods k m e).named);
-  coded = each-nth has_code c.methods (λ k m e. ap is_some (static.methods k m e).coded);
-}
-
-pub StartsReady-static : (c : ClassFile) (p : Program) → IsStaticClass c → (of : IsProgramOf c p) → AllByRecursion (λ k. has_built_in_name k ≡ true) of.rest → p.args ≡ [] → 1024 ≤ p.heap → StartsReady p
-StartsReady-static c p static of built_in plain room = StartsReady-alone c p (IsAlone-static c static) of built_in plain room
+-- each method of a class of static methods has code
+pub coded-static : (c : ClassFile) → IsStaticClass c → AllByRecursion has_code c.methods
+coded-static c static = each-nth has_code c.methods (λ k m e. ap is_some (static.methods k m e).coded)
 
 -- ---- the start
 

@@ -1,5 +1,5 @@
 -- A class of static methods: the part of the language that runs without a root.
-use Rattle.std.specs.Prelude.{◌≡◌, ℕ, Bool, true, false, [], slice_get, codes, is_some, Some}
+use Rattle.std.specs.Prelude.{◌≡◌, ◌||◌, ℕ, Bool, true, false, [], slice_get, codes, is_some, Some}
 use Rattle.std.specs.Option.{option_map_or}
 use Rattle.std.specs.List.{list_all}
 use Rattle.const_pool.specs.declared.class.ClassFile.{ClassFile}
@@ -12,7 +12,8 @@ use Rattle.code_model.specs.Instructions.{IsReading}
 use Rattle.jvm_model.specs.Data.{Operation, Invokestatic}
 use Rattle.jvm_model.specs.Descriptors.{same_text}
 use Rattle.jvm_model.specs.Lines.{operation_of}
-use Rattle.jvm_model.specs.Methods.{code_of}
+use Rattle.jvm_model.specs.Methods.{code_of, is_member}
+use Rattle.jvm_model.specs.Programs.{initializer_name}
 use Rattle.jvm_model.specs.Resolved.{own_method}
 use Rattle.jvm_model.specs.SmallClass.{is_plain_static, is_plain_name, is_free_name}
 
@@ -30,9 +31,13 @@ pub record IsStaticCode (c : ClassFile) (code : CodeAttribute) : Type 0 where
   pub reads : IsReading code.code reading
   pub runs : list_all (runs_in c) reading.instrs ≡ true
 
+-- a name that is neither a constructor's nor an initializer's; or the method is the static initializer (2.9), which no instruction invokes
+abbrev pub has_static_name : ClassFile → Member → Bool
+has_static_name c m = option_map_or is_plain_name (named_text c.pool m.name) false || is_member c.pool initializer_name m
+
 pub record IsStaticMethod (c : ClassFile) (m : Member) : Type 0 where
   pub access : is_plain_static m.access ≡ true
-  pub named : option_map_or is_plain_name (named_text c.pool m.name) false ≡ true
+  pub named : has_static_name c m ≡ true
   pub code : CodeAttribute
   pub coded : code_of m ≡ Some code
   pub static : IsStaticCode c code

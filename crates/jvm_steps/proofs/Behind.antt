@@ -1,6 +1,6 @@
 -- A step behind the initialization of a class, over the parts of a machine.
-use Rattle.std.proofs.Common.{◌≡◌, ℕ, Bool, true, false, List, [], ◌∷◌, length, Option, Some, None, refl, sym, ap, subst, ◌∙◌}
-use Rattle.std.specs.Prelude.{is_some, is_none, ◌&&◌}
+use Rattle.std.proofs.Common.{◌≡◌, ℕ, Bool, true, false, List, ◌∷◌, length, Option, Some, None, refl, sym, ap, subst, ◌∙◌}
+use Rattle.std.specs.Prelude.{is_none, ◌&&◌}
 use Rattle.std.proofs.lemmas.Bool.{false≢true}
 use Rattle.frame_stack.specs.FrameLists.{has_frame}
 use Rattle.jvm_model.specs.declared.state.Entry.{Entry}
@@ -19,7 +19,7 @@ use Rattle.jvm_steps.specs.declared.parts.Parts.{Parts}
 use Rattle.jvm_steps.specs.Acts.{IsAttempt, attempts_on, awaited_in, goes_on_in}
 use Rattle.jvm_steps.specs.Initializing.{begins_class}
 use Rattle.jvm_steps.specs.Markers.{is_unmarked, marker_on, state_of}
-use Rattle.jvm_steps.proofs.LineSteps.{IsGoing, awaits-none, behind, going-again, going-on, initialized, none-of, step-again, step-awaits, unmarked}
+use Rattle.jvm_steps.proofs.LineSteps.{IsGoing, awaits-none, behind, going-again, none-of, step-again, step-awaits, unmarked}
 
 both : (a b : Bool) → (a && b) ≡ true → (a ≡ true) × (b ≡ true)
 both true b e = (refl, e)

@@ -18,7 +18,7 @@ use Rattle.jvm_model.specs.declared.state.Phase.{Phase}
 use Rattle.jvm_model.specs.declared.state.Phase.TheVariants.{Fresh, Running, Ready, Erroneous}
 use Rattle.jvm_model.specs.declared.state.Shared.{Shared}
 use Rattle.jvm_model.specs.declared.state.State.{State}
-use Rattle.jvm_model.specs.Applies.{still, with_frame, breaks, goes, place_of, enters_subroutine, new_frame, throws_at, has_room, begins, begins_beside, invokes, most_live, live_in, applies}
+use Rattle.jvm_model.specs.Applies.{still, with_frame, breaks, goes, place_of, enters_subroutine, new_frame, throws_at, has_room, begins, invokes, most_live, live_in, applies}
 use Rattle.jvm_model.specs.Data.{Locals, Operands, World, Text, Instruction, Outcome, GoesOn, Subroutine, Invokes, Returns, Throws, Raises, Initializes, Exits, Breaks, Began, Turn}
 use Rattle.jvm_model.specs.LocalRules.{arithmetic_exception, by_zero, returns}
 use Rattle.jvm_model.specs.Moves.{argument_array, caught, handler_for, main_or_end, move, moves, own_at}
@@ -37,7 +37,7 @@ use Rattle.jvm_steps.specs.declared.markers.Marker.{Marker}
 use Rattle.jvm_steps.specs.declared.parts.Parts.{Parts}
 use Rattle.jvm_steps.specs.Acts.{placed_line, next_in, comes_to, resumes_line, gives_back_line, returns_or_ends, acts_return, prints_number, printable, acts_by, acts, awaited, fresh_class, acts_end, ends_initializer}
 use Rattle.jvm_steps.specs.Lines.{line_at}
-use Rattle.jvm_steps.specs.Markers.{initializing, marker_on, above, beneath, stack_of, with_markers}
+use Rattle.jvm_steps.specs.Markers.{initializing, marker_on, stack_of, with_markers}
 use Rattle.jvm_steps.specs.Settling.{after_move}
 use Rattle.jvm_steps.specs.States.{active, frame_in, state_in}
 use Rattle.jvm_steps.proofs.LineActs.{stays, throws-stays, watches-stays, measures-stays, loads-stays, makes-silent, stores-silent, method-stays}

@@ -1,7 +1,7 @@
 -- The initialization of a class before an instruction: where the class is ready behind it no activation has begun or ended, and the
 -- frame is the current one again.
 use Rattle.std.proofs.Common.{◌≡◌, ℕ, zero, suc, Bool, true, false, cond, List, [], ◌∷◌, ◌++◌, ◌+◌, slice_get, slice_set, Option, Some, None, nat_le, nat_lt, refl, sym, subst, ap, ◌∙◌}
-use Rattle.std.specs.Option.{IfSome, option_map_or}
+use Rattle.std.specs.Option.{IfSome}
 use Rattle.heap_objects.specs.declared.datum.Datum.{Datum}
 use Rattle.heap_objects.specs.declared.datum.Datum.TheVariants as datum
 use Rattle.jvm_model.specs.declared.ending.Ending.{Ending}
@@ -23,7 +23,7 @@ use Rattle.heap_objects.specs.declared.Value.TheVariants.{Ref}
 use Rattle.frame_stack.specs.Widths.{height_of}
 use Rattle.heap_objects.specs.Heaps.{next_number}
 use Rattle.jvm_model.specs.Applies.{still, with_frame, goes, breaks, new_frame, live_in, most_live}
-use Rattle.jvm_model.specs.Moves.{handler_for, own_at, caught, wrapped, fails, at_part, raises, after_super, with_super, runs_initializer, initializes, moves, move, then_turn, settled}
+use Rattle.jvm_model.specs.Moves.{handler_for, own_at, caught, wrapped, fails, at_part, raises, after_super, with_super, runs_initializer, initializes, move, then_turn, settled}
 use Rattle.jvm_model.proofs.Settles.{settled-keeps, settled-stops}
 
 -- ---- phases
@@ -242,11 +242,11 @@ module _ (w : World) (t : Text) (c : ℕ) (f : Frame) (below : List Entry) where
     | waits stack thrown begun output shared at running same ↦
         absurd (running-ready (sym running ∙ (ap (λ (x : Turn). phase_of x.after.shared c) (sym same) ∙ is)))
     | ready begun output shared at same ↦ record {
-        quiet = ap (λ (x : Turn). x.changes) same;
-        stack = ap (λ (x : Turn). x.after.stack) same;
-        ending = ap (λ (x : Turn). x.after.ending) same;
-        thrown = ap (λ (x : Turn). x.after.thrown) same;
-      }
+      quiet = ap (λ (x : Turn). x.changes) same;
+      stack = ap (λ (x : Turn). x.after.stack) same;
+      ending = ap (λ (x : Turn). x.after.ending) same;
+      thrown = ap (λ (x : Turn). x.after.thrown) same;
+    }
     | failed stack r begun output shared changes at same ↦
         absurd (erroneous-ready (sym at ∙ (ap (λ (x : Turn). phase_of x.after.shared c) (sym same) ∙ is)))
     | stops isnt gone ↦ absurd (isnt is)

@@ -1,6 +1,6 @@
 -- The frame of a static initializer begins on the current one, beneath no marker; and how a static initializer begins or can not.
-use Rattle.std.proofs.Common.{◌≡◌, ◌≤◌, ℕ, suc, ◌+◌, ◌-◌, Bool, true, false, cond, List, [], ◌∷◌, length, map, Option, Some, None, nat_le, nat_lt, refl, sym, ap, ◌∙◌, arith}
-use Rattle.std.specs.Prelude.{replicate, ◌&&◌}
+use Rattle.std.proofs.Common.{◌≡◌, ℕ, suc, ◌+◌, Bool, true, false, cond, List, [], ◌∷◌, length, map, Option, Some, None, nat_le, nat_lt, refl, ap, ◌∙◌, arith}
+use Rattle.std.specs.Prelude.{◌&&◌}
 use Rattle.std.proofs.lemmas.Bool.{le-leb}
 use Rattle.heap_objects.specs.Changes.{changed_if}
 use Rattle.frame_stack.specs.FrameLists.{PlacedFrame, FramesView, can_enter, top_operands, with_new_frame, with_room, new_frame as placed_frame}
@@ -17,7 +17,7 @@ use Rattle.jvm_model.specs.SharedState.{stack_overflow}
 use Rattle.jvm_steps.specs.declared.markers.Marker.{Marker}
 use Rattle.jvm_steps.specs.declared.parts.Parts.{Parts}
 use Rattle.jvm_steps.specs.Markers.{marker_on, stack_of, state_of}
-use Rattle.jvm_steps.specs.States.{active, frame_in, state_in}
+use Rattle.jvm_steps.specs.States.{active, state_in}
 use Rattle.jvm_steps.proofs.Callees.{live-is}
 use Rattle.jvm_steps.proofs.Carried.{length-active}
 use Rattle.jvm_steps.proofs.MarkedStacks.{live-stack, stack-frame}

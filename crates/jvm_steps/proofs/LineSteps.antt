@@ -31,7 +31,7 @@ use Rattle.jvm_steps.specs.declared.parts.Parts.{Parts}
 use Rattle.jvm_steps.specs.Acts.{acts, attempts_line, attempts_on, awaited, awaited_by, awaited_in, awaited_on, fresh_class, is_at_rest, goes_on_in}
 use Rattle.jvm_steps.specs.Lines.{line_at}
 use Rattle.jvm_steps.specs.Markers.{initializing, marker_on, stack_of, state_of}
-use Rattle.jvm_steps.specs.States.{active, frame_in, state_in}
+use Rattle.jvm_steps.specs.States.{active, frame_in}
 use Rattle.jvm_steps.proofs.Carried.{length-active}
 use Rattle.jvm_steps.proofs.Initializations.{IsReadyAgain, ready-again, set-there}
 use Rattle.jvm_steps.proofs.LineActs.{ActsAs, op-acts, op-awaits}
@@ -282,7 +282,7 @@ module _ (w : World) (s : State) (going : IsGoing s) where
           let again_from : State = record behind { stack = going.rest } in
           let i : Instruction = instruction_by here.op here.line in
           let none : awaited again_from.shared here.line.action ≡ None =
-              awaited-ready w under.shared behind.shared here.line.action c here.awaits (ready-of (phase_of behind.shared c) ready) in
+          awaited-ready w under.shared behind.shared here.line.action c here.awaits (ready-of (phase_of behind.shared c) ready) in
           let acts_so = op-acts w here.line again_from going.frame here.op none here.tied in
           let turn : Turn = settled w text (still (awaiting w under going.frame c)) in
           settles

@@ -1,14 +1,13 @@
 -- Markers that are put on the current frame, and taken off it.
-use Rattle.std.proofs.Common.{◌≡◌, ◌<◌, ◌≤◌, ℕ, suc, List, [], ◌∷◌, length, map, Option, Some, None, nat_le, refl, sym, ap, ◌∙◌, arith}
+use Rattle.std.proofs.Common.{◌≡◌, suc, List, [], ◌∷◌, length, map, Option, Some, None, sym, ap, ◌∙◌, arith}
 use Rattle.std.specs.Option.{MatchOption}
 use Rattle.std.proofs.lemmas.Bool.{le-leb}
 use Rattle.std.proofs.lemmas.Option.{none-some}
 use Rattle.jvm_model.specs.declared.state.Entry.{Entry}
-use Rattle.jvm_model.specs.declared.state.Part.{Part}
 use Rattle.jvm_model.specs.Moves.{at_part}
 use Rattle.jvm_steps.specs.declared.markers.Marker.{Marker}
 use Rattle.jvm_steps.specs.declared.parts.Parts.{Parts}
-use Rattle.jvm_steps.specs.Markers.{TakesMarker, initializing, marker_on, stack_of, state_of}
+use Rattle.jvm_steps.specs.Markers.{TakesMarker, marker_on, stack_of, state_of}
 use Rattle.jvm_steps.specs.States.{active, state_in}
 use Rattle.jvm_steps.proofs.Carried.{length-active}
 use Rattle.jvm_steps.proofs.MarkedStacks.{none-over, none-there, stack-front, stack-marker, stack-nothing, stack-plain}

@@ -5,16 +5,16 @@ use Rattle.frame_stack.specs.Widths.{height_of}
 use Rattle.frame_stack.specs.FrameLists.{PlacedFrame, FramesView, has_frame}
 use Rattle.jvm_model.specs.declared.ending.Ending.{Ending}
 use Rattle.jvm_model.specs.declared.state.State.{State}
-use Rattle.jvm_model.specs.Data.{World, Text}
+use Rattle.jvm_model.specs.Data.{World}
 use Rattle.jvm_model.specs.Originals.{original}
 use Rattle.jvm_model.specs.Run.{step}
 use Rattle.jvm_basic.specs.declared.effect.Effect.TheVariants.{Next}
-use Rattle.jvm_basic.specs.Outcomes.{Outcome, GoesOn, Raises, Breaks, Leaves, can_hold, frames_in, with_top, asked, effect_of, after}
+use Rattle.jvm_basic.specs.Outcomes.{Outcome, GoesOn, Raises, Breaks, Leaves, frames_in, with_top, asked, effect_of, after}
 use Rattle.jvm_basic.specs.Rules.{rule_of}
 use Rattle.jvm_steps.specs.declared.line.Line.{Line}
 use Rattle.jvm_steps.specs.declared.markers.Marker.{Marker}
 use Rattle.jvm_steps.specs.declared.parts.Parts.{Parts}
-use Rattle.jvm_steps.specs.Acts.{acts_by, attempts_line, attempts_on, awaited, awaited_by, awaited_on, is_at_rest}
+use Rattle.jvm_steps.specs.Acts.{acts_by, attempts_line, attempts_on, awaited, awaited_by, awaited_on}
 use Rattle.jvm_steps.specs.Lines.{line_at}
 use Rattle.jvm_steps.specs.Markers.{marker_on, state_of, with_markers}
 use Rattle.jvm_steps.specs.Runs.{IsCalm, IsPlainLine, LeadsPlainly}
@@ -83,9 +83,9 @@ plain-at w line ms p (f ∷ fs) room new calm stands e made =
     let going = going-on ms q (goes p.ending (has_frame (f ∷ fs) && is_none (marker_on (length (f ∷ fs)) ms)) calm.ending (framed (length (f ∷ fs)) ms (f ∷ fs) calm.unmarked refl refl)) in
     let s : State = state_with fs p in
     let attempted : with_markers ms (state_with new.frames p) ≡ attempts_line w (with_markers ms s) (frame_in f) (line_at w.program f.version f.place) =
-        ap (with_markers ms) (goes-next w line q f.method new refl e made)
-        ∙ (comes-carried ms w line s (frame_in f) (rule_of line.instr line.constant line.next f.locals f.operands) free
-        ∙ sym (ap (attempts_line w (with_markers ms s) (frame_in f)) stands.0 ∙ ap (acts_by w line (with_markers ms s) (frame_in f)) stands.1)) in
+    ap (with_markers ms) (goes-next w line q f.method new refl e made)
+    ∙ (comes-carried ms w line s (frame_in f) (rule_of line.instr line.constant line.next f.locals f.operands) free
+    ∙ sym (ap (attempts_line w (with_markers ms s) (frame_in f)) stands.0 ∙ ap (acts_by w line (with_markers ms s) (frame_in f)) stands.1)) in
     step-attempts w (state_of ms q) going
     (ap (awaited_on w p.shared) (top-frame ms f fs calm.unmarked) ∙ (ap (awaited_by p.shared) stands.0 ∙ ap (awaited p.shared) stands.1))
     (with_markers ms (state_with new.frames p)) (with_markers ms (state_with new.frames p))

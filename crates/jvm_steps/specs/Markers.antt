@@ -2,7 +2,7 @@
 -- those at the front that tell no fewer than there are stand on the current frame. So any frames and any markers are a stack.
 use Rattle.std.specs.Prelude.{◌≡◌, ℕ, suc, Bool, List, [], ◌∷◌, ◌++◌, length, map, Option, Some, None, is_none, nat_le, if◌then◌else◌}
 use Rattle.jvm_model.specs.declared.state.Entry.{Entry}
-use Rattle.jvm_model.specs.declared.state.Entry.TheVariants.{Active, Initializing}
+use Rattle.jvm_model.specs.declared.state.Entry.TheVariants.{Initializing}
 use Rattle.jvm_model.specs.declared.state.State.{State}
 use Rattle.jvm_model.specs.Moves.{at_part}
 use Rattle.jvm_steps.specs.declared.markers.Marker.{Marker}

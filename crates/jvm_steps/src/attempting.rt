@@ -178,8 +178,7 @@ fn act_initializer(
     requires family { line.now.family ≡ family_of line.now.instr.op }
     requires none { awaited parts.old.shared line.now.action ≡ None }
     requires unmarked { marker_on (length parts.old.frames.frames) markers.now ≡ None }
-    requires beneath {
-        is_some (marker_on (length parts.old.frames.frames - 1) markers.now) ≡ true }
+    requires beneath { is_some (marker_on (length parts.old.frames.frames - 1) markers.now) ≡ true }
     ensures { BecomesBeneath result markers.now parts.new
         (acts originals.now line.now) parts.old }
 {

@@ -64,7 +64,7 @@ fn are_bytes_at(pool: &Pool, index: u16, bytes: &[u8]) -> bool
 }
 
 /// Whether a method is a static initializer (2.9).
-fn is_initializer(pool: &Pool, member: &Member) -> bool
+pub fn is_initializer(pool: &Pool, member: &Member) -> bool
     ensures { result ≡ is_member pool.now initializer_name member.now }
 {
     are_bytes_at(pool, member.name, b"<clinit>") && are_bytes_at(pool, member.descriptor, b"()V")

@@ -81,8 +81,7 @@ fn step_behind(
     class: u32,
 ) -> Result<(), NoMemory>
     requires going { goes_on_in markers.old parts.old ≡ true }
-    requires awaits {
-        awaited_in originals.now (state_of markers.old parts.old) ≡ Some class }
+    requires awaits { awaited_in originals.now (state_of markers.old parts.old) ≡ Some class }
     ensures { let w = originals.now in let s = state_of markers.old parts.old in OnOk result
         (state_of markers.new parts.new ≡ (step w (original w.program) s).after) }
 {
@@ -116,12 +115,7 @@ pub fn step(
 }
 
 /// Steps that the current frame does by itself, at most so many: how many it has made.
-fn step_plainly(
-    originals: &Originals,
-    parts: &mut Parts,
-    markers: &Stack<Marker>,
-    most: u64,
-) -> u64
+fn step_plainly(originals: &Originals, parts: &mut Parts, markers: &Stack<Marker>, most: u64) -> u64
     requires { parts.old.ending ≡ None }
     ensures within { result ≤ most }
     ensures made { Leads originals.now (state_of markers.now parts.old) result

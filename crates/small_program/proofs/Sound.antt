@@ -25,7 +25,7 @@ use Rattle.jvm_model.specs.SmallClass.{main_member, is_public_static, public_sta
 use Rattle.jvm_model.specs.StaticClass.{IsStaticClass}
 use Rattle.jvm_model.specs.StandsFor.{IsBuilt}
 use Rattle.jvm_model.proofs.Numbers.{place-coded}
-use Rattle.jvm_model.proofs.ReadyStart.{IsAlone-static}
+use Rattle.jvm_model.proofs.ReadyStart.{coded-static}
 use Rattle.jvm_steps.specs.Prepared.{HasShortCodes, FitsOriginals}
 use Rattle.admit_check.specs.Admission.{declared_main, main_of_class, main_in, IsSoundProgram}
 use Rattle.small_program.specs.Admission.{AllRun, IsSmall, RunsWith}
@@ -117,7 +117,7 @@ main-within c p rest static classes of e =
     (λ k declared numbered. (
     let has = declared-there c k declared in
     let less : k < length c.methods = within-some c.methods k has.member has.found in
-    let place = place-coded c (record p { main = k }) k has.member (IsAlone-static c static).coded (of k less) has.found in
+    let place = place-coded c (record p { main = k }) k has.member (coded-static c static) (of k less) has.found in
     let early : p.main ≤ 0 + k = number-early 0 0 k p.methods k p.main numbered place in
     omega (arith, early, less)))
 

@@ -1,8 +1,8 @@
-//! Which classes run as far as their own code goes: those of static methods alone.
+//! Which classes run as far as their own code goes: those of static methods alone, the static initializer among them.
 
 ghost use Rattle.std.specs.Prelude.{◌≡◌, ◌↔◌, ◌<◌, ◌^◌, length, IsTrue, IfOk};
 ghost use Rattle.const_pool.specs.ClassFile.{IsClassFile, IsMember, IsMethodAttribute};
-ghost use Rattle.jvm_model.specs.StaticClass.{IsStaticMethod, IsStaticClass};
+ghost use Rattle.jvm_model.specs.StaticClass.{has_static_name, IsStaticMethod, IsStaticClass};
 ghost use Rattle.small_program.specs.Static.{has_plain_name as has_plain_name_of, HasStaticMethods};
 
 use crate::names::{is_plain_name, is_plain_static};
@@ -10,7 +10,7 @@ use crate::small_class::{extends_object, has_free_name};
 use crate::static_code::is_static_code;
 use const_pool::{ClassFile, Member};
 use jf_bytes::NoMemory;
-use jvm_steps::code_of;
+use jvm_steps::{code_of, is_initializer};
 use std::alloc::Global;
 
 /// Whether the method's name is neither a constructor's nor an initializer's.
@@ -23,13 +23,20 @@ fn has_plain_name(class: &ClassFile, method: &Member) -> bool
     }
 }
 
+/// The same, or whether it is the static initializer.
+fn has_static_name(class: &ClassFile, method: &Member) -> bool
+    ensures { result ≡ has_static_name class.now method.now }
+{
+    has_plain_name(class, method) || is_initializer(&class.pool, method)
+}
+
 /// Whether a class of static methods may have the method.
 fn is_static_method(alloc: Global, class: &ClassFile, method: &Member) -> Result<bool, NoMemory>
     requires methods { length class.now.methods < 2 ^ 32 }
     requires formed { IsMember IsMethodAttribute class.now.pool method.now }
     ensures { IfOk result (λ runs. IsTrue runs ↔ IsStaticMethod class.now method.now) }
 {
-    if !is_plain_static(method.access) || !has_plain_name(class, method) {
+    if !is_plain_static(method.access) || !has_static_name(class, method) {
         return Ok(false);
     }
     let Some(code) = code_of(method) else {

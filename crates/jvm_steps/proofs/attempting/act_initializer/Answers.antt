@@ -1,4 +1,3 @@
-use Rattle.std.proofs.Common.{◌≡◌, sym, ap, ◌∙◌}
 use Rattle.std.proofs.lemmas.Result.{on_ok_weaker}
 use Rattle.jvm_steps.proofs.Beneath.{does-beneath, ends-beneath, within-unless}
 use Rattle.jvm_steps.proofs.attempting.act_initializer.Goals as goal

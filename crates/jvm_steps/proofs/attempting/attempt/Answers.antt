@@ -1,4 +1,4 @@
-use Rattle.std.proofs.Common.{◌≡◌, None, Some, sym, ap, ◌∙◌}
+use Rattle.std.proofs.Common.{None, Some, sym, ap, ◌∙◌}
 use Rattle.jvm_steps.specs.Acts.{attempts_on, awaited_on}
 use Rattle.jvm_steps.specs.Markers.{state_of}
 use Rattle.jvm_steps.proofs.Beneath.{awaits-there, breaks-there, does-there, nothing-there, top-there}

@@ -7,7 +7,7 @@ use Rattle.jvm_steps.proofs.elements.load_element.Goals as goal
 pub returns : goal.returns
 returns c = record {
   state =
-    c.load.ensures.state
-    ∙ is-loaded c.args.originals.now c.args.line.now c.args.kind c.args.parts.now c.in-Some.place.array c.in-Some.place.index c.in-Some-element_at.datum
-    (sym (ap (option_map place_by) c.in-Some.is) ∙ c.place_of.ensures) (sym c.in-Some-element_at.is ∙ c.element_at.ensures);
+      c.load.ensures.state
+      ∙ is-loaded c.args.originals.now c.args.line.now c.args.kind c.args.parts.now c.in-Some.place.array c.in-Some.place.index c.in-Some-element_at.datum
+      (sym (ap (option_map place_by) c.in-Some.is) ∙ c.place_of.ensures) (sym c.in-Some-element_at.is ∙ c.element_at.ensures);
 }

@@ -14,7 +14,7 @@ returns-then-may_begin c =
     let w = c.args.originals.now in
     let s = state_of c.args.markers.now c.args.parts.now in
     let found : initializer_of w.program c.args.class ≡ Some c.in-Some.method =
-        ap (λ p. initializer_of p c.args.class) (sym c.program.ensures.program) ∙ (sym c.initializer_of.ensures ∙ c.in-Some.is) in
+    ap (λ p. initializer_of p c.args.class) (sym c.program.ensures.program) ∙ (sym c.initializer_of.ensures ∙ c.in-Some.is) in
     on_ok_weaker c.begin_initializer.result
     (λ e. e ∙ (ap (λ x. with_frame x (new_frame w (original w.program) c.in-Some.method [])) c.in_ok-mark.ensures.state
     ∙ sym (runs-begun w s c.args.class c.in-Some.method found
@@ -26,7 +26,7 @@ returns-else-may_begin c =
     let w = c.args.originals.now in
     let s = state_of c.args.markers.now c.args.parts.now in
     let found : initializer_of w.program c.args.class ≡ Some c.in-Some.method =
-        ap (λ p. initializer_of p c.args.class) (sym c.program.ensures.program) ∙ (sym c.initializer_of.ensures ∙ c.in-Some.is) in
+    ap (λ p. initializer_of p c.args.class) (sym c.program.ensures.program) ∙ (sym c.initializer_of.ensures ∙ c.in-Some.is) in
     on_ok_weaker c.raise.result
     (λ e. ap (state_of c.mark.new.markers) e ∙ (ap (λ x. raises w x stack_overflow None) c.in_ok-mark.ensures.state
     ∙ sym (runs-over w s c.args.class c.in-Some.method found

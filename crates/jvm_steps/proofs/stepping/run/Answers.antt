@@ -1,4 +1,4 @@
-use Rattle.std.proofs.Common.{◌∙◌, arith}
+use Rattle.std.proofs.Common.{arith}
 use Rattle.jvm_steps.specs.Markers.{state_of}
 use Rattle.jvm_steps.proofs.Leading.{leads-none, leads-on}
 use Rattle.jvm_steps.proofs.stepping.run.Goals as goal

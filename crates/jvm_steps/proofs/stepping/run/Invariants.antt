@@ -1,5 +1,5 @@
 -- so many steps lead to the state
-use Rattle.std.proofs.Common.{◌≡◌, ◌≤◌, ◌-◌}
+use Rattle.std.proofs.Common.{◌≤◌, ◌-◌}
 use Rattle.jvm_steps.specs.Markers.{state_of}
 use Rattle.jvm_steps.specs.Runs.{Leads}
 use Rattle.jvm_steps.proofs.stepping.run.Given as goal

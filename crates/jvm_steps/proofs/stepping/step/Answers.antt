@@ -1,4 +1,4 @@
-use Rattle.std.proofs.Common.{◌≡◌, None, Some, sym, ap, subst, ◌∙◌}
+use Rattle.std.proofs.Common.{◌≡◌, sym, subst, ◌∙◌}
 use Rattle.std.proofs.lemmas.Result.{on_ok_weaker}
 use Rattle.jvm_steps.specs.Acts.{IsAttempt}
 use Rattle.jvm_steps.specs.Markers.{state_of}
@@ -16,7 +16,7 @@ pub step_behind-requires-clause-going : goal.step_behind-requires-clause-going
 step_behind-requires-clause-going c =
     let ms = c.args.markers.now in
     let same : state_of ms c.attempt.new.parts ≡ state_of ms c.args.parts.now =
-        subst (λ o. IsAttempt c.args.originals.now o (state_of ms c.args.parts.now) (state_of ms c.attempt.new.parts)) c.in-Some.is c.in_ok-class.ensures.state in
+    subst (λ o. IsAttempt c.args.originals.now o (state_of ms c.args.parts.now) (state_of ms c.attempt.new.parts)) c.in-Some.is c.in_ok-class.ensures.state in
     goes-there ms c.attempt.new.parts (subst IsGoing (sym same) (going-on ms c.args.parts.now (sym c.goes_on.ensures ∙ c.if-not-goes_on.false)))
 
 pub returns-in-None : goal.returns-in-None

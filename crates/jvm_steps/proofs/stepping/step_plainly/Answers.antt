@@ -1,5 +1,4 @@
-use Rattle.std.proofs.Common.{sym, ap, ◌∙◌}
-use Rattle.std.specs.Prelude.{is_some}
+use Rattle.std.proofs.Common.{sym, ◌∙◌}
 use Rattle.jvm_steps.specs.Markers.{state_of}
 use Rattle.jvm_steps.proofs.Beneath.{not-some}
 use Rattle.jvm_steps.proofs.Leading.{leads-none}
