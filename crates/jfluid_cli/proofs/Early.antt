@@ -1,11 +1,10 @@
 -- Why nothing is made: each refusal before the start, from what the readers say of the contents.
 use Rattle.std.proofs.Common.{◌≡◌, ℕ, ◌<◌, List, length, take, Option, Some, None, refl, sym, ap, subst, ◌∙◌, true, inl, inr, get_or, arith}
 use Rattle.std.proofs.lemmas.Option.{same_Some}
-use Rattle.std.specs.Prelude.{◌⊎◌, map, option_map, slice_get}
+use Rattle.std.specs.Prelude.{map, option_map, slice_get}
 use Rattle.std.proofs.lemmas.List.{length-map, take-map}
 use Rattle.std.proofs.lemmas.Option.{slice_get-map, slice_get_read}
 use Rattle.jf_bytes.specs.Streams.{Told, Rose}
-use Rattle.class_reader.specs.declared.error.ReadError.{ReadError}
 use Rattle.const_pool.specs.declared.class.ClassFile.{ClassFile}
 use Rattle.jvm_model.specs.declared.program.Program.{Program}
 use Rattle.admit_check.specs.declared.error.AdmitError.{AdmitError}
@@ -182,12 +181,15 @@ unfit told k asked fronts deref fronts_are is asks none =
     let have = told-contents told k.files fronts fronts_are in
     let here : HasNoProgram (asked_by k) fronts =
     subst (λ (xs : List (List ℕ)). HasNoProgram (asked_by k) xs) (sym is)
-    (subst (λ (a : Asked). HasNoProgram a deref) (sym asks) none) in
-    (have.contents, have.told_as, λ p root program.
-    (let whole : have.contents ≡ fronts =
-    files-fronts have.contents fronts (classes_for have.contents p) have.fronts_are program.files in
-    here p root
-    (subst (λ (xs : List (List ℕ)). IsProgram (asked_by k) xs p root) whole program)))
+    (subst (λ (a : Asked). HasNoProgram a deref) (sym asks) none) in (
+      have.contents,
+      have.told_as,
+      λ p root program.
+          (let whole : have.contents ≡ fronts =
+          files-fronts have.contents fronts (classes_for have.contents p) have.fronts_are program.files in
+          here p root
+          (subst (λ (xs : List (List ℕ)). IsProgram (asked_by k) xs p root) whole program)),
+    )
 
 -- ---- the count of the files
 

@@ -1,10 +1,10 @@
 -- The classes that contents spell, and the program that they are or are not.
-use Rattle.std.proofs.Common.{◌≡◌, ℕ, List, [], ◌∷◌, length, take, Option, Some, None, Result, Ok, Err, refl, sym, ap, subst, ◌∙◌, ◌<◌, get_or, inl, inr}
-use Rattle.std.specs.Prelude.{◌⊎◌, IfSome}
+use Rattle.std.proofs.Common.{◌≡◌, ℕ, List, [], ◌∷◌, length, take, Option, Some, Result, Ok, Err, refl, sym, ap, subst, ◌∙◌, ◌<◌, get_or, inl, inr}
+use Rattle.std.specs.Prelude.{IfSome}
 use Rattle.std.proofs.lemmas.Option.{slice_get_read}
 use Rattle.const_pool.specs.declared.class.ClassFile.{ClassFile}
 use Rattle.class_reader.specs.declared.error.ReadError.{ReadError}
-use Rattle.class_reader.specs.Files.{IsFile, IsFirstFault}
+use Rattle.class_reader.specs.Files.{IsFile}
 use Rattle.class_reader.proofs.Files.{one_class, no_first_fault}
 use Rattle.jvm_model.specs.declared.program.Program.{Program}
 use Rattle.admit_check.specs.declared.error.AdmitError.{AdmitError}
@@ -40,13 +40,18 @@ pub unread-at : (contents : List (List ℕ)) (classes : List ClassFile) (at : �
     (r : Refusal) → at < length contents → bytes ≡ get_or contents at bytes
     → SpellAlone (take at contents) classes → IsUnread bytes at r → IsReadRefusal contents r
 unread-at contents classes at bytes r within is alone (inl (fault, unread, first)) =
-    inl (at, fault, unread, record {
-      bytes = bytes;
-      there = slice_get_read contents (length contents) at bytes refl within is;
-      first = first;
-      classes = classes;
-      earlier = files-alone (take at contents) classes alone;
-    })
+    inl (
+      at,
+      fault,
+      unread,
+      record {
+        bytes = bytes;
+        there = slice_get_read contents (length contents) at bytes refl within is;
+        first = first;
+        classes = classes;
+        earlier = files-alone (take at contents) classes alone;
+      },
+    )
 unread-at contents classes at bytes r within is alone (inr memory) = inr memory
 
 both : (c d : ClassFile) (cs ds : List ClassFile) → c ≡ d → cs ≡ ds → c ∷ cs ≡ d ∷ ds
@@ -88,7 +93,6 @@ spelled-alone contents classes p alone first =
     subst (SpellAlone contents) (sym (begins contents classes p alone first)) alone
 
 -- ---- no program
-
 
 same-ok : (x y : Program) → ◌≡◌ {A = Result Program AdmitError} (Ok x) (Ok y) → x ≡ y
 same-ok x y e = cc e

@@ -2,7 +2,7 @@
 use Rattle.std.proofs.Common.{◌≡◌, ℕ, List, [], ◌∷◌, Option, Some, None, refl}
 use Rattle.std.specs.Prelude.{codes}
 use Rattle.std.specs.Option.{option_map}
-use Rattle.jfluid_cli.specs.Words.{command_of, file_words}
+use Rattle.jfluid_cli.specs.Words.{command_of}
 
 abbrev files_in : List (List ℕ) → Option (List (List ℕ))
 files_in words = option_map (λ k. k.files) (command_of (codes "jfluid" ∷ codes "A" ∷ words))

@@ -88,12 +88,7 @@ fn read_program(alloc: Global, contents: &[Seq<u8>], asked: &Asked) -> Result<Ad
 // ---- fetching
 
 /// Fetches the class file at a position, or, of a longer one, enough to see that it is too long.
-fn fetch<F: Files>(
-    alloc: Global,
-    at: u32,
-    name: &str,
-    files: &mut F,
-) -> Result<Seq<u8>, Refusal>
+fn fetch<F: Files>(alloc: Global, at: u32, name: &str, files: &mut F) -> Result<Seq<u8>, Refusal>
     ensures found { IfOk result (IsFrontFor (F.contents files.old) name.now) }
     ensures stay { F.contents files.new ≡ F.contents files.old }
     ensures calm { IsOk result → F.faults files.new ≡ F.faults files.old }
