@@ -54,10 +54,7 @@ fn invoke_native(
     ensures objects { OnOk result (AreLoaded linker.now shared.new.heap) }
 {
     if m.class < user_count(linker) {
-        return Ok(Asked::Refused(Refusal::Raises(
-            Exception::UnsatisfiedLink,
-            None,
-        )));
+        return Ok(Asked::Refused(Refusal::Raises(Exception::UnsatisfiedLink, None)));
     }
     run_built_in(alloc, linker, shared, frames, output, m, count, next)
 }
@@ -86,10 +83,7 @@ fn invoke_found(
     ensures objects { OnOk result (AreLoaded linker.now shared.new.heap) }
 {
     if is_abstract(linker.program(), m) {
-        return Ok(Asked::Refused(Refusal::Raises(
-            Exception::AbstractMethod,
-            None,
-        )));
+        return Ok(Asked::Refused(Refusal::Raises(Exception::AbstractMethod, None)));
     }
     match numbers.number(m.class, m.position) {
         Some(number) => Ok(Asked::Invokes(number, count)),
@@ -124,10 +118,7 @@ fn invoke_selected(
         Some(m) => invoke_found(
             alloc, linker, numbers, shared, frames, output, m, count, next,
         ),
-        None => Ok(Asked::Refused(Refusal::Raises(
-            Exception::AbstractMethod,
-            None,
-        ))),
+        None => Ok(Asked::Refused(Refusal::Raises(Exception::AbstractMethod, None))),
     }
 }
 
@@ -201,7 +192,16 @@ pub fn invoke_virtual(
     ensures objects { OnOk result (AreLoaded linker.now shared.new.heap) }
 {
     invoke_instance(
-        alloc, linker, numbers, shared, frames, output, By::Virtual, method, kind, next,
+        alloc,
+        linker,
+        numbers,
+        shared,
+        frames,
+        output,
+        By::Virtual,
+        method,
+        kind,
+        next,
     )
 }
 
@@ -232,7 +232,16 @@ pub fn invoke_interface(
     ensures objects { OnOk result (AreLoaded linker.now shared.new.heap) }
 {
     invoke_instance(
-        alloc, linker, numbers, shared, frames, output, By::OfInterface, method, kind, next,
+        alloc,
+        linker,
+        numbers,
+        shared,
+        frames,
+        output,
+        By::OfInterface,
+        method,
+        kind,
+        next,
     )
 }
 
@@ -271,7 +280,16 @@ pub fn invoke_special(
     ensures objects { OnOk result (AreLoaded linker.now shared.new.heap) }
 {
     invoke_instance(
-        alloc, linker, numbers, shared, frames, output, By::Special(caller, interface), method, kind, next,
+        alloc,
+        linker,
+        numbers,
+        shared,
+        frames,
+        output,
+        By::Special(caller, interface),
+        method,
+        kind,
+        next,
     )
 }
 
