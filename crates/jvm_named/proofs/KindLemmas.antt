@@ -100,6 +100,16 @@ module _ (l : LinkerView) (root : IsLoaded l (user_count l.program)) where
       one_more : (n : ℕ) → (16777216 + n) % 16777216 ≡ n % 16777216
       one_more n = grind (arith)
 
+  -- what an array of at least two dimensions has as elements
+  pub under_usable : (kind : ℕ) → 2 * 16777216 ≤ kind → IsUsable l kind → IsUsable l (kind - 16777216)
+  under_usable kind deep is = record {
+    known = λ class e. is.known class (ap (class_of_base l.program) (same kind deep) ∙ e);
+    of_class = array-class (kind - 16777216) (omega arith);
+  }
+    where
+      same : (n : ℕ) → 2 * 16777216 ≤ n → n % 16777216 ≡ (n - 16777216) % 16777216
+      same n h = grind (arith)
+
 -- an array over one of fewer than 255 dimensions has a number
 pub few_over : (kind dimensions : ℕ) → kind / 16777216 ≡ dimensions → dimensions < 255 → kind + 16777216 < 2 ^ 32
 few_over kind dimensions is few =
