@@ -7,14 +7,14 @@ use Rattle.heap_objects.specs.declared.Value.{Value}
 use Rattle.heap_objects.specs.declared.datum.Datum.TheVariants as datum
 use Rattle.heap_objects.specs.Heaps.{HeapView, new_array, next_number, with_array, with_slot_at}
 use Rattle.heap_objects.specs.declared.Value.TheVariants.{Int, Long, Ref, Addr}
-use Rattle.frame_stack.specs.FrameLists.{FramesView, PlacedFrame, IsSound, AreSound, top_operands, with_frames, without_arguments}
-use Rattle.frame_stack.specs.Widths.{height_of, width}
+use Rattle.frame_stack.specs.FrameLists.{FramesView, PlacedFrame, AreSound, top_operands, with_frames, without_arguments}
+use Rattle.frame_stack.specs.Widths.{height_of}
 use Rattle.jvm_basic.specs.Outcomes.{can_hold}
 use Rattle.jvm_model.specs.CreationRules.{counts_from, counts_of, lengths_of, slots_of_arrays, with_arrays, with_parts}
 use Rattle.jvm_model.specs.KindNumbers.{first_array, user_count}
 use Rattle.class_linker.specs.Linkers.{IsLoaded, LinkerView}
 use Rattle.jvm_model.specs.Data.{Operands, GoesOn, Next}
-use Rattle.jvm_named.specs.Answers.{answer_of, frames_of}
+use Rattle.jvm_named.specs.Answers.{frames_of}
 use Rattle.jvm_named.specs.Arrays.{capped, int_at, lengths_from}
 use Rattle.jvm_named.specs.Objects.{AreLoaded, IsUsable}
 use Rattle.jvm_named.proofs.KindLemmas.{under_usable}

@@ -41,11 +41,7 @@ fn int_below(frames: &Frames, above: u16) -> Option<i32>
 }
 
 /// The ints that are so many topmost operands, the lowest first.
-fn counts_of(
-    alloc: Global,
-    frames: &Frames,
-    dimensions: u8,
-) -> Result<Option<Seq<i32>>, NoMemory>
+fn counts_of(alloc: Global, frames: &Frames, dimensions: u8) -> Result<Option<Seq<i32>>, NoMemory>
     ensures { IfOk result (λ counts. counts
         ≡ counts_of dimensions (top_operands frames.now.frames)) }
 {
@@ -255,10 +251,7 @@ fn make_counts(
     ensures objects { OnOk result (AreLoaded linker.now shared.new.heap) }
 {
     let Some(lengths) = lengths_of(alloc, counts)? else {
-        return Ok(Asked::Refused(Refusal::Raises(
-            Exception::NegativeArraySize,
-            None,
-        )));
+        return Ok(Asked::Refused(Refusal::Raises(Exception::NegativeArraySize, None)));
     };
     let lengths = lengths.as_slice();
     make_lengths(linker, shared, frames, kind, lengths, dimensions, next)
@@ -294,5 +287,7 @@ pub fn make_arrays(
         return Ok(Asked::Refused(Refusal::Breaks));
     };
     let counts = counts.as_slice();
-    make_counts(alloc, linker, shared, frames, kind, counts, dimensions, next)
+    make_counts(
+        alloc, linker, shared, frames, kind, counts, dimensions, next,
+    )
 }
