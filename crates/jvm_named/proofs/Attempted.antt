@@ -1,20 +1,19 @@
 -- What is loaded before an attempt, and what is found.
-use Rattle.std.proofs.Common.{◌≡◌, ℕ, Bool, true, false, List, [], ◌++◌, ap, sym, subst, refl, ◌∙◌}
+use Rattle.std.proofs.Common.{◌≡◌, ℕ, true, false, List, [], ◌++◌, ap, sym, subst, ◌∙◌}
 use Rattle.std.proofs.lemmas.List.{append-nil}
-use Rattle.std.specs.Prelude.{Option, Some, None, Result, Ok, Err, IfOk, drop, length, if◌then◌else◌}
+use Rattle.std.specs.Prelude.{Some, Result, Ok, Err, IfOk, drop, length, if◌then◌else◌}
 use Rattle.frame_stack.specs.FrameLists.{FramesView, top_operands}
 use Rattle.heap_objects.specs.Heaps.{HeapView}
 use Rattle.jvm_basic.specs.Outcomes.{top_locals}
 use Rattle.jvm_model.specs.declared.program.Program.{Program}
 use Rattle.jvm_model.specs.declared.state.Shared.{Shared}
-use Rattle.jvm_model.specs.Data.{Done, Locals, Operands}
+use Rattle.jvm_model.specs.Data.{Operands}
 use Rattle.jvm_model.specs.Load.{load_of}
 use Rattle.jvm_model.specs.Naming.{Naming, Invokespecial, newly_loaded, resolved_kind, resolved_name, resolves, unless_refused}
 use Rattle.jvm_model.specs.NamingRules.{does_named}
 use Rattle.jvm_model.specs.ObjectRules.{done}
-use Rattle.jvm_model.specs.Programs.{class_named}
 use Rattle.jvm_model.proofs.LoadsAgain.{newly-loaded, resolved-again}
-use Rattle.class_linker.specs.Linkers.{IsLoaded, LinkerView}
+use Rattle.class_linker.specs.Linkers.{LinkerView}
 use Rattle.jvm_named.specs.declared.asked.Refusal.{Refusal}
 use Rattle.jvm_named.specs.Answers.{done_on, found_view, refusal_view}
 use Rattle.jvm_named.specs.Attempts.{IsFound, attempts, linker_with}

@@ -1,22 +1,18 @@
 -- Each rule of an instruction that names something is what its resolution is followed by (JVM Specification 5.4.3.1).
-use Rattle.std.proofs.Common.{◌≡◌, ℕ, Bool, true, false, List, ◌++◌, ap, sym, refl, ◌∙◌, arith}
+use Rattle.std.proofs.Common.{◌≡◌, Bool, true, false, refl}
 use Rattle.std.specs.Prelude.{Some, Result, Ok, Err, not, pos, if◌then◌else◌}
-use Rattle.std.specs.Bool.{beq}
 use Rattle.heap_objects.specs.declared.Value.TheVariants.{Int}
 use Rattle.jvm_model.specs.CreationRules.{answers, casts_to}
 use Rattle.jvm_model.specs.declared.program.Program.{Program}
 use Rattle.jvm_model.specs.declared.state.Shared.{Shared}
 use Rattle.jvm_model.specs.Data.{Locals, Operands, Next, Outcome, GoesOn, Done}
-use Rattle.jvm_model.specs.FieldRules.{gets_of, held_of, is_static_field, kind_by, pushes_static, puts_into, putting_of, sets_static}
-use Rattle.jvm_model.specs.InvocationRules.{Selecting, Virtual, OfInterface, Special, arguments_by, invokes_on, invokes_with_static, names_interface}
+use Rattle.jvm_model.specs.FieldRules.{gets_of, held_of, kind_by, pushes_static, puts_into, putting_of, sets_static}
+use Rattle.jvm_model.specs.InvocationRules.{Virtual, OfInterface, Special, arguments_by, invokes_on, invokes_with_static}
 use Rattle.jvm_model.specs.LocalRules.{replaces}
-use Rattle.jvm_model.specs.Lookup.{resolved_field, resolved_method}
-use Rattle.jvm_model.specs.Naming.{◌>>=◌, Naming, New, Getfield, Putfield, Getstatic, Putstatic, Invokevirtual, Invokespecial, Invokestatic, Invokeinterface, Checkcast, Instanceof, Anewarray, Multianewarray, found, is_null, resolved_kind, resolved_name, resolves, unless_refused, where_fitting}
+use Rattle.jvm_model.specs.Naming.{◌>>=◌, Naming, New, Getfield, Putfield, Getstatic, Putstatic, Invokevirtual, Invokespecial, Invokestatic, Invokeinterface, Checkcast, Instanceof, Anewarray, Multianewarray, is_null, resolved_kind, resolved_name, resolves, unless_refused}
 use Rattle.jvm_model.specs.NamingRules.{does_named}
 use Rattle.jvm_model.specs.ObjectRules.{done}
 use Rattle.jvm_model.specs.Rules.{initialized}
-use Rattle.jvm_model.specs.Selection.{is_static}
-use Rattle.jvm_model.specs.SharedState.{class_of_kind}
 use Rattle.jvm_model.specs.Values.{ref_of}
 use Rattle.jvm_named.specs.Resolved.{does_resolved, field_found, method_found, skips}
 

@@ -1,7 +1,7 @@
 -- What methods of built-in classes do to objects, and which of them it is (JVM Specification 2.9, 6.5).
-use Rattle.std.proofs.Common.{◌≡◌, ◌≢◌, ℕ, zero, suc, ◌+◌, ◌-◌, ◌<◌, ◌≤◌, Bool, true, false, List, [], ◌∷◌, ◌++◌, length, drop, cond, set, Option, Some, None, refl, sym, ap, subst, ◌∙◌, arith}
-use Rattle.std.specs.Prelude.{is_some, not, Result, Ok, Err, OnOk, flat_map, slice_get, slice_set, nat_lt, ◌==◌, ◌||◌}
-use Rattle.std.specs.List.{AllByRecursion, list_any}
+use Rattle.std.proofs.Common.{◌≡◌, ◌≢◌, ℕ, zero, suc, ◌+◌, ◌-◌, ◌≤◌, Bool, true, false, List, [], ◌∷◌, length, cond, Option, Some, None, refl, sym, ap, subst, ◌∙◌, arith}
+use Rattle.std.specs.Prelude.{is_some, not, Result, Ok, Err, OnOk, flat_map, slice_get, slice_set, nat_lt, ◌||◌}
+use Rattle.std.specs.List.{AllByRecursion}
 use Rattle.std.specs.Option.{option_and_then, option_map, option_map_or, option_to_list}
 use Rattle.std.proofs.lemmas.Bool.{ltb-false, ne_eqb}
 use Rattle.std.proofs.lemmas.List.{append-nil, drop-drop, set_past}
@@ -25,7 +25,7 @@ use Rattle.jvm_model.specs.Load.{is_among}
 use Rattle.jvm_model.specs.Lookup.{MemberPlace, superclass_of, superclasses_within}
 use Rattle.jvm_model.specs.Naming.{extends}
 use Rattle.jvm_model.specs.ObjectRules.{done}
-use Rattle.jvm_model.specs.Programs.{class_at, name_at, name_of, super_of}
+use Rattle.jvm_model.specs.Programs.{name_of, super_of}
 use Rattle.jvm_model.specs.Rules.{is_println}
 use Rattle.jvm_model.specs.Selection.{signature_of}
 use Rattle.jvm_model.specs.SharedState.{class_of}

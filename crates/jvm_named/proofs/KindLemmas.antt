@@ -1,10 +1,10 @@
 -- The kinds of classes and arrays, and what they are of.
-use Rattle.std.proofs.Common.{◌≡◌, ℕ, zero, suc, ◌+◌, ◌-◌, ◌*◌, ◌<◌, ◌≤◌, Bool, true, false, List, [], ◌∷◌, ap, sym, subst, refl, ◌∙◌, lit<, arith}
+use Rattle.std.proofs.Common.{◌≡◌, ℕ, zero, suc, ◌+◌, ◌-◌, ◌*◌, ◌<◌, ◌≤◌, Bool, true, false, ap, sym, subst, refl, ◌∙◌, lit<, arith}
 use Rattle.std.proofs.lemmas.Nat.{mod-mul-add}
 use Rattle.std.proofs.Math.Nat.{mod-add-div', mod-lt}
-use Rattle.std.specs.Prelude.{length, Option, Some, None, nat_lt, unwrap_or, ◌==◌, ◌/◌, ◌%◌, ◌^◌, if◌then◌else◌}
+use Rattle.std.specs.Prelude.{length, Option, Some, None, nat_lt, unwrap_or, ◌/◌, ◌%◌, ◌^◌, if◌then◌else◌}
 use Rattle.jvm_model.specs.declared.program.Program.{Program}
-use Rattle.jvm_model.specs.KindNumbers.{base_of_class, class_of_base, first_array, user_count}
+use Rattle.jvm_model.specs.KindNumbers.{base_of_class, class_of_base, user_count}
 use Rattle.jvm_model.specs.SharedState.{class_of_kind}
 use Rattle.class_linker.specs.Linkers.{IsLoaded, LinkerView}
 use Rattle.jvm_named.specs.Objects.{IsUsable}
@@ -99,6 +99,16 @@ module _ (l : LinkerView) (root : IsLoaded l (user_count l.program)) where
     where
       one_more : (n : ℕ) → (16777216 + n) % 16777216 ≡ n % 16777216
       one_more n = grind (arith)
+
+  -- what an array of at least two dimensions has as elements
+  pub under_usable : (kind : ℕ) → 2 * 16777216 ≤ kind → IsUsable l kind → IsUsable l (kind - 16777216)
+  under_usable kind deep is = record {
+    known = λ class e. is.known class (ap (class_of_base l.program) (same kind deep) ∙ e);
+    of_class = array-class (kind - 16777216) (omega arith);
+  }
+    where
+      same : (n : ℕ) → 2 * 16777216 ≤ n → n % 16777216 ≡ (n - 16777216) % 16777216
+      same n h = grind (arith)
 
 -- an array over one of fewer than 255 dimensions has a number
 pub few_over : (kind dimensions : ℕ) → kind / 16777216 ≡ dimensions → dimensions < 255 → kind + 16777216 < 2 ^ 32

@@ -12,3 +12,4 @@ mod Slots
 mod Quiet
 mod Carried
 mod Attempted
+mod ArraysMade

@@ -1,12 +1,12 @@
 -- A load without a fault (JVM Specification 5.3): the name stands for a kind, whose class is loaded then.
-use Rattle.std.proofs.Common.{◌≡◌, ℕ, zero, suc, ◌+◌, ◌*◌, ◌<◌, ◌≤◌, Bool, true, false, List, [], ◌∷◌, ◌++◌, ap, sym, subst, refl, ◌∙◌, lit<, arith}
+use Rattle.std.proofs.Common.{◌≡◌, ℕ, zero, suc, ◌+◌, ◌*◌, ◌<◌, ◌≤◌, Bool, true, false, List, [], ◌∷◌, ◌++◌, ap, subst, refl, lit<, arith}
 use Rattle.std.proofs.lemmas.Nat.{div-mul-add}
-use Rattle.std.specs.Prelude.{◌/◌, length, drop, Option, Some, None, position, nat_le, nat_lt, unwrap_or, not, ◌==◌, ◌||◌, ◌&&◌, if◌then◌else◌}
+use Rattle.std.specs.Prelude.{◌/◌, length, Option, Some, None, position, nat_le, nat_lt, unwrap_or, not, ◌==◌, ◌||◌, ◌&&◌, if◌then◌else◌}
 use Rattle.std.specs.List.{position_or_len}
 use Rattle.std.specs.Option.{option_map}
 use Rattle.jvm_model.specs.declared.program.Program.{Program}
-use Rattle.jvm_model.specs.KindNumbers.{base_of_class, class_of_base, kind_number, user_count}
-use Rattle.jvm_model.specs.Kinds.{Element, Primitive, Named, Meaning, array_from, array_of, base_of_element, before_semicolon, element_of, is_array_name, kind_named, meaning_of, parts_named, primitive_code}
+use Rattle.jvm_model.specs.KindNumbers.{base_of_class, kind_number, user_count}
+use Rattle.jvm_model.specs.Kinds.{Element, Primitive, Named, Meaning, array_from, array_of, before_semicolon, element_of, kind_named, meaning_of, parts_named, primitive_code}
 use Rattle.jvm_model.specs.Load.{Fault, NoClass, Circular, Loading, There, Begun, Fresh, behind_needs, by_standing, done, is_among, load_element, load_named, load_needs, load_of, needs_of, standing_of, unless}
 use Rattle.jvm_model.specs.Programs.{class_named, has_name}
 use Rattle.class_linker.specs.Linkers.{IsLoaded, LinkerView}
@@ -193,19 +193,23 @@ module _ (l : LinkerView) (few : length l.program.classes ≤ 4149) (root : IsLo
       → (kind : ℕ) × (option_map kind_number (parts_named l.program (record { dimensions = dimensions; element = Named own })) ≡ Some kind) × IsUsable l kind
       × (kind / 16777216 ≡ dimensions)
   of-named dimensions own (class, found, there) =
-      let within : class < length l.program.classes = named-class (has_name own) l.program.classes class found in
-      (dimensions * 16777216 + base_of_class l.program class,
-      ap (λ o. option_map kind_number (option_map (λ base. record { dimensions = dimensions; base = base }) (option_map (base_of_class l.program) o))) found,
-      of-class l root dimensions (base_of_class l.program class) class (base-below l.program class within few) (class-back l.program class within few) there,
-      div-mul-add dimensions 16777216 (base_of_class l.program class) (base-below l.program class within few))
+      let within : class < length l.program.classes = named-class (has_name own) l.program.classes class found in (
+        dimensions * 16777216 + base_of_class l.program class,
+        ap (λ o. option_map kind_number (option_map (λ base. record { dimensions = dimensions; base = base }) (option_map (base_of_class l.program) o))) found,
+        of-class l root dimensions (base_of_class l.program class) class (base-below l.program class within few) (class-back l.program class within few) there,
+        div-mul-add dimensions 16777216 (base_of_class l.program class) (base-below l.program class within few),
+      )
 
   by-meaning : (dimensions : ℕ) (e : Element) (fault : Option Fault)
       → IsMeaning (record { dimensions = dimensions; element = e }) → Loads l.program e (record { loaded = l.loaded; fault = fault })
       → (kind : ℕ) × (option_map kind_number (parts_named l.program (record { dimensions = dimensions; element = e })) ≡ Some kind) × IsUsable l kind
       × (kind / 16777216 ≡ dimensions)
-  by-meaning dimensions (Primitive code) fault is loads =
-      (dimensions * 16777216 + code, refl, of-primitive l root dimensions code (is.deep code refl) (is.small code refl),
-      div-mul-add dimensions 16777216 code (let small : code < 16 = is.small code refl in omega arith))
+  by-meaning dimensions (Primitive code) fault is loads = (
+    dimensions * 16777216 + code,
+    refl,
+    of-primitive l root dimensions code (is.deep code refl) (is.small code refl),
+    div-mul-add dimensions 16777216 code (let small : code < 16 = is.small code refl in omega arith),
+  )
   by-meaning dimensions (Named own) fault is loads = of-named dimensions own (loads.class own refl)
 
 -- the name of a load without a fault stands for a kind, whose class is loaded then

@@ -1,7 +1,7 @@
 -- The rows of numbers give what a walk over the program's methods gives.
 use Rattle.std.proofs.Common.{◌≡◌, ℕ, zero, suc, ◌+◌, ◌<◌, Bool, true, false, List, [], ◌∷◌, ◌++◌, Option, Some, None, refl, sym, ap, ◌∙◌, cond, zero-add, arith}
 use Rattle.std.specs.Prelude.{is_some, slice_get, ◌==◌, ◌&&◌}
-use Rattle.std.specs.Option.{option_and_then, option_flatten}
+use Rattle.std.specs.Option.{option_flatten}
 use Rattle.std.proofs.lemmas.Bool.{eq-eqb, ne_eqb}
 use Rattle.std.proofs.Math.Nat.{add-zero}
 use Rattle.const_pool.specs.declared.class.ClassFile.{ClassFile}
@@ -9,7 +9,7 @@ use Rattle.const_pool.specs.declared.class.Member.{Member}
 use Rattle.jvm_model.specs.declared.program.MethodPlace.{MethodPlace}
 use Rattle.jvm_model.specs.declared.program.Program.{Program}
 use Rattle.jvm_model.specs.Methods.{code_of}
-use Rattle.jvm_model.specs.Programs.{coded_from, number_from, number_of_method, numbered, numbered_from, same_place}
+use Rattle.jvm_model.specs.Programs.{coded_from, number_from, numbered, numbered_from}
 use Rattle.jvm_named.specs.Numbers.{AreNumbers, Row, coded, number_in, row_from, rows_from}
 
 abbrev place : ℕ → ℕ → MethodPlace

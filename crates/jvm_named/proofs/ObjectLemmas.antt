@@ -1,14 +1,14 @@
 -- The classes of a heap's objects stay loaded, and those of new objects are.
-use Rattle.std.proofs.Common.{◌≡◌, ℕ, zero, suc, ◌-◌, Bool, true, false, List, [], ◌∷◌, ◌++◌, ap, sym, subst, refl, ◌∙◌, arith}
-use Rattle.std.specs.Prelude.{length, Option, Some, None, slice_get, ◌==◌, ◌||◌, if◌then◌else◌}
+use Rattle.std.proofs.Common.{◌≡◌, ℕ, zero, suc, ◌-◌, Bool, true, false, List, [], ◌∷◌, ◌++◌, sym, subst, refl}
+use Rattle.std.specs.Prelude.{Some, None, slice_get, ◌==◌, ◌||◌, if◌then◌else◌}
 use Rattle.std.specs.List.{AllByRecursion}
 use Rattle.std.specs.Option.{option_map}
 use Rattle.heap_objects.specs.declared.datum.Datum.{Datum}
 use Rattle.heap_objects.specs.declared.object.Object.{Object}
 use Rattle.heap_objects.specs.declared.object.Object.TheVariants.{Instance, Array, Text}
 use Rattle.heap_objects.specs.Heaps.{HeapView, kind_at, with_object, with_slot_at}
-use Rattle.heap_objects.specs.Objects.{changed_at, kind_of, object_at, with_slot}
-use Rattle.jvm_model.specs.KindNumbers.{class_of_base, user_count}
+use Rattle.heap_objects.specs.Objects.{changed_at, kind_of, with_slot}
+use Rattle.jvm_model.specs.KindNumbers.{user_count}
 use Rattle.jvm_model.specs.Load.{is_among}
 use Rattle.jvm_model.specs.SharedState.{class_of_kind}
 use Rattle.class_linker.specs.Linkers.{IsLoaded, LinkerView}

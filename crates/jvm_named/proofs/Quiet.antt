@@ -11,11 +11,11 @@ use Rattle.jvm_model.specs.declared.state.Phase.{Phase}
 use Rattle.jvm_model.specs.declared.state.Phase.TheVariants.{Fresh, Running, Ready, Erroneous}
 use Rattle.heap_objects.specs.declared.datum.Datum.{Datum}
 use Rattle.jvm_model.specs.Data.{Locals, Operands, Outcome, Raises, Done}
-use Rattle.jvm_model.specs.FieldRules.{Putting, gets_of, kind_by, held_of, puts_into, putting_of, pushes_static, sets_static}
+use Rattle.jvm_model.specs.FieldRules.{Putting, gets_of, kind_by, held_of, puts_into, putting_of, sets_static}
 use Rattle.jvm_model.specs.Lookup.{MemberPlace}
-use Rattle.jvm_model.specs.Naming.{Naming, unless_refused}
-use Rattle.jvm_model.specs.ObjectRules.{done, makes, makes_array}
-use Rattle.jvm_model.specs.Rules.{initialized, when_ready}
+use Rattle.jvm_model.specs.Naming.{unless_refused}
+use Rattle.jvm_model.specs.ObjectRules.{done, makes}
+use Rattle.jvm_model.specs.Rules.{when_ready}
 use Rattle.jvm_model.specs.SharedState.{class_of_kind, phase_of}
 use Rattle.jvm_model.specs.Values.{int_of, ref_of}
 use Rattle.const_pool.specs.References.{Reference}

@@ -1,15 +1,13 @@
 -- What the linker's answer to a load says of the resolution (JVM Specification 5.4.3.1).
-use Rattle.std.proofs.Common.{◌≡◌, ℕ, ◌≤◌, Bool, true, false, List, [], ◌∷◌, ◌++◌, ap, sym, subst, refl, ◌∙◌, arith}
-use Rattle.std.specs.Prelude.{◌/◌, length, drop, Option, Some, None, Result, Ok, Err, unwrap_or}
-use Rattle.std.proofs.lemmas.List.{append-nil}
-use Rattle.class_linker.specs.declared.answers.Loaded.{Loaded}
-use Rattle.class_linker.specs.declared.answers.Loaded.TheVariants.{New, Already, Throws, NoMemory}
-use Rattle.class_linker.specs.Linkers.{IsLoaded, LinkerView, absent_name, answer_by, answer_of, error_number, loaded_as}
+use Rattle.std.proofs.Common.{◌≡◌, ℕ, ◌≤◌, true, List, [], ◌∷◌, ◌++◌, ap, sym, subst, refl, ◌∙◌}
+use Rattle.std.specs.Prelude.{◌/◌, length, drop, Option, Some, None, Ok, Err, unwrap_or}
+use Rattle.class_linker.specs.declared.answers.Loaded.TheVariants.{New, Already, Throws}
+use Rattle.class_linker.specs.Linkers.{absent_name, answer_by, answer_of, error_number}
 use Rattle.jvm_model.specs.declared.program.Program.{Program}
-use Rattle.jvm_model.specs.Data.{Outcome, Raises}
+use Rattle.jvm_model.specs.Data.{Raises}
 use Rattle.jvm_model.specs.KindNumbers.{user_count}
 use Rattle.jvm_model.specs.Kinds.{kind_named, meaning_of}
-use Rattle.jvm_model.specs.Load.{Fault, NoClass, Circular, Incompatible, Loading, error_of, is_among, load_of}
+use Rattle.jvm_model.specs.Load.{Fault, NoClass, Circular, Incompatible, error_of, is_among, load_of}
 use Rattle.jvm_model.specs.Naming.{New as NewNaming, kind_unless, message_of, resolved_kind}
 use Rattle.jvm_model.proofs.LoadsAgain.{newly-loaded}
 use Rattle.jvm_named.specs.Answers.{exception_name, exception_numbered}
@@ -51,10 +49,11 @@ already-by (Some fault) k kind classes e =
 
 new-by : (o : Option Fault) (k kind : ℕ) (given classes : List ℕ) → New kind given ≡ answer_by o k classes → (o ≡ None) × (k ≡ kind) × (classes ≡ given)
 new-by None k kind given [] e = absurd (let no : New kind given ≡ Already k → ⊥ = λ e. cc in no e)
-new-by None k kind given (class ∷ more) e =
-    (refl,
-    (let same : New kind given ≡ New k (class ∷ more) → k ≡ kind = λ e. cc in same e),
-    (let same : New kind given ≡ New k (class ∷ more) → class ∷ more ≡ given = λ e. cc in same e))
+new-by None k kind given (class ∷ more) e = (
+  refl,
+  (let same : New kind given ≡ New k (class ∷ more) → k ≡ kind = λ e. cc in same e),
+  (let same : New kind given ≡ New k (class ∷ more) → class ∷ more ≡ given = λ e. cc in same e),
+)
 new-by (Some fault) k kind given classes e =
     absurd (let no : New kind given ≡ Throws (error_number (error_of fault)) classes (absent_name fault) → ⊥ = λ e. cc in no e)
 
@@ -63,11 +62,13 @@ stopped-by : (o : Option Fault) (k number : ℕ) (given classes : List ℕ) (mes
 stopped-by None k number given [] message e = absurd (let no : Throws number given message ≡ Already k → ⊥ = λ e. cc in no e)
 stopped-by None k number given (class ∷ more) message e =
     absurd (let no : Throws number given message ≡ New k (class ∷ more) → ⊥ = λ e. cc in no e)
-stopped-by (Some fault) k number given classes message e =
-    (fault, refl,
-    (let same : Throws number given message ≡ Throws (error_number (error_of fault)) classes (absent_name fault) → error_number (error_of fault) ≡ number = λ e. cc in same e),
-    (let same : Throws number given message ≡ Throws (error_number (error_of fault)) classes (absent_name fault) → absent_name fault ≡ message = λ e. cc in same e),
-    (let same : Throws number given message ≡ Throws (error_number (error_of fault)) classes (absent_name fault) → classes ≡ given = λ e. cc in same e))
+stopped-by (Some fault) k number given classes message e = (
+  fault,
+  refl,
+  (let same : Throws number given message ≡ Throws (error_number (error_of fault)) classes (absent_name fault) → error_number (error_of fault) ≡ number = λ e. cc in same e),
+  (let same : Throws number given message ≡ Throws (error_number (error_of fault)) classes (absent_name fault) → absent_name fault ≡ message = λ e. cc in same e),
+  (let same : Throws number given message ≡ Throws (error_number (error_of fault)) classes (absent_name fault) → classes ≡ given = λ e. cc in same e),
+)
 
 -- ---- what was found
 

@@ -1,5 +1,5 @@
 -- The rules of invocations by the target that is found before anything is changed (JVM Specification 6.5).
-use Rattle.std.proofs.Common.{◌≡◌, ℕ, ◌≤◌, Bool, List, length, drop, take, map, min, Option, Some, None, refl, sym, ap, subst, ◌∙◌, arith}
+use Rattle.std.proofs.Common.{◌≡◌, ℕ, ◌≤◌, List, length, drop, take, min, Option, Some, None, refl, sym, ap, subst, ◌∙◌, arith}
 use Rattle.std.specs.Prelude.{false, true, reverse, Result, Ok, Err}
 use Rattle.std.specs.Option.{option_map}
 use Rattle.std.proofs.lemmas.List.{append-nil, length-map, length-reverse, length-take}
@@ -11,7 +11,7 @@ use Rattle.jvm_model.specs.declared.program.Program.{Program}
 use Rattle.jvm_model.specs.declared.state.Phase.{Phase}
 use Rattle.jvm_model.specs.declared.state.Phase.TheVariants.{Fresh, Running, Ready, Erroneous}
 use Rattle.jvm_model.specs.declared.state.Shared.{Shared}
-use Rattle.jvm_model.specs.Data.{Locals, Operands, Outcome, Breaks, Done}
+use Rattle.jvm_model.specs.Data.{Locals, Operands, Outcome, Done}
 use Rattle.jvm_model.specs.InvocationRules.{Selecting, arguments_by, invokes_on, invokes_selected, invokes_with_static, names_interface, not_of_class, receiver_in, selected_by}
 use Rattle.jvm_model.specs.Lookup.{MemberPlace}
 use Rattle.jvm_model.specs.Naming.{◌>>=◌, is_instance, present, receiver, unless_refused}

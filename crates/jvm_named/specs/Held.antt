@@ -1,5 +1,5 @@
 -- The constant of a field as the code has it, and the static fields of all classes with one of them set.
-use Rattle.std.specs.Prelude.{◌≡◌, ℕ, Bool, List, Option, Result, OnOk, IfOk, slice_get, slice_set}
+use Rattle.std.specs.Prelude.{◌≡◌, ℕ, List, Option, Result, IfOk, slice_get, slice_set}
 use Rattle.std.specs.Option.{option_map_or}
 use Rattle.jvm_model.specs.Constants as model
 use Rattle.heap_objects.specs.declared.datum.Datum.{Datum}

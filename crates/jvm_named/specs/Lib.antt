@@ -10,3 +10,4 @@ pub mod Fields
 pub mod Targets
 pub mod Does
 pub mod BuiltInCalls
+pub mod Arrays

@@ -66,10 +66,7 @@ fn make_counted(
         return Ok(Asked::Refused(Refusal::Breaks));
     };
     if count < 0 {
-        return Ok(Asked::Refused(Refusal::Raises(
-            Exception::NegativeArraySize,
-            None,
-        )));
+        return Ok(Asked::Refused(Refusal::Raises(Exception::NegativeArraySize, None)));
     }
     make_array(linker, shared, frames, kind, count as u32, next)
 }

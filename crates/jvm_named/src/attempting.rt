@@ -182,5 +182,7 @@ pub fn attempt(
     ensures objects { OnOk result (AreLoaded linker.new shared.new.heap) }
 {
     let found = find(linker, &mut shared.loaded, frames, naming)?;
-    do_found(alloc, linker, numbers, shared, frames, output, naming, found, next)
+    do_found(
+        alloc, linker, numbers, shared, frames, output, naming, found, next,
+    )
 }

@@ -141,10 +141,7 @@ fn make_instance(
     ensures objects { OnOk result (AreLoaded linker.now shared.new.heap) }
 {
     if has_no_instances(linker, class) {
-        return Ok(Asked::Refused(Refusal::Raises(
-            Exception::Instantiation,
-            None,
-        )));
+        return Ok(Asked::Refused(Refusal::Raises(Exception::Instantiation, None)));
     }
     if is_text_class(linker, class) {
         return make_text(linker, shared, frames, kind, next);

@@ -62,16 +62,22 @@ pub fn do_resolved(
         Naming::Getstatic(member) => get_static(alloc, linker, shared, frames, member, kind, next),
         Naming::Putstatic(member) => put_static(alloc, linker, shared, frames, member, kind, next),
         Naming::Invokevirtual(method) => {
-            invoke_virtual(alloc, linker, numbers, shared, frames, output, method, kind, next)
+            invoke_virtual(
+                alloc, linker, numbers, shared, frames, output, method, kind, next,
+            )
         }
         Naming::Invokespecial(caller, method, interface) => invoke_special(
             alloc, linker, numbers, shared, frames, output, caller, *interface, method, kind, next,
         ),
         Naming::Invokestatic(method) => {
-            invoke_static(alloc, linker, numbers, shared, frames, output, method, kind, next)
+            invoke_static(
+                alloc, linker, numbers, shared, frames, output, method, kind, next,
+            )
         }
         Naming::Invokeinterface(method) => {
-            invoke_interface(alloc, linker, numbers, shared, frames, output, method, kind, next)
+            invoke_interface(
+                alloc, linker, numbers, shared, frames, output, method, kind, next,
+            )
         }
         Naming::Checkcast(name) => Ok(cast(linker, shared, frames, name, kind, next)),
         Naming::Instanceof(name) => Ok(tell_instance(linker, shared, frames, name, kind, next)),

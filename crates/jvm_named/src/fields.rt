@@ -96,13 +96,7 @@ fn slot_of(linker: &Linker, lower: u32, field: Place) -> Option<u32>
 }
 
 /// The class of an object, where it is of the kind that an instruction names and has the field.
-fn owner_class(
-    linker: &Linker,
-    heap: &Heap,
-    kind: u32,
-    field: Place,
-    object: u32,
-) -> Option<u32>
+fn owner_class(linker: &Linker, heap: &Heap, kind: u32, field: Place, object: u32) -> Option<u32>
     requires { AreLoaded linker.now heap.now }
     ensures has { is_some result
         ≡ has_field_at linker.now.program (kind_at object heap.now) kind field.class }

@@ -62,9 +62,6 @@ pub fn field_found(
     if is_static_field(linker, m) == is_static {
         Ok(m)
     } else {
-        Err(Refusal::Raises(
-            Exception::IncompatibleClassChange,
-            None,
-        ))
+        Err(Refusal::Raises(Exception::IncompatibleClassChange, None))
     }
 }

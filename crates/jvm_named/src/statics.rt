@@ -42,16 +42,10 @@ pub fn raise_unusable(alloc: Global, linker: &Linker, class: u32) -> Result<Aske
         ≡ Stops (Raises no_class_definition (name_at linker.now.program class))) }
 {
     let Some(name) = name_at(linker, class) else {
-        return Ok(Asked::Refused(Refusal::Raises(
-            Exception::NoClassDefinition,
-            None,
-        )));
+        return Ok(Asked::Refused(Refusal::Raises(Exception::NoClassDefinition, None)));
     };
     let units = Vec::from_slice(alloc, name.units())?;
-    Ok(Asked::Refused(Refusal::Raises(
-        Exception::NoClassDefinition,
-        Some(Text16::new(units)),
-    )))
+    Ok(Asked::Refused(Refusal::Raises(Exception::NoClassDefinition, Some(Text16::new(units)))))
 }
 
 // ---- getstatic

@@ -1,4 +1,4 @@
-use Rattle.std.proofs.Common.{◌≡◌, ℕ, List, Option, Some, None, true, false, ap, sym, ◌∙◌, arith}
+use Rattle.std.proofs.Common.{arith}
 use Rattle.jvm_named.proofs.BuiltInLemmas.{no-text, none-by}
 use Rattle.jvm_named.proofs.built_in.clear_text.Goals as goal
 

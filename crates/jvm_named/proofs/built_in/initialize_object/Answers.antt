@@ -1,5 +1,5 @@
-use Rattle.std.proofs.Common.{[], sym, ap, subst, ◌∙◌}
-use Rattle.heap_objects.specs.Heaps.{with_slot_at, with_units_replaced}
+use Rattle.std.proofs.Common.{[], sym, subst}
+use Rattle.heap_objects.specs.Heaps.{with_units_replaced}
 use Rattle.jvm_model.specs.SharedState.{null}
 use Rattle.jvm_named.specs.Objects.{AreLoaded}
 use Rattle.jvm_named.proofs.BuiltInLemmas.{objects-units, on-ok}

@@ -1,11 +1,11 @@
 use Rattle.std.proofs.Common.{sym, subst, ap, ◌∙◌, drop, length, arith}
 use Rattle.frame_stack.specs.FrameLists.{top_operands}
 use Rattle.jvm_basic.specs.Outcomes.{top_locals}
-use Rattle.jvm_model.specs.InvocationRules.{receiver_in, reference_to}
+use Rattle.jvm_model.specs.InvocationRules.{reference_to}
 use Rattle.jvm_model.specs.Naming.{extends}
 use Rattle.heap_objects.specs.Heaps.{kind_at}
 use Rattle.jvm_named.specs.Objects.{class_at_kind}
-use Rattle.jvm_named.specs.Does.{Does, IsDone, changed}
+use Rattle.jvm_named.specs.Does.{Does, changed}
 use Rattle.jvm_named.specs.Members.{at_place}
 use Rattle.jvm_named.specs.Targets.{data_in}
 use Rattle.jvm_named.proofs.BuiltInLemmas.{breaks, runs-known, runs-nothing}

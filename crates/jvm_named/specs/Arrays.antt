@@ -1,0 +1,18 @@
+-- How multianewarray reads its operands and counts slots.
+use Rattle.std.specs.Prelude.{ℕ, List, [], ◌∷◌, ◌++◌, Option, Some, None, ℤ, pos, negsuc, nat_lt, if◌then◌else◌}
+use Rattle.heap_objects.specs.declared.Value.{Value}
+use Rattle.heap_objects.specs.declared.Value.TheVariants.{Int}
+
+abbrev pub int_at : Option Value → Option ℤ
+int_at (Some (Int n)) = Some n
+int_at _ = None
+
+-- the lengths so far, with those that are left, where none is negative
+abbrev pub lengths_from : List ℕ → List ℤ → Option (List ℕ)
+lengths_from out [] = Some out
+lengths_from out (pos n ∷ more) = lengths_from (out ++ n ∷ []) more
+lengths_from out (negsuc n ∷ more) = None
+
+-- a number, or the greatest that an index can be where it is greater
+abbrev pub capped : ℕ → ℕ
+capped n = if nat_lt n 18446744073709551616 then n else 18446744073709551615
