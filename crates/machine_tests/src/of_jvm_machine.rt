@@ -1,6 +1,6 @@
 //! Machines whose heap has fewer slots than a silent plan's.
 
-ghost use Rattle.std.specs.Prelude.{◌<◌, ◌^◌, length, IfSome};
+ghost use Rattle.std.specs.Prelude.{◌≡◌, ◌<◌, ◌∷◌, ◌^◌, [], length, IfOk, IfSome};
 ghost use Rattle.const_pool.specs.ClassFile.{IsClassFile};
 ghost use Rattle.small_program.specs.Runnable.{IsRunnable, IsUsual};
 
@@ -60,6 +60,15 @@ fn class_with(alloc: Global, code: &[u8]) -> Option<ClassFile>
     read_class(alloc, bytes.as_slice()).ok()
 }
 
+/// The class as a list.
+fn alone(alloc: Global, class: ClassFile) -> Result<Seq<ClassFile>, NoMemory>
+    ensures { IfOk result (λ classes. classes ≡ class ∷ []) }
+{
+    let mut classes = Seq::with_capacity(alloc, 1)?;
+    classes.push(class)?;
+    Ok(classes)
+}
+
 /// A plan that asks for a heap of 1,024 slots.
 fn plan(alloc: Global) -> Plan
     ensures actions { length result.actions < 2 ^ 32 }
@@ -77,10 +86,10 @@ fn plan(alloc: Global) -> Plan
 fn admitted(alloc: Global, code: &[u8]) -> Option<Admitted>
     ensures { IfSome result (λ a. IsRunnable a.program a.root) }
 {
-    let class = class_with(alloc, code)?;
+    let classes = alone(alloc, class_with(alloc, code)?).ok()?;
     let main = Text16::new(Vec::from_slice(alloc, &[72]).ok()?);
     let plan = plan(alloc);
-    admit(alloc, class, &main, &plan).ok()
+    admit(alloc, classes, &main, &plan).ok()
 }
 
 /// The machine of H with this code.
