@@ -19,8 +19,8 @@ use Rattle.jvm_model.specs.Naming.{◌>>=◌, is_instance, present, receiver, un
 use Rattle.jvm_model.specs.Programs.{class_named, name_at}
 use Rattle.jvm_model.specs.SharedState.{no_class_definition, phase_of}
 use Rattle.class_linker.specs.Linkers.{IsLoaded, LinkerView}
-use Rattle.jvm_named.specs.declared.targets.By.{By}
-use Rattle.jvm_named.specs.declared.targets.By.TheVariants as by
+use Rattle.jvm_named.specs.declared.targets.Selecting.{Selecting as Chosen}
+use Rattle.jvm_named.specs.declared.targets.Selecting.TheVariants as chosen
 use Rattle.jvm_named.specs.declared.targets.Target.{Target as TheTarget}
 use Rattle.jvm_named.specs.Objects.{class_at_kind}
 use Rattle.jvm_named.specs.declared.asked.Refusal.{Refusal}
@@ -64,10 +64,10 @@ pub record Target : Type 0 where
 abbrev pub target_in : Operands → TheTarget → Target
 target_in o t = record { selected = option_map at_place t.selected; args = data_in t.count o }
 
-abbrev pub by_view : By → Selecting
-by_view by.Virtual = Virtual
-by_view by.OfInterface = OfInterface
-by_view (by.Special caller interface) = Special caller.now interface
+abbrev pub selecting_view : Chosen → Selecting
+selecting_view chosen.Virtual = Virtual
+selecting_view chosen.OfInterface = OfInterface
+selecting_view (chosen.Special caller interface) = Special caller.now interface
 
 -- the class in which an invokespecial stands is loaded
 abbrev pub HasCaller : LinkerView → Selecting → Type 0

@@ -153,7 +153,7 @@ fn is_throwable(linker: &Linker, class: u32) -> bool
     }
 }
 
-/// A text has no units then. The definition takes null as object 1 here.
+/// A text has no units then. The definition takes null as object 1, which no program comes to: `<init>` has a receiver.
 fn clear_text(alloc: Global, heap: &mut Heap, object: u32) -> Result<(), NoMemory>
     ensures { OnOk result (heap.new ≡ with_units_replaced object [] heap.old) }
 {

@@ -15,7 +15,7 @@ ghost use Rattle.jvm_named.specs.Numbers.{AreNumbers};
 ghost use Rattle.jvm_named.specs.Objects.{AreLoaded, HasLoadedCaller, IsResolved};
 ghost use Rattle.jvm_named.specs.Members.{at_place};
 ghost use Rattle.jvm_named.specs.Resolved.{invokes_instance, invokes_static_method};
-ghost use Rattle.jvm_named.specs.Targets.{HasCaller, by_view, data_in};
+ghost use Rattle.jvm_named.specs.Targets.{HasCaller, selecting_view, data_in};
 
 use crate::asked::{Asked, Exception, Refusal};
 use crate::built_in::run_built_in;
@@ -23,7 +23,7 @@ use crate::instances::user_count;
 use crate::naming::MethodName;
 use crate::numbers::MethodNumbers;
 use crate::place::Place;
-use crate::targets::{By, instance_target, is_abstract, static_target};
+use crate::targets::{Selecting, instance_target, is_abstract, static_target};
 use class_linker::Linker;
 use frame_stack::Frames;
 use jf_bytes::{NoMemory, Seq, Text16};
@@ -132,18 +132,18 @@ fn invoke_instance(
     shared: &mut Shared,
     frames: &mut Frames,
     output: &mut Seq<u8>,
-    by: By<'_>,
+    by: Selecting<'_>,
     method: &MethodName,
     kind: u32,
     next: u16,
 ) -> Result<Asked, NoMemory>
     requires resolved { IsResolved linker.now method.now.class kind }
-    requires caller { HasCaller linker.now (by_view by) }
+    requires caller { HasCaller linker.now (selecting_view by) }
     requires numbers { AreNumbers linker.now.program numbers.now }
     requires built_in { HasBuiltIn linker.now }
     requires objects { AreLoaded linker.now shared.old.heap }
     ensures done { let fs = frames.old.frames in
-        let rule = invokes_instance linker.now.program kind (by_view by.entry) method.now
+        let rule = invokes_instance linker.now.program kind (selecting_view by.entry) method.now
         shared.old (top_locals fs) (top_operands fs) in
         Does result rule next (changed frames.old shared.old output.old)
         (changed frames.new shared.new output.new) }
@@ -198,7 +198,7 @@ pub fn invoke_virtual(
         shared,
         frames,
         output,
-        By::Virtual,
+        Selecting::Virtual,
         method,
         kind,
         next,
@@ -224,7 +224,8 @@ pub fn invoke_interface(
     ensures answer { Answers result
         (invokes_instance linker.now.program kind OfInterface method.now shared.old) frames.old }
     ensures frames { Moves result frames.new
-        (invokes_instance linker.now.program kind OfInterface method.now shared.old) next frames.old }
+        (invokes_instance linker.now.program kind OfInterface method.now shared.old) next
+        frames.old }
     ensures shared { Shares result shared.new
         (invokes_instance linker.now.program kind OfInterface method.now shared.old) frames.old }
     ensures output { OnOk result (output.new ≡ output.old ++ wrote_by
@@ -238,7 +239,7 @@ pub fn invoke_interface(
         shared,
         frames,
         output,
-        By::OfInterface,
+        Selecting::OfInterface,
         method,
         kind,
         next,
@@ -286,7 +287,7 @@ pub fn invoke_special(
         shared,
         frames,
         output,
-        By::Special(caller, interface),
+        Selecting::Special(caller, interface),
         method,
         kind,
         next,

@@ -21,7 +21,7 @@ fn is_of_kind(kind: Kind, value: Value) -> bool
 }
 
 /// Whether the topmost operands are as many as the parameters, each of its kind, the first parameter's the deepest.
-pub fn are_of_kinds(params: &[Kind], frames: &Frames) -> bool
+fn are_of_kinds(params: &[Kind], frames: &Frames) -> bool
     requires { length params.now < 2 ^ 16 }
     ensures { result ≡ is_some (arguments params.now (top_operands frames.now.frames)) }
 {

@@ -19,7 +19,7 @@ ghost use Rattle.jvm_named.specs.Answers.{place_found, refusal_view};
 ghost use Rattle.jvm_named.specs.Objects.{AreLoaded, IsResolved, IsUsable};
 ghost use Rattle.jvm_named.specs.Members.{at_place};
 ghost use Rattle.jvm_named.specs.Resolved.{method_found};
-ghost use Rattle.jvm_named.specs.Targets.{HasCaller, by_view, found_as, instance_target};
+ghost use Rattle.jvm_named.specs.Targets.{HasCaller, selecting_view, found_as, instance_target};
 ghost use Rattle.jvm_named.specs.Targets.{receiver_class, static_target, target_in, unready_by};
 
 use crate::asked::{Exception, Refusal};
@@ -39,7 +39,7 @@ use std::alloc::Global;
 
 /// Which invocation it is: invokespecial with the name of the class in which it stands, and whether it names an interface's method.
 #[derive(Clone, Copy)]
-pub enum By<'a> {
+pub enum Selecting<'a> {
     Virtual,
     OfInterface,
     Special(&'a Text16, bool),
@@ -132,23 +132,23 @@ fn method_found(
 // ---- receivers
 
 /// What a receiver asks for that is not of the named class.
-fn not_of_class(by: By<'_>) -> Refusal
-    ensures { refusal_view result ≡ not_of_class (by_view by.entry) }
+fn not_of_class(by: Selecting<'_>) -> Refusal
+    ensures { refusal_view result ≡ not_of_class (selecting_view by.entry) }
 {
     match by {
-        By::Virtual => Refusal::Breaks,
-        By::OfInterface => Refusal::Raises(Exception::IncompatibleClassChange, None),
-        By::Special(_, _) => Refusal::Breaks,
+        Selecting::Virtual => Refusal::Breaks,
+        Selecting::OfInterface => Refusal::Raises(Exception::IncompatibleClassChange, None),
+        Selecting::Special(_, _) => Refusal::Breaks,
     }
 }
 
-fn names_interface(by: By<'_>) -> bool
-    ensures { result ≡ names_interface (by_view by.entry) }
+fn names_interface(by: Selecting<'_>) -> bool
+    ensures { result ≡ names_interface (selecting_view by.entry) }
 {
     match by {
-        By::Virtual => false,
-        By::OfInterface => true,
-        By::Special(_, interface) => interface,
+        Selecting::Virtual => false,
+        Selecting::OfInterface => true,
+        Selecting::Special(_, interface) => interface,
     }
 }
 
@@ -156,7 +156,7 @@ fn names_interface(by: By<'_>) -> bool
 fn receiver_class(
     linker: &Linker,
     heap: &Heap,
-    by: By<'_>,
+    by: Selecting<'_>,
     method: &MethodName,
     kind: u32,
     object: u32,
@@ -164,7 +164,7 @@ fn receiver_class(
     requires objects { AreLoaded linker.now heap.now }
     requires resolved { IsResolved linker.now method.now.class kind }
     ensures class { found_as (λ class. class) result
-        ≡ receiver_class linker.now.program (by_view by.entry) method.now heap.now object }
+        ≡ receiver_class linker.now.program (selecting_view by.entry) method.now heap.now object }
     ensures loaded { IfOk result (λ class. IsLoaded linker.now class) }
 {
     if object == 0 {
@@ -202,16 +202,16 @@ fn selected_special(linker: &Linker, caller: &Text16, m: Place) -> Option<Place>
 }
 
 /// What the receiver's class has for the resolved method, or what the caller's class takes.
-fn selected_by(linker: &Linker, by: By<'_>, m: Place, class: u32) -> Option<Place>
+fn selected_by(linker: &Linker, by: Selecting<'_>, m: Place, class: u32) -> Option<Place>
     requires loaded { IsLoaded linker.now class }
-    requires caller { HasCaller linker.now (by_view by) }
+    requires caller { HasCaller linker.now (selecting_view by) }
     ensures { option_map at_place result
-        ≡ selected_by linker.now.program (by_view by.entry) (at_place m) class }
+        ≡ selected_by linker.now.program (selecting_view by.entry) (at_place m) class }
 {
     match by {
-        By::Virtual => placed(linker.select(class, m.class, m.position, false)),
-        By::OfInterface => placed(linker.select(class, m.class, m.position, true)),
-        By::Special(caller, _) => selected_special(linker, caller, m),
+        Selecting::Virtual => placed(linker.select(class, m.class, m.position, false)),
+        Selecting::OfInterface => placed(linker.select(class, m.class, m.position, true)),
+        Selecting::Special(caller, _) => selected_special(linker, caller, m),
     }
 }
 
@@ -222,15 +222,15 @@ pub fn instance_target(
     linker: &Linker,
     heap: &Heap,
     frames: &Frames,
-    by: By<'_>,
+    by: Selecting<'_>,
     method: &MethodName,
     kind: u32,
 ) -> Result<Target, Refusal>
     requires objects { AreLoaded linker.now heap.now }
     requires resolved { IsResolved linker.now method.now.class kind }
-    requires caller { HasCaller linker.now (by_view by) }
+    requires caller { HasCaller linker.now (selecting_view by) }
     ensures target { let o = top_operands frames.now.frames in found_as (target_in o) result
-        ≡ instance_target linker.now.program kind (by_view by.entry) method.now heap.now o }
+        ≡ instance_target linker.now.program kind (selecting_view by.entry) method.now heap.now o }
     ensures within { IfOk result (λ t. t.count ≤ length (top_operands frames.now.frames)) }
 {
     let m = match method_found(linker, kind, names_interface(by), false, method) {
