@@ -1,7 +1,7 @@
 -- How multianewarray reads its operands, counts slots and makes arrays.
-use Rattle.std.proofs.Common.{◌≡◌, ◌≢◌, ◌⊎◌, inl, inr, ℕ, zero, suc, ◌+◌, ◌-◌, ◌*◌, ◌<◌, ◌≤◌, Bool, true, false, List, [], ◌∷◌, ◌++◌, ap, sym, subst, refl, ◌∙◌, arith}
+use Rattle.std.proofs.Common.{◌≡◌, ℕ, zero, suc, ◌+◌, ◌-◌, ◌<◌, ◌≤◌, true, false, List, [], ◌∷◌, ◌++◌, ap, sym, subst, refl, ◌∙◌, arith}
 use Rattle.std.proofs.lemmas.List.{append-nil, append_assoc}
-use Rattle.std.specs.Prelude.{◌/◌, length, drop, Option, Some, None, ℤ, pos, negsuc, nat_le, nat_lt, slice_get, if◌then◌else◌}
+use Rattle.std.specs.Prelude.{◌/◌, length, drop, Option, Some, None, ℤ, pos, negsuc, nat_le, slice_get, if◌then◌else◌}
 use Rattle.std.specs.Option.{option_and_then, option_map}
 use Rattle.heap_objects.specs.declared.Value.{Value}
 use Rattle.heap_objects.specs.declared.datum.Datum.TheVariants as datum
@@ -10,12 +10,12 @@ use Rattle.heap_objects.specs.declared.Value.TheVariants.{Int, Long, Ref, Addr}
 use Rattle.frame_stack.specs.FrameLists.{FramesView, PlacedFrame, AreSound, top_operands, with_frames, without_arguments}
 use Rattle.frame_stack.specs.Widths.{height_of}
 use Rattle.jvm_basic.specs.Outcomes.{can_hold}
-use Rattle.jvm_model.specs.CreationRules.{counts_from, counts_of, lengths_of, slots_of_arrays, with_arrays, with_parts}
+use Rattle.jvm_model.specs.CreationRules.{counts_from, counts_of, lengths_of, with_arrays, with_parts}
 use Rattle.jvm_model.specs.KindNumbers.{first_array, user_count}
 use Rattle.class_linker.specs.Linkers.{IsLoaded, LinkerView}
 use Rattle.jvm_model.specs.Data.{Operands, GoesOn, Next}
 use Rattle.jvm_named.specs.Answers.{frames_of}
-use Rattle.jvm_named.specs.Arrays.{capped, int_at, lengths_from}
+use Rattle.jvm_named.specs.Arrays.{int_at, lengths_from}
 use Rattle.jvm_named.specs.Objects.{AreLoaded, IsUsable}
 use Rattle.jvm_named.proofs.KindLemmas.{under_usable}
 use Rattle.jvm_named.proofs.ObjectLemmas.{objects_slot, objects_with}
