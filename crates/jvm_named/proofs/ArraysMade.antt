@@ -1,7 +1,7 @@
 -- How multianewarray reads its operands, counts slots and makes arrays.
-use Rattle.std.proofs.Common.{◌≡◌, ◌≢◌, ◌⊎◌, inl, inr, ℕ, zero, suc, ◌+◌, ◌-◌, ◌*◌, ◌<◌, ◌≤◌, Bool, true, false, List, [], ◌∷◌, ◌++◌, ap, sym, subst, refl, ◌∙◌, arith}
+use Rattle.std.proofs.Common.{◌≡◌, ℕ, zero, suc, ◌+◌, ◌-◌, ◌<◌, ◌≤◌, true, false, List, [], ◌∷◌, ◌++◌, ap, sym, subst, refl, ◌∙◌, arith}
 use Rattle.std.proofs.lemmas.List.{append-nil, append_assoc}
-use Rattle.std.specs.Prelude.{◌/◌, length, drop, Option, Some, None, ℤ, pos, negsuc, nat_le, nat_lt, slice_get, if◌then◌else◌}
+use Rattle.std.specs.Prelude.{◌/◌, length, drop, Option, Some, None, ℤ, pos, negsuc, nat_le, slice_get, if◌then◌else◌}
 use Rattle.std.specs.Option.{option_and_then, option_map}
 use Rattle.heap_objects.specs.declared.Value.{Value}
 use Rattle.heap_objects.specs.declared.datum.Datum.TheVariants as datum
@@ -10,12 +10,12 @@ use Rattle.heap_objects.specs.declared.Value.TheVariants.{Int, Long, Ref, Addr}
 use Rattle.frame_stack.specs.FrameLists.{FramesView, PlacedFrame, AreSound, top_operands, with_frames, without_arguments}
 use Rattle.frame_stack.specs.Widths.{height_of}
 use Rattle.jvm_basic.specs.Outcomes.{can_hold}
-use Rattle.jvm_model.specs.CreationRules.{counts_from, counts_of, lengths_of, slots_of_arrays, with_arrays, with_parts}
+use Rattle.jvm_model.specs.CreationRules.{counts_from, counts_of, lengths_of, with_arrays, with_parts}
 use Rattle.jvm_model.specs.KindNumbers.{first_array, user_count}
 use Rattle.class_linker.specs.Linkers.{IsLoaded, LinkerView}
 use Rattle.jvm_model.specs.Data.{Operands, GoesOn, Next}
 use Rattle.jvm_named.specs.Answers.{frames_of}
-use Rattle.jvm_named.specs.Arrays.{capped, int_at, lengths_from}
+use Rattle.jvm_named.specs.Arrays.{int_at, lengths_from}
 use Rattle.jvm_named.specs.Objects.{AreLoaded, IsUsable}
 use Rattle.jvm_named.proofs.KindLemmas.{under_usable}
 use Rattle.jvm_named.proofs.ObjectLemmas.{objects_slot, objects_with}
@@ -146,77 +146,6 @@ pub put_dropped : (v : Value) (count next : ℕ) (old new : FramesView) → can_
     → frames_of (λ l o. GoesOn l (v ∷ o) Next) next new ≡ frames_of (λ l o. GoesOn l (v ∷ drop count o) Next) next old
 put_dropped v count next old new e is =
     ap (λ f. frames_of (λ l o. GoesOn l (v ∷ o) Next) next f) is ∙ frames-put v count next old.frames old.room e
-
--- ---- slots
-
-capped-same : (n : ℕ) → n < 18446744073709551616 → capped n ≡ n
-capped-same n h = ap (λ b. if b then n else 18446744073709551615) (below n h)
-  where
-    below : (n : ℕ) → n < 18446744073709551616 → nat_lt n 18446744073709551616 ≡ true
-    below n h = grind (arith)
-
-capped-most : (n : ℕ) → 18446744073709551616 ≤ n → capped n ≡ 18446744073709551615
-capped-most n h = ap (λ b. if b then n else 18446744073709551615) (not_below n h)
-  where
-    not_below : (n : ℕ) → 18446744073709551616 ≤ n → nat_lt n 18446744073709551616 ≡ false
-    not_below n h = grind (arith)
-
-below-or : (n : ℕ) → (n < 18446744073709551616) ⊎ (18446744073709551616 ≤ n)
-below-or n = by (nat_lt n 18446744073709551616) refl
-  where
-    by : (b : Bool) → nat_lt n 18446744073709551616 ≡ b → (n < 18446744073709551616) ⊎ (18446744073709551616 ≤ n)
-    by true is = inl (grind (arith))
-    by false is = inr (grind (arith))
-
-capped-sum : (a b : ℕ) → capped (a + capped b) ≡ capped (a + b)
-capped-sum a b = by (below-or b) a
-  where
-    large : (a b : ℕ) → 18446744073709551616 ≤ b → capped (a + 18446744073709551615) ≡ 18446744073709551615
-    large zero b h = refl
-    large (suc a) b h = capped-most (suc a + 18446744073709551615) (omega arith)
-
-    by : (b < 18446744073709551616) ⊎ (18446744073709551616 ≤ b) → (a : ℕ) → capped (a + capped b) ≡ capped (a + b)
-    by (inl h) a = ap (λ n. capped (a + n)) (capped-same b h)
-    by (inr h) a = ap (λ n. capped (a + n)) (capped-most b h) ∙ (large a b h ∙ sym (capped-most (a + b) (omega arith)))
-
-capped-product : (a b : ℕ) → capped (a * capped b) ≡ capped (a * b)
-capped-product a b = by (below-or b) a
-  where
-    large : (a b : ℕ) → 18446744073709551616 ≤ b → capped (a * 18446744073709551615) ≡ capped (a * b)
-    large zero b h = ap capped (sym (let none : 0 * b ≡ 0 = omega arith in none))
-    large (suc zero) b h = sym (ap capped (let one : 1 * b ≡ b = omega arith in one) ∙ capped-most b h)
-    large (suc (suc a)) b h =
-        capped-most (suc (suc a) * 18446744073709551615) (omega arith)
-        ∙ sym (capped-most (suc (suc a) * b) (let least : b ≤ suc (suc a) * b = grind (arith) in omega arith))
-
-    by : (b < 18446744073709551616) ⊎ (18446744073709551616 ≤ b) → (a : ℕ) → capped (a * capped b) ≡ capped (a * b)
-    by (inl h) a = ap (λ n. capped (a * n)) (capped-same b h)
-    by (inr h) a = ap (λ n. capped (a * n)) (capped-most b h) ∙ large a b h
-
-pub slots_read : (n : ℕ) (rest : List ℕ) → capped ((1 + n) + capped (n * capped (slots_of_arrays rest))) ≡ capped (slots_of_arrays (n ∷ rest))
-slots_read n rest = capped-sum (1 + n) (n * capped (slots_of_arrays rest)) ∙ products
-  where
-    products : capped ((1 + n) + n * capped (slots_of_arrays rest)) ≡ capped (1 + n + n * slots_of_arrays rest)
-    products =
-        sym (capped-sum (1 + n) (n * capped (slots_of_arrays rest)))
-        ∙ (ap (λ x. capped ((1 + n) + x)) (capped-product n (slots_of_arrays rest)) ∙ capped-sum (1 + n) (n * slots_of_arrays rest))
-
-pub no_room : (used limit n : ℕ) → nat_le (used + capped n) limit ≡ false → nat_le (used + n) limit ≡ false
-no_room used limit n is = by (below-or n)
-  where
-    past : (a b limit : ℕ) → a ≤ b → nat_le a limit ≡ false → nat_le b limit ≡ false
-    past a b limit h is = grind (arith)
-
-    by : (n < 18446744073709551616) ⊎ (18446744073709551616 ≤ n) → nat_le (used + n) limit ≡ false
-    by (inl h) = sym (ap (λ k. nat_le (used + k) limit) (capped-same n h)) ∙ is
-    by (inr h) = past (used + capped n) (used + n) limit (let e : capped n ≡ 18446744073709551615 = capped-most n h in omega (arith, e)) is
-
-pub room : (used limit n : ℕ) → capped n ≢ 18446744073709551615 → nat_le (used + capped n) limit ≡ nat_le (used + n) limit
-room used limit n other = by (below-or n)
-  where
-    by : (n < 18446744073709551616) ⊎ (18446744073709551616 ≤ n) → nat_le (used + capped n) limit ≡ nat_le (used + n) limit
-    by (inl h) = ap (λ k. nat_le (used + k) limit) (capped-same n h)
-    by (inr h) = absurd (other (capped-most n h))
 
 -- ---- arrays and their parts
 

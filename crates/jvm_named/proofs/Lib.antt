@@ -13,3 +13,4 @@ mod Quiet
 mod Carried
 mod Attempted
 mod ArraysMade
+pub mod Beginning

@@ -1,6 +1,7 @@
 //! getfield and putfield (JVM Specification 2.7, 5.4.3.2, 6.5), where the class of the field's name was resolved.
 
-ghost use Rattle.std.specs.Prelude.{◌≡◌, ◌==◌, count_by, false, is_some, take, true, IfOk, IfSome, OnOk, Some};
+ghost use Rattle.std.specs.Prelude.{◌≡◌, ◌==◌, count_by, false, is_some};
+ghost use Rattle.std.specs.Prelude.{take, true, IfOk, IfSome, OnOk, Some};
 ghost use Rattle.std.specs.Option.{option_map};
 ghost use Rattle.frame_stack.specs.FrameLists.{top_operands};
 ghost use Rattle.heap_objects.specs.Heaps.{kind_at, slot_at, with_slot_at};
@@ -259,7 +260,8 @@ fn write_slot(
     next: u16,
 ) -> Asked
     requires object { (object == 0) ≡ false }
-    ensures answer { answer_view result ≡ answer_by (writes object slot datum shared.old) frames.old }
+    ensures answer { answer_view result
+        ≡ answer_by (writes object slot datum shared.old) frames.old }
     ensures frames { frames.new ≡ frames_by (writes object slot datum shared.old) next frames.old }
     ensures shared { shared.new ≡ shared_by (writes object slot datum shared.old) frames.old }
     ensures objects { shared.new.heap ≡ with_slot_at object slot datum shared.old.heap }

@@ -5,7 +5,7 @@ ghost use Rattle.heap_objects.specs.Heaps.{kind_at};
 ghost use Rattle.jvm_model.specs.KindNumbers.{class_of_base, user_count};
 ghost use Rattle.jvm_model.specs.Naming.{is_below_kind};
 ghost use Rattle.jvm_model.specs.SharedState.{class_of_kind};
-ghost use Rattle.jvm_named.specs.Objects.{AreLoaded, IsUsable, class_at_kind};
+ghost use Rattle.jvm_named.specs.Objects.{AreLoaded, IsUsable};
 
 use class_linker::Linker;
 use heap_objects::Heap;
@@ -61,17 +61,6 @@ pub fn kind_of_object(linker: &Linker, heap: &Heap, object: u32) -> Option<u32>
     ensures usable { IfSome result (λ kind. IsUsable linker.now kind) }
 {
     heap.kind(object)
-}
-
-/// The position of an object's class; 0 where there is no such object.
-pub fn class_of(linker: &Linker, heap: &Heap, object: u32) -> u32
-    requires { AreLoaded linker.now heap.now }
-    ensures { result ≡ class_at_kind linker.now.program (kind_at object heap.now) }
-{
-    match heap.kind(object) {
-        Some(kind) => class_of_kind(linker, kind),
-        None => 0,
-    }
 }
 
 /// Whether an object is of this kind, or of one below it.

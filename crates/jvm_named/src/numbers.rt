@@ -3,7 +3,8 @@
 ghost use Rattle.std.specs.Prelude.{◌≡◌, ◌+◌, ◌<◌, ◌^◌, is_some, IfOk};
 ghost use Rattle.jvm_model.specs.Methods.{code_of};
 ghost use Rattle.jvm_model.specs.Programs.{numbered};
-ghost use Rattle.jvm_named.specs.Numbers.{AreNumbers, all_coded, coded, number_in, row_from, rows_from};
+ghost use Rattle.jvm_named.specs.Numbers.{AreNumbers, all_coded, coded};
+ghost use Rattle.jvm_named.specs.Numbers.{number_in, row_from, rows_from};
 
 use const_pool::{Attribute, ClassFile, Member};
 use jf_bytes::{NoMemory, Seq};
