@@ -7,8 +7,8 @@ pub invariant_of-self-2 : goal.invariant_of-self-2
 invariant_of-self-2 c = (
   λ whole. plain-none c.self.inside.versions c.run.new.markers (sym c.is_some.ensures ∙ c.if-is_some.false),
   (goes_onward c.args.self.now c.self.inside.originals c.self.inside.versions (state_of c.self.inside.markers c.self.inside.parts) (state_of c.run.new.markers c.run.new.parts) c.self.inside.told
-    c.self.inside.started c.self.inside.broken c.self.inside.clock c.in_ok-made.made c.args.most c.self.view_is c.self.invariant.1 (sym c.is_some.ensures ∙ c.if-is_some.false)
-    c.requires.started c.requires.whole c.requires.resting c.in_ok-made.ensures.within c.in_ok-made.ensures.made).running,
+      c.self.inside.started c.self.inside.broken c.self.inside.clock c.in_ok-made.made c.args.most c.self.view_is c.self.invariant.1 (sym c.is_some.ensures ∙ c.if-is_some.false)
+      c.requires.started c.requires.whole c.requires.resting c.in_ok-made.ensures.within c.in_ok-made.ensures.made).running,
 )
 
 pub returns-clause-ok : goal.returns-clause-ok
