@@ -1,13 +1,12 @@
 -- The machine stands for the run where versions are installed: before the start, and when it goes on.
 use Rattle.std.proofs.Common.{◌≡◌, ℕ, ◌+◌, ◌-◌, Bool, true, false, cond, List, length, Option, Some, None, refl, sym, ap, subst, ◌∙◌, eqb-true}
 use Rattle.std.specs.Prelude.{slice_get, is_none, ◌==◌, ◌||◌}
-use Rattle.std.proofs.lemmas.List.{length-map}
 use Rattle.jvm_model.specs.declared.event.Event.{Event}
 use Rattle.jvm_model.specs.declared.state.State.{State}
 use Rattle.jvm_model.specs.Agreement.{Agrees}
 use Rattle.jvm_model.specs.Attempts.{start_placed}
 use Rattle.jvm_model.specs.Installed.{Installed, class_in, world_in}
-use Rattle.jvm_model.specs.Moved.{moved_entry, moved}
+use Rattle.jvm_model.specs.Moved.{moved}
 use Rattle.jvm_model.specs.Run.{before, run}
 use Rattle.jvm_model.specs.StandsFor.{by_homes}
 use Rattle.jvm_machine.specs.declared.probes.Probe.{Probe}

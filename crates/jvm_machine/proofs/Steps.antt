@@ -1,10 +1,10 @@
 -- One step over places, from a state of the run with its frames at their homes: it leads to the next state of the run, and
 -- the probe that it passes tells the events of the step.
-use Rattle.std.proofs.Common.{◌≡◌, ℕ, suc, ◌+◌, ◌-◌, Bool, true, false, cond, List, [], ◌∷◌, length, Option, Some, None, refl, sym, ap, subst, ◌∙◌, arith}
+use Rattle.std.proofs.Common.{◌≡◌, ℕ, suc, ◌+◌, ◌-◌, Bool, true, false, cond, List, [], ◌∷◌, Option, Some, None, refl, sym, ap, subst, ◌∙◌, arith}
 use Rattle.std.specs.Prelude.{is_some, is_none, not, ◌&&◌, nat_le}
 use Rattle.std.specs.Option.{option_map}
 use Rattle.std.proofs.lemmas.Bool.{le-leb}
-use Rattle.std.proofs.lemmas.List.{append-nil, length-map}
+use Rattle.std.proofs.lemmas.List.{append-nil}
 use Rattle.const_pool.specs.declared.class.ClassFile.{ClassFile}
 use Rattle.const_pool.specs.declared.class.CodeAttribute.{CodeAttribute}
 use Rattle.jvm_model.specs.declared.event.EventKind.TheVariants as kind
@@ -26,7 +26,7 @@ use Rattle.jvm_model.specs.EventLists.{begin_events, end_events, step_events}
 use Rattle.jvm_model.specs.Images.{is_off}
 use Rattle.jvm_model.specs.Installed.{Installed, class_in, world_in, tabled}
 use Rattle.jvm_model.specs.Methods.{method_code}
-use Rattle.jvm_model.specs.Moved.{moved_entry, moved_frame, moved_stack, moved, moved_turn}
+use Rattle.jvm_model.specs.Moved.{moved_frame, moved_stack, moved, moved_turn}
 use Rattle.jvm_model.specs.OneClass.{IsProgramOf}
 use Rattle.jvm_model.specs.Originals.{original}
 use Rattle.jvm_model.specs.Quiet.{AreCoded}

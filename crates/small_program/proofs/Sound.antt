@@ -30,7 +30,7 @@ use Rattle.jvm_steps.specs.Prepared.{HasShortCodes, FitsOriginals}
 use Rattle.admit_check.specs.Admission.{declared_main, main_of_class, main_in, IsSoundProgram}
 use Rattle.small_program.specs.Admission.{AllRun, IsSmall, RunsWith}
 use Rattle.small_program.specs.Runnable.{IsRunnable}
-use Rattle.small_program.proofs.BuiltIn.{files-built_in, files-short}
+use Rattle.small_program.proofs.BuiltIn.{files-short}
 use Rattle.small_program.proofs.Formed.{HasShortCodes-formed}
 
 -- ---- a method that is found is there

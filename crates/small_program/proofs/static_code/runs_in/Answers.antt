@@ -1,4 +1,4 @@
-use Rattle.std.proofs.Common.{◌≡◌, sym, ◌∙◌}
+use Rattle.std.proofs.Common.{◌∙◌}
 use Rattle.small_program.proofs.StaticCodes.{runs-local}
 use Rattle.small_program.proofs.static_code.runs_in.Goals as goal
 

@@ -22,8 +22,9 @@ invariant_of-self c =
     let whole : c.self.inside.broken ≡ false = ap (λ (v : View). v.broken) c.self.view_is ∙ c.requires.whole in
     let image = subst (λ (p : Program). IsImage (first_class p) 0 c.args.marks.now c.args.image c.args.homes.now) program c.requires.image in
     let state = state_of c.self.inside.markers c.self.inside.parts in
-    let empty = early-in c.self.inside.originals c.self.inside.versions state c.self.inside.told c.self.inside.started c.self.inside.broken c.self.inside.clock c.self.invariant.1 started whole in
-    (λ unbroken. none-marked c.self.inside.markers c.self.inside.parts (ap (λ (s : State). s.stack) empty.2),
-     is_installed c.self.inside.originals c.self.inside.versions c.in_ok-new.field-0 state c.self.inside.told c.self.inside.started c.self.inside.broken c.self.inside.clock
-     c.self.invariant.1 started whole (subst IsBuiltProgram program c.requires.built)
-     (subst (λ (r : Rewritten). IsImage (first_class c.self.inside.originals.program) 0 r.marks r.image r.homes) (sym c.in_ok-new.ensures) image))
+    let empty = early-in c.self.inside.originals c.self.inside.versions state c.self.inside.told c.self.inside.started c.self.inside.broken c.self.inside.clock c.self.invariant.1 started whole in (
+      λ unbroken. none-marked c.self.inside.markers c.self.inside.parts (ap (λ (s : State). s.stack) empty.2),
+      is_installed c.self.inside.originals c.self.inside.versions c.in_ok-new.field-0 state c.self.inside.told c.self.inside.started c.self.inside.broken c.self.inside.clock
+          c.self.invariant.1 started whole (subst IsBuiltProgram program c.requires.built)
+          (subst (λ (r : Rewritten). IsImage (first_class c.self.inside.originals.program) 0 r.marks r.image r.homes) (sym c.in_ok-new.ensures) image),
+    )

@@ -1,4 +1,4 @@
-use Rattle.std.proofs.Common.{◌≡◌, sym, ap, subst, ◌∙◌}
+use Rattle.std.proofs.Common.{sym, ap, subst, ◌∙◌}
 use Rattle.jvm_model.specs.declared.program.Program.{Program}
 use Rattle.jvm_model.specs.Run.{before}
 use Rattle.jvm_steps.specs.Before.{CanStart}
