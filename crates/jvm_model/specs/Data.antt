@@ -99,13 +99,29 @@ pub data Local : Type 0 where
   -- ireturn, lreturn, areturn, return
   Return : Option Kind → Local
 
--- An instruction with the names that it gives: what they refer to is looked up in the program when it is executed.
+-- An instruction that names a class, a field or a method, with the names that it gives: what they refer to is looked up in the program
+-- when it is executed.
+pub data Naming : Type 0 where
+  New : List ℕ → Naming
+  Getfield : Reference → Naming
+  Putfield : Reference → Naming
+  Getstatic : Reference → Naming
+  Putstatic : Reference → Naming
+  Invokevirtual : Reference → Naming
+  -- with the name of the class in which it stands, and whether it names an interface's method
+  Invokespecial : List ℕ → Reference → Bool → Naming
+  Invokestatic : Reference → Naming
+  Invokeinterface : Reference → Naming
+  Checkcast : List ℕ → Naming
+  Instanceof : List ℕ → Naming
+  Anewarray : List ℕ → Naming
+  -- with so many dimensions that are given
+  Multianewarray : List ℕ → ℕ → Naming
+
+-- An instruction as it is attempted.
 pub data Operation : Type 0 where
   Within : Local → Operation
-  Getstatic : Reference → Operation
-  Putstatic : Reference → Operation
-  Invokestatic : Reference → Operation
-  Invokevirtual : Reference → Operation
+  Named : Naming → Operation
   Athrow : Operation
   -- monitorenter, monitorexit
   Monitor : Operation

@@ -22,6 +22,7 @@ pub mod SuperCalls
 pub mod InvocationRules
 pub mod NamingRules
 pub mod Constants
+pub mod Does
 pub mod Applies
 pub mod Moves
 pub mod Normal
@@ -50,4 +51,4 @@ pub mod Attempts
 pub mod OneClass
 pub mod Quiet
 pub mod Starting
-pub mod StaticClass
+pub mod Meanings

@@ -1,23 +1,25 @@
 -- What the instruction at an offset is: its operand as a value, a slot, or the names that it refers to (JVM Specification
 -- 4.7.3, 5.4.3, 6.5). No name is looked up here.
-use Rattle.std.specs.Prelude.{ℕ, Bool, true, false, List, [], ◌∷◌, length, Option, Some, None, slice_get, ℤ, ◌==◌, if◌then◌else◌}
-use Rattle.std.specs.Option.{option_and_then, option_map}
+use Rattle.std.specs.Prelude.{ℕ, Bool, true, false, List, [], ◌∷◌, length, nat_lt, nat_le, Option, Some, None, slice_get, ℤ, ◌==◌, ◌&&◌, if◌then◌else◌}
+use Rattle.std.specs.Option.{option_and_then, option_map, option_map_or}
 use Rattle.heap_objects.specs.declared.datum.Datum.TheVariants as datum
 use Rattle.const_pool.specs.declared.pool.Const.{Const}
 use Rattle.const_pool.specs.declared.pool.Const.TheVariants as const
 use Rattle.const_pool.specs.declared.class.ClassFile.{ClassFile}
 use Rattle.const_pool.specs.declared.descriptor.Kind.TheVariants as kind
-use Rattle.const_pool.specs.References.{Reference, named_field, named_method}
+use Rattle.const_pool.specs.Pool.{entry_at}
+use Rattle.const_pool.specs.References.{Reference, named_class, named_field, named_member, named_method}
 use Rattle.code_model.specs.declared.instr.Instr.{Instr}
 use Rattle.code_model.specs.declared.instr.Arg.{Arg}
 use Rattle.code_model.specs.declared.instr.Arg.TheVariants as arg
 use Rattle.code_model.specs.Instructions.{instruction_at, end_of}
 use Rattle.jvm_model.specs.declared.family.Family.{Family}
 use Rattle.jvm_model.specs.declared.family.Family.TheVariants as family
-use Rattle.jvm_model.specs.Data.{Datum, Keys, Consecutive, Listed, Local, Nop, Constant, Load, Store, Arrange, BinaryOfInts, BinaryOfLongs, DivisionOfInts, DivisionOfLongs, ShiftOfLong, UnaryOfInt, UnaryOfLong, Lcmp, Iinc, Branch, Goto, Switch, Jsr, Ret, Return, Operation, Within, Getstatic, Invokestatic, Invokevirtual, Athrow, Monitor, Newarray, Arraylength, LoadElement, StoreElement, Instruction}
+use Rattle.jvm_model.specs.Data.{Datum, Keys, Consecutive, Listed, Local, Nop, Constant, Load, Store, Arrange, BinaryOfInts, BinaryOfLongs, DivisionOfInts, DivisionOfLongs, ShiftOfLong, UnaryOfInt, UnaryOfLong, Lcmp, Iinc, Branch, Goto, Switch, Jsr, Ret, Return, Naming, New, Getfield, Putfield, Getstatic, Putstatic, Invokevirtual, Invokespecial, Invokestatic, Invokeinterface, Checkcast, Instanceof, Anewarray, Multianewarray, Operation, Within, Named, Athrow, Monitor, Newarray, Arraylength, LoadElement, StoreElement, Instruction}
 use Rattle.jvm_model.specs.Families.{family_of}
+use Rattle.jvm_model.specs.Kinds.{meaning_of}
 use Rattle.jvm_model.specs.Methods.{method_code}
-use Rattle.jvm_model.specs.Rules.{is_out, is_println}
+use Rattle.jvm_model.specs.Programs.{name_of}
 
 -- ---- instructions that see their frame alone: their family with what they have of an operand
 
@@ -83,20 +85,56 @@ constant_in pool _ = None
 
 -- ---- instructions with names
 
--- getstatic of System.out, invokevirtual of println(I)V: the part that runs so far has no others
-abbrev pub getstatic_of : Reference → Option Operation
-getstatic_of r = if is_out r then Some (Getstatic r) else None
+-- what an InterfaceMethodref names
+abbrev pub is_interface_method : Const → Bool
+is_interface_method (const.InterfaceMethod c n) = true
+is_interface_method _ = false
 
-abbrev pub invokevirtual_of : Reference → Option Operation
-invokevirtual_of r = if is_println r then Some (Invokevirtual r) else None
+abbrev pub named_interface_method : List Const → ℕ → Option Reference
+named_interface_method pool i =
+    if option_map_or is_interface_method (entry_at pool i) false then named_member pool i else None
 
--- those with a pool index: getstatic, invokevirtual, invokestatic
-abbrev pub pool_operation : ClassFile → ℕ → ℕ → Option Operation
-pool_operation c op index =
-    if op == 178 then option_and_then getstatic_of (named_field c.pool index)
-    else if op == 182 then option_and_then invokevirtual_of (named_method c.pool index)
+-- invokespecial, in a class of this name
+abbrev pub special_of : List ℕ → Reference → Naming
+special_of caller r = Invokespecial caller r false
+
+-- Those with a pool index alone, a row each: field instructions name a field; invokevirtual, invokespecial and invokestatic a method;
+-- new, anewarray, checkcast and instanceof a class (4.10.1, 6.5).
+abbrev pub naming_of : ClassFile → ℕ → ℕ → Option Naming
+naming_of c op index =
+    if op == 178 then option_map Getstatic (named_field c.pool index)
+    else if op == 179 then option_map Putstatic (named_field c.pool index)
+    else if op == 180 then option_map Getfield (named_field c.pool index)
+    else if op == 181 then option_map Putfield (named_field c.pool index)
+    else if op == 182 then option_map Invokevirtual (named_method c.pool index)
+    else if op == 183 then option_and_then (λ caller. option_map (special_of caller) (named_method c.pool index)) (name_of c)
     else if op == 184 then option_map Invokestatic (named_method c.pool index)
+    else if op == 187 then option_map New (named_class c.pool index)
+    else if op == 189 then option_map Anewarray (named_class c.pool index)
+    else if op == 192 then option_map Checkcast (named_class c.pool index)
+    else if op == 193 then option_map Instanceof (named_class c.pool index)
     else None
+
+-- invokeinterface, whose further two bytes say nothing more
+abbrev pub interface_naming : ClassFile → ℕ → ℕ → Option Naming
+interface_naming c op index = if op == 185 then option_map Invokeinterface (named_interface_method c.pool index) else None
+
+-- multianewarray, with so many dimensions that are given
+abbrev pub multi_of : ℕ → List ℕ → Naming
+multi_of dimensions name = Multianewarray name dimensions
+
+abbrev pub multi_naming : ClassFile → ℕ → ℕ → ℕ → Option Naming
+multi_naming c op index dimensions = if op == 197 then option_map (multi_of dimensions) (named_class c.pool index) else None
+
+-- What an array type has for dimensions (4.9.1): anewarray names one of fewer than 255, multianewarray one of at least as many as are
+-- given, which are 1 or more. An instruction that names another is none; decoded code that was looked at has none such.
+abbrev pub has_dimensions : Naming → Bool
+has_dimensions (Anewarray name) = nat_lt (meaning_of name).dimensions 255
+has_dimensions (Multianewarray name dimensions) = nat_le 1 dimensions && nat_le dimensions (meaning_of name).dimensions
+has_dimensions n = true
+
+abbrev pub named_by : Naming → Option Operation
+named_by n = if has_dimensions n then Some (Named n) else None
 
 -- ---- instructions that see objects
 
@@ -128,7 +166,9 @@ newarray_of op code = if op == 188 then Some (Newarray code) else None
 
 -- of no family: by the form of its operand
 abbrev pub other_operation : ClassFile → ℕ → Arg → Option Operation
-other_operation c op (arg.Pool index) = pool_operation c op index
+other_operation c op (arg.Pool index) = option_and_then named_by (naming_of c op index)
+other_operation c op (arg.Interface index count zero) = option_and_then named_by (interface_naming c op index)
+other_operation c op (arg.Multi index dimensions) = option_and_then named_by (multi_naming c op index dimensions)
 other_operation c op (arg.Array code) = newarray_of op code
 other_operation c op arg.Plain = object_among object_rows op
 other_operation c op _ = None

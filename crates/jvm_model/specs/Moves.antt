@@ -4,6 +4,7 @@ use Rattle.std.specs.Option.{option_map_or}
 use Rattle.heap_objects.specs.declared.datum.Datum.TheVariants as datum
 use Rattle.heap_objects.specs.declared.Value.TheVariants.{Ref}
 use Rattle.jvm_model.specs.Data.{Datum, Frame, Entry, Active, Initializing, Part, Constants, Superclass, Initializer, Finish, Phase, Fresh, Running, Ready, Erroneous, Shared, Ending, Returned, Uncaught, Unverifiable, State, Began, Unwound, Turn, Catcher, Instruction, Text, World}
+use Rattle.jvm_model.specs.Constants.{Setting, sets_constants}
 use Rattle.jvm_model.specs.Lookup.{is_below}
 use Rattle.jvm_model.specs.Programs.{name_at, super_of, initializer_of}
 use Rattle.jvm_model.specs.SharedState.{error, no_class_definition, in_initializer, stack_overflow, phase_of, with_phase, class_of, Allocated, made_with, raised}
@@ -63,9 +64,13 @@ runs_initializer w t s c (Some m) =
     then record { after = with_frame (at_part s c Finish) (new_frame w t m []); changes = Began m ∷ [] }
     else still (raises w (at_part s c Finish) stack_overflow None)
 
+-- the constants are set, and an object that was thrown meets the marker
+abbrev pub with_constants : State → ℕ → Setting → State
+with_constants s c setting = record (at_part s c Superclass) { shared = setting.shared; thrown = setting.thrown }
+
 -- from the state without the marker
 abbrev pub initializes : World → Text → State → ℕ → Part → Turn
-initializes w t s c Constants = still (at_part s c Superclass)
+initializes w t s c Constants = still (with_constants s c (sets_constants w.program c s.shared))
 initializes w t s c Superclass = still (with_super w s c (super_of w.program c))
 initializes w t s c Initializer = runs_initializer w t s c (initializer_of w.program c)
 initializes w t s c Finish = still (record s { shared = with_phase s.shared c Ready })

@@ -5,6 +5,7 @@ use Rattle.std.specs.Option.{ok_or, option_map_or}
 use Rattle.heap_objects.specs.Heaps.{HeapView, kind_at}
 use Rattle.const_pool.specs.References.{Reference}
 use Rattle.jvm_model.specs.Data.{Operands, Program, Shared, Outcome, Raises, Breaks, Done}
+pub use Rattle.jvm_model.specs.Data.{Naming, New, Getfield, Putfield, Getstatic, Putstatic, Invokevirtual, Invokespecial, Invokestatic, Invokeinterface, Checkcast, Instanceof, Anewarray, Multianewarray}
 use Rattle.jvm_model.specs.KindNumbers.{kind_parts}
 use Rattle.jvm_model.specs.Kinds.{is_subkind, kind_named}
 use Rattle.jvm_model.specs.Load.{Fault, NoClass, Circular, Incompatible, error_of, is_among, load_of}
@@ -13,24 +14,7 @@ use Rattle.jvm_model.specs.ObjectRules.{done}
 use Rattle.jvm_model.specs.SharedState.{null_pointer}
 use Rattle.jvm_model.specs.Values.{ref_of}
 
--- ---- the instructions, with the names that they give
-
-pub data Naming : Type 0 where
-  New : List ℕ → Naming
-  Getfield : Reference → Naming
-  Putfield : Reference → Naming
-  Getstatic : Reference → Naming
-  Putstatic : Reference → Naming
-  Invokevirtual : Reference → Naming
-  -- with the name of the class in which it stands, and whether it names an interface's method
-  Invokespecial : List ℕ → Reference → Bool → Naming
-  Invokestatic : Reference → Naming
-  Invokeinterface : Reference → Naming
-  Checkcast : List ℕ → Naming
-  Instanceof : List ℕ → Naming
-  Anewarray : List ℕ → Naming
-  -- with so many dimensions that are given
-  Multianewarray : List ℕ → ℕ → Naming
+-- ---- what is resolved
 
 -- the name of the class, or of the array type, that is resolved: of a member its class's
 abbrev pub resolved_name : Naming → List ℕ

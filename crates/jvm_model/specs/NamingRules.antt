@@ -1,9 +1,8 @@
 -- Every instruction that names a class, a field or a method (JVM Specification 6.5), once what it names is loaded.
 use Rattle.jvm_model.specs.CreationRules.{casts, makes_array_of, makes_multi, makes_new, tells_instance}
-use Rattle.jvm_model.specs.Data.{Locals, Operands, Program, Shared, Done}
+use Rattle.jvm_model.specs.Data.{Locals, Operands, Program, Shared, Done, Naming, New, Getfield, Putfield, Getstatic, Putstatic, Invokevirtual, Invokespecial, Invokestatic, Invokeinterface, Checkcast, Instanceof, Anewarray, Multianewarray}
 use Rattle.jvm_model.specs.FieldRules.{gets_instance, gets_static, puts_instance, puts_static}
 use Rattle.jvm_model.specs.InvocationRules.{Virtual, OfInterface, Special, invokes_instance, invokes_static_method}
-use Rattle.jvm_model.specs.Naming.{Naming, New, Getfield, Putfield, Getstatic, Putstatic, Invokevirtual, Invokespecial, Invokestatic, Invokeinterface, Checkcast, Instanceof, Anewarray, Multianewarray}
 
 abbrev pub does_named : Program → Naming → Shared → Locals → Operands → Done
 does_named p (New name) s l o = makes_new p name s l o

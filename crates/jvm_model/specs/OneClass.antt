@@ -2,6 +2,7 @@
 use Rattle.std.specs.Prelude.{◌≡◌, ◌<◌, ◌≤◌, ◌^◌, List, [], ◌∷◌, length}
 use Rattle.const_pool.specs.declared.class.ClassFile.{ClassFile}
 use Rattle.jvm_model.specs.Data.{Program}
+use Rattle.jvm_model.specs.Meanings.{IsMeant}
 use Rattle.jvm_model.specs.Programs.{first_class, numbered}
 use Rattle.jvm_model.specs.StandsFor.{IsBuilt}
 
@@ -17,6 +18,7 @@ pub record IsBuiltProgram (p : Program) : Type 0 where
   pub class : IsBuilt (first_class p)
   pub program : IsProgramOf (first_class p) p
   pub few : length p.classes < 2 ^ 32
+  pub meant : IsMeant (first_class p) p
   -- so far no program has arguments, and the heap has room for the objects of the start
   pub plain : p.args ≡ []
   pub room : 1024 ≤ p.heap

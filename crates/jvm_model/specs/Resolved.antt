@@ -12,7 +12,7 @@ use Rattle.code_model.specs.declared.instr.Instr.{Instr}
 use Rattle.jvm_model.specs.declared.operation.Resolved.{Resolved}
 use Rattle.jvm_model.specs.declared.operation.Resolved.TheVariants as resolved
 use Rattle.jvm_model.specs.declared.operation.Line.{Line}
-use Rattle.jvm_model.specs.Data.{IntOperator, Iadd, Isub, Imul, Local, Nop, Constant, Load, BinaryOfInts, Return, Operation, Within, Getstatic, Invokestatic, Invokevirtual, Instruction}
+use Rattle.jvm_model.specs.Data.{IntOperator, Iadd, Isub, Imul, Local, Nop, Constant, Load, BinaryOfInts, Return, Naming, Getstatic, Invokestatic, Invokevirtual, Operation, Within, Named, Instruction}
 use Rattle.jvm_model.specs.Descriptors.{same_text}
 use Rattle.jvm_model.specs.Methods.{method_named}
 use Rattle.jvm_model.specs.Rules.{is_out, is_println}
@@ -50,11 +50,15 @@ resolved_local (BinaryOfInts op) = resolved_binary op
 resolved_local (Return k) = resolved_return k
 resolved_local _ = None
 
+abbrev pub resolved_name : ClassFile → Naming → Option Resolved
+resolved_name c (Getstatic r) = if is_out r then Some resolved.Out else None
+resolved_name c (Invokevirtual r) = if is_println r then Some resolved.Println else None
+resolved_name c (Invokestatic r) = option_map resolved.Invokestatic (own_method c r)
+resolved_name c _ = None
+
 abbrev pub resolved_in : ClassFile → Operation → Option Resolved
 resolved_in c (Within i) = resolved_local i
-resolved_in c (Getstatic r) = if is_out r then Some resolved.Out else None
-resolved_in c (Invokevirtual r) = if is_println r then Some resolved.Println else None
-resolved_in c (Invokestatic r) = option_map resolved.Invokestatic (own_method c r)
+resolved_in c (Named n) = resolved_name c n
 resolved_in c _ = None
 
 -- what an instruction of the class does, with its names looked up

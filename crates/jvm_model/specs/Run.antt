@@ -1,13 +1,15 @@
 -- The run of a program as a function of the number of steps: a step is one attempt of an instruction, and all moves behind it.
-use Rattle.std.specs.Prelude.{◌≡◌, ℕ, zero, suc, ◌+◌, Bool, true, false, List, [], ◌∷◌, ◌++◌, Option, Some, None, refl, ◌&&◌, if◌then◌else◌}
+use Rattle.std.specs.Prelude.{◌≡◌, ℕ, zero, suc, ◌+◌, Bool, true, false, List, [], ◌∷◌, ◌++◌, drop, length, unwrap_or, Option, Some, None, refl, ◌&&◌, if◌then◌else◌}
 use Rattle.std.specs.Option.{option_map_or}
 use Rattle.std.proofs.Common.{ap, ◌∙◌, add-one}
 use Rattle.jvm_model.specs.Data.{Frame, Entry, Active, Initializing, Constants, MethodPlace, Phase, Running, Ready, Ending, State, Change, Loads, Turn, Outcome, Initializes, Done, Instruction, Program, Text, World}
-use Rattle.jvm_model.specs.Programs.{place_of_method}
+use Rattle.jvm_model.specs.Programs.{name_at, place_of_method}
 use Rattle.jvm_model.specs.SharedState.{phase_of, with_phase, shared_before, with_arguments}
-use Rattle.jvm_model.specs.Rules.{does, loads}
+use Rattle.jvm_model.specs.Does.{does, loads}
+use Rattle.jvm_model.specs.Load.{Fault, Loading, error_of, load_of}
+use Rattle.jvm_model.specs.Naming.{message_of}
 use Rattle.jvm_model.specs.Applies.{still, breaks, applies}
-use Rattle.jvm_model.specs.Moves.{then_turn, settled}
+use Rattle.jvm_model.specs.Moves.{raises, then_turn, settled}
 use Rattle.jvm_model.specs.Originals.{original}
 
 -- ---- a step
@@ -84,14 +86,28 @@ main_class p = option_map_or (λ (place : MethodPlace). place.class) (place_of_m
 abbrev pub arguments_made : World → State → State
 arguments_made w s = record s { shared = record s.shared { heap = with_arguments w.program s.shared.heap } }
 
-abbrev pub starts_with : World → ℕ → State
-starts_with w class =
-    let loaded = with_loaded (class ∷ []) (arguments_made w (before w)) in
-    record loaded { stack = Initializing class Constants ∷ []; shared = with_phase loaded.shared class Running }
+-- what loading the main class gives; the built-in ones are loaded before
+abbrev pub main_loading : World → Loading
+main_loading w =
+    load_of w.program (before w).shared.loaded (unwrap_or (name_at w.program (main_class w.program)) [])
+
+-- the classes that are loaded for it
+abbrev pub main_loads : World → List ℕ
+main_loads w = drop (length (before w).shared.loaded) (main_loading w).loaded
+
+-- the initialization of the main class begins, or what stopped its loading is raised
+abbrev pub starts_unless : World → Option Fault → State → State
+starts_unless w (Some fault) s = raises w s (error_of fault) (message_of fault)
+starts_unless w None s =
+    let class = main_class w.program in
+    record s { stack = Initializing class Constants ∷ []; shared = with_phase s.shared class Running }
+
+abbrev pub starts_with : World → State
+starts_with w = starts_unless w (main_loading w).fault (with_loaded (main_loads w) (arguments_made w (before w)))
 
 -- the main class is loaded, and then initialized
 abbrev pub start : World → Text → Turn
-start w t = let class = main_class w.program in loaded_turn (class ∷ []) (settled w t (still (starts_with w class)))
+start w t = loaded_turn (main_loads w) (settled w t (still (starts_with w)))
 
 -- ---- the run
 

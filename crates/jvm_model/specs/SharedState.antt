@@ -164,9 +164,6 @@ system_static c m =
 abbrev pub static_zeros : ClassFile → List Datum
 static_zeros c = if has_name system c then map (system_static c) c.fields else zeros c
 
-abbrev pub statics_before : Program → ℕ → List Datum
-statics_before p class = option_map_or static_zeros (class_at p class) []
-
 -- the built-in classes are ready from the beginning, without any code (5.3, 5.5)
 abbrev pub phase_before : ClassFile → Phase
 phase_before c = if has_built_in_name c then Ready else Fresh
@@ -197,7 +194,7 @@ abbrev pub shared_before : Program → Shared
 shared_before p = record {
   loaded = built_in_from 0 p.classes;
   phases = map phase_before p.classes;
-  statics = map zeros p.classes;
+  statics = map static_zeros p.classes;
   heap = heap_before p;
   made = [];
   read = 0;

@@ -1,11 +1,13 @@
 -- Programs that start without any code but `main`: the main class is the first one, its superclass is ready, it has no static initializer,
 -- and all other classes are ready before (JVM Specification 5.2, 5.5).
-use Rattle.std.specs.Prelude.{◌≡◌, ◌≤◌, ℕ, true, List, [], ◌∷◌, map, slice_set, Option, Some, None, if◌then◌else◌}
-use Rattle.jvm_model.specs.Data.{Active, Phase, Fresh, Running, Ready, Erroneous, Unverifiable, Program, State, Loads, Began, Turn, Text, World}
+use Rattle.std.specs.Prelude.{◌≡◌, ◌≤◌, ℕ, true, List, [], ◌∷◌, ◌++◌, map, slice_set, Option, Some, None, if◌then◌else◌}
+use Rattle.jvm_model.specs.Data.{Active, Phase, Fresh, Running, Ready, Erroneous, Unverifiable, Program, Shared, State, Loads, Began, Turn, Text, World}
 use Rattle.jvm_model.specs.Applies.{new_frame, has_room}
 use Rattle.jvm_model.specs.Moves.{argument_array, fresh}
 use Rattle.jvm_model.specs.Programs.{super_of, initializer_of}
-use Rattle.jvm_model.specs.Run.{before, arguments_made, with_loaded, main_class}
+use Rattle.jvm_model.specs.Constants.{set, sets_constants}
+use Rattle.jvm_model.specs.Load.{done}
+use Rattle.jvm_model.specs.Run.{before, arguments_made, main_loading, with_loaded, main_class}
 use Rattle.jvm_model.specs.SharedState.{with_phase, phase_before, phase_of, shared_before}
 
 -- the phases once the first class is initialized
@@ -22,6 +24,9 @@ pub record StartsReady (p : Program) : Type 0 where
   pub above : IsReadyAbove p (super_of p 0)
   pub none : initializer_of p 0 ≡ None
   pub others : fresh (phases_ready p) ≡ 0
+  -- nothing else is loaded for it, and it has no constants
+  pub alone : (input : List ℕ) → main_loading (record { program = p; input = input }) ≡ done ((shared_before p).loaded ++ 0 ∷ [])
+  pub constants : (s : Shared) → sets_constants p 0 s ≡ set s
   -- so far no program has arguments, and the heap has room for the objects of the start
   pub plain : p.args ≡ []
   pub room : 1024 ≤ p.heap
