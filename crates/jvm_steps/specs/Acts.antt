@@ -204,10 +204,13 @@ ended_unless method own (Throws class) p = ended method own p
 ended_unless method own Bad p = ended method own p
 ended_unless method own Other p = ended method own p
 
--- an exception that the machine makes is thrown, with this message
+-- an exception of the class with this name is thrown, with this message
+abbrev pub raised_in : World → List ℕ → Option (List ℕ) → Parts → Parts
+raised_in w name message p = let a = raised w p.shared name message in record p { shared = a.shared; thrown = Some a.reference }
+
+-- one that the machine makes
 abbrev pub raising : World → Exception → Option (List ℕ) → Parts → Parts
-raising w e message p =
-    let a = raised w p.shared (exception_name e) message in record p { shared = a.shared; thrown = Some a.reference }
+raising w e message p = raised_in w (exception_name e) message p
 
 -- nothing follows by itself: the run has ended, or nothing is thrown, and there is a frame with no marker on it
 abbrev pub is_at_rest : List Marker → Parts → Bool
