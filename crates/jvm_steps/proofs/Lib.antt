@@ -20,6 +20,7 @@ mod Actions
 pub mod LineActs
 pub mod LineSteps
 pub mod Beneath
+pub mod ActsLoad
 pub mod Concluded
 pub mod Behind
 pub mod Above
