@@ -5,10 +5,11 @@ use Rattle.std.specs.List.{AllByRecursion, list_any}
 use Rattle.const_pool.specs.BuiltIn.{built_in_names}
 use Rattle.heap_objects.specs.declared.object.Object.{Object}
 use Rattle.heap_objects.specs.Objects.{kind_of}
-use Rattle.jvm_model.specs.Data.{Entry, Active, Initializing, MethodPlace, Naming, Invokespecial, Operation, Newarray, Instruction, Outcome, Invokes, Raises, Initializes, Done, Program, Shared, State}
+use Rattle.jvm_model.specs.Data.{Entry, Active, Initializing, MethodPlace, Naming, Invokespecial, Operation, Named, Newarray, Instruction, Outcome, Invokes, Raises, Initializes, Done, Program, Shared, State}
 use Rattle.jvm_model.specs.Descriptors.{same_text}
 use Rattle.jvm_model.specs.KindNumbers.{class_of_base, user_count}
 use Rattle.jvm_model.specs.Kinds.{is_array_name}
+use Rattle.jvm_model.specs.Lines.{has_dimensions}
 use Rattle.jvm_model.specs.Load.{is_among}
 use Rattle.jvm_model.specs.Lookup.{interfaces_of, superclass_of}
 use Rattle.jvm_model.specs.Originals.{original}
@@ -77,6 +78,11 @@ HasLoadedCaller p loaded n = Unit {0}
 abbrev pub HasPrimitive : Operation → Type 0
 HasPrimitive (Newarray code) = code < 16
 HasPrimitive o = Unit {0}
+
+-- what an attempt of the instruction asks: of one that names an array's type, also that it has the dimensions that it needs
+abbrev pub CanAttempt : Program → List ℕ → Operation → Type 0
+CanAttempt p loaded (Named n) = HasLoadedCaller p loaded n × (has_dimensions n ≡ true)
+CanAttempt p loaded o = HasPrimitive o
 
 -- ---- what an instruction asks for
 
