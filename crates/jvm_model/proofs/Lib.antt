@@ -17,6 +17,8 @@ pub mod Growth
 pub mod Methods
 pub mod Order
 pub mod WithinMoves
+pub mod ObjectMoves
+pub mod NamedMoves
 pub mod Operations
 pub mod AppliesMoves
 pub mod MovesMove
