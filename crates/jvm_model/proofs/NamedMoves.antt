@@ -19,7 +19,7 @@ use Rattle.jvm_model.specs.Selection.{is_abstract, is_static}
 use Rattle.jvm_model.specs.KindNumbers.{user_count}
 use Rattle.jvm_model.specs.Kinds.{kind_named}
 use Rattle.jvm_model.specs.Programs.{number_of_method}
-use Rattle.jvm_model.specs.Values.{as_value, datum_of, int_of, ref_of, arguments}
+use Rattle.jvm_model.specs.Values.{as_value, int_of, ref_of, arguments}
 use Rattle.jvm_model.specs.SharedState.{phase_of, class_of, class_of_kind, static_at, with_static, null_pointer}
 use Rattle.jvm_model.specs.LocalRules.{pushes, replaces}
 use Rattle.jvm_model.specs.ObjectRules.{done, makes}

@@ -1,5 +1,5 @@
 -- The same of every operation.
-use Rattle.std.proofs.Common.{◌≡◌, ℕ, List, refl, ap, ◌∙◌}
+use Rattle.std.proofs.Common.{◌≡◌, ℕ, refl, ap, ◌∙◌}
 use Rattle.jvm_model.specs.Data.{Locals, Operands, Shared, World, Operation, Within, Named, Athrow, Monitor, Newarray, Arraylength, LoadElement, StoreElement}
 use Rattle.jvm_model.specs.Does.{does, loads}
 use Rattle.jvm_model.specs.ObjectRules.{done, measures, array_kind, makes, place_of, loads_element, storing_of, stores_element, watches, throws}
@@ -10,7 +10,6 @@ use Rattle.jvm_model.proofs.ObjectMoves.{int_of-moves, ref_of-moves, place_of-mo
 use Rattle.jvm_model.proofs.NamedMoves.{named-moves, newly_loaded-moves}
 
 module _ (h : ℕ → ℕ) where
-
   pub does-moves : (w : World) (op : Operation) (s : Shared) (l : Locals) (o : Operands) → does w op s (moved_locals h l) (moved_operands h o) ≡ moved_done h (does w op s l o)
   does-moves w (Within i) s l o = ap (done s) (within-moves h i l o)
   does-moves w (Named n) s l o = named-moves h w.program n s l o
