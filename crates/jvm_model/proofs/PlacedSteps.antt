@@ -13,7 +13,7 @@ use Rattle.jvm_model.specs.declared.operation.Resolved.TheVariants as resolved
 use Rattle.heap_objects.specs.declared.Value.TheVariants.{Int, Long, Ref, Addr}
 use Rattle.jvm_model.specs.Data.{Operands, Frame, Entry, Active, Initializing, State, Instruction, Text, World}
 use Rattle.jvm_model.specs.Agreement as agreement
-use Rattle.jvm_model.specs.Agreement.{IsStart, is_return_operation, is_left_by, leave_probe_of, entry_kind, first_place, behind_leave, is_entry, is_leave, entry_probe_of, rewritten}
+use Rattle.jvm_model.specs.Agreement.{IsStart, is_return_operation, is_left_by, leave_probe_of, entry_kind, first_place, behind_leave, is_entry, is_leave, rewritten}
 use Rattle.jvm_model.specs.Images.{is_off}
 use Rattle.jvm_model.specs.Attempts.{asks, does_line, closed, attempt_placed}
 use Rattle.jvm_model.specs.Installed.{Installed, class_in, world_in, line_in, placed, tabled}

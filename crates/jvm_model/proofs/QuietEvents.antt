@@ -110,7 +110,7 @@ module _ (c : ClassFile) (w : World) (built : IsBuilt c) (of : IsProgramOf c w.p
       went-known is.has.resolved (step w (original w.program) (run w n)) is.went
 
   start-known : (b : Bool) → has_room w w.program.main argument_array ≡ b → turn w 0 ≡ cond b (begun_in w (original w.program)) (unbegun_in w) → BeginsKnown c (turn w 0).changes
-  start-known true room is = subst (λ (a : Turn). BeginsKnown c a.changes) (sym is) (main-coded c w built.small of, tt)
+  start-known true room is = subst (λ (a : Turn). BeginsKnown c a.changes) (sym is) (main-coded c w (original w.program) built.small of, tt)
   start-known false room is = subst (λ (a : Turn). BeginsKnown c a.changes) (sym is) tt
 
   turn-known : (n : ℕ) → BeginsKnown c (turn w n).changes

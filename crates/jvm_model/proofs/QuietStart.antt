@@ -23,8 +23,8 @@ first-few : (n m : ℕ) → n < m → m ≤ 1000 → n + 0 < 1000
 first-few n m within few = omega arith
 
 -- the main method has code
-pub main-coded : (c : ClassFile) (w : World) → IsSmallClass c → IsProgramOf c w.program → is_some (method_code c w.program.main) ≡ true
-main-coded c w small of =
+pub main-coded : (c : ClassFile) (w : World) (t : Text) → IsSmallClass c → IsProgramOf c w.program → is_some (method_code c w.program.main) ≡ true
+main-coded c w t small of =
     let main = main-first c w.program of in
     ap is_some (ap (option_and_then code_of) main.1 ∙ (small.methods w.program.main main.0 main.1).coded)
 
@@ -40,7 +40,7 @@ module _ (c : ClassFile) (w : World) (t : Text) (built : IsBuilt c) (of : IsProg
     thrown = refl;
     begun = λ e. refl;
     shared = refl;
-    coded = (record { same = one; code = main-coded c w built.small of; few = first-few main (length c.methods) of.main built.plain.few; streams = tt }, tt);
+    coded = (record { same = one; code = main-coded c w t built.small of; few = first-few main (length c.methods) of.main built.plain.few; streams = tt }, tt);
   }
   by_room false one = record {
     thrown = refl;

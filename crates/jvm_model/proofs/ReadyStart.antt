@@ -1,6 +1,6 @@
 -- How a program starts that starts without any code but `main`, and that a program of a small class is such a program.
 use Rattle.std.proofs.Common.{◌≡◌, ℕ, zero, suc, ◌+◌, ◌*◌, ◌<◌, ◌≤◌, get_or, arith, Bool, true, false, List, [], ◌∷◌, ◌++◌, slice_get, cond, Option, Some, None, refl, sym, ap, subst, ◌∙◌}
-use Rattle.std.specs.Prelude.{codes, not, is_some, length, drop, map, slice_set, ◌&&◌, ◌||◌, ◌==◌}
+use Rattle.std.specs.Prelude.{codes, not, length, drop, map, slice_set, ◌&&◌, ◌||◌, ◌==◌}
 use Rattle.std.specs.Option.{option_map, option_map_or, option_and_then}
 use Rattle.std.specs.List.{list_any, AllByRecursion}
 use Rattle.std.proofs.Math.Seq.{drop-append_seam}
@@ -22,7 +22,7 @@ use Rattle.jvm_model.specs.Moves.{at_part, after_super, with_super, runs_initial
 use Rattle.jvm_model.specs.OneClass.{IsProgramOf}
 use Rattle.jvm_model.specs.Programs.{name_of, has_name, has_built_in_name, class_named, super_of, number_of_method, initializer_name, initializer_of}
 use Rattle.jvm_model.specs.Run.{before, arguments_made, with_loaded, loaded_turn, main_class, main_loading, main_loads, starts_unless, starts_with, start}
-use Rattle.jvm_model.specs.SharedState.{phase_of, with_phase, shared_before, phase_before}
+use Rattle.jvm_model.specs.SharedState.{with_phase, phase_before}
 use Rattle.jvm_model.specs.SmallClass.{begins_with, is_free_name, is_plain_name, is_plain_member, member_of, IsSmallClass}
 use Rattle.jvm_model.specs.StandsFor.{IsBuilt}
 use Rattle.jvm_model.specs.Starting.{IsReadyAbove, StartsReady, phases_ready, ready_in, begun_in, unbegun_in, begins_or_ends}
