@@ -39,6 +39,7 @@ pub mod TracesEvents
 pub mod TracesFrames
 pub mod TracesEntries
 pub mod TracesMarks
+pub mod WorkedLibrary
 pub mod PlainRun
 pub mod TracesPlain
 pub mod QuietChanges

@@ -9,11 +9,12 @@ use Rattle.jvm_model.specs.Programs.{name_at}
 use Rattle.jvm_model.specs.Run.{turn_in}
 use Rattle.jvm_model.specs.Activations.{trace_in}
 use Rattle.jvm_model.specs.SharedState.{null_pointer, in_initializer, no_class_definition, phase_of, class_of_kind}
-use Rattle.jvm_model.proofs.WorkedPrograms.{Routine, Sketch, Sketches, object_name, world_by, places_of, uncaught_of, after, changes_of, trace_by, main_routine, initializer, alone, at, int, null, pop, returns, getstatic, putstatic}
+use Rattle.jvm_model.proofs.WorkedLibrary.{class, item, object_name, with_fields}
+use Rattle.jvm_model.proofs.WorkedPrograms.{Routine, Sketch, Sketches, sketch, world_by, places_of, uncaught_of, after, changes_of, trace_by, main_routine, initializer, alone, at, int, null, pop, returns, getstatic, putstatic}
 
 -- a class with one static field
 abbrev pub with_field : List ℕ → List ℕ → List ℕ → List Routine → Sketch
-with_field name above field routines = record { name = name; above = Some above; interfaces = []; fields = field ∷ []; routines = routines }
+with_field name above field routines = sketch (with_fields (item 8 field (codes "I") ∷ []) (class name above [])) routines
 
 -- main reads a static field
 abbrev pub reads : List ℕ → List ℕ → List Instruction
@@ -74,7 +75,8 @@ pub none_set-places : places_of (after none_set 1).stack ≡ 3 ∷ []
 unfolding turn_in
 none_set-places = refl
 
-pub none_set-changes : changes_of none_set 1 ≡ []
+-- both are loaded, the superclass first
+pub none_set-changes : changes_of none_set 1 ≡ Loads (1 ∷ 2 ∷ []) ∷ []
 unfolding turn_in
 none_set-changes = refl
 
