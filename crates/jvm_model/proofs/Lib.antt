@@ -56,3 +56,4 @@ pub mod WorkedArrays
 pub mod WorkedFamilies
 pub mod WorkedClasses
 pub mod WorkedInvocations
+pub mod WorkedSeveral

@@ -1,17 +1,20 @@
 -- Programs by hand, for worked runs: instructions as lists, beside class files by hand. Of a method that has Code the class file has
 -- what it takes, gives and has room for.
-use Rattle.std.specs.Prelude.{ℕ, ◌+◌, List, [], ◌∷◌, ◌++◌, map, Option, Some, None, codes, pos, slice_get, ◌==◌, if◌then◌else◌}
+use Rattle.std.specs.Prelude.{ℕ, zero, suc, ◌+◌, true, false, List, [], ◌∷◌, ◌++◌, map, Option, Some, None, codes, pos, slice_get, ◌==◌, if◌then◌else◌}
 use Rattle.std.specs.Option.{option_map, option_map_or}
 use Rattle.heap_objects.specs.declared.datum.Datum.TheVariants as datum
 use Rattle.const_pool.specs.declared.descriptor.Kind.TheVariants as kind
 use Rattle.const_pool.specs.declared.class.ClassFile.{ClassFile}
 use Rattle.const_pool.specs.declared.class.Attribute.TheVariants.{Code}
 use Rattle.const_pool.specs.References.{NameAndType, Reference}
-use Rattle.jvm_model.specs.Data.{Pop, Ending, Uncaught, Entry, Active, Initializing, Constant, Load, Arrange, Return, Operation, Within, Named, Getstatic, Putstatic, Invokestatic, Invokevirtual, Instruction, Catcher, Text, World, Change, State, Turn}
+use Rattle.jvm_model.specs.Data.{Pop, Ending, Uncaught, Entry, Active, Initializing, Constant, Load, Arrange, Return, Operation, Within, Named, New, Getstatic, Putstatic, Invokestatic, Invokevirtual, Invokespecial, Operands, Instruction, Catcher, Text, World, Change, State, Turn}
 use Rattle.jvm_model.specs.Lines.{next_of}
 use Rattle.jvm_model.specs.Programs.{numbered, class_named}
 use Rattle.jvm_model.specs.Run.{turn_in}
-use Rattle.jvm_model.specs.Activations.{Trace, trace_in}
+use Rattle.jvm_model.specs.declared.event.Act.{Act}
+use Rattle.jvm_model.specs.Activations.{Trace, current, trace_in}
+use Rattle.jvm_model.specs.Paths.{Context, contexts_of}
+use Rattle.jvm_model.specs.Projection.{paths_of, path_at}
 pub use Rattle.jvm_model.proofs.WorkedLibrary.{Item, Shape, class, file_of, library_files, member, object_name, with_methods}
 
 -- ---- what is given by hand
@@ -59,6 +62,10 @@ world_by s = record {
   input = [];
 }
 
+-- with a heap of so many slots
+abbrev pub with_heap : ℕ → World → World
+with_heap slots w = record w { program = record w.program { heap = slots } }
+
 abbrev pub routines_of : List Sketch → List Routine
 routines_of [] = []
 routines_of (s ∷ more) = s.routines ++ routines_of more
@@ -93,6 +100,10 @@ changes_of s n = (turn_by s n).changes
 abbrev pub trace_by : Sketches → ℕ → Trace
 trace_by s n = trace_in (world_by s) (text_by s) n
 
+-- where the heap has so many slots
+abbrev pub turn_in_heap : ℕ → Sketches → ℕ → Turn
+turn_in_heap slots s n = turn_in (with_heap slots (world_by s)) (text_by s) n
+
 -- that the run ended, for what was thrown is of the class with this name
 abbrev pub uncaught_of : Sketches → List ℕ → Option Ending
 uncaught_of s name = option_map Uncaught (class_named (world_by s).program name)
@@ -103,11 +114,38 @@ places_of [] = []
 places_of (Active f ∷ below) = f.place ∷ places_of below
 places_of (Initializing c part ∷ below) = places_of below
 
+-- the operands of the current frame
+abbrev pub operands_in : List Entry → Operands
+operands_in [] = []
+operands_in (Active f ∷ below) = f.operands
+operands_in (Initializing c part ∷ below) = []
+
+abbrev pub operands_of : State → Operands
+operands_of s = operands_in s.stack
+
+-- ---- contexts
+
+-- this method is selected before the start
+abbrev pub selecting : ℕ → List Act
+selecting method = record { moment = 0; select = true; method = method } ∷ []
+
+-- the path in which each step was made: that of the current activation before it
+abbrev pub paths_by : Sketches → List Act → ℕ → List (List ℕ)
+paths_by s acts zero = []
+paths_by s acts (suc n) = paths_by s acts n ++ path_at acts (trace_by s (suc n)).activations (current (trace_by s n).live) ∷ []
+
+abbrev pub contexts_by : Sketches → List Act → ℕ → List Context
+contexts_by s acts n = contexts_of (paths_of acts (trace_by s n).activations) (paths_by s acts n)
+
 -- ---- methods
 
 -- a static one
 abbrev pub routine : NameAndType → ℕ → ℕ → List Instruction → Routine
 routine member max_stack max_locals code = record { access = 8; member = member; max_stack = max_stack; max_locals = max_locals; code = code; handlers = [] }
+
+-- of an object
+abbrev pub instance : NameAndType → ℕ → ℕ → List Instruction → Routine
+instance member max_stack max_locals code = record (routine member max_stack max_locals code) { access = 1 }
 
 abbrev pub main_member : NameAndType
 main_member = member (codes "main") (codes "([Ljava/lang/String;)V")
@@ -146,6 +184,9 @@ null = Within (Constant (datum.Ref 0))
 abbrev pub iload : ℕ → Operation
 iload slot = Within (Load kind.Int slot)
 
+abbrev pub aload_0 : Operation
+aload_0 = Within (Load kind.Ref 0)
+
 abbrev pub pop : Operation
 pop = Within (Arrange Pop)
 
@@ -166,6 +207,16 @@ putstatic class name = Named (Putstatic (reference class name (codes "I")))
 
 abbrev pub call : List ℕ → List ℕ → List ℕ → Operation
 call class name descriptor = Named (Invokestatic (reference class name descriptor))
+
+abbrev pub new : List ℕ → Operation
+new name = Named (New name)
+
+-- invokespecial, in a class of this name
+abbrev pub call_special : List ℕ → List ℕ → List ℕ → List ℕ → Operation
+call_special caller class name descriptor = Named (Invokespecial caller (reference class name descriptor) false)
+
+abbrev pub call_virtual : List ℕ → List ℕ → List ℕ → Operation
+call_virtual class name descriptor = Named (Invokevirtual (reference class name descriptor))
 
 abbrev pub get_out : Operation
 get_out = Named (Getstatic (reference (codes "java/lang/System") (codes "out") (codes "Ljava/io/PrintStream;")))
