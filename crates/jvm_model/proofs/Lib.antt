@@ -56,6 +56,7 @@ pub mod WorkedInitializers
 pub mod WorkedLimits
 pub mod WorkedArrays
 pub mod WorkedFamilies
+pub mod WorkedLines
 pub mod WorkedClasses
 pub mod WorkedInvocations
 pub mod WorkedSeveral

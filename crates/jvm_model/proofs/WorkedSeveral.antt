@@ -204,6 +204,11 @@ half_way-changes : changes_of half_way 0 ≡ Loads (1 ∷ []) ∷ []
 unfolding turn_in
 half_way-changes = refl
 
+-- the message stands behind the objects of the start
+half_way-text : units_at 6 (after half_way 0).shared.heap ≡ Some (codes "Absent")
+unfolding turn_in
+half_way-text = refl
+
 -- an interface as the superclass
 abbrev below_interface : Sketches
 below_interface = record {
