@@ -1,22 +1,20 @@
 -- The attempt of any instruction keeps what is shared sound (JVM Specification 6.5), and an instruction of original code can be attempted.
-use Rattle.std.proofs.Common.{◌≡◌, ℕ, ◌+◌, ◌*◌, ◌≤◌, ◌<◌, Bool, true, false, List, [], ◌∷◌, ap, sym, subst, refl, ◌∙◌, lit<, arith}
-use Rattle.std.specs.Prelude.{drop, length, Option, Some, None, slice_get, ℤ, pos, negsuc, nat_le, ◌==◌, ◌&&◌, ◌||◌, if◌then◌else◌}
-use Rattle.std.specs.Option.{IfSome, option_and_then, option_map, option_map_or}
+use Rattle.std.proofs.Common.{◌≡◌, ℕ, Bool, true, false, List, [], ◌∷◌, refl, arith}
+use Rattle.std.specs.Prelude.{drop, Option, Some, None, ℤ, ◌==◌, ◌&&◌, if◌then◌else◌}
 use Rattle.heap_objects.specs.declared.datum.Datum.{Datum}
 use Rattle.heap_objects.specs.declared.Value.{Value}
 use Rattle.heap_objects.specs.declared.Value.TheVariants.{Int, Long, Ref, Addr}
-use Rattle.heap_objects.specs.Heaps.{length_at, slot_at, with_slot_at}
-use Rattle.const_pool.specs.declared.class.ClassFile.{ClassFile}
+use Rattle.heap_objects.specs.Heaps.{with_slot_at}
 use Rattle.const_pool.specs.declared.descriptor.Kind.{Kind}
-use Rattle.jvm_model.specs.Data.{Locals, Operands, Frame, MethodPlace, Local, Nop, Constant, Load, Store, Arrange, BinaryOfInts, BinaryOfLongs, DivisionOfInts, DivisionOfLongs, ShiftOfLong, UnaryOfInt, UnaryOfLong, Lcmp, Iinc, Branch, Goto, Switch, Jsr, Ret, Return, Keys, Shared, Operation, Within, Named, Athrow, Monitor, Newarray, Arraylength, LoadElement, StoreElement, Instruction, Outcome, GoesOn, Next, Throws, Raises, Breaks, Done, Program, World}
+use Rattle.jvm_model.specs.Data.{Locals, Operands, Local, Nop, Constant, Load, Store, Arrange, BinaryOfInts, BinaryOfLongs, DivisionOfInts, DivisionOfLongs, ShiftOfLong, UnaryOfInt, UnaryOfLong, Lcmp, Iinc, Branch, Goto, Switch, Jsr, Ret, Return, Keys, Shared, Operation, Within, Named, Athrow, Monitor, Newarray, Arraylength, LoadElement, StoreElement, Outcome, GoesOn, Next, Throws, Raises, Breaks, Done, Program, World}
 use Rattle.jvm_model.specs.Does.{does, loads}
-use Rattle.jvm_model.specs.LocalRules.{branches, calculates, calculates_long, compares_longs, converts_int, converts_long, divides_these, divided, goes_back, goes_if, holds, increments, leaves, pushes, replaces, returns, returns_datum, shifts, stores, switches_on, tests, within}
+use Rattle.jvm_model.specs.LocalRules.{divides_these, goes_back, goes_if, holds, increments, leaves, pushes, replaces, returns, returns_datum, stores, switches_on, tests, within}
 use Rattle.jvm_model.specs.Lookup.{is_below}
-use Rattle.jvm_model.specs.ObjectRules.{Access, ToNull, ToAnother, Outside, Inside, Storing, access_to, array_kind, array_length, done, fits_array, loads_at, loads_element, makes, measures, place_of, refused, stores_at, stores_element, storing_of, throws, watches}
+use Rattle.jvm_model.specs.ObjectRules.{Access, ToNull, ToAnother, Outside, Inside, Storing, access_to, array_kind, done, fits_array, loads_at, loads_element, measures, place_of, refused, stores_at, stores_element, storing_of, throws, watches}
 use Rattle.jvm_model.specs.SharedState.{array_store, class_of, null_pointer, throwable}
 use Rattle.jvm_model.specs.Sound.{CanAttempt, IsFit, IsSoundDone, IsSoundOutcome, IsSoundShared}
 use Rattle.jvm_model.specs.StackForms.{forms_of}
-use Rattle.jvm_model.specs.Values.{arranged, datum_of, int_of, is_storable, has_slots, loaded, local_in, ref_of, stored}
+use Rattle.jvm_model.specs.Values.{arranged, datum_of, int_of, is_storable, has_slots, local_in, ref_of, stored}
 use Rattle.jvm_model.proofs.SoundKinds.{has-root, of-primitive}
 use Rattle.jvm_model.proofs.SoundObjects.{objects-slot, with-heap}
 use Rattle.jvm_model.proofs.SoundRules.{array-fine, sound-named}
