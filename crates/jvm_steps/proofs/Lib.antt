@@ -1,3 +1,5 @@
+pub mod MovesLoad
+pub mod NamedLaws
 pub mod MovesOn
 pub mod MarkedStacks
 pub mod Initializations
@@ -20,6 +22,8 @@ mod BuiltInLoads
 pub mod LineActs
 pub mod LineSteps
 pub mod Beneath
+pub mod ActsLoad
+pub mod Concluded
 pub mod Behind
 pub mod Above
 pub mod OpenClasses

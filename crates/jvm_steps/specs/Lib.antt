@@ -10,6 +10,7 @@ pub mod Returning
 pub mod Before
 pub mod Arguments
 pub mod Invoking
+pub mod Asked
 pub mod Initializing
 pub mod Entries
 pub mod Raising
