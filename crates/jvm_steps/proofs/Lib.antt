@@ -16,7 +16,9 @@ pub mod Tabled
 pub mod Positions
 pub mod Entries
 pub mod LineFamilies
-mod Actions
+pub mod Actions
+pub mod Dimensions
+mod BuiltInLoads
 pub mod LineActs
 pub mod LineSteps
 pub mod Beneath

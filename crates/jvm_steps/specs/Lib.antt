@@ -1,6 +1,7 @@
 pub mod States
 pub mod Markers
 pub mod Lines
+pub mod Linked
 pub mod Prepared
 pub mod Settling
 pub mod Acts
