@@ -27,7 +27,6 @@ pub mod Concluded
 pub mod Sounded
 pub mod Behind
 pub mod Above
-pub mod OpenClasses
 pub mod ElementLemmas
 pub mod ElementActs
 pub mod Leading
