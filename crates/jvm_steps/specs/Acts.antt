@@ -2,7 +2,7 @@
 -- says of the instruction that the line stands for. From the state without that frame, and the frame.
 use Rattle.std.specs.Prelude.{◌≡◌, ℕ, Bool, true, false, ◌&&◌, ◌||◌, is_some, is_none, List, [], ◌∷◌, ◌++◌, Option, Some, None, Result, OnOk, if◌then◌else◌}
 use Rattle.jf_bytes.specs.declared.error.NoMemory.{NoMemory}
-use Rattle.std.specs.Option.{option_map}
+use Rattle.std.specs.Option.{option_map, option_map_or}
 use Rattle.heap_objects.specs.declared.datum.Datum.{Datum}
 use Rattle.const_pool.specs.declared.descriptor.Kind.{Kind}
 use Rattle.frame_stack.specs.FrameLists.{PlacedFrame, has_frame}
@@ -225,6 +225,9 @@ goes_on_in ms p = is_none p.ending && (has_frame p.frames.frames && is_unmarked 
 abbrev pub is_named : Action → Bool
 is_named (action.Named n) = true
 is_named _ = false
+
+abbrev pub named_in : Option Line → Bool
+named_in line = option_map_or (λ (l : Line). is_named l.action) line false
 
 -- by a line with this action (5.5)
 abbrev pub awaited : World → State → Frame → Action → Option ℕ

@@ -7,11 +7,11 @@ pub mod Settling
 pub mod Acts
 pub mod Going
 pub mod Returning
-pub mod Before
 pub mod Arguments
 pub mod Invoking
 pub mod Asked
 pub mod Initializing
+pub mod Before
 pub mod Entries
 pub mod Raising
 pub mod Elements

@@ -3,7 +3,9 @@
 #![tactic(auto)]
 
 mod arrays;
+mod asking;
 mod attempting;
+mod beginning;
 mod descriptor;
 mod elements;
 mod exceptions;
@@ -43,5 +45,6 @@ pub use members::{
 pub use originals::{Exception, Originals};
 pub use parts::{Here, Parts, where_now};
 pub use raising::raise;
-pub use starting::{make_ready, parts_before, start};
+pub use beginning::{make_ready, start};
+pub use starting::parts_before;
 pub use stepping::{run, step};
