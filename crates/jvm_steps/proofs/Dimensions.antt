@@ -2,6 +2,7 @@
 use Rattle.std.proofs.Common.{◌≡◌, ◌≤◌, ◌<◌, ℕ, Bool, true, false, cond, List, [], ◌∷◌, Option, Some, None, refl, sym, ap, subst, ◌∙◌}
 use Rattle.std.specs.Prelude.{◌==◌, ◌&&◌, nat_lt, nat_le}
 use Rattle.std.specs.Borrow.{Bor}
+use Rattle.std.specs.Int.{is_in_range}
 use Rattle.std.specs.List.{AllByRecursion}
 use Rattle.std.specs.Option.{IfSome, option_and_then, option_copied, option_map}
 use Rattle.std.proofs.lemmas.Bool.{ltb-true, leb-true}
@@ -47,17 +48,17 @@ RowFits r = Dimensioned r.operation
 
 among : (rows : List ObjectRow) (op : ℕ) → AllByRecursion RowFits rows → IfSome (object_among rows op) Dimensioned
 among [] op h = tt
-among (r ∷ rs) op h = by (op == r.op) where
-  by : (b : Bool) → IfSome (cond b (Some r.operation) (object_among rs op)) Dimensioned
-  by true = h.0
-  by false = among rs op h.1
+among (r ∷ rs) op h = by (op == r.op) (among rs op h.1) where
+  by : (b : Bool) → IfSome (object_among rs op) Dimensioned → IfSome (cond b (Some r.operation) (object_among rs op)) Dimensioned
+  by true rest = h.0
+  by false rest = rest
 
 other : (c : ClassFile) (op : ℕ) (a : Arg) → IfSome (other_operation c op a) Dimensioned
 other c op (arg.Pool index) = named-one (naming_of c op index)
 other c op (arg.Interface index count zero) = named-one (interface_naming c op index)
 other c op (arg.Multi index dimensions) = named-one (multi_naming c op index dimensions)
-other c op (arg.Array code) = chosen (op == 188) (Newarray code) tt
-other c op arg.Plain = among object_rows op (tt, tt, tt, tt, tt, tt, tt, tt, tt, tt, tt, tt, tt, tt, tt, tt, tt)
+other c op (arg.Array code) = chosen (op == 188 && is_in_range 4 11 code) (Newarray code) tt
+other c op arg.Plain = among object_rows op (tt, ((tt, ((tt, ((tt, ((tt, ((tt, ((tt, ((tt, ((tt, ((tt, ((tt, ((tt, ((tt, ((tt, ((tt, (tt, tt))))))))))))))))
 other c op _ = tt
 
 within : (o : Option Local) → IfSome (option_map Within o) Dimensioned
