@@ -24,6 +24,7 @@ pub mod LineSteps
 pub mod Beneath
 pub mod ActsLoad
 pub mod Concluded
+pub mod NamedAttempts
 pub mod Sounded
 pub mod Behind
 pub mod Above
