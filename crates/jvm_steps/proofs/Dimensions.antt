@@ -58,7 +58,7 @@ other c op (arg.Pool index) = named-one (naming_of c op index)
 other c op (arg.Interface index count zero) = named-one (interface_naming c op index)
 other c op (arg.Multi index dimensions) = named-one (multi_naming c op index dimensions)
 other c op (arg.Array code) = chosen (op == 188 && is_in_range 4 11 code) (Newarray code) tt
-other c op arg.Plain = among object_rows op (tt, ((tt, ((tt, ((tt, ((tt, ((tt, ((tt, ((tt, ((tt, ((tt, ((tt, ((tt, ((tt, ((tt, ((tt, (tt, tt))))))))))))))))
+other c op arg.Plain = among object_rows op (tt, (tt, (tt, (tt, (tt, (tt, (tt, (tt, (tt, (tt, (tt, (tt, (tt, (tt, (tt, (tt, tt))))))))))))))))
 other c op _ = tt
 
 within : (o : Option Local) → IfSome (option_map Within o) Dimensioned

@@ -35,6 +35,7 @@ mod stepping;
 mod supertypes;
 mod throwing;
 
+pub use beginning::{make_ready, start};
 pub use descriptor::shape_of;
 pub use invoking::{fits_params, may_begin};
 pub use line::{Action, Line};
@@ -45,6 +46,5 @@ pub use members::{
 pub use originals::{Exception, Originals};
 pub use parts::{Here, Parts, where_now};
 pub use raising::raise;
-pub use beginning::{make_ready, start};
 pub use starting::parts_before;
 pub use stepping::{run, step};
