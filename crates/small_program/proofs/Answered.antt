@@ -9,7 +9,7 @@ use Rattle.admit_check.specs.declared.error.AdmitError.TheVariants as fault
 use Rattle.small_program.specs.declared.admission.Admitted.{Admitted}
 use Rattle.small_program.specs.declared.admission.Refused.{Refused}
 use Rattle.small_program.specs.declared.admission.Refused.TheVariants as refused
-use Rattle.small_program.specs.Admission.{is_memory, is_of_class, passes_classes, outside_or, refusal_for, selected, AllRun, AreRoots, IsOutside, is_built_plan, Runs, RunsPlanned, RunsWith, IsRefusedFor}
+use Rattle.small_program.specs.Admission.{is_memory, is_of_class, passes_classes, outside_or, refusal_for, selected, AllRun, AreRoots, IsOutside, is_built_plan, Runs, RunsWith, IsRefusedFor}
 use Rattle.small_program.specs.Runnable.{IsRunnable}
 
 false_true : {A : Type 0} → false ≡ true → A

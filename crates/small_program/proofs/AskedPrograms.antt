@@ -1,5 +1,5 @@
 -- What admission answers has the arguments and the heap that the plan says.
-use Rattle.std.proofs.Common.{◌≡◌, ◌≤◌, ℕ, true, List, [], ◌∷◌, length, Option, Some, None, Result, Ok, Err, refl, sym, ap, subst, ◌∙◌}
+use Rattle.std.proofs.Common.{◌≡◌, ◌≤◌, ℕ, suc, eqb-true, arith, true, List, [], ◌∷◌, length, Option, Some, None, Result, Ok, Err, refl, sym, ap, subst, ◌∙◌}
 use Rattle.std.specs.Prelude.{◌==◌, unwrap_or}
 use Rattle.std.proofs.lemmas.Bool.{and_parts}
 use Rattle.const_pool.specs.declared.class.ClassFile.{ClassFile}
@@ -58,7 +58,7 @@ asked-of classes main plan p e =
 
 none-in : (arguments : List (List ℕ)) → length arguments == 0 ≡ true → arguments ≡ []
 none-in [] e = refl
-none-in (first ∷ rest) e = absurd cc
+none-in (first ∷ rest) e = let zeroed : suc (length rest) ≡ 0 = eqb-true (suc (length rest)) 0 e in absurd (omega (arith, zeroed))
 
 pub built-args : (plan : Plan) (p : Program) → is_built_plan plan ≡ true → IsAsked plan.args (unwrap_or plan.heap 4194304) p → p.args ≡ []
 built-args plan p built asked =

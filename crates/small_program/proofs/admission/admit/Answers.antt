@@ -30,7 +30,7 @@ returns-in-None-clause-runnable c =
     let is = known c in
     let asked = asked-of c.args.classes c.args.main.now c.args.plan.now c.in-Ok.program c.in-Ok.ensures.admitted in
     runnable-as c.args.plan.now c.run_as.result c.in-Ok.program c.args.classes c.in_ok-roots.roots
-    (λ built root fits. classes-runnable c.args.classes c.in-Ok.program c.args.main.now root c.requires.formed is.built fits c.in-Ok.ensures.sound
+    (λ built root fits. classes-runnable c.args.classes c.in-Ok.program c.args.main.now root c.requires.formed c.requires.count fits c.in-Ok.ensures.sound
     (built-args c.args.plan.now c.in-Ok.program built asked) (asked-heap c.args.plan.now c.in-Ok.program c.requires.heap asked))
     is.decided (planned c) c.run_as.ensures.program c.run_as.ensures.own
 
