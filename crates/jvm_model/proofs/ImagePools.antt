@@ -11,6 +11,7 @@ use Rattle.const_pool.specs.declared.pool.PoolError.{PoolError}
 use Rattle.const_pool.specs.declared.pool.PoolError.TheVariants.{BadIndex, WrongKind}
 use Rattle.const_pool.specs.Pool.{entry_of, entry_at}
 use Rattle.const_pool.specs.References.{◌>>=◌, entry_walk, text_entry, text_walk, class_entry, class_walk, NameAndType, name_type_entry, name_type_walk, Reference, reference_walk, member_entry, member_walk, named_text, named_class, named_member, is_field, is_method, named_field, named_method}
+use Rattle.jvm_model.specs.Lines.{is_interface_method, named_interface_method}
 use Rattle.const_pool.specs.Tail.{tail_entries, with_tail, root_index, enter_index, leave_index}
 
 -- ---- chains of look-ups
@@ -128,6 +129,11 @@ pub named_method-more : (pool more : List Const) (i : ℕ) (r : Reference) → n
 named_method-more pool more i r e =
     kept-chosen (option_map_or is_method (entry_at pool i) false) (option_map_or is_method (entry_at (pool ++ more) i) false) (named_member pool i) (named_member (pool ++ more) i) r
     (passes-more is_method (entry_at pool i) (entry_at (pool ++ more) i) (entry-more pool more i)) (named_member-more pool more i r) e
+
+pub named_interface_method-more : (pool more : List Const) (i : ℕ) (r : Reference) → named_interface_method pool i ≡ Some r → named_interface_method (pool ++ more) i ≡ Some r
+named_interface_method-more pool more i r e =
+    kept-chosen (option_map_or is_interface_method (entry_at pool i) false) (option_map_or is_interface_method (entry_at (pool ++ more) i) false) (named_member pool i) (named_member (pool ++ more) i) r
+    (passes-more is_interface_method (entry_at pool i) (entry_at (pool ++ more) i) (entry-more pool more i)) (named_member-more pool more i r) e
 
 -- ---- the tail
 

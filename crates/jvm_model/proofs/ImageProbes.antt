@@ -24,16 +24,17 @@ use Rattle.jvm_model.specs.declared.event.EventKind.{EventKind}
 use Rattle.jvm_model.specs.StandsFor.{ProbeCall, probe_kind, invoked_kind, invoked_probe, pushed_number, probe_in}
 use Rattle.jvm_model.specs.Versions.{probe_bytes}
 use Rattle.jvm_model.specs.Descriptors.{same_text}
-use Rattle.jvm_model.specs.Data.{Operation, Invokestatic}
+use Rattle.jvm_model.specs.Data.{Operation, Invokestatic, Named}
 use Rattle.jvm_model.specs.declared.family.Family.TheVariants as family
 use Rattle.jvm_model.specs.Families.{rows, family_of}
-use Rattle.jvm_model.specs.Lines.{operation_by, operation_of}
+use Rattle.jvm_model.specs.Lines.{named_by, operation_by, operation_of}
 use Rattle.jvm_model.specs.Resolved.{own_method, resolved_in}
 use Rattle.jvm_model.specs.Rules.{is_reference}
 use Rattle.jvm_model.specs.Methods.{method_named}
 use Rattle.jvm_model.specs.SmallClass.{begins_with, is_free_name}
 use Rattle.jvm_model.specs.declared.operation.Resolved.{Resolved}
 use Rattle.jvm_model.specs.declared.operation.Resolved.TheVariants as resolved
+use Rattle.jvm_model.proofs.Opcodes.{named_by-is}
 
 -- ---- the bytes of a probe
 
@@ -148,17 +149,20 @@ invokestatic-elsewhere = refl
 
 invoked_by : (image : ClassFile) (own : List ℕ) (op : ℕ) (a : Arg) (o : Operation) (q : Resolved) → named_class image.pool image.this_class ≡ Some own → is_free_name own ≡ true
     → operation_by image op a (family_of op) ≡ Some o → resolved_in image o ≡ Some q → invoked_kind image op a ≡ None
-invoked_by image own op (arg.Pool index) o q named free e resolves = by_opcode (op == 184) refl
+invoked_by image own op (arg.Pool index) o q has_name free e resolves = by_opcode (op == 184) refl
   where
     by_opcode : (b : Bool) → (op == 184) ≡ b → invoked_kind image op (arg.Pool index) ≡ None
     by_opcode false is = ap (λ b. cond b (option_and_then probe_kind (named_method image.pool index)) None) is
     by_opcode true is =
         let op_is : op ≡ 184 = eqb-true op 184 is in
-        let called : option_map Invokestatic (named_method image.pool index) ≡ Some o =
+        let called : option_and_then named_by (option_map Invokestatic (named_method image.pool index)) ≡ Some o =
         ap (operation_by image 184 (arg.Pool index)) (sym invokestatic-elsewhere) ∙ (ap (λ n. operation_by image n (arg.Pool index) (family_of n)) (sym op_is) ∙ e) in
-        let found = in_map Invokestatic (named_method image.pool index) o called in
-        let own_found = in_map resolved.Invokestatic (own_method image found.0) q (ap (resolved_in image) found.2 ∙ resolves) in
-        let same : found.0.class ≡ own = called-own image found.0 own own_found.0 named own_found.1 in
+        let names = named_by-is (option_map Invokestatic (named_method image.pool index)) o called in
+        let found = in_map Invokestatic (named_method image.pool index) names.naming names.is in
+        let named : resolved_in image (Named (Invokestatic found.0)) ≡ Some q =
+        ap (λ n. resolved_in image (Named n)) found.2 ∙ (ap (resolved_in image) names.named ∙ resolves) in
+        let own_found = in_map resolved.Invokestatic (own_method image found.0) q named in
+        let same : found.0.class ≡ own = called-own image found.0 own own_found.0 has_name own_found.1 in
         let other : same_text found.0.class probe_class ≡ false = ap (λ t. same_text t probe_class) same ∙ own-free own free in
         ap (λ b. cond b (option_and_then probe_kind (named_method image.pool index)) None) is ∙ (ap (option_and_then probe_kind) found.1 ∙ other-kind found.0 other)
 invoked_by image own op _ o q named free e resolves = refl

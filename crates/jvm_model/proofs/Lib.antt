@@ -17,6 +17,8 @@ pub mod Growth
 pub mod Methods
 pub mod Order
 pub mod WithinMoves
+pub mod ObjectMoves
+pub mod NamedMoves
 pub mod Operations
 pub mod AppliesMoves
 pub mod MovesMove
@@ -39,6 +41,7 @@ pub mod TracesEvents
 pub mod TracesFrames
 pub mod TracesEntries
 pub mod TracesMarks
+pub mod WorkedLibrary
 pub mod PlainRun
 pub mod TracesPlain
 pub mod QuietChanges
@@ -53,5 +56,16 @@ pub mod WorkedInitializers
 pub mod WorkedLimits
 pub mod WorkedArrays
 pub mod WorkedFamilies
+pub mod WorkedLines
 pub mod WorkedClasses
 pub mod WorkedInvocations
+pub mod WorkedSeveral
+pub mod SoundClasses
+pub mod SoundKinds
+pub mod SoundObjects
+pub mod SoundRules
+pub mod SoundAttempts
+pub mod SoundSteps
+pub mod SoundLines
+pub mod SoundRuns
+pub mod SoundPrograms

@@ -2,7 +2,7 @@
 use Rattle.std.proofs.Common.{◌≡◌, ℕ, zero, suc, ◌+◌, ◌<◌, ◌⊎◌, inl, inr, Bool, true, false, List, [], ◌∷◌, cond, Option, Some, None, refl, sym, ap, subst, ◌∙◌, eqb-true, arith}
 use Rattle.std.specs.Prelude.{ℤ, ◌==◌, ◌||◌, ◌&&◌, not, length}
 use Rattle.std.specs.List.{AllByRecursion}
-use Rattle.std.specs.Option.{option_map}
+use Rattle.std.specs.Option.{option_map, option_and_then}
 use Rattle.std.proofs.lemmas.Bool.{cases_lt}
 use Rattle.std.proofs.lemmas.Option.{same_Some, none-some, option_and_then_some}
 use Rattle.code_model.specs.declared.instr.Arg.{Arg}
@@ -11,7 +11,7 @@ use Rattle.code_model.specs.declared.instr.Instr.{Instr}
 use Rattle.op_table.specs.declared.Form.{Form}
 use Rattle.op_table.specs.declared.Form.TheVariants as form
 use Rattle.op_table.specs.Opcodes.{row_of, groups, wide_row_of, wide_groups}
-use Rattle.std.specs.Int.{Width, w16}
+use Rattle.std.specs.Int.{Width, w16, is_in_range}
 use Rattle.code_model.specs.Operands.{form_of}
 use Rattle.code_model.specs.Instructions.{instruction_at}
 use Rattle.code_model.specs.Layout.{operand_width, operand_len, opcode_bytes, size_at, moved_arg}
@@ -24,13 +24,12 @@ use Rattle.jvm_model.specs.Agreement.{is_return_operation}
 use Rattle.heap_objects.specs.declared.datum.Datum.TheVariants as datum
 use Rattle.const_pool.specs.declared.descriptor.Kind.{Kind}
 use Rattle.const_pool.specs.declared.descriptor.Kind.TheVariants as kind
-use Rattle.const_pool.specs.References.{named_field, named_method}
 use Rattle.jvm_model.specs.declared.family.Family.{Family}
 use Rattle.jvm_model.specs.declared.family.Family.TheVariants as family
-use Rattle.jvm_model.specs.Data.{Datum, IntOperator, Iadd, Isub, Imul, Local, Nop, Constant, Load, Store, Arrange, BinaryOfInts, BinaryOfLongs, DivisionOfInts, DivisionOfLongs, ShiftOfLong, UnaryOfInt, UnaryOfLong, Lcmp, Iinc, Branch, Goto, Switch, Jsr, Ret, Return, Operation, Within, Getstatic, Invokestatic, Invokevirtual, Newarray}
+use Rattle.jvm_model.specs.Data.{Datum, IntOperator, Iadd, Isub, Imul, Local, Nop, Constant, Load, Store, Arrange, BinaryOfInts, BinaryOfLongs, DivisionOfInts, DivisionOfLongs, ShiftOfLong, UnaryOfInt, UnaryOfLong, Lcmp, Iinc, Branch, Goto, Switch, Jsr, Ret, Return, Naming, Getstatic, Invokestatic, Invokevirtual, Operation, Within, Named, Newarray}
 use Rattle.jvm_model.specs.Families.{rows, family_of}
-use Rattle.jvm_model.specs.Lines.{value_in, slot_in, increment_in, target_in, keys_in, local_of, constant_in, getstatic_of, invokevirtual_of, pool_operation, ObjectRow, object_rows, object_among, newarray_of, other_operation, operation_by, operation_of, targets_of as offsets_of, ends}
-use Rattle.jvm_model.specs.Resolved.{own_method, resolved_local, resolved_in, resolved_of}
+use Rattle.jvm_model.specs.Lines.{value_in, slot_in, increment_in, target_in, keys_in, local_of, constant_in, naming_of, interface_naming, multi_naming, has_dimensions, named_by, ObjectRow, object_rows, object_among, newarray_of, other_operation, operation_by, operation_of, targets_of as offsets_of, ends}
+use Rattle.jvm_model.specs.Resolved.{own_method, resolved_local, resolved_name, resolved_in, resolved_of}
 use Rattle.jvm_model.specs.Rules.{is_out, is_println}
 use Rattle.jvm_model.specs.SmallClass.{is_return}
 use Rattle.jvm_model.specs.Versions.{is_return_opcode}
@@ -203,57 +202,55 @@ family-fits family.Switch a d i e = made-fits family.Switch Switch (keys_in a) i
 family-fits (family.Return k) a d i e = is-fits (family.Return k) (Return k) i e (return-fits k)
 family-fits family.Elsewhere a d i e = absurd (none-some i e)
 
--- ---- instructions with a pool index do not return
-
-abbrev IsNamed : Operation → Type 0
-IsNamed (Within i) = ⊥
-IsNamed _ = Unit {0}
+-- ---- instructions that name something do not return
 
 chosen : {A : Type 0} (b : Bool) (x y : Option A) (z : A) → cond b x y ≡ Some z → ((b ≡ true) × (x ≡ Some z)) ⊎ (y ≡ Some z)
 chosen true x y z e = inl (refl, e)
 chosen false x y z e = inr e
 
-named-goes_on : (c : ClassFile) (o : Operation) (q : Resolved) → IsNamed o → resolved_in c o ≡ Some q → goes_on q
-named-goes_on c (Within i) q named e = absurd named
-named-goes_on c (Getstatic r) q named e = elim (chosen (is_out r) (Some resolved.Out) None q e) [ inl is ↦ only resolved.Out q refl is.1 | inr is ↦ absurd (none-some q is) ]
-named-goes_on c (Invokestatic r) q named e = let k = in_map resolved.Invokestatic (own_method c r) q e in subst goes_on k.1 refl
-named-goes_on c (Invokevirtual r) q named e = elim (chosen (is_println r) (Some resolved.Println) None q e) [ inl is ↦ only resolved.Println q refl is.1 | inr is ↦ absurd (none-some q is) ]
-named-goes_on c o q named e = absurd (none-some q e)
+naming-goes_on : (c : ClassFile) (n : Naming) (q : Resolved) → resolved_name c n ≡ Some q → goes_on q
+naming-goes_on c (Getstatic r) q e = elim (chosen (is_out r) (Some resolved.Out) None q e) [ inl is ↦ only resolved.Out q refl is.1 | inr is ↦ absurd (none-some q is) ]
+naming-goes_on c (Invokestatic r) q e = let k = in_map resolved.Invokestatic (own_method c r) q e in subst goes_on k.1 refl
+naming-goes_on c (Invokevirtual r) q e = elim (chosen (is_println r) (Some resolved.Println) None q e) [ inl is ↦ only resolved.Println q refl is.1 | inr is ↦ absurd (none-some q is) ]
+naming-goes_on c n q e = absurd (none-some q e)
 
-some-named : (o p : Operation) → IsNamed o → Some o ≡ Some p → IsNamed p
-some-named o p is e = subst IsNamed (same_Some o p e) is
+-- the operation is one that names what was found
+pub record IsNaming (found : Option Naming) (o : Operation) : Type 0 where
+  pub naming : Naming
+  pub is : found ≡ Some naming
+  pub named : Named naming ≡ o
+
+pub named_by-is : (found : Option Naming) (o : Operation) → option_and_then named_by found ≡ Some o → IsNaming found o
+named_by-is None o e = absurd (none-some o e)
+named_by-is (Some n) o e = by_test (has_dimensions n) e
+  where
+    by_test : (b : Bool) → cond b (Some (Named n)) None ≡ Some o → IsNaming (Some n) o
+    by_test true is = record { naming = n; is = refl; named = same_Some (Named n) o is }
+    by_test false is = absurd (none-some o is)
 
 -- both tests of the opcode say that it goes on
 abbrev stays_at : ℕ → Type 0
 stays_at op = (is_return_opcode op ≡ false) × ((op == 172 || op == 177) ≡ false)
 
-stays : (op n : ℕ) → (op == n) ≡ true → stays_at n → stays_at op
-stays op n is at = subst stays_at (sym (eqb-true op n is)) at
-
-pool-named : (c : ClassFile) (op index : ℕ) (o : Operation) → pool_operation c op index ≡ Some o → IsNamed o × stays_at op
-pool-named c op index o e = elim (chosen (op == 178) _ _ o e) [
-  | inl out ↦ (
-    option_and_then_some getstatic_of (named_field c.pool index) o out.1 (λ r is rest. by_test (is_out r) (Getstatic r) tt rest),
-    stays op 178 out.0 (refl, refl),
-  )
-  | inr other ↦ elim (chosen (op == 182) _ _ o other) [
-    | inl println ↦ (
-      option_and_then_some invokevirtual_of (named_method c.pool index) o println.1 (λ r is rest. by_test (is_println r) (Invokevirtual r) tt rest),
-      stays op 182 println.0 (refl, refl),
-    )
-    | inr more ↦ elim (chosen (op == 184) _ None o more) [
-      | inl called ↦ (
-        (let k = in_map Invokestatic (named_method c.pool index) o called.1 in subst IsNamed k.1 tt),
-        stays op 184 called.0 (refl, refl),
-      )
-      | inr none ↦ absurd (none-some o none)
-    ]
-  ]
+-- a row of a list by opcodes, and the rows behind it
+row-stays : (op n : ℕ) (x y : Option Naming) (z : Naming) → stays_at n → (y ≡ Some z → stays_at op) → cond (op == n) x y ≡ Some z → stays_at op
+row-stays op n x y z here rest e = elim (chosen (op == n) x y z e) [
+  | inl is ↦ subst stays_at (sym (eqb-true op n is.0)) here
+  | inr more ↦ rest more
 ]
-  where
-    by_test : (b : Bool) (x : Operation) → IsNamed x → cond b (Some x) None ≡ Some o → IsNamed o
-    by_test true x named e = some-named x o named e
-    by_test false x named e = absurd (none-some o e)
+
+naming-stays : (c : ClassFile) (op index : ℕ) (n : Naming) → naming_of c op index ≡ Some n → stays_at op
+naming-stays c op index n =
+    row-stays op 178 _ _ n (refl, refl) (row-stays op 179 _ _ n (refl, refl) (row-stays op 180 _ _ n (refl, refl)
+    (row-stays op 181 _ _ n (refl, refl) (row-stays op 182 _ _ n (refl, refl) (row-stays op 183 _ _ n (refl, refl)
+    (row-stays op 184 _ _ n (refl, refl) (row-stays op 187 _ _ n (refl, refl) (row-stays op 189 _ _ n (refl, refl)
+    (row-stays op 192 _ _ n (refl, refl) (row-stays op 193 _ None n (refl, refl) (λ none. absurd (none-some n none))))))))))))
+
+interface-stays : (c : ClassFile) (op index : ℕ) (n : Naming) → interface_naming c op index ≡ Some n → stays_at op
+interface-stays c op index n = row-stays op 185 _ None n (refl, refl) (λ none. absurd (none-some n none))
+
+multi-stays : (c : ClassFile) (op index dimensions : ℕ) (n : Naming) → multi_naming c op index dimensions ≡ Some n → stays_at op
+multi-stays c op index dimensions n = row-stays op 197 _ None n (refl, refl) (λ none. absurd (none-some n none))
 
 -- ---- no small class has instructions that see objects
 
@@ -273,7 +270,7 @@ object-unresolved c op o e =
     among-unresolved c op o object_rows (refl, (refl, (refl, (refl, (refl, (refl, (refl, (refl, (refl, (refl, (refl, (refl, (refl, (refl, (refl, (refl, tt)))))))))))))))) e
 
 newarray-unresolved : (c : ClassFile) (op code : ℕ) (o : Operation) → newarray_of op code ≡ Some o → IsUnresolved c o
-newarray-unresolved c op code o e = elim (chosen (op == 188) (Some (Newarray code)) None o e) [
+newarray-unresolved c op code o e = elim (chosen (op == 188 && is_in_range 4 11 code) (Some (Newarray code)) None o e) [
   | inl is ↦ subst (IsUnresolved c) (same_Some (Newarray code) o is.1) refl
   | inr none ↦ absurd (none-some o none)
 ]
@@ -283,10 +280,18 @@ newarray-unresolved c op code o e = elim (chosen (op == 188) (Some (Newarray cod
 abbrev returns_alike : ℕ → Resolved → Type 0
 returns_alike op q = (is_return_operation q ≡ is_return_opcode op) × ((op == 172 || op == 177) ≡ is_return_opcode op)
 
+-- what names something
+named-returns : (c : ClassFile) (op : ℕ) (found : Option Naming) (o : Operation) (q : Resolved) → ((n : Naming) → found ≡ Some n → stays_at op)
+    → option_and_then named_by found ≡ Some o → resolved_in c o ≡ Some q → returns_alike op q
+named-returns c op found o q stays is e =
+    let names = named_by-is found o is in
+    let at : stays_at op = stays names.naming names.is in
+    (naming-goes_on c names.naming q (ap (resolved_in c) names.named ∙ e) ∙ sym at.0, at.1 ∙ sym at.0)
+
 other-returns : (c : ClassFile) (op : ℕ) (a : Arg) (o : Operation) (q : Resolved) → other_operation c op a ≡ Some o → resolved_in c o ≡ Some q → returns_alike op q
-other-returns c op (arg.Pool index) o q is e =
-    let named = pool-named c op index o is in
-    (named-goes_on c o q named.0 e ∙ sym named.1.0, named.1.1 ∙ sym named.1.0)
+other-returns c op (arg.Pool index) o q is e = named-returns c op (naming_of c op index) o q (naming-stays c op index) is e
+other-returns c op (arg.Interface index count last) o q is e = named-returns c op (interface_naming c op index) o q (interface-stays c op index) is e
+other-returns c op (arg.Multi index dimensions) o q is e = named-returns c op (multi_naming c op index dimensions) o q (multi-stays c op index dimensions) is e
 other-returns c op (arg.Array code) o q is e = absurd (none-some q (sym (newarray-unresolved c op code o is) ∙ e))
 other-returns c op arg.Plain o q is e = absurd (none-some q (sym (object-unresolved c op o is) ∙ e))
 other-returns c op _ o q is e = absurd (none-some o is)
@@ -334,9 +339,7 @@ ends-resolved c (Within (BinaryOfInts Imul)) q e = ap is_return_operation (same_
 ends-resolved c (Within (Return None)) q e = ap is_return_operation (same_Some resolved.Return q e)
 ends-resolved c (Within (Return (Some kind.Int))) q e = ap is_return_operation (same_Some resolved.Ireturn q e)
 ends-resolved c (Within i) q e = absurd (none-some q e)
-ends-resolved c (Getstatic r) q e = sym (named-goes_on c (Getstatic r) q tt e)
-ends-resolved c (Invokestatic r) q e = sym (named-goes_on c (Invokestatic r) q tt e)
-ends-resolved c (Invokevirtual r) q e = sym (named-goes_on c (Invokevirtual r) q tt e)
+ends-resolved c (Named n) q e = sym (naming-goes_on c n q e)
 ends-resolved c o q e = absurd (none-some q e)
 
 -- ---- instructions that lead nowhere else
@@ -360,6 +363,12 @@ pool-alike index = record { leads = λ home place w. tt; kept = λ home. refl; s
 slot-alike : (slot : ℕ) → StaysAlike (arg.Local slot)
 slot-alike slot = record { leads = λ home place w. tt; kept = λ home. refl; straight = refl; nowhere = refl }
 
+interface-alike : (index count last : ℕ) → StaysAlike (arg.Interface index count last)
+interface-alike index count last = record { leads = λ home place w. tt; kept = λ home. refl; straight = refl; nowhere = refl }
+
+multi-alike : (index dimensions : ℕ) → StaysAlike (arg.Multi index dimensions)
+multi-alike index dimensions = record { leads = λ home place w. tt; kept = λ home. refl; straight = refl; nowhere = refl }
+
 array-alike : (code : ℕ) → StaysAlike (arg.Array code)
 array-alike code = record { leads = λ home place w. tt; kept = λ home. refl; straight = refl; nowhere = refl }
 
@@ -376,6 +385,8 @@ form-alike _ a is s = absurd cc
 
 other-alike : (c : ClassFile) (op : ℕ) (a : Arg) (o : Operation) → other_operation c op a ≡ Some o → StaysAlike a
 other-alike c op (arg.Pool index) o e = pool-alike index
+other-alike c op (arg.Interface index count last) o e = interface-alike index count last
+other-alike c op (arg.Multi index dimensions) o e = multi-alike index dimensions
 other-alike c op (arg.Array code) o e = array-alike code
 other-alike c op arg.Plain o e = plain-alike
 other-alike c op _ o e = absurd (none-some o e)

@@ -11,7 +11,7 @@ use Rattle.const_pool.specs.declared.descriptor.Kind.TheVariants.{Int, Long, Ref
 use Rattle.const_pool.specs.declared.descriptor.Shape.{Shape}
 use Rattle.const_pool.specs.Descriptors.{IsName, IsBase, IsField, AreFields, IsResult, IsMethod, dimensions_text, held_kind, slots, slot_count}
 use Rattle.const_pool.specs.Stages.{letter_kind}
-use Rattle.const_pool.proofs.FieldTexts.{chosen, passed, not_failed, mapped}
+use Rattle.const_pool.proofs.FieldTexts.{chosen, not_failed, mapped}
 use Rattle.jvm_model.specs.Descriptors.{same_text, Typed, typed, array_of, name_rest, class_rest, base_front, type_front, first_type, Params, with_param, closed, params_by, params_front, only_type, result_by, result_of, shape_with, with_result, with_room, shape_of}
 
 same_of : {A : Type 0} (x y : A) → ◌≡◌ {A = Option A} (Some x) (Some y) → x ≡ y

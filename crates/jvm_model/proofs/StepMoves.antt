@@ -5,10 +5,11 @@ use Rattle.std.specs.Option.{option_map, option_map_or}
 use Rattle.std.proofs.lemmas.Option.{same_Some}
 use Rattle.jvm_model.specs.Data.{Locals, Operands, Frame, Entry, Active, Initializing, Shared, Ending, State, Turn, Operation, Instruction, Text, Outcome, Initializes, Done, World}
 use Rattle.jvm_model.specs.SharedState.{phase_of}
-use Rattle.jvm_model.specs.Rules.{does, loads}
+use Rattle.jvm_model.specs.Does.{does, loads}
+use Rattle.jvm_model.specs.Load.{Fault}
 use Rattle.jvm_model.specs.Applies.{still, applies}
 use Rattle.jvm_model.specs.Moves.{move, left, then_turn, settles, settled}
-use Rattle.jvm_model.specs.Run.{tries, attempt, starts, is_ready, is_quiet, goes_on, goes_again, steps_by, with_loaded, loaded_turn, steps_at, steps_on, step, main_class, starts_with, start, turn_in, turn_in-zero, turn_in-suc}
+use Rattle.jvm_model.specs.Run.{tries, attempt, starts, is_ready, is_quiet, goes_on, goes_again, steps_by, with_loaded, loaded_turn, steps_at, steps_on, step, before, arguments_made, main_loading, main_loads, starts_unless, starts_with, start, turn_in, turn_in-zero, turn_in-suc}
 use Rattle.jvm_model.specs.Moved.{Moving, moved_locals, moved_operands, moved_outcome, moved_done, moved_frame, moved_stack, moved, moved_turn, moved_instruction, IsPlace, ArePlaces, Agrees, self, IsPlaced}
 use Rattle.jvm_model.proofs.Operations.{does-moves, loads-moves}
 use Rattle.jvm_model.proofs.AppliesMoves.{applies-moves, chosen_turn-moves}
@@ -185,10 +186,28 @@ step-placed norm w t own s placed =
 
 -- ---- the same of the start
 
+-- what begins has no frame
+module _ (m : Moving) (w : World) where
+  unless-still : (fault : Option Fault) (s : State) → moved_stack m s.stack ≡ s.stack → moved m (starts_unless w fault s) ≡ starts_unless w fault s
+  unless-still (Some fault) s still = ap (λ stack. record (starts_unless w (Some fault) s) { stack = stack }) still
+  unless-still None s still = refl
+
+  loaded-still : (classes : List ℕ) (s : State) → moved_stack m s.stack ≡ s.stack → moved_stack m (with_loaded classes s).stack ≡ (with_loaded classes s).stack
+  loaded-still [] s still = still
+  loaded-still (c ∷ more) s still = still
+
+  starts-still : moved m (starts_with w) ≡ starts_with w
+  starts-still =
+      unless-still (main_loading w).fault (with_loaded (main_loads w) (arguments_made w (before w)))
+      (loaded-still (main_loads w) (arguments_made w (before w)) refl)
+
 pub start-moves : (norm : ℕ → ℕ → ℕ) (w : World) (m : Moving) (t u : Text) → Agrees norm (self norm) t t → Agrees norm m t u → start w u ≡ moved_turn m (start w t)
 start-moves norm w m t u own agrees =
-    let class : ℕ = main_class w.program in
-    ap (loaded_turn (class ∷ [])) (settled-moves norm w t own m u agrees (still (starts_with w class)) refl)
+    let classes : List ℕ = main_loads w in
+    let begun : Turn = still (starts_with w) in
+    ap (λ s. loaded_turn classes (settled w u (still s))) (sym (starts-still m w))
+    ∙ (ap (loaded_turn classes) (settled-moves norm w t own m u agrees begun (ap (λ (s : State). s.stack) (starts-still (self norm) w)))
+    ∙ loaded_turn-moves norm w t own m u agrees classes (settled w t begun))
 
 pub start-placed : (norm : ℕ → ℕ → ℕ) (w : World) (t : Text) → Agrees norm (self norm) t t → IsPlaced norm (start w t).after
 start-placed norm w t own = sym (ap (λ (a : Turn). a.after.stack) (start-moves norm w (self norm) t t own own))
