@@ -10,7 +10,7 @@ use jf_bytes::{NoMemory, Text16};
 use std::alloc::Global;
 
 /// A name and a descriptor as one text, which tells where the name ends.
-fn key_text(alloc: Global, name: &Text16, descriptor: &Text16) -> Result<Text16, NoMemory>
+pub fn key_text(alloc: Global, name: &Text16, descriptor: &Text16) -> Result<Text16, NoMemory>
     ensures { IfOk result (λ key. key ≡ key_text name.now descriptor.now) }
 {
     let mut units = Vec::new(alloc);
@@ -24,7 +24,7 @@ fn key_text(alloc: Global, name: &Text16, descriptor: &Text16) -> Result<Text16,
 }
 
 /// The name and the descriptor of a member as one text.
-fn member_key(alloc: Global, pool: &Pool, member: &Member) -> Result<Option<Text16>, NoMemory>
+pub fn member_key(alloc: Global, pool: &Pool, member: &Member) -> Result<Option<Text16>, NoMemory>
     ensures { IfOk result (λ key. key ≡ member_key pool.now member.now) }
 {
     let Ok(name) = pool.text(member.name) else {
@@ -47,7 +47,7 @@ fn has_key(keys: &NameSet, key: &Option<Text16>) -> bool
 }
 
 /// Adds the key, if it is none of these.
-fn add_key(alloc: Global, keys: &mut NameSet, key: &Option<Text16>) -> Result<(), NoMemory>
+pub fn add_key(alloc: Global, keys: &mut NameSet, key: &Option<Text16>) -> Result<(), NoMemory>
     ensures { OnOk result (keys.new ≡ with_key keys.old key.now) }
 {
     match key {

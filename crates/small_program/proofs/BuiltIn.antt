@@ -45,7 +45,7 @@ files-built_in = each-taken built_in_files (ap (list_all is_taken) names-shown �
 
 -- ---- their codes are short
 
-each-short : (ks : List ClassFile) → AllByRecursion IsClassFile ks → AllByRecursion HasShortCodes ks
+pub each-short : (ks : List ClassFile) → AllByRecursion IsClassFile ks → AllByRecursion HasShortCodes ks
 each-short [] all = tt
 each-short (k ∷ ks) all = (HasShortCodes-formed k all.0, each-short ks all.1)
 

@@ -1,11 +1,11 @@
 pub mod Codes
 pub mod Formed
 pub mod Methods
-pub mod StaticMethods
-pub mod StaticCodes
+pub mod RunningMethods
+pub mod KeyLemmas
+pub mod Alike
 pub mod BuiltIn
 pub mod Answered
-pub mod Sound
 pub mod AskedPrograms
 pub mod DescriptorTexts
 pub mod MeaningsBuiltIn
@@ -14,3 +14,8 @@ pub mod MeaningsOwn
 pub mod MeaningsMembers
 pub mod MeaningsCalls
 pub mod Meanings
+pub mod FitPlaces
+pub mod FitNames
+pub mod FitLoading
+pub mod Fit
+pub mod Sound

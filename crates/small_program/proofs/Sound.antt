@@ -1,37 +1,32 @@
 -- An admitted program of classes that run is one that the machine runs.
 use Rattle.std.proofs.Common.{◌≡◌, ℕ, zero, suc, ◌+◌, ◌<◌, ◌≤◌, Bool, true, false, List, [], ◌∷◌, length, slice_get, cond, Option, Some, None, refl, sym, ap, subst, ◌∙◌, arith}
-use Rattle.std.specs.Prelude.{map, nat_lt, unwrap_or, IfSome, ◌==◌}
+use Rattle.std.specs.Prelude.{nat_lt, unwrap_or, IfSome, ◌==◌}
 use Rattle.std.specs.List.{AllByRecursion}
 use Rattle.std.specs.Option.{option_and_then, option_map_or}
 use Rattle.std.proofs.lemmas.Bool.{ltb-true, eq-eqb, and_from}
-use Rattle.std.proofs.lemmas.List.{length-map}
 use Rattle.std.proofs.lemmas.Option.{same_Some, none-some, option_and_then_some}
 use Rattle.const_pool.specs.declared.pool.Const.{Const}
 use Rattle.const_pool.specs.declared.class.ClassFile.{ClassFile}
 use Rattle.const_pool.specs.declared.class.Member.{Member}
 use Rattle.const_pool.specs.ClassFile.{IsClassFile}
 use Rattle.const_pool.specs.References.{NameAndType}
-use Rattle.base_classes.specs.BuiltInClasses.{built_in_classes}
 use Rattle.base_classes.specs.BuiltInFiles.{built_in_files}
-use Rattle.base_classes.specs.Declarations.{ClassDeclaration}
-use Rattle.base_classes.proofs.NameLemmas.{names_are}
-use Rattle.base_classes.specs.Making.{class_file_of}
 use Rattle.jvm_model.specs.declared.program.Program.{Program}
 use Rattle.jvm_model.specs.Methods.{is_member, method_from, method_named}
+use Rattle.jvm_model.specs.Meanings.{IsMeant}
 use Rattle.jvm_model.specs.OneClass.{IsProgramOf, IsBuiltProgram}
 use Rattle.jvm_model.specs.declared.program.MethodPlace.{MethodPlace}
 use Rattle.jvm_model.specs.Programs.{class_named, first_class, no_class, number_from, number_of_method, same_place}
-use Rattle.jvm_model.specs.SmallClass.{main_member, is_public_static, public_static}
-use Rattle.jvm_model.specs.StaticClass.{IsStaticClass}
+use Rattle.jvm_model.specs.SmallClass.{IsSmallClass, main_member, is_public_static, public_static}
 use Rattle.jvm_model.specs.StandsFor.{IsBuilt}
+use Rattle.jvm_model.proofs.ImageMethods.{small-coded}
 use Rattle.jvm_model.proofs.Numbers.{place-coded}
-use Rattle.jvm_model.proofs.ReadyStart.{coded-static}
-use Rattle.jvm_steps.specs.Prepared.{HasShortCodes, FitsOriginals}
 use Rattle.admit_check.specs.Admission.{declared_main, main_of_class, main_in, IsSoundProgram}
-use Rattle.small_program.specs.Admission.{AllRun, IsSmall, RunsWith}
+use Rattle.small_program.specs.Admission.{IsSmall, RunsWith}
 use Rattle.small_program.specs.Runnable.{IsRunnable}
-use Rattle.small_program.proofs.BuiltIn.{files-short}
-use Rattle.small_program.proofs.Formed.{HasShortCodes-formed}
+use Rattle.small_program.proofs.Fit.{fit, fits}
+use Rattle.small_program.proofs.Meanings.{IsMeant-small}
+use Rattle.small_program.proofs.MeaningsBuiltIn.{built_in-streams}
 
 -- ---- a method that is found is there
 
@@ -108,106 +103,81 @@ number-early n class at (place ∷ rest) zero i e there =
 number-early n class at (place ∷ rest) (suc k) i e there =
     one-on n k i (same_place class at place) (number_from (n + 1) class at rest) e (λ later. number-early (n + 1) class at rest k i later there)
 
-main-within : (c : ClassFile) (p : Program) (rest : List ClassFile) → IsStaticClass c → p.classes ≡ c ∷ rest → ((k : ℕ) → k < length c.methods → IsProgramOf c (record p { main = k }))
+main-within : (c : ClassFile) (p : Program) (rest : List ClassFile) → IsSmallClass c → p.classes ≡ c ∷ rest → ((k : ℕ) → k < length c.methods → IsProgramOf c (record p { main = k }))
     → main_of_class p 0 ≡ Some p.main → p.main < length c.methods
-main-within c p rest static classes of e =
+main-within c p rest small classes of e =
     let here : option_and_then (number_of_method p 0) (declared_main c) ≡ Some p.main =
     sym (ap (λ o. option_and_then (λ k. option_and_then (number_of_method p 0) (declared_main k)) o) (ap (λ cs. slice_get cs 0) classes)) ∙ e in
     option_and_then_some (number_of_method p 0) (declared_main c) p.main here
     (λ k declared numbered. (
     let has = declared-there c k declared in
     let less : k < length c.methods = within-some c.methods k has.member has.found in
-    let place = place-coded c (record p { main = k }) k has.member (coded-static c static) (of k less) has.found in
+    let place = place-coded c (record p { main = k }) k has.member (small-coded c small) (of k less) has.found in
     let early : p.main ≤ 0 + k = number-early 0 0 k p.methods k p.main numbered place in
     omega (arith, early, less)))
 
 -- ---- the program
 
-few-files : length built_in_files ≤ 53
-few-files =
-    let files : length built_in_files ≡ length built_in_classes = length-map built_in_classes class_file_of in
-    let names : length (map (λ (d : ClassDeclaration). d.name) built_in_classes) ≡ length built_in_classes = length-map built_in_classes (λ d. d.name) in
-    let count : length (map (λ (d : ClassDeclaration). d.name) built_in_classes) ≡ 53 = ap length names_are in
-    omega (arith, files, names, count)
-
-few-classes : (c : ClassFile) (p : Program) → p.classes ≡ c ∷ built_in_files → length p.classes ≤ 54
-few-classes c p classes =
-    let count : length p.classes ≡ suc (length built_in_files) = ap length classes in
-    let few = few-files in omega (arith, count, few)
-
 pub first-sound : (c : ClassFile) (p : Program) (name : List ℕ) → IsSoundProgram (c ∷ []) name p → first_class p ≡ c
 first-sound c p name sound = ap (λ cs. unwrap_or (slice_get cs 0) no_class) sound.classes_are
 
 -- its main method is one of the class
-main-sound : (c : ClassFile) (p : Program) (name : List ℕ) → IsStaticClass c → IsSoundProgram (c ∷ []) name p → p.main < length c.methods
-main-sound c p name static sound =
-    main-within c p built_in_files static sound.classes_are
+main-sound : (c : ClassFile) (p : Program) (name : List ℕ) → IsSmallClass c → IsSoundProgram (c ∷ []) name p → p.main < length c.methods
+main-sound c p name small sound =
+    main-within c p built_in_files small sound.classes_are
     (λ k less. record { rest = built_in_files; classes = sound.classes_are; methods = sound.methods; main = less })
     (first-main p name sound.main_is)
 
-abbrev of-sound : (c : ClassFile) (p : Program) (name : List ℕ) → IsStaticClass c → IsSoundProgram (c ∷ []) name p → IsProgramOf c p
-of-sound c p name static sound = record {
+abbrev of-sound : (c : ClassFile) (p : Program) (name : List ℕ) → IsSmallClass c → IsSoundProgram (c ∷ []) name p → IsProgramOf c p
+of-sound c p name small sound = record {
   rest = built_in_files;
   classes = sound.classes_are;
   methods = sound.methods;
-  main = main-sound c p name static sound;
+  main = main-sound c p name small sound;
 }
 
-built-sound : (c : ClassFile) (p : Program) (name : List ℕ) → IsClassFile c → IsStaticClass c → IsSmall c → IsSoundProgram (c ∷ []) name p → p.args ≡ [] → 1024 ≤ p.heap → IsBuiltProgram p
-built-sound c p name formed static small sound plain room =
+built-sound : (c : ClassFile) (p : Program) (name : List ℕ) → IsClassFile c → IsSmall c → IsSoundProgram (c ∷ []) name p → length p.classes ≤ 4149 → p.args ≡ [] → 1024 ≤ p.heap → IsBuiltProgram p
+built-sound c p name formed small sound few plain room =
     let same : c ≡ first_class p = sym (first-sound c p name sound) in
-    let of : IsProgramOf c p = of-sound c p name static sound in
+    let of : IsProgramOf c p = of-sound c p name small.small sound in
     record {
       class = subst IsBuilt same (record { formed = formed; plain = small.plain; small = small.small });
       program = subst (λ k. IsProgramOf k p) same of;
-      few = (let few = few-classes c p sound.classes_are in omega (arith, few));
+      few = omega (arith, few);
+      meant = subst (λ k. IsMeant k p) same (IsMeant-small c p small.small of built_in-streams small.plain.interfaces);
       plain = plain;
       room = room;
     }
 
-fits-sound : (c : ClassFile) (p : Program) (name : List ℕ) → IsClassFile c → IsSoundProgram (c ∷ []) name p → FitsOriginals p
-fits-sound c p name formed sound = record {
-  classes = (let few = few-classes c p sound.classes_are in omega (arith, few));
-  methods = (let few = sound.few in omega (arith, few));
-  codes = subst (AllByRecursion HasShortCodes) (sym sound.classes_are) (HasShortCodes-formed c formed, files-short);
-}
+-- with a root there is one class
+rooted : (classes : List ClassFile) (p : Program) (name : List ℕ) (k : ℕ) → AllByRecursion IsClassFile classes → RunsWith classes k → IsSoundProgram classes name p → length p.classes ≤ 4149
+    → p.args ≡ [] → 1024 ≤ p.heap → IsBuiltProgram p × (k < length (first_class p).methods)
+rooted classes p name k formed runs sound few plain room =
+    let c = runs.class in
+    let one : IsSoundProgram (c ∷ []) name p = subst (λ cs. IsSoundProgram cs name p) runs.alone sound in
+    let shape : AllByRecursion IsClassFile (c ∷ []) = subst (AllByRecursion IsClassFile) runs.alone formed in
+    (built-sound c p name shape.0 runs.small one few plain room,
+    subst (λ (x : ClassFile). k < length x.methods) (sym (first-sound c p name one)) runs.own)
 
-pub runnable-sound : (c : ClassFile) (p : Program) (name : List ℕ) (root : Option ℕ) → IsClassFile c → IsStaticClass c → ((k : ℕ) → root ≡ Some k → IsSmall c)
-    → IfSome root (λ k. k < length c.methods) → IsSoundProgram (c ∷ []) name p → p.args ≡ [] → 1024 ≤ p.heap → IsRunnable p root
-runnable-sound c p name root formed static small own sound plain room = record {
-  fits = fits-sound c p name formed sound;
-  starts = record { plain = plain; room = room };
-  built = λ k e. built-sound c p name formed static (small k e) sound plain room;
-  known = subst (λ (x : ClassFile). IfSome root (λ k. k < length x.methods)) (sym (first-sound c p name sound)) own;
-}
+-- a root that the classes run with
+known-root : (classes : List ClassFile) (p : Program) (root : Option ℕ) → ((k : ℕ) → RunsWith classes k → k < length (first_class p).methods) → IfSome root (RunsWith classes)
+    → IfSome root (λ k. k < length (first_class p).methods)
+known-root classes p None within runs = tt
+known-root classes p (Some k) within runs = within k runs
 
--- ---- the classes that run
+root-runs : (classes : List ClassFile) (root : Option ℕ) (k : ℕ) → IfSome root (RunsWith classes) → root ≡ Some k → RunsWith classes k
+root-runs classes None k runs e = absurd (none-some k e)
+root-runs classes (Some j) k runs e = subst (RunsWith classes) (same_Some j k e) runs
 
--- the first of the classes is the one that a root is of
-same-first : (c : ClassFile) (rest : List ClassFile) (k : ℕ) (fits : RunsWith (c ∷ rest) k) → fits.class ≡ c
-same-first c rest k fits = sym (same_Some c fits.class fits.first)
-
-small-fits : (c : ClassFile) (rest : List ClassFile) (root : Option ℕ) → IfSome root (RunsWith (c ∷ rest)) → (k : ℕ) → root ≡ Some k → IsSmall c
-small-fits c rest None fits k e = absurd (none-some k e)
-small-fits c rest (Some j) fits k e = subst IsSmall (same-first c rest j fits) fits.small
-
-own-fits : (c : ClassFile) (rest : List ClassFile) (root : Option ℕ) → IfSome root (RunsWith (c ∷ rest)) → IfSome root (λ k. k < length c.methods)
-own-fits c rest None fits = tt
-own-fits c rest (Some j) fits = subst (λ (x : ClassFile). j < length x.methods) (same-first c rest j fits) fits.own
-
--- no class is named, so there is no main method
-no-main : (p : Program) (name : List ℕ) → main_in p 0 name ≡ Some p.main → ⊥
-no-main p name e =
-    option_and_then_some (λ class. cond (nat_lt class 0) (main_of_class p class) None) (class_named p name) p.main e (λ class named is. by_test class (nat_lt class 0) refl is)
-  where
-    by_test : (class : ℕ) (b : Bool) → nat_lt class 0 ≡ b → cond b (main_of_class p class) None ≡ Some p.main → ⊥
-    by_test class false t is = none-some p.main is
-    by_test class true t is = let less : class < 0 = ltb-true class 0 t in absurd (omega (arith, less))
-
--- classes that run and are a sound program are one, which the machine runs
-pub classes-runnable : (classes : List ClassFile) (p : Program) (name : List ℕ) (root : Option ℕ) → AllByRecursion IsClassFile classes → AllRun classes
+-- classes that are a sound program, with a root that they run with, are one that the machine runs
+pub classes-runnable : (classes : List ClassFile) (p : Program) (name : List ℕ) (root : Option ℕ) → AllByRecursion IsClassFile classes → length classes ≤ 4096
     → IfSome root (RunsWith classes) → IsSoundProgram classes name p → p.args ≡ [] → 1024 ≤ p.heap → IsRunnable p root
-classes-runnable [] p name root formed built fits sound plain room = absurd (no-main p name sound.main_is)
-classes-runnable (c ∷ []) p name root formed built fits sound plain room =
-    runnable-sound c p name root formed.0 (built 0 c refl).static (small-fits c [] root fits) (own-fits c [] root fits) sound plain room
-classes-runnable (c ∷ d ∷ rest) p name root formed built fits sound plain room = absurd (let e = (built 1 d refl).first in omega (arith, e))
+classes-runnable classes p name root formed few runs sound plain room =
+    let is = fit classes name p sound few in
+    record {
+      fits = fits classes name p sound few formed;
+      fit = is;
+      starts = record { plain = plain; room = room };
+      built = λ k e. (rooted classes p name k formed (root-runs classes root k runs e) sound is.few plain room).0;
+      known = known-root classes p root (λ k with_root. (rooted classes p name k formed with_root sound is.few plain room).1) runs;
+    }

@@ -1,4 +1,5 @@
+pub mod Running
+pub mod Keys
 pub mod Admission
-pub mod Static
 pub mod Runnable
 pub mod Shapes

@@ -1,14 +1,16 @@
-//! The part of what is admitted that runs so far: a program of one class, which has static methods alone, and with a root of its own
-//! is small. It goes when the machine runs whatever is admitted.
+//! The part of what is admitted that runs so far: programs whose classes name no method of a built-in class but two, and have no ldc of
+//! a String or a Class; with a root a program of one small class whose own it is; and plans with no arguments and at most one action, which
+//! selects before the first step. It goes when the machine runs whatever is admitted.
 #![tactic(auto)]
 
 mod admission;
+mod callees;
 mod names;
 mod plain_shape;
+mod running_class;
+mod running_code;
 mod small_class;
 mod small_code;
 mod small_shapes;
-mod static_class;
-mod static_code;
 
 pub use admission::{Admitted, Refused, admit, class_in};
