@@ -135,14 +135,14 @@ goes_on t s told started clock is going = by_told (told == 0) refl where
   at-start : (s : State) (clock : ℕ) → IsRunning (seen t s 0 false false clock) s → GoesOn (seen t s 0 false false clock) t 0 (begun_move t false s)
   at-start s clock is = (
       let m : Move = entered t (start_placed t) in
-      begun-by t s m.state m.told m.probe false clock 0 is.built is.agrees refl (start-step t is.built.class is.built.program is.agrees))
+      begun-by t s m.state m.told m.probe false clock 0 is.built is.agrees refl (start-step t is.built.class is.built.program is.built.meant is.agrees))
 
   at-step : (s : State) (clock : ℕ) → IsRunning (seen t s 0 true false clock) s → IsGoingOn (seen t s 0 true false clock) → GoesOn (seen t s 0 true false clock) t (clock + 1) (begun_move t true s)
   at-step s clock is going =
       let there : State = moved (by_homes t.homes) (run (world_in t) clock) in
       let m : Move = stepped t there in
       subst (λ (x : State). GoesOn (seen t x 0 true false clock) t (clock + 1) (stepped t x)) (sym (is.stands refl))
-      (begun-by t there m.state m.told m.probe true clock (clock + 1) is.built is.agrees refl (step-is t is.built.class is.built.program is.agrees clock going))
+      (begun-by t there m.state m.told m.probe true clock (clock + 1) is.built is.agrees refl (step-is t is.built.class is.built.program is.built.meant is.agrees clock going))
 
   resting : (started : Bool) → IsRunning (seen t s 0 started false clock) s → IsGoingOn (seen t s 0 started false clock) → GoesOn (seen t s 0 started false clock) t (clock_in 0 started clock) (moved_on t started 0 s)
   resting false is going = at-start s clock is

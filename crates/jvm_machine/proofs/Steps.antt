@@ -25,6 +25,7 @@ use Rattle.jvm_model.specs.Changes.{methods}
 use Rattle.jvm_model.specs.EventLists.{begin_events, end_events, step_events}
 use Rattle.jvm_model.specs.Images.{is_off}
 use Rattle.jvm_model.specs.Installed.{Installed, class_in, world_in, tabled}
+use Rattle.jvm_model.specs.Meanings.{IsMeant}
 use Rattle.jvm_model.specs.Methods.{method_code}
 use Rattle.jvm_model.specs.Moved.{moved_frame, moved_stack, moved, moved_turn}
 use Rattle.jvm_model.specs.OneClass.{IsProgramOf}
@@ -89,7 +90,7 @@ pub record IsStep (t : Installed) (n : ℕ) (m : Move) : Type 0 where
   pub counts : m.told ≡ told_by m.probe
   pub behind : StandsBehind t.image m.probe m.state.stack
 
-module _ (t : Installed) (built : IsBuilt (class_in t)) (of : IsProgramOf (class_in t) t.program) (agrees : Agrees (class_in t) t.marks t.image t.homes) where
+module _ (t : Installed) (built : IsBuilt (class_in t)) (of : IsProgramOf (class_in t) t.program) (meant : IsMeant (class_in t) t.program) (agrees : Agrees (class_in t) t.marks t.image t.homes) where
   abbrev w : World
   w = world_in t
 
@@ -193,20 +194,20 @@ module _ (t : Installed) (built : IsBuilt (class_in t)) (of : IsProgramOf (class
 
   -- the current frame, its line, and what its step changes
   record Stepping (n : ℕ) : Type 0 where
-    has_frame : HasFrame (class_in t) w built of (now n)
-    step_is : IsStepOf (class_in t) w built of (now n) has_frame.frame
+    has_frame : HasFrame (class_in t) w built of meant (now n)
+    step_is : IsStepOf (class_in t) w built of meant (now n) has_frame.frame
     attempted : attempt_placed t (there n) ≡ moved_turn (by_homes t.homes) (step w (original w.program) (now n))
     same : has_frame.frame.version ≡ has_frame.frame.method
 
   stepping : (n : ℕ) → is_some (now n).ending ≡ false → Stepping n
   stepping n going =
-      let hf = run-frame (class_in t) w built of n going in
-      let quiet = run-quiet (class_in t) w built of n in
-      let placed = run-placed (class_in t) w built of n in
+      let hf = run-frame (class_in t) w built of meant n going in
+      let quiet = run-quiet (class_in t) w built of meant n in
+      let placed = run-placed (class_in t) w built of meant n in
       record {
         has_frame = hf;
-        step_is = step-of (class_in t) w built of (now n) hf.frame hf.below hf.is hf.going quiet placed;
-        attempted = attempt-is t built of agrees (now n) hf.frame hf.below hf.is hf.going quiet placed;
+        step_is = step-of (class_in t) w built of meant (now n) hf.frame hf.below hf.is hf.going quiet placed;
+        attempted = attempt-is t built of meant agrees (now n) hf.frame hf.below hf.is hf.going quiet placed;
         same = (subst (AreCoded (class_in t)) hf.is quiet.coded).0.same;
       }
 
@@ -274,14 +275,14 @@ module _ (t : Installed) (built : IsBuilt (class_in t)) (of : IsProgramOf (class
       let f : Frame = now_is.has_frame.frame in
       let below : List Entry = now_is.has_frame.below in
       let home : ℕ = home_at t.homes f.version f.place in
-      let at : state_at (home + 6) (there n) ≡ at_return t built of agrees (now n) f below =
+      let at : state_at (home + 6) (there n) ≡ at_return t built of meant agrees (now n) f below =
       ap (λ es. record (there n) { stack = stack_at (home + 6) (moved_stack (by_homes t.homes) es) }) now_is.has_frame.is in
       let passed : leave_passed t.image (state_at (home + 6) (there n)).stack ≡ Some (left_probe n now_is) =
       ap (λ (s : State). leave_passed t.image s.stack) at ∙ (behind home (le-leb 6 (home + 6) (omega arith)) ∙ (leave-at n now_is ∙ ap (leave_of home f.version) left)) in
       record {
         leads = ap (rest_by t (state_at (home + 6) (there n))) passed
             ∙ (ap (λ s. (attempt_placed t s).after) at
-            ∙ (ap (λ (a : Turn). a.after) (attempt-behind t built of agrees (now n) f below now_is.step_is.start now_is.step_is.has now_is.has_frame.is left) ∙ after-next n now_is));
+            ∙ (ap (λ (a : Turn). a.after) (attempt-behind t built of meant agrees (now n) f below now_is.step_is.start now_is.step_is.has now_is.has_frame.is left) ∙ after-next n now_is));
         tells = left-events n now_is left now_is.step_is.went;
         waits = λ e. shown-before at;
         counts = refl;
@@ -296,7 +297,7 @@ module _ (t : Installed) (built : IsBuilt (class_in t)) (of : IsProgramOf (class
       behind home le = ap (λ b. cond b (probe_of_kind is_leave_kind (placed_probe_at t.image now_is.has_frame.frame.version (home + 6 - 6))) None) le
           ∙ ap (λ x. probe_of_kind is_leave_kind (placed_probe_at t.image now_is.has_frame.frame.version x)) (let e : home + 6 - 6 ≡ home = omega arith in e)
 
-      shown-before : state_at (home_at t.homes now_is.has_frame.frame.version now_is.has_frame.frame.place + 6) (there n) ≡ at_return t built of agrees (now n) now_is.has_frame.frame now_is.has_frame.below
+      shown-before : state_at (home_at t.homes now_is.has_frame.frame.version now_is.has_frame.frame.place + 6) (there n) ≡ at_return t built of meant agrees (now n) now_is.has_frame.frame now_is.has_frame.below
           → shown_of (state_at (home_at t.homes now_is.has_frame.frame.version now_is.has_frame.frame.place + 6) (there n)) ≡ shown_of (now (n + 1 - 1))
       shown-before at =
           let back : n + 1 - 1 ≡ n = omega arith in
@@ -322,7 +323,7 @@ module _ (t : Installed) (built : IsBuilt (class_in t)) (of : IsProgramOf (class
   start-by true room is =
       let code = main-coded (class_in t) w (rewritten t.program t.image t.homes) built.small of in
       let frame : new_frame w (tabled t) t.program.main argument_array ≡ new_frame w (rewritten t.program t.image t.homes) t.program.main argument_array =
-      ap (λ (place : ℕ). record (new_frame w (rewritten t.program t.image t.homes) t.program.main argument_array) { place = place }) (first-home t built of agrees t.program.main code) in
+      ap (λ (place : ℕ). record (new_frame w (rewritten t.program t.image t.homes) t.program.main argument_array) { place = place }) (first-home t built of meant agrees t.program.main code) in
       ap (λ b. cond b (placed_begin (new_frame w (tabled t) t.program.main argument_array)) placed_end) room ∙ (ap placed_begin frame ∙ sym is)
     where
       placed_begin : Frame → Turn
@@ -337,7 +338,7 @@ module _ (t : Installed) (built : IsBuilt (class_in t)) (of : IsProgramOf (class
 
   start-placed_is : start_placed t ≡ moved_turn (by_homes t.homes) (start w (original w.program))
   start-placed_is =
-      start-by (has_room w t.program.main argument_array) refl (start-is (class_in t) w (rewritten t.program t.image t.homes) built.small of)
+      start-by (has_room w t.program.main argument_array) refl (start-is (class_in t) w (rewritten t.program t.image t.homes) built of meant)
       ∙ start-moves (norm_in (class_in t)) w (by_homes t.homes) (original w.program) (rewritten t.program t.image t.homes) (original-agrees (class_in t) t.program built of) (rewritten-agrees t.program t.marks t.image t.homes built of agrees)
 
   started-by : (b : Bool) → has_room w t.program.main argument_array ≡ b → turn w 0 ≡ cond b (begun_in w (original w.program)) (unbegun_in w) → IsStep t 0 (entered t (start_placed t))
@@ -357,4 +358,4 @@ module _ (t : Installed) (built : IsBuilt (class_in t)) (of : IsProgramOf (class
   pub start-step : IsStep t 0 (entered t (start_placed t))
   start-step =
       started-by (has_room w t.program.main argument_array) refl
-      (turn_in-zero w (original w.program) ∙ start-is (class_in t) w (original w.program) built.small of)
+      (turn_in-zero w (original w.program) ∙ start-is (class_in t) w (original w.program) built of meant)

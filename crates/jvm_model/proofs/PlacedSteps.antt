@@ -10,15 +10,17 @@ use Rattle.jvm_model.specs.declared.event.Mark.TheVariants.{Off, Plain, Root}
 use Rattle.jvm_model.specs.declared.operation.Line.{Line}
 use Rattle.jvm_model.specs.declared.operation.Resolved.{Resolved}
 use Rattle.jvm_model.specs.declared.operation.Resolved.TheVariants as resolved
-use Rattle.jvm_model.specs.Data.{Frame, Entry, Active, Initializing, State, Instruction, Text, World}
+use Rattle.heap_objects.specs.declared.Value.TheVariants.{Int, Long, Ref, Addr}
+use Rattle.jvm_model.specs.Data.{Operands, Frame, Entry, Active, Initializing, State, Instruction, Text, World}
 use Rattle.jvm_model.specs.Agreement as agreement
-use Rattle.jvm_model.specs.Agreement.{IsStart, is_return_operation, is_left_by, leave_probe_of, entry_kind, first_place, behind_leave, is_entry, is_leave, entry_probe_of, rewritten}
+use Rattle.jvm_model.specs.Agreement.{IsStart, is_return_operation, is_left_by, leave_probe_of, entry_kind, first_place, behind_leave, is_entry, is_leave, rewritten}
 use Rattle.jvm_model.specs.Images.{is_off}
 use Rattle.jvm_model.specs.Attempts.{asks, does_line, closed, attempt_placed}
 use Rattle.jvm_model.specs.Installed.{Installed, class_in, world_in, line_in, placed, tabled}
 use Rattle.jvm_model.specs.Lines.{next_of, targets_of}
+use Rattle.jvm_model.specs.Meanings.{AreStreams, IsMeant}
 use Rattle.jvm_model.specs.Methods.{method_code}
-use Rattle.jvm_model.specs.Moved.{Moving, moved_instruction, moved_frame, moved_stack, moved, moved_turn, ArePlaces, IsPlaced}
+use Rattle.jvm_model.specs.Moved.{Moving, moved_instruction, moved_operands, moved_frame, moved_stack, moved, moved_turn, ArePlaces, IsPlaced}
 use Rattle.jvm_model.specs.Originals.{original}
 use Rattle.jvm_model.specs.OneClass.{IsProgramOf}
 use Rattle.jvm_model.specs.Quiet.{IsCoded, AreCoded, IsQuiet}
@@ -36,7 +38,7 @@ use Rattle.jvm_model.proofs.StepMoves.{placed-places, step-moves}
 
 -- ---- an attempt over the tables of versions
 
-module _ (t : Installed) (built : IsBuilt (class_in t)) (of : IsProgramOf (class_in t) t.program) (agrees : agreement.Agrees (class_in t) t.marks t.image t.homes) where
+module _ (t : Installed) (built : IsBuilt (class_in t)) (of : IsProgramOf (class_in t) t.program) (meant : IsMeant (class_in t) t.program) (agrees : agreement.Agrees (class_in t) t.marks t.image t.homes) where
   abbrev c : ClassFile
   c = class_in t
 
@@ -128,12 +130,28 @@ module _ (t : Installed) (built : IsBuilt (class_in t)) (of : IsProgramOf (class
   live_in-moved (Active f ∷ below) = ap suc (live_in-moved below)
   live_in-moved (Initializing class part ∷ below) = live_in-moved below
 
+  -- and a reference is the same there
+  streams-moved : (h : ℕ → ℕ) (os : Operands) → AreStreams os → AreStreams (moved_operands h os)
+  streams-moved h [] streams = tt
+  streams-moved h (Int n ∷ os) streams = streams-moved h os streams
+  streams-moved h (Long n ∷ os) streams = streams-moved h os streams
+  streams-moved h (Ref r ∷ os) streams = (streams.0, streams-moved h os streams.1)
+  streams-moved h (Addr place ∷ os) streams = streams-moved h os streams
+
+  frame-moved : (f : Frame) (below : List Entry) → IsCoded c f (live_in below) → IsCoded c (moved_frame m f) (live_in (moved_stack m below))
+  frame-moved f below coded = record {
+    same = coded.same;
+    code = coded.code;
+    few = subst (λ live. f.method + live < 1000) (sym (live_in-moved below)) coded.few;
+    streams = streams-moved (home_at t.homes f.version) f.operands coded.streams;
+  }
+
   coded-moved : (es : List Entry) → AreCoded c es → AreCoded c (moved_stack m es)
   coded-moved [] coded = tt
-  coded-moved (Active f ∷ es) coded = (subst (IsCoded c f.method f.version) (sym (live_in-moved es)) coded.0, coded-moved es coded.1)
+  coded-moved (Active f ∷ es) coded = (frame-moved f es coded.0, coded-moved es coded.1)
   coded-moved (Initializing class part ∷ es) coded = coded
 
-  frame-attempt : (s : State) (f : Frame) (below : List Entry) → IsQuiet c (record s { stack = Active f ∷ below; ending = None }) → IsPlaced (norm_in c) (record s { stack = Active f ∷ below; ending = None })
+  frame-attempt : (s : State) (f : Frame) (below : List Entry) → IsQuiet c t.program (record s { stack = Active f ∷ below; ending = None }) → IsPlaced (norm_in c) (record s { stack = Active f ∷ below; ending = None })
       → attempt_placed t (moved m (record s { stack = Active f ∷ below; ending = None })) ≡ step w u (moved m (record s { stack = Active f ∷ below; ending = None }))
   frame-attempt s f below quiet at =
       let going : State = record s { ending = None } in
@@ -144,30 +162,30 @@ module _ (t : Installed) (built : IsBuilt (class_in t)) (of : IsProgramOf (class
       let home = at_home f.version f.place start has in
       let g : Frame = moved_frame m f in
       let s' : State = record going { stack = moved_stack m below } in
-      let calm : IsQuiet c s' = record { thrown = quiet.thrown; begun = quiet.begun; ready = quiet.ready; coded = coded-moved below quiet.coded.1 } in
+      let calm : IsQuiet c t.program s' = record { thrown = quiet.thrown; begun = quiet.begun; shared = quiet.shared; coded = coded-moved below quiet.coded.1 } in
       let q : Resolved = home.line.operation in
       let resolves : resolved_in c home.instruction.operation ≡ Some q = ap (resolved_in c) home.same ∙ (has.resolves ∙ ap (λ x. let o : Option Resolved = Some x in o) (sym home.operates)) in
       let callee : (k : ℕ) → q ≡ resolved.Invokestatic k → IsStart c k 0 = λ k is. has.callee k (sym home.operates ∙ is) in
-      let coded : IsCoded c g.method g.version (live_in s'.stack) = subst (IsCoded c g.method g.version) (sym (live_in-moved below)) quiet.coded.0 in
+      let coded : IsCoded c g (live_in s'.stack) = frame-moved f below quiet.coded.0 in
       let earlier : CodedCallee c g.method q = callee-coded c g.method q callee (λ k is. subst (λ n. k < n) quiet.coded.0.same (has.before k (sym home.operates ∙ is))) in
       let stepped : steps_at w u s' g (u.at g.version g.place) ≡ closed (applies w u home.instruction (asks t.program q g.locals g.operands) (wrote_by q s' g) g) =
-      ap (steps_at w u s' g) home.instructed ∙ steps_at-is c w built of u home.instruction q s' g (λ k. refl) resolves (callee-at c q callee) earlier calm coded in
+      ap (steps_at w u s' g) home.instructed ∙ steps_at-is c w built of meant u home.instruction q s' g (λ k. refl) resolves (callee-at c q callee) earlier calm coded in
       let tried : closed (does_line t s' g (line_in t g.version g.place)) ≡ closed (applies w (tabled t) (placed home.line) (asks t.program q g.locals g.operands) (wrote_by q s' g) g) = ap (λ l. closed (does_line t s' g l)) home.lined in
       let same : applies w (tabled t) (placed home.line) (asks t.program q g.locals g.operands) (wrote_by q s' g) g ≡ applies w u home.instruction (asks t.program q g.locals g.operands) (wrote_by q s' g) g =
       applies-same c w (tabled t) u (placed home.line) home.instruction (asks t.program q g.locals g.operands) (wrote_by q s' g) g
-      (says (wrote_by q s' g) below refl quiet.coded.1 places.1) (simple-asks c g.method t.program q g.locals g.operands earlier) (ap (λ (x : ℕ × Option ℕ). x.0) home.places) (ap (λ (x : ℕ × Option ℕ). x.1) home.places) in
+      (says (wrote_by q s' g) below refl quiet.coded.1 places.1) (simple-asks c g.method t.program q g.locals g.operands earlier coded.streams) (ap (λ (x : ℕ × Option ℕ). x.0) home.places) (ap (λ (x : ℕ × Option ℕ). x.1) home.places) in
       tried ∙ (ap closed same ∙ sym stepped)
 
   abbrev o : Text
   o = original t.program
 
-  pub attempt-is : (s : State) (f : Frame) (below : List Entry) → s.stack ≡ Active f ∷ below → s.ending ≡ None → IsQuiet c s → IsPlaced (norm_in c) s
+  pub attempt-is : (s : State) (f : Frame) (below : List Entry) → s.stack ≡ Active f ∷ below → s.ending ≡ None → IsQuiet c t.program s → IsPlaced (norm_in c) s
       → attempt_placed t (moved m s) ≡ moved_turn m (step w o s)
   attempt-is s f below is going quiet at =
       let x : State = record s { stack = Active f ∷ below; ending = None } in
       let same : x ≡ s = ap (λ es. let y : State = record s { stack = es; ending = None } in y) (sym is) ∙ ap (λ e. record s { ending = e }) (sym going) in
       ap (λ y. attempt_placed t (moved m y)) (sym same)
-      ∙ (frame-attempt s f below (subst (IsQuiet c) (sym same) quiet) (subst (IsPlaced (norm_in c)) (sym same) at)
+      ∙ (frame-attempt s f below (subst (IsQuiet c t.program) (sym same) quiet) (subst (IsPlaced (norm_in c)) (sym same) at)
       ∙ (ap (λ y. step w u (moved m y)) same
       ∙ step-moves (norm_in c) w m o u (original-agrees c t.program built of) (rewritten-agrees t.program t.marks t.image t.homes built of agrees) s at))
 

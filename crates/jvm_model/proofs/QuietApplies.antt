@@ -1,11 +1,12 @@
 -- What a small class's instructions ask for leaves a quiet state; and the tables of versions give the same as the rewritten
 -- text, where frames stand at homes of starts.
-use Rattle.std.proofs.Common.{◌≡◌, ℕ, suc, ◌+◌, ◌<◌, Bool, true, false, List, [], ◌∷◌, slice_get, cond, Option, Some, None, refl, sym, ap, subst, ◌∙◌, arith}
-use Rattle.std.specs.Prelude.{is_some, nat_le, nat_lt, length}
+use Rattle.std.proofs.Common.{◌≡◌, ℕ, zero, suc, ◌+◌, ◌<◌, Bool, true, false, List, [], ◌∷◌, slice_get, cond, Option, Some, None, refl, sym, ap, subst, ◌∙◌, arith}
+use Rattle.std.specs.Prelude.{is_some, nat_le, nat_lt, length, drop}
 use Rattle.std.specs.Option.{option_map}
 use Rattle.std.proofs.lemmas.Bool.{lt-ltb}
 use Rattle.std.proofs.lemmas.Option.{same_Some, none-some}
-use Rattle.heap_objects.specs.declared.Value.TheVariants.{Int, Ref}
+use Rattle.heap_objects.specs.declared.datum.Datum.TheVariants as datum
+use Rattle.heap_objects.specs.declared.Value.TheVariants.{Int, Long, Ref, Addr}
 use Rattle.const_pool.specs.declared.class.ClassFile.{ClassFile}
 use Rattle.const_pool.specs.declared.descriptor.Kind.{Kind}
 use Rattle.const_pool.specs.declared.descriptor.Kind.TheVariants as kind
@@ -15,6 +16,7 @@ use Rattle.jvm_model.specs.Data.{Datum, Value, IntOperator, Locals, Operands, Fr
 use Rattle.frame_stack.specs.Widths.{height_of}
 use Rattle.jvm_model.specs.Values.{as_value, datum_of, arguments, with_value, loaded}
 use Rattle.jvm_model.specs.LocalRules.{pushes, calculates, returns_datum, returns}
+use Rattle.jvm_model.specs.Meanings.{AreStreams}
 use Rattle.jvm_model.specs.Methods.{method_code}
 use Rattle.jvm_model.specs.Programs.{params_of_method}
 use Rattle.jvm_model.specs.Rules.{is_print_stream, invokes, invokes_with}
@@ -22,6 +24,30 @@ use Rattle.jvm_model.specs.Applies.{still, with_frame, breaks, goes, throws_at, 
 use Rattle.jvm_model.specs.SharedState.{raised, stack_overflow}
 use Rattle.jvm_model.specs.Quiet.{IsCoded, AreCoded, IsQuiet}
 use Rattle.jvm_model.specs.Attempts.{asks_println, asks}
+
+-- ---- operands
+
+streams-rest : (v : Value) (o : Operands) → AreStreams (v ∷ o) → AreStreams o
+streams-rest (Int n) o streams = streams
+streams-rest (Long n) o streams = streams
+streams-rest (Ref r) o streams = streams.1
+streams-rest (Addr place) o streams = streams
+
+streams-drop : (count : ℕ) (o : Operands) → AreStreams o → AreStreams (drop count o)
+streams-drop zero o streams = streams
+streams-drop (suc count) [] streams = tt
+streams-drop (suc count) (v ∷ o) streams = streams-drop count o (streams-rest v o streams)
+
+-- a small class's method gives an int, or nothing
+abbrev pub IsIntResult : Option Datum → Type 0
+IsIntResult None = Unit {0}
+IsIntResult (Some (datum.Int n)) = Unit {0}
+IsIntResult (Some _) = ⊥
+
+streams-result : (d : Option Datum) (o : Operands) → IsIntResult d → AreStreams o → AreStreams (with_value (option_map as_value d) o)
+streams-result None o int streams = streams
+streams-result (Some (datum.Int n)) o int streams = streams
+streams-result (Some _) o int streams = absurd int
 
 -- ---- the outcomes of a small class's instructions
 
@@ -31,96 +57,103 @@ IsEarlier c caller k = (is_some (method_code c k) ≡ true) × (k < caller)
 
 -- the frame of this method goes on behind the instruction, invokes such a method, returns, or the code is unverifiable
 abbrev pub IsSimple : ClassFile → ℕ → Outcome → Type 0
-IsSimple c n (GoesOn l o Next) = Unit {0}
-IsSimple c n (Invokes method args below) = IsEarlier c n method
-IsSimple c n (Returns d) = Unit {0}
+IsSimple c n (GoesOn l o Next) = AreStreams o
+IsSimple c n (Invokes method args below) = IsEarlier c n method × AreStreams below
+IsSimple c n (Returns d) = IsIntResult d
 IsSimple c n (Breaks ends) = Unit {0}
 IsSimple c n _ = ⊥
 
-simple-pushes : (c : ClassFile) (n : ℕ) (v : Option Value) (l : Locals) (o : Operands) → IsSimple c n (pushes v l o)
-simple-pushes c n None l o = tt
-simple-pushes c n (Some v) l o = tt
+simple-loads : (c : ClassFile) (n : ℕ) (slot : Option (Option Value)) (l : Locals) (o : Operands) → AreStreams o → IsSimple c n (pushes (loaded kind.Int slot) l o)
+simple-loads c n (Some (Some (Int k))) l o streams = streams
+simple-loads c n _ l o streams = tt
 
-simple-calculates : (c : ClassFile) (n : ℕ) (op : IntOperator) (l : Locals) (o : Operands) → IsSimple c n (calculates op l o)
-simple-calculates c n op l (Int b ∷ Int a ∷ below) = tt
-simple-calculates c n op l _ = tt
+simple-calculates : (c : ClassFile) (n : ℕ) (op : IntOperator) (l : Locals) (o : Operands) → AreStreams o → IsSimple c n (calculates op l o)
+simple-calculates c n op l (Int b ∷ Int a ∷ below) streams = streams
+simple-calculates c n op l _ streams = tt
 
-simple-datum : (c : ClassFile) (n : ℕ) (d : Option Datum) → IsSimple c n (returns_datum d)
-simple-datum c n None = tt
-simple-datum c n (Some d) = tt
+simple-result : (c : ClassFile) (n : ℕ) (v : Value) → IsSimple c n (returns_datum (datum_of kind.Int v))
+simple-result c n (Int k) = tt
+simple-result c n _ = tt
 
 simple-returns : (c : ClassFile) (n : ℕ) (o : Operands) → IsSimple c n (returns (Some kind.Int) o)
 simple-returns c n [] = tt
-simple-returns c n (v ∷ below) = simple-datum c n (datum_of kind.Int v)
+simple-returns c n (v ∷ below) = simple-result c n v
 
-simple-println : (c : ClassFile) (n : ℕ) (l : Locals) (o : Operands) → IsSimple c n (asks_println l o)
-simple-println c n l (Int k ∷ Ref r ∷ below) = by_test (is_print_stream r) where
+simple-println : (c : ClassFile) (n : ℕ) (l : Locals) (o : Operands) → AreStreams o → IsSimple c n (asks_println l o)
+simple-println c n l (Int k ∷ Ref r ∷ below) streams = by_test (is_print_stream r) where
   by_test : (b : Bool) → IsSimple c n (cond b (GoesOn l below Next) (Breaks false))
-  by_test true = tt
+  by_test true = streams.1
   by_test false = tt
-simple-println c n l _ = tt
+simple-println c n l _ streams = tt
 
-simple-args : (c : ClassFile) (n : ℕ) (method count : ℕ) (args : Option (List Datum)) (o : Operands) → IsEarlier c n method → IsSimple c n (invokes method count args o)
-simple-args c n method count None o code = tt
-simple-args c n method count (Some args) o code = code
+simple-args : (c : ClassFile) (n : ℕ) (method count : ℕ) (args : Option (List Datum)) (o : Operands) → IsEarlier c n method → AreStreams o → IsSimple c n (invokes method count args o)
+simple-args c n method count None o code streams = tt
+simple-args c n method count (Some args) o code streams = (code, streams-drop count o streams)
 
-simple-invokes : (c : ClassFile) (n : ℕ) (method : ℕ) (params : Option (List Kind)) (o : Operands) → IsEarlier c n method → IsSimple c n (invokes_with method params o)
-simple-invokes c n method None o code = tt
-simple-invokes c n method (Some params) o code = simple-args c n method (length params) (arguments params o) o code
+simple-invokes : (c : ClassFile) (n : ℕ) (method : ℕ) (params : Option (List Kind)) (o : Operands) → IsEarlier c n method → AreStreams o → IsSimple c n (invokes_with method params o)
+simple-invokes c n method None o code streams = tt
+simple-invokes c n method (Some params) o code streams = simple-args c n method (length params) (arguments params o) o code streams
 
 -- the method that is invoked by this one has code and stands earlier
 abbrev pub CodedCallee : ClassFile → ℕ → Resolved → Type 0
 CodedCallee c n (resolved.Invokestatic k) = IsEarlier c n k
 CodedCallee c n _ = Unit {0}
 
-pub simple-asks : (c : ClassFile) (n : ℕ) (p : Program) (q : Resolved) (l : Locals) (o : Operands) → CodedCallee c n q → IsSimple c n (asks p q l o)
-simple-asks c n p resolved.Nop l o callee = tt
-simple-asks c n p (resolved.Constant k) l o callee = tt
-simple-asks c n p (resolved.Iload slot) l o callee = simple-pushes c n (loaded kind.Int (slice_get l slot)) l o
-simple-asks c n p (resolved.Binary op) l o callee = simple-calculates c n op l o
-simple-asks c n p resolved.Ireturn l o callee = simple-returns c n o
-simple-asks c n p resolved.Return l o callee = tt
-simple-asks c n p resolved.Out l o callee = tt
-simple-asks c n p resolved.Println l o callee = simple-println c n l o
-simple-asks c n p (resolved.Invokestatic k) l o callee = simple-invokes c n k (params_of_method p k) o callee
+pub simple-asks : (c : ClassFile) (n : ℕ) (p : Program) (q : Resolved) (l : Locals) (o : Operands) → CodedCallee c n q → AreStreams o → IsSimple c n (asks p q l o)
+simple-asks c n p resolved.Nop l o callee streams = streams
+simple-asks c n p (resolved.Constant k) l o callee streams = streams
+simple-asks c n p (resolved.Iload slot) l o callee streams = simple-loads c n (slice_get l slot) l o streams
+simple-asks c n p (resolved.Binary op) l o callee streams = simple-calculates c n op l o streams
+simple-asks c n p resolved.Ireturn l o callee streams = simple-returns c n o
+simple-asks c n p resolved.Return l o callee streams = tt
+simple-asks c n p resolved.Out l o callee streams = (refl, streams)
+simple-asks c n p resolved.Println l o callee streams = simple-println c n l o streams
+simple-asks c n p (resolved.Invokestatic k) l o callee streams = simple-invokes c n k (params_of_method p k) o callee streams
 
 -- ---- quiet states stay quiet
 
-chosen-quiet : (c : ClassFile) (b : Bool) (x y : State) → IsQuiet c x → IsQuiet c y → IsQuiet c (cond b x y)
-chosen-quiet c true x y p q = p
-chosen-quiet c false x y p q = q
+-- the frame elsewhere, with other locals and operands
+coded-at : (c : ClassFile) (f : Frame) (live place : ℕ) (l : Locals) (o : Operands) → IsCoded c f live → AreStreams o → IsCoded c (record f { place = place; locals = l; operands = o }) live
+coded-at c f live place l o coded streams = record { same = coded.same; code = coded.code; few = coded.few; streams = streams }
 
-chosen_turn-quiet : (c : ClassFile) (b : Bool) (x y : Turn) → IsQuiet c x.after → IsQuiet c y.after → IsQuiet c (cond b x y).after
-chosen_turn-quiet c true x y p q = p
-chosen_turn-quiet c false x y p q = q
+module _ (c : ClassFile) (p : Program) where
+  chosen-quiet : (b : Bool) (x y : State) → IsQuiet c p x → IsQuiet c p y → IsQuiet c p (cond b x y)
+  chosen-quiet true x y first second = first
+  chosen-quiet false x y first second = second
 
--- with a frame of a method that has code on top
-pub frame-quiet : (c : ClassFile) (s : State) (f : Frame) → IsQuiet c s → IsCoded c f.method f.version (live_in s.stack) → IsQuiet c (with_frame s f)
-frame-quiet c s f quiet coded = record { thrown = quiet.thrown; begun = quiet.begun; ready = quiet.ready; coded = (coded, quiet.coded) }
+  chosen_turn-quiet : (b : Bool) (x y : Turn) → IsQuiet c p x.after → IsQuiet c p y.after → IsQuiet c p (cond b x y).after
+  chosen_turn-quiet true x y first second = first
+  chosen_turn-quiet false x y first second = second
 
-breaks-quiet : (c : ClassFile) (s : State) (f : Frame) (own : ℕ) → IsQuiet c s → IsCoded c f.method f.version (live_in s.stack) → IsQuiet c (breaks s f own)
-breaks-quiet c s f own quiet coded = record { thrown = quiet.thrown; begun = λ e. absurd (none-some (Unverifiable f.method own) (sym e)); ready = quiet.ready; coded = (coded, quiet.coded) }
+  -- with a frame of a method that has code on top
+  pub frame-quiet : (s : State) (f : Frame) → IsQuiet c p s → IsCoded c f (live_in s.stack) → IsQuiet c p (with_frame s f)
+  frame-quiet s f quiet coded = record { thrown = quiet.thrown; begun = quiet.begun; shared = quiet.shared; coded = (coded, quiet.coded) }
 
-goes-quiet : (c : ClassFile) (s : State) (f : Frame) (own : ℕ) (l : Locals) (o : Operands) (place : Option ℕ) → IsQuiet c s → IsCoded c f.method f.version (live_in s.stack) → IsQuiet c (goes s f own l o place)
-goes-quiet c s f own l o None quiet coded = breaks-quiet c s f own quiet coded
-goes-quiet c s f own l o (Some place) quiet coded =
-    chosen-quiet c (nat_le (height_of o) f.max_stack) _ _ (frame-quiet c s (record f { place = place; locals = l; operands = o }) quiet coded) (breaks-quiet c s f own quiet coded)
+  breaks-quiet : (s : State) (f : Frame) (own : ℕ) → IsQuiet c p s → IsCoded c f (live_in s.stack) → IsQuiet c p (breaks s f own)
+  breaks-quiet s f own quiet coded = record { thrown = quiet.thrown; begun = λ e. absurd (none-some (Unverifiable f.method own) (sym e)); shared = quiet.shared; coded = (coded, quiet.coded) }
 
-resumes-quiet : (c : ClassFile) (s : State) (caller : Frame) (d : Option Datum) (i : Option Instruction) → IsQuiet c s → IsCoded c caller.method caller.version (live_in s.stack) → IsQuiet c (resumes s caller d i)
-resumes-quiet c s caller d None quiet coded = breaks-quiet c s caller 0 quiet coded
-resumes-quiet c s caller d (Some i) quiet coded = goes-quiet c s caller i.own caller.locals (with_value (option_map as_value d) caller.operands) i.next quiet coded
+  goes-quiet : (s : State) (f : Frame) (own : ℕ) (l : Locals) (o : Operands) (place : Option ℕ) → IsQuiet c p s → IsCoded c f (live_in s.stack) → AreStreams o → IsQuiet c p (goes s f own l o place)
+  goes-quiet s f own l o None quiet coded streams = breaks-quiet s f own quiet coded
+  goes-quiet s f own l o (Some place) quiet coded streams =
+      chosen-quiet (nat_le (height_of o) f.max_stack) _ _
+      (frame-quiet s (record f { place = place; locals = l; operands = o }) quiet (coded-at c f (live_in s.stack) place l o coded streams)) (breaks-quiet s f own quiet coded)
 
--- from the stack of a quiet state
-back-quiet : (c : ClassFile) (t : Text) (s : State) (d : Option Datum) (stack : List Entry) → IsQuiet c s → AreCoded c stack → IsQuiet c (gives_back t s d stack)
-back-quiet c t s d [] quiet coded = quiet
-back-quiet c t s d (Initializing class part ∷ below) quiet coded = absurd coded
-back-quiet c t s d (Active caller ∷ below) quiet coded =
-    resumes-quiet c (record s { stack = below }) caller d (t.at caller.version caller.place)
-    (record { thrown = quiet.thrown; begun = quiet.begun; ready = quiet.ready; coded = coded.1 }) coded.0
+  resumes-quiet : (s : State) (caller : Frame) (d : Option Datum) (i : Option Instruction) → IsQuiet c p s → IsCoded c caller (live_in s.stack) → IsIntResult d → IsQuiet c p (resumes s caller d i)
+  resumes-quiet s caller d None quiet coded int = breaks-quiet s caller 0 quiet coded
+  resumes-quiet s caller d (Some i) quiet coded int =
+      goes-quiet s caller i.own caller.locals (with_value (option_map as_value d) caller.operands) i.next quiet coded (streams-result d caller.operands int coded.streams)
 
-ends-quiet : (c : ClassFile) (ends : Bool) (s : State) (f : Frame) (own : ℕ) → IsQuiet c s → IsCoded c f.method f.version (live_in s.stack) → IsQuiet c (breaks_or_ends ends s f own).after
-ends-quiet c true s f own quiet coded = record { thrown = quiet.thrown; begun = λ e. absurd (none-some (Unverifiable f.method own) (sym e)); ready = quiet.ready; coded = quiet.coded }
-ends-quiet c false s f own quiet coded = breaks-quiet c s f own quiet coded
+  -- from the stack of a quiet state
+  back-quiet : (t : Text) (s : State) (d : Option Datum) (stack : List Entry) → IsQuiet c p s → AreCoded c stack → IsIntResult d → IsQuiet c p (gives_back t s d stack)
+  back-quiet t s d [] quiet coded int = quiet
+  back-quiet t s d (Initializing class part ∷ below) quiet coded int = absurd coded
+  back-quiet t s d (Active caller ∷ below) quiet coded int =
+      resumes-quiet (record s { stack = below }) caller d (t.at caller.version caller.place)
+      (record { thrown = quiet.thrown; begun = quiet.begun; shared = quiet.shared; coded = coded.1 }) coded.0 int
+
+  ends-quiet : (ends : Bool) (s : State) (f : Frame) (own : ℕ) → IsQuiet c p s → IsCoded c f (live_in s.stack) → IsQuiet c p (breaks_or_ends ends s f own).after
+  ends-quiet true s f own quiet coded = record { thrown = quiet.thrown; begun = λ e. absurd (none-some (Unverifiable f.method own) (sym e)); shared = quiet.shared; coded = quiet.coded }
+  ends-quiet false s f own quiet coded = breaks-quiet s f own quiet coded
 
 -- where few are live one more can begin
 pub invokes-few : (w : World) (t : Text) (i : Instruction) (s : State) (f : Frame) (m : ℕ) (args : List Datum) (below : Operands) → f.method + live_in s.stack < 1000
@@ -137,22 +170,24 @@ invokes-few w t i s f m args below few =
 abbrev pub IsOneVersion : Text → Type 0
 IsOneVersion t = (m : ℕ) → t.current m ≡ m
 
-pub applies-quiet : (c : ClassFile) (w : World) (t : Text) (i : Instruction) (outcome : Outcome) (s : State) (f : Frame) → IsOneVersion t → IsSimple c f.method outcome → IsQuiet c s → IsCoded c f.method f.version (live_in s.stack)
-    → IsQuiet c (applies w t i outcome s f).after
-applies-quiet c w t i (GoesOn l o Next) s f one simple quiet coded = goes-quiet c s f i.own l o i.next quiet coded
+pub applies-quiet : (c : ClassFile) (w : World) (t : Text) (i : Instruction) (outcome : Outcome) (s : State) (f : Frame) → IsOneVersion t → IsSimple c f.method outcome → IsQuiet c w.program s → IsCoded c f (live_in s.stack)
+    → IsQuiet c w.program (applies w t i outcome s f).after
+applies-quiet c w t i (GoesOn l o Next) s f one simple quiet coded = goes-quiet c w.program s f i.own l o i.next quiet coded simple
 applies-quiet c w t i (Invokes m args below) s f one simple quiet coded =
-    subst (λ (a : Turn). IsQuiet c a.after) (sym (invokes-few w t i s f m args below coded.few))
-    (chosen_turn-quiet c (has_room w m args) (begins w t s f m args below) (still (breaks s f i.own))
-    (frame-quiet c (with_frame s caller) (new_frame w t m args) (frame-quiet c s caller quiet coded) (record { same = one m; code = simple.0; few = fewer m f.method (live_in s.stack) simple.1 coded.few }))
-    (breaks-quiet c s f i.own quiet coded))
+    subst (λ (a : Turn). IsQuiet c w.program a.after) (sym (invokes-few w t i s f m args below coded.few))
+    (chosen_turn-quiet c w.program (has_room w m args) (begins w t s f m args below) (still (breaks s f i.own))
+    (frame-quiet c w.program (with_frame s caller) (new_frame w t m args)
+    (frame-quiet c w.program s caller quiet (record { same = coded.same; code = coded.code; few = coded.few; streams = simple.1 }))
+    (record { same = one m; code = simple.0.0; few = fewer m f.method (live_in s.stack) simple.0.1 coded.few; streams = tt }))
+    (breaks-quiet c w.program s f i.own quiet coded))
   where
     caller : Frame
     caller = record f { operands = below }
 
     fewer : (m n live : ℕ) → m < n → n + live < 1000 → m + suc live < 1000
     fewer m n live less few = omega arith
-applies-quiet c w t i (Returns d) s f one simple quiet coded = back-quiet c t s d s.stack quiet quiet.coded
-applies-quiet c w t i (Breaks ends) s f one simple quiet coded = ends-quiet c ends s f i.own quiet coded
+applies-quiet c w t i (Returns d) s f one simple quiet coded = back-quiet c w.program t s d s.stack quiet quiet.coded simple
+applies-quiet c w t i (Breaks ends) s f one simple quiet coded = ends-quiet c w.program ends s f i.own quiet coded
 applies-quiet c w t i _ s f one simple quiet coded = absurd simple
 
 -- ---- two texts that say the same of where frames go on
@@ -196,7 +231,7 @@ pub applies-same : (c : ClassFile) (w : World) (t u : Text) (i j : Instruction) 
 applies-same c w t u i j (GoesOn l o Next) s f says simple own next = ap (λ k. still (goes s f k l o i.next)) own ∙ ap (λ k. still (goes s f j.own l o k)) next
 applies-same c w t u i j (Invokes m args below) s f says simple own next =
     let beside : Turn → Turn = λ a. cond (nat_lt (suc (live_in s.stack)) 1024) a (still (throws_at s f (raised w s.shared stack_overflow None))) in
-    ap (λ g. let x : Turn = (cond (has_room w m args) (beside (record { after = with_frame (with_frame s (record f { operands = below })) g; changes = Began m ∷ [] })) (still (breaks s f i.own))) in x) (new_frame-same c w t u s m args says simple.0)
+    ap (λ g. let x : Turn = (cond (has_room w m args) (beside (record { after = with_frame (with_frame s (record f { operands = below })) g; changes = Began m ∷ [] })) (still (breaks s f i.own))) in x) (new_frame-same c w t u s m args says simple.0.0)
     ∙ ap (λ k. let x : Turn = (cond (has_room w m args) (begins_beside w u s f m args below (suc (live_in s.stack))) (still (breaks s f k))) in x) own
 applies-same c w t u i j (Returns d) s f says simple own next = ap (λ x. let a : Turn = record { after = x; changes = Left ∷ [] } in a) (back-same c t u s d s.stack refl says)
 applies-same c w t u i j (Breaks ends) s f says simple own next = ap (λ k. breaks_or_ends ends s f k) own

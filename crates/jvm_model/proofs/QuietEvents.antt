@@ -11,6 +11,7 @@ use Rattle.jvm_model.specs.Data.{Entry, Active, Initializing, Change, Loads, Beg
 use Rattle.jvm_model.specs.Applies.{has_room}
 use Rattle.jvm_model.specs.Changes.{methods, without_first}
 use Rattle.jvm_model.specs.EventLists.{Marking, begin_events, end_events, step_events, events_of, events_of-zero, events_of-suc}
+use Rattle.jvm_model.specs.Meanings.{IsMeant}
 use Rattle.jvm_model.specs.Methods.{method_code}
 use Rattle.jvm_model.specs.Moves.{argument_array}
 use Rattle.jvm_model.specs.Originals.{original}
@@ -95,7 +96,7 @@ events-off w (suc n) =
     events_of-suc (always (λ m. Off)) w n
     ∙ ap₂ ◌++◌ (events-off w n) (events-step (always (λ m. Off)) (λ m. Off) (always-is (λ m. Off)) w n ∙ told-off (suc n) (methods (run w n).stack) (turn w (suc n)).changes)
 
-module _ (c : ClassFile) (w : World) (built : IsBuilt c) (of : IsProgramOf c w.program) where
+module _ (c : ClassFile) (w : World) (built : IsBuilt c) (of : IsProgramOf c w.program) (meant : IsMeant c w.program) where
   went-known : (q : Resolved) (a : Turn) → Went c (original w.program) q a → BeginsKnown c a.changes
   went-known q a (stays goes changes) = subst (BeginsKnown c) (sym changes) tt
   went-known q a (starts goes m f below code version place stack changes) = subst (BeginsKnown c) (sym changes) (code, tt)
@@ -104,8 +105,8 @@ module _ (c : ClassFile) (w : World) (built : IsBuilt c) (of : IsProgramOf c w.p
   step-known : (n : ℕ) (b : Bool) → is_some (run w n).ending ≡ b → BeginsKnown c (step w (original w.program) (run w n)).changes
   step-known n true ended = subst (λ (a : Turn). BeginsKnown c a.changes) (sym (step-ended w (original w.program) (run w n) ended)) tt
   step-known n false going =
-      let hf = run-frame c w built of n going in
-      let is = step-of c w built of (run w n) hf.frame hf.below hf.is hf.going (run-quiet c w built of n) (run-placed c w built of n) in
+      let hf = run-frame c w built of meant n going in
+      let is = step-of c w built of meant (run w n) hf.frame hf.below hf.is hf.going (run-quiet c w built of meant n) (run-placed c w built of meant n) in
       went-known is.has.resolved (step w (original w.program) (run w n)) is.went
 
   start-known : (b : Bool) → has_room w w.program.main argument_array ≡ b → turn w 0 ≡ cond b (begun_in w (original w.program)) (unbegun_in w) → BeginsKnown c (turn w 0).changes
@@ -113,7 +114,7 @@ module _ (c : ClassFile) (w : World) (built : IsBuilt c) (of : IsProgramOf c w.p
   start-known false room is = subst (λ (a : Turn). BeginsKnown c a.changes) (sym is) tt
 
   turn-known : (n : ℕ) → BeginsKnown c (turn w n).changes
-  turn-known zero = start-known (has_room w w.program.main argument_array) refl (turn_in-zero w (original w.program) ∙ start-is c w (original w.program) built.small of)
+  turn-known zero = start-known (has_room w w.program.main argument_array) refl (turn_in-zero w (original w.program) ∙ start-is c w (original w.program) built of meant)
   turn-known (suc n) = subst (λ (a : Turn). BeginsKnown c a.changes) (sym (turn_in-suc w (original w.program) n)) (step-known n (is_some (run w n).ending) refl)
 
   step-alike : (first second : ℕ → Mark) (n : ℕ) → AreAlike c first second → step_events (always first) w n ≡ step_events (always second) w n
@@ -122,7 +123,7 @@ module _ (c : ClassFile) (w : World) (built : IsBuilt c) (of : IsProgramOf c w.p
       ∙ (told-alike c first second 0 [] (turn w 0).changes alike tt (turn-known 0) ∙ sym (events-start (always second) second (always-is second) w))
   step-alike first second (suc n) alike =
       events-step (always first) first (always-is first) w n
-      ∙ (told-alike c first second (suc n) (methods (run w n).stack) (turn w (suc n)).changes alike (known-methods c (run w n).stack (run-quiet c w built of n).coded) (turn-known (suc n))
+      ∙ (told-alike c first second (suc n) (methods (run w n).stack) (turn w (suc n)).changes alike (known-methods c (run w n).stack (run-quiet c w built of meant n).coded) (turn-known (suc n))
       ∙ sym (events-step (always second) second (always-is second) w n))
 
   pub events-alike : (first second : ℕ → Mark) (n : ℕ) → AreAlike c first second → events_of (always first) w n ≡ events_of (always second) w n

@@ -4,6 +4,7 @@ use Rattle.std.specs.Prelude.{is_some}
 use Rattle.std.proofs.lemmas.Option.{none-some}
 use Rattle.const_pool.specs.declared.class.ClassFile.{ClassFile}
 use Rattle.jvm_model.specs.Data.{Frame, Entry, Active, Initializing, Ending, State, Turn, World}
+use Rattle.jvm_model.specs.Meanings.{IsMeant}
 use Rattle.jvm_model.specs.Moved.{IsPlaced}
 use Rattle.jvm_model.specs.Moves.{main_or_end, moves, move}
 use Rattle.jvm_model.specs.Originals.{original}
@@ -17,13 +18,13 @@ use Rattle.jvm_model.proofs.QuietSteps.{step-quiet}
 use Rattle.jvm_model.proofs.RewrittenAgrees.{norm_in, original-agrees}
 use Rattle.jvm_model.proofs.StepMoves.{turn_in-placed}
 
-module _ (c : ClassFile) (w : World) (built : IsBuilt c) (of : IsProgramOf c w.program) where
+module _ (c : ClassFile) (w : World) (built : IsBuilt c) (of : IsProgramOf c w.program) (meant : IsMeant c w.program) where
   pub run-placed : (n : ℕ) → IsPlaced (norm_in c) (run w n)
   run-placed n = turn_in-placed (norm_in c) w (original w.program) (original-agrees c w.program built of) n
 
-  pub run-quiet : (n : ℕ) → IsQuiet c (run w n)
-  run-quiet zero = subst (λ (a : Turn). IsQuiet c a.after) (sym (turn_in-zero w (original w.program))) (start-quiet c w (original w.program) built.small of built.plain.few refl)
-  run-quiet (suc n) = subst (λ (a : Turn). IsQuiet c a.after) (sym (turn_in-suc w (original w.program) n)) (step-quiet c w built of (run w n) (run-quiet n) (run-placed n))
+  pub run-quiet : (n : ℕ) → IsQuiet c w.program (run w n)
+  run-quiet zero = subst (λ (a : Turn). IsQuiet c w.program a.after) (sym (turn_in-zero w (original w.program))) (start-quiet c w (original w.program) built of meant refl)
+  run-quiet (suc n) = subst (λ (a : Turn). IsQuiet c w.program a.after) (sym (turn_in-suc w (original w.program) n)) (step-quiet c w built of meant (run w n) (run-quiet n) (run-placed n))
 
   -- a run that goes on has a frame
   pub record HasFrame (s : State) : Type 0 where
@@ -32,7 +33,7 @@ module _ (c : ClassFile) (w : World) (built : IsBuilt c) (of : IsProgramOf c w.p
     pub is : s.stack ≡ Active frame ∷ below
     pub going : s.ending ≡ None
 
-  by_stack : (s : State) (ending : Option Ending) (stack : List Entry) → IsQuiet c s → move w (original w.program) s ≡ None → s.ending ≡ ending → s.stack ≡ stack → is_some ending ≡ false → HasFrame s
+  by_stack : (s : State) (ending : Option Ending) (stack : List Entry) → IsQuiet c w.program s → move w (original w.program) s ≡ None → s.ending ≡ ending → s.stack ≡ stack → is_some ending ≡ false → HasFrame s
   by_stack s (Some e) stack quiet stops ended is going = absurd cc
   by_stack s None (Active f ∷ below) quiet stops ended is going = record { frame = f; below = below; is = is; going = ended }
   by_stack s None (Initializing class part ∷ below) quiet stops ended is going = absurd (subst (AreCoded c) is quiet.coded)

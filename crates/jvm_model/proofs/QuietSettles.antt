@@ -24,7 +24,7 @@ unthrown w t s thrown = ap (λ r. moves w t s s.ending r s.stack) thrown
 abbrev with_state : Turn → State → Turn
 with_state a s = record a { after = s }
 
-by-parts : (c : ClassFile) (w : World) (t : Text) (a : Turn) (ending : Option Ending) (stack : List Entry) → IsQuiet c a.after → a.after.ending ≡ ending → a.after.stack ≡ stack → settled w t a ≡ closed a
+by-parts : (c : ClassFile) (w : World) (t : Text) (a : Turn) (ending : Option Ending) (stack : List Entry) → IsQuiet c w.program a.after → a.after.ending ≡ ending → a.after.stack ≡ stack → settled w t a ≡ closed a
 by-parts c w t a (Some e) stack quiet ended is =
     stops w t (left a.after) a (unthrown w t a.after quiet.thrown ∙ ap (λ x. moves w t a.after x None a.after.stack) ended)
     ∙ sym (ap (with_state a) (ap (λ x. cond (is_empty a.after.stack && is_none x) (record a.after { ending = Some Returned }) a.after) ended ∙ no-end (is_empty a.after.stack)))
@@ -52,5 +52,5 @@ by-parts c w t a None [] quiet ended is =
     begun-moves s begun = ap (λ b. Some (main_or_end w t s b)) begun
 
 -- the normal form of a quiet state
-pub settled-quiet : (c : ClassFile) (w : World) (t : Text) (a : Turn) → IsQuiet c a.after → settled w t a ≡ closed a
+pub settled-quiet : (c : ClassFile) (w : World) (t : Text) (a : Turn) → IsQuiet c w.program a.after → settled w t a ≡ closed a
 settled-quiet c w t a quiet = by-parts c w t a a.after.ending a.after.stack quiet refl refl

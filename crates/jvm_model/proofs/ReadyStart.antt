@@ -1,56 +1,57 @@
--- How a program starts that starts without any code but `main`, and which classes such programs have.
-use Rattle.std.proofs.Common.{◌≡◌, ℕ, zero, suc, ◌+◌, ◌*◌, ◌<◌, ◌≤◌, get_or, arith, Bool, true, false, List, [], ◌∷◌, slice_get, cond, Option, Some, None, refl, sym, ap, subst, ◌∙◌}
-use Rattle.std.specs.Prelude.{codes, not, is_some, length, map, slice_set, ◌&&◌, ◌||◌, ◌==◌}
+-- How a program starts that starts without any code but `main`, and that a program of a small class is such a program.
+use Rattle.std.proofs.Common.{◌≡◌, ℕ, zero, suc, ◌+◌, ◌*◌, ◌<◌, ◌≤◌, get_or, arith, Bool, true, false, List, [], ◌∷◌, ◌++◌, slice_get, cond, Option, Some, None, refl, sym, ap, subst, ◌∙◌}
+use Rattle.std.specs.Prelude.{codes, not, length, drop, map, slice_set, ◌&&◌, ◌||◌, ◌==◌}
 use Rattle.std.specs.Option.{option_map, option_map_or, option_and_then}
 use Rattle.std.specs.List.{list_any, AllByRecursion}
+use Rattle.std.proofs.Math.Seq.{drop-append_seam}
 use Rattle.std.proofs.lemmas.List.Quantifiers.{position-Some}
-use Rattle.std.proofs.lemmas.Option.{slice_get-map, slice_get-get_or}
+use Rattle.std.proofs.lemmas.Option.{same_Some, none-some, option_and_then_some, slice_get-map, slice_get-get_or}
 use Rattle.std.proofs.lemmas.Slice.Eq.{bytes_eq-Decides}
 use Rattle.const_pool.specs.declared.class.ClassFile.{ClassFile}
 use Rattle.const_pool.specs.declared.class.Member.{Member}
 use Rattle.const_pool.specs.BuiltIn.{probe_class, built_in_names}
 use Rattle.const_pool.specs.References.{NameAndType, named_text, named_class}
-use Rattle.jvm_model.specs.Data.{Active, Superclass, Initializer, Finish, Phase, Fresh, Running, Ready, Unverifiable, MethodPlace, Program, State, Began, Turn, Text, World}
+use Rattle.jvm_model.specs.Data.{Active, Initializing, Constants, Superclass, Initializer, Finish, Phase, Fresh, Running, Ready, Unverifiable, MethodPlace, Program, Shared, State, Began, Turn, Text, World}
 use Rattle.jvm_model.specs.Applies.{still, new_frame, has_room}
+use Rattle.jvm_model.specs.Constants.{set, sets_fields, sets_constants}
 use Rattle.jvm_model.specs.Descriptors.{same_text}
-use Rattle.jvm_model.specs.Methods.{code_of, method_named, is_member, method_from, same_text_at}
-use Rattle.jvm_model.specs.Moves.{at_part, after_super, with_super, runs_initializer, argument_array, move, fresh, left, settles, settled}
+use Rattle.jvm_model.specs.Load.{Loading, done}
+use Rattle.jvm_model.specs.Meanings.{IsMeant}
+use Rattle.jvm_model.specs.Methods.{method_named, is_member, method_from, same_text_at}
+use Rattle.jvm_model.specs.Moves.{at_part, after_super, with_super, runs_initializer, with_constants, argument_array, move, fresh, left, settles, settled}
 use Rattle.jvm_model.specs.OneClass.{IsProgramOf}
 use Rattle.jvm_model.specs.Programs.{name_of, has_name, has_built_in_name, class_named, super_of, number_of_method, initializer_name, initializer_of}
-use Rattle.jvm_model.specs.Run.{loaded_turn, main_class, starts_with, start}
-use Rattle.jvm_model.specs.SharedState.{phase_of, with_phase, shared_before, phase_before}
-use Rattle.jvm_model.specs.SmallClass.{begins_with, is_free_name}
+use Rattle.jvm_model.specs.Run.{before, arguments_made, with_loaded, loaded_turn, main_class, main_loading, main_loads, starts_unless, starts_with, start}
+use Rattle.jvm_model.specs.SharedState.{with_phase, phase_before}
+use Rattle.jvm_model.specs.SmallClass.{begins_with, is_free_name, is_plain_name, is_plain_member, member_of, IsSmallClass}
+use Rattle.jvm_model.specs.StandsFor.{IsBuilt}
 use Rattle.jvm_model.specs.Starting.{IsReadyAbove, StartsReady, phases_ready, ready_in, begun_in, unbegun_in, begins_or_ends}
-use Rattle.jvm_model.specs.StaticClass.{IsStaticClass}
-use Rattle.jvm_model.proofs.ImageMethods.{has_code, each-nth}
-use Rattle.jvm_model.proofs.Numbers.{first-at, place-coded, main-first}
+use Rattle.jvm_model.proofs.ImageMethods.{each-nth}
+use Rattle.jvm_model.proofs.Numbers.{first-at, place-first, main-first}
 use Rattle.jvm_model.proofs.QuietSettles.{stops, one-move}
 
--- ---- a class beside the built-in ones alone
-
--- its name is free, it extends Object, it has no static initializer, and each of its methods has code
-pub record IsAlone (c : ClassFile) : Type 0 where
-  pub name : option_map_or is_free_name (named_class c.pool c.this_class) false ≡ true
-  pub super : option_map_or (same_text (codes "java/lang/Object")) (named_class c.pool c.super_class) false ≡ true
-  pub methods : AllByRecursion (λ m. is_member c.pool initializer_name m ≡ false) c.methods
-  pub coded : AllByRecursion has_code c.methods
+-- ---- a small class beside the built-in ones
 
 abbrev pub object_name : List ℕ
 object_name = codes "java/lang/Object"
 
-pub same-is : (xs ys : List ℕ) → same_text xs ys ≡ true → xs ≡ ys
+same-is : (xs ys : List ℕ) → same_text xs ys ≡ true → xs ≡ ys
 same-is xs ys e = (bytes_eq-Decides xs ys).0 e
 
 same-refl : (xs : List ℕ) → same_text xs xs ≡ true
 same-refl xs = (bytes_eq-Decides xs xs).1 refl
 
-pub not-both : (b : Bool) → (b ≡ true → ⊥) → b ≡ false
+not-both : (b : Bool) → (b ≡ true → ⊥) → b ≡ false
 not-both true isnt = absurd (isnt refl)
 not-both false isnt = refl
 
-pub passed : {A : Type 0} (p : A → Bool) (o : Option A) → option_map_or p o false ≡ true → (x : A) × (o ≡ Some x) × (p x ≡ true)
+passed : {A : Type 0} (p : A → Bool) (o : Option A) → option_map_or p o false ≡ true → (x : A) × (o ≡ Some x) × (p x ≡ true)
 passed p None e = absurd cc
 passed p (Some x) e = (x, refl, e)
+
+first-part : (a b : Bool) → (a && b) ≡ true → a ≡ true
+first-part true b e = refl
+first-part false b e = e
 
 second : (a b : Bool) → (a && b) ≡ true → b ≡ true
 second true b e = e
@@ -69,9 +70,9 @@ free-other own free =
     first-false (same_text own object_name) _ names
 
 -- the class itself does not have Object's name
-not-object : (c : ClassFile) (above : List ℕ) → IsAlone c → object_name ≡ above → has_name above c ≡ false
-not-object c above alone name =
-    let own = passed is_free_name (named_class c.pool c.this_class) alone.name in
+not-object : (c : ClassFile) (above : List ℕ) → IsSmallClass c → object_name ≡ above → has_name above c ≡ false
+not-object c above small name =
+    let own = passed is_free_name (named_class c.pool c.this_class) small.name in
     ap (λ o. option_map_or (same_text above) o false) own.1 ∙ not-both (same_text above own.0) (λ e. (
     let is : own.0 ≡ object_name = sym (same-is above own.0 e) ∙ sym name in
     let yes : same_text own.0 object_name ≡ true = ap (λ t. same_text t object_name) is ∙ same-refl object_name in
@@ -94,16 +95,16 @@ phase-behind (x ∷ cs) c rest (suc k) above is name other within named =
     ∙ (ap (option_map phase_before) (slice_get-get_or cs k c (omega (arith, within)))
     ∙ ap (λ b. let o : Option Phase = Some (cond b Ready Fresh) in o) (object-built_in (get_or cs k c) above name named))
 
-pub main-class : (c : ClassFile) (p : Program) → IsAlone c → IsProgramOf c p → main_class p ≡ 0
-main-class c p alone of =
+main-class : (c : ClassFile) (p : Program) → IsSmallClass c → IsProgramOf c p → main_class p ≡ 0
+main-class c p small of =
     let main = main-first c p of in
-    ap (λ (o : Option MethodPlace). option_map_or (λ (place : MethodPlace). place.class) o 0) (place-coded c p p.main main.0 alone.coded of main.1)
+    ap (λ (o : Option MethodPlace). option_map_or (λ (place : MethodPlace). place.class) o 0) (place-first c p p.main main.0 small of main.1)
 
 -- its superclass is ready already, or no class of the program
-pub super-ready : (c : ClassFile) (p : Program) → IsAlone c → IsProgramOf c p → IsReadyAbove p (super_of p 0)
-super-ready c p alone of = subst (IsReadyAbove p) (sym above) (by_found (class_named p named.0) refl) where
+super-ready : (c : ClassFile) (p : Program) → IsSmallClass c → IsProgramOf c p → IsReadyAbove p (super_of p 0)
+super-ready c p small of = subst (IsReadyAbove p) (sym above) (by_found (class_named p named.0) refl) where
   named : (x : List ℕ) × (named_class c.pool c.super_class ≡ Some x) × (same_text object_name x ≡ true)
-  named = passed (same_text object_name) (named_class c.pool c.super_class) alone.super
+  named = passed (same_text object_name) (named_class c.pool c.super_class) small.super
 
   name : object_name ≡ named.0
   name = same-is object_name named.0 named.2
@@ -115,16 +116,44 @@ super-ready c p alone of = subst (IsReadyAbove p) (sym above) (by_found (class_n
   by_found None e = tt
   by_found (Some d) e =
       let found = position-Some (has_name named.0) p.classes d c e in
-      phase-behind p.classes c of.rest d named.0 of.classes name (not-object c named.0 alone name) found.0 found.1
+      phase-behind p.classes c of.rest d named.0 of.classes name (not-object c named.0 small name) found.0 found.1
+
+-- a plain name is no static initializer's
+plain-other : (c : ClassFile) (m : Member) → option_map_or is_plain_member (member_of c.pool m) false ≡ true → is_member c.pool initializer_name m ≡ false
+plain-other c m plain =
+    let member = passed is_plain_member (member_of c.pool m) plain in
+    option_and_then_some (λ name. option_map (λ descriptor. let n : NameAndType = record { name = name; descriptor = descriptor } in n) (named_text c.pool m.descriptor)) (named_text c.pool m.name) member.0 member.1
+    (λ name named rest. by_descriptor member.0 member.2 name (named_text c.pool m.descriptor) named rest)
+  where
+    isnt : (name : List ℕ) → is_plain_name name ≡ true → same_text name (codes "<clinit>") ≡ false
+    isnt name plain = not-both (same_text name (codes "<clinit>")) (λ e. (
+        let is : name ≡ codes "<clinit>" = same-is name (codes "<clinit>") e in
+        let no : false ≡ true = sym (ap is_plain_name is) ∙ plain in cc))
+
+    by_descriptor : (found : NameAndType) → is_plain_member found ≡ true → (name : List ℕ) (d : Option (List ℕ)) → named_text c.pool m.name ≡ Some name
+        → option_map (λ descriptor. let n : NameAndType = record { name = name; descriptor = descriptor } in n) d ≡ Some found → is_member c.pool initializer_name m ≡ false
+    by_descriptor found ok name None named e = absurd (none-some found e)
+    by_descriptor found ok name (Some descriptor) named e =
+        let one : (let n : NameAndType = record { name = name; descriptor = descriptor } in n) ≡ found = same_Some _ found e in
+        let plain_name : is_plain_name name ≡ true = ap (λ (n : NameAndType). is_plain_name n.name) one ∙ first-part (is_plain_name found.name) _ ok in
+        ap (λ o. option_map_or (λ t. same_text t (codes "<clinit>")) o false && same_text_at c.pool m.descriptor (codes "()V")) named
+        ∙ ap (λ b. b && same_text_at c.pool m.descriptor (codes "()V")) (isnt name plain_name)
 
 none-named : (c : ClassFile) (n : ℕ) (ms : List Member) → AllByRecursion (λ m. is_member c.pool initializer_name m ≡ false) ms → method_from c.pool initializer_name n ms ≡ None
 none-named c n [] all = refl
 none-named c n (m ∷ ms) all = ap (λ b. cond b (Some n) (method_from c.pool initializer_name (n + 1) ms)) all.0 ∙ none-named c (n + 1) ms all.1
 
-pub no-initializer : (c : ClassFile) (p : Program) → IsAlone c → IsProgramOf c p → initializer_of p 0 ≡ None
-no-initializer c p alone of =
+no-initializer : (c : ClassFile) (p : Program) → IsSmallClass c → IsProgramOf c p → initializer_of p 0 ≡ None
+no-initializer c p small of =
     ap (option_and_then (λ k. option_and_then (number_of_method p 0) (method_named k initializer_name))) (first-at c p of)
-    ∙ ap (option_and_then (number_of_method p 0)) (none-named c 0 c.methods alone.methods)
+    ∙ ap (option_and_then (number_of_method p 0))
+    (none-named c 0 c.methods (each-nth (λ m. is_member c.pool initializer_name m ≡ false) c.methods (λ k m e. plain-other c m (small.methods k m e).named)))
+
+-- a class without fields has no constants
+no-constants : (c : ClassFile) (p : Program) → c.fields ≡ [] → IsProgramOf c p → (s : Shared) → sets_constants p 0 s ≡ set s
+no-constants c p none of s =
+    ap (λ o. option_map_or (λ (k : ClassFile). sets_fields p k 0 0 k.fields s) o (set s)) (first-at c p of)
+    ∙ ap (λ fields. sets_fields p c 0 0 fields s) none
 
 -- the other classes are built in, and so ready
 none-fresh : (cs : List ClassFile) → AllByRecursion (λ k. has_built_in_name k ≡ true) cs → fresh (map phase_before cs) ≡ 0
@@ -134,19 +163,17 @@ none-fresh (k ∷ cs) all = ap (λ b. fresh (cond b Ready Fresh ∷ map phase_be
 others-ready : (p : Program) (c : ClassFile) (rest : List ClassFile) → p.classes ≡ c ∷ rest → AllByRecursion (λ k. has_built_in_name k ≡ true) rest → fresh (phases_ready p) ≡ 0
 others-ready p c rest is all = ap (λ cs. fresh (slice_set (map phase_before cs) 0 Ready)) is ∙ none-fresh rest all
 
-pub StartsReady-alone : (c : ClassFile) (p : Program) → IsAlone c → (of : IsProgramOf c p) → AllByRecursion (λ k. has_built_in_name k ≡ true) of.rest → p.args ≡ [] → 1024 ≤ p.heap → StartsReady p
-StartsReady-alone c p alone of built_in plain room = record {
-  first = main-class c p alone of;
-  above = super-ready c p alone of;
-  none = no-initializer c p alone of;
+pub StartsReady-small : (c : ClassFile) (p : Program) → IsBuilt c → (of : IsProgramOf c p) → IsMeant c p → AllByRecursion (λ k. has_built_in_name k ≡ true) of.rest → p.args ≡ [] → 1024 ≤ p.heap → StartsReady p
+StartsReady-small c p built of meant built_in plain room = record {
+  first = main-class c p built.small of;
+  above = super-ready c p built.small of;
+  none = no-initializer c p built.small of;
   others = others-ready p c of.rest of.classes built_in;
+  alone = meant.alone;
+  constants = no-constants c p built.plain.fields of;
   plain = plain;
   room = room;
 }
-
--- each method of a class of static methods has code
-pub coded-static : (c : ClassFile) → IsStaticClass c → AllByRecursion has_code c.methods
-coded-static c static = each-nth has_code c.methods (λ k m e. ap is_some (static.methods k m e).coded)
 
 -- ---- the start
 
@@ -155,12 +182,27 @@ put-twice : (ps : List Phase) → slice_set (slice_set ps 0 Running) 0 Ready ≡
 put-twice [] = refl
 put-twice (x ∷ ps) = refl
 
+-- the initialization of this class begins
+abbrev starts_class : ℕ → State → State
+starts_class class s = record s { stack = Initializing class Constants ∷ []; shared = with_phase s.shared class Running }
+
 module _ (w : World) (t : Text) where
   abbrev main : ℕ
   main = w.program.main
 
+  -- the classes that are loaded before
+  abbrev early : List ℕ
+  early = (before w).shared.loaded
+
+  abbrev made : State
+  made = arguments_made w (before w)
+
+  -- the initialization of this class has begun
+  abbrev begun_with : ℕ → State
+  begun_with class = starts_class class (with_loaded (0 ∷ []) made)
+
   abbrev base : State
-  base = record (starts_with w 0) { stack = [] }
+  base = record (begun_with 0) { stack = [] }
 
   super-part : (o : Option ℕ) → IsReadyAbove w.program o → with_super w base 0 o ≡ at_part base 0 Initializer
   super-part None above = refl
@@ -177,22 +219,38 @@ module _ (w : World) (t : Text) where
       ap (λ b. let o : Option Turn = Some (cond b (record { after = record (ready_in w) { begun = true; stack = Active (new_frame w t main argument_array) ∷ [] }; changes = Began main ∷ [] }) next) in o) room in
       ap (loaded_turn (0 ∷ [])) (one-move w t n (still (ready_in w)) next moves ∙ stops w t n next refl)
 
-  initialized : (n : ℕ) → IsReadyAbove w.program (super_of w.program 0) → initializer_of w.program 0 ≡ None
-      → settles w t (suc (suc (suc (suc n)))) (still (starts_with w 0)) ≡ settles w t n (still (ready_in w))
-  initialized n above none =
-      one-move w t (suc (suc (suc n))) (still (starts_with w 0)) (still (at_part base 0 Superclass)) refl
+  loads-one : main_loading w ≡ done (early ++ 0 ∷ []) → main_loads w ≡ 0 ∷ []
+  loads-one alone = ap (λ (l : Loading). drop (length early) l.loaded) alone ∙ drop-append_seam early (0 ∷ [])
+
+  starts-first : main_class w.program ≡ 0 → main_loading w ≡ done (early ++ 0 ∷ []) → starts_with w ≡ begun_with 0
+  starts-first first alone =
+      ap (λ o. starts_unless w o (with_loaded (main_loads w) made)) (ap (λ (l : Loading). l.fault) alone)
+      ∙ (ap (λ classes. starts_unless w None (with_loaded classes made)) (loads-one alone) ∙ ap begun_with first)
+
+  initialized : (n : ℕ) → IsReadyAbove w.program (super_of w.program 0) → initializer_of w.program 0 ≡ None → ((s : Shared) → sets_constants w.program 0 s ≡ set s)
+      → settles w t (suc (suc (suc (suc n)))) (still (begun_with 0)) ≡ settles w t n (still (ready_in w))
+  initialized n above none constants =
+      one-move w t (suc (suc (suc n))) (still (begun_with 0)) (still (at_part base 0 Superclass))
+      (ap (λ setting. let o : Option Turn = Some (still (with_constants base 0 setting)) in o) (constants base.shared))
       ∙ (one-move w t (suc (suc n)) (still (at_part base 0 Superclass)) (still (at_part base 0 Initializer)) (ap (λ s. let o : Option Turn = Some (still s) in o) (super-part (super_of w.program 0) above))
       ∙ (one-move w t (suc n) (still (at_part base 0 Initializer)) (still (at_part base 0 Finish)) (ap (λ m. let o : Option Turn = Some (runs_initializer w t base 0 m) in o) none)
       ∙ one-move w t n (still (at_part base 0 Finish)) (still (ready_in w))
       (ap (λ ps. let o : Option Turn = Some (still (record base { shared = record base.shared { phases = ps } })) in o) (put-twice (map phase_before w.program.classes)))))
 
-  pub start-by : main_class w.program ≡ 0 → IsReadyAbove w.program (super_of w.program 0) → initializer_of w.program 0 ≡ None → start w t ≡ begins_or_ends w t
-  start-by first above none =
-      let rest : ℕ = 8 * fresh (starts_with w 0).shared.phases + 6 in
-      let more : left (starts_with w 0) ≡ suc (suc (suc (suc (suc rest)))) = omega arith in
-      ap (λ class. loaded_turn (class ∷ []) (settled w t (still (starts_with w class)))) first
-      ∙ (ap (λ n. loaded_turn (0 ∷ []) (settles w t n (still (starts_with w 0)))) more
-      ∙ (ap (loaded_turn (0 ∷ [])) (initialized (suc rest) above none) ∙ over rest (has_room w main argument_array) refl))
+  pub start-by : main_class w.program ≡ 0 → IsReadyAbove w.program (super_of w.program 0) → initializer_of w.program 0 ≡ None
+      → main_loading w ≡ done (early ++ 0 ∷ []) → ((s : Shared) → sets_constants w.program 0 s ≡ set s) → start w t ≡ begins_or_ends w t
+  start-by first above none alone constants =
+      let rest : ℕ = 8 * fresh (begun_with 0).shared.phases + 6 in
+      let more : left (begun_with 0) ≡ suc (suc (suc (suc (suc rest)))) = omega arith in
+      ap (λ classes. loaded_turn classes (settled w t (still (starts_with w)))) (loads-one alone)
+      ∙ (ap (λ s. loaded_turn (0 ∷ []) (settled w t (still s))) (starts-first first alone)
+      ∙ (ap (λ n. loaded_turn (0 ∷ []) (settles w t n (still (begun_with 0)))) more
+      ∙ (ap (loaded_turn (0 ∷ [])) (initialized (suc rest) above none constants) ∙ over rest (has_room w main argument_array) refl)))
 
 pub start-of : (w : World) (t : Text) → StartsReady w.program → start w t ≡ begins_or_ends w t
-start-of w t is = start-by w t is.first is.above is.none
+start-of w t is = start-by w t is.first is.above is.none (is.alone w.input) is.constants
+
+pub start-small : (c : ClassFile) (w : World) (t : Text) → IsBuilt c → IsProgramOf c w.program → IsMeant c w.program → start w t ≡ begins_or_ends w t
+start-small c w t built of meant =
+    start-by w t (main-class c w.program built.small of) (super-ready c w.program built.small of) (no-initializer c w.program built.small of)
+    (meant.alone w.input) (no-constants c w.program built.plain.fields of)

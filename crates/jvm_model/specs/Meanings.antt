@@ -1,6 +1,6 @@
 -- What the names that a small class gives come to in the runs of its program (JVM Specification 5.3, 5.4.3, 6.5). Nothing that is shared
 -- changes in such a run once `main` has begun, so it is said of that alone.
-use Rattle.std.specs.Prelude.{◌≡◌, ℕ, List, [], ◌∷◌, ◌++◌, Option, Some, slice_get}
+use Rattle.std.specs.Prelude.{◌≡◌, ℕ, List, [], ◌∷◌, ◌++◌, Some, slice_get}
 use Rattle.heap_objects.specs.declared.Value.TheVariants.{Ref}
 use Rattle.const_pool.specs.declared.class.ClassFile.{ClassFile}
 use Rattle.const_pool.specs.declared.class.Member.{Member}

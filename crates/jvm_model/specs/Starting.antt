@@ -1,7 +1,7 @@
 -- Programs that start without any code but `main`: the main class is the first one, its superclass is ready, it has no static initializer,
 -- and all other classes are ready before (JVM Specification 5.2, 5.5).
 use Rattle.std.specs.Prelude.{◌≡◌, ◌≤◌, ℕ, true, List, [], ◌∷◌, ◌++◌, map, slice_set, Option, Some, None, if◌then◌else◌}
-use Rattle.jvm_model.specs.Data.{Active, Phase, Fresh, Running, Ready, Erroneous, Unverifiable, Program, Shared, State, Loads, Began, Turn, Text, World}
+use Rattle.jvm_model.specs.Data.{Active, Phase, Running, Ready, Unverifiable, Program, Shared, State, Loads, Began, Turn, Text, World}
 use Rattle.jvm_model.specs.Applies.{new_frame, has_room}
 use Rattle.jvm_model.specs.Moves.{argument_array, fresh}
 use Rattle.jvm_model.specs.Programs.{super_of, initializer_of}
