@@ -12,7 +12,7 @@ use Rattle.frame_stack.specs.Widths.{height_of}
 use Rattle.jvm_model.specs.Values.{as_value, with_value}
 use Rattle.jvm_model.specs.Programs.{super_of, initializer_of}
 use Rattle.jvm_model.specs.SharedState.{phase_of, class_of}
-use Rattle.jvm_model.specs.Rules.{does, loads}
+use Rattle.jvm_model.specs.Does.{does, loads}
 use Rattle.jvm_model.specs.Applies.{still, goes, place_of, enters_subroutine, has_room, live_in, most_live, begins_beside, resumes, gives_back, applies}
 use Rattle.jvm_model.specs.Moves.{handler_for, own_at, caught, after_super, with_super, runs_initializer, argument_array, main_or_end, moves, move, settled}
 use Rattle.jvm_model.specs.Run.{attempt, starts, with_loaded, steps_by, steps_at, steps_on, step, turn_in, turn_in-suc}

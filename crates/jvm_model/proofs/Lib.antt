@@ -41,6 +41,7 @@ pub mod TracesEvents
 pub mod TracesFrames
 pub mod TracesEntries
 pub mod TracesMarks
+pub mod WorkedLibrary
 pub mod PlainRun
 pub mod TracesPlain
 pub mod QuietChanges
@@ -55,5 +56,7 @@ pub mod WorkedInitializers
 pub mod WorkedLimits
 pub mod WorkedArrays
 pub mod WorkedFamilies
+pub mod WorkedLines
 pub mod WorkedClasses
 pub mod WorkedInvocations
+pub mod WorkedSeveral

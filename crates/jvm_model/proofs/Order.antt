@@ -6,10 +6,10 @@ use Rattle.std.proofs.lemmas.Option.{none-some, IfSome_then}
 use Rattle.jvm_model.specs.Data.{Datum, Operands, Frame, Entry, Active, Initializing, Part, Constants, Superclass, Initializer, Finish, Ending, State, Change, Loads, Began, Left, Unwound, Turn, Instruction, Text, Outcome, GoesOn, Subroutine, Invokes, Returns, Throws, Raises, Initializes, Exits, Breaks, Done, World}
 use Rattle.jvm_model.specs.Programs.{initializer_of}
 use Rattle.jvm_model.specs.SharedState.{class_of}
-use Rattle.jvm_model.specs.Rules.{does, loads}
+use Rattle.jvm_model.specs.Does.{does, loads}
 use Rattle.jvm_model.specs.Applies.{still, with_frame, new_frame, has_room, live_in, most_live, begins, begins_beside, applies}
 use Rattle.jvm_model.specs.Moves.{handler_for, caught, at_part, runs_initializer, argument_array, main_or_end, moves, move, then_turn, settled}
-use Rattle.jvm_model.specs.Run.{attempt, starts, is_quiet, goes_on, with_loaded, loaded_turn, steps_by, steps_at, steps_on, step, main_class, starts_with, start, turn_in, turn_in-zero, turn_in-suc}
+use Rattle.jvm_model.specs.Run.{attempt, starts, is_quiet, goes_on, with_loaded, loaded_turn, steps_by, steps_at, steps_on, step, main_loads, starts_with, start, turn_in, turn_in-zero, turn_in-suc}
 use Rattle.jvm_model.specs.Changes.{begun, EndThenBegin, OnlyEnd, AreOrdered}
 use Rattle.jvm_model.proofs.Settles.{settled-keeps, settled-stops}
 use Rattle.jvm_model.proofs.Attempts.{again-by, with_loaded-shared, loaded-after}
@@ -211,9 +211,8 @@ step-begins w t u s stop = ordered-once (step w u s).changes (step-ordered w t u
 
 pub start-ordered : (w : World) (t : Text) → AreOrdered (start w t).changes
 start-ordered w t =
-    let class = main_class w.program in
-    let first = still (starts_with w class) in
-    loaded-ordered (class ∷ []) (settled w t first) (settled-begins w t first (inl tt))
+    let first = still (starts_with w) in
+    loaded-ordered (main_loads w) (settled w t first) (settled-begins w t first (inl tt))
 
 pub start-begins : (w : World) (t : Text) → begun (start w t).changes ≤ 1
 start-begins w t = ordered-once (start w t).changes (start-ordered w t)
@@ -265,7 +264,9 @@ pub step-stops : (w : World) (t u : Text) (s : State) → move w t s ≡ None �
 step-stops w t u s stop = on-stops w t u s s.ending s.stack refl stop
 
 pub start-stops : (w : World) (t : Text) → move w t (start w t).after ≡ None
-start-stops w t = let first = still (starts_with w (main_class w.program)) in settled-stops w t first
+start-stops w t =
+    let first = still (starts_with w) in
+    ap (move w t) (loaded-after (main_loads w) (settled w t first)) ∙ settled-stops w t first
 
 -- ---- the run
 

@@ -13,9 +13,10 @@ use Rattle.op_table.specs.Opcodes.{row_of, groups}
 use Rattle.code_model.specs.Instructions.{instruction_at}
 use Rattle.code_model.specs.Reading.{read_instruction, behind_opcode_at, operand_at, value_at, index_at, signed_at, number_at}
 use Rattle.jvm_model.specs.Data.{World, Returned, Unverifiable}
-use Rattle.jvm_model.specs.Programs.{world_of}
+use Rattle.jvm_model.specs.Programs.{numbered}
 use Rattle.jvm_model.specs.Families.{rows, family_of}
 use Rattle.jvm_model.specs.Run.{turn_in, output_of, ending_of}
+use Rattle.jvm_model.proofs.WorkedLibrary.{library_files}
 
 abbrev pub p1_pool : List Const
 p1_pool = Gap ∷ Utf8 (codes "P1") ∷ Class 1 ∷ Utf8 (codes "java/lang/Object") ∷ Class 3 ∷ Utf8 (codes "java/lang/System") ∷ Class 5 ∷ Utf8 (codes "out") ∷ Utf8 (codes "Ljava/io/PrintStream;") ∷ NameType 7 8 ∷ Field 6 9 ∷ Utf8 (codes "f") ∷ Utf8 (codes "(I)I") ∷ NameType 11 12 ∷ Method 2 13 ∷ Utf8 (codes "java/io/PrintStream") ∷ Class 15 ∷ Utf8 (codes "println") ∷ Utf8 (codes "(I)V") ∷ NameType 17 18 ∷ Method 16 19 ∷ Utf8 (codes "main") ∷ Utf8 (codes "([Ljava/lang/String;)V") ∷ Utf8 (codes "Code") ∷ []
@@ -51,9 +52,15 @@ printing_bytes bytes = (178 ∷ 0 ∷ 10 ∷ []) ++ bytes ++ 182 ∷ 0 ∷ 20 �
 abbrev pub p1 : ClassFile
 p1 = class_with (method_with 11 12 (26 ∷ 4 ∷ 96 ∷ 172 ∷ []) ∷ method_with 21 22 (printing_bytes (16 ∷ 41 ∷ 184 ∷ 0 ∷ 14 ∷ [])) ∷ [])
 
--- it runs alone, and reads nothing
+-- it stands before the built-in classes, and reads nothing
+abbrev pub world_with : ClassFile → ℕ → World
+world_with c main = record {
+  program = record { classes = c ∷ library_files; methods = numbered (c ∷ library_files); main = main; acts = []; args = []; heap = 4194304 };
+  input = [];
+}
+
 abbrev pub plain : World
-plain = world_of p1 1 []
+plain = world_with p1 1
 
 -- nothing is written up to the seventh step, and then the line
 pub before_println : output_of plain 7 ≡ []
@@ -81,7 +88,7 @@ stays_returned = refl
 
 -- main alone, with up to three operands
 abbrev pub printing : List ℕ → World
-printing bytes = world_of (class_with (member_with 21 22 (record (code_with (printing_bytes bytes)) { max_stack = 3 }) ∷ [])) 0 []
+printing bytes = world_with (class_with (member_with 21 22 (record (code_with (printing_bytes bytes)) { max_stack = 3 }) ∷ [])) 0
 
 -- sipush -32768, iconst_3, isub, nop, iconst_m1, imul: the second operand of isub is the topmost
 pub subtracts : output_of (printing (17 ∷ 128 ∷ 0 ∷ 6 ∷ 100 ∷ 0 ∷ 2 ∷ 104 ∷ [])) 8 ≡ codes "32771\n"

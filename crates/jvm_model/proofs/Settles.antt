@@ -1,16 +1,19 @@
 -- The moves come to an end: each makes `left` less, and none applies to what `settled` gives.
-use Rattle.std.proofs.Common.{◌≡◌, ℕ, zero, suc, ◌+◌, ◌*◌, ◌<◌, ◌≤◌, Bool, true, false, List, [], ◌∷◌, Option, Some, None, slice_get, slice_set, nat_le, nat_lt, if◌then◌else◌, refl, sym, subst, arith}
+use Rattle.std.proofs.Common.{◌≡◌, ℕ, zero, suc, ◌+◌, ◌*◌, ◌<◌, ◌≤◌, Bool, true, false, List, [], ◌∷◌, Option, Some, None, slice_get, slice_set, nat_le, nat_lt, if◌then◌else◌, refl, sym, ap, subst, ◌∙◌, arith}
 use Rattle.std.specs.Option.{IfSome, option_map_or}
 use Rattle.heap_objects.specs.declared.datum.Datum.TheVariants as datum
 use Rattle.heap_objects.specs.declared.Value.TheVariants.{Ref}
-use Rattle.jvm_model.specs.Data.{Datum, Locals, Operands, Frame, Entry, Active, Initializing, Part, Constants, Superclass, Initializer, Finish, Phase, Fresh, Running, Ready, Erroneous, Shared, Ending, State, Turn, Text, World}
+use Rattle.jvm_model.specs.Data.{Datum, Locals, Operands, Frame, Entry, Active, Initializing, Part, Constants, Superclass, Initializer, Finish, Phase, Fresh, Running, Ready, Erroneous, Program, Shared, Ending, State, Turn, Text, World}
 use Rattle.frame_stack.specs.Widths.{height_of}
+use Rattle.const_pool.specs.declared.class.ClassFile.{ClassFile}
+use Rattle.const_pool.specs.declared.class.Member.{Member}
+use Rattle.jvm_model.specs.Constants.{FieldConstant, Number, Units, Setting, constant_for, can_intern, set, sets_field, then_sets, sets_fields, sets_constants}
 use Rattle.jvm_model.specs.Lookup.{is_below}
-use Rattle.jvm_model.specs.Programs.{name_at, super_of, initializer_of}
-use Rattle.jvm_model.specs.SharedState.{error, no_class_definition, in_initializer, stack_overflow, phase_of, with_phase, class_of, message_cost, with_message, with_exception, Allocated, made_with, null}
+use Rattle.jvm_model.specs.Programs.{class_at, name_at, super_of, initializer_of}
+use Rattle.jvm_model.specs.SharedState.{error, no_class_definition, in_initializer, stack_overflow, phase_of, with_phase, class_of, Field, message_cost, with_message, with_exception, Allocated, made_with, null}
 use Rattle.heap_objects.specs.Heaps.{next_number}
 use Rattle.jvm_model.specs.Applies.{with_frame, goes, breaks, has_room, live_in, most_live}
-use Rattle.jvm_model.specs.Moves.{handler_for, own_at, caught, wrapped, raises, after_super, with_super, runs_initializer, initializes, argument_array, main_or_end, moves, move, weights, fresh, unless, left, then_turn, settles, settled}
+use Rattle.jvm_model.specs.Moves.{handler_for, own_at, caught, wrapped, raises, with_constants, after_super, with_super, runs_initializer, initializes, argument_array, main_or_end, moves, move, weights, fresh, unless, left, then_turn, settles, settled}
 
 -- ---- phases
 
@@ -51,6 +54,37 @@ running-fewer (Fresh ∷ ps) (suc c) e = let h = running-fewer ps c e in omega a
 running-fewer (Running ∷ ps) (suc c) e = running-fewer ps c e
 running-fewer (Ready ∷ ps) (suc c) e = running-fewer ps c e
 running-fewer (Erroneous ∷ ps) (suc c) e = running-fewer ps c e
+
+-- ---- constants change no phase
+
+set_field-phases : (p : Program) (f : Field) (k : Option FieldConstant) (s : Shared) → (sets_field p f k s).shared.phases ≡ s.phases
+set_field-phases p f None s = refl
+set_field-phases p f (Some (Number d)) s = refl
+set_field-phases p f (Some (Units units)) s = by (can_intern units s.heap) refl where
+  by : (b : Bool) → can_intern units s.heap ≡ b → (sets_field p f (Some (Units units)) s).shared.phases ≡ s.phases
+  by true e = rw e refl
+  by false e = rw e refl
+
+then_sets-phases : (before : Setting) (next : Shared → Setting) → ((s : Shared) → (next s).shared.phases ≡ s.phases)
+    → (then_sets before next).shared.phases ≡ before.shared.phases
+then_sets-phases before next keeps = by before.thrown before.shared where
+  by : (thrown : Option ℕ) (s : Shared) → (then_sets (record { shared = s; thrown = thrown }) next).shared.phases ≡ s.phases
+  by None s = keeps s
+  by (Some object) s = refl
+
+set_fields-phases : (p : Program) (c : ClassFile) (class position : ℕ) (fields : List Member) (s : Shared)
+    → (sets_fields p c class position fields s).shared.phases ≡ s.phases
+set_fields-phases p c class position [] s = refl
+set_fields-phases p c class position (f ∷ rest) s =
+    let at : Field = record { class = class; position = position } in
+    then_sets-phases (sets_field p at (constant_for c f) s) (sets_fields p c class (position + 1) rest) (set_fields-phases p c class (position + 1) rest)
+    ∙ set_field-phases p at (constant_for c f) s
+
+pub constants-phases : (p : Program) (class : ℕ) (s : Shared) → (sets_constants p class s).shared.phases ≡ s.phases
+constants-phases p class s = by (class_at p class) where
+  by : (found : Option ClassFile) → (option_map_or (λ (c : ClassFile). sets_fields p c class 0 c.fields s) found (set s)).shared.phases ≡ s.phases
+  by None = refl
+  by (Some c) = set_fields-phases p c class 0 c.fields s
 
 -- ---- each move
 
@@ -119,9 +153,18 @@ runs-less w t stack begun output shared c (Some m) =
     let h = raises-left w (Initializing c Finish ∷ stack) begun output shared stack_overflow None in
     chosen-less (left (state (Initializing c Initializer ∷ stack) None begun output shared None)) (nat_lt (live_in stack) most_live) _ _ (omega arith) (omega arith)
 
+-- an object that was thrown is one more at most
+constants-less : (stack : List Entry) (begun : Bool) (output : List ℕ) (shared : Shared) (c : ℕ) (thrown : Option ℕ) (after : Shared) → after.phases ≡ shared.phases
+    → left (with_constants (state stack None begun output shared None) c (record { shared = after; thrown = thrown }))
+    < left (state (Initializing c Constants ∷ stack) None begun output shared None)
+constants-less stack begun output shared c None after same = let h : fresh after.phases ≡ fresh shared.phases = ap fresh same in omega arith
+constants-less stack begun output shared c (Some r) after same = let h : fresh after.phases ≡ fresh shared.phases = ap fresh same in omega arith
+
 initializes-less : (w : World) (t : Text) (stack : List Entry) (begun : Bool) (output : List ℕ) (shared : Shared) (c : ℕ) (part : Part)
     → left (initializes w t (state stack None begun output shared None) c part).after < left (state (Initializing c part ∷ stack) None begun output shared None)
-initializes-less w t stack begun output shared c Constants = omega arith
+initializes-less w t stack begun output shared c Constants =
+    let setting : Setting = sets_constants w.program c shared in
+    constants-less stack begun output shared c setting.thrown setting.shared (constants-phases w.program c shared)
 initializes-less w t stack begun output shared c Superclass = with_super-less w stack begun output shared c (super_of w.program c)
 initializes-less w t stack begun output shared c Initializer = runs-less w t stack begun output shared c (initializer_of w.program c)
 initializes-less w t stack begun output shared c Finish = let h = started-fewer shared.phases c Ready ready in omega arith

@@ -10,7 +10,7 @@ use Rattle.const_pool.specs.declared.descriptor.Kind.{Kind}
 use Rattle.const_pool.specs.declared.descriptor.Kind.TheVariants as kind
 use Rattle.code_model.specs.declared.instr.Arg.{Arg}
 use Rattle.code_model.specs.declared.instr.Arg.TheVariants as arg
-use Rattle.jvm_model.specs.Data.{Datum, Operands, Frame, Entry, Active, Initializing, Constants, Finish, Returned, Unverifiable, State, Quotient, Constant, Load, Store, DivisionOfInts, Operation, Within, Athrow, Monitor, Newarray, Arraylength, LoadElement, StoreElement, Instruction, Catcher, Began, Unwound, Turn, World}
+use Rattle.jvm_model.specs.Data.{Datum, Operands, Frame, Active, Initializing, Constants, Finish, Returned, Unverifiable, State, Quotient, Constant, Store, DivisionOfInts, Operation, Within, Athrow, Monitor, Newarray, Arraylength, LoadElement, StoreElement, Instruction, Catcher, Began, Unwound, Turn, World}
 use Rattle.jvm_model.specs.Applies.{begins_beside, invokes, live_in, new_frame}
 use Rattle.jvm_model.specs.Families.{family_of, rows}
 use Rattle.jvm_model.specs.Lines.{operation_by}
@@ -19,7 +19,7 @@ use Rattle.jvm_model.specs.Programs.{no_class}
 use Rattle.jvm_model.specs.Moves.{runs_initializer, settled}
 use Rattle.jvm_model.specs.Run.{turn_in}
 use Rattle.jvm_model.specs.SharedState.{array_store, index_outside, negative_array_size, null_pointer, out_of_memory, stack_overflow}
-use Rattle.jvm_model.proofs.WorkedPrograms.{Sketches, after, alone, at, call, get_out, getstatic, int, main_routine, null, places_of, pop, println, returns, text_by, uncaught_of, world_by}
+use Rattle.jvm_model.proofs.WorkedPrograms.{Sketches, after, aload_0, alone, at, call, get_out, getstatic, int, main_routine, null, operands_of, places_of, pop, println, returns, text_by, uncaught_of, world_by}
 
 -- ---- programs of one class, whose main this is
 
@@ -29,24 +29,12 @@ main_of code handlers = record { classes = alone (codes "A") (record (main_routi
 abbrev pub number : ℤ → Operation
 number n = Within (Constant (datum.Int n))
 
-abbrev pub aload_0 : Operation
-aload_0 = Within (Load kind.Ref 0)
-
 abbrev pub astore_0 : Operation
 astore_0 = Within (Store kind.Ref 0)
 
 -- a new array of so many ints
 abbrev pub ints : ℤ → List Instruction → List Instruction
 ints count rest = at 0 1 (number count) ∷ at 1 2 (Newarray 10) ∷ rest
-
--- the operands of the current frame
-abbrev pub operands_in : List Entry → Operands
-operands_in [] = []
-operands_in (Active f ∷ below) = f.operands
-operands_in (Initializing c part ∷ below) = []
-
-abbrev pub operands_of : State → Operands
-operands_of s = operands_in s.stack
 
 -- ---- elements: an int that is stored and loaded. The array is object 6, behind those of the start
 

@@ -1,23 +1,15 @@
 -- Worked attempts of the instructions that name classes, fields and methods, over small programs: each rule at each of its cases, in the
--- order of what it asks. Class files are made of what the rules look up in them.
-use Rattle.std.specs.Prelude.{◌≡◌, refl, ℕ, ◌+◌, ◌++◌, false, List, [], ◌∷◌, length, map, replicate, Option, Some, None, pos, negsuc, codes, unwrap_or, if◌then◌else◌}
+-- order of what it asks.
+use Rattle.std.specs.Prelude.{◌≡◌, refl, ℕ, ◌++◌, false, List, [], ◌∷◌, length, map, replicate, Option, Some, None, pos, negsuc, codes, unwrap_or}
 use Rattle.std.specs.Int.{int_wrap}
-use Rattle.std.specs.Option.{option_map_or}
 use Rattle.heap_objects.specs.declared.datum.Datum.TheVariants as datum
 use Rattle.heap_objects.specs.declared.object.Object.TheVariants.{Instance, Array, Text}
 use Rattle.heap_objects.specs.Objects.{object_at}
 use Rattle.heap_objects.specs.declared.Value.TheVariants.{Int, Long, Ref}
 use Rattle.heap_objects.specs.Heaps.{HeapView, kind_at, length_at, next_number, slot_at, with_array, with_instance}
-use Rattle.const_pool.specs.declared.class.Attribute.{Attribute}
-use Rattle.const_pool.specs.declared.class.Attribute.TheVariants.{Code, ConstantValue}
-use Rattle.const_pool.specs.declared.class.ClassFile.{ClassFile}
-use Rattle.const_pool.specs.declared.class.Member.{Member}
-use Rattle.const_pool.specs.declared.pool.Const.{Const}
-use Rattle.const_pool.specs.declared.pool.Const.TheVariants as const
-use Rattle.const_pool.specs.References.{NameAndType, Reference}
+use Rattle.const_pool.specs.References.{Reference}
 use Rattle.jvm_model.specs.CreationRules.{class_cast, instantiation_error}
 use Rattle.jvm_model.specs.Data.{Datum, Operands, Running, Ready, Erroneous, Program, Shared, Next, Outcome, GoesOn, Throws, Raises, Initializes, Breaks}
-use Rattle.jvm_model.specs.Descriptors.{same_text}
 use Rattle.jvm_model.specs.Kinds.{kind_named}
 use Rattle.jvm_model.specs.Load.{circular_class}
 use Rattle.jvm_model.specs.ObjectRules.{array_kind}
@@ -25,124 +17,14 @@ use Rattle.jvm_model.specs.Lookup.{incompatible_change}
 use Rattle.jvm_model.specs.Naming.{Naming, New, Getfield, Putfield, Getstatic, Putstatic, Checkcast, Instanceof, Anewarray, Multianewarray, newly_loaded}
 use Rattle.jvm_model.specs.NamingRules.{does_named}
 use Rattle.jvm_model.specs.Programs.{numbered}
-use Rattle.jvm_model.specs.SharedState.{Field, kind_for, negative_array_size, no_class_definition, no_such_field, null_pointer, shared_before, static_at, string, system, throwable, with_phase}
-use Rattle.jvm_model.proofs.WorkedPrograms.{Sketch, after_texts, interface_entries, interface_indices, library as sketches, object_name, reference, texts_of}
-
--- ---- what is given by hand
-
--- a field or a method: its flags, its name and descriptor, and its attributes
-pub record Item : Type 0 where
-  pub access : ℕ
-  pub member : NameAndType
-  pub attributes : List Attribute
-
--- A class: its flags, its name, its superclass's, its interfaces', and its members. Constants have the indices of the pool from 5 on.
-pub record Shape : Type 0 where
-  pub access : ℕ
-  pub name : List ℕ
-  pub above : Option (List ℕ)
-  pub interfaces : List (List ℕ)
-  pub constants : List Const
-  pub fields : List Item
-  pub methods : List Item
-
--- ---- its class file
-
-abbrev pub members_of : List Item → List NameAndType
-members_of items = map (λ (i : Item). i.member) items
-
-abbrev pub items_from : ℕ → List Item → List Member
-items_from at [] = []
-items_from at (i ∷ more) = record { access = i.access; name = at; descriptor = at + 1; attributes = i.attributes } ∷ items_from (at + 2) more
-
-abbrev pub first_field : Shape → ℕ
-first_field s = 5 + length s.constants
-
-abbrev pub first_method : Shape → ℕ
-first_method s = after_texts (first_field s) (members_of s.fields)
-
-abbrev pub first_interface : Shape → ℕ
-first_interface s = after_texts (first_method s) (members_of s.methods)
-
-abbrev pub pool_by : Shape → List Const
-pool_by s =
-    const.Gap ∷ const.Class 2 ∷ const.Utf8 s.name ∷ const.Class 4 ∷ const.Utf8 (unwrap_or s.above []) ∷ (
-    s.constants ++ (texts_of (members_of s.fields) ++ (texts_of (members_of s.methods) ++ interface_entries (first_interface s) s.interfaces)))
-
-abbrev pub file_of : Shape → ClassFile
-file_of s = record {
-  minor = 0;
-  major = 50;
-  pool = pool_by s;
-  access = s.access;
-  this_class = 1;
-  super_class = option_map_or (λ above. 3) s.above 0;
-  interfaces = interface_indices (first_interface s) s.interfaces;
-  fields = items_from (first_field s) s.fields;
-  methods = items_from (first_method s) s.methods;
-  attributes = [];
-}
-
--- ---- classes, fields and methods
-
-abbrev pub member : List ℕ → List ℕ → NameAndType
-member name descriptor = record { name = name; descriptor = descriptor }
-
-abbrev pub item : ℕ → List ℕ → List ℕ → Item
-item access name descriptor = record { access = access; member = member name descriptor; attributes = [] }
-
--- a method that has Code
-abbrev pub coded : ℕ → List ℕ → List ℕ → Item
-coded access name descriptor = record (item access name descriptor) {
-  attributes = Code 0 (record { max_stack = 0; max_locals = 9; code = []; handlers = []; attributes = [] }) ∷ [];
-}
-
--- a static field with the constant at this index
-abbrev pub constant : List ℕ → List ℕ → ℕ → Item
-constant name descriptor index = record (item 8 name descriptor) { attributes = ConstantValue 0 index ∷ [] }
-
-abbrev pub class : List ℕ → List ℕ → List (List ℕ) → Shape
-class name above interfaces = record { access = 33; name = name; above = Some above; interfaces = interfaces; constants = []; fields = []; methods = [] }
-
-abbrev pub interface : List ℕ → List (List ℕ) → Shape
-interface name interfaces = record (class name object_name interfaces) { access = 1537 }
-
-abbrev pub with_fields : List Item → Shape → Shape
-with_fields fields s = record s { fields = fields }
-
-abbrev pub with_methods : List Item → Shape → Shape
-with_methods methods s = record s { methods = methods }
-
--- ---- the built-in classes, with the members that are named here
-
-abbrev pub initializer : Item
-initializer = item 257 (codes "<init>") (codes "()V")
-
-abbrev pub in_library : Shape → Shape
-in_library s =
-    if same_text s.name object_name then with_methods (initializer ∷ item 257 (codes "hashCode") (codes "()I") ∷ []) s
-    else if same_text s.name (codes "java/lang/Cloneable") then record s { access = 1537 }
-    else if same_text s.name (codes "java/io/Serializable") then record s { access = 1537 }
-    else if same_text s.name (codes "java/lang/Runnable") then record (with_methods (item 1025 (codes "run") (codes "()V") ∷ []) s) { access = 1537 }
-    else if same_text s.name (codes "java/io/PrintStream") then with_methods (item 257 (codes "println") (codes "(I)V") ∷ item 257 (codes "flush") (codes "()V") ∷ []) s
-    else if same_text s.name string then with_methods (initializer ∷ []) s
-    else if same_text s.name system then with_fields (
-    item 9 (codes "in") (codes "Ljava/io/InputStream;") ∷ item 9 (codes "out") (codes "Ljava/io/PrintStream;") ∷ item 9 (codes "err") (codes "Ljava/io/PrintStream;") ∷ []) s
-    else if same_text s.name throwable then with_methods (initializer ∷ []) (
-    with_fields (item 2 (codes "message") (codes "Ljava/lang/String;") ∷ item 2 (codes "cause") (codes "Ljava/lang/Throwable;") ∷ []) s)
-    else if same_text s.name (codes "java/lang/Error") then with_methods (initializer ∷ []) s
-    else s
-
-abbrev pub shape_of : Sketch → Shape
-shape_of s = record { access = 33; name = s.name; above = s.above; interfaces = s.interfaces; constants = []; fields = []; methods = [] }
-
-abbrev pub library : List Shape
-library = map (λ s. in_library (shape_of s)) sketches
+use Rattle.jvm_model.specs.SharedState.{Field, kind_for, negative_array_size, no_class_definition, no_such_field, null_pointer, shared_before, static_at, string, with_phase}
+use Rattle.jvm_model.proofs.WorkedLibrary.{Shape, class, file_of, interface, item, library_files, object_name, with_fields}
+use Rattle.jvm_model.proofs.WorkedPrograms.{reference}
 
 -- ---- the program, and what is shared
 
 abbrev pub program_of : List Shape → Program
-program_of shapes = let classes = map file_of (shapes ++ library) in
+program_of shapes = let classes = map file_of shapes ++ library_files in
     record { classes = classes; methods = numbered classes; main = 0; acts = []; args = []; heap = 40 }
 
 -- nothing of these classes was initialized, and those at these positions are loaded

@@ -9,11 +9,12 @@ use Rattle.jvm_model.specs.Programs.{name_at}
 use Rattle.jvm_model.specs.Run.{turn_in}
 use Rattle.jvm_model.specs.Activations.{trace_in}
 use Rattle.jvm_model.specs.SharedState.{null_pointer, in_initializer, no_class_definition, phase_of, class_of_kind}
-use Rattle.jvm_model.proofs.WorkedPrograms.{Routine, Sketch, Sketches, object_name, world_by, places_of, uncaught_of, after, changes_of, trace_by, main_routine, initializer, alone, at, int, null, pop, returns, getstatic, putstatic}
+use Rattle.jvm_model.proofs.WorkedLibrary.{class, item, object_name, with_fields}
+use Rattle.jvm_model.proofs.WorkedPrograms.{Routine, Sketch, Sketches, sketch, world_by, places_of, uncaught_of, after, changes_of, trace_by, contexts_by, selecting, main_routine, initializer, alone, at, int, null, pop, returns, getstatic, putstatic}
 
 -- a class with one static field
 abbrev pub with_field : List ℕ → List ℕ → List ℕ → List Routine → Sketch
-with_field name above field routines = record { name = name; above = Some above; interfaces = []; fields = field ∷ []; routines = routines }
+with_field name above field routines = sketch (with_fields (item 8 field (codes "I") ∷ []) (class name above [])) routines
 
 -- main reads a static field
 abbrev pub reads : List ℕ → List ℕ → List Instruction
@@ -41,6 +42,11 @@ pub both_set-returns : (after both_set 10).ending ≡ Some Returned
 unfolding turn_in
 both_set-returns = refl
 
+-- both classes are loaded in the first step, the superclass first
+pub both_set-loads : changes_of both_set 1 ≡ Loads (1 ∷ 2 ∷ []) ∷ Began 1 ∷ []
+unfolding turn_in
+both_set-loads = refl
+
 -- the second begins where the first ends
 pub both_set-changes : changes_of both_set 4 ≡ Left ∷ Began 2 ∷ []
 unfolding turn_in
@@ -60,6 +66,12 @@ pub both_set-trace : trace_by both_set 10 ≡ record {
 unfolding trace_in turn_in
 both_set-trace = refl
 
+-- main is selected before the start: its own steps are the two attempts, and two more
+pub both_set-contexts : contexts_by both_set (selecting 0) 10
+    ≡ record { path = 0 ∷ []; calls = 1; own = 4 } ∷ record { path = 0 ∷ 1 ∷ []; calls = 1; own = 3 } ∷ record { path = 0 ∷ 2 ∷ []; calls = 1; own = 3 } ∷ []
+unfolding trace_in turn_in
+both_set-contexts = refl
+
 -- ---- without an initializer the class is ready and the instruction executed in the same step
 
 abbrev pub none_set : Sketches
@@ -74,7 +86,8 @@ pub none_set-places : places_of (after none_set 1).stack ≡ 3 ∷ []
 unfolding turn_in
 none_set-places = refl
 
-pub none_set-changes : changes_of none_set 1 ≡ []
+-- both are loaded, the superclass first
+pub none_set-changes : changes_of none_set 1 ≡ Loads (1 ∷ 2 ∷ []) ∷ []
 unfolding turn_in
 none_set-changes = refl
 

@@ -1,8 +1,8 @@
 -- Worked attempts of the instructions that invoke methods, over small programs, and the constants of a class's static fields.
-use Rattle.std.specs.Prelude.{◌≡◌, refl, ℕ, true, false, List, [], ◌∷◌, Some, None, pos, negsuc, codes, slice_get, unwrap_or, Ok}
+use Rattle.std.specs.Prelude.{◌≡◌, refl, ℕ, true, false, List, [], ◌∷◌, Option, Some, None, pos, negsuc, codes, slice_get, unwrap_or, Ok}
 use Rattle.std.specs.Fmt.{digits}
 use Rattle.std.specs.Int.{int_wrap}
-use Rattle.std.specs.Option.{option_map}
+use Rattle.std.specs.Option.{option_and_then}
 use Rattle.heap_objects.specs.declared.Value.TheVariants.{Int, Long, Ref}
 use Rattle.heap_objects.specs.Heaps.{HeapView, slot_at, units_at, with_array, with_instance, with_text}
 use Rattle.const_pool.specs.declared.pool.Const.TheVariants as const
@@ -14,9 +14,10 @@ use Rattle.jvm_model.specs.Naming.{Naming, Invokevirtual, Invokespecial, Invokes
 use Rattle.jvm_model.specs.NamingRules.{does_named}
 use Rattle.jvm_model.specs.ObjectRules.{array_kind}
 use Rattle.jvm_model.specs.Programs.{class_named}
-use Rattle.jvm_model.specs.SharedState.{kind_for, no_such_method, null_pointer, statics_before, string, system, throwable}
-use Rattle.jvm_model.proofs.WorkedPrograms.{object_name, reference}
-use Rattle.jvm_model.proofs.WorkedClasses.{a, b, asked, class, coded, constant, fresh, interface, item, long, number, program_of, raises, ready, ref, shared_by, with_fields, with_methods, with_objects, with_operands}
+use Rattle.jvm_model.specs.SharedState.{kind_for, no_such_method, null_pointer, shared_before, string, system, throwable}
+use Rattle.jvm_model.proofs.WorkedLibrary.{class, coded, constant, interface, item, object_name, with_fields, with_methods}
+use Rattle.jvm_model.proofs.WorkedPrograms.{reference}
+use Rattle.jvm_model.proofs.WorkedClasses.{a, b, asked, fresh, long, number, program_of, raises, ready, ref, shared_by, with_objects, with_operands}
 
 -- ======== methods
 
@@ -323,8 +324,11 @@ constants-without_room-set = refl
 
 -- ---- before the start System's fields hold its streams, and all others zeros
 
-pub statics-of_system : option_map (statics_before constants) (class_named constants system) ≡ Some (ref 2 ∷ ref 3 ∷ ref 4 ∷ [])
+abbrev pub statics_before : ℕ → Option (List Datum)
+statics_before class = slice_get (shared_before constants).statics class
+
+pub statics-of_system : option_and_then statics_before (class_named constants system) ≡ Some (ref 2 ∷ ref 3 ∷ ref 4 ∷ [])
 statics-of_system = refl
 
-pub statics-of_class : statics_before constants 0 ≡ number 0 ∷ number 0 ∷ number 0 ∷ number 0 ∷ ref 0 ∷ ref 0 ∷ number 0 ∷ long 0 ∷ number 0 ∷ []
+pub statics-of_class : statics_before 0 ≡ Some (number 0 ∷ number 0 ∷ number 0 ∷ number 0 ∷ ref 0 ∷ ref 0 ∷ number 0 ∷ long 0 ∷ number 0 ∷ [])
 statics-of_class = refl

@@ -1,5 +1,5 @@
 -- Worked runs over lists of instructions: a loop, a subroutine, recursion.
-use Rattle.std.specs.Prelude.{◌≡◌, ℕ, zero, suc, true, false, List, [], ◌∷◌, ◌++◌, Option, Some, None, pos, negsuc, refl, codes, ◌==◌, if◌then◌else◌}
+use Rattle.std.specs.Prelude.{◌≡◌, ℕ, true, false, List, [], ◌∷◌, Option, Some, None, pos, negsuc, refl, codes, ◌==◌, if◌then◌else◌}
 use Rattle.std.specs.Fmt.{digits}
 use Rattle.std.specs.Int.{int_wrap}
 use Rattle.const_pool.specs.declared.descriptor.Kind.TheVariants as kind
@@ -9,13 +9,11 @@ use Rattle.code_model.specs.Layout.{found_beside}
 use Rattle.jvm_model.specs.Data.{Entry, Active, Text, Isub, Store, BinaryOfInts, Iinc, WithZero, Equal, Greater, Branch, Jsr, Ret, Within, Returned}
 use Rattle.jvm_model.specs.declared.event.Act.{Act}
 use Rattle.jvm_model.specs.Run.{turn_in}
-use Rattle.jvm_model.specs.Activations.{current, trace_in}
-use Rattle.jvm_model.specs.Paths.{contexts_of}
-use Rattle.jvm_model.specs.Projection.{paths_of, path_at}
+use Rattle.jvm_model.specs.Activations.{trace_in}
 use Rattle.jvm_model.specs.Moved.{moved}
 use Rattle.jvm_model.specs.Closed.{laid_out}
 use Rattle.jvm_model.specs.StandsFor.{home_at, by_homes}
-use Rattle.jvm_model.proofs.WorkedPrograms.{Sketches, world_by, text_by, after, trace_by, member, routine, main_routine, alone, at, at_to, int, iload, ireturn, returns, call, prints_result}
+use Rattle.jvm_model.proofs.WorkedPrograms.{Sketches, world_by, text_by, after, trace_by, contexts_by, member, routine, main_routine, alone, at, at_to, int, iload, ireturn, returns, call, prints_result}
 
 -- ---- a loop with a jump backwards: main prints k(3), which counts down to 0
 
@@ -130,12 +128,7 @@ recursive-trace = refl
 abbrev pub selecting_r : List Act
 selecting_r = record { moment = 0; select = true; method = 0 } ∷ record { moment = 4; select = false; method = 0 } ∷ []
 
--- the path in which each step was made: that of the current activation before it
-abbrev pub paths_by : Sketches → List Act → ℕ → List (List ℕ)
-paths_by s acts zero = []
-paths_by s acts (suc n) = paths_by s acts n ++ path_at acts (trace_by s (suc n)).activations (current (trace_by s n).live) ∷ []
-
-pub recursive-contexts : contexts_of (paths_of selecting_r (trace_by recursive 20).activations) (paths_by recursive selecting_r 20)
+pub recursive-contexts : contexts_by recursive selecting_r 20
     ≡ record { path = 0 ∷ []; calls = 1; own = 7 } ∷ record { path = 0 ∷ 0 ∷ []; calls = 1; own = 7 } ∷ record { path = 0 ∷ 0 ∷ 0 ∷ []; calls = 1; own = 3 } ∷ []
 unfolding trace_in turn_in int_wrap
 recursive-contexts = refl

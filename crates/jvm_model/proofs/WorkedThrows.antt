@@ -1,6 +1,5 @@
 -- Worked runs over lists of instructions: a throw through three frames, caught and not; and names that are not there.
-use Rattle.std.specs.Prelude.{◌≡◌, ℕ, true, List, [], ◌∷◌, Option, Some, None, refl, codes}
-use Rattle.jvm_model.specs.declared.event.Act.{Act}
+use Rattle.std.specs.Prelude.{◌≡◌, ℕ, List, [], ◌∷◌, Option, Some, None, refl, codes}
 use Rattle.jvm_model.specs.declared.event.Event.{Event}
 use Rattle.jvm_model.specs.declared.event.EventKind.TheVariants as kind
 use Rattle.jvm_model.specs.Data.{Instruction, Operation, Athrow, Returned, Unwound, Catcher}
@@ -8,7 +7,7 @@ use Rattle.jvm_model.specs.Run.{turn_in}
 use Rattle.jvm_model.specs.Activations.{Activation, trace_in}
 use Rattle.jvm_model.specs.EventLists.{full_marking, all_told}
 use Rattle.jvm_model.specs.SharedState.{null_pointer, throwable, error, no_class_definition, no_such_field, no_such_method}
-use Rattle.jvm_model.proofs.WorkedPrograms.{Routine, Sketches, places_of, uncaught_of, after, changes_of, trace_by, member, routine, main_routine, alone, at, null, pop, returns, getstatic, putstatic, call}
+use Rattle.jvm_model.proofs.WorkedPrograms.{Routine, Sketches, places_of, uncaught_of, after, changes_of, trace_by, selecting, member, routine, main_routine, alone, at, null, pop, returns, getstatic, putstatic, call}
 
 -- ---- main calls a, a calls b, b calls c, and c throws a NullPointerException
 
@@ -73,17 +72,14 @@ uncaught-trace = refl
 
 -- ---- what is told where main is selected: three unwind events in one step, the innermost first
 
-abbrev pub selecting_main : List Act
-selecting_main = record { moment = 0; select = true; method = 0 } ∷ []
-
 abbrev pub unwind_of : ℕ → Event
 unwind_of method = record { kind = kind.Unwind; method = method; clock = 5 }
 
-pub caught-events : all_told (full_marking selecting_main) 5 (trace_by caught 4) (changes_of caught 5) ≡ unwind_of 3 ∷ unwind_of 2 ∷ unwind_of 1 ∷ []
+pub caught-events : all_told (full_marking (selecting 0)) 5 (trace_by caught 4) (changes_of caught 5) ≡ unwind_of 3 ∷ unwind_of 2 ∷ unwind_of 1 ∷ []
 unfolding trace_in turn_in
 caught-events = refl
 
-pub uncaught-events : all_told (full_marking selecting_main) 5 (trace_by uncaught 4) (changes_of uncaught 5) ≡ unwind_of 3 ∷ unwind_of 2 ∷ unwind_of 1 ∷ unwind_of 0 ∷ []
+pub uncaught-events : all_told (full_marking (selecting 0)) 5 (trace_by uncaught 4) (changes_of uncaught 5) ≡ unwind_of 3 ∷ unwind_of 2 ∷ unwind_of 1 ∷ unwind_of 0 ∷ []
 unfolding trace_in turn_in
 uncaught-events = refl
 
