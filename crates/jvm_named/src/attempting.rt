@@ -87,6 +87,7 @@ fn find(
     ensures loaded { OnOk result (loaded.new ≡ loaded.old ++ newly_loaded linker.old.program
         loaded.old (naming_view naming.now) (top_operands frames.now.frames)) }
     ensures linker { OnOk result (linker.new ≡ linker_with linker.old loaded.new) }
+    ensures program { linker.new.program ≡ linker.old.program }
 {
     if !resolves(frames, naming) {
         return Ok(None);
@@ -178,6 +179,7 @@ pub fn attempt(
         (attempts linker.old.program (naming_view naming.now) shared.old frames.old) frames.old) }
     ensures linker { OnOk result (linker.new
         ≡ linker_loaded (naming_view naming.now) shared.old linker.old frames.old) }
+    ensures program { linker.new.program ≡ linker.old.program }
     ensures built_in { OnOk result (HasBuiltIn linker.new) }
     ensures objects { OnOk result (AreLoaded linker.new shared.new.heap) }
 {

@@ -22,21 +22,21 @@ use Rattle.jvm_steps.proofs.Tabled.{tabled-place}
 
 -- ---- the parameters
 
-params-member : (p : Program) (c : ClassFile) (m : Option Member)
-    → (option_map_or (entry_of p c) m no_method).params ≡ option_map (λ shape. shape.params) (option_and_then (member_shape c.pool) m)
-params-member p c None = refl
-params-member p c (Some m) = refl
+params-member : (c : ClassFile) (m : Option Member)
+    → (option_map_or (entry_of c) m no_method).params ≡ option_map (λ shape. shape.params) (option_and_then (member_shape c.pool) m)
+params-member c None = refl
+params-member c (Some m) = refl
 
-params-class : (p : Program) (place : MethodPlace) (c : Option ClassFile)
-    → (option_map_or (entry_in p place) c no_method).params ≡ option_and_then (λ k. method_params k place.position) c
-params-class p place None = refl
-params-class p place (Some c) = params-member p c (slice_get c.methods place.position)
+params-class : (place : MethodPlace) (c : Option ClassFile)
+    → (option_map_or (entry_in place) c no_method).params ≡ option_and_then (λ k. method_params k place.position) c
+params-class place None = refl
+params-class place (Some c) = params-member c (slice_get c.methods place.position)
 
 params-place : (p : Program) (place : Option MethodPlace)
     → option_and_then (λ (m : Method). m.params) (option_map (entry_at p) place)
     ≡ option_and_then (λ (x : MethodPlace). option_and_then (λ c. method_params c x.position) (class_at p x.class)) place
 params-place p None = refl
-params-place p (Some place) = params-class p place (class_at p place.class)
+params-place p (Some place) = params-class place (class_at p place.class)
 
 -- ---- the limits
 
@@ -44,14 +44,14 @@ record AreLimits (m : Method) (code : Option CodeAttribute) : Type 0 where
   stack : m.max_stack ≡ option_map_or (λ k. k.max_stack) code 0
   locals : m.max_locals ≡ option_map_or (λ k. k.max_locals) code 0
 
-limits-member : (p : Program) (c : ClassFile) (m : Option Member) → AreLimits (option_map_or (entry_of p c) m no_method) (option_and_then code_of m)
-limits-member p c None = record { stack = refl; locals = refl }
-limits-member p c (Some m) = record { stack = refl; locals = refl }
+limits-member : (c : ClassFile) (m : Option Member) → AreLimits (option_map_or (entry_of c) m no_method) (option_and_then code_of m)
+limits-member c None = record { stack = refl; locals = refl }
+limits-member c (Some m) = record { stack = refl; locals = refl }
 
-limits-class : (p : Program) (place : MethodPlace) (c : Option ClassFile)
-    → AreLimits (option_map_or (entry_in p place) c no_method) (option_and_then (λ k. method_code k place.position) c)
-limits-class p place None = record { stack = refl; locals = refl }
-limits-class p place (Some c) = limits-member p c (slice_get c.methods place.position)
+limits-class : (place : MethodPlace) (c : Option ClassFile)
+    → AreLimits (option_map_or (entry_in place) c no_method) (option_and_then (λ k. method_code k place.position) c)
+limits-class place None = record { stack = refl; locals = refl }
+limits-class place (Some c) = limits-member c (slice_get c.methods place.position)
 
 abbrev code_at : Program → MethodPlace → Option CodeAttribute
 code_at p x = option_and_then (λ c. method_code c x.position) (class_at p x.class)
@@ -60,40 +60,40 @@ stack-place : (p : Program) (place : Option MethodPlace)
     → option_map_or (λ (m : Method). m.max_stack) (option_map (entry_at p) place) 0
     ≡ option_map_or (λ k. k.max_stack) (option_and_then (code_at p) place) 0
 stack-place p None = refl
-stack-place p (Some place) = (limits-class p place (class_at p place.class)).stack
+stack-place p (Some place) = (limits-class place (class_at p place.class)).stack
 
 locals-place : (p : Program) (place : Option MethodPlace)
     → option_map_or (λ (m : Method). m.max_locals) (option_map (entry_at p) place) 0
     ≡ option_map_or (λ k. k.max_locals) (option_and_then (code_at p) place) 0
 locals-place p None = refl
-locals-place p (Some place) = (limits-class p place (class_at p place.class)).locals
+locals-place p (Some place) = (limits-class place (class_at p place.class)).locals
 
 -- ---- the lines
 
 -- no instruction stands past the end, so no line
-code_line-past : (p : Program) (c : ClassFile) (code : List ℕ) (at : ℕ) → length code ≤ at → code_line p c code at ≡ None
-code_line-past p c code at le = rw (instruction_at-past code at le) refl
+code_line-past : (c : ClassFile) (code : List ℕ) (at : ℕ) → length code ≤ at → code_line c code at ≡ None
+code_line-past c code at le = rw (instruction_at-past code at le) refl
 
-line-code : (p : Program) (c : ClassFile) (code : Option CodeAttribute) (at : ℕ)
-    → option_flatten (slice_get (option_map_or (λ k. lines_of p c k.code) code []) at) ≡ option_and_then (λ k. code_line p c k.code at) code
-line-code p c None at = refl
-line-code p c (Some code) at = tabled-place (code_line p c code.code) (length code.code) at (code_line-past p c code.code at)
+line-code : (c : ClassFile) (code : Option CodeAttribute) (at : ℕ)
+    → option_flatten (slice_get (option_map_or (λ k. lines_of c k.code) code []) at) ≡ option_and_then (λ k. code_line c k.code at) code
+line-code c None at = refl
+line-code c (Some code) at = tabled-place (code_line c code.code) (length code.code) at (code_line-past c code.code at)
 
-line-member : (p : Program) (c : ClassFile) (m : Option Member) (at : ℕ)
-    → line_in at (option_map_or (entry_of p c) m no_method) ≡ option_and_then (λ k. code_line p c k.code at) (option_and_then code_of m)
-line-member p c None at = refl
-line-member p c (Some m) at = line-code p c (code_of m) at
+line-member : (c : ClassFile) (m : Option Member) (at : ℕ)
+    → line_in at (option_map_or (entry_of c) m no_method) ≡ option_and_then (λ k. code_line c k.code at) (option_and_then code_of m)
+line-member c None at = refl
+line-member c (Some m) at = line-code c (code_of m) at
 
-line-class : (p : Program) (place : MethodPlace) (c : Option ClassFile) (at : ℕ)
-    → line_in at (option_map_or (entry_in p place) c no_method) ≡ option_and_then (λ k. method_line p at k place.position) c
-line-class p place None at = refl
-line-class p place (Some c) at = line-member p c (slice_get c.methods place.position) at
+line-class : (place : MethodPlace) (c : Option ClassFile) (at : ℕ)
+    → line_in at (option_map_or (entry_in place) c no_method) ≡ option_and_then (λ k. method_line at k place.position) c
+line-class place None at = refl
+line-class place (Some c) at = line-member c (slice_get c.methods place.position) at
 
 line-place : (p : Program) (place : Option MethodPlace) (at : ℕ)
     → option_and_then (line_in at) (option_map (entry_at p) place)
-    ≡ option_and_then (λ (x : MethodPlace). option_and_then (λ c. method_line p at c x.position) (class_at p x.class)) place
+    ≡ option_and_then (λ (x : MethodPlace). option_and_then (λ c. method_line at c x.position) (class_at p x.class)) place
 line-place p None at = refl
-line-place p (Some place) at = line-class p place (class_at p place.class) at
+line-place p (Some place) at = line-class place (class_at p place.class) at
 
 -- ---- all of them
 

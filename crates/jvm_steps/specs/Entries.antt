@@ -21,18 +21,18 @@ abbrev pub params_of : ClassFile → Member → Option (List Kind)
 params_of c m = option_map (λ shape. shape.params) (member_shape c.pool m)
 
 -- the line at an offset of a code, and those at all its offsets
-abbrev pub code_line : Program → ClassFile → List ℕ → ℕ → Option Line
-code_line p c code at = option_and_then (line_of p c) (instruction_at code at)
+abbrev pub code_line : ClassFile → List ℕ → ℕ → Option Line
+code_line c code at = option_and_then (line_of c) (instruction_at code at)
 
-abbrev pub lines_of : Program → ClassFile → List ℕ → List (Option Line)
-lines_of p c code = map (code_line p c code) (range_with_len 0 (length code))
+abbrev pub lines_of : ClassFile → List ℕ → List (Option Line)
+lines_of c code = map (code_line c code) (range_with_len 0 (length code))
 
-abbrev pub entry_of : Program → ClassFile → Member → Method
-entry_of p c m = record {
+abbrev pub entry_of : ClassFile → Member → Method
+entry_of c m = record {
   params = params_of c m;
   max_stack = option_map_or (λ code. code.max_stack) (code_of m) 0;
   max_locals = option_map_or (λ code. code.max_locals) (code_of m) 0;
-  lines = option_map_or (λ code. lines_of p c code.code) (code_of m) [];
+  lines = option_map_or (λ code. lines_of c code.code) (code_of m) [];
 }
 
 -- ---- of a method by its place; nothing where a program has none there
@@ -40,8 +40,8 @@ entry_of p c m = record {
 abbrev pub no_method : Method
 no_method = record { params = None; max_stack = 0; max_locals = 0; lines = [] }
 
-abbrev pub entry_in : Program → MethodPlace → ClassFile → Method
-entry_in p place c = option_map_or (entry_of p c) (slice_get c.methods place.position) no_method
+abbrev pub entry_in : MethodPlace → ClassFile → Method
+entry_in place c = option_map_or (entry_of c) (slice_get c.methods place.position) no_method
 
 abbrev pub entry_at : Program → MethodPlace → Method
-entry_at p place = option_map_or (entry_in p place) (class_at p place.class) no_method
+entry_at p place = option_map_or (entry_in place) (class_at p place.class) no_method

@@ -16,6 +16,7 @@ mod lookup;
 mod markers;
 mod members;
 mod monitors;
+mod naming;
 mod objects;
 mod originals;
 mod parts;

@@ -3,24 +3,18 @@
 use code_model::Instr;
 use const_pool::Kind;
 use heap_objects::Value;
-use jf_bytes::Seq;
 use jvm_model::Family;
+use jvm_named::Naming;
 
-/// What an instruction does, once the names that it gives are looked up (JVM Specification 5.4.3, 6.5).
+/// What an instruction does (JVM Specification 6.5), with the names that it gives.
 #[derive(Drop)]
 pub enum Action {
     /// What its frame does by itself.
     Local,
     /// Ends the activation, with a result of this kind where there is one.
     Return(Option<Kind>),
-    /// getstatic of System.out.
-    Out,
-    /// PrintStream.println of an int.
-    Println,
-    /// Invokes a static method: the position of the class that is named, and the number of the method, None where there is none.
-    Invokestatic(u32, Option<u32>),
-    /// invokestatic where no class has this name.
-    Absent(Seq<u16>),
+    /// What names a class, a field or a method, which is looked up when it is executed.
+    Named(Naming),
     Athrow,
     /// monitorenter and monitorexit.
     Monitor,

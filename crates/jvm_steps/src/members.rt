@@ -4,6 +4,7 @@ ghost use Rattle.std.specs.Prelude.{◌≡◌, ◌<◌, length, IfSome};
 ghost use Rattle.std.specs.Option.{option_copied, option_map};
 ghost use Rattle.const_pool.specs.Members.{reference_view};
 ghost use Rattle.const_pool.specs.References.{name_type_of, named_field, named_method};
+ghost use Rattle.jvm_model.specs.Lines.{named_interface_method};
 ghost use Rattle.jvm_model.specs.Methods.{code_of, same_text_at, is_member, method_named};
 ghost use Rattle.jvm_model.specs.Programs.{initializer_name};
 ghost use Rattle.jvm_model.specs.Rules.{is_reference, is_out, is_println};
@@ -126,6 +127,16 @@ pub fn method_at(pool: &Pool, index: u16) -> Option<MemberRef<'_>>
 {
     match pool.get(index)? {
         Const::Method(_, _) => pool.member(index).ok(),
+        _ => None,
+    }
+}
+
+/// What an InterfaceMethodref names.
+pub fn interface_method_at(pool: &Pool, index: u16) -> Option<MemberRef<'_>>
+    ensures { option_map reference_view result ≡ named_interface_method pool.now index }
+{
+    match pool.get(index)? {
+        Const::InterfaceMethod(_, _) => pool.member(index).ok(),
         _ => None,
     }
 }

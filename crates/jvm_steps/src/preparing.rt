@@ -23,36 +23,28 @@ use std::alloc::Global;
 /// The line at an offset of a code.
 fn code_line(
     alloc: Global,
-    program: &Program,
     class: &ClassFile,
     code: &[u8],
     at: u16,
 ) -> Result<Option<Line>, NoMemory>
-    requires program { FitsOriginals program.now }
-    requires short { length code.now < 2 ^ 16 }
-    ensures { IfOk result (λ line. line ≡ code_line program.now class.now code.now at) }
+    requires { length code.now < 2 ^ 16 }
+    ensures { IfOk result (λ line. line ≡ code_line class.now code.now at) }
 {
     let found = instr_at(alloc, code, at)?;
     match found {
-        Some(instr) => line_of(alloc, program, class, instr),
+        Some(instr) => line_of(alloc, class, instr),
         None => Ok(None),
     }
 }
 
 /// The line at each offset of a code.
-fn lines_of(
-    alloc: Global,
-    program: &Program,
-    class: &ClassFile,
-    code: &[u8],
-) -> Result<Seq<Option<Line>>, NoMemory>
-    requires program { FitsOriginals program.now }
-    requires short { length code.now < 2 ^ 16 }
-    ensures { IfOk result (λ lines. lines ≡ lines_of program.now class.now code.now) }
+fn lines_of(alloc: Global, class: &ClassFile, code: &[u8]) -> Result<Seq<Option<Line>>, NoMemory>
+    requires { length code.now < 2 ^ 16 }
+    ensures { IfOk result (λ lines. lines ≡ lines_of class.now code.now) }
 {
     let mut lines = Seq::with_capacity(alloc, code.len())?;
     for at in 0..code.len() as u16 {
-        let line = code_line(alloc, program, class, code, at)?;
+        let line = code_line(alloc, class, code, at)?;
         lines.push(line)?;
     }
     Ok(lines)
@@ -76,15 +68,9 @@ fn params_of(
 }
 
 /// Prepares a method.
-fn prepare(
-    alloc: Global,
-    program: &Program,
-    class: &ClassFile,
-    member: &Member,
-) -> Result<Method, NoMemory>
-    requires program { FitsOriginals program.now }
-    requires short { HasShortCode member.now }
-    ensures { IfOk result (λ method. method ≡ entry_of program.now class.now member.now) }
+fn prepare(alloc: Global, class: &ClassFile, member: &Member) -> Result<Method, NoMemory>
+    requires { HasShortCode member.now }
+    ensures { IfOk result (λ method. method ≡ entry_of class.now member.now) }
 {
     let params = params_of(alloc, class, member)?;
     let Some(code) = code_of(member) else {
@@ -99,7 +85,7 @@ fn prepare(
         params,
         max_stack: code.max_stack,
         max_locals: code.max_locals,
-        lines: lines_of(alloc, program, class, code.code.as_slice())?,
+        lines: lines_of(alloc, class, code.code.as_slice())?,
     })
 }
 
@@ -124,7 +110,7 @@ fn prepare_at(alloc: Global, program: &Program, place: MethodPlace) -> Result<Me
         return Ok(no_method(alloc));
     };
     match class.methods.get(place.position as usize) {
-        Some(member) => prepare(alloc, program, class, member),
+        Some(member) => prepare(alloc, class, member),
         None => Ok(no_method(alloc)),
     }
 }

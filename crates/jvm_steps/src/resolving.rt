@@ -1,30 +1,24 @@
-//! What an instruction does, with the names that it gives looked up (JVM Specification 5.4.3, 6.5).
+//! What an instruction does, with the names that it gives (JVM Specification 6.5).
 
 ghost use Rattle.std.specs.Prelude.{◌≡◌, ◌<◌, ◌^◌, IfOk};
-ghost use Rattle.std.specs.Option.{option_and_then, option_map};
+ghost use Rattle.std.specs.Option.{option_map};
 ghost use Rattle.code_model.specs.Instructions.{end_of};
-ghost use Rattle.const_pool.specs.References.{named_field, named_method};
-ghost use Rattle.jvm_model.specs.Data.{Invokestatic};
-ghost use Rattle.jvm_model.specs.declared.program.Program.{Program as TheProgram};
 ghost use Rattle.jvm_model.specs.Lines.{constant_in, local_of, number_of};
 ghost use Rattle.jvm_model.specs.Values.{as_value};
 ghost use Rattle.jvm_model.specs.declared.family.Family.TheVariants.{Given};
-ghost use Rattle.jvm_model.specs.Lines.{getstatic_of, invokevirtual_of};
 ghost use Rattle.jvm_model.specs.Lines.{newarray_of, object_among, object_rows};
-ghost use Rattle.jvm_model.specs.Lines.{pool_operation, other_operation, operation_of};
+ghost use Rattle.jvm_model.specs.Lines.{other_operation, operation_of};
 ghost use Rattle.jvm_model.specs.Families.{family_of};
 ghost use Rattle.jvm_steps.specs.Lines.{action_of, line_of, line_with, local_action};
-ghost use Rattle.jvm_steps.specs.Prepared.{FitsOriginals};
 
 use crate::line::{Action, Line};
-use crate::lookup::{class_named, declared_method};
-use crate::members::{field_at, is_out, is_println, method_at};
+use crate::naming::{interface_naming, multi_naming, named_action, naming_of};
 use code_model::{Arg, Instr};
 use const_pool::{ClassFile, Const, Kind, Pool};
 use heap_objects::{Datum, Value};
-use jf_bytes::{NoMemory, Seq};
+use jf_bytes::NoMemory;
 use jvm_basic::value_of;
-use jvm_model::{Family, Program, family_of};
+use jvm_model::{Family, family_of};
 use std::alloc::Global;
 
 /// The kind of an array of one dimension, to which the code of its elements is added.
@@ -95,78 +89,9 @@ fn local_action(family: Family, pool: &Pool, arg: &Arg) -> Option<Action>
     }
 }
 
-/// getstatic: System.out alone.
-fn getstatic(pool: &Pool, index: u16) -> Option<Action>
-    ensures { (p : TheProgram) → let field = named_field pool.now index in
-        result ≡ option_and_then (action_of p) (option_and_then getstatic_of field) }
-{
-    let field = field_at(pool, index)?;
-    if is_out(&field) {
-        Some(Action::Out)
-    } else {
-        None
-    }
-}
-
-/// invokevirtual: println(I)V alone.
-fn invokevirtual(pool: &Pool, index: u16) -> Option<Action>
-    ensures { (p : TheProgram) → let method = named_method pool.now index in
-        result ≡ option_and_then (action_of p) (option_and_then invokevirtual_of method) }
-{
-    let method = method_at(pool, index)?;
-    if is_println(&method) {
-        Some(Action::Println)
-    } else {
-        None
-    }
-}
-
-/// invokestatic: the class and the method that are named, by one walk over the classes.
-fn invokestatic(
-    alloc: Global,
-    program: &Program,
-    pool: &Pool,
-    index: u16,
-) -> Result<Option<Action>, NoMemory>
-    requires { FitsOriginals program.now }
-    ensures { let method = named_method pool.now index in
-        IfOk result (λ a. a
-        ≡ option_and_then (action_of program.now) (option_map Invokestatic method)) }
-{
-    let Some(method) = method_at(pool, index) else {
-        return Ok(None);
-    };
-    let Some(class) = class_named(program, method.class) else {
-        let name = Seq::from_slice(alloc, method.class.units())?;
-        return Ok(Some(Action::Absent(name)));
-    };
-    let number = declared_method(program, &method, class);
-    Ok(Some(Action::Invokestatic(class, number)))
-}
-
-/// What an instruction with a pool index does: getstatic, invokevirtual and invokestatic.
-fn pool_action(
-    alloc: Global,
-    program: &Program,
-    class: &ClassFile,
-    op: u8,
-    index: u16,
-) -> Result<Option<Action>, NoMemory>
-    requires { FitsOriginals program.now }
-    ensures { IfOk result (λ a. a
-        ≡ option_and_then (action_of program.now) (pool_operation class.now op index)) }
-{
-    match op {
-        178 => Ok(getstatic(&class.pool, index)),
-        182 => Ok(invokevirtual(&class.pool, index)),
-        184 => invokestatic(alloc, program, &class.pool, index),
-        _ => Ok(None),
-    }
-}
-
 /// newarray, with the kind of its array.
 fn newarray(op: u8, code: u8) -> Option<Action>
-    ensures { (p : TheProgram) → result ≡ option_and_then (action_of p) (newarray_of op code) }
+    ensures { result ≡ option_map action_of (newarray_of op code) }
 {
     match op {
         188 => Some(Action::Newarray(ARRAY + code as u32)),
@@ -176,8 +101,7 @@ fn newarray(op: u8, code: u8) -> Option<Action>
 
 /// What an instruction without an operand does that sees objects.
 fn object_action(op: u8) -> Option<Action>
-    ensures { (p : TheProgram) →
-        result ≡ option_and_then (action_of p) (object_among object_rows op) }
+    ensures { result ≡ option_map action_of (object_among object_rows op) }
 {
     match op {
         46 => Some(Action::LoadElement(Kind::Int)),
@@ -200,19 +124,23 @@ fn object_action(op: u8) -> Option<Action>
 }
 
 /// What an instruction of no family does, by the form of its operand.
+#[tactic(auto, using(crate::proofs::Actions::named_acted))]
 fn other_action(
     alloc: Global,
-    program: &Program,
     class: &ClassFile,
     op: u8,
     arg: &Arg,
 ) -> Result<Option<Action>, NoMemory>
-    requires { FitsOriginals program.now }
-    ensures { let operation = other_operation class.now op arg.now in
-        IfOk result (λ a. a ≡ option_and_then (action_of program.now) operation) }
+    ensures { IfOk result (λ a. a ≡ option_map action_of (other_operation class.now op arg.now)) }
 {
     match arg {
-        Arg::Pool(index) => pool_action(alloc, program, class, op, *index),
+        Arg::Pool(index) => Ok(named_action(naming_of(alloc, class, op, *index)?)),
+        Arg::Interface(index, _, _) => {
+            Ok(named_action(interface_naming(alloc, class, op, *index)?))
+        }
+        Arg::Multi(index, dimensions) => {
+            Ok(named_action(multi_naming(alloc, class, op, *index, *dimensions)?))
+        }
         Arg::Array(code) => Ok(newarray(op, *code)),
         Arg::Plain => Ok(object_action(op)),
         _ => Ok(None),
@@ -222,18 +150,15 @@ fn other_action(
 /// What an instruction of a class does; none where it has no rule.
 fn action_of(
     alloc: Global,
-    program: &Program,
     class: &ClassFile,
     family: Family,
     instr: &Instr,
 ) -> Result<Option<Action>, NoMemory>
-    requires program { FitsOriginals program.now }
-    requires family { family ≡ family_of instr.now.op }
-    ensures { IfOk result (λ a. a
-        ≡ option_and_then (action_of program.now) (operation_of class.now instr.now)) }
+    requires { family ≡ family_of instr.now.op }
+    ensures { IfOk result (λ a. a ≡ option_map action_of (operation_of class.now instr.now)) }
 {
     match family {
-        Family::Elsewhere => other_action(alloc, program, class, instr.op, &instr.arg),
+        Family::Elsewhere => other_action(alloc, class, instr.op, &instr.arg),
         family => Ok(local_action(family, &class.pool, &instr.arg)),
     }
 }
@@ -263,20 +188,14 @@ fn line_with(class: &ClassFile, family: Family, instr: Instr, action: Action) ->
 }
 
 /// What stands where an instruction of a class does.
-pub fn line_of(
-    alloc: Global,
-    program: &Program,
-    class: &ClassFile,
-    instr: Instr,
-) -> Result<Option<Line>, NoMemory>
-    requires program { FitsOriginals program.now }
-    requires ends { end_of instr < 2 ^ 16 }
-    ensures { IfOk result (λ line. line ≡ line_of program.now class.now instr) }
+pub fn line_of(alloc: Global, class: &ClassFile, instr: Instr) -> Result<Option<Line>, NoMemory>
+    requires { end_of instr < 2 ^ 16 }
+    ensures { IfOk result (λ line. line ≡ line_of class.now instr) }
 {
     // Read by itself, so that its range is known.
     let op = instr.op;
     let family = family_of(op);
-    match action_of(alloc, program, class, family, &instr)? {
+    match action_of(alloc, class, family, &instr)? {
         Some(action) => Ok(Some(line_with(class, family, instr, action))),
         None => Ok(None),
     }

@@ -6,4 +6,4 @@ use Rattle.jvm_steps.specs.Entries.{code_line}
 use Rattle.jvm_steps.proofs.preparing.lines_of.Given as goal
 
 abbrev pub invariant-loop-at : goal.invariant-loop-at
-invariant-loop-at l = l.lines ≡ map (code_line l.program l.class l.code) (range_with_len 0 l.at)
+invariant-loop-at l = l.lines ≡ map (code_line l.class l.code) (range_with_len 0 l.at)

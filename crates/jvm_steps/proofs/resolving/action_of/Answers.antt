@@ -1,5 +1,5 @@
 use Rattle.std.proofs.Common.{ap, ◌∙◌}
-use Rattle.std.specs.Option.{option_and_then}
+use Rattle.std.specs.Option.{option_map}
 use Rattle.jvm_model.specs.Lines.{operation_by}
 use Rattle.jvm_steps.specs.Lines.{action_of}
 use Rattle.jvm_steps.proofs.Actions.{family-acted}
@@ -8,5 +8,5 @@ use Rattle.jvm_steps.proofs.resolving.action_of.Goals as goal
 pub returns-in_default : goal.returns-in_default
 returns-in_default c =
     c.local_action.ensures
-    ∙ (family-acted c.args.program.now c.args.class.now c.args.instr.now.op c.args.instr.now.arg c.args.family c.in_default.not-Elsewhere
-    ∙ ap (λ f. option_and_then (action_of c.args.program.now) (operation_by c.args.class.now c.args.instr.now.op c.args.instr.now.arg f)) c.requires.family)
+    ∙ (family-acted c.args.class.now c.args.instr.now.op c.args.instr.now.arg c.args.family c.in_default.not-Elsewhere
+    ∙ ap (λ f. option_map action_of (operation_by c.args.class.now c.args.instr.now.op c.args.instr.now.arg f)) c.requires)
