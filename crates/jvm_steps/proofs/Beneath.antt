@@ -6,6 +6,7 @@ use Rattle.std.proofs.lemmas.Option.{same_Some, none-some}
 use Rattle.const_pool.specs.declared.descriptor.Kind.{Kind}
 use Rattle.frame_stack.specs.FrameLists.{PlacedFrame}
 use Rattle.jvm_model.specs.declared.ending.Ending.TheVariants.{Unverifiable}
+use Rattle.jvm_model.specs.declared.state.Frame.{Frame}
 use Rattle.jvm_model.specs.declared.state.State.{State}
 use Rattle.jvm_model.specs.Data.{World}
 use Rattle.jvm_steps.specs.declared.line.Action.{Action}
@@ -14,7 +15,7 @@ use Rattle.jvm_steps.specs.declared.line.Line.{Line}
 use Rattle.jvm_steps.specs.declared.markers.Marker.{Marker}
 use Rattle.jvm_steps.specs.declared.parts.Here.{Here}
 use Rattle.jvm_steps.specs.declared.parts.Parts.{Parts}
-use Rattle.jvm_steps.specs.Acts.{IsTop, acts, acts_by, acts_end, attempts_line, attempts_on, awaited, awaited_by, awaited_on, becomes_beneath, ended, on_top}
+use Rattle.jvm_steps.specs.Acts.{IsTop, acts, acts_by, acts_end, attempts_line, attempts_on, awaited_by, awaited_in, awaited_on, becomes_beneath, ended, is_named, on_top}
 use Rattle.jvm_steps.specs.Lines.{line_at}
 use Rattle.jvm_steps.specs.Markers.{initializing, marker_on, stack_of, state_of, with_markers}
 use Rattle.jvm_steps.specs.States.{active, frame_in, here_of, state_in, state_with}
@@ -23,7 +24,7 @@ use Rattle.jvm_steps.proofs.LineSteps.{top-frame}
 use Rattle.jvm_steps.proofs.MarkedStacks.{none-left, stack-empty, stack-on}
 
 module _ (w : World) (line : Line) (ms : List Marker) (p new : Parts) (method : ℕ) where
-  pub does-beneath : (fs : List PlacedFrame) → IsTop method fs → marker_on (length fs) ms ≡ None → awaited p.shared line.action ≡ None
+  pub does-beneath : (fs : List PlacedFrame) → IsTop method fs → marker_on (length fs) ms ≡ None → is_named line.action ≡ false
       → (goes_within line.action ≡ false → marker_on (length fs - 1) ms ≡ None) → state_in new ≡ on_top (acts w line) p fs
       → state_of ms new ≡ becomes_beneath ms (acts w line) p fs
   does-beneath [] top none awaits beneath_it e = absurd top
@@ -54,10 +55,7 @@ module _ (w : World) (line : Line) (ms : List Marker) (p new : Parts) (method : 
 pub within-unless : (a : Action) → ((k : Option Kind) → a ≡ action.Return k → ⊥) → goes_within a ≡ false → ⊥
 within-unless (action.Return k) isnt h = isnt k refl
 within-unless action.Local isnt h = false≢true (sym h)
-within-unless action.Out isnt h = false≢true (sym h)
-within-unless action.Println isnt h = false≢true (sym h)
-within-unless (action.Invokestatic class method) isnt h = false≢true (sym h)
-within-unless (action.Absent name) isnt h = false≢true (sym h)
+within-unless (action.Named n) isnt h = false≢true (sym h)
 within-unless action.Athrow isnt h = false≢true (sym h)
 within-unless action.Monitor isnt h = false≢true (sym h)
 within-unless action.Arraylength isnt h = false≢true (sym h)
@@ -79,17 +77,19 @@ module _ (w : World) (ms : List Marker) (p : Parts) where
   pub nothing-there : here_of p.frames.frames ≡ None → marker_on (length p.frames.frames) ms ≡ None → stack_of (map active p.frames.frames) ms ≡ []
   nothing-there is none = nothing-by p.frames.frames is none
 
-  -- a frame
-  awaits-by : (fs : List PlacedFrame) (here : Here) → here_of fs ≡ Some here → marker_on (length fs) ms ≡ None
-      → awaited_on w p.shared (stack_of (map active fs) ms) ≡ awaited_by p.shared (line_at w.program here.version here.place)
-  awaits-by [] here is none = absurd (none-some here is)
-  awaits-by (f ∷ fs) here is none =
+  -- a frame that stands at a line that awaits nothing
+  awaits-by : (fs : List PlacedFrame) (here : Here) (lo : Option Line) → here_of fs ≡ Some here → marker_on (length fs) ms ≡ None
+      → line_at w.program here.version here.place ≡ lo → ((x : State) (f : Frame) → awaited_by w x f lo ≡ None) → awaited_on w s (stack_of (map active fs) ms) ≡ None
+  awaits-by [] here lo is none found quiet = absurd (none-some here is)
+  awaits-by (f ∷ fs) here lo is none found quiet =
       let same : record { version = f.version; method = f.method; place = f.place } ≡ here = same_Some _ here is in
-      ap (awaited_on w p.shared) (top-frame ms f fs none) ∙ ap (λ (h : Here). awaited_by p.shared (line_at w.program h.version h.place)) same
+      ap (awaited_on w s) (top-frame ms f fs none)
+      ∙ (ap (λ (h : Here). awaited_by w (record s { stack = stack_of (map active fs) ms }) (frame_in f) (line_at w.program h.version h.place)) same
+      ∙ (ap (awaited_by w (record s { stack = stack_of (map active fs) ms }) (frame_in f)) found ∙ quiet _ _))
 
-  pub awaits-there : (here : Here) (lo : Option Line) → here_of p.frames.frames ≡ Some here → marker_on (length p.frames.frames) ms ≡ None
-      → line_at w.program here.version here.place ≡ lo → awaited_on w p.shared (stack_of (map active p.frames.frames) ms) ≡ awaited_by p.shared lo
-  awaits-there here lo is none found = awaits-by p.frames.frames here is none ∙ ap (awaited_by p.shared) found
+  pub awaits-nothing : (here : Here) (lo : Option Line) → here_of p.frames.frames ≡ Some here → marker_on (length p.frames.frames) ms ≡ None
+      → line_at w.program here.version here.place ≡ lo → ((x : State) (f : Frame) → awaited_by w x f lo ≡ None) → awaited_in w s ≡ None
+  awaits-nothing here lo is none found quiet = awaits-by p.frames.frames here lo is none found quiet
 
   breaks-by : (fs : List PlacedFrame) (here : Here) → here_of fs ≡ Some here → marker_on (length fs) ms ≡ None → line_at w.program here.version here.place ≡ None
       → record s { stack = stack_of (map active fs) ms; ending = Some (Unverifiable here.method 0) } ≡ attempts_on w s (stack_of (map active fs) ms)

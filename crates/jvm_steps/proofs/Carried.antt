@@ -24,9 +24,7 @@ use Rattle.jvm_model.specs.LocalRules.{arithmetic_exception, by_zero, returns}
 use Rattle.jvm_model.specs.Moves.{argument_array, caught, handler_for, main_or_end, move, moves, own_at}
 use Rattle.jvm_model.specs.ObjectRules.{loads_element, makes, measures, place_of as element_of, stores_element, storing_of, throws, watches}
 use Rattle.jvm_model.specs.Originals.{original}
-use Rattle.jvm_model.specs.Programs.{params_of_method}
-use Rattle.jvm_model.specs.Rules.{invokes_method, invokes_static, line_text, when_ready}
-use Rattle.jvm_model.specs.SharedState.{Allocated, class_of, no_class_definition, phase_of, raised, stack_overflow}
+use Rattle.jvm_model.specs.SharedState.{Allocated, class_of, raised, stack_overflow}
 use Rattle.jvm_model.specs.Values.{as_value, int_of, ref_of, with_value}
 use Rattle.jvm_basic.specs.Outcomes.{Outcome as Comes, GoesOn as Goes, Raises as Divides, Breaks as Fails, Leaves}
 use Rattle.jvm_basic.specs.Rules.{rule_of}
@@ -35,12 +33,12 @@ use Rattle.jvm_steps.specs.declared.line.Action.TheVariants as action
 use Rattle.jvm_steps.specs.declared.line.Line.{Line}
 use Rattle.jvm_steps.specs.declared.markers.Marker.{Marker}
 use Rattle.jvm_steps.specs.declared.parts.Parts.{Parts}
-use Rattle.jvm_steps.specs.Acts.{placed_line, next_in, comes_to, resumes_line, gives_back_line, returns_or_ends, acts_return, prints_number, printable, acts_by, acts, awaited, fresh_class, acts_end, ends_initializer}
+use Rattle.jvm_steps.specs.Acts.{placed_line, next_in, comes_to, resumes_line, gives_back_line, returns_or_ends, acts_return, acts_by, acts, is_named, acts_end, ends_initializer}
 use Rattle.jvm_steps.specs.Lines.{line_at}
 use Rattle.jvm_steps.specs.Markers.{initializing, marker_on, stack_of, with_markers}
 use Rattle.jvm_steps.specs.Settling.{after_move}
 use Rattle.jvm_steps.specs.States.{active, frame_in, state_in}
-use Rattle.jvm_steps.proofs.LineActs.{stays, throws-stays, watches-stays, measures-stays, loads-stays, makes-silent, stores-silent, method-stays}
+use Rattle.jvm_steps.proofs.LineActs.{stays, throws-stays, watches-stays, measures-stays, loads-stays, makes-silent, stores-silent}
 use Rattle.jvm_steps.proofs.MarkedStacks.{none-more, none-left, stack-empty, stack-plain, stack-frame, live-stack}
 
 pub length-active : (fs : List PlacedFrame) → length (map active fs) ≡ length fs
@@ -110,7 +108,7 @@ module _ (ms : List Marker) where
       by true false = throws-carried s f (raised w s.shared stack_overflow None) free
       by false few = breaks-carried s f i.own free
 
-  applies-carried : (w : World) (t : Text) (i : Instruction) (q : Outcome) → stays q ≡ true → (s : State) (f : Frame) → IsFree ms s
+  pub applies-carried : (w : World) (t : Text) (i : Instruction) (q : Outcome) → stays q ≡ true → (s : State) (f : Frame) → IsFree ms s
       → with_markers ms (applies w t i q s f).after ≡ (applies w t i q (with_markers ms s) f).after
   applies-carried w t i (GoesOn l o to) kept s f free = goes-carried s f i.own l o (place_of i to) free
   applies-carried w t i Subroutine kept s f free = subroutine-carried i s f i.next free
@@ -131,35 +129,11 @@ module _ (ms : List Marker) where
   comes-carried w line s f Fails free = breaks-carried s f line.instr.at free
   comes-carried w line s f Leaves free = breaks-carried s f line.instr.at free
 
-  prints-carried : (line : Line) (s : State) (f : Frame) (n : Option ℤ) → IsFree ms s → with_markers ms (prints_number line s f n) ≡ prints_number line (with_markers ms s) f n
-  prints-carried line s f None free = breaks-carried s f line.instr.at free
-  prints-carried line s f (Some n) free =
-      goes-carried (record s { output = s.output ++ line_text n }) f line.instr.at f.locals (drop 2 f.operands) (Some line.next) free
-
-  phase-stays : (w : World) (class : ℕ) (s : Shared) (q : Outcome) (x : Option Phase) → stays q ≡ true → fresh_class class x ≡ None
-      → stays (when_ready w.program x class s (record { shared = s; wrote = []; outcome = q })).outcome ≡ true
-  phase-stays w class s q (Some Ready) kept none = kept
-  phase-stays w class s q (Some Running) kept none = kept
-  phase-stays w class s q (Some Fresh) kept none = absurd cc
-  phase-stays w class s q (Some Erroneous) kept none = refl
-  phase-stays w class s q None kept none = refl
-
-  static-stays : (w : World) (class : ℕ) (method : Option ℕ) (s : Shared) (o : Operands) → awaited s (action.Invokestatic class method) ≡ None
-      → stays (invokes_static w [] (Some class) method s o).outcome ≡ true
-  static-stays w class None s o none = refl
-  static-stays w class (Some method) s o none =
-      phase-stays w class s (invokes_method w method o) (phase_of s class) (method-stays method (params_of_method w.program method) o) none
-
-  action-carried : (w : World) (line : Line) (s : State) (f : Frame) (a : Action) → IsFree ms s → awaited s.shared a ≡ None → goes_within a ≡ true
+  action-carried : (w : World) (line : Line) (s : State) (f : Frame) (a : Action) → IsFree ms s → is_named a ≡ false → goes_within a ≡ true
       → with_markers ms (acts_by w line s f a) ≡ acts_by w line (with_markers ms s) f a
+  action-carried w line s f (action.Named n) free none within = absurd (false≢true (sym none))
   action-carried w line s f action.Local free none within = comes-carried w line s f (rule_of line.instr line.constant line.next f.locals f.operands) free
   action-carried w line s f (action.Return k) free none within = absurd (false≢true within)
-  action-carried w line s f action.Out free none within = goes-carried s f line.instr.at f.locals (Ref 3 ∷ f.operands) (Some line.next) free
-  action-carried w line s f action.Println free none within = prints-carried line s f (printable f.operands) free
-  action-carried w line s f (action.Invokestatic class method) free none within =
-      applies-carried w (original w.program) (placed_line line) (invokes_static w [] (Some class) method s.shared f.operands).outcome
-      (static-stays w class method s.shared f.operands none) s f free
-  action-carried w line s f (action.Absent name) free none within = throws-carried s f (raised w s.shared no_class_definition (Some name)) free
   action-carried w line s f action.Athrow free none within =
       applies-carried w (original w.program) (placed_line line) (throws w s.shared (ref_of f.operands)) (throws-stays w s.shared (ref_of f.operands)) s f free
   action-carried w line s f action.Monitor free none within =
@@ -212,21 +186,18 @@ module _ (ms : List Marker) where
   return-carried w line s f fs (Exits n) none = refl
 
   -- every line, where no marker stands beneath the frame at a return
-  pub line-carried : (w : World) (line : Line) (s : State) (f : Frame) (fs : List PlacedFrame) → s.stack ≡ map active fs → IsFree ms s → awaited s.shared line.action ≡ None
+  pub line-carried : (w : World) (line : Line) (s : State) (f : Frame) (fs : List PlacedFrame) → s.stack ≡ map active fs → IsFree ms s → is_named line.action ≡ false
       → (goes_within line.action ≡ false → marker_on (length (map active fs)) ms ≡ None)
       → with_markers ms (acts w line s f) ≡ acts w line (with_markers ms s) f
   line-carried w line s f fs is free none beneath_it = by line.action none beneath_it where
-    by : (a : Action) → awaited s.shared a ≡ None → (goes_within a ≡ false → marker_on (length (map active fs)) ms ≡ None)
+    by : (a : Action) → is_named a ≡ false → (goes_within a ≡ false → marker_on (length (map active fs)) ms ≡ None)
         → with_markers ms (acts_by w line s f a) ≡ acts_by w line (with_markers ms s) f a
     by (action.Return k) none below =
         ap (λ es. with_markers ms (acts_return w line k (record s { stack = es }) f)) is
         ∙ (return-carried w line s f fs (returns k f.operands) (below refl)
         ∙ sym (ap (λ es. acts_return w line k (with_markers ms (record s { stack = es })) f) is))
     by action.Local none below = action-carried w line s f action.Local free none refl
-    by action.Out none below = action-carried w line s f action.Out free none refl
-    by action.Println none below = action-carried w line s f action.Println free none refl
-    by (action.Invokestatic class method) none below = action-carried w line s f (action.Invokestatic class method) free none refl
-    by (action.Absent name) none below = action-carried w line s f (action.Absent name) free none refl
+    by (action.Named n) none below = absurd (false≢true (sym none))
     by action.Athrow none below = action-carried w line s f action.Athrow free none refl
     by action.Monitor none below = action-carried w line s f action.Monitor free none refl
     by action.Arraylength none below = action-carried w line s f action.Arraylength free none refl

@@ -15,6 +15,7 @@ use Rattle.jvm_model.specs.declared.state.Phase.TheVariants.{Fresh, Running, Rea
 use Rattle.jvm_model.specs.declared.state.Shared.{Shared}
 use Rattle.jvm_model.specs.declared.state.State.{State}
 use Rattle.jvm_model.specs.Data.{Began, Change, Unwound, Turn, Text, World}
+use Rattle.jvm_model.specs.Constants.{Setting, sets_constants}
 use Rattle.jvm_model.specs.Lookup.{is_below}
 use Rattle.jvm_model.specs.Programs.{name_at, super_of, initializer_of}
 use Rattle.jvm_model.specs.SharedState.{error, no_class_definition, in_initializer, stack_overflow, phase_of, with_phase, class_of, message_cost, with_message, with_exception, Allocated, made_with, raised, null}
@@ -23,8 +24,8 @@ use Rattle.heap_objects.specs.declared.Value.TheVariants.{Ref}
 use Rattle.frame_stack.specs.Widths.{height_of}
 use Rattle.heap_objects.specs.Heaps.{next_number}
 use Rattle.jvm_model.specs.Applies.{still, with_frame, goes, breaks, new_frame, live_in, most_live}
-use Rattle.jvm_model.specs.Moves.{handler_for, own_at, caught, wrapped, fails, at_part, raises, after_super, with_super, runs_initializer, initializes, move, then_turn, settled}
-use Rattle.jvm_model.proofs.Settles.{settled-keeps, settled-stops}
+use Rattle.jvm_model.specs.Moves.{handler_for, own_at, caught, wrapped, fails, at_part, raises, with_constants, after_super, with_super, runs_initializer, initializes, move, then_turn, settled}
+use Rattle.jvm_model.proofs.Settles.{constants-phases, settled-keeps, settled-stops}
 
 -- ---- phases
 
@@ -169,8 +170,14 @@ module _ (w : World) (t : Text) (c : ℕ) (f : Frame) (below : List Entry) where
               (set-elsewhere a.shared.phases c d Erroneous differ ∙ still_running) refl
         ]
 
+    -- its constants are set, or an object is thrown
+    constants-at : (setting : Setting) → setting.shared.phases ≡ shared.phases
+        → Stage (then_turn (told (state (Initializing d Constants ∷ rest) None begun output shared None) []) (still (with_constants (state rest None begun output shared None) d setting)))
+    constants-at setting same =
+        waits (Initializing d Superclass ∷ rest) setting.thrown begun output setting.shared at (ap (λ ps. slice_get ps c) same ∙ running) refl
+
     initializes-at : (part : Part) → Stage (then_turn (told (state (Initializing d part ∷ rest) None begun output shared None) []) (initializes w t (state rest None begun output shared None) d part))
-    initializes-at Constants = marked Superclass
+    initializes-at Constants = constants-at (sets_constants w.program d shared) (constants-phases w.program d shared)
     initializes-at Superclass = with_super-at (super_of w.program d)
     initializes-at Initializer = runs-at (initializer_of w.program d)
     initializes-at Finish = finishes-at

@@ -19,16 +19,17 @@ use Rattle.jvm_model.specs.declared.state.Phase.TheVariants.{Fresh, Running, Rea
 use Rattle.jvm_model.specs.declared.state.Shared.{Shared}
 use Rattle.jvm_model.specs.declared.state.State.{State}
 use Rattle.jvm_model.specs.Applies.{breaks, enters_subroutine, goes, resumes, gives_back, applies}
-use Rattle.jvm_model.specs.Data.{Locals, Operands, World, Text, Local, Nop, Constant, Load, Store, Arrange, BinaryOfInts, BinaryOfLongs, DivisionOfInts, DivisionOfLongs, ShiftOfLong, UnaryOfInt, UnaryOfLong, Lcmp, Iinc, Branch, Goto, Switch, Jsr, Ret, Return, Operation, Within, Getstatic, Putstatic, Invokestatic, Invokevirtual, Athrow, Monitor, Newarray, Arraylength, LoadElement, StoreElement, Instruction, Outcome, GoesOn, Subroutine, Invokes, Returns, Throws, Raises, Initializes, Exits, Breaks, Next, Target, Back, Done, Keys}
+use Rattle.jvm_model.specs.Data.{Locals, Operands, World, Text, Local, Nop, Constant, Load, Store, Arrange, BinaryOfInts, BinaryOfLongs, DivisionOfInts, DivisionOfLongs, ShiftOfLong, UnaryOfInt, UnaryOfLong, Lcmp, Iinc, Branch, Goto, Switch, Jsr, Ret, Return, Naming, New, Getfield, Putfield, Getstatic, Putstatic, Invokevirtual, Invokespecial, Invokestatic, Invokeinterface, Checkcast, Instanceof, Anewarray, Multianewarray, Operation, Within, Named, Athrow, Monitor, Newarray, Arraylength, LoadElement, StoreElement, Instruction, Outcome, GoesOn, Subroutine, Invokes, Returns, Throws, Raises, Initializes, Exits, Breaks, Next, Target, Back, Done, Keys}
 use Rattle.jvm_model.specs.Lines.{ends, is_last, targets_of}
 use Rattle.jvm_model.specs.LocalRules.{arithmetic_exception, by_zero, divides_these, goes_if, holds, tests, switches_on, goes_back, replaces, returns, returns_datum, within}
 use Rattle.jvm_model.specs.Lookup.{is_below}
 use Rattle.jvm_model.specs.ObjectRules.{Access, ToNull, ToAnother, Outside, Inside, Storing, access_to, array_kind, done, fits_array, loads_at, loads_element, makes, measures, place_of, stores_at, stores_element, storing_of, throws, watches}
 use Rattle.jvm_model.specs.Originals.{original}
-use Rattle.jvm_model.specs.Programs.{class_of_reference, declared_method, name_at, params_of_method}
-use Rattle.jvm_model.specs.Rules.{is_out, is_println, is_print_stream, does, when_ready, missing_field, gets_field, invokes, invokes_method, invokes_with, invokes_static, line_text, prints}
-use Rattle.jvm_model.specs.Run.{starts}
-use Rattle.jvm_model.specs.SharedState.{class_of, field_of_reference, no_class_definition, no_such_method, phase_of, null_pointer, throwable}
+use Rattle.jvm_model.specs.Does.{does, loads}
+use Rattle.jvm_model.specs.Naming.{newly_loaded}
+use Rattle.jvm_model.specs.NamingRules.{does_named}
+use Rattle.jvm_model.specs.Run.{starts, with_loaded}
+use Rattle.jvm_model.specs.SharedState.{class_of, null_pointer, throwable}
 use Rattle.jvm_model.specs.StackForms.{forms_of}
 use Rattle.jvm_model.specs.Values.{arguments, as_value, datum_of, loaded, local_in, int_of, ref_of, arranged, with_value}
 use Rattle.jvm_basic.specs.Rules.{goes_at, placed}
@@ -36,8 +37,9 @@ use Rattle.jvm_basic.proofs.Asked.{is_simple, pushes-simple, replaces-simple, le
 use Rattle.jvm_steps.specs.declared.line.Action.{Action}
 use Rattle.jvm_steps.specs.declared.line.Action.TheVariants as action
 use Rattle.jvm_steps.specs.declared.line.Line.{Line}
-use Rattle.jvm_steps.specs.Acts.{placed_line, comes_to, acts_alone, acts_asked, acts_done, acts_invokestatic, resumes_line, gives_back_line, returns_or_ends, acts_return, acts_out, prints_number, acts_println, acts_by, acts, awaited, fresh_class}
-use Rattle.jvm_steps.specs.Lines.{action_of, invokes_by, local_action, line_at}
+use Rattle.jvm_steps.specs.Acts.{placed_line, comes_to, acts_alone, acts_asked, acts_done, acts_named, resumes_line, gives_back_line, returns_or_ends, acts_return, acts_by, acts, awaited, named_done, ready_for, with_done}
+use Rattle.jvm_named.specs.Names.{naming_view}
+use Rattle.jvm_steps.specs.Lines.{action_of, local_action, line_at, named_as}
 use Rattle.jvm_steps.proofs.Tied.{instruction_by, IsRuleOf, IsTied, Tie, tied-at}
 
 -- ---- what an instruction asks for that its frame does by itself
@@ -195,7 +197,7 @@ module _ (w : World) (t : Text) (line : Line) (s : State) (f : Frame) where
 -- ---- returns
 
 -- the caller resumes at its line
-resumes-same : (p : Program) (s : State) (caller : Frame) (d : Option Datum) (lo : Option Line) (io : Option Instruction) → Tie p lo io
+resumes-same : (p : Program) (s : State) (caller : Frame) (d : Option Datum) (lo : Option Line) (io : Option Instruction) → Tie lo io
     → resumes s caller d io ≡ resumes_line s caller d lo
 resumes-same p s caller d None None tie = refl
 resumes-same p s caller d None (Some i) tie = absurd tie
@@ -282,48 +284,6 @@ within-acts : (w : World) (line : Line) (s : State) (f : Frame) (l : Local) → 
     → ActsAs w (instruction_by (Within l) line) s f (does w (Within l) s.shared f.locals f.operands) (acts_by w line s f (local_action l))
 within-acts w line s f (Return k) rule = return-acts w line s f k
 within-acts w line s f l rule = alone-acts w line s f l refl rule
-
--- ---- getstatic and invokevirtual
-
-chosen-acts : (w : World) (i : Instruction) (s : State) (f : Frame) (x : State) (b : Bool) (d e : Done) → b ≡ true → ActsAs w i s f d x → ActsAs w i s f (cond b d e) x
-chosen-acts w i s f x true d e is acts = acts
-chosen-acts w i s f x false d e is acts = absurd (false≢true is)
-
-out-acts : (w : World) (line : Line) (s : State) (f : Frame) (r : Reference) → is_out r ≡ true
-    → ActsAs w (instruction_by (Getstatic r) line) s f (does w (Getstatic r) s.shared f.locals f.operands) (acts_out line s f)
-out-acts w line s f r is =
-    chosen-acts w (instruction_by (Getstatic r) line) s f (acts_out line s f) (is_out r)
-    (done s.shared (GoesOn f.locals (Ref 3 ∷ f.operands) Next))
-    (gets_field w.program (missing_field w.program r) (field_of_reference w.program r) s.shared f.locals f.operands)
-    is
-    (quiet-acts w (instruction_by (Getstatic r) line) s f (GoesOn f.locals (Ref 3 ∷ f.operands) Next) (acts_out line s f) refl refl)
-
-module _ (w : World) (line : Line) (r : Reference) (s : State) (f : Frame) where
-  abbrev prints_here : Operands → State
-  prints_here o = acts_println line s (record f { operands = o })
-
-  abbrev PrintsAs : Operands → Done → State → Type 0
-  PrintsAs o d x = ActsAs w (instruction_by (Invokevirtual r) line) s (record f { operands = o }) d x
-
-  breaks-as : (o : Operands) → PrintsAs o (done s.shared (Breaks false)) (breaks s (record f { operands = o }) line.instr.at)
-  breaks-as o = quiet-acts w (instruction_by (Invokevirtual r) line) s (record f { operands = o }) (Breaks false) (breaks s (record f { operands = o }) line.instr.at) refl refl
-
-  number-as : (n : ℤ) (object : ℕ) (below : Operands) (b : Bool)
-      → PrintsAs (Int n ∷ Ref object ∷ below)
-      (cond b (record { shared = s.shared; wrote = line_text n; outcome = GoesOn f.locals below Next }) (done s.shared (Breaks false)))
-      (prints_number line s (record f { operands = Int n ∷ Ref object ∷ below }) (cond b (Some n) None))
-  number-as n object below true = record { starts_none = refl; applied = refl }
-  number-as n object below false = breaks-as (Int n ∷ Ref object ∷ below)
-
-  prints-as : (o : Operands) → PrintsAs o (prints s.shared f.locals o) (prints_here o)
-  prints-as (Int n ∷ Ref object ∷ below) = number-as n object below (is_print_stream object)
-  prints-as o = breaks-as o
-
-  println-acts : is_println r ≡ true
-      → ActsAs w (instruction_by (Invokevirtual r) line) s f (does w (Invokevirtual r) s.shared f.locals f.operands) (acts_println line s f)
-  println-acts is =
-      chosen-acts w (instruction_by (Invokevirtual r) line) s f (acts_println line s f) (is_println r) (prints s.shared f.locals f.operands) (done s.shared (Breaks false)) is
-      (prints-as f.operands)
 
 -- ---- what the model's rule asks for, at the line's place
 
@@ -437,93 +397,24 @@ throws-stays w s None = refl
 throws-stays w s (Some r) =
     chosen-stays (r == 0) _ _ refl (chosen-stays (is_below w.program (class_of w.program s r) throwable) _ _ refl refl)
 
--- ---- invokestatic
-
-invokes-stays : (method count : ℕ) (args : Option (List Datum)) (o : Operands) → stays (invokes method count args o) ≡ true
-invokes-stays method count None o = refl
-invokes-stays method count (Some args) o = refl
-
-pub method-stays : (method : ℕ) (params : Option (List Kind)) (o : Operands) → stays (invokes_with method params o) ≡ true
-method-stays method None o = refl
-method-stays method (Some params) o = invokes-stays method (length params) (arguments params o) o
-
-module _ (w : World) (line : Line) (r : Reference) (s : State) (f : Frame) where
-  abbrev StaticAs : Done → Type 0
-  StaticAs d = ActsAs w (instruction_by (Invokestatic r) line) s f d (acts_asked w line s f d.outcome)
-
-  asks-as : (q : Outcome) → stays q ≡ true → StaticAs (done s.shared q)
-  asks-as q kept = asked-acts w line (Invokestatic r) s f q refl (stays-starts q kept)
-
-  -- by the phase of its class, which is not fresh
-  phase-as : (class : ℕ) (q : Outcome) → stays q ≡ true → (x : Option Phase) → fresh_class class x ≡ None
-      → StaticAs (when_ready w.program x class s.shared (done s.shared q))
-  phase-as class q kept (Some Ready) none = asks-as q kept
-  phase-as class q kept (Some Running) none = asks-as q kept
-  phase-as class q kept (Some Fresh) none = absurd cc
-  phase-as class q kept (Some Erroneous) none = asks-as (Raises no_class_definition (name_at w.program class)) refl
-  phase-as class q kept None none = asks-as (Raises no_class_definition (name_at w.program class)) refl
-
-  -- by the class and the method that the reference names
-  static-as : (class : ℕ) (method : Option ℕ) → awaited s.shared (action.Invokestatic class method) ≡ None
-      → ActsAs w (instruction_by (Invokestatic r) line) s f (invokes_static w r.class (Some class) method s.shared f.operands) (acts_invokestatic w line class method s f)
-  static-as class None none = asks-as (Raises no_such_method None) refl
-  static-as class (Some method) none =
-      phase-as class (invokes_method w method f.operands) (method-stays method (params_of_method w.program method) f.operands) (phase_of s.shared class) none
-
-  invoked-as : (class : Option ℕ) → awaited s.shared (invokes_by w.program r class) ≡ None
-      → ActsAs w (instruction_by (Invokestatic r) line) s f
-      (invokes_static w r.class class (option_and_then (declared_method w.program r.member) class) s.shared f.operands)
-      (acts_by w line s f (invokes_by w.program r class))
-  invoked-as None none = asks-as (Raises no_class_definition (Some r.class)) refl
-  invoked-as (Some class) none = static-as class (declared_method w.program r.member class) none
-
-  -- and where it is, what the instruction asks for
-  phase-awaits : (class c : ℕ) (d : Done) (x : Option Phase) → fresh_class class x ≡ Some c → when_ready w.program x class s.shared d ≡ done s.shared (Initializes c)
-  phase-awaits class c d (Some Fresh) is = ap (λ k. done s.shared (Initializes k)) (same_Some class c is)
-  phase-awaits class c d (Some Ready) is = absurd (none-some c is)
-  phase-awaits class c d (Some Running) is = absurd (none-some c is)
-  phase-awaits class c d (Some Erroneous) is = absurd (none-some c is)
-  phase-awaits class c d None is = absurd (none-some c is)
-
-  static-awaits : (class c : ℕ) (method : Option ℕ) → awaited s.shared (action.Invokestatic class method) ≡ Some c
-      → invokes_static w r.class (Some class) method s.shared f.operands ≡ done s.shared (Initializes c)
-  static-awaits class c None is = absurd (none-some c is)
-  static-awaits class c (Some method) is = phase-awaits class c (done s.shared (invokes_method w method f.operands)) (phase_of s.shared class) is
-
-  invoked-awaits : (class : Option ℕ) (c : ℕ) → awaited s.shared (invokes_by w.program r class) ≡ Some c
-      → invokes_static w r.class class (option_and_then (declared_method w.program r.member) class) s.shared f.operands ≡ done s.shared (Initializes c)
-  invoked-awaits None c is = absurd (none-some c is)
-  invoked-awaits (Some class) c is = static-awaits class c (declared_method w.program r.member class) is
-
 -- ---- every line
 
-named-action : (b : Bool) (a found : Action) → cond b (Some a) None ≡ Some found → (b ≡ true) × (a ≡ found)
-named-action true a found e = (refl, same_Some a found e)
-named-action false a found e = absurd (none-some found e)
-
 -- by the action that the line has
-acted : (w : World) (line : Line) (s : State) (f : Frame) (op : Operation) (a : Action) → Some a ≡ Some line.action
+acted : (w : World) (line : Line) (s : State) (f : Frame) (op : Operation) (a : Action) → a ≡ line.action
     → ActsAs w (instruction_by op line) s f (does w op s.shared f.locals f.operands) (acts_by w line s f a)
     → ActsAs w (instruction_by op line) s f (does w op s.shared f.locals f.operands) (acts w line s f)
 acted w line s f op a is acts_so =
-    subst (λ x. ActsAs w (instruction_by op line) s f (does w op s.shared f.locals f.operands) (acts_by w line s f x)) (same_Some a line.action is) acts_so
+    subst (λ x. ActsAs w (instruction_by op line) s f (does w op s.shared f.locals f.operands) (acts_by w line s f x)) is acts_so
 
-pub op-acts : (w : World) (line : Line) (s : State) (f : Frame) (op : Operation) → awaited s.shared line.action ≡ None → IsTied w.program line op
+-- an instruction that names nothing
+abbrev names : Operation → Bool
+names (Named n) = true
+names op = false
+
+op-acts : (w : World) (line : Line) (s : State) (f : Frame) (op : Operation) → names op ≡ false → IsTied line op
     → ActsAs w (instruction_by op line) s f (does w op s.shared f.locals f.operands) (acts w line s f)
+op-acts w line s f (Named n) none tied = absurd (false≢true (sym none))
 op-acts w line s f (Within l) none tied = acted w line s f (Within l) (local_action l) tied.action (within-acts w line s f l (tied.alone l refl))
-op-acts w line s f (Getstatic r) none tied =
-    let found = named-action (is_out r) action.Out line.action tied.action in
-    subst (λ a. ActsAs w (instruction_by (Getstatic r) line) s f (does w (Getstatic r) s.shared f.locals f.operands) (acts_by w line s f a)) found.1
-    (out-acts w line s f r found.0)
-op-acts w line s f (Invokevirtual r) none tied =
-    let found = named-action (is_println r) action.Println line.action tied.action in
-    subst (λ a. ActsAs w (instruction_by (Invokevirtual r) line) s f (does w (Invokevirtual r) s.shared f.locals f.operands) (acts_by w line s f a)) found.1
-    (println-acts w line r s f found.0)
-op-acts w line s f (Invokestatic r) none tied =
-    acted w line s f (Invokestatic r) (invokes_by w.program r (class_of_reference w.program r)) tied.action
-    (invoked-as w line r s f (class_of_reference w.program r)
-    (ap (awaited s.shared) (same_Some (invokes_by w.program r (class_of_reference w.program r)) line.action tied.action) ∙ none))
-op-acts w line s f (Putstatic r) none tied = absurd (none-some line.action tied.action)
 op-acts w line s f Athrow none tied = acted w line s f Athrow action.Athrow tied.action (athrow-acts w line s f (ref_of f.operands))
 op-acts w line s f Monitor none tied =
     acted w line s f Monitor action.Monitor tied.action
@@ -545,29 +436,120 @@ op-acts w line s f (StoreElement k) none tied =
     (done-acts w line (StoreElement k) s f (stores_element w.program k (storing_of k f.operands) s.shared f.locals f.operands) refl
     (stores-silent w.program k (storing_of k f.operands) s.shared f.locals f.operands))
 
--- a line that awaits a class is one of an invocation, whose class is initialized before
-local-awaits : (s : Shared) (l : Local) → awaited s (local_action l) ≡ None
-local-awaits s (Return k) = refl
-local-awaits s l = refl
+local-awaits : (w : World) (s : State) (f : Frame) (l : Local) → awaited w s f (local_action l) ≡ None
+local-awaits w s f (Return k) = refl
+local-awaits w s f l = refl
 
-pub op-awaits : (w : World) (line : Line) (s : State) (f : Frame) (op : Operation) (c : ℕ) → awaited s.shared line.action ≡ Some c → IsTied w.program line op
-    → does w op s.shared f.locals f.operands ≡ done s.shared (Initializes c)
-op-awaits w line s f op c is tied = by op tied.action where
-  -- with another action none is awaited
-  never : (a : Action) → Some a ≡ Some line.action → awaited s.shared a ≡ None → ⊥
-  never a same none = none-some c (sym none ∙ (ap (awaited s.shared) (same_Some a line.action same) ∙ is))
+op-awaits : (w : World) (s : State) (f : Frame) (op : Operation) → names op ≡ false → awaited w s f (action_of op) ≡ None
+op-awaits w s f (Named n) none = absurd (false≢true (sym none))
+op-awaits w s f (Within l) none = local-awaits w s f l
+op-awaits w s f Athrow none = refl
+op-awaits w s f Monitor none = refl
+op-awaits w s f Arraylength none = refl
+op-awaits w s f (Newarray code) none = refl
+op-awaits w s f (LoadElement k) none = refl
+op-awaits w s f (StoreElement k) none = refl
 
-  by : (o : Operation) → action_of w.program o ≡ Some line.action → does w o s.shared f.locals f.operands ≡ done s.shared (Initializes c)
-  by (Within l) e = absurd (never (local_action l) e (local-awaits s.shared l))
-  by (Getstatic r) e = absurd (let found = named-action (is_out r) action.Out line.action e in never action.Out (ap Some found.1) refl)
-  by (Invokevirtual r) e = absurd (let found = named-action (is_println r) action.Println line.action e in never action.Println (ap Some found.1) refl)
-  by (Invokestatic r) e =
-      invoked-awaits w line r s f (class_of_reference w.program r) c
-      (ap (awaited s.shared) (same_Some (invokes_by w.program r (class_of_reference w.program r)) line.action e) ∙ is)
-  by (Putstatic r) e = absurd (none-some line.action e)
-  by Athrow e = absurd (never action.Athrow e refl)
-  by Monitor e = absurd (never action.Monitor e refl)
-  by Arraylength e = absurd (never action.Arraylength e refl)
-  by (Newarray code) e = absurd (never (action.Newarray (array_kind code)) e refl)
-  by (LoadElement k) e = absurd (never (action.LoadElement k) e refl)
-  by (StoreElement k) e = absurd (never (action.StoreElement k) e refl)
+-- ---- instructions that name something
+
+-- the names that a line keeps are those of its instruction
+pub viewed : (n : Naming) → naming_view (named_as n) ≡ n
+viewed (New name) = refl
+viewed (Getfield r) = refl
+viewed (Putfield r) = refl
+viewed (Getstatic r) = refl
+viewed (Putstatic r) = refl
+viewed (Invokevirtual r) = refl
+viewed (Invokespecial caller r interface) = refl
+viewed (Invokestatic r) = refl
+viewed (Invokeinterface r) = refl
+viewed (Checkcast name) = refl
+viewed (Instanceof name) = refl
+viewed (Anewarray name) = refl
+viewed (Multianewarray name dimensions) = refl
+
+pub with-loaded : (classes : List ℕ) (s : State) → with_loaded classes s ≡ record s { shared = record s.shared { loaded = s.shared.loaded ++ classes } }
+with-loaded [] s = ap (λ loaded. record s { shared = record s.shared { loaded = loaded } }) (sym (append-nil s.shared.loaded))
+with-loaded (c ∷ more) s = refl
+
+-- ---- every operation, over the classes that it loads
+
+module _ (w : World) (line : Line) (op : Operation) (s : State) (f : Frame) where
+  abbrev pub readied : State
+  readied = with_loaded (loads w op s.shared f.operands) s
+
+  abbrev pub done_there : Done
+  done_there = does w op readied.shared f.locals f.operands
+
+  -- what applies is what the line comes to, and the same class is initialized before
+  pub record StepsAs : Type 0 where
+    pub starts_same : starts done_there.outcome ≡ awaited w s f line.action
+    pub applied : (applies w (original w.program) (instruction_by op line) done_there.outcome (with_done done_there readied) f).after ≡ acts w line s f
+
+named-steps : (w : World) (line : Line) (n : Naming) (s : State) (f : Frame) → IsTied line (Named n) → StepsAs w line (Named n) s f
+named-steps w line n s f tied =
+    let ready : State = readied w line (Named n) s f in
+    let same : ready ≡ ready_for w n s f = with-loaded (newly_loaded w.program s.shared.loaded n f.operands) s in
+    let there : Done = does_named w.program n ready.shared f.locals f.operands in
+    let kept : naming_view (named_as n) ≡ n = viewed n in
+    record {
+      starts_same =
+          ap (λ (x : State). starts (does_named w.program n x.shared f.locals f.operands).outcome) same
+          ∙ (ap (λ m. starts (named_done w m s f).outcome) (sym kept) ∙ ap (awaited w s f) tied.action);
+      applied =
+          placed-same w line (Named n) (with_done there ready) f there.outcome refl
+          ∙ (ap (λ (x : State). let d = does_named w.program n x.shared f.locals f.operands in acts_asked w line (with_done d x) f d.outcome) same
+          ∙ (ap (λ m. acts_named w line m s f) (sym kept) ∙ ap (acts_by w line s f) tied.action));
+    }
+
+pub steps-as : (w : World) (line : Line) (op : Operation) (s : State) (f : Frame) → IsTied line op → StepsAs w line op s f
+steps-as w line (Named n) s f tied = named-steps w line n s f tied
+steps-as w line (Within l) s f tied =
+    let acts_so = op-acts w line s f (Within l) refl tied in
+    record { starts_same = acts_so.starts_none ∙ (sym (op-awaits w s f (Within l) refl) ∙ ap (awaited w s f) tied.action); applied = acts_so.applied }
+steps-as w line Athrow s f tied =
+    let acts_so = op-acts w line s f Athrow refl tied in
+    record { starts_same = acts_so.starts_none ∙ ap (awaited w s f) tied.action; applied = acts_so.applied }
+steps-as w line Monitor s f tied =
+    let acts_so = op-acts w line s f Monitor refl tied in
+    record { starts_same = acts_so.starts_none ∙ ap (awaited w s f) tied.action; applied = acts_so.applied }
+steps-as w line Arraylength s f tied =
+    let acts_so = op-acts w line s f Arraylength refl tied in
+    record { starts_same = acts_so.starts_none ∙ ap (awaited w s f) tied.action; applied = acts_so.applied }
+steps-as w line (Newarray code) s f tied =
+    let acts_so = op-acts w line s f (Newarray code) refl tied in
+    record { starts_same = acts_so.starts_none ∙ ap (awaited w s f) tied.action; applied = acts_so.applied }
+steps-as w line (LoadElement k) s f tied =
+    let acts_so = op-acts w line s f (LoadElement k) refl tied in
+    record { starts_same = acts_so.starts_none ∙ ap (awaited w s f) tied.action; applied = acts_so.applied }
+steps-as w line (StoreElement k) s f tied =
+    let acts_so = op-acts w line s f (StoreElement k) refl tied in
+    record { starts_same = acts_so.starts_none ∙ ap (awaited w s f) tied.action; applied = acts_so.applied }
+
+-- a line that awaits a class names something
+pub awaits-named : (w : World) (line : Line) (op : Operation) (s : State) (f : Frame) (c : ℕ) → IsTied line op → awaited w s f line.action ≡ Some c
+    → (n : Naming) × (op ≡ Named n)
+awaits-named w line op s f c tied is = by op (ap (awaited w s f) tied.action ∙ is) where
+  never : (x : Option ℕ) → x ≡ None → x ≡ Some c → ⊥
+  never x none some = none-some c (sym none ∙ some)
+
+  by : (o : Operation) → awaited w s f (action_of o) ≡ Some c → (n : Naming) × (o ≡ Named n)
+  by (Named n) e = (n, refl)
+  by (Within l) e = absurd (never _ (local-awaits w s f l) e)
+  by Athrow e = absurd (none-some c e)
+  by Monitor e = absurd (none-some c e)
+  by Arraylength e = absurd (none-some c e)
+  by (Newarray code) e = absurd (none-some c e)
+  by (LoadElement k) e = absurd (none-some c e)
+  by (StoreElement k) e = absurd (none-some c e)
+
+pub starts-some : (q : Outcome) (c : ℕ) → starts q ≡ Some c → q ≡ Initializes c
+starts-some (Initializes k) c e = ap Initializes (same_Some k c e)
+starts-some (Returns d) c e = absurd (none-some c e)
+starts-some (Breaks b) c e = absurd (none-some c e)
+starts-some (GoesOn m o to) c e = absurd (none-some c e)
+starts-some Subroutine c e = absurd (none-some c e)
+starts-some (Raises name message) c e = absurd (none-some c e)
+starts-some (Invokes m args below) c e = absurd (none-some c e)
+starts-some (Throws r) c e = absurd (none-some c e)
+starts-some (Exits n) c e = absurd (none-some c e)

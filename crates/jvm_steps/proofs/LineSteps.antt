@@ -3,8 +3,7 @@ use Rattle.std.proofs.Common.{◌≡◌, ℕ, zero, suc, Bool, true, false, cond
 use Rattle.std.specs.Prelude.{is_some, is_none, ◌&&◌, ◌||◌}
 use Rattle.std.specs.Option.{option_map_or}
 use Rattle.std.proofs.lemmas.Bool.{false≢true}
-use Rattle.std.proofs.lemmas.List.{append-nil}
-use Rattle.std.proofs.lemmas.Option.{same_Some, none-some}
+use Rattle.std.proofs.lemmas.Option.{none-some}
 use Rattle.frame_stack.specs.FrameLists.{PlacedFrame, has_frame}
 use Rattle.jvm_model.specs.declared.ending.Ending.{Ending}
 use Rattle.jvm_model.specs.declared.state.Entry.{Entry}
@@ -13,29 +12,31 @@ use Rattle.jvm_model.specs.declared.state.Frame.{Frame}
 use Rattle.jvm_model.specs.declared.state.Part.TheVariants.{Constants}
 use Rattle.jvm_model.specs.declared.state.Phase.{Phase}
 use Rattle.jvm_model.specs.declared.state.Phase.TheVariants.{Fresh, Running, Ready, Erroneous}
-use Rattle.jvm_model.specs.declared.state.Shared.{Shared}
 use Rattle.jvm_model.specs.declared.state.State.{State}
 use Rattle.jvm_model.specs.Applies.{still, breaks, applies}
-use Rattle.jvm_model.specs.Data.{World, Text, Instruction, Operation, Done, Turn}
+use Rattle.jvm_model.specs.Data.{World, Text, Naming, Instruction, Operation, Named, Outcome, Initializes, Done, Turn}
 use Rattle.jvm_model.specs.Moves.{move, moves, left, settles, settled, then_turn}
 use Rattle.jvm_model.specs.Originals.{original}
-use Rattle.jvm_model.specs.Rules.{does}
-use Rattle.jvm_model.specs.Run.{attempt, tries, is_ready, is_quiet, goes_on, goes_again, steps_by, steps_at, steps_on, step}
+use Rattle.jvm_model.specs.Does.{loads}
+use Rattle.jvm_model.specs.Naming.{newly_loaded}
+use Rattle.jvm_model.specs.NamingRules.{does_named}
+use Rattle.jvm_model.specs.Run.{attempt, tries, starts, is_ready, is_quiet, goes_on, goes_again, loaded_turn, with_loaded, steps_by, steps_at, steps_on, step}
 use Rattle.jvm_model.specs.SharedState.{phase_of, with_phase}
+use Rattle.jvm_model.proofs.LoadsAgain.{newly-again}
 use Rattle.jvm_model.proofs.QuietSettles.{stops}
-use Rattle.jvm_steps.specs.declared.line.Action.{Action}
-use Rattle.jvm_steps.specs.declared.line.Action.TheVariants as action
 use Rattle.jvm_steps.specs.declared.line.Line.{Line}
 use Rattle.jvm_steps.specs.declared.markers.Marker.{Marker}
 use Rattle.jvm_steps.specs.declared.parts.Parts.{Parts}
-use Rattle.jvm_steps.specs.Acts.{acts, attempts_line, attempts_on, awaited, awaited_by, awaited_in, awaited_on, fresh_class, is_at_rest, goes_on_in}
+use Rattle.jvm_steps.specs.Acts.{acts, acts_asked, acts_by, acts_named, attempts_line, attempts_on, awaited, awaited_by, awaited_in, awaited_on, is_at_rest, goes_on_in, named_done, ready_for, with_done}
 use Rattle.jvm_steps.specs.Lines.{line_at}
 use Rattle.jvm_steps.specs.Markers.{initializing, marker_on, stack_of, state_of}
 use Rattle.jvm_steps.specs.States.{active, frame_in}
 use Rattle.jvm_steps.proofs.Carried.{length-active}
 use Rattle.jvm_steps.proofs.Initializations.{IsReadyAgain, ready-again, set-there}
-use Rattle.jvm_steps.proofs.LineActs.{ActsAs, op-acts, op-awaits}
+use Rattle.jvm_steps.proofs.LineActs.{awaits-named, done_there, readied, starts-some, steps-as, viewed, with-loaded}
 use Rattle.jvm_steps.proofs.MarkedStacks.{stack-empty, stack-frame, stack-on}
+use Rattle.jvm_steps.proofs.MovesLoad.{settled-loaded}
+use Rattle.jvm_steps.proofs.NamedLaws.{Asks, IsNamed, is-named}
 use Rattle.jvm_steps.proofs.Tied.{instruction_by, IsTied, Tie, tied-at}
 
 -- ---- the top of a stack
@@ -86,41 +87,44 @@ module _ (w : World) (t : Text) where
 
 -- ---- a step
 
+loaded-after : (classes : List ℕ) (turn : Turn) → (loaded_turn classes turn).after ≡ turn.after
+loaded-after [] turn = refl
+loaded-after (c ∷ more) turn = refl
+
 module _ (w : World) where
   abbrev t : Text
   t = original w.program
 
-  tried : (i : Instruction) (s : State) (f : Frame) (d : Done) (x : State) → ActsAs w i s f d x → (tries w t i s f d).after ≡ (settled w t (still x)).after
-  tried i s f d x acts = settled-after w t (applies w t i d.outcome (record s { shared = d.shared; output = s.output ++ d.wrote }) f) (still x) acts.applied
+  -- the state after a line, with all that follows
+  abbrev pub behind : State → State
+  behind x = (settled w t (still x)).after
 
-  line-steps : (s : State) (f : Frame) (lo : Option Line) (io : Option Instruction) → awaited_by s.shared lo ≡ None → Tie w.program lo io
-      → (steps_at w t s f io).after ≡ (settled w t (still (attempts_line w s f lo))).after
+  module _ (s : State) (f : Frame) (line : Line) (op : Operation) (tied : IsTied line op) where
+    abbrev first : Turn
+    first = tries w t (instruction_by op line) (readied w line op s f) f (done_there w line op s f)
+
+    first-after : first.after ≡ behind (acts w line s f)
+    first-after =
+        let there : Done = done_there w line op s f in
+        settled-after w t (applies w t (instruction_by op line) there.outcome (with_done there (readied w line op s f)) f) (still (acts w line s f))
+        (steps-as w line op s f tied).applied
+
+    -- the classes are loaded, and a class may be initialized before
+    steps-by : (o : Option ℕ) → awaited w s f line.action ≡ o
+        → (steps_at w t s f (Some (instruction_by op line))).after ≡ (goes_again w t (instruction_by op line) (readied w line op s f) f o first).after
+    steps-by o is =
+        loaded-after (loads w op s.shared f.operands) (steps_by w t (instruction_by op line) (readied w line op s f) f (done_there w line op s f))
+        ∙ ap (λ k. (goes_again w t (instruction_by op line) (readied w line op s f) f k first).after) ((steps-as w line op s f tied).starts_same ∙ is)
+
+  line-steps : (s : State) (f : Frame) (lo : Option Line) (io : Option Instruction) → awaited_by w s f lo ≡ None → Tie lo io
+      → (steps_at w t s f io).after ≡ behind (attempts_line w s f lo)
   line-steps s f None None none tie = sym (settled-still w t (breaks s f 0) refl)
   line-steps s f None (Some i) none tie = absurd tie
   line-steps s f (Some line) None none tie = absurd tie
   line-steps s f (Some line) (Some i) none tie =
-      let acts_so = op-acts w line s f tie.op none tie.tied in
-      let d : Done = does w tie.op s.shared f.locals f.operands in
-      ap (λ x. (steps_at w t s f (Some x)).after) tie.is
-      ∙ (ap (λ k. (goes_again w t (instruction_by tie.op line) s f k (tries w t (instruction_by tie.op line) s f d)).after) acts_so.starts_none
-      ∙ tried (instruction_by tie.op line) s f d (acts w line s f) acts_so)
+      ap (λ x. (steps_at w t s f (Some x)).after) tie.is ∙ (steps-by s f line tie.op tie.tied None none ∙ first-after s f line tie.op tie.tied)
 
   -- ---- a class is initialized before
-
-  -- behind its initialization
-  abbrev pub awaiting : State → Frame → ℕ → State
-  awaiting s f c = record s { stack = Initializing c Constants ∷ Active f ∷ s.stack; shared = with_phase s.shared c Running }
-
-  abbrev pub initialized : State → Frame → ℕ → State
-  initialized s f c = (settled w t (still (awaiting s f c))).after
-
-  -- the instruction that asks for it, with all that follows from that
-  line-awaits : (s : State) (f : Frame) (line : Line) (op : Operation) (c : ℕ) → awaited s.shared line.action ≡ Some c → IsTied w.program line op
-      → steps_by w t (instruction_by op line) s f (does w op s.shared f.locals f.operands)
-      ≡ goes_again w t (instruction_by op line) s f (Some c) (settled w t (still (awaiting s f c)))
-  line-awaits s f line op c is tied =
-      ap (steps_by w t (instruction_by op line) s f) (op-awaits w line s f op c is tied)
-      ∙ ap (λ out. goes_again w t (instruction_by op line) s f (Some c) (settled w t (still (record (awaiting s f c) { output = out })))) (append-nil s.output)
 
   -- the instruction behind that
   abbrev again : Turn → Instruction → State → Frame → Turn
@@ -143,69 +147,120 @@ module _ (w : World) where
       ∙ (ap (λ e. cond (goes_on e turn.after.thrown) (again turn i s f) turn) ending
       ∙ ap (λ r. cond (goes_on None r) (again turn i s f) turn) thrown))
 
-  -- a class that was fresh, and is being initialized
-  fresh-there : (class c : ℕ) (x : Option Phase) → fresh_class class x ≡ Some c → (class ≡ c) × (x ≡ Some Fresh)
-  fresh-there class c (Some Fresh) is = (same_Some class c is, refl)
-  fresh-there class c (Some Ready) is = absurd (none-some c is)
-  fresh-there class c (Some Running) is = absurd (none-some c is)
-  fresh-there class c (Some Erroneous) is = absurd (none-some c is)
-  fresh-there class c None is = absurd (none-some c is)
+  ready-of : (o : Option Phase) → is_ready o ≡ true → o ≡ Some Ready
+  ready-of (Some Ready) h = refl
+  ready-of (Some Fresh) h = absurd (false≢true h)
+  ready-of (Some Running) h = absurd (false≢true h)
+  ready-of (Some Erroneous) h = absurd (false≢true h)
+  ready-of None h = absurd (false≢true h)
 
-  awaited-fresh : (s : Shared) (a : Action) (c : ℕ) → awaited s a ≡ Some c → phase_of s c ≡ Some Fresh
-  awaited-fresh s (action.Invokestatic class (Some method)) c is =
-      let found = fresh-there class c (phase_of s class) is in ap (phase_of s) (sym found.0) ∙ found.1
-  awaited-fresh s (action.Invokestatic class None) c is = absurd (none-some c is)
-  awaited-fresh s action.Local c is = absurd (none-some c is)
-  awaited-fresh s (action.Return k) c is = absurd (none-some c is)
-  awaited-fresh s action.Out c is = absurd (none-some c is)
-  awaited-fresh s action.Println c is = absurd (none-some c is)
-  awaited-fresh s (action.Absent name) c is = absurd (none-some c is)
-  awaited-fresh s action.Athrow c is = absurd (none-some c is)
-  awaited-fresh s action.Monitor c is = absurd (none-some c is)
-  awaited-fresh s action.Arraylength c is = absurd (none-some c is)
-  awaited-fresh s (action.Newarray kind) c is = absurd (none-some c is)
-  awaited-fresh s (action.LoadElement k) c is = absurd (none-some c is)
-  awaited-fresh s (action.StoreElement k) c is = absurd (none-some c is)
+  -- by an instruction that names something
+  module _ (s : State) (f : Frame) (line : Line) (n : Naming) (c : ℕ) (tied : IsTied line (Named n)) (is : awaited w s f line.action ≡ Some c) where
+    abbrev i : Instruction
+    i = instruction_by (Named n) line
 
-  -- once it is ready it is awaited no more
-  awaited-ready : (s u : Shared) (a : Action) (c : ℕ) → awaited s a ≡ Some c → phase_of u c ≡ Some Ready → awaited u a ≡ None
-  awaited-ready s u (action.Invokestatic class (Some method)) c is ready =
-      let found = fresh-there class c (phase_of s class) is in
-      ap (fresh_class class) (ap (phase_of u) found.0 ∙ ready)
-  awaited-ready s u (action.Invokestatic class None) c is ready = refl
-  awaited-ready s u a c is ready = refl
+    abbrev there : Done
+    there = named_done w n s f
 
-  -- behind the initialization that a line awaits, where its class is ready
-  again-there : (s : State) (f : Frame) (line : Line) (c : ℕ) → s.ending ≡ None → awaited s.shared line.action ≡ Some c
-      → phase_of (initialized s f c).shared c ≡ Some Ready → IsReadyAgain w t c f s.stack (settled w t (still (awaiting s f c)))
-  again-there s f line c ending is ready =
-      let fresh_there : phase_of s.shared c ≡ Some Fresh = awaited-fresh s.shared line.action c is in
-      let running : phase_of (with_phase s.shared c Running) c ≡ Some Running = set-there s.shared.phases c Running Fresh fresh_there in
-      let given : State = awaiting s f c in
-      let same : record given { ending = None } ≡ given = sym (ap (λ e. record given { ending = e }) ending) in
-      subst (λ (x : State). IsReadyAgain w t c f s.stack (settled w t (still x))) same
-      (ready-again w t c f s.stack s.thrown s.begun s.output (with_phase s.shared c Running) running (ap (λ (x : State). phase_of (settled w t (still x)).after.shared c) same ∙ ready))
+    named-action : acts w line s f ≡ acts_named w line n s f
+    named-action = ap (acts_by w line s f) (sym tied.action) ∙ ap (λ m. acts_named w line m s f) (viewed n)
+
+    asks-for : there.outcome ≡ Initializes c
+    asks-for =
+        starts-some there.outcome c
+        (ap (λ m. starts (named_done w m s f).outcome) (sym (viewed n)) ∙ (ap (awaited w s f) tied.action ∙ is))
+
+    law : IsNamed (ready_for w n s f).shared f.operands there
+    law = is-named (ready_for w n s f).shared f.operands w.program n f.locals
+
+    fresh : phase_of there.shared c ≡ Some Fresh
+    fresh = subst (λ q. Asks there.shared f.operands q) asks-for law.asks
+
+    -- its initialization has begun
+    abbrev begun : State
+    begun = record (with_done there s) { stack = Initializing c Constants ∷ Active f ∷ s.stack; shared = with_phase there.shared c Running }
+
+    pub acts-begun : acts w line s f ≡ begun
+    acts-begun = named-action ∙ ap (acts_asked w line (with_done there s) f) asks-for
+
+    abbrev turn : Turn
+    turn = settled w t (still begun)
+
+    first-is : first s f line (Named n) tied ≡ turn
+    first-is =
+        ap (λ (x : State). tries w t i x f (does_named w.program n x.shared f.locals f.operands)) (with-loaded (newly_loaded w.program s.shared.loaded n f.operands) s)
+        ∙ ap (λ q. settled w t (applies w t i q (with_done there s) f)) asks-for
+
+    awaits-by : (steps_at w t s f (Some i)).after ≡ (goes_again w t i (ready_for w n s f) f (Some c) turn).after
+    awaits-by =
+        steps-by s f line (Named n) tied (Some c) is
+        ∙ (ap (λ x. (goes_again w t i (readied w line (Named n) s f) f (Some c) x).after) first-is
+        ∙ ap (λ x. (goes_again w t i x f (Some c) turn).after) (with-loaded (newly_loaded w.program s.shared.loaded n f.operands) s))
+
+    turn-behind : turn.after ≡ behind (acts w line s f)
+    turn-behind = ap behind (sym acts-begun)
+
+    -- where the class is not ready behind its initialization, nothing else is done
+    pub not-again : is_ready (phase_of turn.after.shared c) ≡ false → turn.after ≡ (steps_at w t s f (Some i)).after
+    not-again isnt = sym (awaits-by ∙ ap (λ (x : Turn). x.after) (awaits-stays i (ready_for w n s f) f c turn isnt))
+
+    -- nothing is loaded behind
+    same-loaded : turn.after.shared.loaded ≡ s.shared.loaded ++ newly_loaded w.program s.shared.loaded n f.operands
+    same-loaded = settled-loaded w t (still begun) ∙ law.loaded
+
+    module _ (ending : s.ending ≡ None) (ready : is_ready (phase_of turn.after.shared c) ≡ true) where
+      running : phase_of (with_phase there.shared c Running) c ≡ Some Running
+      running = set-there there.shared.phases c Running Fresh fresh
+
+      pub restored : IsReadyAgain w t c f s.stack turn
+      restored =
+          let same : record begun { ending = None } ≡ begun = sym (ap (λ e. record begun { ending = e }) ending) in
+          subst (λ (x : State). IsReadyAgain w t c f s.stack (settled w t (still x))) same
+          (ready-again w t c f s.stack s.thrown s.begun (s.output ++ there.wrote) (with_phase there.shared c Running) running
+          (ap (λ (x : State). phase_of (settled w t (still x)).after.shared c) same ∙ ready-of (phase_of turn.after.shared c) ready))
+
+      abbrev from : State
+      from = record turn.after { stack = s.stack }
+
+      loads-none : newly_loaded w.program from.shared.loaded n f.operands ≡ []
+      loads-none = ap (λ l. newly_loaded w.program l n f.operands) same-loaded ∙ newly-again w.program s.shared.loaded n f.operands
+
+      abbrev tried : State → State
+      tried x = (tries w t i x f (does_named w.program n x.shared f.locals f.operands)).after
+
+      second-after : (attempt w t i from f).after ≡ behind (acts w line from f)
+      second-after =
+          sym (ap (λ cs. tried (with_loaded cs from)) loads-none) ∙ first-after from f line (Named n) tied
+
+      -- its line is attempted in the same step
+      pub attempts-again : behind (acts w line from f) ≡ (steps_at w t s f (Some i)).after
+      attempts-again =
+          sym (awaits-by
+          ∙ (ap (λ (x : Turn). x.after) (awaits-again i (ready_for w n s f) f c turn ready restored.quiet restored.ending restored.thrown)
+          ∙ second-after))
 
   -- the line of a frame that awaits a class
   record IsAwaiting (s : State) (f : Frame) (c : ℕ) (lo : Option Line) (io : Option Instruction) : Type 0 where
     line : Line
-    op : Operation
+    named : Naming
     there : lo ≡ Some line
-    tied : IsTied w.program line op
-    awaits : awaited s.shared line.action ≡ Some c
-    steps : steps_at w t s f io ≡ goes_again w t (instruction_by op line) s f (Some c) (settled w t (still (awaiting s f c)))
+    instruction : io ≡ Some (instruction_by (Named named) line)
+    tied : IsTied line (Named named)
+    awaits : awaited w s f line.action ≡ Some c
 
-  is-awaiting : (s : State) (f : Frame) (c : ℕ) (lo : Option Line) (io : Option Instruction) → awaited_by s.shared lo ≡ Some c → Tie w.program lo io → IsAwaiting s f c lo io
+  is-awaiting : (s : State) (f : Frame) (c : ℕ) (lo : Option Line) (io : Option Instruction) → awaited_by w s f lo ≡ Some c → Tie lo io → IsAwaiting s f c lo io
   is-awaiting s f c None io is tie = absurd (none-some c is)
   is-awaiting s f c (Some line) None is tie = absurd tie
-  is-awaiting s f c (Some line) (Some i) is tie = record {
-    line = line;
-    op = tie.op;
-    there = refl;
-    tied = tie.tied;
-    awaits = is;
-    steps = ap (λ x. steps_at w t s f (Some x)) tie.is ∙ line-awaits s f line tie.op c is tie.tied;
-  }
+  is-awaiting s f c (Some line) (Some i) is tie =
+      let found = awaits-named w line tie.op s f c tie.tied is in
+      record {
+        line = line;
+        named = found.0;
+        there = refl;
+        instruction = ap Some (tie.is ∙ ap (λ op. instruction_by op line) found.1);
+        tied = subst (IsTied line) found.1 tie.tied;
+        awaits = is;
+      }
 
 -- ---- a step of a state whose current frame stands on top
 
@@ -224,73 +279,77 @@ module _ (w : World) (s : State) (going : IsGoing s) where
   abbrev pub under : State
   under = record s { stack = going.rest }
 
+  -- what stands there
+  abbrev line_here : Option Line
+  line_here = line_at w.program going.frame.version going.frame.place
+
   step-at : (step w text s).after ≡ (steps_at w text under going.frame (text.at going.frame.version going.frame.place)).after
   step-at = ap (λ e. (steps_on w text s e s.stack).after) going.ending ∙ ap (λ es. (steps_on w text s None es).after) going.stack
 
-  awaited-here : (o : Option ℕ) → awaited_in w s ≡ o → awaited_by s.shared (line_at w.program going.frame.version going.frame.place) ≡ o
-  awaited-here o is = sym (ap (awaited_on w s.shared) going.stack) ∙ is
+  awaited-here : (o : Option ℕ) → awaited_in w s ≡ o → awaited_by w under going.frame line_here ≡ o
+  awaited-here o is = sym (ap (awaited_on w s) going.stack) ∙ is
+
+  attempted-here : attempts_on w s s.stack ≡ attempts_line w under going.frame line_here
+  attempted-here = ap (attempts_on w s) going.stack
 
   -- where no class is awaited
-  pub step-attempts : awaited_in w s ≡ None → (mid after : State) → mid ≡ attempts_on w s s.stack → after ≡ (settled w text (still mid)).after
-      → after ≡ (step w text s).after
+  pub step-attempts : awaited_in w s ≡ None → (mid after : State) → mid ≡ attempts_on w s s.stack → after ≡ behind w mid → after ≡ (step w text s).after
   step-attempts none mid after attempted settles =
-      settles ∙ (ap (λ x. (settled w text (still x)).after) (attempted ∙ ap (attempts_on w s) going.stack)
+      settles ∙ (ap (behind w) (attempted ∙ attempted-here)
       ∙ sym (step-at
-      ∙ line-steps w under going.frame (line_at w.program going.frame.version going.frame.place) (text.at going.frame.version going.frame.place)
-      (awaited-here None none) (tied-at w.program going.frame.version going.frame.place)))
+      ∙ line-steps w under going.frame line_here (text.at going.frame.version going.frame.place) (awaited-here None none) (tied-at w.program going.frame.version going.frame.place)))
 
   module _ (c : ℕ) (is : awaited_in w s ≡ Some c) where
-    here : IsAwaiting w under going.frame c (line_at w.program going.frame.version going.frame.place) (text.at going.frame.version going.frame.place)
+    here : IsAwaiting w under going.frame c line_here (text.at going.frame.version going.frame.place)
     here =
-        is-awaiting w under going.frame c (line_at w.program going.frame.version going.frame.place) (text.at going.frame.version going.frame.place)
+        is-awaiting w under going.frame c line_here (text.at going.frame.version going.frame.place)
         (awaited-here (Some c) is) (tied-at w.program going.frame.version going.frame.place)
 
-    abbrev pub behind : State
-    behind = initialized w under going.frame c
+    abbrev reached : State
+    reached = (turn w under going.frame here.line here.named c here.tied here.awaits).after
 
-    -- where its class is not ready behind its initialization, nothing else is done
-    pub step-awaits : is_ready (phase_of behind.shared c) ≡ false → behind ≡ (step w text s).after
-    step-awaits isnt =
-        sym (step-at ∙ ap (λ (turn : Turn). turn.after)
-        (here.steps ∙ awaits-stays w (instruction_by here.op here.line) under going.frame c (settled w text (still (awaiting w under going.frame c))) isnt))
+    step-there : (step w text s).after ≡ (steps_at w text under going.frame (Some (instruction_by (Named here.named) here.line))).after
+    step-there = step-at ∙ ap (λ x. (steps_at w text under going.frame x).after) here.instruction
 
-    ready-of : (o : Option Phase) → is_ready o ≡ true → o ≡ Some Ready
-    ready-of (Some Ready) h = refl
-    ready-of (Some Fresh) h = absurd (false≢true h)
-    ready-of (Some Running) h = absurd (false≢true h)
-    ready-of (Some Erroneous) h = absurd (false≢true h)
-    ready-of None h = absurd (false≢true h)
-
-    module _ (ready : is_ready (phase_of behind.shared c) ≡ true) where
-      restored : IsReadyAgain w text c going.frame going.rest (settled w text (still (awaiting w under going.frame c)))
-      restored = again-there w under going.frame here.line c going.ending here.awaits (ready-of (phase_of behind.shared c) ready)
-
-      -- the frame is on top again, and awaits no class
-      pub going-again : IsGoing behind
-      going-again = record { frame = going.frame; rest = going.rest; ending = restored.ending; stack = restored.stack }
-
-      pub awaits-none : awaited_in w behind ≡ None
-      awaits-none =
-          ap (awaited_on w behind.shared) restored.stack
-          ∙ (ap (awaited_by behind.shared) here.there
-          ∙ awaited-ready w under.shared behind.shared here.line.action c here.awaits (ready-of (phase_of behind.shared c) ready))
-
-      -- and its instruction is attempted in the same step
-      pub step-again : (mid after : State) → mid ≡ attempts_on w behind behind.stack → after ≡ (settled w text (still mid)).after
-          → after ≡ (step w text s).after
-      step-again mid after attempted settles =
-          let again_from : State = record behind { stack = going.rest } in
-          let i : Instruction = instruction_by here.op here.line in
-          let none : awaited again_from.shared here.line.action ≡ None =
-          awaited-ready w under.shared behind.shared here.line.action c here.awaits (ready-of (phase_of behind.shared c) ready) in
-          let acts_so = op-acts w here.line again_from going.frame here.op none here.tied in
-          let turn : Turn = settled w text (still (awaiting w under going.frame c)) in
+    module _ (mid behind_it : State) (attempted : mid ≡ attempts_on w s s.stack) (settles : behind_it ≡ behind w mid) where
+      comes-there : behind_it ≡ reached
+      comes-there =
           settles
-          ∙ (ap (λ x. (settled w text (still x)).after)
-          (attempted ∙ (ap (attempts_on w behind) restored.stack ∙ ap (attempts_line w again_from going.frame) here.there))
-          ∙ sym (step-at
-          ∙ (ap (λ (x : Turn). x.after) (here.steps ∙ awaits-again w i under going.frame c turn ready restored.quiet restored.ending restored.thrown)
-          ∙ tried w i again_from going.frame (does w here.op again_from.shared going.frame.locals going.frame.operands) (acts w here.line again_from going.frame) acts_so)))
+          ∙ ap (behind w) (attempted ∙ (attempted-here ∙ (ap (attempts_line w under going.frame) here.there
+          ∙ acts-begun w under going.frame here.line here.named c here.tied here.awaits)))
+
+      -- where its class is not ready behind its initialization, nothing else is done
+      pub step-awaits : is_ready (phase_of behind_it.shared c) ≡ false → behind_it ≡ (step w text s).after
+      step-awaits isnt =
+          comes-there ∙ (not-again w under going.frame here.line here.named c here.tied here.awaits
+          (sym (ap (λ (x : State). is_ready (phase_of x.shared c)) comes-there) ∙ isnt)
+          ∙ sym step-there)
+
+      module _ (ready : is_ready (phase_of behind_it.shared c) ≡ true) where
+        ready-there : is_ready (phase_of reached.shared c) ≡ true
+        ready-there = sym (ap (λ (x : State). is_ready (phase_of x.shared c)) comes-there) ∙ ready
+
+        back : IsReadyAgain w text c going.frame going.rest (turn w under going.frame here.line here.named c here.tied here.awaits)
+        back = restored w under going.frame here.line here.named c here.tied here.awaits going.ending ready-there
+
+        -- the frame is on top again
+        pub going-again : IsGoing behind_it
+        going-again = record {
+          frame = going.frame;
+          rest = going.rest;
+          ending = ap (λ (x : State). x.ending) comes-there ∙ back.ending;
+          stack = ap (λ (x : State). x.stack) comes-there ∙ back.stack;
+        }
+
+        -- and its line is attempted in the same step
+        pub step-again : (mid_again after : State) → mid_again ≡ attempts_on w behind_it behind_it.stack → after ≡ behind w mid_again → after ≡ (step w text s).after
+        step-again mid_again after attempted_again settles_again =
+            settles_again
+            ∙ (ap (behind w) (attempted_again
+            ∙ (ap (λ (x : State). attempts_on w x x.stack) comes-there
+            ∙ (ap (attempts_on w reached) back.stack ∙ ap (attempts_line w (record reached { stack = going.rest }) going.frame) here.there)))
+            ∙ (attempts-again w under going.frame here.line here.named c here.tied here.awaits going.ending ready-there
+            ∙ sym step-there))
 
 -- ---- over the parts of a machine
 

@@ -7,7 +7,6 @@ use Rattle.std.proofs.lemmas.Option.{same_Some, none-some}
 use Rattle.heap_objects.specs.declared.datum.Datum.{Datum}
 use Rattle.heap_objects.specs.declared.datum.Datum.TheVariants as datum
 use Rattle.const_pool.specs.declared.class.ClassFile.{ClassFile}
-use Rattle.const_pool.specs.References.{Reference, named_field, named_method}
 use Rattle.code_model.specs.declared.instr.Arg.{Arg}
 use Rattle.code_model.specs.declared.instr.Arg.TheVariants as arg
 use Rattle.code_model.specs.declared.instr.Instr.{Instr}
@@ -15,21 +14,20 @@ use Rattle.code_model.specs.Instructions.{instruction_at, end_of}
 use Rattle.jvm_model.specs.declared.family.Family.{Family}
 use Rattle.jvm_model.specs.declared.family.Family.TheVariants as family
 use Rattle.jvm_model.specs.declared.program.Program.{Program}
-use Rattle.jvm_model.specs.Data.{Locals, Operands, Local, Nop, Constant, Load, Store, Arrange, BinaryOfInts, BinaryOfLongs, DivisionOfInts, DivisionOfLongs, ShiftOfLong, UnaryOfInt, UnaryOfLong, Lcmp, Iinc, Branch, Goto, Switch, Jsr, Ret, Return, Operation, Within, Getstatic, Putstatic, Invokestatic, Invokevirtual, Athrow, Monitor, Newarray, Arraylength, LoadElement, StoreElement, Instruction}
+use Rattle.jvm_model.specs.Data.{Locals, Operands, Local, Nop, Constant, Load, Store, Arrange, BinaryOfInts, BinaryOfLongs, DivisionOfInts, DivisionOfLongs, ShiftOfLong, UnaryOfInt, UnaryOfLong, Lcmp, Iinc, Branch, Goto, Switch, Jsr, Ret, Return, Naming, Operation, Within, Named, Athrow, Monitor, Newarray, Arraylength, LoadElement, StoreElement, Instruction}
 use Rattle.jvm_model.specs.Families.{family_of}
-use Rattle.jvm_model.specs.Lines.{value_in, slot_in, increment_in, target_in, keys_in, local_of, constant_in, getstatic_of, invokevirtual_of, pool_operation, ObjectRow, object_among, object_rows, other_operation, operation_by, is_last, next_of, targets_of, instruction_of}
+use Rattle.jvm_model.specs.Lines.{value_in, slot_in, increment_in, target_in, keys_in, local_of, constant_in, has_dimensions, interface_naming, multi_naming, named_by, naming_of, ObjectRow, object_among, object_rows, other_operation, operation_by, is_last, next_of, targets_of, instruction_of}
 use Rattle.jvm_model.specs.LocalRules.{within}
 use Rattle.jvm_model.specs.Methods.{method_code}
 use Rattle.jvm_model.specs.Originals.{original}
-use Rattle.jvm_model.specs.Programs.{class_at, class_of_reference, place_of_method}
-use Rattle.jvm_model.specs.Rules.{is_out, is_println}
+use Rattle.jvm_model.specs.Programs.{class_at, place_of_method}
 use Rattle.jvm_model.specs.Values.{as_value}
 use Rattle.jvm_basic.specs.Rules.{datum_in, placed, going, needs, rule_by, rule_of}
 use Rattle.jvm_steps.specs.declared.line.Action.{Action}
 use Rattle.jvm_steps.specs.declared.line.Action.TheVariants as action
 use Rattle.jvm_steps.specs.declared.line.Line.{Line}
 use Rattle.jvm_steps.specs.Acts.{is_athrow, is_last_family, next_in}
-use Rattle.jvm_steps.specs.Lines.{local_action, invokes_by, action_of, line_with, line_of, line_at}
+use Rattle.jvm_steps.specs.Lines.{local_action, named_as, action_of, line_with, line_of, line_at}
 
 -- ---- a line and what it does
 
@@ -42,22 +40,22 @@ abbrev pub IsRuleOf : Line → Local → Type 0
 IsRuleOf line l =
     (m : Locals) (o : Operands) → rule_of line.instr line.constant line.next m o ≡ placed line.next (targets_of line.instr.arg) m o (within l m o)
 
-pub record IsTied (p : Program) (line : Line) (op : Operation) : Type 0 where
-  pub action : action_of p op ≡ Some line.action
+pub record IsTied (line : Line) (op : Operation) : Type 0 where
+  pub action : action_of op ≡ line.action
   pub next : next_of op line.next ≡ next_in line
   pub alone : (l : Local) → op ≡ Within l → IsRuleOf line l
 
 -- with its operation
-pub record Stands (p : Program) (line : Line) (i : Instruction) : Type 0 where
+pub record Stands (line : Line) (i : Instruction) : Type 0 where
   pub op : Operation
   pub is : i ≡ instruction_by op line
-  pub tied : IsTied p line op
+  pub tied : IsTied line op
 
-abbrev pub Tie : Program → Option Line → Option Instruction → Type 0
-Tie p None None = Unit {0}
-Tie p None (Some i) = ⊥
-Tie p (Some line) None = ⊥
-Tie p (Some line) (Some i) = Stands p line i
+abbrev pub Tie : Option Line → Option Instruction → Type 0
+Tie None None = Unit {0}
+Tie None (Some i) = ⊥
+Tie (Some line) None = ⊥
+Tie (Some line) (Some i) = Stands line i
 
 -- ---- instructions that see their frame alone
 
@@ -134,13 +132,13 @@ both false b h = absurd (false≢true h)
 
 -- ---- the line of an instruction
 
-module _ (p : Program) (c : ClassFile) (i : Instr) where
+module _ (c : ClassFile) (i : Instr) where
   abbrev constant : Option Datum
   constant = constant_in c.pool i.arg
 
   -- the line and the instruction of an operation
   abbrev the_line : Option Operation → Option Line
-  the_line o = option_map (line_with c i) (option_and_then (action_of p) o)
+  the_line o = option_map (line_with c i) (option_map action_of o)
 
   abbrev the_instruction : Option Operation → Option Instruction
   the_instruction o = option_map (λ op. record { operation = op; own = i.at; next = next_of op (end_of i); targets = targets_of i.arg }) o
@@ -167,7 +165,7 @@ module _ (p : Program) (c : ClassFile) (i : Instr) where
     local _ = l
 
   tied-local : (f : Family) → (f ≡ family.Elsewhere → ⊥) → family_of i.op ≡ f → (x : Option Local) → local_of f i.arg constant ≡ x
-      → Tie p (the_line (option_map Within x)) (the_instruction (option_map Within x))
+      → Tie (the_line (option_map Within x)) (the_instruction (option_map Within x))
   tied-local f apart is None e = tt
   tied-local f apart is (Some l) e = record {
     op = Within l;
@@ -185,61 +183,18 @@ module _ (p : Program) (c : ClassFile) (i : Instr) where
   behind : family_of i.op ≡ family.Elsewhere → Some (end_of i) ≡ cond (is_last_family (family_of i.op)) None (Some (end_of i))
   behind is = ap (λ x. cond (is_last_family x) None (Some (end_of i))) (sym is)
 
-  tied-getstatic : family_of i.op ≡ family.Elsewhere → (o : Option Reference) → Tie p (the_line (option_and_then getstatic_of o)) (the_instruction (option_and_then getstatic_of o))
-  tied-getstatic is None = tt
-  tied-getstatic is (Some r) = by (is_out r) refl where
-    by : (b : Bool) → is_out r ≡ b → Tie p (the_line (cond b (Some (Getstatic r)) None)) (the_instruction (cond b (Some (Getstatic r)) None))
-    by false e = tt
-    by true e =
-        subst (λ (a : Option Action). Tie p (option_map (line_with c i) a) (the_instruction (Some (Getstatic r)))) (sym (ap (λ x. cond x (Some action.Out) None) e))
-        (record {
-          op = Getstatic r;
-          is = refl;
-          tied = record { action = ap (λ x. cond x (Some action.Out) None) e; next = behind is; alone = λ k same. absurd cc };
-        })
-
-  tied-invokevirtual : family_of i.op ≡ family.Elsewhere → (o : Option Reference) → Tie p (the_line (option_and_then invokevirtual_of o)) (the_instruction (option_and_then invokevirtual_of o))
-  tied-invokevirtual is None = tt
-  tied-invokevirtual is (Some r) = by (is_println r) refl where
-    by : (b : Bool) → is_println r ≡ b → Tie p (the_line (cond b (Some (Invokevirtual r)) None)) (the_instruction (cond b (Some (Invokevirtual r)) None))
-    by false e = tt
-    by true e =
-        subst (λ (a : Option Action). Tie p (option_map (line_with c i) a) (the_instruction (Some (Invokevirtual r)))) (sym (ap (λ x. cond x (Some action.Println) None) e))
-        (record {
-          op = Invokevirtual r;
-          is = refl;
-          tied = record { action = ap (λ x. cond x (Some action.Println) None) e; next = behind is; alone = λ k same. absurd cc };
-        })
-
-  -- what invokestatic does, by whether there is the class
-  invoked-on : (r : Reference) (class : Option ℕ) → is_athrow (invokes_by p r class) ≡ false
-  invoked-on r None = refl
-  invoked-on r (Some class) = refl
-
-  tied-invokestatic : family_of i.op ≡ family.Elsewhere → (o : Option Reference) → Tie p (the_line (option_map Invokestatic o)) (the_instruction (option_map Invokestatic o))
-  tied-invokestatic is None = tt
-  tied-invokestatic is (Some r) = record {
-    op = Invokestatic r;
-    is = refl;
-    tied = record {
-      action = refl;
-      next = behind is ∙ ap (λ b. cond b None (cond (is_last_family (family_of i.op)) None (Some (end_of i)))) (sym (invoked-on r (class_of_reference p r)));
-      alone = λ k same. absurd cc;
-    };
-  }
-
   abbrev TiedOperation : Option Operation → Type 0
-  TiedOperation o = Tie p (the_line o) (the_instruction o)
+  TiedOperation o = Tie (the_line o) (the_instruction o)
 
   either : (b : Bool) (x y : Option Operation) → TiedOperation x → TiedOperation y → TiedOperation (cond b x y)
   either true x y tx ty = tx
   either false x y tx ty = ty
 
-  tied-pool : family_of i.op ≡ family.Elsewhere → (index : ℕ) → TiedOperation (pool_operation c i.op index)
-  tied-pool is index =
-      either (i.op == 178) _ _ (tied-getstatic is (named_field c.pool index))
-      (either (i.op == 182) _ _ (tied-invokevirtual is (named_method c.pool index))
-      (either (i.op == 184) _ _ (tied-invokestatic is (named_method c.pool index)) tt))
+  tied-naming : family_of i.op ≡ family.Elsewhere → (o : Option Naming) → TiedOperation (option_and_then named_by o)
+  tied-naming is None = tt
+  tied-naming is (Some n) =
+      either (has_dimensions n) (Some (Named n)) None
+      (record { op = Named n; is = refl; tied = record { action = refl; next = behind is; alone = λ k same. absurd cc } }) tt
 
   -- ---- instructions that see objects
 
@@ -251,10 +206,7 @@ module _ (p : Program) (c : ClassFile) (i : Instr) where
   tied-object is (LoadElement k) object = record { op = LoadElement k; is = refl; tied = record { action = refl; next = behind is; alone = λ k same. absurd cc } }
   tied-object is (StoreElement k) object = record { op = StoreElement k; is = refl; tied = record { action = refl; next = behind is; alone = λ k same. absurd cc } }
   tied-object is (Within l) object = absurd (false≢true object)
-  tied-object is (Getstatic r) object = absurd (false≢true object)
-  tied-object is (Putstatic r) object = absurd (false≢true object)
-  tied-object is (Invokestatic r) object = absurd (false≢true object)
-  tied-object is (Invokevirtual r) object = absurd (false≢true object)
+  tied-object is (Named n) object = absurd (false≢true object)
 
   tied-rows : family_of i.op ≡ family.Elsewhere → (rows : List ObjectRow) → are_objects rows ≡ true → TiedOperation (object_among rows i.op)
   tied-rows is [] objects = tt
@@ -263,7 +215,9 @@ module _ (p : Program) (c : ClassFile) (i : Instr) where
       either (i.op == r.op) _ _ (tied-object is r.operation all.0) (tied-rows is rest all.1)
 
   tied-other : family_of i.op ≡ family.Elsewhere → (a : Arg) → TiedOperation (other_operation c i.op a)
-  tied-other is (arg.Pool index) = tied-pool is index
+  tied-other is (arg.Pool index) = tied-naming is (naming_of c i.op index)
+  tied-other is (arg.Interface index count zero) = tied-naming is (interface_naming c i.op index)
+  tied-other is (arg.Multi index dimensions) = tied-naming is (multi_naming c i.op index dimensions)
   tied-other is (arg.Array code) = either (i.op == 188) _ _ (tied-object is (Newarray code) refl) tt
   tied-other is arg.Plain = tied-rows is object_rows refl
   tied-other is _ = tt
@@ -274,19 +228,19 @@ module _ (p : Program) (c : ClassFile) (i : Instr) where
   tied-by family.Elsewhere is = tied-other is i.arg
   tied-by f is = tied-local f (λ e. absurd cc) is (local_of f i.arg constant) refl
 
-  tied-instruction : Tie p (line_of p c i) (instruction_of c i)
+  tied-instruction : Tie (line_of c i) (instruction_of c i)
   tied-instruction = tied-by (family_of i.op) refl
 
 -- ---- at an offset
 
-lifted : {A : Type 0} (p : Program) (o : Option A) (f : A → Option Line) (g : A → Option Instruction) → ((x : A) → Tie p (f x) (g x)) → Tie p (option_and_then f o) (option_and_then g o)
-lifted p None f g each = tt
-lifted p (Some x) f g each = each x
+lifted : {A : Type 0} (o : Option A) (f : A → Option Line) (g : A → Option Instruction) → ((x : A) → Tie (f x) (g x)) → Tie (option_and_then f o) (option_and_then g o)
+lifted None f g each = tt
+lifted (Some x) f g each = each x
 
-pub tied-at : (p : Program) (method at : ℕ) → Tie p (line_at p method at) ((original p).at method at)
+pub tied-at : (p : Program) (method at : ℕ) → Tie (line_at p method at) ((original p).at method at)
 tied-at p method at =
-    lifted p (place_of_method p method) _ _
-    (λ place. lifted p (class_at p place.class) _ _
-    (λ c. lifted p (method_code c place.position) _ _
-    (λ code. lifted p (instruction_at code.code at) _ _
-    (λ i. tied-instruction p c i))))
+    lifted (place_of_method p method) _ _
+    (λ place. lifted (class_at p place.class) _ _
+    (λ c. lifted (method_code c place.position) _ _
+    (λ code. lifted (instruction_at code.code at) _ _
+    (λ i. tied-instruction c i))))

@@ -1,10 +1,9 @@
 -- What becomes of a state by the line of its current frame (JVM Specification 2.6.4, 2.6.5, 2.10, 6.5): what `applies` of the model
 -- says of the instruction that the line stands for. From the state without that frame, and the frame.
-use Rattle.std.specs.Prelude.{◌≡◌, ℕ, ℤ, Bool, true, false, ◌&&◌, ◌||◌, is_some, is_none, List, [], ◌∷◌, ◌++◌, drop, Option, Some, None, Result, OnOk, if◌then◌else◌}
+use Rattle.std.specs.Prelude.{◌≡◌, ℕ, Bool, true, false, ◌&&◌, ◌||◌, is_some, is_none, List, [], ◌∷◌, ◌++◌, Option, Some, None, Result, OnOk, if◌then◌else◌}
 use Rattle.jf_bytes.specs.declared.error.NoMemory.{NoMemory}
 use Rattle.std.specs.Option.{option_map}
 use Rattle.heap_objects.specs.declared.datum.Datum.{Datum}
-use Rattle.heap_objects.specs.declared.Value.TheVariants.{Int, Ref}
 use Rattle.const_pool.specs.declared.descriptor.Kind.{Kind}
 use Rattle.frame_stack.specs.FrameLists.{PlacedFrame, has_frame}
 use Rattle.jvm_model.specs.declared.family.Family.{Family}
@@ -14,24 +13,24 @@ use Rattle.jvm_model.specs.declared.program.Program.{Program}
 use Rattle.jvm_model.specs.declared.state.Entry.{Entry}
 use Rattle.jvm_model.specs.declared.state.Entry.TheVariants.{Active, Initializing}
 use Rattle.jvm_model.specs.declared.state.Frame.{Frame}
-use Rattle.jvm_model.specs.declared.state.Phase.{Phase}
-use Rattle.jvm_model.specs.declared.state.Phase.TheVariants.{Fresh}
-use Rattle.jvm_model.specs.declared.state.Shared.{Shared}
 use Rattle.jvm_model.specs.declared.state.State.{State}
-use Rattle.jvm_model.specs.Data.{Operands, World, Nop, Within, Instruction, Outcome, Returns, Done}
+use Rattle.jvm_model.specs.Data.{Operands, World, Naming, Nop, Within, Instruction, Outcome, Returns, Done}
 use Rattle.jvm_model.specs.Applies.{breaks, goes, throws_at, applies}
 use Rattle.jvm_model.specs.Families.{family_of}
 use Rattle.jvm_model.specs.Lines.{targets_of}
 use Rattle.jvm_model.specs.LocalRules.{returns, arithmetic_exception, by_zero}
+use Rattle.jvm_model.specs.Naming.{newly_loaded}
+use Rattle.jvm_model.specs.NamingRules.{does_named}
 use Rattle.jvm_model.specs.ObjectRules.{loads_element, makes, measures, place_of, stores_element, storing_of, throws, watches}
 use Rattle.jvm_model.specs.Originals.{original}
-use Rattle.jvm_model.specs.Rules.{is_print_stream, line_text, invokes_static}
-use Rattle.jvm_model.specs.SharedState.{no_class_definition, phase_of, raised}
+use Rattle.jvm_model.specs.Run.{starts}
+use Rattle.jvm_model.specs.SharedState.{raised}
 use Rattle.jvm_model.specs.Values.{as_value, int_of, ref_of, with_value}
 use Rattle.jvm_basic.specs.declared.effect.Effect.{Effect}
 use Rattle.jvm_basic.specs.declared.effect.Effect.TheVariants.{Next, Throws, Bad, Other}
 use Rattle.jvm_basic.specs.Outcomes.{Outcome as Comes, GoesOn, Raises, Breaks, Leaves}
 use Rattle.jvm_basic.specs.Rules.{rule_of}
+use Rattle.jvm_named.specs.Names.{naming_view}
 use Rattle.jvm_steps.specs.declared.line.Action.{Action}
 use Rattle.jvm_steps.specs.declared.line.Action.TheVariants as action
 use Rattle.jvm_steps.specs.declared.line.Line.{Line}
@@ -98,24 +97,6 @@ returns_or_ends w line s f _ = record s { ending = Some (Unverifiable f.method l
 abbrev pub acts_return : World → Line → Option Kind → State → Frame → State
 acts_return w line k s f = returns_or_ends w line s f (returns k f.operands)
 
--- ---- System.out and println
-
-abbrev pub acts_out : Line → State → Frame → State
-acts_out line s f = goes s f line.instr.at f.locals (Ref 3 ∷ f.operands) (Some line.next)
-
--- the number that println prints
-abbrev pub printable : Operands → Option ℤ
-printable (Int n ∷ Ref r ∷ below) = if is_print_stream r then Some n else None
-printable _ = None
-
-abbrev pub prints_number : Line → State → Frame → Option ℤ → State
-prints_number line s f None = breaks s f line.instr.at
-prints_number line s f (Some n) =
-    goes (record s { output = s.output ++ line_text n }) f line.instr.at f.locals (drop 2 f.operands) (Some line.next)
-
-abbrev pub acts_println : Line → State → Frame → State
-acts_println line s f = prints_number line s f (printable f.operands)
-
 -- ---- by what the model's rule asks for
 
 -- where it changes nothing that is shared
@@ -126,14 +107,23 @@ acts_asked w line s f q = (applies w (original w.program) (placed_line line) q s
 abbrev pub acts_done : World → Line → State → Frame → Done → State
 acts_done w line s f d = acts_asked w line (record s { shared = d.shared }) f d.outcome
 
--- ---- invokestatic
+-- ---- instructions that name something
 
-abbrev pub acts_invokestatic : World → Line → ℕ → Option ℕ → State → Frame → State
-acts_invokestatic w line class method s f =
-    acts_asked w line s f (invokes_static w [] (Some class) method s.shared f.operands).outcome
+-- with the classes that it loads
+abbrev pub ready_for : World → Naming → State → Frame → State
+ready_for w n s f =
+    record s { shared = record s.shared { loaded = s.shared.loaded ++ newly_loaded w.program s.shared.loaded n f.operands } }
 
-abbrev pub acts_absent : World → List ℕ → State → Frame → State
-acts_absent w name s f = throws_at s f (raised w s.shared no_class_definition (Some name))
+-- what its rule says over what is loaded then
+abbrev pub named_done : World → Naming → State → Frame → Done
+named_done w n s f = does_named w.program n (ready_for w n s f).shared f.locals f.operands
+
+-- what a rule leaves and writes
+abbrev pub with_done : Done → State → State
+with_done d s = record s { shared = d.shared; output = s.output ++ d.wrote }
+
+abbrev pub acts_named : World → Line → Naming → State → Frame → State
+acts_named w line n s f = let d = named_done w n s f in acts_asked w line (with_done d s) f d.outcome
 
 -- ---- instructions that see objects
 
@@ -164,10 +154,7 @@ acts_store w line k s f =
 abbrev pub acts_by : World → Line → State → Frame → Action → State
 acts_by w line s f action.Local = acts_alone w line s f
 acts_by w line s f (action.Return k) = acts_return w line k s f
-acts_by w line s f action.Out = acts_out line s f
-acts_by w line s f action.Println = acts_println line s f
-acts_by w line s f (action.Invokestatic class method) = acts_invokestatic w line class method s f
-acts_by w line s f (action.Absent name) = acts_absent w name s f
+acts_by w line s f (action.Named n) = acts_named w line (naming_view n) s f
 acts_by w line s f action.Athrow = acts_athrow w line s f
 acts_by w line s f action.Monitor = acts_monitor w line s f
 acts_by w line s f action.Arraylength = acts_arraylength w line s f
@@ -232,31 +219,26 @@ goes_on_in ms p = is_none p.ending && (has_frame p.frames.frames && is_unmarked 
 
 -- ---- a class that is initialized before
 
-abbrev pub fresh_class : ℕ → Option Phase → Option ℕ
-fresh_class class (Some Fresh) = Some class
-fresh_class class _ = None
+abbrev pub is_named : Action → Bool
+is_named (action.Named n) = true
+is_named _ = false
 
--- before a line with this action (5.5): that of a static method that is invoked, where it is fresh
-abbrev pub awaited : Shared → Action → Option ℕ
-awaited s (action.Invokestatic class (Some method)) = fresh_class class (phase_of s class)
-awaited s _ = None
+-- by a line with this action (5.5)
+abbrev pub awaited : World → State → Frame → Action → Option ℕ
+awaited w s f (action.Named n) = starts (named_done w (naming_view n) s f).outcome
+awaited w s f _ = None
 
-abbrev pub awaited_by : Shared → Option Line → Option ℕ
-awaited_by s None = None
-awaited_by s (Some line) = awaited s line.action
+abbrev pub awaited_by : World → State → Frame → Option Line → Option ℕ
+awaited_by w s f None = None
+awaited_by w s f (Some line) = awaited w s f line.action
 
--- before the line of the current frame
-abbrev pub awaited_on : World → Shared → List Entry → Option ℕ
-awaited_on w s (Active f ∷ below) = awaited_by s (line_at w.program f.version f.place)
+-- by the line of the current frame
+abbrev pub awaited_on : World → State → List Entry → Option ℕ
+awaited_on w s (Active f ∷ below) = awaited_by w (record s { stack = below }) f (line_at w.program f.version f.place)
 awaited_on w s _ = None
 
 abbrev pub awaited_in : World → State → Option ℕ
-awaited_in w s = awaited_on w s.shared s.stack
-
--- where none is, the line is attempted
-abbrev pub IsAttempt : World → Option ℕ → State → State → Type 0
-IsAttempt w None old new = new ≡ attempts_on w old old.stack
-IsAttempt w (Some class) old new = new ≡ old
+awaited_in w s = awaited_on w s s.stack
 
 -- a return that no caller sees: the activation of a static initializer ends
 abbrev pub ends_initializer : Line → State → Frame → Outcome → State
