@@ -52,3 +52,4 @@ pub mod OneClass
 pub mod Quiet
 pub mod Starting
 pub mod Meanings
+pub mod Sound
