@@ -11,3 +11,4 @@ pub mod BothWays
 mod Onward
 mod Within
 mod Families
+mod Unresolved
