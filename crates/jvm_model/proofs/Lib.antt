@@ -60,3 +60,11 @@ pub mod WorkedLines
 pub mod WorkedClasses
 pub mod WorkedInvocations
 pub mod WorkedSeveral
+pub mod SoundClasses
+pub mod SoundKinds
+pub mod SoundObjects
+pub mod SoundRules
+pub mod SoundAttempts
+pub mod SoundSteps
+pub mod SoundLines
+pub mod SoundRuns

@@ -1,15 +1,15 @@
 -- Loading keeps the supertypes of what is loaded loaded, and walks go from a loaded class to loaded ones (JVM Specification 5.3, 5.4.3).
 use Rattle.std.proofs.Common.{◌≡◌, ℕ, zero, suc, Bool, true, false, List, [], ◌∷◌, ◌++◌, map, ap, sym, subst, refl, ◌∙◌, arith}
-use Rattle.std.specs.Prelude.{◌+◌, length, Option, Some, None, filter_map, flat_map, not, codes, unwrap_or, ◌==◌, ◌||◌, ◌&&◌, if◌then◌else◌}
+use Rattle.std.specs.Prelude.{◌+◌, length, Option, Some, None, filter_map, flat_map, not, unwrap_or, ◌==◌, ◌||◌, ◌&&◌, if◌then◌else◌}
 use Rattle.std.specs.Bool.{beq}
 use Rattle.std.specs.List.{AllByRecursion, cons_option}
 use Rattle.std.specs.Option.{option_and_then, option_map_or, option_to_list}
 use Rattle.const_pool.specs.declared.class.ClassFile.{ClassFile}
 use Rattle.const_pool.specs.References.{named_class}
 use Rattle.jvm_model.specs.Kinds.{Element, Primitive, Named, array_from, array_of, is_array_name, meaning_of}
-use Rattle.jvm_model.specs.Load.{Fault, NoClass, Circular, Incompatible, Loading, Need, There, Begun, Fresh, behind_needs, by_standing, class_needs, done, go_on, is_among, is_met, load_element, load_named, load_needs, load_of, need, need_fault, needs_of, standing_of, unless}
+use Rattle.jvm_model.specs.Load.{Fault, NoClass, Circular, Incompatible, Loading, Need, There, Begun, Fresh, behind_needs, by_standing, class_needs, done, is_among, is_met, load_element, load_named, load_needs, load_of, need, need_fault, needs_of, standing_of, unless}
 use Rattle.jvm_model.specs.Lookup.{interface_names, interfaces_of, is_interface, superclass_of, superclasses, superclasses_within, superinterfaces, superinterfaces_within, supertypes, supertypes_within}
-use Rattle.jvm_model.specs.Programs.{class_at, class_named, super_of}
+use Rattle.jvm_model.specs.Programs.{class_at, class_named}
 use Rattle.jvm_model.specs.Sound.{HasSupertypes, IsLoaded}
 use Rattle.jvm_model.specs.declared.program.Program.{Program}
 
@@ -114,7 +114,7 @@ some-some a b e = cc
 none-some : (n : ℕ) → None ≡ Some n → ⊥
 none-some n e = cc
 
-plain-element : (name : List ℕ) → is_array_name name ≡ false → (meaning_of name).element ≡ Named name
+pub plain-element : (name : List ℕ) → is_array_name name ≡ false → (meaning_of name).element ≡ Named name
 plain-element name plain =
     ap (λ (b : Bool). (if b then unwrap_or (array_from 0 name) (array_of 0 (Named name)) else array_of 0 (Named name)).element) plain
 
@@ -293,8 +293,8 @@ module _ (p : Program) (loaded : List ℕ) (above : HasSupertypes p loaded) wher
   supertypes-within (suc n) class is = (
     is,
     all-both (IsLoaded loaded) (flat_map (supertypes_within p n) (interfaces_of p class)) (flat_map (supertypes_within p n) (superclass_of p class))
-    (all-flat (IsLoaded loaded) (supertypes_within p n) (supertypes-within n) (interfaces_of p class) (above.interfaces class is))
-    (all-flat (IsLoaded loaded) (supertypes_within p n) (supertypes-within n) (superclass_of p class) (above.superclass class is)),
+        (all-flat (IsLoaded loaded) (supertypes_within p n) (supertypes-within n) (interfaces_of p class) (above.interfaces class is))
+        (all-flat (IsLoaded loaded) (supertypes_within p n) (supertypes-within n) (superclass_of p class) (above.superclass class is)),
   )
 
   pub superclasses-loaded : (class : ℕ) → IsLoaded loaded class → AllByRecursion (IsLoaded loaded) (superclasses p class)

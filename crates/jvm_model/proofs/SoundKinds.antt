@@ -10,7 +10,7 @@ use Rattle.const_pool.specs.BuiltIn.{built_in_names}
 use Rattle.jvm_model.specs.declared.program.Program.{Program}
 use Rattle.jvm_model.specs.Descriptors.{same_text}
 use Rattle.jvm_model.specs.KindNumbers.{base_of_class, class_of_base, kind_number, user_count}
-use Rattle.jvm_model.specs.Kinds.{Element, Primitive, Named, Meaning, array_from, array_of, base_of_element, before_semicolon, element_of, kind_named, meaning_of, parts_named, primitive_code}
+use Rattle.jvm_model.specs.Kinds.{Element, Primitive, Named, Meaning, array_from, array_of, before_semicolon, element_of, kind_named, meaning_of, parts_named, primitive_code}
 use Rattle.jvm_model.specs.Load.{load_of}
 use Rattle.jvm_model.specs.Programs.{class_named, has_name}
 use Rattle.jvm_model.specs.SharedState.{class_of_kind, kind_for}

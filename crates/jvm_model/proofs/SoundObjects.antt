@@ -1,5 +1,5 @@
 -- The objects of a heap stay of classes that are loaded: those that are there, those that are changed, and new ones.
-use Rattle.std.proofs.Common.{◌≡◌, ℕ, zero, suc, ◌+◌, ◌-◌, ◌*◌, ◌≤◌, Bool, true, false, List, [], ◌∷◌, ◌++◌, length, sym, subst, refl, ◌∙◌, arith}
+use Rattle.std.proofs.Common.{◌≡◌, ℕ, zero, suc, ◌+◌, ◌-◌, ◌*◌, ◌≤◌, Bool, true, false, List, [], ◌∷◌, length, sym, subst, refl, ◌∙◌, arith}
 use Rattle.std.specs.Prelude.{Option, Some, None, is_some, slice_get, nat_le, pos, ◌==◌, if◌then◌else◌}
 use Rattle.std.specs.List.{AllByRecursion}
 use Rattle.std.specs.Option.{option_map, option_map_or}
@@ -12,7 +12,7 @@ use Rattle.heap_objects.specs.Interning.{number_of, with_number}
 use Rattle.heap_objects.specs.Objects.{changed_at, kind_of, with_slot, with_units}
 use Rattle.const_pool.specs.declared.class.ClassFile.{ClassFile}
 use Rattle.const_pool.specs.declared.class.Member.{Member}
-use Rattle.jvm_model.specs.Constants.{FieldConstant, Number, Units, Setting, can_intern, constant_for, goes_on, set, sets_constants, sets_field, sets_fields, sets_string, then_sets}
+use Rattle.jvm_model.specs.Constants.{FieldConstant, Number, Units, Setting, can_intern, constant_for, goes_on, set, sets_constants, sets_field, sets_fields, sets_string}
 use Rattle.jvm_model.specs.CreationRules.{with_arrays, with_parts}
 use Rattle.jvm_model.specs.Data.{Shared, World}
 use Rattle.jvm_model.specs.KindNumbers.{user_count}

@@ -1,12 +1,12 @@
 -- What an instruction that names something gives (JVM Specification 5.4.3, 6.5): what is shared stays sound, and what is invoked or
 -- initialized is of a class that is loaded.
-use Rattle.std.proofs.Common.{◌≡◌, ℕ, zero, suc, ◌+◌, ◌*◌, ◌≤◌, ◌<◌, Bool, true, false, List, [], ◌∷◌, ◌++◌, length, ap, sym, subst, refl, ◌∙◌, arith}
+use Rattle.std.proofs.Common.{◌≡◌, ℕ, zero, suc, ◌+◌, ◌*◌, ◌≤◌, Bool, true, false, List, [], ◌∷◌, ◌++◌, length, ap, sym, subst, refl, ◌∙◌, arith}
 use Rattle.std.proofs.Math.Nat.{mod-add-div'}
 use Rattle.std.proofs.lemmas.List.{append-nil}
-use Rattle.std.specs.Prelude.{◌/◌, ◌%◌, not, codes, drop, map, Option, Some, None, Result, Ok, Err, slice_get, nat_le, nat_lt, ℤ, pos, negsuc, ◌==◌, ◌&&◌, ◌||◌, if◌then◌else◌}
+use Rattle.std.specs.Prelude.{◌/◌, ◌%◌, not, codes, drop, map, Option, Some, None, Result, Ok, Err, slice_get, nat_le, nat_lt, ℤ, pos, negsuc, ◌==◌, ◌&&◌, if◌then◌else◌}
 use Rattle.std.specs.Bool.{beq}
 use Rattle.std.specs.List.{AllByRecursion}
-use Rattle.std.specs.Option.{ok_or, option_and_then, option_map, option_map_or, option_to_list}
+use Rattle.std.specs.Option.{option_and_then, option_map, option_map_or, option_to_list}
 use Rattle.heap_objects.specs.declared.datum.Datum.{Datum}
 use Rattle.heap_objects.specs.declared.datum.Datum.TheVariants as datum
 use Rattle.heap_objects.specs.declared.Value.{Value}
@@ -17,21 +17,21 @@ use Rattle.jvm_model.specs.declared.program.Program.{Program}
 use Rattle.jvm_model.specs.CreationRules.{allocates, answers, array_over, casts, casts_to, class_cast, counts_from, counts_of, has_no_instances, instantiation_error, is_text_class, lengths_of, makes_array_of, makes_arrays, makes_by_counts, makes_instance, makes_multi, makes_new, makes_object, slots_of_arrays, tells_instance, with_arrays, zero_of}
 use Rattle.jvm_model.specs.Data.{Locals, Operands, MethodPlace, Phase, Fresh, Running, Ready, Erroneous, Shared, Outcome, GoesOn, Next, Invokes, Initializes, Throws, Raises, Breaks, Done}
 use Rattle.jvm_model.specs.FieldRules.{Putting, field_owner, gets_instance, gets_of, gets_static, has_field, held_of, is_static_field, kind_by, named_field, pushes_static, puts_instance, puts_into, puts_static, putting_of, sets_static, slot_of, static_field}
-use Rattle.jvm_model.specs.InvocationRules.{Selecting, Virtual, OfInterface, Special, abstract_method, arguments_by, does_built_in, initialized_object, initializes_object, invokes_instance, invokes_native, invokes_number, invokes_on, invokes_selected, invokes_static_method, invokes_with_static, is_plain_initializer, named_method, names_interface, not_of_class, prints_line, receiver_in, reference_to, runs_built_in, selected_by, unsatisfied_link}
+use Rattle.jvm_model.specs.InvocationRules.{Selecting, Virtual, OfInterface, Special, abstract_method, arguments_by, does_built_in, initialized_object, initializes_object, invokes_instance, invokes_number, invokes_on, invokes_selected, invokes_static_method, invokes_with_static, is_plain_initializer, named_method, names_interface, not_of_class, prints_line, receiver_in, reference_to, runs_built_in, selected_by, unsatisfied_link}
 use Rattle.jvm_model.specs.KindNumbers.{user_count}
 use Rattle.jvm_model.specs.Kinds.{kind_named, meaning_of}
 use Rattle.jvm_model.specs.Layouts.{layout}
 use Rattle.jvm_model.specs.Load.{Fault, NoClass, Circular, Incompatible, error_of, load_of}
 use Rattle.jvm_model.specs.LocalRules.{pushes, replaces}
-use Rattle.jvm_model.specs.Lookup.{MemberPlace, Resolution, Found, Fails, first_in, field_at, found_or, incompatible_change, is_below, is_interface, method_at, method_order, resolved_field, resolved_method, superclass_of, superclasses, superinterfaces, supertypes}
-use Rattle.jvm_model.specs.Naming.{◌>>=◌, Naming, New, Getfield, Putfield, Getstatic, Putstatic, Invokevirtual, Invokespecial, Invokestatic, Invokeinterface, Checkcast, Instanceof, Anewarray, Multianewarray, extends, found, is_below_kind, is_instance, is_null, kind_unless, message_of, newly_loaded, receiver, resolved_kind, resolved_name, resolves, unless_refused, where_fitting}
+use Rattle.jvm_model.specs.Lookup.{MemberPlace, Fails, first_in, field_at, found_or, incompatible_change, is_below, is_interface, method_at, method_order, resolved_field, resolved_method, superclasses, superinterfaces, supertypes}
+use Rattle.jvm_model.specs.Naming.{◌>>=◌, Naming, New, Getfield, Putfield, Getstatic, Putstatic, Invokevirtual, Invokespecial, Invokestatic, Invokeinterface, Checkcast, Instanceof, Anewarray, Multianewarray, extends, found, is_below_kind, is_instance, is_null, kind_unless, newly_loaded, receiver, resolved_kind, resolved_name, resolves, unless_refused, where_fitting}
 use Rattle.jvm_model.specs.NamingRules.{does_named}
-use Rattle.jvm_model.specs.ObjectRules.{done, makes, makes_array}
-use Rattle.jvm_model.specs.Programs.{class_named, name_at, number_from, number_of_method, place_of_method, same_place, super_of}
+use Rattle.jvm_model.specs.ObjectRules.{done, makes}
+use Rattle.jvm_model.specs.Programs.{class_named, name_at, number_from, number_of_method, same_place, super_of}
 use Rattle.jvm_model.specs.Rules.{initialized, is_println, when_ready}
-use Rattle.jvm_model.specs.Selection.{candidate, is_abstract, is_static, nearest, selected}
+use Rattle.jvm_model.specs.Selection.{candidate, is_abstract, is_static, nearest}
 use Rattle.jvm_model.specs.SharedState.{class_of, class_of_kind, negative_array_size, no_class_definition, no_such_field, no_such_method, null, null_pointer, phase_of, static_at, throwable}
-use Rattle.jvm_model.specs.Sound.{HasClass, HasLoadedCaller, IsBuiltInName, IsFit, IsLoaded, IsOfLoaded, IsSoundDone, IsSoundOutcome, IsSoundShared, IsUsable}
+use Rattle.jvm_model.specs.Sound.{HasClass, HasLoadedCaller, IsBuiltInName, IsFit, IsLoaded, IsSoundDone, IsSoundOutcome, IsSoundShared, IsUsable}
 use Rattle.jvm_model.specs.SuperCalls.{invoked_special, is_inherited, is_initializer, nearest_above, taken}
 use Rattle.jvm_model.specs.Values.{as_value, int_of, ref_of}
 use Rattle.jvm_model.specs.Lines.{has_dimensions}
@@ -201,8 +201,11 @@ module _ (p : Program) (fit : IsFit p) (s : Shared) (is : IsSoundShared p s) whe
     where
       by : (b : Bool) → AllByRecursion (IsLoaded s.loaded)
           (if b then class ∷ (superinterfaces p class ++ option_to_list (class_named p (codes "java/lang/Object"))) else superclasses p class ++ superinterfaces p class)
-      by true = (there, all-both (IsLoaded s.loaded) (superinterfaces p class) (option_to_list (class_named p (codes "java/lang/Object")))
-          (superinterfaces-loaded p s.loaded is.above class there) object-loaded)
+      by true = (
+        there,
+        all-both (IsLoaded s.loaded) (superinterfaces p class) (option_to_list (class_named p (codes "java/lang/Object")))
+            (superinterfaces-loaded p s.loaded is.above class there) object-loaded,
+      )
       by false = all-both (IsLoaded s.loaded) (superclasses p class) (superinterfaces p class)
           (superclasses-loaded p s.loaded is.above class there) (superinterfaces-loaded p s.loaded is.above class there)
 

@@ -1,9 +1,8 @@
 -- What an instruction asks for, and the moves behind it, keep a state sound (JVM Specification 2.6, 2.10, 5.5).
-use Rattle.std.proofs.Common.{◌≡◌, ℕ, zero, suc, ◌+◌, ◌*◌, ◌<◌, ◌≤◌, Bool, true, false, List, [], ◌∷◌, ◌++◌, length, ap, sym, subst, refl, ◌∙◌, lit<, arith}
-use Rattle.std.specs.Prelude.{Option, Some, None, slice_get, nat_le, nat_lt, ◌==◌, ◌&&◌, if◌then◌else◌}
+use Rattle.std.proofs.Common.{◌≡◌, ℕ, suc, Bool, true, false, List, [], ◌∷◌, ap, sym, subst, refl, ◌∙◌}
+use Rattle.std.specs.Prelude.{Option, Some, None, slice_get, nat_le, nat_lt, if◌then◌else◌}
 use Rattle.std.specs.List.{AllByRecursion}
 use Rattle.std.specs.Option.{IfSome, option_and_then, option_map, option_map_or, option_to_list}
-use Rattle.std.proofs.lemmas.Option.{IfSome_then}
 use Rattle.heap_objects.specs.declared.datum.Datum.{Datum}
 use Rattle.heap_objects.specs.declared.datum.Datum.TheVariants as datum
 use Rattle.heap_objects.specs.declared.Value.TheVariants.{Ref, Addr}
@@ -11,12 +10,12 @@ use Rattle.const_pool.specs.declared.class.ClassFile.{ClassFile}
 use Rattle.frame_stack.specs.Widths.{height_of}
 use Rattle.jvm_model.specs.Applies.{begins, begins_beside, breaks, enters_subroutine, gives_back, goes, has_room, applies, live_in, most_live, new_frame, place_of, resumes, still, throws_at, with_frame}
 use Rattle.jvm_model.specs.Constants.{sets_constants}
-use Rattle.jvm_model.specs.Data.{Locals, Operands, Frame, Entry, Active, Initializing, MethodPlace, Part, Constants, Superclass, Initializer, Finish, Phase, Fresh, Running, Ready, Erroneous, Shared, Ending, Exited, Returned, Uncaught, Unverifiable, State, Began, Turn, Instruction, Text, World, Outcome, GoesOn, Subroutine, Invokes, Returns, Throws, Raises, Initializes, Exits, Breaks, Program}
+use Rattle.jvm_model.specs.Data.{Locals, Operands, Frame, Entry, Active, Initializing, MethodPlace, Part, Constants, Superclass, Initializer, Finish, Phase, Fresh, Running, Ready, Erroneous, Shared, Ending, Exited, Returned, Uncaught, Unverifiable, State, Began, Turn, Instruction, World, Outcome, GoesOn, Subroutine, Invokes, Returns, Throws, Raises, Initializes, Exits, Breaks, Program}
 use Rattle.jvm_model.specs.Lookup.{is_below}
 use Rattle.jvm_model.specs.Methods.{method_named}
-use Rattle.jvm_model.specs.Moves.{after_super, argument_array, at_part, caught, covers, fails, handler_for, initializes, main_or_end, move, moves, own_at, raises, runs_initializer, settled, then_turn, with_constants, with_super, wrapped}
+use Rattle.jvm_model.specs.Moves.{after_super, argument_array, at_part, caught, fails, handler_for, initializes, main_or_end, move, moves, own_at, raises, runs_initializer, settled, with_constants, with_super, wrapped}
 use Rattle.jvm_model.specs.Originals.{original}
-use Rattle.jvm_model.specs.Programs.{class_at, declared_method, initializer_name, initializer_of, name_at, number_of_method, place_of_method, super_of}
+use Rattle.jvm_model.specs.Programs.{class_at, initializer_name, initializer_of, name_at, number_of_method, super_of}
 use Rattle.jvm_model.specs.Run.{main_class}
 use Rattle.jvm_model.specs.SharedState.{Allocated, class_of, error, in_initializer, made_with, no_class_definition, null, phase_of, raised, stack_overflow, with_phase}
 use Rattle.jvm_model.specs.Sound.{HasClass, IsBuiltInName, IsFit, IsLoaded, IsSound, IsSoundEntry, IsSoundOutcome, IsSoundShared}
@@ -41,6 +40,12 @@ pub record GoesTo (p : Program) (loaded : List ℕ) (s : State) : Type 0 where
 
 pub stays : (p : Program) (s : State) → IsSound p s → GoesTo p s.shared.loaded s
 stays p s is = record { sound = is; same = refl }
+
+-- with more classes loaded an entry stays sound
+pub entry-grows : (p : Program) (before after : List ℕ) → ((class : ℕ) → IsLoaded before class → IsLoaded after class) → (e : Entry) → IsSoundEntry p before e
+    → IsSoundEntry p after e
+entry-grows p before after grown (Active f) is = (λ place found. grown place.class (is.0 place found), is.1)
+entry-grows p before after grown (Initializing class part) is = grown class is
 
 -- where what is shared is kept, and each entry and the main class are as they are to be
 moved : (p : Program) (s after : State) → KeepsShared p s.shared after.shared → AllByRecursion (IsSoundEntry p s.shared.loaded) after.stack
@@ -248,7 +253,7 @@ module _ (w : World) (fit : IsFit w.program) where
         ((main-has s.shared.loaded (is.main on), refl), tt) (λ on. on))
         (ended s is (record s { ending = Some (Unverifiable w.program.main 0) }) (Unverifiable w.program.main 0) refl is.stack refl)
 
-    moves-go : (ending : Option Ending) (thrown : Option ℕ) (stack : List Entry) → s.ending ≡ ending → Entries s stack
+    pub moves-go : (ending : Option Ending) (thrown : Option ℕ) (stack : List Entry) → s.ending ≡ ending → Entries s stack
         → IfSome (moves w (original w.program) s ending thrown stack) (λ next. Goes next.after)
     moves-go (Some e) thrown stack on each = tt
     moves-go None (Some r) [] on each =

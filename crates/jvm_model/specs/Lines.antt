@@ -1,6 +1,7 @@
 -- What the instruction at an offset is: its operand as a value, a slot, or the names that it refers to (JVM Specification
 -- 4.7.3, 5.4.3, 6.5). No name is looked up here.
 use Rattle.std.specs.Prelude.{ℕ, Bool, true, false, List, [], ◌∷◌, length, nat_lt, nat_le, Option, Some, None, slice_get, ℤ, ◌==◌, ◌&&◌, if◌then◌else◌}
+use Rattle.std.specs.Int.{is_in_range}
 use Rattle.std.specs.Option.{option_and_then, option_map, option_map_or}
 use Rattle.heap_objects.specs.declared.datum.Datum.TheVariants as datum
 use Rattle.const_pool.specs.declared.pool.Const.{Const}
@@ -158,9 +159,10 @@ abbrev pub object_among : List ObjectRow → ℕ → Option Operation
 object_among [] op = None
 object_among (r ∷ rs) op = if op == r.op then Some r.operation else object_among rs op
 
--- newarray, with the code of its elements
+-- newarray, with the code of its elements: those of the eight primitive types are 4 to 11 (6.5). With another code it is none; decoded code
+-- that was looked at has none such.
 abbrev pub newarray_of : ℕ → ℕ → Option Operation
-newarray_of op code = if op == 188 then Some (Newarray code) else None
+newarray_of op code = if op == 188 && is_in_range 4 11 code then Some (Newarray code) else None
 
 -- ---- every instruction
 

@@ -140,6 +140,8 @@ pub record IsSmallMethod (c : ClassFile) (k : ℕ) (m : Member) : Type 0 where
   pub small : IsSmallCode c k shape code
 
 pub record IsSmallClass (c : ClassFile) : Type 0 where
+  -- it is no interface (4.1)
+  pub class : has_flag 512 c.access ≡ false
   pub name : option_map_or is_free_name (named_class c.pool c.this_class) false ≡ true
   pub super : option_map_or (same_text (codes "java/lang/Object")) (named_class c.pool c.super_class) false ≡ true
   pub methods : (k : ℕ) (m : Member) → slice_get c.methods k ≡ Some m → IsSmallMethod c k m

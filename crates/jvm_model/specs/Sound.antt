@@ -1,6 +1,6 @@
 -- States in which all that is there is of classes that are loaded (JVM Specification 5.3, 5.4, 5.5): those of a run are such, and an
 -- instruction that names something is attempted in such alone.
-use Rattle.std.specs.Prelude.{◌≡◌, ◌≤◌, ◌<◌, ◌%◌, ℕ, true, false, List, length, Option, Some, None}
+use Rattle.std.specs.Prelude.{◌≡◌, ◌≤◌, ◌<◌, ◌%◌, ℕ, true, false, List, length, Some, None}
 use Rattle.std.specs.List.{AllByRecursion, list_any}
 use Rattle.const_pool.specs.BuiltIn.{built_in_names}
 use Rattle.heap_objects.specs.declared.object.Object.{Object}

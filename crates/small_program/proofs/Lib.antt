@@ -8,3 +8,9 @@ pub mod Answered
 pub mod Sound
 pub mod AskedPrograms
 pub mod DescriptorTexts
+pub mod MeaningsBuiltIn
+pub mod MeaningsLookups
+pub mod MeaningsOwn
+pub mod MeaningsMembers
+pub mod MeaningsCalls
+pub mod Meanings
