@@ -1,3 +1,5 @@
+pub mod MovesLoad
+pub mod NamedLaws
 pub mod MovesOn
 pub mod MarkedStacks
 pub mod Initializations
