@@ -5,6 +5,7 @@ pub mod Images
 pub mod Lined
 pub mod Callees
 pub mod MainFrames
+pub mod StepLoads
 pub mod Steps
 pub mod Machines
 pub mod BothWays

@@ -1,13 +1,14 @@
 -- Instructions whose names a small class does not look up.
 use Rattle.std.proofs.Common.{◌≡◌, ℕ, Bool, true, false, cond, List, Option, Some, None, refl, ap, sym, subst, ◌∙◌}
-use Rattle.std.specs.Prelude.{◌==◌}
+use Rattle.std.specs.Prelude.{◌==◌, ◌&&◌}
+use Rattle.std.specs.Int.{is_in_range}
 use Rattle.std.specs.Option.{option_and_then, option_map}
 use Rattle.std.proofs.lemmas.Bool.{ne_eqb}
 use Rattle.const_pool.specs.declared.class.ClassFile.{ClassFile}
 use Rattle.const_pool.specs.References.{Reference, named_class, named_field, named_method}
 use Rattle.jvm_model.specs.declared.operation.Resolved.{Resolved}
-use Rattle.jvm_model.specs.Data.{Naming, New, Getfield, Putfield, Getstatic, Putstatic, Invokevirtual, Invokespecial, Invokestatic, Invokeinterface, Checkcast, Instanceof, Anewarray, Multianewarray, Named, Operation}
-use Rattle.jvm_model.specs.Lines.{has_dimensions, interface_naming, multi_naming, multi_of, named_by, named_interface_method, naming_of, special_of}
+use Rattle.jvm_model.specs.Data.{Naming, New, Getfield, Putfield, Getstatic, Putstatic, Invokevirtual, Invokespecial, Invokestatic, Invokeinterface, Checkcast, Instanceof, Anewarray, Multianewarray, Named, Newarray, Operation}
+use Rattle.jvm_model.specs.Lines.{has_dimensions, interface_naming, multi_naming, multi_of, named_by, named_interface_method, naming_of, newarray_of, special_of}
 use Rattle.jvm_model.specs.Programs.{name_of}
 use Rattle.jvm_model.specs.Resolved.{resolved_in, resolved_name}
 
@@ -51,6 +52,13 @@ module _ (c : ClassFile) where
       (row-none (op == 189) _ _ (each-none Anewarray (named_class c.pool index) (λ r. refl))
       (row-none (op == 192) _ _ (each-none Checkcast (named_class c.pool index) (λ r. refl))
       (row-none (op == 193) _ _ (each-none Instanceof (named_class c.pool index) (λ r. refl)) refl))))))))))
+
+  -- newarray
+  pub array-none : (op code : ℕ) → option_and_then (resolved_in c) (newarray_of op code) ≡ None
+  array-none op code = by (op == 188 && is_in_range 4 11 code) where
+    by : (b : Bool) → option_and_then (resolved_in c) (let o : Option Operation = cond b (Some (Newarray code)) None in o) ≡ None
+    by true = refl
+    by false = refl
 
   pub interface-none : (op index : ℕ) → resolves (interface_naming c op index) ≡ None
   interface-none op index = row-none (op == 185) _ _ (each-none Invokeinterface (named_interface_method c.pool index) (λ r. refl)) refl
