@@ -1,7 +1,7 @@
 -- The machine stands for the run, in original code and in versions: when it is made, when versions are installed, and when it goes on.
 use Rattle.std.proofs.Common.{◌≡◌, ℕ, zero, suc, ◌+◌, Bool, true, false, List, [], ◌∷◌, ◌++◌, length, Option, Some, None, refl, sym, ap, subst, ◌∙◌, ◌<◌, arith}
 use Rattle.std.proofs.Math.Path.{fun_ext}
-use Rattle.std.specs.Prelude.{map}
+use Rattle.std.specs.Prelude.{map, not, ◌==◌, ◌&&◌, if◌then◌else◌}
 use Rattle.const_pool.specs.declared.class.Member.{Member}
 use Rattle.jvm_model.specs.declared.event.Mark.{Mark}
 use Rattle.jvm_model.specs.declared.event.Mark.TheVariants.{Off}
@@ -13,73 +13,84 @@ use Rattle.jvm_model.specs.Images.{IsImage}
 use Rattle.jvm_model.specs.OneClass.{IsBuiltProgram}
 use Rattle.jvm_model.specs.Originals.{original}
 use Rattle.jvm_model.specs.Programs.{first_class}
-use Rattle.jvm_model.specs.Run.{before, step, turn_in-zero, turn_in-more}
+use Rattle.jvm_model.specs.Load.{Loading, load_of}
+use Rattle.jvm_model.specs.Run.{before, run, start, step, turn_in-zero, turn_in-more}
+use Rattle.jvm_model.specs.Sound.{IsFit, IsSound}
 use Rattle.jvm_model.specs.StandsFor.{mark_at, marking_of}
+use Rattle.jvm_model.specs.Agreement.{Agrees}
+use Rattle.jvm_model.specs.Installed.{Installed}
 use Rattle.jvm_steps.specs.Before.{CanStart}
+use Rattle.jvm_steps.specs.Linked.{Linked}
+use Rattle.jvm_steps.specs.Prepared.{main_name}
 use Rattle.jvm_model.proofs.ImageAgrees.{Agrees-image}
 use Rattle.jvm_model.proofs.QuietEvents.{always, events-off}
 use Rattle.jvm_machine.specs.declared.probes.Probe.{Probe}
 use Rattle.jvm_machine.specs.Advances.{Advances}
-use Rattle.jvm_machine.specs.Moves.{Move, clock_in}
-use Rattle.jvm_machine.specs.Original.{stepped_original, moved_in, CanMove}
+use Rattle.jvm_machine.specs.Loads.{loads_of_step}
+use Rattle.jvm_machine.specs.Moves.{Move, brought, clock_in, telling_of, told_behind}
+use Rattle.jvm_machine.specs.Original.{AreLinked, CanMove, Links, linked_over, new_classes, stepped_original, moved_in, moved_original}
 use Rattle.jvm_machine.specs.Prepared.{Rewritten, installed}
-use Rattle.jvm_machine.specs.Running.{IsRunning, IsOriginal, AreRunning, seen, seen_in, shown_of}
+use Rattle.jvm_machine.specs.Running.{IsRunning, IsOriginal, AreRunning, IsLinked, seen, seen_in, shown_of, top_of}
 use Rattle.jvm_machine.specs.Turns.{IsGoingOn}
-use Rattle.jvm_machine.specs.View.{View, made, with_image, shown}
+use Rattle.jvm_machine.specs.View.{View, world, state_of, made, with_image, shown, begun, events_now, loads_left}
 use Rattle.jvm_machine.proofs.Machines.{early-state, early-running, is_advanced, shown-is}
+use Rattle.jvm_machine.proofs.StepLoads.{run-sound, run-told, start-loads}
+use Rattle.jvm_machine.proofs.Steps.{run-loaded}
 
 -- ---- before the start
 
 -- nothing is in hand, and nothing was done
-pub early-in : (w : World) (r : Option Rewritten) (s : State) (told : ℕ) (started broken : Bool) (clock : ℕ) → AreRunning w r s told started broken clock
-    → started ≡ false → broken ≡ false → (told ≡ 0) × (clock ≡ 0) × (s ≡ before w)
-early-in w None s told false false clock is early whole = (is.told, is.early refl, is.stands refl)
-early-in w (Some r) s told false false clock is early whole =
-    let found = early-state (installed w r) s told false false clock is refl refl in
-    (found.0, (is.early refl).0, found.1)
-early-in w r s told true broken clock is early whole = absurd cc
-early-in w r s told false true clock is early whole = absurd cc
+pub early-in : (w : World) (r : Option Rewritten) (s : State) (told : ℕ) (loads_told started broken : Bool) (clock : ℕ) → AreRunning w r s told loads_told started broken clock
+    → started ≡ false → broken ≡ false → (told ≡ 0) × (loads_told ≡ false) × (clock ≡ 0) × (s ≡ before w)
+early-in w None s told loads_told false false clock is early whole = (is.told, (is.early refl).1, (is.early refl).0, is.stands refl)
+early-in w (Some r) s told loads_told false false clock is early whole =
+    let found = early-state (installed w r) s told loads_told false false clock is refl refl in
+    (found.0, found.1, (is.early refl).0, found.2)
+early-in w r s told loads_told true broken clock is early whole = absurd cc
+early-in w r s told loads_told false true clock is early whole = absurd cc
 
 pub some-classes : (p : Program) → IsBuiltProgram p → 0 < length p.classes
 some-classes p built = subst (λ cs. 0 < length cs) (sym built.program.classes) (omega arith)
 
-pub is_made : (w : World) (s : State) → CanStart w.program → s ≡ before w → AreRunning w None s 0 false false 0
-is_made w s starts empty = record {
+pub is_made : (w : World) (s : State) → IsFit w.program → CanStart w.program → s ≡ before w → AreRunning w None s 0 false false false 0
+is_made w s fit starts empty = record {
   starts = starts;
+  fit = fit;
   stands = λ whole. empty;
   told = refl;
-  early = λ early. refl;
+  early = λ early. (refl, refl);
 }
 
 -- and what is seen of it
-pub seen-made : (w : World) (p : Program) (input : List ℕ) (s : State) → w.program ≡ p → w.input ≡ input → s ≡ before w → seen_in w None s 0 false false 0 ≡ made p input
+pub seen-made : (w : World) (p : Program) (input : List ℕ) (s : State) → w.program ≡ p → w.input ≡ input → s ≡ before w → seen_in w None s 0 false false false 0 ≡ made p input
 seen-made w p input s program given empty =
-    ap (λ (x : State). seen_in w None x 0 false false 0) empty ∙ (ap (λ (q : Program). made q w.input) program ∙ ap (made p) given)
+    ap (λ (x : State). seen_in w None x 0 false false false 0) empty ∙ (ap (λ (q : Program). made q w.input) program ∙ ap (made p) given)
 
 -- ---- installing versions
 
-pub is_installed : (w : World) (r : Option Rewritten) (new : Rewritten) (s : State) (told : ℕ) (started broken : Bool) (clock : ℕ) → AreRunning w r s told started broken clock
+pub is_installed : (w : World) (r : Option Rewritten) (new : Rewritten) (s : State) (told : ℕ) (loads_told started broken : Bool) (clock : ℕ) → AreRunning w r s told loads_told started broken clock
     → started ≡ false → broken ≡ false → IsBuiltProgram w.program → IsImage (first_class w.program) 0 new.marks new.image new.homes
-    → AreRunning w (Some new) s told started broken clock
-is_installed w r new s told false false clock is early whole built is_image =
-    let found = early-in w r s told false false clock is refl refl in
-    subst (λ (x : State). IsRunning (seen (installed w new) x told false false clock) x) (sym found.2)
-    (subst (λ n. IsRunning (seen (installed w new) (before w) n false false clock) (before w)) (sym found.0)
-    (subst (λ n. IsRunning (seen (installed w new) (before w) 0 false false n) (before w)) (sym found.1)
-    (early-running (installed w new) built (Agrees-image (first_class w.program) new.marks new.image new.homes built.class is_image))))
-is_installed w r new s told true broken clock is early whole built is_image = absurd cc
-is_installed w r new s told false true clock is early whole built is_image = absurd cc
+    → AreRunning w (Some new) s told loads_told started broken clock
+is_installed w r new s told loads_told false false clock is early whole built is_image =
+    let found = early-in w r s told loads_told false false clock is refl refl in
+    subst (λ (x : State). IsRunning (seen (installed w new) x told loads_told false false clock) x) (sym found.3)
+    (subst (λ n. IsRunning (seen (installed w new) (before w) n loads_told false false clock) (before w)) (sym found.0)
+    (subst (λ b. IsRunning (seen (installed w new) (before w) 0 b false false clock) (before w)) (sym found.1)
+    (subst (λ n. IsRunning (seen (installed w new) (before w) 0 false false false n) (before w)) (sym found.2)
+    (early-running (installed w new) built (Agrees-image (first_class w.program) new.marks new.image new.homes built.class is_image)))))
+is_installed w r new s told loads_told true broken clock is early whole built is_image = absurd cc
+is_installed w r new s told loads_told false true clock is early whole built is_image = absurd cc
 
-seen-at : (w : World) (r : Option Rewritten) (new : Rewritten) (s : State) (started broken : Bool) (clock : ℕ)
-    → seen_in w (Some new) s 0 started broken clock ≡ with_image new.marks new.image new.homes (seen_in w r s 0 started broken clock)
-seen-at w None new s started broken clock = refl
-seen-at w (Some r) new s started broken clock = refl
+seen-at : (w : World) (r : Option Rewritten) (new : Rewritten) (s : State) (loads_told started broken : Bool) (clock : ℕ)
+    → seen_in w (Some new) s 0 loads_told started broken clock ≡ with_image new.marks new.image new.homes (seen_in w r s 0 loads_told started broken clock)
+seen-at w None new s loads_told started broken clock = refl
+seen-at w (Some r) new s loads_told started broken clock = refl
 
-pub seen-installed : (w : World) (r : Option Rewritten) (new : Rewritten) (s : State) (told : ℕ) (started broken : Bool) (clock : ℕ) → told ≡ 0
-    → seen_in w (Some new) s told started broken clock ≡ with_image new.marks new.image new.homes (seen_in w r s told started broken clock)
-seen-installed w r new s told started broken clock none =
-    subst (λ n. seen_in w (Some new) s n started broken clock ≡ with_image new.marks new.image new.homes (seen_in w r s n started broken clock)) (sym none)
-    (seen-at w r new s started broken clock)
+pub seen-installed : (w : World) (r : Option Rewritten) (new : Rewritten) (s : State) (told : ℕ) (loads_told started broken : Bool) (clock : ℕ) → told ≡ 0
+    → seen_in w (Some new) s told loads_told started broken clock ≡ with_image new.marks new.image new.homes (seen_in w r s told loads_told started broken clock)
+seen-installed w r new s told loads_told started broken clock none =
+    subst (λ n. seen_in w (Some new) s n loads_told started broken clock ≡ with_image new.marks new.image new.homes (seen_in w r s n loads_told started broken clock)) (sym none)
+    (seen-at w r new s loads_told started broken clock)
 
 -- ---- original code tells nothing
 
@@ -99,71 +110,135 @@ no-events methods w n =
 
 -- ---- going on
 
--- what the parts have gone on to
+-- what the parts have gone on to, and what the linker has loaded then
 pub record GoesOnIn (old : View) (w : World) (r : Option Rewritten) (n : ℕ) (m : Move) : Type 0 where
-  pub running : AreRunning w r m.state m.told true false n
-  pub advances : Advances old m.probe (seen_in w r m.state m.told true false n)
+  pub running : AreRunning w r m.state m.told (told_behind old.loads_told (telling_of m)) true false n
+  pub advances : Advances old (telling_of m) (seen_in w r m.state m.told (told_behind old.loads_told (telling_of m)) true false n)
 
-abbrev moved_to : State → ℕ → Option Probe → Move
-moved_to after told probe = record { state = after; told = told; probe = probe }
+abbrev moved_to : State → ℕ → Option Probe → List ℕ → Move
+moved_to after told probe loads = record { state = after; told = told; probe = probe; loads = loads }
 
-original-goes : (w : World) (s after : State) (started : Bool) (clock : ℕ) → IsOriginal (seen_in w None s 0 started false clock) s
-    → after ≡ stepped_original w started s
-    → GoesOnIn (seen_in w None s 0 started false clock) w None (clock_in 0 started clock) (moved_to after 0 None)
-original-goes w s after false clock is moved = record {
-  running = record {
-    starts = is.starts;
-    stands = λ whole. moved ∙ sym (ap (λ (a : Turn). a.after) (turn_in-zero w (original w.program)));
-    told = refl;
-    early = λ early. absurd cc;
+-- a step of original code tells no event: its classes, or nothing
+original-step : (old : View) (w : World) (s after : State) (n : ℕ) (loads : List ℕ) → CanStart w.program → IsFit w.program → after ≡ run w n
+    → begun old ≡ seen_in w None s 0 false true false n → loads_of_step w n ≡ loads → GoesOnIn old w None n (brought loads after)
+original-step old w s after n [] starts fit stands from tells = record {
+  running = record { starts = starts; fit = fit; stands = λ whole. stands; told = refl; early = λ early. absurd cc };
+  advances = record {
+    loads = ap loads_left from ∙ tells;
+    all = ap (λ (v : View). v.told) from ∙ (sym (ap length (no-events (first_class w.program).methods w n)) ∙ ap (λ (v : View). length (events_now v)) (sym from));
+    stepped = ap (λ (v : View). record v { told = 0; loads_told = false; done = true; top = top_of after.stack }) (sym from);
   };
-  advances = record { all = sym (ap length (no-events (first_class w.program).methods w 0)); stepped = refl };
 }
-original-goes w s after true clock is moved = record {
-  running = record {
-    starts = is.starts;
-    stands = λ whole. moved
-        ∙ (ap (λ (x : State). (step w (original w.program) x).after) (is.stands refl)
-        ∙ sym (ap (λ (a : Turn). a.after) (turn_in-more w (original w.program) clock)));
-    told = refl;
-    early = λ early. absurd cc;
+original-step old w s after n (class ∷ more) starts fit stands from tells = record {
+  running = record { starts = starts; fit = fit; stands = λ whole. stands; told = refl; early = λ early. absurd cc };
+  advances = record {
+    first = ap (λ (v : View). v.told) from;
+    some = omega arith;
+    loads = ap loads_left from ∙ tells;
+    stepped = ap (λ (v : View). record v { loads_told = true; done = true; top = top_of after.stack }) (sym from);
   };
-  advances = record { all = sym (ap length (no-events (first_class w.program).methods w (clock + 1))); stepped = refl };
 }
 
--- what going on needs
-pub can-move : (w : World) (r : Option Rewritten) (s : State) (told : ℕ) (started broken : Bool) (clock : ℕ) → AreRunning w r s told started broken clock
+original-goes : (w : World) (s : State) (loads_told started : Bool) (clock : ℕ) → IsOriginal (seen_in w None s 0 loads_told started false clock) s
+    → GoesOnIn (seen_in w None s 0 loads_told started false clock) w None (clock_in (0 == 0 && not loads_told) started clock) (moved_original w started loads_told s)
+original-goes w s true false clock is = absurd (let none : true ≡ false = (is.early refl).1 in cc)
+original-goes w s true true clock is = record {
+  running = record { starts = is.starts; fit = is.fit; stands = λ whole. is.stands refl; told = refl; early = λ early. absurd cc };
+  advances = record { loads = refl; all = sym (ap length (no-events (first_class w.program).methods w clock)); stepped = refl };
+}
+original-goes w s false false clock is =
+    original-step (seen_in w None s 0 false false false clock) w s (stepped_original w false s) 0 (new_classes s (stepped_original w false s)) is.starts is.fit
+    (sym (ap (λ (a : Turn). a.after) (turn_in-zero w (original w.program)))) refl
+    (sym (ap (λ (x : State). new_classes x (start w (original w.program)).after) (is.stands refl) ∙ start-loads w))
+original-goes w s false true clock is =
+    let next : State → State = λ x. (step w (original w.program) x).after in
+    original-step (seen_in w None s 0 false true false clock) w s (stepped_original w true s) (clock + 1) (new_classes s (stepped_original w true s)) is.starts is.fit
+    (ap next (is.stands refl) ∙ sym (ap (λ (a : Turn). a.after) (turn_in-more w (original w.program) clock))) refl
+    (sym (ap (λ (x : State). new_classes x (next x)) (is.stands refl) ∙ run-told w is.fit clock))
+
+-- ---- what going on needs
+
+-- behind the start the state is one of the run
+started-state : (v : View) (s : State) → v.started ≡ true → s ≡ state_of v → s ≡ run (world v) v.clock
+started-state v s started stands = stands ∙ ap (λ b. if b then run (world v) v.clock else before (world v)) started
+
+early-state-of : (v : View) (s : State) → v.started ≡ false → s ≡ state_of v → s ≡ before (world v)
+early-state-of v s early stands = stands ∙ ap (λ b. if b then run (world v) v.clock else before (world v)) early
+
+pub can-move : (w : World) (r : Option Rewritten) (s : State) (told : ℕ) (loads_told started broken : Bool) (clock : ℕ) → AreRunning w r s told loads_told started broken clock
     → broken ≡ false → CanMove w r started s
-can-move w None s told false broken clock is whole = record { before = is.stands whole; plain = is.starts.plain; room = is.starts.room }
-can-move w None s told true broken clock is whole = tt
-can-move w (Some r) s told started broken clock is whole = λ early. record {
-  before = (early-in w (Some r) s told started broken clock is early whole).2;
+can-move w None s told loads_told started broken clock is whole =
+    let v : View = seen_in w None s told loads_told started broken clock in
+    record {
+      fit = is.fit;
+      start = λ early. record { before = early-state-of v s early (is.stands whole); plain = is.starts.plain; room = is.starts.room };
+      sound = λ started. subst (IsSound w.program) (sym (started-state v s started (is.stands whole))) (run-sound w is.fit clock);
+    }
+can-move w (Some r) s told loads_told started broken clock is whole = λ early. record {
+  before = (early-in w (Some r) s told loads_told started broken clock is early whole).3;
   plain = is.built.plain;
   room = is.built.room;
 }
 
-pub is_advanced_in : (v : View) (w : World) (r : Option Rewritten) (s after : State) (told next : ℕ) (probe : Option Probe) (started broken : Bool) (clock n : ℕ)
-    → seen_in w r s told started broken clock ≡ v → AreRunning w r s told started broken clock → v.broken ≡ false → IsGoingOn v
-    → after ≡ (moved_in w r started told s).state → next ≡ (moved_in w r started told s).told → probe ≡ (moved_in w r started told s).probe
-    → n ≡ clock_in told started clock
-    → GoesOnIn v w r n (moved_to after next probe)
-is_advanced_in v w (Some r) s after told next probe started broken clock n sees is whole going moved stops passes now =
-    let goes = is_advanced v (installed w r) s after told next probe started broken clock n sees is whole going moved stops passes now in
+pub can-link : (w : World) (r : Option Rewritten) (s : State) (told : ℕ) (loads_told started broken : Bool) (clock : ℕ) (loaded : List ℕ)
+    → AreRunning w r s told loads_told started broken clock → IsLinked (seen_in w r s told loads_told started broken clock) loaded → broken ≡ false → AreLinked r loaded s
+can-link w None s told loads_told started broken clock loaded is linked whole = linked whole ∙ sym (ap (λ (x : State). x.shared.loaded) (is.stands whole))
+can-link w (Some r) s told loads_told started broken clock loaded is linked whole = tt
+
+-- ---- going on, by what the program has computed
+
+pub is_advanced_in : (v : View) (w : World) (r : Option Rewritten) (s after : State) (told next : ℕ) (probe : Option Probe) (loads : List ℕ) (loads_told started broken : Bool) (clock n : ℕ)
+    → seen_in w r s told loads_told started broken clock ≡ v → AreRunning w r s told loads_told started broken clock → v.broken ≡ false → IsGoingOn v
+    → (let m = moved_in w r started loads_told told s in (after ≡ m.state) × (next ≡ m.told) × (probe ≡ m.probe) × (loads ≡ m.loads))
+    → n ≡ clock_in (told == 0 && not loads_told) started clock
+    → GoesOnIn v w r n (moved_to after next probe loads)
+is_advanced_in v w (Some r) s after told next probe loads loads_told started broken clock n sees is whole going moves now =
+    let goes = is_advanced v (installed w r) s after told next probe loads loads_told started broken clock n sees is whole going moves now in
     record { running = goes.running; advances = goes.advances }
-is_advanced_in v w None s after told next probe started true clock n sees is whole going moved stops passes now =
+is_advanced_in v w None s after told next probe loads loads_told started true clock n sees is whole going moves now =
     absurd (let broken : true ≡ v.broken = ap (λ (x : View). x.broken) sees in cc)
-is_advanced_in v w None s after told next probe started false clock n sees is whole going moved stops passes now =
-    let old : ℕ → View = λ k. seen_in w None s k started false clock in
-    let same : moved_to after next probe ≡ moved_to after 0 None = ap (λ k. moved_to after k probe) stops ∙ ap (moved_to after 0) passes in
-    subst (λ (x : View). GoesOnIn x w None n (moved_to after next probe)) sees
-    (subst (λ (m : Move). GoesOnIn (old told) w None n m) (sym same)
-    (subst (λ k. GoesOnIn (old told) w None k (moved_to after 0 None)) (sym now)
-    (subst (λ k. GoesOnIn (old k) w None (clock_in k started clock) (moved_to after 0 None)) (sym is.told)
-    (original-goes w s after started clock (subst (λ k. IsOriginal (old k) s) is.told is) moved))))
+is_advanced_in v w None s after told next probe loads loads_told started false clock n sees is whole going moves now =
+    let old : ℕ → View = λ k. seen_in w None s k loads_told started false clock in
+    let m : Move = moved_original w started loads_told s in
+    let same : moved_to after next probe loads ≡ m = ap (λ a. moved_to a next probe loads) moves.0 ∙ (ap (λ b. moved_to m.state b probe loads) moves.1
+    ∙ (ap (λ c. moved_to m.state m.told c loads) moves.2 ∙ ap (moved_to m.state m.told m.probe) moves.3)) in
+    subst (λ (x : View). GoesOnIn x w None n (moved_to after next probe loads)) sees
+    (subst (λ (x : Move). GoesOnIn (old told) w None n x) (sym same)
+    (subst (λ k. GoesOnIn (old told) w None k m) (sym now)
+    (subst (λ k. GoesOnIn (old k) w None (clock_in (k == 0 && not loads_told) started clock) m) (sym is.told)
+    (original-goes w s loads_told started clock (subst (λ k. IsOriginal (old k) s) is.told is)))))
+
+-- ---- what the linker has loaded
+
+-- the state is one of the run after the call
+pub linked-original : (v : View) (s : State) (loaded : List ℕ) → IsOriginal v s → loaded ≡ s.shared.loaded → IsLinked v loaded
+linked-original v s loaded is same = λ whole. same ∙ ap (λ (x : State). x.shared.loaded) (is.stands whole)
+
+-- what the run of a small class has loaded is what its start has loaded
+linked-now : (o : Linked) (r : Rewritten) (started : Bool) (clock n : ℕ) → IsBuiltProgram o.world.program → Agrees (first_class o.world.program) r.marks r.image r.homes
+    → o.loaded ≡ (if started then run o.world clock else before o.world).shared.loaded → linked_over o started ≡ (run o.world n).shared.loaded
+linked-now o r true clock n built agrees same =
+    let t : Installed = installed o.world r in
+    same ∙ (run-loaded t built.class built.program built.meant agrees clock ∙ sym (run-loaded t built.class built.program built.meant agrees n))
+linked-now o r false clock n built agrees same =
+    let t : Installed = installed o.world r in
+    let p : Program = o.world.program in
+    ap (λ loaded. (load_of p loaded (main_name p)).loaded) same
+    ∙ (ap (λ (l : Loading). l.loaded) (built.meant.alone o.world.input)
+    ∙ sym (run-loaded t built.class built.program built.meant agrees n))
+
+pub is_linked_in : (o : Linked) (r : Option Rewritten) (s after : State) (told next : ℕ) (loads_told told_now started broken : Bool) (clock n : ℕ) (loaded : List ℕ)
+    → AreRunning o.world r s told loads_told started broken clock → IsLinked (seen_in o.world r s told loads_told started broken clock) o.loaded → broken ≡ false
+    → AreRunning o.world r after next told_now true false n → Links o r started after loaded
+    → IsLinked (seen_in o.world r after next told_now true false n) loaded
+is_linked_in o None s after told next loads_told told_now started broken clock n loaded was before whole is links =
+    linked-original (seen_in o.world None after next told_now true false n) after loaded is links
+is_linked_in o (Some r) s after told next loads_told told_now started broken clock n loaded was before whole is links =
+    λ unbroken. links ∙ linked-now o r started clock n was.built was.agrees (before whole)
 
 -- what is shown is the model's, of the last step or of the step before
-pub shown-in : (w : World) (r : Option Rewritten) (s : State) (told : ℕ) (started broken : Bool) (clock : ℕ) → AreRunning w r s told started broken clock → broken ≡ false
-    → shown_of s ≡ shown_of (shown (seen_in w r s told started broken clock))
-shown-in w None s told started broken clock is whole =
-    ap shown_of (is.stands whole) ∙ sym (ap (λ n. shown_of (shown (seen_in w None s n started broken clock))) is.told)
-shown-in w (Some r) s told started broken clock is whole = shown-is (installed w r) s told started broken clock is whole
+pub shown-in : (w : World) (r : Option Rewritten) (s : State) (told : ℕ) (loads_told started broken : Bool) (clock : ℕ) → AreRunning w r s told loads_told started broken clock
+    → broken ≡ false → shown_of s ≡ shown_of (shown (seen_in w r s told loads_told started broken clock))
+shown-in w None s told loads_told started broken clock is whole =
+    ap shown_of (is.stands whole) ∙ sym (ap (λ n. shown_of (shown (seen_in w None s n loads_told started broken clock))) is.told)
+shown-in w (Some r) s told loads_told started broken clock is whole = shown-is (installed w r) s told loads_told started broken clock is whole

@@ -5,9 +5,11 @@ pub mod Images
 pub mod Lined
 pub mod Callees
 pub mod MainFrames
+pub mod StepLoads
 pub mod Steps
 pub mod Machines
 pub mod BothWays
 mod Onward
 mod Within
 mod Families
+mod Unresolved

@@ -1,20 +1,22 @@
 -- Several steps of original code take the machine further along the run.
-use Rattle.std.proofs.Common.{◌≡◌, ℕ, zero, suc, ◌+◌, ◌-◌, ◌<◌, ◌≤◌, Bool, true, false, List, Option, Some, None, refl, sym, ap, subst, ◌∙◌, arith}
-use Rattle.std.specs.Prelude.{is_some}
-use Rattle.std.proofs.lemmas.Bool.{false≢true}
+use Rattle.std.proofs.Common.{◌≡◌, ℕ, zero, suc, ◌+◌, ◌-◌, ◌<◌, ◌≤◌, Bool, true, false, List, Option, Some, None, refl, sym, ap, subst, ◌∙◌, eqb-true, arith}
+use Rattle.std.specs.Prelude.{is_some, not, ◌==◌, ◌&&◌}
+use Rattle.std.proofs.lemmas.Bool.{and_parts, false≢true}
 use Rattle.jvm_model.specs.declared.state.State.{State}
 use Rattle.jvm_model.specs.Data.{Turn, World}
 use Rattle.jvm_model.specs.Originals.{original}
 use Rattle.jvm_model.specs.Programs.{first_class}
 use Rattle.jvm_model.specs.Run.{run, step, turn_in-suc}
+use Rattle.jvm_model.specs.Sound.{IsFit, IsSound}
+use Rattle.jvm_steps.specs.Linked.{Linked}
 use Rattle.jvm_steps.specs.Runs.{Leads, steps_from, steps_from-zero, steps_from-suc}
 use Rattle.jvm_steps.specs.declared.markers.Marker.{Marker}
 use Rattle.jvm_machine.specs.Original.{ArePlain}
 use Rattle.jvm_machine.specs.Prepared.{Rewritten}
-use Rattle.jvm_machine.specs.Running.{IsOriginal, AreRunning, seen_in}
+use Rattle.jvm_machine.specs.Running.{IsOriginal, AreRunning, IsLinked, seen_in}
 use Rattle.jvm_machine.specs.Several.{RunsOn}
-use Rattle.jvm_machine.specs.View.{View}
-use Rattle.jvm_machine.proofs.BothWays.{no-events}
+use Rattle.jvm_machine.specs.View.{View, is_resting}
+use Rattle.jvm_machine.proofs.BothWays.{can-link, can-move, linked-original, no-events}
 
 -- steps from a state of the run lead to a later one
 steps-run : (w : World) (clock n : ℕ) → steps_from w n (run w clock) ≡ run w (clock + n)
@@ -28,18 +30,19 @@ steps-run w clock (suc n) =
     ∙ (sym (ap (λ (a : Turn). a.after) (turn_in-suc w (original w.program) (clock + n))) ∙ ap (run w) same))
 
 -- where the machine has gone
-pub record GoesOnward (old : View) (w : World) (r : Option Rewritten) (after : State) (told : ℕ) (started : Bool) (clock most : ℕ) : Type 0 where
-  pub running : AreRunning w r after told started false clock
-  pub runs : RunsOn old most (seen_in w r after told started false clock)
+pub record GoesOnward (old : View) (w : World) (r : Option Rewritten) (after : State) (told : ℕ) (loads_told started : Bool) (clock most : ℕ) : Type 0 where
+  pub running : AreRunning w r after told loads_told started false clock
+  pub runs : RunsOn old most (seen_in w r after told loads_told started false clock)
 
 reached-at : (w : World) (s after : State) (clock n : ℕ) → s ≡ run w clock → Leads w s n after → after ≡ run w (clock + n)
 reached-at w s after clock n stands leads = leads.made ∙ (ap (steps_from w n) stands ∙ steps-run w clock n)
 
-onward-at : (w : World) (s after : State) (clock n most : ℕ) → IsOriginal (seen_in w None s 0 true false clock) s → n ≤ most → Leads w s n after
-    → (n < most → is_some after.ending ≡ true) → GoesOnward (seen_in w None s 0 true false clock) w None after 0 true (clock + n) most
+onward-at : (w : World) (s after : State) (clock n most : ℕ) → IsOriginal (seen_in w None s 0 false true false clock) s → n ≤ most → Leads w s n after
+    → (n < most → is_some after.ending ≡ true) → GoesOnward (seen_in w None s 0 false true false clock) w None after 0 false true (clock + n) most
 onward-at w s after clock n most is few leads ends = record {
   running = record {
     starts = is.starts;
+    fit = is.fit;
     stands = λ whole. reached-at w s after clock n (is.stands refl) leads;
     told = refl;
     early = λ early. absurd cc;
@@ -58,25 +61,56 @@ onward-at w s after clock n most is few leads ends = record {
   };
 }
 
-pub goes_onward : (v : View) (w : World) (r : Option Rewritten) (s after : State) (told : ℕ) (started broken : Bool) (clock n most : ℕ)
-    → seen_in w r s told started broken clock ≡ v → AreRunning w r s told started broken clock → v.runs_original ≡ true → v.started ≡ true → v.broken ≡ false
-    → v.told ≡ 0 → n ≤ most → Leads w s n after → (n < most → is_some after.ending ≡ true) → GoesOnward v w r after told started (clock + n) most
-goes_onward v w (Some r) s after told started broken clock n most sees is none started_is whole rests few leads ends =
+-- no step is in hand
+rests-none : (v : View) → is_resting v ≡ true → (v.told ≡ 0) × (v.loads_told ≡ false)
+rests-none v rests = let parts = and_parts (v.told == 0) (not v.loads_told) rests in (eqb-true v.told 0 parts.0, by v.loads_told parts.1) where
+  by : (b : Bool) → not b ≡ true → b ≡ false
+  by false e = refl
+  by true e = absurd (false≢true e)
+
+pub goes_onward : (v : View) (w : World) (r : Option Rewritten) (s after : State) (told : ℕ) (loads_told started broken : Bool) (clock n most : ℕ)
+    → seen_in w r s told loads_told started broken clock ≡ v → AreRunning w r s told loads_told started broken clock → v.runs_original ≡ true → v.started ≡ true → v.broken ≡ false
+    → is_resting v ≡ true → n ≤ most → Leads w s n after → (n < most → is_some after.ending ≡ true) → GoesOnward v w r after told loads_told started (clock + n) most
+goes_onward v w (Some r) s after told loads_told started broken clock n most sees is none started_is whole rests few leads ends =
     absurd (let versions : false ≡ v.runs_original = ap (λ (x : View). x.runs_original) sees in false≢true (versions ∙ none))
-goes_onward v w None s after told false broken clock n most sees is none started_is whole rests few leads ends =
+goes_onward v w None s after told loads_told false broken clock n most sees is none started_is whole rests few leads ends =
     absurd (let early : false ≡ v.started = ap (λ (x : View). x.started) sees in false≢true (early ∙ started_is))
-goes_onward v w None s after told true true clock n most sees is none started_is whole rests few leads ends =
+goes_onward v w None s after told loads_told true true clock n most sees is none started_is whole rests few leads ends =
     absurd (let broken : true ≡ v.broken = ap (λ (x : View). x.broken) sees in false≢true (sym (broken ∙ whole)))
-goes_onward v w None s after told true false clock n most sees is none started_is whole rests few leads ends =
-    let old : ℕ → View = λ k. seen_in w None s k true false clock in
-    let told_is : told ≡ 0 = ap (λ (x : View). x.told) sees ∙ rests in
-    subst (λ (x : View). GoesOnward x w None after told true (clock + n) most) sees
-    (subst (λ k. GoesOnward (old k) w None after k true (clock + n) most) (sym told_is)
-    (onward-at w s after clock n most (subst (λ k. IsOriginal (old k) s) told_is is) few leads ends))
+goes_onward v w None s after told loads_told true false clock n most sees is none started_is whole rests few leads ends =
+    let old : ℕ → Bool → View = λ k b. seen_in w None s k b true false clock in
+    let nothing = rests-none v rests in
+    let told_is : told ≡ 0 = ap (λ (x : View). x.told) sees ∙ nothing.0 in
+    let loads_is : loads_told ≡ false = ap (λ (x : View). x.loads_told) sees ∙ nothing.1 in
+    subst (λ (x : View). GoesOnward x w None after told loads_told true (clock + n) most) sees
+    (subst (λ k. GoesOnward (old k loads_told) w None after k loads_told true (clock + n) most) (sym told_is)
+    (subst (λ b. GoesOnward (old 0 b) w None after 0 b true (clock + n) most) (sym loads_is)
+    (onward-at w s after clock n most (subst (λ b. IsOriginal (old 0 b) s) loads_is (subst (λ k. IsOriginal (old k loads_told) s) told_is is)) few leads ends)))
+
+-- what that needs
+pub can-run : (v : View) (o : Linked) (r : Option Rewritten) (s : State) (told : ℕ) (loads_told started broken : Bool) (clock : ℕ)
+    → seen_in o.world r s told loads_told started broken clock ≡ v → AreRunning o.world r s told loads_told started broken clock
+    → IsLinked (seen_in o.world r s told loads_told started broken clock) o.loaded → v.runs_original ≡ true → v.started ≡ true → v.broken ≡ false
+    → IsFit o.world.program × IsSound o.world.program s × (o.loaded ≡ s.shared.loaded)
+can-run v o (Some r) s told loads_told started broken clock sees is linked none started_is whole =
+    absurd (let versions : false ≡ v.runs_original = ap (λ (x : View). x.runs_original) sees in false≢true (versions ∙ none))
+can-run v o None s told loads_told started broken clock sees is linked none started_is whole =
+    let unbroken : broken ≡ false = ap (λ (x : View). x.broken) sees ∙ whole in
+    let can = can-move o.world None s told loads_told started broken clock is unbroken in
+    (can.fit, can.sound (ap (λ (x : View). x.started) sees ∙ started_is), can-link o.world None s told loads_told started broken clock o.loaded is linked unbroken)
+
+-- and what the linker has loaded then
+pub linked-onward : (v : View) (w : World) (r : Option Rewritten) (s after : State) (told : ℕ) (loads_told started broken : Bool) (clock later : ℕ) (loaded : List ℕ)
+    → seen_in w r s told loads_told started broken clock ≡ v → v.runs_original ≡ true → AreRunning w r after told loads_told started false later → loaded ≡ after.shared.loaded
+    → IsLinked (seen_in w r after told loads_told started false later) loaded
+linked-onward v w (Some r) s after told loads_told started broken clock later loaded sees none is same =
+    absurd (let versions : false ≡ v.runs_original = ap (λ (x : View). x.runs_original) sees in false≢true (versions ∙ none))
+linked-onward v w None s after told loads_told started broken clock later loaded sees none is same =
+    linked-original (seen_in w None after told loads_told started false later) after loaded is same
 
 -- original code may have markers
-pub plain-original : (v : View) (w : World) (r : Option Rewritten) (ms : List Marker) (s : State) (told : ℕ) (started broken : Bool) (clock : ℕ)
-    → seen_in w r s told started broken clock ≡ v → v.runs_original ≡ true → ArePlain r ms
-plain-original v w None ms s told started broken clock sees none = tt
-plain-original v w (Some r) ms s told started broken clock sees none =
+pub plain-original : (v : View) (w : World) (r : Option Rewritten) (ms : List Marker) (s : State) (told : ℕ) (loads_told started broken : Bool) (clock : ℕ)
+    → seen_in w r s told loads_told started broken clock ≡ v → v.runs_original ≡ true → ArePlain r ms
+plain-original v w None ms s told loads_told started broken clock sees none = tt
+plain-original v w (Some r) ms s told loads_told started broken clock sees none =
     absurd (let versions : false ≡ v.runs_original = ap (λ (x : View). x.runs_original) sees in false≢true (versions ∙ none))

@@ -1,6 +1,6 @@
 -- One step over places, from a state of the run with its frames at their homes: it leads to the next state of the run, and
 -- the probe that it passes tells the events of the step.
-use Rattle.std.proofs.Common.{◌≡◌, ℕ, suc, ◌+◌, ◌-◌, Bool, true, false, cond, List, [], ◌∷◌, Option, Some, None, refl, sym, ap, subst, ◌∙◌, arith}
+use Rattle.std.proofs.Common.{◌≡◌, ℕ, suc, ◌+◌, ◌-◌, Bool, true, false, cond, List, [], ◌∷◌, ◌++◌, Option, Some, None, refl, sym, ap, subst, ◌∙◌, arith}
 use Rattle.std.specs.Prelude.{is_some, is_none, not, ◌&&◌, nat_le}
 use Rattle.std.specs.Option.{option_map}
 use Rattle.std.proofs.lemmas.Bool.{le-leb}
@@ -13,6 +13,8 @@ use Rattle.jvm_model.specs.declared.event.Mark.TheVariants.{Off, Plain, Root}
 use Rattle.jvm_model.specs.declared.state.Entry.{Entry}
 use Rattle.jvm_model.specs.declared.state.Entry.TheVariants.{Active}
 use Rattle.jvm_model.specs.declared.state.Frame.{Frame}
+use Rattle.jvm_model.specs.declared.operation.Resolved.{Resolved}
+use Rattle.jvm_model.specs.declared.state.Shared.{Shared}
 use Rattle.jvm_model.specs.declared.state.State.{State}
 use Rattle.jvm_model.specs.Data.{Change, Loads, Began, Left, Turn, World}
 use Rattle.jvm_model.specs.declared.ending.Ending.TheVariants.{Unverifiable}
@@ -33,6 +35,7 @@ use Rattle.jvm_model.specs.Originals.{original}
 use Rattle.jvm_model.specs.Quiet.{AreCoded}
 use Rattle.jvm_model.specs.Run.{turn, run, step, start, turn_in-zero, turn_in-more}
 use Rattle.jvm_model.specs.StandsFor.{IsBuilt, ProbeCall, by_homes, home_at, probe_at, mark_at, marking_of}
+use Rattle.jvm_model.specs.SharedState.{shared_before}
 use Rattle.jvm_model.specs.Starting.{begun_in, unbegun_in}
 use Rattle.jvm_model.proofs.QuietStart.{start-is, main-coded}
 use Rattle.jvm_model.proofs.RewrittenAgrees.{norm_in, original-agrees, rewritten-agrees}
@@ -44,7 +47,8 @@ use Rattle.jvm_model.proofs.QuietSteps.{IsStepOf, step-of}
 use Rattle.jvm_model.proofs.TracesEvents.{IsAlways, all_told_of, events-start}
 use Rattle.jvm_model.proofs.TracesFrames.{events-step_more}
 use Rattle.jvm_machine.specs.declared.probes.Probe.{Probe}
-use Rattle.jvm_machine.specs.Moves.{entry_here, leave_here, leave_behind, leave_passed, Move, told_by, entered_by, entered, stack_at, state_at, stepped_by, stepped, rest_by}
+use Rattle.jvm_machine.specs.Loads.{loads_in, loads_of_step}
+use Rattle.jvm_machine.specs.Moves.{entered_with, entry_here, leave_here, leave_behind, leave_passed, Move, told_by, entered_by, entered, stack_at, started_move, state_at, stepped_by, stepped, rest_by}
 use Rattle.jvm_machine.specs.Probes.{placed_probe, placed_probe_at, probe_of_kind, events_by}
 use Rattle.jvm_machine.specs.Running.{top_of, is_done, finished, shown_of}
 use Rattle.jvm_machine.specs.View.{Place}
@@ -89,6 +93,13 @@ pub record IsStep (t : Installed) (n : ℕ) (m : Move) : Type 0 where
   pub waits : is_done t m.told m.state ≡ false → shown_of m.state ≡ shown_of (run (world_in t) (n - 1))
   pub counts : m.told ≡ told_by m.probe
   pub behind : StandsBehind t.image m.probe m.state.stack
+
+-- it tells no classes
+pub step-none : (t : Installed) (s : State) → (stepped t s).loads ≡ []
+step-none t s = by (leave_here t.image s.stack) where
+  by : (p : Option Probe) → (stepped_by t s p).loads ≡ []
+  by None = refl
+  by (Some p) = refl
 
 module _ (t : Installed) (built : IsBuilt (class_in t)) (of : IsProgramOf (class_in t) t.program) (meant : IsMeant (class_in t) t.program) (agrees : Agrees (class_in t) t.marks t.image t.homes) where
   abbrev w : World
@@ -270,7 +281,7 @@ module _ (t : Installed) (built : IsBuilt (class_in t)) (of : IsProgramOf (class
       let f : Frame = now_is.has_frame.frame in
       ap (λ p. probe_of_kind is_leave_kind (option_map (placed_probe (home_at t.homes f.version f.place)) p)) (agrees.leaves f.version f.place _ now_is.step_is.start now_is.step_is.has.lined)
 
-  left-step : (n : ℕ) (now_is : Stepping n) → left_in n now_is ≡ true → IsStep t (n + 1) (record { state = state_at (left_probe n now_is).next (there n); told = 1; probe = Some (left_probe n now_is) })
+  left-step : (n : ℕ) (now_is : Stepping n) → left_in n now_is ≡ true → IsStep t (n + 1) (record { state = state_at (left_probe n now_is).next (there n); told = 1; probe = Some (left_probe n now_is); loads = [] })
   left-step n now_is left =
       let f : Frame = now_is.has_frame.frame in
       let below : List Entry = now_is.has_frame.below in
@@ -355,7 +366,54 @@ module _ (t : Installed) (built : IsBuilt (class_in t)) (of : IsProgramOf (class
       (ap (λ (a : Turn). a.after) (start-placed_is ∙ ap (moved_turn (by_homes t.homes)) (sym (turn_in-zero w (original w.program)))))
       (events-start (marking_of t.marks) mark always w ∙ ap (λ (a : Turn). all_told_of mark 0 [] a.changes) is)
 
-  pub start-step : IsStep t 0 (entered t (start_placed t))
+  -- the state that the start gives
+  pub start-there : (start_placed t).after ≡ there 0
+  start-there = ap (λ (a : Turn). a.after) (start-placed_is ∙ ap (moved_turn (by_homes t.homes)) (sym (turn_in-zero w (original w.program))))
+
+  start-step : IsStep t 0 (entered t (start_placed t))
   start-step =
       started-by (has_room w t.program.main argument_array) refl
       (turn_in-zero w (original w.program) ∙ start-is (class_in t) w (original w.program) built of meant)
+
+  -- behind its classes: an activation began where `main` has begun
+  started-is : started_move t (start_placed t).after ≡ entered t (start_placed t)
+  started-is = by (has_room w t.program.main argument_array) where
+    placed : Bool → Turn
+    placed b = cond b (record {
+      after = record (ready t) { begun = true; stack = Active (new_frame w (tabled t) t.program.main argument_array) ∷ [] };
+      changes = Loads (0 ∷ []) ∷ Began t.program.main ∷ [];
+    }) (record { after = record (ready t) { ending = Some (Unverifiable t.program.main 0) }; changes = Loads (0 ∷ []) ∷ [] })
+
+    by : (b : Bool) → started_move t (placed b).after ≡ entered t (placed b)
+    by true = refl
+    by false = refl
+
+  pub started-step : IsStep t 0 (started_move t (there 0))
+  started-step = subst (λ s. IsStep t 0 (started_move t s)) start-there (subst (IsStep t 0) (sym started-is) start-step)
+
+  -- ---- what is loaded
+
+  -- the start loads the class
+  pub start-loads : loads_of_step w 0 ≡ 0 ∷ []
+  start-loads =
+      ap (λ (a : Turn). loads_in a.changes) (turn_in-zero w (original w.program) ∙ start-is (class_in t) w (original w.program) built of meant)
+      ∙ by (has_room w t.program.main argument_array)
+    where
+      by : (b : Bool) → loads_in (cond b (begun_in w (original w.program)) (unbegun_in w)).changes ≡ 0 ∷ []
+      by true = refl
+      by false = refl
+
+  went-loads : (q : Resolved) (a : Turn) → Went (class_in t) (original w.program) q a → loads_in a.changes ≡ []
+  went-loads q a (stays goes changes) = ap loads_in changes
+  went-loads q a (starts goes v f below code version place stack changes) = ap loads_in changes
+  went-loads q a (leaves returns changes) = ap loads_in changes
+
+  -- and no other step loads any
+  pub step-loads : (n : ℕ) → is_some (now n).ending ≡ false → loads_of_step w (n + 1) ≡ []
+  step-loads n going =
+      let now_is = stepping n going in
+      ap (λ (a : Turn). loads_in a.changes) (next-is n) ∙ went-loads now_is.step_is.has.resolved (step w (original w.program) (now n)) now_is.step_is.went
+
+  -- what is loaded in the run is what the start has loaded
+  pub run-loaded : (n : ℕ) → (now n).shared.loaded ≡ (shared_before w.program).loaded ++ 0 ∷ []
+  run-loaded n = ap (λ (s : Shared). s.loaded) (run-quiet (class_in t) w built of meant n).shared

@@ -8,6 +8,7 @@ pub mod Applied
 pub mod Lookups
 pub mod Moves
 pub mod Original
+pub mod Loads
 pub mod View
 pub mod Running
 pub mod Turns

@@ -1,36 +1,50 @@
--- How the parts of a machine move where no versions were installed: by the run itself, which tells nothing.
-use Rattle.std.specs.Prelude.{◌≡◌, ℕ, Bool, true, false, List, [], Option, Some, None, Result, OnOk, if◌then◌else◌}
+-- How the parts of a machine move where no versions were installed: by the run itself, which tells no event.
+use Rattle.std.specs.Prelude.{◌≡◌, ℕ, Bool, true, false, List, [], drop, length, Option, Some, None, Result, OnOk, if◌then◌else◌}
 use Rattle.jf_bytes.specs.declared.error.NoMemory.{NoMemory}
 use Rattle.jvm_model.specs.declared.state.State.{State}
-use Rattle.jvm_model.specs.Data.{World}
+use Rattle.jvm_model.specs.Data.{Turn, World}
+use Rattle.jvm_model.specs.Load.{load_of}
 use Rattle.jvm_model.specs.Originals.{original}
 use Rattle.jvm_model.specs.Run.{start, step}
+use Rattle.jvm_model.specs.Sound.{IsFit, IsSound}
 use Rattle.jvm_steps.specs.declared.markers.Marker.{Marker}
 use Rattle.jvm_steps.specs.declared.parts.Parts.{Parts}
 use Rattle.jvm_steps.specs.Before.{IsAtStart}
+use Rattle.jvm_steps.specs.Linked.{Linked}
 use Rattle.jvm_steps.specs.Markers.{state_of}
+use Rattle.jvm_steps.specs.Prepared.{main_name}
 use Rattle.jvm_machine.specs.declared.stepping.Advance.{Advance}
-use Rattle.jvm_machine.specs.Moves.{Move, moved_on}
+use Rattle.jvm_machine.specs.Moves.{Move, brought, moved_on}
 use Rattle.jvm_machine.specs.Prepared.{Rewritten, installed}
 
--- the state after the start, or after one step more
-abbrev pub stepped_original : World → Bool → State → State
-stepped_original w started s = (if started then step w (original w.program) s else start w (original w.program)).after
+-- the start, or one step more
+abbrev pub turn_original : World → Bool → State → Turn
+turn_original w started s = if started then step w (original w.program) s else start w (original w.program)
 
-abbrev pub moved_original : World → Bool → State → Move
-moved_original w started s = record { state = stepped_original w started s; told = 0; probe = None }
+abbrev pub stepped_original : World → Bool → State → State
+stepped_original w started s = (turn_original w started s).after
+
+-- the classes that are loaded now, and were not before
+abbrev pub new_classes : State → State → List ℕ
+new_classes before now = drop (length before.shared.loaded) now.shared.loaded
+
+-- behind these nothing is left of a step
+abbrev pub moved_original : World → Bool → Bool → State → Move
+moved_original w started false s = let after = stepped_original w started s in brought (new_classes s after) after
+moved_original w started true s = brought [] s
 
 -- in the versions that are installed, or else by the run itself
-abbrev pub moved_in : World → Option Rewritten → Bool → ℕ → State → Move
-moved_in w None started told s = moved_original w started s
-moved_in w (Some r) started told s = moved_on (installed w r) started told s
+abbrev pub moved_in : World → Option Rewritten → Bool → Bool → ℕ → State → Move
+moved_in w None started loads_told told s = moved_original w started loads_told s
+moved_in w (Some r) started loads_told told s = moved_on (installed w r) started loads_told told s
 
 -- ---- what that needs
 
--- original code: for the start that of the start, and behind it nothing
-abbrev pub CanStep : World → Bool → State → Type 0
-CanStep w false s = IsAtStart w s
-CanStep w true s = Unit {0}
+-- original code, of a program that is fit: for the start that of the start, and behind it a sound state
+pub record CanStep (w : World) (started : Bool) (s : State) : Type 0 where
+  pub fit : IsFit w.program
+  pub start : started ≡ false → IsAtStart w s
+  pub sound : started ≡ true → IsSound w.program s
 
 abbrev pub CanMove : World → Option Rewritten → Bool → State → Type 0
 CanMove w None started s = CanStep w started s
@@ -40,6 +54,21 @@ CanMove w (Some r) started s = started ≡ false → IsAtStart w s
 abbrev pub ArePlain : Option Rewritten → List Marker → Type 0
 ArePlain None ms = Unit {0}
 ArePlain (Some r) ms = ms ≡ []
+
+-- the linker has loaded the classes that are loaded in the state; versions do without it
+abbrev pub AreLinked : Option Rewritten → List ℕ → State → Type 0
+AreLinked None loaded s = loaded ≡ s.shared.loaded
+AreLinked (Some r) loaded s = Unit {0}
+
+-- by the start of versions it loads the main class
+abbrev pub linked_over : Linked → Bool → List ℕ
+linked_over o true = o.loaded
+linked_over o false = (load_of o.world.program o.loaded (main_name o.world.program)).loaded
+
+-- what it has loaded then
+abbrev pub Links : Linked → Option Rewritten → Bool → State → List ℕ → Type 0
+Links o None started after loaded = loaded ≡ after.shared.loaded
+Links o (Some r) started after loaded = loaded ≡ linked_over o started
 
 -- where the parts and the markers have moved
 abbrev pub MovesAll : Result Advance NoMemory → List Marker → Parts → Move → Type 0

@@ -6,7 +6,7 @@ use Rattle.jvm_model.specs.StandsFor.{marking_of}
 use Rattle.jvm_machine.specs.View.{View, world, has_ended}
 
 -- The machine has made so many steps of original code: as many as it was to make, or else the run has ended. None of them
--- is behind the end of the run, and they have told nothing.
+-- is behind the end of the run, and they have told no event; which classes they have loaded is not told.
 pub record RunsOn (old : View) (most : ℕ) (new : View) : Type 0 where
   pub steps : ℕ
   pub within : steps ≤ most

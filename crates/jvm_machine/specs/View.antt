@@ -1,5 +1,5 @@
 -- What a clause sees of a machine: what it runs, in which versions, and how far it has come.
-use Rattle.std.specs.Prelude.{ℕ, ◌+◌, ◌-◌, ◌^◌, Bool, true, false, List, map, min, Option, None, is_some, ◌==◌, if◌then◌else◌}
+use Rattle.std.specs.Prelude.{ℕ, ◌+◌, ◌-◌, ◌^◌, Bool, true, false, List, [], map, min, Option, None, is_some, not, ◌==◌, ◌&&◌, if◌then◌else◌}
 use Rattle.const_pool.specs.declared.class.ClassFile.{ClassFile}
 use Rattle.code_model.specs.declared.laying.Homes.{Homes}
 use Rattle.jvm_model.specs.declared.event.Event.{Event}
@@ -13,6 +13,7 @@ use Rattle.jvm_model.specs.Programs.{first_class}
 use Rattle.jvm_model.specs.EventLists.{step_events}
 use Rattle.jvm_model.specs.Run.{before, run}
 use Rattle.jvm_model.specs.StandsFor.{marking_of}
+use Rattle.jvm_machine.specs.Loads.{loads_of_step}
 
 -- where a frame stands: in which method, and at which place of its version
 pub record Place : Type 0 where
@@ -21,8 +22,8 @@ pub record Place : Type 0 where
 
 -- A machine of a program, with its input; the marks of the versions of the first class's methods that it runs, their image and
 -- homes; whether none were installed, so that original code runs. It has made the start, or not; memory has run out, or not;
--- the clock is the number of steps begun after the start; so many events of the step in hand were told; whether its
--- instruction was done; and the current frame stands here.
+-- the clock is the number of steps begun after the start; so many events of the step in hand were told; whether it was told which
+-- classes that step has loaded; whether its instruction was done; and the current frame stands here.
 pub record View : Type 0 where
   pub program : Program
   pub input : List ℕ
@@ -34,6 +35,7 @@ pub record View : Type 0 where
   pub broken : Bool
   pub clock : ℕ
   pub told : ℕ
+  pub loads_told : Bool
   pub done : Bool
   pub top : Option Place
 
@@ -50,6 +52,7 @@ made program input = record {
   broken = false;
   clock = 0;
   told = 0;
+  loads_told = false;
   done = true;
   top = None;
 }
@@ -79,7 +82,7 @@ has_ended v = is_some (state_of v).ending
 
 -- no step is in hand
 abbrev pub is_resting : View → Bool
-is_resting v = v.told == 0
+is_resting v = v.told == 0 && not v.loads_told
 
 -- the start, or one step further
 abbrev pub advanced : View → View
@@ -92,3 +95,7 @@ begun v = if is_resting v then advanced v else v
 -- the events of the step in hand
 abbrev pub events_now : View → List Event
 events_now v = step_events (marking_of v.marks) (world v) v.clock
+
+-- the classes that it has loaded, where they are still to be told
+abbrev pub loads_left : View → List ℕ
+loads_left v = if v.loads_told then [] else loads_of_step (world v) v.clock

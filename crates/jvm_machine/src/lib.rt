@@ -14,6 +14,7 @@ mod probes;
 mod running;
 mod stepping;
 mod tables;
+mod telling;
 mod turn;
 mod versions;
 

@@ -4,7 +4,7 @@
 ghost use Rattle.std.specs.Prelude.{◌≡◌, ◌<◌, ◌^◌, length};
 ghost use Rattle.const_pool.specs.Members.{reference_view};
 ghost use Rattle.std.specs.Option.{option_and_then};
-ghost use Rattle.jvm_model.specs.Lines.{constant_in, pool_operation, other_operation};
+ghost use Rattle.jvm_model.specs.Lines.{constant_in, named_by, naming_of, other_operation};
 ghost use Rattle.const_pool.specs.declared.class.ClassFile.{ClassFile as Class};
 ghost use Rattle.jvm_model.specs.Resolved.{own_method, resolved_constant, resolved_binary};
 ghost use Rattle.jvm_model.specs.Resolved.{resolved_in, resolved_of};
@@ -114,7 +114,8 @@ fn invokestatic(class: &ClassFile, index: u16) -> Option<Resolved>
 /// What an instruction with a pool index does: getstatic, invokevirtual and invokestatic.
 fn pool_operation(class: &ClassFile, op: u8, index: u16) -> Option<Resolved>
     requires { length class.now.methods < 2 ^ 32 }
-    ensures { result ≡ option_and_then (resolved_in class.now) (pool_operation class.now op index) }
+    ensures { let operation = option_and_then named_by (naming_of class.now op index) in
+        result ≡ option_and_then (resolved_in class.now) operation }
 {
     match op {
         178 => getstatic(&class.pool, index),
@@ -133,7 +134,9 @@ fn other_operation(class: &ClassFile, op: u8, arg: &Arg) -> Option<Resolved>
 {
     match arg {
         Arg::Pool(index) => pool_operation(class, op, *index),
-        // newarray, and those that see objects
+        // invokeinterface, multianewarray, newarray, and those that see objects
+        Arg::Interface(..) => None,
+        Arg::Multi(..) => None,
         Arg::Array(_) => None,
         Arg::Plain => None,
         _ => None,

@@ -5,18 +5,21 @@ ghost use Rattle.std.specs.Prelude.{OnOk, OnErr, IfOk};
 ghost use Rattle.jvm_model.specs.Images.{IsImage};
 ghost use Rattle.jvm_model.specs.OneClass.{IsBuiltProgram};
 ghost use Rattle.jvm_model.specs.Programs.{first_class};
+ghost use Rattle.jvm_model.specs.Sound.{IsFit};
 ghost use Rattle.jvm_steps.specs.Before.{CanStart};
 ghost use Rattle.jvm_steps.specs.Prepared.{FitsOriginals};
 ghost use Rattle.jvm_machine.specs.Advances.{Advances, broken_in};
 ghost use Rattle.jvm_machine.specs.Several.{RunsOn, stopped_in};
 ghost use Rattle.jvm_machine.specs.Turns.{Turns, IsGoingOn};
-ghost use Rattle.jvm_machine.specs.View.{made, shown, live_of, with_image, is_resting, has_ended};
+ghost use Rattle.jvm_machine.specs.View.{made, shown, state_of as run_state, live_of, with_image};
+ghost use Rattle.jvm_machine.specs.View.{is_resting, has_ended};
 
-use crate::probes::Probe;
 use crate::running::go_on;
 use crate::stepping::clock_in;
 use crate::tables::Versions;
+use crate::telling::{Telling, telling_by, told_behind};
 use crate::turn::Turn;
+use class_linker::Linker;
 use code_model::Homes;
 use const_pool::ClassFile;
 use jf_bytes::{NoMemory, Seq, Stack};
@@ -37,6 +40,7 @@ pub struct Vm {
     parts: Parts,
     markers: Stack<Marker>,
     told: u32,
+    loads_told: bool,
     started: bool,
     broken: bool,
     clock: u64,
@@ -46,21 +50,23 @@ impl Model for Vm {
     ghost use Rattle.std.specs.Prelude.{◌≡◌, false};
     ghost use Rattle.jvm_machine.specs.View.{View};
     ghost use Rattle.jvm_machine.specs.Original.{ArePlain};
-    ghost use Rattle.jvm_machine.specs.Running.{AreRunning, seen_in};
+    ghost use Rattle.jvm_machine.specs.Running.{AreRunning, IsLinked, seen_in};
     ghost use Rattle.jvm_steps.specs.Markers.{state_of};
 
     ghost Value = { View };
 
-    ghost view = { λ v. seen_in v.originals v.versions (state_of v.markers v.parts) v.told v.started v.broken v.clock };
+    ghost view = { λ v. seen_in v.originals.world v.versions (state_of v.markers v.parts) v.told v.loads_told v.started v.broken v.clock };
 
     ghost invariant = { λ v. (v.broken ≡ false → ArePlain v.versions v.markers)
-        × AreRunning v.originals v.versions (state_of v.markers v.parts) v.told v.started v.broken v.clock };
+        × AreRunning v.originals.world v.versions (state_of v.markers v.parts) v.told v.loads_told v.started v.broken v.clock
+        × IsLinked (seen_in v.originals.world v.versions (state_of v.markers v.parts) v.told v.loads_told v.started v.broken v.clock) v.originals.loaded };
 }
 
 impl Vm {
     /// A machine that will run the program from its main method. It looks up every offset of every original code once.
     pub fn new(alloc: Global, program: Program, input: Vec<u8>) -> Result<Vm, NoMemory>
         requires fits { FitsOriginals program }
+        requires fit { IsFit program }
         requires starts { CanStart program }
         ensures { IfOk result (λ vm. vm ≡ made program input.items) }
     {
@@ -73,6 +79,7 @@ impl Vm {
             parts,
             markers: Stack::new(alloc),
             told: 0,
+            loads_told: false,
             started: false,
             broken: false,
             clock: 0,
@@ -102,44 +109,55 @@ impl Vm {
         Ok(())
     }
 
+    /// Whether there is no step in hand.
+    fn is_resting(&self) -> bool
+        ensures { result ≡ is_resting self.now }
+    {
+        self.told == 0 && !self.loads_told
+    }
+
     /// Whether there is no step in hand, and the run has ended.
     fn is_over(&self) -> bool
         ensures { self.now.broken ≡ false → result ≡ (is_resting self.now && has_ended self.now) }
     {
-        self.told == 0 && self.parts.ending.is_some()
+        self.is_resting() && self.parts.ending.is_some()
     }
 
-    /// Goes on to the next event of the step, or to its end; the answer is the probe that has told the event.
-    fn advance(&mut self) -> Result<Option<Probe>, NoMemory>
+    /// Goes on to what is told next of the step, or to its end.
+    fn advance(&mut self) -> Result<Telling, NoMemory>
         requires whole { self.old.broken ≡ false }
         requires going { IsGoingOn self.old }
         requires below { self.old.clock < 2 ^ 63 }
-        ensures ok { IfOk result (λ probe. Advances self.old probe self.new) }
+        ensures ok { IfOk result (λ telling. Advances self.old telling self.new) }
         ensures whole { OnOk result (self.new.broken ≡ false) }
         ensures err { OnErr result (self.new ≡ broken_in self.old self.new) }
     {
         let started = self.started;
+        let resting = self.is_resting();
         self.broken = true;
-        self.clock = clock_in(self.told, started, self.clock);
+        self.clock = clock_in(resting, started, self.clock);
         self.started = true;
         let advance = go_on(
             self.alloc,
-            &self.originals,
+            &mut self.originals,
             &self.versions,
             &mut self.parts,
             &mut self.markers,
             started,
+            self.loads_told,
             self.told,
         )?;
+        let telling = telling_by(advance.probe, advance.loads);
         self.told = advance.told;
+        self.loads_told = told_behind(self.loads_told, &telling);
         self.broken = false;
-        Ok(advance.probe)
+        Ok(telling)
     }
 
     /// Goes on with the step in hand, or begins the next one: the start, and then one instruction of the original class
-    /// a step. Each probe that a frame executes tells its event in a turn of its own, an entry probe after the
-    /// instruction and a leave probe before the return; then comes Settled, or Ended, exactly where the run has ended.
-    /// After want of memory the machine is broken, and does no more.
+    /// a step. Where it loads classes these are told first. Each probe that a frame executes tells its event in a turn of
+    /// its own, an entry probe after the instruction and a leave probe before the return; then comes Settled, or Ended,
+    /// exactly where the run has ended. After want of memory the machine is broken, and does no more.
     pub fn step(&mut self) -> Turn
         requires { self.old.clock < 2 ^ 63 }
         ensures { Turns self.old result self.new }
@@ -150,27 +168,29 @@ impl Vm {
         if self.is_over() {
             return Turn::Ended;
         }
-        let Ok(probe) = self.advance() else {
+        let Ok(telling) = self.advance() else {
             return Turn::NoMemory;
         };
-        match probe {
-            Some(probe) => Turn::Probe(Event {
+        match telling {
+            Telling::Classes(classes) => Turn::Loaded(classes),
+            Telling::Passed(probe) => Turn::Probe(Event {
                 kind: probe.kind,
                 method: probe.number,
                 clock: self.clock,
             }),
-            None if self.parts.ending.is_some() => Turn::Ended,
-            None => Turn::Settled,
+            Telling::Nothing if self.parts.ending.is_some() => Turn::Ended,
+            Telling::Nothing => Turn::Settled,
         }
     }
 
     /// Makes so many steps of original code, or those up to the end of the run. It is quicker than so
-    /// many calls of `step`. After want of memory the machine is broken.
+    /// many calls of `step`, and does not tell which classes they load. After want of memory the
+    /// machine is broken.
     pub fn run_on(&mut self, most: u64) -> Result<(), NoMemory>
         requires original { self.old.runs_original ≡ true }
         requires started { self.old.started ≡ true }
         requires whole { self.old.broken ≡ false }
-        requires resting { self.old.told ≡ 0 }
+        requires resting { is_resting self.old ≡ true }
         requires below { self.old.clock + most < 2 ^ 63 }
         ensures ok { OnOk result (RunsOn self.old most self.new) }
         ensures err { OnErr result (self.new ≡ stopped_in self.old self.new) }
@@ -178,7 +198,7 @@ impl Vm {
         self.broken = true;
         let made = run(
             self.alloc,
-            &self.originals,
+            &mut self.originals,
             &mut self.parts,
             &mut self.markers,
             most,
@@ -215,6 +235,15 @@ impl Vm {
         ensures { result.now ≡ first_class self.now.program }
     {
         &self.originals.program().classes.as_slice()[0]
+    }
+
+    /// What links its classes: it has loaded those that the run has loaded, the step in hand included.
+    pub fn linker(&self) -> &Linker
+        ensures program { result.now.program ≡ self.now.program }
+        ensures loaded { self.now.broken ≡ false
+            → result.now.loaded ≡ (run_state self.now).shared.loaded }
+    {
+        self.originals.linker()
     }
 
     /// What the program has written: by the step in hand only once its instruction was done.

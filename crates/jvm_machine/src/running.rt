@@ -1,57 +1,89 @@
 //! One call of `step` over original code, or over the versions that are installed.
 
-ghost use Rattle.std.specs.Prelude.{◌≡◌, [], false, None, OnOk, IfOk};
+ghost use Rattle.std.specs.Prelude.{◌≡◌, [], drop, false, None, OnOk, IfOk};
 ghost use Rattle.jvm_model.specs.Installed.{world_in};
 ghost use Rattle.jvm_steps.specs.Before.{IsAtStart};
 ghost use Rattle.jvm_steps.specs.Markers.{state_of};
-ghost use Rattle.jvm_machine.specs.Moves.{TellsAs, PassesAs, moved_on};
-ghost use Rattle.jvm_machine.specs.Original.{ArePlain, CanStep, CanMove, MovesAll};
-ghost use Rattle.jvm_machine.specs.Original.{stepped_original, moved_in};
+ghost use Rattle.jvm_machine.specs.Moves.{TellsAs, PassesAs, LoadsAs, moved_on};
+ghost use Rattle.jvm_machine.specs.Original.{AreLinked, ArePlain, CanStep, CanMove, Links, MovesAll};
+ghost use Rattle.jvm_machine.specs.Original.{linked_over, moved_in, moved_original};
+ghost use Rattle.jvm_machine.specs.Original.{stepped_original};
+ghost use Rattle.jvm_machine.specs.Prepared.{installed};
 
-use crate::stepping::{Advance, move_on};
+use crate::stepping::{Advance, brought, move_on};
 use crate::tables::{Tables, Versions};
-use jf_bytes::{NoMemory, Stack};
+use class_linker::Loaded;
+use jf_bytes::{NoMemory, Seq, Stack};
 use jvm_steps::{Marker, Originals, Parts, start, step};
 use std::alloc::Global;
 
 /// The start, or one step of original code.
 fn step_original(
     alloc: Global,
-    originals: &Originals,
+    originals: &mut Originals,
     parts: &mut Parts,
     markers: &mut Stack<Marker>,
     started: bool,
 ) -> Result<(), NoMemory>
-    requires { CanStep originals.now started (state_of markers.old parts.old) }
-    ensures { let s = state_of markers.old parts.old in OnOk result
-        (state_of markers.new parts.new ≡ stepped_original originals.now started s) }
+    requires able { CanStep originals.old.world started (state_of markers.old parts.old) }
+    requires linked { originals.old.loaded ≡ parts.old.shared.loaded }
+    ensures state { let s = state_of markers.old parts.old in OnOk result
+        (state_of markers.new parts.new ≡ stepped_original originals.old.world started s) }
+    ensures linked { OnOk result (originals.new.loaded ≡ parts.new.shared.loaded) }
+    ensures world { originals.new.world ≡ originals.old.world }
 {
     if started {
         step(alloc, originals, parts, markers)
     } else {
-        start(originals, parts, markers)
+        start(alloc, originals, parts, markers)
     }
 }
 
-/// The same, as a call that tells nothing.
+/// The classes behind the first ones.
+fn behind(classes: &[u32], before: usize) -> &[u32]
+    ensures { result.now ≡ drop before classes.now }
+{
+    classes.get(before..).unwrap_or(&[])
+}
+
+/// A list of the classes behind the first ones.
+fn classes_behind(
+    alloc: Global,
+    classes: &[u32],
+    before: usize,
+) -> Result<Seq<u32>, NoMemory>
+    ensures { IfOk result (λ some. some ≡ drop before classes.now) }
+{
+    Ok(Seq::from_slice(alloc, behind(classes, before))?)
+}
+
+/// The same, as a call that tells no event: it tells the classes that were loaded, if some were.
 fn move_original(
     alloc: Global,
-    originals: &Originals,
+    originals: &mut Originals,
     parts: &mut Parts,
     markers: &mut Stack<Marker>,
     started: bool,
+    loads_told: bool,
 ) -> Result<Advance, NoMemory>
-    requires { CanStep originals.now started (state_of markers.old parts.old) }
-    ensures state { let s = state_of markers.old parts.old in OnOk result
-        (state_of markers.new parts.new ≡ stepped_original originals.now started s) }
+    requires able { CanStep originals.old.world started (state_of markers.old parts.old) }
+    requires linked { originals.old.loaded ≡ parts.old.shared.loaded }
+    ensures moved { let w = originals.old.world in let s = state_of markers.old parts.old in
+        MovesAll result markers.new parts.new (moved_original w started loads_told s) }
     ensures told { IfOk result (λ a. a.told ≡ 0) }
     ensures probe { IfOk result (λ a. a.probe ≡ None) }
+    ensures loads { let w = originals.old.world in let s = state_of markers.old parts.old in
+        LoadsAs result (moved_original w started loads_told s) }
+    ensures linked { OnOk result (originals.new.loaded ≡ parts.new.shared.loaded) }
+    ensures world { originals.new.world ≡ originals.old.world }
 {
+    if loads_told {
+        return Ok(brought(Seq::new(alloc)));
+    }
+    let before = parts.shared.loaded.len();
     step_original(alloc, originals, parts, markers, started)?;
-    Ok(Advance {
-        told: 0,
-        probe: None,
-    })
+    let loads = classes_behind(alloc, parts.shared.loaded.as_slice(), before)?;
+    Ok(brought(loads))
 }
 
 /// The same over versions, whose frames have no markers beside them.
@@ -61,50 +93,113 @@ fn move_versions(
     parts: &mut Parts,
     markers: &Stack<Marker>,
     started: bool,
+    loads_told: bool,
     told: u32,
 ) -> Result<Advance, NoMemory>
     requires plain { markers.now ≡ [] }
     requires early { started ≡ false
         → IsAtStart (world_in tables.now) (state_of markers.now parts.old) }
-    ensures moved { let m = moved_on tables.now started told (state_of markers.now parts.old) in
-        MovesAll result markers.now parts.new m }
-    ensures told { let m = moved_on tables.now started told (state_of markers.now parts.old) in
-        TellsAs result m }
-    ensures probe { let m = moved_on tables.now started told (state_of markers.now parts.old) in
-        PassesAs result m }
+    ensures moved { let s = state_of markers.now parts.old in
+        MovesAll result markers.now parts.new (moved_on tables.now started loads_told told s) }
+    ensures told { let s = state_of markers.now parts.old in
+        TellsAs result (moved_on tables.now started loads_told told s) }
+    ensures probe { let s = state_of markers.now parts.old in
+        PassesAs result (moved_on tables.now started loads_told told s) }
+    ensures loads { let s = state_of markers.now parts.old in
+        LoadsAs result (moved_on tables.now started loads_told told s) }
 {
-    move_on(alloc, tables, parts, started, told)
+    move_on(alloc, tables, parts, started, loads_told, told)
+}
+
+/// The linker loads the main class, with what it needs.
+fn link_main(alloc: Global, originals: &mut Originals) -> Result<(), NoMemory>
+    ensures loaded { OnOk result (originals.new.loaded ≡ linked_over originals.old false) }
+    ensures world { originals.new.world ≡ originals.old.world }
+{
+    match originals.load_main(alloc)? {
+        Loaded::New(..) | Loaded::Already(_) | Loaded::Throws(..) => Ok(()),
+        Loaded::NoMemory => Err(NoMemory),
+    }
+}
+
+/// The linker loads the main class by the start.
+fn link(alloc: Global, originals: &mut Originals, started: bool) -> Result<(), NoMemory>
+    ensures loaded { OnOk result (originals.new.loaded ≡ linked_over originals.old started) }
+    ensures world { originals.new.world ≡ originals.old.world }
+{
+    if started {
+        Ok(())
+    } else {
+        link_main(alloc, originals)
+    }
+}
+
+/// Goes on with the step in hand, or begins the next one, over versions.
+fn go_over(
+    alloc: Global,
+    originals: &mut Originals,
+    versions: &Versions,
+    parts: &mut Parts,
+    markers: &Stack<Marker>,
+    started: bool,
+    loads_told: bool,
+    told: u32,
+) -> Result<Advance, NoMemory>
+    requires plain { markers.now ≡ [] }
+    requires early { started ≡ false
+        → IsAtStart originals.old.world (state_of markers.now parts.old) }
+    ensures moved { let t = installed originals.old.world versions.now in
+        let s = state_of markers.now parts.old in
+        MovesAll result markers.now parts.new (moved_on t started loads_told told s) }
+    ensures told { let t = installed originals.old.world versions.now in
+        let s = state_of markers.now parts.old in
+        TellsAs result (moved_on t started loads_told told s) }
+    ensures probe { let t = installed originals.old.world versions.now in
+        let s = state_of markers.now parts.old in
+        PassesAs result (moved_on t started loads_told told s) }
+    ensures loads { let t = installed originals.old.world versions.now in
+        let s = state_of markers.now parts.old in
+        LoadsAs result (moved_on t started loads_told told s) }
+    ensures linked { OnOk result (originals.new.loaded ≡ linked_over originals.old started) }
+    ensures world { originals.new.world ≡ originals.old.world }
+{
+    link(alloc, originals, started)?;
+    let tables = Tables::new(originals, versions);
+    move_versions(alloc, &tables, parts, markers, started, loads_told, told)
 }
 
 /// Goes on with the step in hand, or begins the next one.
 pub fn go_on(
     alloc: Global,
-    originals: &Originals,
+    originals: &mut Originals,
     versions: &Option<Versions>,
     parts: &mut Parts,
     markers: &mut Stack<Marker>,
     started: bool,
+    loads_told: bool,
     told: u32,
 ) -> Result<Advance, NoMemory>
-    requires able { CanMove originals.now versions.now started (state_of markers.old parts.old) }
+    requires able { CanMove originals.old.world versions.now started
+        (state_of markers.old parts.old) }
+    requires linked { AreLinked versions.now originals.old.loaded (state_of markers.old parts.old) }
     requires plain { ArePlain versions.now markers.old }
-    ensures moved { let s = state_of markers.old parts.old in
-        MovesAll result markers.new parts.new (moved_in originals.now versions.now started told s) }
-    ensures told { let s = state_of markers.old parts.old in
-        TellsAs result (moved_in originals.now versions.now started told s) }
-    ensures probe { let s = state_of markers.old parts.old in
-        PassesAs result (moved_in originals.now versions.now started told s) }
+    ensures moved { let s = state_of markers.old parts.old in let w = originals.old.world in
+        MovesAll result markers.new parts.new (moved_in w versions.now started loads_told told s) }
+    ensures told { let s = state_of markers.old parts.old in let w = originals.old.world in
+        TellsAs result (moved_in w versions.now started loads_told told s) }
+    ensures probe { let s = state_of markers.old parts.old in let w = originals.old.world in
+        PassesAs result (moved_in w versions.now started loads_told told s) }
+    ensures loads { let s = state_of markers.old parts.old in let w = originals.old.world in
+        LoadsAs result (moved_in w versions.now started loads_told told s) }
+    ensures linked { let s = state_of markers.new parts.new in OnOk result
+        (Links originals.old versions.now started s originals.new.loaded) }
     ensures plain { OnOk result (ArePlain versions.now markers.new) }
+    ensures world { originals.new.world ≡ originals.old.world }
 {
     match versions {
-        None => move_original(alloc, originals, parts, markers, started),
-        Some(versions) => move_versions(
-            alloc,
-            &Tables::new(originals, versions),
-            parts,
-            markers,
-            started,
-            told,
+        None => move_original(alloc, originals, parts, markers, started, loads_told),
+        Some(versions) => go_over(
+            alloc, originals, versions, parts, markers, started, loads_told, told,
         ),
     }
 }

@@ -1,6 +1,6 @@
 //! One call of `step` over the parts of a machine: what it does to the state, and which probe is passed.
 
-ghost use Rattle.std.specs.Prelude.{◌≡◌, ◌^◌, ◌<◌, [], false, map, OnOk, IfOk};
+ghost use Rattle.std.specs.Prelude.{◌≡◌, ◌^◌, ◌<◌, [], ◌∷◌, None, false, map, OnOk, IfOk};
 ghost use Rattle.jvm_model.specs.Applies.{has_room};
 ghost use Rattle.jvm_model.specs.Moves.{argument_array};
 ghost use Rattle.jvm_steps.specs.Before.{IsAtStart};
@@ -9,8 +9,9 @@ ghost use Rattle.jvm_model.specs.Installed.{world_in};
 ghost use Rattle.jvm_machine.specs.Applied.{Becomes, TellsBegun, attempts_top};
 ghost use Rattle.jvm_steps.specs.States.{active, state_in};
 ghost use Rattle.jvm_machine.specs.States.{main_frames};
-ghost use Rattle.jvm_machine.specs.Moves.{told_by, move_with, EachWith, stepped, begun_move, rest_of};
-ghost use Rattle.jvm_machine.specs.Moves.{moved_on, clock_in, MovesTo, TellsAs, PassesAs};
+ghost use Rattle.jvm_machine.specs.Moves.{told_by, entered_with, stepped, begun_move, started_move};
+ghost use Rattle.jvm_machine.specs.Moves.{moved_first, moved_on, rest_of, clock_in};
+ghost use Rattle.jvm_machine.specs.Moves.{MovesTo, TellsAs, PassesAs, LoadsAs};
 
 use crate::applying::{break_off, do_line};
 use crate::invoking::begin_frame;
@@ -19,20 +20,37 @@ use crate::probes::Probe;
 use crate::tables::Tables;
 use frame_stack::Frames;
 use heap_objects::Value;
-use jf_bytes::NoMemory;
+use jf_bytes::{NoMemory, Seq};
 use jvm_model::Ending;
 use jvm_steps::{Parts, make_ready, where_now};
 use std::alloc::Global;
 
+/// The position of the class that has versions, which is the main class.
+const FIRST: u32 = 0;
+
 /// The argument array's object.
 const ARGUMENTS: u32 = 5;
 
-/// Where a call of `step` has left the machine: how many events of the step in hand were told, and the probe that has told
-/// the last one, if one has.
-#[derive(Clone, Copy, Debug, PartialEq, Eq)]
+/// Where a call of `step` has left the machine: how many events of the step in hand were told, the probe that has told
+/// the last one, if one has, and the classes that are to be told.
+#[derive(Debug, Drop)]
 pub struct Advance {
     pub told: u32,
     pub probe: Option<Probe>,
+    pub loads: Seq<u32>,
+}
+
+/// These classes are to be told, and no event.
+pub fn brought(loads: Seq<u32>) -> Advance
+    ensures told { result.told ≡ 0 }
+    ensures probe { result.probe ≡ None }
+    ensures loads { result.loads ≡ loads }
+{
+    Advance {
+        told: 0,
+        probe: None,
+        loads,
+    }
 }
 
 /// The frame of `main`, which has its argument array, if it has a local for it.
@@ -54,10 +72,9 @@ fn begin_main(tables: &Tables, frames: &mut Frames) -> Result<bool, NoMemory>
 }
 
 /// The start (5.2, 5.5): `main` begins, if it can.
-fn begin(tables: &Tables, parts: &mut Parts) -> Result<bool, NoMemory>
+fn begin(tables: &Tables, parts: &mut Parts) -> Result<(), NoMemory>
     requires { IsAtStart (world_in tables.now) (state_in parts.old) }
-    ensures state { Becomes result parts.new (start_placed tables.now) }
-    ensures begun { TellsBegun result (start_placed tables.now) }
+    ensures { Becomes result parts.new (start_placed tables.now) }
 {
     make_ready(tables.originals(), parts)?;
     let begun = begin_main(tables, &mut parts.frames)?;
@@ -66,7 +83,7 @@ fn begin(tables: &Tables, parts: &mut Parts) -> Result<bool, NoMemory>
     } else {
         break_off(parts, tables.main(), 0);
     }
-    Ok(begun)
+    Ok(())
 }
 
 /// One attempt of an instruction, up to what follows from it without another instruction.
@@ -114,11 +131,10 @@ fn told_by(probe: &Option<Probe>) -> u32
 }
 
 /// Behind an instruction: a method that began has passed its entry probe.
-fn enter(tables: &Tables, parts: &Parts, begun: bool) -> Advance
-    ensures told { let s = state_in parts.now in
-        EachWith begun (λ c. result.told ≡ (move_with tables.now s c).told) }
-    ensures probe { let s = state_in parts.now in
-        EachWith begun (λ c. result.probe ≡ (move_with tables.now s c).probe) }
+fn enter(alloc: Global, tables: &Tables, parts: &Parts, begun: bool) -> Advance
+    ensures told { result.told ≡ (entered_with tables.now begun (state_in parts.now)).told }
+    ensures probe { result.probe ≡ (entered_with tables.now begun (state_in parts.now)).probe }
+    ensures loads { result.loads ≡ [] }
 {
     let probe = if begun {
         entry_here(tables, parts)
@@ -126,18 +142,31 @@ fn enter(tables: &Tables, parts: &Parts, begun: bool) -> Advance
         None
     };
     let told = told_by(&probe);
-    Advance { told, probe }
+    Advance {
+        told,
+        probe,
+        loads: Seq::new(alloc),
+    }
 }
 
-/// The start.
-fn make_start(tables: &Tables, parts: &mut Parts) -> Result<Advance, NoMemory>
+/// A list of one class.
+fn one_class(alloc: Global, class: u32) -> Result<Seq<u32>, NoMemory>
+    ensures { IfOk result (λ classes. classes ≡ class ∷ []) }
+{
+    Ok(Seq::from_slice(alloc, &[class])?)
+}
+
+/// The start, which loads the first class.
+fn make_start(alloc: Global, tables: &Tables, parts: &mut Parts) -> Result<Advance, NoMemory>
     requires { IsAtStart (world_in tables.now) (state_in parts.old) }
     ensures moved { MovesTo result parts.new (begun_move tables.now false (state_in parts.old)) }
     ensures told { TellsAs result (begun_move tables.now false (state_in parts.old)) }
     ensures probe { PassesAs result (begun_move tables.now false (state_in parts.old)) }
+    ensures loads { LoadsAs result (begun_move tables.now false (state_in parts.old)) }
 {
-    let begun = begin(tables, parts)?;
-    Ok(enter(tables, parts, begun))
+    begin(tables, parts)?;
+    let loads = one_class(alloc, FIRST)?;
+    Ok(brought(loads))
 }
 
 /// A step, up to the event that it tells first.
@@ -145,15 +174,17 @@ fn make_step(alloc: Global, tables: &Tables, parts: &mut Parts) -> Result<Advanc
     ensures moved { MovesTo result parts.new (stepped tables.now (state_in parts.old)) }
     ensures told { TellsAs result (stepped tables.now (state_in parts.old)) }
     ensures probe { PassesAs result (stepped tables.now (state_in parts.old)) }
+    ensures loads { LoadsAs result (stepped tables.now (state_in parts.old)) }
 {
     let Some(probe) = leave_here(tables, parts) else {
         let begun = attempt_one(alloc, tables, parts)?;
-        return Ok(enter(tables, parts, begun));
+        return Ok(enter(alloc, tables, parts, begun));
     };
     stand_at(parts, probe.next);
     Ok(Advance {
         told: 1,
         probe: Some(probe),
+        loads: Seq::new(alloc),
     })
 }
 
@@ -168,11 +199,46 @@ fn begin_step(
     ensures moved { MovesTo result parts.new (begun_move tables.now started (state_in parts.old)) }
     ensures told { TellsAs result (begun_move tables.now started (state_in parts.old)) }
     ensures probe { PassesAs result (begun_move tables.now started (state_in parts.old)) }
+    ensures loads { LoadsAs result (begun_move tables.now started (state_in parts.old)) }
 {
     if started {
         make_step(alloc, tables, parts)
     } else {
-        make_start(tables, parts)
+        make_start(alloc, tables, parts)
+    }
+}
+
+/// Behind the classes of the start.
+fn go_from_start(alloc: Global, tables: &Tables, parts: &Parts) -> Advance
+    ensures told { result.told ≡ (started_move tables.now (state_in parts.now)).told }
+    ensures probe { result.probe ≡ (started_move tables.now (state_in parts.now)).probe }
+    ensures loads { result.loads ≡ [] }
+{
+    enter(alloc, tables, parts, parts.begun)
+}
+
+/// The same where nothing of the step in hand was told but its classes.
+fn move_first(
+    alloc: Global,
+    tables: &Tables,
+    parts: &mut Parts,
+    started: bool,
+    loads_told: bool,
+) -> Result<Advance, NoMemory>
+    requires { started ≡ false → IsAtStart (world_in tables.now) (state_in parts.old) }
+    ensures moved { let s = state_in parts.old in
+        MovesTo result parts.new (moved_first tables.now started loads_told s) }
+    ensures told { let s = state_in parts.old in
+        TellsAs result (moved_first tables.now started loads_told s) }
+    ensures probe { let s = state_in parts.old in
+        PassesAs result (moved_first tables.now started loads_told s) }
+    ensures loads { let s = state_in parts.old in
+        LoadsAs result (moved_first tables.now started loads_told s) }
+{
+    if loads_told {
+        Ok(go_from_start(alloc, tables, parts))
+    } else {
+        begin_step(alloc, tables, parts, started)
     }
 }
 
@@ -192,30 +258,32 @@ pub fn move_on(
     tables: &Tables,
     parts: &mut Parts,
     started: bool,
+    loads_told: bool,
     told: u32,
 ) -> Result<Advance, NoMemory>
     requires { started ≡ false → IsAtStart (world_in tables.now) (state_in parts.old) }
     ensures moved { let s = state_in parts.old in
-        MovesTo result parts.new (moved_on tables.now started told s) }
-    ensures told { TellsAs result (moved_on tables.now started told (state_in parts.old)) }
-    ensures probe { PassesAs result (moved_on tables.now started told (state_in parts.old)) }
+        MovesTo result parts.new (moved_on tables.now started loads_told told s) }
+    ensures told { let s = state_in parts.old in
+        TellsAs result (moved_on tables.now started loads_told told s) }
+    ensures probe { let s = state_in parts.old in
+        PassesAs result (moved_on tables.now started loads_told told s) }
+    ensures loads { let s = state_in parts.old in
+        LoadsAs result (moved_on tables.now started loads_told told s) }
 {
     if told == 0 {
-        return begin_step(alloc, tables, parts, started);
+        return move_first(alloc, tables, parts, started, loads_told);
     }
     finish_step(alloc, tables, parts)?;
-    Ok(Advance {
-        told: 0,
-        probe: None,
-    })
+    Ok(brought(Seq::new(alloc)))
 }
 
 /// The clock rises where a step after the start begins.
-pub fn clock_in(told: u32, started: bool, clock: u64) -> u64
+pub fn clock_in(resting: bool, started: bool, clock: u64) -> u64
     requires { clock < 2 ^ 63 }
-    ensures { result ≡ clock_in told started clock }
+    ensures { result ≡ clock_in resting started clock }
 {
-    if told != 0 {
+    if !resting {
         return clock;
     }
     if started { clock + 1 } else { 0 }

@@ -171,7 +171,7 @@ quiet-end : (cs : List Change) → is_quiet cs ≡ true → OnlyEnd cs
 quiet-end [] e = tt
 quiet-end (c ∷ cs) e = absurd (let f : false ≡ true = e in cc)
 
-by-begins : (w : World) (t : Text) (i : Instruction) (s : State) (f : Frame) → s.ending ≡ None → s.thrown ≡ None → EndThenBegin (steps_by w t i s f (does w i.operation s.shared f.locals f.operands)).changes
+pub by-begins : (w : World) (t : Text) (i : Instruction) (s : State) (f : Frame) → s.ending ≡ None → s.thrown ≡ None → EndThenBegin (steps_by w t i s f (does w i.operation s.shared f.locals f.operands)).changes
 by-begins w t i s f open' calm =
     let a = attempt w t i s f in
     let again : State = record a.after { stack = s.stack } in
@@ -191,7 +191,7 @@ at-ordered w t s f (Some i) open' calm =
     loaded-ordered classes turn (by-begins w t i ready f (ending ∙ open') (thrown ∙ calm))
 
 -- where no move applies and a frame is on top, nothing is thrown
-stopped-calm : (w : World) (t : Text) (s : State) (thrown : Option ℕ) (f : Frame) (below : List Entry) → moves w t s None thrown (Active f ∷ below) ≡ None → thrown ≡ None
+pub stopped-calm : (w : World) (t : Text) (s : State) (thrown : Option ℕ) (f : Frame) (below : List Entry) → moves w t s None thrown (Active f ∷ below) ≡ None → thrown ≡ None
 stopped-calm w t s None f below e = refl
 stopped-calm w t s (Some r) f below e = absurd (none-some _ (sym e))
 
@@ -209,10 +209,12 @@ step-ordered w t u s stop = on-ordered w t u s s.ending s.stack refl stop
 pub step-begins : (w : World) (t u : Text) (s : State) → move w t s ≡ None → begun (step w u s).changes ≤ 1
 step-begins w t u s stop = ordered-once (step w u s).changes (step-ordered w t u s stop)
 
+-- behind what the start loads
+pub started-begins : (w : World) (t : Text) → EndThenBegin (settled w t (still (starts_with w))).changes
+started-begins w t = settled-begins w t (still (starts_with w)) (inl tt)
+
 pub start-ordered : (w : World) (t : Text) → AreOrdered (start w t).changes
-start-ordered w t =
-    let first = still (starts_with w) in
-    loaded-ordered (main_loads w) (settled w t first) (settled-begins w t first (inl tt))
+start-ordered w t = loaded-ordered (main_loads w) (settled w t (still (starts_with w))) (started-begins w t)
 
 pub start-begins : (w : World) (t : Text) → begun (start w t).changes ≤ 1
 start-begins w t = ordered-once (start w t).changes (start-ordered w t)

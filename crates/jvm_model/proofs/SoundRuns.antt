@@ -34,7 +34,7 @@ none-some x e = cc
 
 -- ---- classes are loaded
 
-with-loaded-is : (classes : List ℕ) (s : State) → (with_loaded classes s).shared.loaded ≡ s.shared.loaded ++ classes
+pub with-loaded-is : (classes : List ℕ) (s : State) → (with_loaded classes s).shared.loaded ≡ s.shared.loaded ++ classes
 with-loaded-is [] s = sym (append-nil s.shared.loaded)
 with-loaded-is (c ∷ more) s = refl
 
@@ -159,22 +159,31 @@ module _ (w : World) (fit : IsFit w.program) where
       (subst (λ loaded. CanAttempt w.program loaded i.operation) (sym first.same) can)
       (loads-same w i.operation a.after.shared s.shared f.operands first.same ∙ nothing)))
 
-  at-sound : (s : State) (f : Frame) (found : Option Instruction) → IsSound w.program s → IsSoundEntry w.program s.shared.loaded (Active f) → s.ending ≡ None
-      → (original w.program).at f.version f.place ≡ found → IsSound w.program (steps_at w (original w.program) s f found).after
-  at-sound s f None is entry on e = (applied-goes w fit (record { operation = Athrow; own = 0; next = None; targets = [] }) (Breaks false) s f is entry tt).sound
-  at-sound s f (Some i) is entry on e =
+  -- what an instruction loads is loaded, and it leads to a sound state with no more
+  pub at-goes : (s : State) (f : Frame) (i : Instruction) → IsSound w.program s → IsSoundEntry w.program s.shared.loaded (Active f)
+      → (original w.program).at f.version f.place ≡ Some i
+      → (let ready : State = with_loaded (loads w i.operation s.shared f.operands) s in
+      GoesTo w.program ready.shared.loaded (steps_by w (original w.program) i ready f (does w i.operation ready.shared f.locals f.operands)).after)
+  at-goes s f i is entry e =
       let classes = loads w i.operation s.shared f.operands in
       let ready : State = with_loaded classes s in
-      let sound : IsSound w.program ready = sound-loaded w i.operation f.operands s is in
       let there : IsSoundEntry w.program ready.shared.loaded (Active f) =
       subst (λ loaded. IsSoundEntry w.program loaded (Active f)) (sym (with-loaded-is classes s))
       (entry-grows w.program s.shared.loaded (s.shared.loaded ++ classes) (λ class h. among-front class s.shared.loaded classes h) (Active f) entry) in
       let can : CanAttempt w.program ready.shared.loaded i.operation =
       can-attempt w.program fit ready.shared.loaded f.version f.place i
       (subst (λ m. HasClass w.program ready.shared.loaded m) (sym there.1) there.0) e in
+      by-goes i ready f (sound-loaded w i.operation f.operands s is) there can (loads-again w i.operation s f.operands)
+
+  at-sound : (s : State) (f : Frame) (found : Option Instruction) → IsSound w.program s → IsSoundEntry w.program s.shared.loaded (Active f) → s.ending ≡ None
+      → (original w.program).at f.version f.place ≡ found → IsSound w.program (steps_at w (original w.program) s f found).after
+  at-sound s f None is entry on e = (applied-goes w fit (record { operation = Athrow; own = 0; next = None; targets = [] }) (Breaks false) s f is entry tt).sound
+  at-sound s f (Some i) is entry on e =
+      let classes = loads w i.operation s.shared f.operands in
+      let ready : State = with_loaded classes s in
       subst (λ (x : State). IsSound w.program x)
       (sym (loaded-after classes (steps_by w (original w.program) i ready f (does w i.operation ready.shared f.locals f.operands))))
-      (by-goes i ready f sound there can (loads-again w i.operation s f.operands)).sound
+      (at-goes s f i is entry e).sound
 
   on-sound : (s : State) (ending : Option Ending) (stack : List Entry) → IsSound w.program s → s.ending ≡ ending
       → AllByRecursion (IsSoundEntry w.program s.shared.loaded) stack → IsSound w.program (steps_on w (original w.program) s ending stack).after
