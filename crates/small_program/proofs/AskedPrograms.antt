@@ -1,6 +1,7 @@
 -- What admission answers has the arguments and the heap that the plan says.
-use Rattle.std.proofs.Common.{◌≡◌, ◌≤◌, ℕ, List, [], length, Option, Some, None, Result, Ok, Err, sym, ap, subst, ◌∙◌}
-use Rattle.std.specs.Prelude.{unwrap_or}
+use Rattle.std.proofs.Common.{◌≡◌, ◌≤◌, ℕ, true, List, [], ◌∷◌, length, Option, Some, None, Result, Ok, Err, refl, sym, ap, subst, ◌∙◌}
+use Rattle.std.specs.Prelude.{◌==◌, unwrap_or}
+use Rattle.std.proofs.lemmas.Bool.{and_parts}
 use Rattle.const_pool.specs.declared.class.ClassFile.{ClassFile}
 use Rattle.plan_text.specs.declared.plan.Plan.{Plan}
 use Rattle.jvm_model.specs.declared.event.Act.{Act}
@@ -8,7 +9,8 @@ use Rattle.jvm_model.specs.declared.program.Program.{Program}
 use Rattle.base_classes.specs.BuiltInFiles.{built_in_files}
 use Rattle.admit_check.specs.declared.error.AdmitError.{AdmitError}
 use Rattle.admit_check.specs.Admission.{unless_fault, program_with, count_fault, main_in, acts_from, with_acts, with_main, completed, classes_fault, admission_of}
-use Rattle.small_program.specs.Runnable.{IsUsual}
+use Rattle.small_program.specs.Admission.{are_built_actions, is_built_plan}
+use Rattle.small_program.specs.Runnable.{heap_of}
 
 abbrev Answer : Type 0
 Answer = Result Program AdmitError
@@ -52,9 +54,15 @@ asked-of classes main plan p e =
     (behind (count_fault made) (with_main made plan (main_in made (length classes) main)) p
     (behind (classes_fault [] classes) (completed made (length classes) main plan) p e))
 
--- of a usual plan: no arguments, and a heap with room
-pub usual-args : (plan : Plan) (p : Program) → IsUsual plan → IsAsked plan.args (unwrap_or plan.heap 4194304) p → p.args ≡ []
-usual-args plan p usual asked = asked.args ∙ usual.args
+-- ---- of a plan that runs so far, with room in the heap
 
-pub usual-heap : (plan : Plan) (p : Program) → IsUsual plan → IsAsked plan.args (unwrap_or plan.heap 4194304) p → 1024 ≤ p.heap
-usual-heap plan p usual asked = subst (λ n. 1024 ≤ n) (sym asked.heap) usual.heap
+none-in : (arguments : List (List ℕ)) → length arguments == 0 ≡ true → arguments ≡ []
+none-in [] e = refl
+none-in (first ∷ rest) e = absurd cc
+
+pub built-args : (plan : Plan) (p : Program) → is_built_plan plan ≡ true → IsAsked plan.args (unwrap_or plan.heap 4194304) p → p.args ≡ []
+built-args plan p built asked =
+    asked.args ∙ none-in plan.args (and_parts (length plan.args == 0) (are_built_actions plan.actions) built).0
+
+pub asked-heap : (plan : Plan) (p : Program) → 1024 ≤ heap_of plan → IsAsked plan.args (unwrap_or plan.heap 4194304) p → 1024 ≤ p.heap
+asked-heap plan p room asked = subst (λ n. 1024 ≤ n) (sym asked.heap) room

@@ -1,5 +1,5 @@
 -- What the machine asks of a program and of its root.
-use Rattle.std.specs.Prelude.{◌≡◌, ◌≤◌, ◌<◌, ℕ, [], length, Option, Some, IfSome, unwrap_or}
+use Rattle.std.specs.Prelude.{◌≡◌, ◌<◌, ℕ, length, Option, Some, IfSome, unwrap_or}
 use Rattle.plan_text.specs.declared.plan.Plan.{Plan}
 use Rattle.jvm_model.specs.declared.program.Program.{Program}
 use Rattle.jvm_model.specs.OneClass.{IsBuiltProgram}
@@ -10,11 +10,6 @@ use Rattle.jvm_steps.specs.Prepared.{FitsOriginals}
 -- the limit of the heap
 abbrev pub heap_of : Plan → ℕ
 heap_of plan = unwrap_or plan.heap 4194304
-
--- So far a plan has no arguments. The heap has room for the objects of the start, as every plan's has that a text says.
-pub record IsUsual (plan : Plan) : Type 0 where
-  pub args : plan.args ≡ []
-  pub heap : 1024 ≤ heap_of plan
 
 -- Its original code can be prepared, it can start, and where there is a root its first class can be rewritten and has the root.
 pub record IsRunnable (p : Program) (root : Option ℕ) : Type 0 where

@@ -1,5 +1,6 @@
 //! The part of what is admitted that runs so far: a program of one class, which has static methods alone, and with a root of its own
-//! is small. It goes when the machine runs whatever is admitted.
+//! is small; and a plan with no arguments and at most one action, which selects before the first step. It goes when the machine runs
+//! whatever is admitted.
 #![tactic(auto)]
 
 mod admission;
