@@ -75,8 +75,8 @@ fn word_at<R: Env>(alloc: Global, runtime: &R, number: usize) -> Result<Option<S
 
 /// The words of the process, of which the first is the program's name, for the program's `main`. No clause speaks of what a
 /// process was given.
-pub fn raw_words<R: Env>(alloc: Global, runtime: &R) -> Result<Vec<Seq<u8>>, NoMemory> {
-    let mut words = Vec::new(alloc);
+pub fn raw_words<R: Env>(alloc: Global, runtime: &R) -> Result<Seq<Seq<u8>>, NoMemory> {
+    let mut words = Seq::new(alloc);
     for number in 0..usize::MAX {
         match word_at(alloc, runtime, number)? {
             Some(word) => words.push(word)?,

@@ -16,6 +16,7 @@ use Rattle.jfluid_cli.specs.Sinks.{Streams, IsUntold}
 use Rattle.jfluid_cli.specs.Stages.{IsStopped}
 use Rattle.jfluid_cli.specs.Asking.{asked_by}
 use Rattle.jfluid_cli.specs.Runs.{IsCarriedOut, SameProgram, StopCause, is_ended_at}
+use Rattle.plan_text.specs.declared.plan.Plan.{Plan}
 use Rattle.jvm_model.specs.declared.program.Program.{Program}
 use Rattle.jvm_model.specs.OneClass.{IsBuiltProgram}
 use Rattle.jvm_model.specs.Programs.{first_class}
@@ -65,14 +66,14 @@ run-answer (Err r) outcome s budget text k ok untold why carried cause =
 
 -- ---- the root of the words
 
--- what is reported for the root of an admitted program is what is reported of the words
-pub root-reported : (words : List (List ℕ)) (command : Command) (contents : List (List ℕ))
-    (root : Option ℕ) (program : Program) (v : View) → command_of words ≡ Some command
+-- what is reported for the root of an admitted program is what is reported of the words and their plan
+pub root-reported : (words : List (List ℕ)) (plan : Plan) (command : Command) (contents : List (List ℕ))
+    (root : Option ℕ) (program : Program) (v : View) → command_of words plan ≡ Some command
     → length command.files ≡ length contents
     → RunAs (asked_by command) (classes_for contents program) program root
-    → v.program ≡ program → report_of root v ≡ reported_of words v
-root-reported words command contents root program v commanded many runs same =
-    let is : root_of words v.program ≡ root =
+    → v.program ≡ program → report_of root v ≡ reported_of words plan v
+root-reported words plan command contents root program v commanded many runs same =
+    let is : root_of words plan v.program ≡ root =
     ap (option_and_then (λ (k : Command). root_by k v.program)) commanded
     ∙ (ap (root_by command) same
     ∙ (ap (λ (n : ℕ). root_of_answer (answer_for (asked_by command) (take n program.classes))) many

@@ -3,6 +3,7 @@ use Rattle.std.proofs.Common.{◌≡◌, ℕ, ◌+◌, ◌<◌, ◌≤◌, List,
 use Rattle.std.specs.Prelude.{min, Result, Ok}
 use Rattle.jf_bytes.specs.Streams.{Rose, greatest}
 use Rattle.const_pool.specs.declared.class.ClassFile.{ClassFile}
+use Rattle.plan_text.specs.declared.plan.Plan.{Plan}
 use Rattle.jvm_model.specs.declared.program.Program.{Program}
 use Rattle.jvm_model.specs.declared.state.State.{State}
 use Rattle.admit_check.specs.declared.error.AdmitError.{AdmitError}
@@ -39,9 +40,9 @@ same_program : (x y : Program) → (let r : Result Program AdmitError = Ok x in 
 same_program x y e = cc e
 
 -- an answer has one program
-pub one-program : (answer : Result Program AdmitError) (cs ds : List ClassFile) (p q : Program)
-    (r s : Option ℕ) → Runs answer cs p r → Runs answer ds q s → p ≡ q
-one-program answer cs ds p q r s left right = same_program p q (sym left.admitted ∙ right.admitted)
+pub one-program : (plan : Plan) (answer : Result Program AdmitError) (cs ds : List ClassFile) (p q : Program)
+    (r s : Option ℕ) → Runs plan answer cs p r → Runs plan answer ds q s → p ≡ q
+one-program plan answer cs ds p q r s left right = same_program p q (sym left.admitted ∙ right.admitted)
 
 pub ending_of_same : (p q : Program) (x y : List ℕ) (budget : ℕ) → p ≡ q → x ≡ y
     → ending_of (world_on p x) budget ≡ ending_of (world_on q y) budget

@@ -1,84 +1,72 @@
 -- What a call answers, from what it left: all but the line follows from the run or the refusal.
-use Rattle.std.proofs.Common.{◌≡◌, ℕ, true, false, List, [], Option, Some, None, sym, ap, subst, ◌∙◌, inl, inr}
-use Rattle.std.specs.Prelude.{◌⊎◌, Ok, Err, IfSome, IsSome, IsSomeAnd}
+use Rattle.std.proofs.Common.{◌≡◌, ℕ, true, false, List, [], ◌∷◌, Option, Some, None, refl, sym, ap, subst, ◌∙◌, inl, inr}
+use Rattle.std.specs.Prelude.{◌⊎◌, Ok, Err, Result, IfSome, IsErr, IsSome, IsSomeAnd}
+use Rattle.std.specs.Option.{option_map_or}
 use Rattle.std.proofs.lemmas.Bool.{cases_eq}
-use Rattle.std.proofs.lemmas.Option.{same_Some, none-some}
+use Rattle.std.proofs.lemmas.Option.{none-some}
+use Rattle.jf_bytes.specs.declared.error.NoMemory.{NoMemory as OutOfMemory}
 use Rattle.jf_bytes.specs.Streams.{Told, PutsAll, PutsFront, Rose}
 use Rattle.const_pool.specs.declared.class.ClassFile.{ClassFile}
+use Rattle.plan_text.specs.declared.plan.Plan.{Plan}
 use Rattle.jvm_model.specs.declared.program.Program.{Program}
 use Rattle.jvm_model.specs.Run.{ending_of}
+use Rattle.command_line.specs.Words.{Read}
 use Rattle.jfluid_cli.specs.declared.kept.Kept.{Kept}
 use Rattle.jfluid_cli.specs.declared.refusal.Refusal.{Refusal}
-use Rattle.jfluid_cli.specs.declared.refusal.Refusal.TheVariants.{NoMemory}
-use Rattle.jfluid_cli.specs.Calls.{Call, given_of, IsRun, IsTrueOf, IsRefused, IsAnswered, PutsLine, AllCalm}
-use Rattle.jfluid_cli.specs.Asking.{asked_by, IsFine}
-use Rattle.jfluid_cli.specs.Causes.{Accepts, AreAccepted, IsAccepted, IsUnfit, OfWords}
-use Rattle.jfluid_cli.specs.Contents.{AreToldAs, classes_for}
-use Rattle.jfluid_cli.specs.Sinks.{SinkView, IsUntold, PutsOrRose}
-use Rattle.jfluid_cli.specs.Stages.{IsCarried}
+use Rattle.jfluid_cli.specs.declared.refusal.Refusal.TheVariants.{Clap, Words, Plan as BadPlan, NotRead, NotAdmitted, NotBuilt, NotBuiltPlan, InputFailed, OutFailed, PlanNotFetched, NotFetched, NoMemory, InputTooLong}
+use Rattle.jfluid_cli.specs.Calls.{Call, given_of, words_of, IsRunAsked, IsTrueOf, IsRefused, IsAnswered, PutsLine, CalmFiles, CalmInput, AllCalm}
+use Rattle.jfluid_cli.specs.Asking.{asked_by, HasBadRoot}
+use Rattle.jfluid_cli.specs.Causes.{Accepts, HasBadPlan, HasLongInput, IsAccepted, IsUnfit, OfWords}
+use Rattle.jfluid_cli.specs.Contents.{classes_for}
+use Rattle.jfluid_cli.specs.Sinks.{SinkView, SourceView, FilesView, IsUntold, PutsOrRose}
+use Rattle.jfluid_cli.specs.Stages.{IsCarried, IsWordsRefusal}
 use Rattle.jfluid_cli.specs.Origins.{HasOrigin, IsOnlyProgram}
-use Rattle.jfluid_cli.specs.Refusals.{status_of, IsRefusalStatus, refusal_line}
+use Rattle.jfluid_cli.specs.Refusals.{status_of, refusal_line, IsNameless}
 use Rattle.jfluid_cli.specs.Runs.{ending_at, world_on}
-use Rattle.jfluid_cli.specs.Top.{IsCalm, IsProgram, RunAs, answer_for, is_run, is_status, reported_of, status_of_ending}
-use Rattle.jfluid_cli.specs.Words.{Command, budget_of, file_words}
-use Rattle.jfluid_cli.proofs.Carried.{memory-refused, same-told}
+use Rattle.jfluid_cli.specs.Top.{IsProgram, RunAs, answer_for, is_among, is_run, is_status, status_of_ending}
+use Rattle.jfluid_cli.specs.Words.{Command, accepted, budget_of, command_of, file_words, plan_word, words_in}
+use Rattle.jfluid_cli.proofs.Carried.{carried-early, files-said, memory-refused, plan-said}
+use Rattle.jfluid_cli.proofs.Early.{due-words, no-fault}
+use Rattle.jfluid_cli.proofs.Fixed.{by-status, read-or, accepted-or, two-refused, not-rooted, not-named, tells, same-contents, three-refused, program-told, not-unfit, long-told, not-long, kept-input, kept-short, kept-program}
+use Rattle.jfluid_cli.proofs.OneCommand.{commanded, not-misplanned, one-command}
 use Rattle.jfluid_cli.proofs.Spelled.{one-spelling}
 use Rattle.jfluid_cli.proofs.Complete.{calm_not_rose, ends_as, ending_of_same, one-program}
 
 not_both : false ≡ true → ⊥
 not_both e = cc
 
--- ---- what is kept was accepted
+-- ---- what is kept
 
-same-command : (o : Option Command) (a b : Command) → o ≡ Some a → o ≡ Some b → a ≡ b
-same-command o a b e f = same_Some a b (sym e ∙ f)
+-- its budget is the command's
+kept-budget : (c : Call) (k : Kept) (o : HasOrigin (given_of c) k)
+    → budget_of (words_of c) k.plan ≡ o.command.budget
+kept-budget c k o =
+    ap (λ (x : Option Command). option_map_or (λ (y : Command). y.budget) x 0)
+    (ap (λ (p : Plan). command_of (words_of c) p) o.plan ∙ commanded (given_of c) o.command o.accepts)
 
-origin-accepts : (c : Call) (k : Kept) (o : HasOrigin c.told c.words k)
-    → Accepts (given_of c) o.command
-origin-accepts c k o = record { asked = o.commanded; fine = o.fine }
+kept-command : (c : Call) (k : Kept) (p : Program) (o : HasOrigin (given_of c) k) (a : IsAccepted (given_of c) p)
+    → o.command ≡ a.admitted.command
+kept-command c k p o a =
+    one-command (given_of c) o.command a.admitted.command (tells c.told a.admitted.files a.admitted.telling)
+    o.accepts a.admitted.accepts
 
--- the contents that the files tell for the same command are the kept ones
-same-contents : (told : Option Told) (a b : Command) (files : Told) (kept contents : List (List ℕ))
-    → a ≡ b → told ≡ Some files → AreToldAs told a.files kept
-    → AreToldAs (Some files) b.files contents → kept ≡ contents
-same-contents told a b files kept contents same telling left right =
-    let here : AreToldAs (Some files) b.files kept =
-    subst (λ (t : Option Told). AreToldAs t b.files kept) telling
-    (subst (λ (x : Command). AreToldAs told x.files kept) same left) in
-    same-told files b.files kept contents here right
-
-kept-fit : (c : Call) (k : Kept) → HasOrigin c.told c.words k → IsUnfit (given_of c) → ⊥
-kept-fit c k o u =
-    let same : o.command ≡ u.command =
-    same-command (given_of c).asked o.command u.command o.commanded u.accepts.asked in
-    let one : k.classes ≡ u.contents =
-    same-contents c.told o.command u.command u.files k.classes u.contents same u.telling o.told_as
-    u.told_as in
-    u.none k.vm.program o.root
-    (subst (λ (xs : List (List ℕ)). IsProgram (asked_by u.command) xs k.vm.program o.root) one
-    (subst (λ (x : Command). IsProgram (asked_by x) k.classes k.vm.program o.root) same
-    o.program))
-
-kept-ends : (c : Call) (k : Kept) (p : Program) (budget : ℕ) → HasOrigin c.told c.words k
-    → IsOnlyProgram k → IsAccepted (given_of c) p
-    → ending_at k.vm budget ≡ ending_of (world_on p []) budget
+kept-ends : (c : Call) (k : Kept) (p : Program) (budget : ℕ) → HasOrigin (given_of c) k → IsOnlyProgram k
+    → (a : IsAccepted (given_of c) p) → ending_at k.vm budget ≡ ending_of (world_on p a.input) budget
 kept-ends c k p budget o alone a =
-    let same : o.command ≡ a.command =
-    same-command (given_of c).asked o.command a.command o.commanded a.accepts.asked in
-    let one : k.classes ≡ a.contents =
-    same-contents c.told o.command a.command a.files k.classes a.contents same a.telling o.told_as
-    a.told_as in
+    let d = a.admitted in
+    let same : o.command ≡ d.command = kept-command c k p o a in
+    let one : k.classes ≡ d.contents =
+    same-contents c.told o.command d.command d.files k.classes d.contents same d.telling o.told_as d.told_as in
     let own : List ClassFile = classes_for k.classes k.vm.program in
-    let is : IsProgram (asked_by a.command) k.classes p a.root =
-    subst (λ (xs : List (List ℕ)). IsProgram (asked_by a.command) xs p a.root) (sym one)
-    a.program_is in
+    let is : IsProgram (asked_by d.command) k.classes p d.root =
+    subst (λ (xs : List (List ℕ)). IsProgram (asked_by d.command) xs p d.root) (sym one) d.program_is in
     let classes : classes_for k.classes p ≡ own =
     one-spelling k.classes own (classes_for k.classes p) alone is.files in
-    ending_of_same k.vm.program p k.vm.input [] budget
-    (one-program (answer_for (asked_by a.command) own) own own k.vm.program p o.root a.root
+    ending_of_same k.vm.program p k.vm.input a.input budget
+    (one-program d.command.plan (answer_for (asked_by d.command) own) own own k.vm.program p o.root d.root
     (subst (λ (x : Command). RunAs (asked_by x) own k.vm.program o.root) same o.program.runs)
-    (subst (λ (cs : List ClassFile). RunAs (asked_by a.command) cs p a.root) classes is.runs))
-    o.no_input
+    (subst (λ (cs : List ClassFile). RunAs (asked_by d.command) cs p d.root) classes is.runs))
+    (o.machine_input ∙ kept-input (given_of c) k a.input o a.input_is)
 
 -- something is kept
 held : (o : Option Kept) (P Q : Kept → Type 0) → IsSome o → IfSome o P → IfSome o Q → (k : Kept)
@@ -91,167 +79,201 @@ held-and : (o : Option Kept) (P Q R : Kept → Type 0) → IsSomeAnd o R → IfS
 held-and None P Q R some p q = absurd some
 held-and (Some k) P Q R some p q = (k, p, q, some)
 
--- ---- what is accepted
-
--- no command is accepted where the words are none
-no-command : (c : Call) → (given_of c).asked ≡ None → AreAccepted (given_of c) → ⊥
-no-command c none accepted = none-some accepted.0 (sym none ∙ accepted.1.asked)
-
--- nor where they are one that is not carried out
-not-fine : (c : Call) → OfWords (given_of c) (λ k. IsFine k → ⊥) → AreAccepted (given_of c) → ⊥
-not-fine c words accepted =
-    let same : accepted.0 ≡ words.0 =
-    same-command (given_of c).asked accepted.0 words.0 accepted.1.asked words.1 in
-    words.2 (subst IsFine same accepted.1.fine)
-
 -- ---- a run
 
 run-complete : (c : Call) (status : ℕ) (k : Kept) (p : Program)
-    → HasOrigin c.told c.words k → IsOnlyProgram k
-    → IsRun (budget_of c.words) (reported_of c.words) c.streams status k
-    → IsAccepted (given_of c) p → AllCalm c
-    → status ≡ status_of_ending (ending_of (world_on p []) (budget_of c.words))
+    → HasOrigin (given_of c) k → IsOnlyProgram k → IsRunAsked (words_of c) c.streams status k
+    → (a : IsAccepted (given_of c) p) → AllCalm c
+    → status ≡ status_of_ending (ending_of (world_on p a.input) a.admitted.command.budget)
 run-complete c status k p o alone ran a calm = elim (cases_eq status 8) [
   | inl eight ↦ absurd (calm_not_rose c.streams.report.faults c.streams.report_after.faults
       calm.report (ran.report.not_reported eight))
-  | inr other ↦ ran.report.ending other
+  | inr other ↦
+      (let budget : ℕ = budget_of (words_of c) k.plan in
+      let same : budget ≡ a.admitted.command.budget =
+      kept-budget c k o ∙ ap (λ (x : Command). x.budget) (kept-command c k p o a) in
+      ran.report.ending other
       ∙ ap status_of_ending
-      (ends_as k.vm (budget_of c.words) c.streams.out.taken c.streams.out_after.taken ran.output
-      ∙ kept-ends c k p (budget_of c.words) o alone a)
+      (ends_as k.vm budget c.streams.out.taken c.streams.out_after.taken ran.output
+      ∙ (kept-ends c k p budget o alone a ∙ ap (λ (n : ℕ). ending_of (world_on p a.input) n) same)))
 ]
 
-pub answered-run : (c : Call) (status : ℕ) → IsCarried c (Ok status) → IsAnswered c status
-answered-run c status carried =
-    let k = held-and c.kept (HasOrigin c.told c.words) IsOnlyProgram
-    (IsRun (budget_of c.words) (reported_of c.words) c.streams status) carried.ran.made
-    carried.always.origin carried.always.only in
+pub answered-run : (c : Call) (status : ℕ) → (IsErr c.words → ⊥) → IsCarried c (Ok status) → IsAnswered c status
+answered-run c status heard carried =
+    let g = given_of c in
+    let k = held-and c.kept (HasOrigin g) IsOnlyProgram (IsRunAsked (words_of c) c.streams status)
+    carried.ran.made carried.always.origin carried.always.only in
+    let o : HasOrigin g k.0 = k.1 in
     record {
       always = carried.always;
       known = k.3.report.known;
       ran = λ _. carried.ran;
       refused = λ not_run. absurd (not_both (sym not_run ∙ k.3.report.is_one));
-      words_only = λ none. absurd (no-command c none (k.1.command, origin-accepts c k.0 k.1));
-      plan_only = λ words. absurd (not-fine c words (k.1.command, origin-accepts c k.0 k.1));
-      file_only = λ unfit calm. absurd (kept-fit c k.0 k.1 unfit);
-      complete = λ p a calm. inl (run-complete c status k.0 p k.1 k.2 k.3 a calm);
+      unheard = λ none. absurd (heard none);
+      words_only = λ none. absurd (none-some o.accepts.words (sym none ∙ o.accepts.read));
+      root_only = λ bad. absurd (not-rooted g o.command bad o.accepts);
+      plan_only = λ bad calm. absurd
+          (not-misplanned g bad.words o.command bad.telling bad.read bad.misplanned o.accepts);
+      file_only = λ unfit calm. absurd (not-unfit g (kept-program g k.0 o) unfit);
+      input_only = λ long calm calm_input. absurd (kept-short g k.0 o long);
+      complete = λ p a calm. inl (run-complete c status k.0 p o k.2 k.3 a calm);
     }
 
 -- ---- a refusal
 
-no-run : (s : ℕ) → IsRefusalStatus s → is_run s ≡ true → ⊥
-no-run s (inl e) run = not_both (sym (ap is_run e) ∙ run)
-no-run s (inr (inl e)) run = not_both (sym (ap is_run e) ∙ run)
-no-run s (inr (inr (inl e))) run = not_both (sym (ap is_run e) ∙ run)
-no-run s (inr (inr (inr (inl e)))) run = not_both (sym (ap is_run e) ∙ run)
-no-run s (inr (inr (inr (inr e)))) run = not_both (sym (ap is_run e) ∙ run)
-
-one-status : (s : ℕ) → IsRefusalStatus s → is_status s ≡ true
-one-status s (inl e) = ap is_status e
-one-status s (inr (inl e)) = ap is_status e
-one-status s (inr (inr (inl e))) = ap is_status e
-one-status s (inr (inr (inr (inl e)))) = ap is_status e
-one-status s (inr (inr (inr (inr e)))) = ap is_status e
-
--- whatever is not 2, 3, 6 or 7 is 9
-else-memory : (s : ℕ) → IsRefusalStatus s → (s ≡ 2 → ⊥) → (s ≡ 6 → ⊥) → (s ≡ 7 → ⊥) → (s ≡ 3)
-    ⊎ (s ≡ 9)
-else-memory s (inl e) two six seven = absurd (two e)
-else-memory s (inr (inl e)) two six seven = inl e
-else-memory s (inr (inr (inl e))) two six seven = absurd (six e)
-else-memory s (inr (inr (inr (inl e)))) two six seven = absurd (seven e)
-else-memory s (inr (inr (inr (inr e)))) two six seven = inr e
-
--- it is 2 or 9 where no words are accepted
-none-accepted : (c : Call) (r : Refusal) → IsRefused c r → (AreAccepted (given_of c) → ⊥)
+words-only : (c : Call) (r : Refusal) → IsRefused c r → accepted (words_of c) ≡ None
     → (status_of r ≡ 2) ⊎ (status_of r ≡ 9)
-none-accepted c r refused none = elim refused.due.command [
-  | inl two ↦ inl two
-  | inr later ↦ elim later [
-    | inl nine ↦ inr nine
-    | inr accepted ↦ absurd (none accepted)
+words-only c r refused none = elim (read-or (given_of c) r refused.cause) [
+  | inl early ↦ early
+  | inr read ↦ absurd (none-some read.0 (sym none ∙ read.1))
+]
+
+root-only : (c : Call) (r : Refusal) → IsRefused c r → OfWords (given_of c) HasBadRoot
+    → (status_of r ≡ 2) ⊎ (status_of r ≡ 9)
+root-only c r refused bad = elim (accepted-or (given_of c) r refused.cause) [
+  | inl early ↦ early
+  | inr late ↦ elim late [
+    | inl fetch ↦ absurd (not-named (given_of c) r bad refused.cause fetch)
+    | inr with_plan ↦ absurd (not-rooted (given_of c) with_plan.0 bad with_plan.1)
   ]
 ]
 
-file-only : (c : Call) (r : Refusal) → IsRefusalStatus (status_of r) → IsTrueOf c → IsRefused c r
-    → IsUnfit (given_of c) → IsCalm c.files.faults c.files_after.faults → (status_of r ≡ 3)
-    ⊎ (status_of r ≡ 9)
-file-only c r known always refused unfit calm =
-    else-memory (status_of r) known
-    (λ two. refused.due.words two unfit.command unfit.accepts)
-    (λ six. let k = held c.kept (HasOrigin c.told c.words) IsOnlyProgram
-    (refused.made six) always.origin always.only in kept-fit c k.0 k.1 unfit)
-    (λ seven. calm_not_rose c.files.faults c.files_after.faults calm (refused.not_fetched seven))
+calm-fetch : (c : Call) (r : Refusal) → IsRefused c r → CalmFiles c → status_of r ≡ 7 → ⊥
+calm-fetch c r refused calm seven =
+    calm_not_rose c.files.faults c.files_after.faults calm (refused.not_fetched seven)
 
-refused-complete : (c : Call) (r : Refusal) (p : Program)
-    → IsRefusalStatus (status_of r) → IsRefused c r → IsAccepted (given_of c) p → AllCalm c
-    → status_of r ≡ 9
-refused-complete c r p known refused a calm =
-    elim (else-memory (status_of r) known
-    (λ two. refused.due.words two a.command a.accepts)
-    (λ six. calm_not_rose c.streams.out.faults c.streams.out_after.faults calm.out
-    (refused.stopped six))
-    (λ seven. calm_not_rose c.files.faults c.files_after.faults calm.files
-    (refused.not_fetched seven))) [
-      | inl three ↦ absurd (refused.file three p a)
-      | inr nine ↦ nine
-    ]
+plan-only : (c : Call) (r : Refusal) → IsRefused c r → HasBadPlan (given_of c) → CalmFiles c
+    → (status_of r ≡ 2) ⊎ (status_of r ≡ 9)
+plan-only c r refused bad calm = elim (accepted-or (given_of c) r refused.cause) [
+  | inl early ↦ early
+  | inr late ↦ elim late [
+    | inl fetch ↦ absurd (calm-fetch c r refused calm (ap status_of fetch))
+    | inr with_plan ↦ absurd (not-misplanned (given_of c) bad.words with_plan.0 bad.telling bad.read
+        bad.misplanned with_plan.1)
+  ]
+]
 
-answered-refusal : (c : Call) (r : Refusal) (status : ℕ) → status ≡ status_of r
-    → IsRefusalStatus status → IsTrueOf c → IsRefused c r → PutsLine c r → IsAnswered c status
-answered-refusal c r status is known always refused line =
-    let here : IsRefusalStatus (status_of r) = subst IsRefusalStatus is known in
-    record {
-      always = always;
-      known = one-status status known;
-      ran = λ run. absurd (no-run status known run);
-      refused = λ _. (r, is, refused, line);
-      words_only = λ none. subst (λ (s : ℕ). (s ≡ 2) ⊎ (s ≡ 9)) (sym is)
-          (none-accepted c r refused (no-command c none));
-      plan_only = λ words. subst (λ (s : ℕ). (s ≡ 2) ⊎ (s ≡ 9)) (sym is)
-          (none-accepted c r refused (not-fine c words));
-      file_only = λ unfit calm. subst (λ (s : ℕ). (s ≡ 3) ⊎ (s ≡ 9)) (sym is)
-          (file-only c r here always refused unfit calm);
-      complete = λ p a calm. inr (is ∙ refused-complete c r p here refused a calm);
-    }
+file-only : (c : Call) (r : Refusal) → IsRefused c r → IsUnfit (given_of c) → CalmFiles c
+    → (status_of r ≡ 3) ⊎ (status_of r ≡ 9)
+file-only c r refused unfit calm =
+    let g = given_of c in
+    by-status r ((status_of r ≡ 3) ⊎ (status_of r ≡ 9))
+    (λ two. absurd (two-refused g r unfit.command (tells c.told unfit.files unfit.telling) refused.cause two
+    unfit.accepts))
+    (λ three. inl three)
+    (λ five. absurd (not-unfit g (program-told g r refused.cause (subst is_late (sym five) refl)) unfit))
+    (λ six. absurd (not-unfit g (program-told g r refused.cause (subst is_late (sym six) refl)) unfit))
+    (λ seven. absurd (calm-fetch c r refused calm seven))
+    (λ nine. inr nine)
+    (λ eleven. absurd (not-unfit g (program-told g r refused.cause (subst is_late (sym eleven) refl)) unfit))
+  where
+    is_late : ℕ → Type 0
+    is_late s = is_among (5 ∷ 6 ∷ 11 ∷ []) s ≡ true
+
+input-only : (c : Call) (r : Refusal) → IsTrueOf c → IsRefused c r → HasLongInput (given_of c) → CalmFiles c
+    → CalmInput c → (status_of r ≡ 11) ⊎ (status_of r ≡ 9)
+input-only c r always refused long calm calm_input =
+    let g = given_of c in
+    let d = long.admitted in
+    by-status r ((status_of r ≡ 11) ⊎ (status_of r ≡ 9))
+    (λ two. absurd (two-refused g r d.command (tells c.told d.files d.telling) refused.cause two d.accepts))
+    (λ three. absurd (three-refused g r long.program refused.cause three d))
+    (λ five. absurd (calm_not_rose c.input.faults c.input_after.faults calm_input (refused.not_taken five)))
+    (λ six. let k = held c.kept (HasOrigin g) IsOnlyProgram (refused.made six) always.origin always.only in
+    absurd (kept-short g k.0 k.1 long))
+    (λ seven. absurd (calm-fetch c r refused calm seven))
+    (λ nine. inr nine)
+    (λ eleven. inl eleven)
+
+refused-complete : (c : Call) (r : Refusal) (p : Program) → IsRefused c r → IsAccepted (given_of c) p
+    → AllCalm c → status_of r ≡ 9
+refused-complete c r p refused a calm =
+    let g = given_of c in
+    let d = a.admitted in
+    by-status r (status_of r ≡ 9)
+    (λ two. absurd (two-refused g r d.command (tells c.told d.files d.telling) refused.cause two d.accepts))
+    (λ three. absurd (three-refused g r p refused.cause three d))
+    (λ five. absurd (calm_not_rose c.input.faults c.input_after.faults calm.input (refused.not_taken five)))
+    (λ six. absurd (calm_not_rose c.streams.out.faults c.streams.out_after.faults calm.out
+    (refused.stopped six)))
+    (λ seven. absurd (calm-fetch c r refused calm.files seven))
+    (λ nine. nine)
+    (λ eleven. absurd (not-long g p (long-told g r refused.cause eleven) a))
+
+no-run : (r : Refusal) → is_run (status_of r) ≡ true → ⊥
+no-run r run =
+    by-status r ⊥ (other 2 refl) (other 3 refl) (other 5 refl) (other 6 refl) (other 7 refl) (other 9 refl)
+    (other 11 refl)
+  where
+    other : (n : ℕ) → is_run n ≡ false → status_of r ≡ n → ⊥
+    other n none same = not_both (sym none ∙ (ap is_run (sym same) ∙ run))
+
+one-status : (r : Refusal) → is_status (status_of r) ≡ true
+one-status r =
+    by-status r (is_status (status_of r) ≡ true) (one 2 refl) (one 3 refl) (one 5 refl) (one 6 refl)
+    (one 7 refl) (one 9 refl) (one 11 refl)
+  where
+    one : (n : ℕ) → is_status n ≡ true → status_of r ≡ n → is_status (status_of r) ≡ true
+    one n known same = ap is_status same ∙ known
+
+answered-refusal : (c : Call) (r : Refusal) (status : ℕ) → (IsErr c.words → status ≡ 9)
+    → status ≡ status_of r → IsTrueOf c → IsRefused c r → PutsLine c r → IsAnswered c status
+answered-refusal c r status unheard is always refused line = record {
+  always = always;
+  known = ap is_status is ∙ one-status r;
+  ran = λ run. absurd (no-run r (ap is_run (sym is) ∙ run));
+  refused = λ _. (r, is, refused, line);
+  unheard = unheard;
+  words_only = λ none. same-status 2 (words-only c r refused none);
+  root_only = λ bad. same-status 2 (root-only c r refused bad);
+  plan_only = λ bad calm. same-status 2 (plan-only c r refused bad calm);
+  file_only = λ unfit calm. same-status 3 (file-only c r refused unfit calm);
+  input_only = λ long calm calm_input. same-status 11 (input-only c r always refused long calm calm_input);
+  complete = λ p a calm. inr (is ∙ refused-complete c r p refused a calm);
+}
+  where
+    same-status : (n : ℕ) → (status_of r ≡ n) ⊎ (status_of r ≡ 9) → (status ≡ n) ⊎ (status ≡ 9)
+    same-status n known = subst (λ (s : ℕ). (s ≡ n) ⊎ (s ≡ 9)) (sym is) known
+
+-- ---- the line
 
 -- the call once the line was put
 abbrev pub told-after : Call → SinkView → Call
 told-after c after = record c { streams = record c.streams { report_after = after } }
 
-put-line : (old mid new : SinkView) (told : Refusal) (words files : List (List ℕ)) → IsUntold old mid
-    → words ≡ files → PutsOrRose mid new (refusal_line told words)
-    → PutsOrRose old new (refusal_line told files)
-put-line old mid new told words files untold is puts =
-    let here : PutsOrRose old new (refusal_line told words) = record {
-      front = subst (λ (o : Option (List ℕ)). PutsFront o new.taken (refusal_line told words))
-          untold.taken puts.front;
+put-line : (old mid new : SinkView) (said wanted : List ℕ) → IsUntold old mid → said ≡ wanted
+    → PutsOrRose mid new said → PutsOrRose old new wanted
+put-line old mid new said wanted untold is puts =
+    let here : PutsOrRose old new said = record {
+      front = subst (λ (o : Option (List ℕ)). PutsFront o new.taken said) untold.taken puts.front;
       whole = elim puts.whole [
-        | inl all ↦ inl (subst
-            (λ (o : Option (List ℕ)). PutsAll o new.taken (refusal_line told words)) untold.taken
-            all)
+        | inl all ↦ inl (subst (λ (o : Option (List ℕ)). PutsAll o new.taken said) untold.taken all)
         | inr rose ↦ inr (subst (λ (n : ℕ). Rose n new.faults) untold.faults rose)
       ];
     } in
-    subst (λ (ws : List (List ℕ)). PutsOrRose old new (refusal_line told ws)) is here
+    subst (PutsOrRose old new) is here
 
-pub answered-told : (c : Call) (after : SinkView) (r told : Refusal) (status : ℕ)
-    (words : List (List ℕ)) → IsCarried c (Err r) → (told ≡ r) ⊎ (told ≡ NoMemory)
-    → status ≡ status_of told → IsRefusalStatus status → words ≡ file_words c.words
-    → PutsOrRose c.streams.report_after after (refusal_line told words)
-    → IsAnswered (told-after c after) status
-answered-told c after r told status words carried was is known named puts =
+pub answered-told : (c : Call) (after : SinkView) (r told : Refusal) (status : ℕ) (said : List ℕ)
+    → (IsErr c.words → status ≡ 9) → IsCarried c (Err r) → (told ≡ r) ⊎ (told ≡ NoMemory)
+    → status ≡ status_of told
+    → said ≡ refusal_line told (plan_word (words_of c)) (file_words (words_of c))
+    → PutsOrRose c.streams.report_after after said → IsAnswered (told-after c after) status
+answered-told c after r told status said unheard carried was is named puts =
     let d : Call = told-after c after in
     let first : IsRefused d r = record {
-      due = carried.refused.due;
-      file = carried.refused.file;
+      cause = carried.refused.cause;
       refused = carried.refused.refused;
       made = carried.refused.made;
+      untaken = carried.refused.untaken;
+      not_taken = carried.refused.not_taken;
       stopped = carried.refused.stopped;
       not_fetched = carried.refused.not_fetched;
+      plan_name = carried.refused.plan_name;
       name = carried.refused.name;
       calm = carried.refused.calm;
+      calm_input = carried.refused.calm_input;
     } in
-    answered-refusal d told status is known
+    answered-refusal d told status unheard is
     (record {
       origin = carried.always.origin;
       only = carried.always.only;
@@ -260,8 +282,65 @@ answered-told c after r told status words carried was is known named puts =
     })
     (elim was [
       | inl same ↦ subst (IsRefused d) (sym same) first
-      | inr memory ↦
-          subst (IsRefused d) (sym memory) (memory-refused d)
+      | inr memory ↦ subst (IsRefused d) (sym memory) (memory-refused d)
     ])
-    (put-line c.streams.report c.streams.report_after after told words
-    (file_words c.words) carried.untold named puts)
+    (put-line c.streams.report c.streams.report_after after said
+    (refusal_line told (plan_word (words_of c)) (file_words (words_of c))) carried.untold named puts)
+
+-- a line that calls nothing by its word
+pub nameless-told : (r told : Refusal) → IsNameless r → (told ≡ r) ⊎ (told ≡ NoMemory) → IsNameless told
+nameless-told r told nameless (inl same) = subst IsNameless (sym same) nameless
+nameless-told r told nameless (inr memory) = subst IsNameless (sym memory) (λ a b xs ys. refl)
+
+-- ---- the words
+
+-- a call that was refused for its words
+abbrev pub call_before : Result (List (List ℕ)) OutOfMemory → Option Told → FilesView → SourceView → SinkView
+    → SinkView → Option Kept → Call
+call_before words files_told files input out report kept = record {
+  words = words;
+  told = files_told;
+  files = files;
+  files_after = files;
+  input = input;
+  input_after = input;
+  streams = record { out = out; out_after = out; report = report; report_after = report };
+  kept = kept;
+}
+
+-- no fetch is refused so
+not-seven : (words : List (List ℕ)) (r : Refusal) → IsWordsRefusal words r → status_of r ≡ 7 → ⊥
+not-seven words PlanNotFetched is seven = is
+not-seven words (NotFetched at) is seven = is
+not-seven words (Clap text) is seven = absurd cc
+not-seven words Words is seven = absurd cc
+not-seven words (BadPlan fault) is seven = absurd cc
+not-seven words (NotRead at fault) is seven = absurd cc
+not-seven words (NotAdmitted fault) is seven = absurd cc
+not-seven words (NotBuilt at) is seven = absurd cc
+not-seven words NotBuiltPlan is seven = absurd cc
+not-seven words InputFailed is seven = absurd cc
+not-seven words OutFailed is seven = absurd cc
+not-seven words NoMemory is seven = absurd cc
+not-seven words InputTooLong is seven = absurd cc
+
+pub answered-words : (words : Result (List (List ℕ)) OutOfMemory) (files_told : Option Told) (files : FilesView)
+    (input : SourceView) (out report after : SinkView) (kept : Option Kept) (r told : Refusal) (status : ℕ)
+    → kept ≡ None → IsWordsRefusal (words_in words) r → IsNameless r → (IsErr words → told ≡ NoMemory)
+    → (told ≡ r) ⊎ (told ≡ NoMemory) → status ≡ status_of told → PutsOrRose report after (refusal_line told None [])
+    → IsAnswered (told-after (call_before words files_told files input out report kept) after) status
+answered-words words files_told files input out report after kept r told status none why nameless unheard was is puts =
+    let c : Call = call_before words files_told files input out report kept in
+    answered-told c after r told status (refusal_line told None []) (λ e. is ∙ ap status_of (unheard e))
+    (carried-early c r none (record { taken = refl; faults = refl }) (record { taken = refl; faults = refl }) refl
+    (due-words (given_of c) r why)
+    (no-fault (plan_word (words_in words)) (file_words (words_in words)) files files r r refl refl
+    (not-seven (words_in words) r why)))
+    was is (nameless-told r told nameless was None (plan_word (words_in words)) [] (file_words (words_in words))) puts
+
+-- what a line calls by words is called as the accepted words say
+pub called-line : (words : List (List ℕ)) (r : Read) (told : Refusal) (names : List (List ℕ)) → accepted words ≡ Some r
+    → names ≡ r.files → refusal_line told r.plan names ≡ refusal_line told (plan_word words) (file_words words)
+called-line words r told names read same =
+    ap (refusal_line told r.plan) (same ∙ files-said words r read)
+    ∙ ap (λ (named : Option (List ℕ)). refusal_line told named (file_words words)) (plan-said words r read)

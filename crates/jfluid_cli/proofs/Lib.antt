@@ -1,4 +1,4 @@
-pub mod Numbers
+pub mod Accepted
 pub mod Outputs
 pub mod Telling
 pub mod Selected
@@ -6,14 +6,15 @@ pub mod Steps
 pub mod Onward
 pub mod Underway
 pub mod Pairs
-pub mod FileWords
-pub mod WorkedWords
 pub mod ToldFiles
+pub mod ToldPlans
 pub mod Spelled
+pub mod OneCommand
 pub mod Complete
 pub mod Early
 pub mod Answered
 pub mod Carried
+pub mod Fixed
 pub mod Finished
 pub mod Reported
-pub mod UsualPlans
+pub mod Room

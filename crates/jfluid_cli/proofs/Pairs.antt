@@ -1,8 +1,9 @@
 -- Two lists of which something holds, place by place.
-use Rattle.std.proofs.Common.{◌≡◌, ℕ, zero, suc, ◌+◌, ◌<◌, List, [], ◌∷◌, ◌++◌, length, take, get_or, Some, refl, sym, ap, subst, ◌∙◌, arith}
-use Rattle.std.specs.Prelude.{map, slice_get}
+use Rattle.std.proofs.Common.{◌≡◌, ℕ, zero, suc, ◌+◌, ◌<◌, List, [], ◌∷◌, ◌++◌, length, take, get_or, Option, Some, refl, sym, ap, subst, ◌∙◌, arith}
+use Rattle.std.specs.Prelude.{map, slice_get, unwrap_or}
 use Rattle.std.specs.List.{AllByRecursion, AllZip}
-use Rattle.std.proofs.lemmas.List.{map-append, take_more}
+use Rattle.std.proofs.lemmas.List.{length-map, take_more}
+use Rattle.std.proofs.lemmas.Option.{same_Some, slice_get-get_or}
 
 pub zip-push : {A B : Type 0} (R : A → B → Type 0) (xs : List A) (ys : List B) (x : A) (y : B)
     → AllZip R xs ys → R x y → AllZip R (xs ++ x ∷ []) (ys ++ y ∷ [])
@@ -20,15 +21,30 @@ zip-more R xs ys i x y less is h r =
     (ap (λ z. take i xs ++ z ∷ []) is ∙ sym (take_more xs i x less))
     (zip-push R (take i xs) ys x y h r)
 
--- the same where the first list is made of another
-pub zip-more-map : {A B C : Type 0} (R : B → C → Type 0) (f : A → B) (xs : List A) (ys : List C) (i : ℕ)
-    (x : A) (y : C) → i < length xs → x ≡ get_or xs i x → AllZip R (map f (take i xs)) ys → R (f x) y
-    → AllZip R (map f (take (i + 1) xs)) (ys ++ y ∷ [])
-zip-more-map R f xs ys i x y less is h r =
-    subst (λ l. AllZip R l (ys ++ y ∷ []))
-    (sym (map-append f (take i xs) (x ∷ []))
-    ∙ ap (map f) (ap (λ z. take i xs ++ z ∷ []) is ∙ sym (take_more xs i x less)))
-    (zip-push R (map f (take i xs)) ys (f x) y h r)
+-- the word at a position, which is read with a default
+pub record IsThere (words : List (List ℕ)) (at : ℕ) (word : List ℕ) : Type 0 where
+  pub within : at < length words
+  pub there : slice_get words at ≡ Some word
+  pub is : word ≡ get_or words at word
+
+there-at : (words : List (List ℕ)) (at : ℕ) (word : List ℕ) → at < length words
+    → word ≡ unwrap_or (slice_get words at) [] → IsThere words at word
+there-at words at word within is =
+    let found : slice_get words at ≡ Some (get_or words at []) = slice_get-get_or words at [] within in
+    let same : word ≡ get_or words at [] = is ∙ ap (λ (o : Option (List ℕ)). unwrap_or o []) found in
+    let here : slice_get words at ≡ Some word =
+    found ∙ ap (λ (w : List ℕ). let o : Option (List ℕ) = Some w in o) (sym same) in
+    record {
+      within = within;
+      there = here;
+      is = same_Some word (get_or words at word) (sym here ∙ slice_get-get_or words at word within);
+    }
+
+pub there-among : {A : Type 0} (f : A → List ℕ) (xs : List A) (at : ℕ) (word : List ℕ) → at < length xs
+    → word ≡ unwrap_or (slice_get (map f xs) at) [] → IsThere (map f xs) at word
+there-among f xs at word within is =
+    let many = length-map xs f in
+    there-at (map f xs) at word (omega (arith, many, within)) is
 
 pub zip-take : {A B : Type 0} (R : A → B → Type 0) (n : ℕ) (xs : List A) (ys : List B) → AllZip R xs ys
     → AllZip R (take n xs) (take n ys)

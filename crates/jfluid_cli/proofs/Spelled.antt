@@ -1,6 +1,5 @@
 -- The classes that contents spell, and the program that they are or are not.
 use Rattle.std.proofs.Common.{◌≡◌, ℕ, List, [], ◌∷◌, length, take, Option, Some, Result, Ok, Err, refl, sym, ap, subst, ◌∙◌, ◌<◌, get_or, inl, inr}
-use Rattle.std.specs.Prelude.{IfSome}
 use Rattle.std.proofs.lemmas.Option.{slice_get_read}
 use Rattle.const_pool.specs.declared.class.ClassFile.{ClassFile}
 use Rattle.class_reader.specs.declared.error.ReadError.{ReadError}
@@ -10,13 +9,13 @@ use Rattle.jvm_model.specs.declared.program.Program.{Program}
 use Rattle.admit_check.specs.declared.error.AdmitError.{AdmitError}
 use Rattle.small_program.specs.declared.admission.Refused.{Refused}
 use Rattle.small_program.specs.declared.admission.Refused.TheVariants as refused
-use Rattle.small_program.specs.Admission.{selected, HasUnbuiltRoot, IsRefusedFor, Runs, RunsWith}
-use Rattle.jfluid_cli.specs.declared.asking.Asked.{Asked}
+use Rattle.small_program.specs.Admission.{selected, HasUnbuiltPlan, IsRefusedFor, Runs, RunsPlanned}
+use Rattle.plan_text.specs.declared.plan.Plan.{Plan}
 use Rattle.jfluid_cli.specs.declared.refusal.Refusal.{Refusal}
-use Rattle.jfluid_cli.specs.Refusals.{status_of}
+use Rattle.jfluid_cli.specs.Asking.{Asked}
 use Rattle.jfluid_cli.specs.Stages.{IsUnread, IsReadRefusal}
 use Rattle.jfluid_cli.specs.Contents.{AreFiles, IsFaultAt, SpellsAlone, SpellAlone, classes_for}
-use Rattle.jfluid_cli.specs.Top.{IsProgram, HasNoProgram, RunAs, answer_for}
+use Rattle.jfluid_cli.specs.Top.{IsProgram, HasRefused, HasNoProgram, RunAs, answer_for}
 use Rattle.jfluid_cli.proofs.Pairs.{zip-weaken, zip-length, zip-at}
 
 -- ---- one content
@@ -100,24 +99,25 @@ same-ok x y e = cc e
 not-ok : (x : Program) (fault : AdmitError) → ◌≡◌ {A = Result Program AdmitError} (Ok x) (Err fault) → ⊥
 not-ok x fault e = cc e
 
--- what runs with its root has no root that it does not run with
-not-unbuilt : (a : Result Program AdmitError) (classes : List ClassFile) (p : Program) (root : Option ℕ)
-    → Runs a classes p root → HasUnbuiltRoot a classes → ⊥
-not-unbuilt a classes p root runs unbuilt =
+-- what runs with its plan has no plan that it does not run with
+not-unbuilt : (plan : Plan) (a : Result Program AdmitError) (classes : List ClassFile) (p : Program) (root : Option ℕ)
+    → Runs plan a classes p root → HasUnbuiltPlan plan a classes → ⊥
+not-unbuilt plan a classes p root runs unbuilt =
     let same : p ≡ unbuilt.program = same-ok p unbuilt.program (sym runs.admitted ∙ unbuilt.admitted) in
-    let is : root ≡ Some unbuilt.root =
-    sym runs.root_is ∙ (ap (λ (q : Program). selected q.acts) same ∙ unbuilt.root_is) in
-    unbuilt.unbuilt (subst (λ (o : Option ℕ). IfSome o (RunsWith classes)) is runs.rooted)
+    let is : root ≡ selected unbuilt.program.acts =
+    sym runs.root_is ∙ ap (λ (q : Program). selected q.acts) same in
+    unbuilt.unbuilt (subst (λ (o : Option ℕ). RunsPlanned plan classes o) is runs.planned)
 
 -- what runs is not refused but for want of memory
-not-both : (a : Result Program AdmitError) (classes : List ClassFile) (p : Program) (root : Option ℕ)
-    (why : Refused) → Runs a classes p root → IsRefusedFor a classes why → why ≡ refused.NoMemory
-not-both a classes p root (refused.Fault fault) runs is =
+not-both : (plan : Plan) (a : Result Program AdmitError) (classes : List ClassFile) (p : Program) (root : Option ℕ)
+    (why : Refused) → Runs plan a classes p root → IsRefusedFor plan a classes why → why ≡ refused.NoMemory
+not-both plan a classes p root (refused.Fault fault) runs is =
     absurd (not-ok p fault (sym runs.admitted ∙ is.0))
-not-both a classes p root (refused.NotBuilt at) runs is =
+not-both plan a classes p root (refused.NotBuilt at) runs is =
     absurd (is.1.outside (runs.built at is.1.class is.1.there))
-not-both a classes p root refused.NotBuiltPlan runs is = absurd (not-unbuilt a classes p root runs is)
-not-both a classes p root refused.NoMemory runs is = refl
+not-both plan a classes p root refused.NotBuiltPlan runs is =
+    absurd (not-unbuilt plan a classes p root runs is)
+not-both plan a classes p root refused.NoMemory runs is = refl
 
 pub other-fault : (fault : AdmitError) → refused.Fault fault ≡ refused.NoMemory → ⊥
 other-fault fault e = cc e
@@ -130,13 +130,18 @@ other-plan e = cc e
 
 -- classes that are refused are no program
 pub none-refused : (a : Asked) (contents : List (List ℕ)) (classes : List ClassFile) (why : Refused)
-    → SpellAlone contents classes → IsRefusedFor (answer_for a classes) classes why
+    → SpellAlone contents classes → IsRefusedFor a.plan (answer_for a classes) classes why
     → (why ≡ refused.NoMemory → ⊥) → HasNoProgram a contents
 none-refused a contents classes why alone refused other p root program =
     let same : classes_for contents p ≡ classes =
     one-spelling contents classes (classes_for contents p) alone program.files in
-    other (not-both (answer_for a classes) classes p root why
+    other (not-both a.plan (answer_for a classes) classes p root why
     (subst (λ (cs : List ClassFile). RunAs a cs p root) same program.runs) refused)
+
+pub none-spelled : (a : Asked) (contents : List (List ℕ)) (why : Refused) → HasRefused a why contents
+    → (why ≡ refused.NoMemory → ⊥) → HasNoProgram a contents
+none-spelled a contents why has other =
+    none-refused a contents has.0 why (zip-weaken IsFile SpellsAlone contents has.0 spells-alone has.1) has.2 other
 
 -- contents with a fault are no program
 pub none-faulty : (a : Asked) (contents : List (List ℕ)) (at : ℕ) (fault : ReadError)
@@ -144,12 +149,3 @@ pub none-faulty : (a : Asked) (contents : List (List ℕ)) (at : ℕ) (fault : R
 none-faulty a contents at fault is p root program =
     let here = zip-at IsFile contents (classes_for contents p) at is.bytes program.files is.there in
     no_first_fault is.bytes here.other fault here.holds is.first
-
-not_three : ◌≡◌ {A = ℕ} 9 3 → ⊥
-not_three e = cc
-
-pub none-unread : (a : Asked) (contents : List (List ℕ)) (r : Refusal) → IsReadRefusal contents r
-    → status_of r ≡ 3 → HasNoProgram a contents
-none-unread a contents r (inl (at, fault, unread, is)) three = none-faulty a contents at fault is
-none-unread a contents r (inr memory) three =
-    absurd (not_three (sym (ap status_of memory) ∙ three))

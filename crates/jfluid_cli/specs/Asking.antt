@@ -1,30 +1,60 @@
--- What a command asks of a program: its main class, and the plan that the root's word stands for.
-use Rattle.std.specs.Prelude.{ℕ, List, [], Option, Some, None}
-use Rattle.std.specs.Option.{option_map_or}
-use Rattle.jf_bytes.specs.Unicode.{utf16_of}
+-- The plan of accepted words, and what a command asks of a program.
+use Rattle.std.specs.Prelude.{◌≡◌, ◌≢◌, ℕ, ◌⊎◌, List, Option, Some, None, Result, Ok, Err}
+use Rattle.jf_bytes.specs.Streams.{Told, IsToldAs}
 use Rattle.plan_text.specs.declared.plan.Plan.{Plan}
-use Rattle.plan_text.specs.Plans.{plan_selecting}
-use Rattle.plan_text.specs.Roots.{root_in, IsNoRoot}
-use Rattle.jfluid_cli.specs.declared.asking.Asked.{Asked}
-use Rattle.jfluid_cli.specs.Words.{Command}
+use Rattle.plan_text.specs.declared.plan.PlanError.{PlanError}
+use Rattle.plan_text.specs.declared.plan.PlanError.TheVariants.{NoMemory}
+use Rattle.plan_text.specs.Lines.{IsPlanRead}
+use Rattle.plan_text.specs.Roots.{IsNoRoot}
+use Rattle.command_line.specs.Chosen.{IsOwnPlan}
+use Rattle.command_line.specs.Words.{Read}
+use Rattle.jfluid_cli.specs.Words.{Command, command_for}
 
--- the plan of no word: it is silent on all
-abbrev pub silent : Plan
-silent = record { main = None; args = []; budget = None; heap = None; actions = [] }
+-- ---- the plan
 
--- the plan of a root's word, which may be left out
-abbrev pub plan_said : Option (List ℕ) → Plan
-plan_said None = silent
-plan_said (Some word) = option_map_or plan_selecting (root_in (utf16_of word)) silent
+-- what is answered for the contents that the files tell under a name
+abbrev pub IsToldPlan : Option Told → List ℕ → Result Plan PlanError → Type 0
+IsToldPlan told name result = (bytes : List ℕ) × IsToldAs told name bytes × IsPlanRead bytes result
 
--- the word is outside the grammar
-abbrev pub IsBadRoot : Option (List ℕ) → Type 0
-IsBadRoot None = ⊥
-IsBadRoot (Some word) = IsNoRoot word
+-- the plan of the file that is named, else of the word for a root, else the silent one
+abbrev pub IsPlanBy : Option Told → Option (List ℕ) → Option (List ℕ) → Result Plan PlanError → Type 0
+IsPlanBy told root (Some name) result = IsToldPlan told name result
+IsPlanBy told root None result = IsOwnPlan root result
 
--- A command that is carried out: its root, where it names one, is in the grammar.
-pub record IsFine (k : Command) : Type 0 where
-  pub rooted : IsBadRoot k.options.root → ⊥
+abbrev pub IsPlanFor : Option Told → Read → Result Plan PlanError → Type 0
+IsPlanFor told words result = IsPlanBy told words.root words.plan result
+
+-- The plan has this fault.
+pub record IsFaultOfPlan (told : Option Told) (words : Read) (fault : PlanError) : Type 0 where
+  pub fault_is : IsPlanFor told words (Err fault)
+  pub other : fault ≢ NoMemory
+
+-- The plan is read, but neither it nor a word names a main class.
+pub record HasNoMain (told : Option Told) (words : Read) : Type 0 where
+  pub plan : Plan
+  pub plan_is : IsPlanFor told words (Ok plan)
+  pub none : command_for words plan ≡ None
+
+-- the plan is refused, or the words are for want of a main class in it
+abbrev pub IsMisplanned : Option Told → Read → Type 0
+IsMisplanned told words = ((fault : PlanError) × IsFaultOfPlan told words fault) ⊎ HasNoMain told words
+
+-- No plan's file is named, and the word for a root names no method.
+pub record HasBadRoot (words : Read) : Type 0 where
+  pub root : List ℕ
+  pub given : words.root ≡ Some root
+  pub none : IsNoRoot root
+  pub own : words.plan ≡ None
+
+-- ---- what is asked of a program
+
+pub record Asked : Type 0 where
+  -- the main class, with slashes
+  pub main : List ℕ
+  pub plan : Plan
+
+abbrev pub asked_for : List ℕ → Plan → Asked
+asked_for main plan = record { main = main; plan = plan }
 
 abbrev pub asked_by : Command → Asked
-asked_by k = record { main = k.main; plan = plan_said k.options.root }
+asked_by k = asked_for k.main k.plan

@@ -1,46 +1,52 @@
 -- What a call of the program leaves: all that it promises.
-use Rattle.std.specs.Prelude.{◌≡◌, ◌≢◌, ℕ, ◌⊎◌, true, false, List, [], Option, Some, None, slice_get, IfSome, IsSome, IsSomeAnd}
+use Rattle.std.specs.Prelude.{◌≡◌, ◌≢◌, ℕ, ◌⊎◌, true, false, List, Option, Some, None, Result, slice_get, IfSome, IsErr, IsSome, IsSomeAnd}
+use Rattle.jf_bytes.specs.declared.error.NoMemory.{NoMemory}
 use Rattle.jf_bytes.specs.Streams.{Told, PutsAll, PutsFront, Rose}
 use Rattle.jvm_model.specs.declared.program.Program.{Program}
 use Rattle.jvm_model.specs.Run.{ending_of}
 use Rattle.jvm_machine.specs.View.{View}
 use Rattle.jfluid_cli.specs.declared.kept.Kept.{Kept}
 use Rattle.jfluid_cli.specs.declared.refusal.Refusal.{Refusal}
-use Rattle.jfluid_cli.specs.declared.refusal.Refusal.TheVariants.{NotFetched}
-use Rattle.jfluid_cli.specs.Asking.{IsFine}
-use Rattle.jfluid_cli.specs.Causes.{Given, IsAccepted, IsUnfit, IsDue, OfWords}
+use Rattle.jfluid_cli.specs.declared.refusal.Refusal.TheVariants.{PlanNotFetched, NotFetched}
+use Rattle.jfluid_cli.specs.Asking.{HasBadRoot}
+use Rattle.jfluid_cli.specs.Causes.{Given, HasBadPlan, HasLongInput, IsAccepted, IsUnfit, OfWords, Because}
 use Rattle.jfluid_cli.specs.Origins.{HasOrigin, IsOnlyProgram}
 use Rattle.jfluid_cli.specs.Refusals.{status_of, refusal_line}
 use Rattle.jfluid_cli.specs.Runs.{IsCarriedOut, PutsAtMost, ending_at, world_on}
-use Rattle.jfluid_cli.specs.Sinks.{SinkView, FilesView, Streams, PutsOrRose}
-use Rattle.jfluid_cli.specs.Top.{IsCalm, is_run, is_refused, is_status, reported_of, status_of_ending}
-use Rattle.jfluid_cli.specs.Words.{command_of, budget_of, file_words}
+use Rattle.jfluid_cli.specs.Sinks.{SinkView, SourceView, FilesView, Streams, PutsOrRose}
+use Rattle.jfluid_cli.specs.Top.{IsCalm, is_run, is_refused, is_unadmitted, is_status, reported_of, status_of_ending}
+use Rattle.jfluid_cli.specs.Words.{accepted, budget_of, file_words, plan_word, words_in}
 
 -- ---- a call
 
--- A call: the words as bytes, what the files tell, the files before and after, the streams, and
--- what is kept.
+-- A call: the words as bytes, or the want of memory that came in their place, what the files tell,
+-- files, source of input and streams before and after, and what is kept.
 pub record Call : Type 0 where
-  pub words : List (List ℕ)
+  pub words : Result (List (List ℕ)) NoMemory
   pub told : Option Told
   pub files : FilesView
   pub files_after : FilesView
+  pub input : SourceView
+  pub input_after : SourceView
   pub streams : Streams
   pub kept : Option Kept
 
+abbrev pub words_of : Call → List (List ℕ)
+words_of c = words_in c.words
+
 abbrev pub given_of : Call → Given
-given_of c = record { asked = command_of c.words; told = c.told }
+given_of c = record { words = words_of c; told = c.told; left = c.input.left }
 
 -- ---- with every status
 
 pub record IsTrueOf (c : Call) : Type 0 where
-  -- what is kept came from the files, and is all that they spell
-  pub origin : IfSome c.kept (HasOrigin c.told c.words)
+  -- what is kept came from words, files and input, and is all that the files spell
+  pub origin : IfSome c.kept (HasOrigin (given_of c))
   pub only : IfSome c.kept IsOnlyProgram
   -- a front of the output at the budget was put, and nothing where nothing was made
   pub front :
       let s = c.streams in
-      IfSome c.kept (λ k. PutsAtMost k.vm (budget_of c.words) s.out.taken s.out_after.taken)
+      IfSome c.kept (λ k. PutsAtMost k.vm (budget_of (words_of c) k.plan) s.out.taken s.out_after.taken)
   pub nothing : c.kept ≡ None → c.streams.out_after.taken ≡ c.streams.out.taken
 
 -- ---- a run
@@ -62,41 +68,57 @@ pub record IsRun (budget : ℕ) (text : View → List ℕ) (s : Streams) (status
     pub calm : s.out_after.faults ≡ s.out.faults
     pub report : IsReported k.vm (text k.vm) s.report s.report_after status
 
+-- the run that the words ask for with the plan that is kept
+abbrev pub IsRunAsked : List (List ℕ) → Streams → ℕ → Kept → Type 0
+IsRunAsked words s status k = IsRun (budget_of words k.plan) (reported_of words k.plan) s status k
+
 -- The run of the words, with nothing else failed.
 pub record IsRunOf (c : Call) (status : ℕ) : Type 0 where
-  pub made : IsSomeAnd c.kept (IsRun (budget_of c.words) (reported_of c.words) c.streams status)
+  pub made : IsSomeAnd c.kept (IsRunAsked (words_of c) c.streams status)
   pub calm : c.files_after.faults ≡ c.files.faults
+  pub calm_input : c.input_after.faults ≡ c.input.faults
 
 -- ---- a refusal
 
 -- A refusal has its cause.
 pub record IsRefused (c : Call) (r : Refusal) : Type 0 where
-  pub due : IsDue (given_of c) r
-  -- 3 comes only where not all is accepted
-  pub file : status_of r ≡ 3 → (p : Program) → IsAccepted (given_of c) p → ⊥
+  pub cause : Because (given_of c) r
   -- nothing is kept, but with 6, and perhaps with 9
   pub refused : is_refused (status_of r) ≡ true → c.kept ≡ None
   pub made : status_of r ≡ 6 → IsSome c.kept
-  -- a fault's count rose, and the last failed name is that of the file; with 2, 3 and 6 no fetch
-  -- failed
+  -- no input was taken where the program was not admitted
+  pub untaken : is_unadmitted (status_of r) ≡ true → c.input_after ≡ c.input
+  -- a fault's count rose, and the last failed name is that of the plan's or of the class's file; with
+  -- any other status but 9 no fetch and no take failed
+  pub not_taken : status_of r ≡ 5 → Rose c.input.faults c.input_after.faults
   pub stopped : status_of r ≡ 6 → Rose c.streams.out.faults c.streams.out_after.faults
   pub not_fetched : status_of r ≡ 7 → Rose c.files.faults c.files_after.faults
+  pub plan_name : r ≡ PlanNotFetched → plan_word (words_of c) ≡ Some c.files_after.last_failed
   pub name :
       (at : ℕ) → r ≡ NotFetched at →
-      slice_get (file_words c.words) at ≡ Some c.files_after.last_failed
+      slice_get (file_words (words_of c)) at ≡ Some c.files_after.last_failed
   pub calm : status_of r ≢ 7 → status_of r ≢ 9 → c.files_after.faults ≡ c.files.faults
+  pub calm_input : status_of r ≢ 5 → status_of r ≢ 9 → c.input_after.faults ≡ c.input.faults
 
 -- its line was put, or a front of it where the report's count of faults rose
 abbrev pub PutsLine : Call → Refusal → Type 0
 PutsLine c r =
     let s = c.streams in
-    PutsOrRose s.report s.report_after (refusal_line r (file_words c.words))
+    PutsOrRose s.report s.report_after (refusal_line r (plan_word (words_of c)) (file_words (words_of c)))
 
 -- ---- the answer
 
+-- the count is as before, and can still rise: no fetch failed, no take
+abbrev pub CalmFiles : Call → Type 0
+CalmFiles c = IsCalm c.files.faults c.files_after.faults
+
+abbrev pub CalmInput : Call → Type 0
+CalmInput c = IsCalm c.input.faults c.input_after.faults
+
 -- no count rose, and each still can
 pub record AllCalm (c : Call) : Type 0 where
-  pub files : IsCalm c.files.faults c.files_after.faults
+  pub files : CalmFiles c
+  pub input : CalmInput c
   pub out : IsCalm c.streams.out.faults c.streams.out_after.faults
   pub report : IsCalm c.streams.report.faults c.streams.report_after.faults
 
@@ -111,17 +133,20 @@ pub record IsAnswered (c : Call) (status : ℕ) : Type 0 where
   pub refused :
       is_run status ≡ false →
       (r : Refusal) × (status ≡ status_of r) × IsRefused c r × PutsLine c r
-  -- 2 wherever the words are no command, whatever the files do, unless memory ran out
-  pub words_only : (given_of c).asked ≡ None → (status ≡ 2) ⊎ (status ≡ 9)
-  -- and wherever they are one that is not carried out; that is for its words, so no file is asked
-  pub plan_only :
-      OfWords (given_of c) (λ k. IsFine k → ⊥) → (status ≡ 2) ⊎ (status ≡ 9)
-  -- 3 wherever the words are accepted, and all files are told, but no program
-  pub file_only :
-      IsUnfit (given_of c) → IsCalm c.files.faults c.files_after.faults →
-      (status ≡ 3) ⊎ (status ≡ 9)
-  -- the status of the run at the budget wherever all is accepted
+  -- 9 where there was no memory for the words
+  pub unheard : IsErr c.words → status ≡ 9
+  -- 2 wherever the words are not accepted, whatever the files do, unless memory ran out
+  pub words_only : accepted (words_of c) ≡ None → (status ≡ 2) ⊎ (status ≡ 9)
+  -- and wherever the word for a root names no method
+  pub root_only : OfWords (given_of c) HasBadRoot → (status ≡ 2) ⊎ (status ≡ 9)
+  -- and wherever the plan that the files tell is refused, or names no main class and no word does
+  pub plan_only : HasBadPlan (given_of c) → CalmFiles c → (status ≡ 2) ⊎ (status ≡ 9)
+  -- 3 wherever words and plan are accepted, and all files are told, but no program
+  pub file_only : IsUnfit (given_of c) → CalmFiles c → (status ≡ 3) ⊎ (status ≡ 9)
+  -- 11 wherever a program is told, and more input than the limit
+  pub input_only : HasLongInput (given_of c) → CalmFiles c → CalmInput c → (status ≡ 11) ⊎ (status ≡ 9)
+  -- the status of the run on the input at the budget wherever all is accepted
   pub complete :
-      (p : Program) → IsAccepted (given_of c) p → AllCalm c →
-      (status ≡ status_of_ending (ending_of (world_on p []) (budget_of c.words)))
+      (p : Program) → (a : IsAccepted (given_of c) p) → AllCalm c →
+      (status ≡ status_of_ending (ending_of (world_on p a.input) a.admitted.command.budget))
       ⊎ (status ≡ 9)

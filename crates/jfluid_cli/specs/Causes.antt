@@ -1,31 +1,35 @@
 -- What a call is given, when it is accepted, and the cause of each refusal.
-use Rattle.std.specs.Prelude.{◌≡◌, ◌<◌, ℕ, ◌⊎◌, List, length, take, Option, Some, None}
+use Rattle.std.specs.Prelude.{◌≡◌, ◌<◌, ◌≤◌, ℕ, ◌⊎◌, List, length, take, Option, Some, Ok, IfSome, IsSome}
 use Rattle.jf_bytes.specs.Streams.{Told}
 use Rattle.jvm_model.specs.declared.program.Program.{Program}
+use Rattle.command_line.specs.Input.{most_input}
+use Rattle.command_line.specs.Words.{Read}
 use Rattle.jfluid_cli.specs.declared.refusal.Refusal.{Refusal}
 use Rattle.jfluid_cli.specs.declared.refusal.Refusal.TheVariants as refusal
-use Rattle.jfluid_cli.specs.Refusals.{status_of}
 use Rattle.small_program.specs.declared.admission.Refused.{Refused}
 use Rattle.small_program.specs.declared.admission.Refused.TheVariants as refused
-use Rattle.jfluid_cli.specs.Asking.{asked_by, IsBadRoot, IsFine}
+use Rattle.jfluid_cli.specs.Asking.{asked_by, IsPlanFor, IsFaultOfPlan, HasNoMain, IsMisplanned}
 use Rattle.jfluid_cli.specs.Contents.{AreToldAs, IsFaultAt}
-use Rattle.jfluid_cli.specs.Top.{IsProgram, HasRefused, HasNoProgram}
-use Rattle.jfluid_cli.specs.Words.{Command}
+use Rattle.jfluid_cli.specs.Top.{IsProgram, HasProgram, HasRefused, HasNoProgram}
+use Rattle.jfluid_cli.specs.Words.{Command, accepted, AreClaps, AreRefused, command_for}
 
--- the command that the words are, where they are one, and what the files tell
+-- the words as bytes, what the files tell, and what the source of input has left, where it tells it
 pub record Given : Type 0 where
-  pub asked : Option Command
+  pub words : List (List ℕ)
   pub told : Option Told
+  pub left : Option (List ℕ)
 
 -- ---- what is accepted
 
--- The words are this command, and it is carried out.
+-- The words are accepted with their plan, and this is what they ask for.
 pub record Accepts (g : Given) (k : Command) : Type 0 where
-  pub asked : g.asked ≡ Some k
-  pub fine : IsFine k
+  pub words : Read
+  pub read : accepted g.words ≡ Some words
+  pub planned : IsPlanFor g.told words (Ok k.plan)
+  pub asked : command_for words k.plan ≡ Some k
 
--- The words are accepted, and the files tell this program for them.
-pub record IsAccepted (g : Given) (program : Program) : Type 0 where
+-- The words and their plan are accepted, and the files tell this program for them.
+pub record IsAdmitted (g : Given) (program : Program) : Type 0 where
   pub command : Command
   pub accepts : Accepts g command
   pub files : Told
@@ -35,7 +39,22 @@ pub record IsAccepted (g : Given) (program : Program) : Type 0 where
   pub root : Option ℕ
   pub program_is : IsProgram (asked_by command) contents program root
 
--- The words are accepted, and what the files tell for them is no program.
+-- And the input is within its limit.
+pub record IsAccepted (g : Given) (program : Program) : Type 0 where
+  pub admitted : IsAdmitted g program
+  pub input : List ℕ
+  pub input_is : g.left ≡ Some input
+  pub short : length input ≤ most_input
+
+-- Or there is more input than that.
+pub record HasLongInput (g : Given) : Type 0 where
+  pub program : Program
+  pub admitted : IsAdmitted g program
+  pub input : List ℕ
+  pub input_is : g.left ≡ Some input
+  pub long : most_input < length input
+
+-- The words and their plan are accepted, and what the files tell for them is no program.
 pub record IsUnfit (g : Given) : Type 0 where
   pub command : Command
   pub accepts : Accepts g command
@@ -45,15 +64,22 @@ pub record IsUnfit (g : Given) : Type 0 where
   pub told_as : AreToldAs (Some files) command.files contents
   pub none : HasNoProgram (asked_by command) contents
 
+-- The words are accepted by themselves, and not with their plan, which the files tell.
+pub record HasBadPlan (g : Given) : Type 0 where
+  pub words : Read
+  pub read : accepted g.words ≡ Some words
+  pub telling : IsSome g.told
+  pub misplanned : IsMisplanned g.told words
+
 -- ---- what is refused
 
--- the words are a command, and this holds of it
-abbrev pub OfWords : Given → (Command → Type 0) → Type 0
-OfWords g P = (k : Command) × (g.asked ≡ Some k) × P k
+-- the source has more than the limit, where it tells what it has
+abbrev pub IsLong : Option (List ℕ) → Type 0
+IsLong left = IfSome left (λ all. most_input < length all)
 
--- the words are accepted
-abbrev pub AreAccepted : Given → Type 0
-AreAccepted g = (k : Command) × Accepts g k
+-- the words are accepted by themselves, and this holds of them
+abbrev pub OfWords : Given → (Read → Type 0) → Type 0
+OfWords g P = (words : Read) × (accepted g.words ≡ Some words) × P words
 
 -- The words are accepted, all of their files are told, and this holds of the contents.
 pub record OfFiles (g : Given) (P : Command → List (List ℕ) → Type 0) : Type 0 where
@@ -67,6 +93,10 @@ pub record OfFiles (g : Given) (P : Command → List (List ℕ) → Type 0) : Ty
 abbrev pub OfClasses : Given → Refused → Type 0
 OfClasses g refused = OfFiles g (λ k. HasRefused (asked_by k) refused)
 
+-- a program is told
+abbrev pub OfProgram : Given → Type 0
+OfProgram g = OfFiles g (λ k. HasProgram (asked_by k))
+
 -- The words are accepted, and those of their files that stand before this position are told.
 pub record OfFetched (g : Given) (at : ℕ) : Type 0 where
   pub command : Command
@@ -75,21 +105,19 @@ pub record OfFetched (g : Given) (at : ℕ) : Type 0 where
   pub contents : List (List ℕ)
   pub told_as : AreToldAs g.told (take at command.files) contents
 
--- The cause of each refusal in what is given; that of a fault is a count beside.
+-- The cause of each refusal in what is given; that of a fault is a count beside. Of clap's text
+-- nothing is said.
 abbrev pub Because : Given → Refusal → Type 0
-Because g refusal.Words = g.asked ≡ None
-Because g refusal.BadRoot = OfWords g (λ k. IsBadRoot k.options.root)
+Because g (refusal.Clap text) = AreClaps g.words
+Because g refusal.Words = AreRefused g.words ⊎ OfWords g (HasNoMain g.told)
+Because g (refusal.Plan fault) = OfWords g (λ words. IsFaultOfPlan g.told words fault)
 Because g (refusal.NotRead at fault) = OfFiles g (λ k contents. IsFaultAt contents at fault)
 Because g (refusal.NotAdmitted fault) = OfClasses g (refused.Fault fault)
 Because g (refusal.NotBuilt at) = OfClasses g (refused.NotBuilt at)
 Because g refusal.NotBuiltPlan = OfClasses g refused.NotBuiltPlan
-Because g refusal.OutFailed = AreAccepted g
+Because g refusal.InputFailed = OfProgram g
+Because g refusal.OutFailed = OfProgram g
+Because g refusal.PlanNotFetched = OfWords g (λ words. IsSome words.plan)
 Because g (refusal.NotFetched at) = OfFetched g at
 Because g refusal.NoMemory = Unit {0}
-
--- A refusal with its cause: 2 only where no words are accepted, any other but 9 only where some
--- are.
-pub record IsDue (g : Given) (r : Refusal) : Type 0 where
-  pub cause : Because g r
-  pub words : status_of r ≡ 2 → (k : Command) → Accepts g k → ⊥
-  pub command : (status_of r ≡ 2) ⊎ ((status_of r ≡ 9) ⊎ AreAccepted g)
+Because g refusal.InputTooLong = OfProgram g × IsLong g.left

@@ -8,6 +8,5 @@ pub mod Causes
 pub mod Origins
 pub mod Selections
 pub mod Asking
-pub mod Views
 pub mod Calls
 pub mod Stages

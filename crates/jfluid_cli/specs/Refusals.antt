@@ -1,5 +1,6 @@
 -- The refusals of the program: their statuses, and the line that is put to the report.
-use Rattle.std.specs.Prelude.{◌≡◌, ℕ, ◌⊎◌, List, ◌++◌, Option, Some, None, codes}
+use Rattle.std.specs.Prelude.{◌≡◌, ℕ, List, [], ◌++◌, Option, Some, None, codes, true, unwrap_or}
+use Rattle.std.specs.String.{string_bytes}
 use Rattle.std.specs.Fmt.{decimal}
 use Rattle.class_reader.specs.declared.error.ReadError.{ReadError}
 use Rattle.class_reader.specs.declared.error.ReadError.TheVariants as fault
@@ -13,25 +14,39 @@ use Rattle.admit_check.specs.declared.error.ShapeCause.{ShapeCause}
 use Rattle.admit_check.specs.declared.error.ShapeCause.TheVariants as shape
 use Rattle.inject_events.specs.declared.error.Cause.{Cause}
 use Rattle.inject_events.specs.declared.error.Cause.TheVariants as limit
+use Rattle.plan_text.specs.declared.plan.LineCause.{LineCause}
+use Rattle.plan_text.specs.declared.plan.LineCause.TheVariants as line
+use Rattle.plan_text.specs.declared.plan.PlanError.{PlanError}
+use Rattle.plan_text.specs.declared.plan.PlanError.TheVariants as plan
 use Rattle.small_program.specs.Admission.{class_in}
 use Rattle.jfluid_cli.specs.Contents.{word_at}
 use Rattle.jfluid_cli.specs.declared.refusal.Refusal.{Refusal}
-use Rattle.jfluid_cli.specs.declared.refusal.Refusal.TheVariants.{Words, BadRoot, NotRead, NotAdmitted, NotBuilt, NotBuiltPlan, NotFetched, OutFailed, NoMemory}
+use Rattle.jfluid_cli.specs.declared.refusal.Refusal.TheVariants.{Clap, Words, Plan, NotRead, NotAdmitted, NotBuilt, NotBuiltPlan, InputFailed, OutFailed, PlanNotFetched, NotFetched, NoMemory, InputTooLong}
 
 abbrev pub status_of : Refusal → ℕ
+status_of (Clap text) = 2
 status_of Words = 2
-status_of BadRoot = 2
+status_of (Plan why) = 2
 status_of (NotRead at why) = 3
 status_of (NotAdmitted why) = 3
 status_of (NotBuilt at) = 3
 status_of NotBuiltPlan = 3
+status_of InputFailed = 5
 status_of OutFailed = 6
+status_of PlanNotFetched = 7
 status_of (NotFetched at) = 7
 status_of NoMemory = 9
+status_of InputTooLong = 11
 
--- the statuses of refusals
-abbrev pub IsRefusalStatus : ℕ → Type 0
-IsRefusalStatus s = (s ≡ 2) ⊎ ((s ≡ 3) ⊎ ((s ≡ 6) ⊎ ((s ≡ 7) ⊎ (s ≡ 9))))
+-- why there is no plan; want of memory is no fault of it
+abbrev pub refusal_of : PlanError → Refusal
+refusal_of plan.TooLong = Plan plan.TooLong
+refusal_of (plan.BadLine number cause) = Plan (plan.BadLine number cause)
+refusal_of (plan.Backwards number) = Plan (plan.Backwards number)
+refusal_of (plan.AlreadySelected number) = Plan (plan.AlreadySelected number)
+refusal_of (plan.NotSelected number) = Plan (plan.NotSelected number)
+refusal_of (plan.TooMany number) = Plan (plan.TooMany number)
+refusal_of plan.NoMemory = NoMemory
 
 -- what is told of a fault: its name and its number
 abbrev pub cause_of : ReadError → List ℕ
@@ -46,6 +61,25 @@ cause_of (fault.BadRef at) = codes "BadRef " ++ decimal at
 cause_of (fault.BadLength at) = codes "BadLength " ++ decimal at
 cause_of (fault.Trailing at) = codes "Trailing " ++ decimal at
 cause_of fault.NoMemory = codes "NoMemory"
+
+-- what is told of a plan: the name of the fault, and its line
+abbrev pub line_word : LineCause → List ℕ
+line_word line.Utf8 = codes "Utf8"
+line_word line.Unknown = codes "Unknown"
+line_word line.Number = codes "Number"
+line_word line.Name = codes "Name"
+line_word line.Root = codes "Root"
+line_word line.Twice = codes "Twice"
+
+abbrev pub plan_cause : PlanError → List ℕ
+plan_cause plan.TooLong = codes "TooLong"
+plan_cause (plan.BadLine number why) =
+    codes "BadLine " ++ (decimal number ++ (codes " " ++ line_word why))
+plan_cause (plan.Backwards number) = codes "Backwards " ++ decimal number
+plan_cause (plan.AlreadySelected number) = codes "AlreadySelected " ++ decimal number
+plan_cause (plan.NotSelected number) = codes "NotSelected " ++ decimal number
+plan_cause (plan.TooMany number) = codes "TooMany " ++ decimal number
+plan_cause plan.NoMemory = codes "NoMemory"
 
 -- what is told of what is not admitted: the name of the fault, and its numbers behind the class's
 abbrev pub shape_word : ShapeCause → List ℕ
@@ -106,15 +140,27 @@ abbrev pub told_of : List (List ℕ) → Option ℕ → List ℕ → List ℕ
 told_of files (Some at) cause = told_of_file (word_at files at) cause
 told_of files None cause = codes "jfluid: " ++ (cause ++ codes "\n")
 
--- the line, with its end; a file is called by its word
-abbrev pub refusal_line : Refusal → List (List ℕ) → List ℕ
-refusal_line Words files = codes "jfluid: words refused\n"
-refusal_line BadRoot files = codes "jfluid: plan: BadLine 0 Root\n"
-refusal_line (NotRead at why) files = told_of_file (word_at files at) (cause_of why)
-refusal_line (NotAdmitted why) files = told_of files (class_in why) (admission_cause why)
-refusal_line (NotBuilt at) files = codes "jfluid: " ++ (word_at files at ++ codes ": NotBuilt\n")
-refusal_line NotBuiltPlan files = codes "jfluid: NotBuiltPlan\n"
-refusal_line OutFailed files = codes "jfluid: output failed\n"
-refusal_line (NotFetched at) files =
-    codes "jfluid: " ++ (word_at files at ++ codes ": fetch failed\n")
-refusal_line NoMemory files = codes "jfluid: no memory\n"
+-- a fetch failed, of what is called by its word
+abbrev pub told_of_fetch : List ℕ → List ℕ
+told_of_fetch word = codes "jfluid: " ++ (word ++ codes ": fetch failed\n")
+
+-- the line, with its end; a plan's file and a class file are called by their words
+abbrev pub refusal_line : Refusal → Option (List ℕ) → List (List ℕ) → List ℕ
+refusal_line (Clap text) named files = string_bytes text
+refusal_line Words named files = codes "jfluid: words refused\n"
+refusal_line (Plan why) named files = codes "jfluid: plan: " ++ (plan_cause why ++ codes "\n")
+refusal_line (NotRead at why) named files = told_of_file (word_at files at) (cause_of why)
+refusal_line (NotAdmitted why) named files = told_of files (class_in why) (admission_cause why)
+refusal_line (NotBuilt at) named files = codes "jfluid: " ++ (word_at files at ++ codes ": NotBuilt\n")
+refusal_line NotBuiltPlan named files = codes "jfluid: NotBuiltPlan\n"
+refusal_line InputFailed named files = codes "jfluid: input failed\n"
+refusal_line OutFailed named files = codes "jfluid: output failed\n"
+refusal_line PlanNotFetched named files = told_of_fetch (unwrap_or named [])
+refusal_line (NotFetched at) named files = told_of_fetch (word_at files at)
+refusal_line NoMemory named files = codes "jfluid: no memory\n"
+refusal_line InputTooLong named files = codes "jfluid: input too long\n"
+
+-- the line calls nothing by its word
+abbrev pub IsNameless : Refusal → Type 0
+IsNameless r =
+    (a b : Option (List ℕ)) (xs ys : List (List ℕ)) → refusal_line r a xs ≡ refusal_line r b ys

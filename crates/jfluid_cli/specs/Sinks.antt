@@ -1,4 +1,4 @@
--- What clauses see of a call's sinks and files, before and after.
+-- What clauses see of a call's sinks, source and files, before and after.
 use Rattle.std.specs.Prelude.{◌≡◌, ℕ, ◌⊎◌, List, Option}
 use Rattle.jf_bytes.specs.Streams.{PutsAll, PutsFront, Rose}
 
@@ -28,6 +28,16 @@ pub record Streams : Type 0 where
   pub out_after : SinkView
   pub report : SinkView
   pub report_after : SinkView
+
+-- ---- the source of input
+
+-- what a source has left, where it tells it, and its count of faults
+pub record SourceView : Type 0 where
+  pub left : Option (List ℕ)
+  pub faults : ℕ
+
+abbrev pub source_view : Option (List ℕ) → ℕ → SourceView
+source_view bytes n = record { left = bytes; faults = n }
 
 -- ---- the files
 

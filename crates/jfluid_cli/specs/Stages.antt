@@ -1,33 +1,73 @@
 -- What the parts of a call owe one another.
-use Rattle.std.specs.Prelude.{◌≡◌, ◌≢◌, ◌<◌, ℕ, ◌⊎◌, Bool, true, List, ◌∷◌, [], length, take, slice_get, Option, Some, Result, IfOk, IfErr}
+use Rattle.std.specs.Prelude.{◌≡◌, ◌≢◌, ◌<◌, ℕ, ◌⊎◌, Bool, true, List, ◌∷◌, [], length, take, slice_get, Option, Some, Ok, Err, Result, IfOk, IfErr, IsSome}
 use Rattle.jf_bytes.specs.Streams.{Told, Rose}
+use Rattle.plan_text.specs.declared.plan.Plan.{Plan}
+use Rattle.plan_text.specs.declared.plan.PlanError.{PlanError}
+use Rattle.plan_text.specs.declared.plan.PlanError.TheVariants as plan
 use Rattle.class_reader.specs.Files.{IsFirstFault}
 use Rattle.class_reader.specs.declared.error.ReadError.{ReadError}
 use Rattle.jvm_model.specs.declared.program.Program.{Program}
-use Rattle.jfluid_cli.specs.declared.asking.Asked.{Asked}
+use Rattle.plan_text.specs.Lines.{IsPlanRead}
+use Rattle.command_line.specs.Chosen.{IsOwnPlan}
+use Rattle.command_line.specs.Words.{Read}
 use Rattle.jfluid_cli.specs.declared.kept.Kept.{Kept}
 use Rattle.jfluid_cli.specs.declared.refusal.Refusal.{Refusal}
-use Rattle.jfluid_cli.specs.declared.refusal.Refusal.TheVariants.{NotRead, OutFailed, NotFetched, NoMemory}
-use Rattle.jfluid_cli.specs.Asking.{asked_by}
+use Rattle.jfluid_cli.specs.declared.refusal.Refusal.TheVariants as refusal
+use Rattle.jfluid_cli.specs.declared.refusal.Refusal.TheVariants.{NotRead, InputFailed, OutFailed, PlanNotFetched, NotFetched, NoMemory, InputTooLong}
+use Rattle.jfluid_cli.specs.Asking.{Asked, asked_by, IsPlanFor, IsToldPlan}
 use Rattle.jfluid_cli.specs.Calls.{Call, IsTrueOf, IsRunOf, IsRefused}
-use Rattle.jfluid_cli.specs.Causes.{Given, Accepts, IsDue}
+use Rattle.jfluid_cli.specs.Causes.{Given, Accepts, IsLong, Because}
 use Rattle.jfluid_cli.specs.Contents.{AreToldAs, AreFetched, IsFaultAt, SpellAlone, classes_for}
-use Rattle.jfluid_cli.specs.Refusals.{status_of}
+use Rattle.jfluid_cli.specs.Refusals.{status_of, refusal_of}
 use Rattle.jfluid_cli.specs.Runs.{SameProgram}
 use Rattle.jfluid_cli.specs.Sinks.{FilesView, Streams, IsUntold}
-use Rattle.jfluid_cli.specs.Top.{IsProgram, HasNoProgram, is_among}
-use Rattle.jfluid_cli.specs.Words.{Command}
+use Rattle.jfluid_cli.specs.Top.{IsProgram, is_among, is_unadmitted}
+use Rattle.jfluid_cli.specs.Words.{Command, accepted, AreClaps, AreRefused}
 
 -- ---- before a machine is made
 
--- the statuses of a refusal before a machine is made
+-- the statuses of a refusal before the input is taken
 abbrev pub is_early : ℕ → Bool
 is_early = is_among (2 ∷ 3 ∷ 7 ∷ 9 ∷ [])
 
--- A refusal before a machine is made.
+-- A refusal before the input is taken.
 pub record IsEarly (g : Given) (r : Refusal) : Type 0 where
-  pub due : IsDue g r
+  pub cause : Because g r
   pub early : is_early (status_of r) ≡ true
+
+-- why words are not accepted: for clap or for a rule of the program's own, or memory ran out
+abbrev pub IsWordsRefusal : List (List ℕ) → Refusal → Type 0
+IsWordsRefusal words (refusal.Clap text) = AreClaps words
+IsWordsRefusal words refusal.Words = AreRefused words
+IsWordsRefusal words refusal.NoMemory = Unit {0}
+IsWordsRefusal words r = ⊥
+
+-- a fault of a plan with this answer, or memory ran out
+abbrev pub IsFaultOf : (Result Plan PlanError → Type 0) → Refusal → Type 0
+IsFaultOf IsAnswer r =
+    (fault : PlanError) × (r ≡ refusal_of fault) × (fault ≢ plan.NoMemory → IsAnswer (Err fault))
+
+-- why a text is no plan
+abbrev pub IsTextRefusal : List ℕ → Refusal → Type 0
+IsTextRefusal bytes = IsFaultOf (IsPlanRead bytes)
+
+-- why a word for a root is none, if there is one
+abbrev pub IsOwnRefusal : Option (List ℕ) → Refusal → Type 0
+IsOwnRefusal root = IsFaultOf (IsOwnPlan root)
+
+-- why there is no plan of a file
+abbrev pub IsToldRefusal : Option Told → List ℕ → Refusal → Type 0
+IsToldRefusal told name r = (r ≡ PlanNotFetched) ⊎ IsFaultOf (IsToldPlan told name) r
+
+-- why words have no plan
+abbrev pub IsPlanRefusal : Option Told → Read → Refusal → Type 0
+IsPlanRefusal told words r =
+    ((r ≡ PlanNotFetched) × IsSome words.plan) ⊎ IsFaultOf (IsPlanFor told words) r
+
+-- Words are accepted by themselves, and have this plan.
+pub record AreReadWith (g : Given) (words : Read) (plan : Plan) : Type 0 where
+  pub read : accepted g.words ≡ Some words
+  pub planned : IsPlanFor g.told words (Ok plan)
 
 -- What was fetched for a command that asks for this: the contents of its files, or of longer ones
 -- fronts that show it.
@@ -44,21 +84,27 @@ pub record IsLoaded (told : Option Told) (k : Command) (contents : List (List �
   pub program_is : IsProgram (asked_by k) contents program root
   pub alone : SpellAlone contents (classes_for contents program)
 
--- The words are accepted, all of their files are told, and no program is.
-abbrev pub AreUnfit : Option Told → Command → Type 0
-AreUnfit told k =
-    (contents : List (List ℕ)) × AreToldAs told k.files contents × HasNoProgram (asked_by k) contents
+-- What was prepared for words: what they ask for with their plan, and its program.
+pub record IsPrepared (g : Given) (plan : Plan) (budget : ℕ) (contents : List (List ℕ))
+    (program : Program) (root : Option ℕ) : Type 0 where
+  pub command : Command
+  pub accepts : Accepts g command
+  pub plan_is : plan ≡ command.plan
+  pub budget_is : budget ≡ command.budget
+  pub loaded : IsLoaded g.told command contents program root
 
 -- A fetch fails only where the count rose, and the last failed name is then that of the file.
-pub record HasFetchCause (files : List (List ℕ)) (old new : FilesView) (r : Refusal) : Type 0 where
+pub record HasFetchCause (named : Option (List ℕ)) (files : List (List ℕ)) (old new : FilesView)
+    (r : Refusal) : Type 0 where
   pub failed : status_of r ≡ 7 → Rose old.faults new.faults
+  pub plan_is : r ≡ PlanNotFetched → named ≡ Some new.last_failed
   pub name_is : (at : ℕ) → r ≡ NotFetched at → slice_get files at ≡ Some new.last_failed
   pub calm : status_of r ≢ 7 → new.faults ≡ old.faults
 
--- a fetch of one file fails where the count rose, and leaves its name, or for want of memory
-abbrev pub IsFetchFault : List ℕ → ℕ → FilesView → FilesView → Refusal → Type 0
-IsFetchFault word at old new r =
-    ((r ≡ NotFetched at) × Rose old.faults new.faults × (new.last_failed ≡ word))
+-- a fetch of one file is refused so where the count rose, and leaves its name, or for want of memory
+abbrev pub IsFetchFault : List ℕ → Refusal → FilesView → FilesView → Refusal → Type 0
+IsFetchFault word failed old new r =
+    ((r ≡ failed) × Rose old.faults new.faults × (new.last_failed ≡ word))
     ⊎ ((r ≡ NoMemory) × (new.faults ≡ old.faults))
 
 -- A fetch of the files failed: of the one at this position, behind the fronts of those before it.
@@ -83,12 +129,21 @@ IsReadRefusal contents r =
     ((at : ℕ) × (fault : ReadError) × (r ≡ NotRead at fault) × IsFaultAt contents at fault)
     ⊎ (r ≡ NoMemory)
 
+-- ---- the input
+
+-- why the input is not there: a take failed, there is too much, or memory ran out
+abbrev pub IsInputRefusal : Option (List ℕ) → ℕ → ℕ → Refusal → Type 0
+IsInputRefusal left old new r =
+    ((r ≡ InputFailed) × Rose old new)
+    ⊎ (((r ≡ InputTooLong) × IsLong left × (new ≡ old)) ⊎ ((r ≡ NoMemory) × (new ≡ old)))
+
 -- ---- behind a machine
 
 -- What was made goes on.
 pub record IsSameRun (made k : Kept) : Type 0 where
   pub program : SameProgram made.vm k.vm
   pub classes : k.classes ≡ made.classes
+  pub plan : k.plan ≡ made.plan
   pub input : k.input ≡ made.input
 
 -- A run stopped before its end and its budget, for its output or for want of memory.

@@ -11,8 +11,8 @@ use Rattle.admit_check.specs.declared.error.AdmitError.{AdmitError}
 use Rattle.admit_check.specs.Admission.{admission_of}
 use Rattle.small_program.specs.declared.admission.Refused.{Refused}
 use Rattle.small_program.specs.Admission.{selected, Runs, IsRefusedFor}
-use Rattle.jfluid_cli.specs.declared.asking.Asked.{Asked}
-use Rattle.jfluid_cli.specs.Asking.{asked_by}
+use Rattle.plan_text.specs.declared.plan.Plan.{Plan}
+use Rattle.jfluid_cli.specs.Asking.{Asked, asked_by}
 use Rattle.jvm_machine.specs.View.{View, world}
 use Rattle.jfluid_cli.specs.Contents.{AreFiles, classes_for}
 use Rattle.jfluid_cli.specs.Words.{Command, command_of}
@@ -42,9 +42,13 @@ is_run = is_among (0 ∷ 1 ∷ 4 ∷ 8 ∷ 10 ∷ [])
 abbrev pub is_refused : ℕ → Bool
 is_refused = is_among (2 ∷ 3 ∷ 5 ∷ 7 ∷ 11 ∷ [])
 
+-- the program was not admitted, so no input was taken
+abbrev pub is_unadmitted : ℕ → Bool
+is_unadmitted = is_among (2 ∷ 3 ∷ 7 ∷ [])
+
 -- the statuses that there are
 abbrev pub is_status : ℕ → Bool
-is_status = is_among (0 ∷ 1 ∷ 2 ∷ 3 ∷ 4 ∷ 6 ∷ 7 ∷ 8 ∷ 9 ∷ 10 ∷ [])
+is_status = is_among (0 ∷ 1 ∷ 2 ∷ 3 ∷ 4 ∷ 5 ∷ 6 ∷ 7 ∷ 8 ∷ 9 ∷ 10 ∷ 11 ∷ [])
 
 -- ---- the program
 
@@ -52,9 +56,9 @@ is_status = is_among (0 ∷ 1 ∷ 2 ∷ 3 ∷ 4 ∷ 6 ∷ 7 ∷ 8 ∷ 9 ∷ 10 �
 abbrev pub answer_for : Asked → List ClassFile → Result Program AdmitError
 answer_for a classes = admission_of classes a.main a.plan
 
--- These classes run so far, as this program with this root.
+-- These classes run so far with the plan, as this program with this root.
 abbrev pub RunAs : Asked → List ClassFile → Program → Option ℕ → Type 0
-RunAs a classes program root = Runs (answer_for a classes) classes program root
+RunAs a classes program root = Runs a.plan (answer_for a classes) classes program root
 
 -- The contents are files of classes that run so far, as the first ones of this program with this
 -- root.
@@ -63,11 +67,15 @@ pub record IsProgram (a : Asked) (contents : List (List ℕ)) (program : Program
   pub files : AreFiles contents (classes_for contents program)
   pub runs : RunAs a (classes_for contents program) program root
 
+-- some program is spelled
+abbrev pub HasProgram : Asked → List (List ℕ) → Type 0
+HasProgram a contents = (program : Program) × (root : Option ℕ) × IsProgram a contents program root
+
 -- classes are spelled that are refused so
 abbrev pub HasRefused : Asked → Refused → List (List ℕ) → Type 0
 HasRefused a refused contents =
     (classes : List ClassFile)
-    × AreFiles contents classes × IsRefusedFor (answer_for a classes) classes refused
+    × AreFiles contents classes × IsRefusedFor a.plan (answer_for a classes) classes refused
 
 -- no program is spelled
 abbrev pub HasNoProgram : Asked → List (List ℕ) → Type 0
@@ -93,13 +101,14 @@ abbrev pub root_by : Command → Program → Option ℕ
 root_by command program =
     root_of_answer (answer_for (asked_by command) (classes_for command.files program))
 
--- the root that the words name
-abbrev pub root_of : List (List ℕ) → Program → Option ℕ
-root_of words program = option_and_then (λ command. root_by command program) (command_of words)
+-- the root that the words name with this plan
+abbrev pub root_of : List (List ℕ) → Plan → Program → Option ℕ
+root_of words plan program =
+    option_and_then (λ command. root_by command program) (command_of words plan)
 
--- what is reported of the run of these words
-abbrev pub reported_of : List (List ℕ) → View → List ℕ
-reported_of words v = report_of (root_of words v.program) v
+-- what is reported of the run of these words with this plan
+abbrev pub reported_of : List (List ℕ) → Plan → View → List ℕ
+reported_of words plan v = report_of (root_of words plan v.program) v
 
 -- ---- counts of faults
 

@@ -1,11 +1,12 @@
 //! The command jfluid: from its words to a status, over any files and streams.
 #![tactic(auto)]
 
-mod asking;
 mod causes;
+mod input;
 mod kept;
 mod loading;
 mod making;
+mod plans;
 mod refusal;
 mod reporting;
 mod running;

@@ -1,26 +1,29 @@
-//! Fetches, reads and admits the class files.
+//! Reads the plan, and fetches, reads and admits the class files.
 
-ghost use Rattle.std.specs.Prelude.{◌≡◌, ◌≢◌, ◌<◌, ◌≤◌, ◌^◌, length, map, Err, Some, ℕ, Option, IfOk, IfErr, IsOk};
+ghost use Rattle.std.specs.Prelude.{◌≡◌, ◌≢◌, ◌≤◌, length, Some, ℕ, List, Option, IfOk, IfErr, IsOk};
 ghost use Rattle.std.specs.List.{AllByRecursion};
-ghost use Rattle.std.specs.String.{string_bytes};
 ghost use Rattle.const_pool.specs.ClassFile.{IsClassFile};
-ghost use Rattle.jfluid_cli.specs.Asking.{asked_by, IsFine};
-ghost use Rattle.jfluid_cli.specs.Causes.{Given, Accepts};
+ghost use Rattle.plan_text.specs.Bounds.{IsWithin};
+ghost use Rattle.plan_text.specs.Numbers.{greatest_steps};
+ghost use Rattle.command_line.specs.Words.{IsSound, most_files, read_in, texts};
+ghost use Rattle.jfluid_cli.specs.Asking.{asked_for};
+ghost use Rattle.jfluid_cli.specs.Causes.{Given};
 ghost use Rattle.jfluid_cli.specs.Contents.{AreFetched, IsFrontFor, SpellsAlone, SpellAlone, classes_for};
 ghost use Rattle.jfluid_cli.specs.Refusals.{status_of};
 ghost use Rattle.jfluid_cli.specs.Sinks.{files_view};
-ghost use Rattle.jfluid_cli.specs.Stages.{AreUnfit, IsFetchedFor, IsFetchFault, IsFetchRefusal, IsUnread, IsReadRefusal, IsLoaded, IsEarly, HasFetchCause};
-ghost use Rattle.jfluid_cli.specs.Views.{command_view};
-ghost use Rattle.jfluid_cli.specs.Top.{IsProgram, HasNoProgram};
-ghost use Rattle.jfluid_cli.specs.Words.{most_files};
-ghost use Rattle.small_program.specs.Runnable.{IsRunnable, IsUsual};
+ghost use Rattle.jfluid_cli.specs.Stages.{AreReadWith, IsFetchedFor, IsFetchFault, IsFetchRefusal, IsUnread};
+ghost use Rattle.jfluid_cli.specs.Stages.{IsReadRefusal, IsPrepared, IsEarly, HasFetchCause};
+ghost use Rattle.jfluid_cli.specs.Top.{IsProgram};
+ghost use Rattle.jfluid_cli.specs.Words.{accepted};
+ghost use Rattle.small_program.specs.Runnable.{IsRunnable};
 
-use crate::asking::{Asked, ask};
-use crate::refusal::Refusal;
-use crate::words::Command;
+use crate::plans::plan_of;
+use crate::refusal::{Refusal, word_at};
 use class_reader::{MOST_BYTES, ReadError, read_class};
+use command_line::{Words, command_of};
 use const_pool::ClassFile;
-use jf_bytes::{FetchError, Files, Seq};
+use jf_bytes::{FetchError, Files, Seq, Text16};
+use plan_text::Plan;
 use small_program::{Admitted, Refused, admit};
 use std::alloc::Global;
 
@@ -59,24 +62,29 @@ fn read_all(alloc: Global, contents: &[Seq<u8>]) -> Result<Seq<ClassFile>, Refus
     Ok(classes)
 }
 
-/// Reads and admits class files.
-fn read_program(alloc: Global, contents: &[Seq<u8>], asked: &Asked) -> Result<Admitted, Refusal>
+/// Reads class files and admits them, with this main class and plan.
+fn read_program(
+    alloc: Global,
+    contents: &[Seq<u8>],
+    main: &Text16,
+    plan: &Plan,
+) -> Result<Admitted, Refusal>
     requires few { length contents.now ≤ most_files }
-    requires actions { length asked.now.plan.actions < 2 ^ 32 }
-    requires usual { IsUsual asked.now.plan }
-    ensures ok { IfOk result (λ p. IsProgram asked.now contents.now p.program p.root) }
+    requires within { IsWithin plan.now }
+    ensures ok { IfOk result (λ p.
+        IsProgram (asked_for main.now plan.now) contents.now p.program p.root) }
     ensures alone { IfOk result (λ p.
         SpellAlone contents.now (classes_for contents.now p.program)) }
     ensures runnable { IfOk result (λ p. IsRunnable p.program p.root) }
-    ensures refuses { IfErr result (λ e. status_of e ≡ 3 → HasNoProgram asked.now contents.now) }
-    ensures early { (g : Given) → IsFetchedFor g asked.now contents.now → IfErr result (IsEarly g) }
+    ensures early { (g : Given) → IsFetchedFor g (asked_for main.now plan.now) contents.now →
+        IfErr result (IsEarly g) }
     ensures calm { IfErr result (λ e. status_of e ≢ 7) }
 {
     let classes = match read_all(alloc, contents) {
         Ok(classes) => classes,
         Err(refusal) => return Err(refusal),
     };
-    match admit(alloc, classes, &asked.main, &asked.plan) {
+    match admit(alloc, classes, main, plan) {
         Ok(admitted) => Ok(admitted),
         Err(Refused::Fault(fault)) => Err(Refusal::NotAdmitted(fault)),
         Err(Refused::NotBuilt(at)) => Err(Refusal::NotBuilt(at)),
@@ -94,7 +102,7 @@ fn fetch<F: Files>(alloc: Global, at: u32, name: &str, files: &mut F) -> Result<
     ensures calm { IsOk result → F.faults files.new ≡ F.faults files.old }
     ensures failed { let old = files_view (F.faults files.old) (F.last_failed files.old) in
         let new = files_view (F.faults files.new) (F.last_failed files.new) in
-        IfErr result (IsFetchFault name.now at old new) }
+        IfErr result (IsFetchFault name.now (Refusal.NotFetched at) old new) }
 {
     match files.fetch(alloc, name, MOST_BYTES) {
         Ok(bytes) => Ok(Seq::from_vec(bytes)),
@@ -106,21 +114,21 @@ fn fetch<F: Files>(alloc: Global, at: u32, name: &str, files: &mut F) -> Result<
 /// Fetches class files in the order of their names, up to the first fetch that fails.
 fn fetch_all<F: Files>(
     alloc: Global,
-    names: &[String],
+    names: &[&str],
     files: &mut F,
 ) -> Result<Seq<Seq<u8>>, Refusal>
     requires few { length names.now ≤ most_files }
-    ensures found { IfOk result (AreFetched (F.contents files.old) (map string_bytes names.now)) }
-    ensures refused { IfErr result
-        (IsFetchRefusal (F.contents files.old) (map string_bytes names.now)) }
+    ensures found { IfOk result (AreFetched (F.contents files.old) (texts names.now)) }
+    ensures refused { IfErr result (IsFetchRefusal (F.contents files.old) (texts names.now)) }
     ensures cause { let old = files_view (F.faults files.old) (F.last_failed files.old) in
         let new = files_view (F.faults files.new) (F.last_failed files.new) in
-        IfErr result (HasFetchCause (map string_bytes names.now) old new) }
+        (named : Option (List ℕ)) →
+        IfErr result (HasFetchCause named (texts names.now) old new) }
     ensures calm { IsOk result → F.faults files.new ≡ F.faults files.old }
 {
     let mut all = Seq::new(alloc);
-    for (at, name) in names.iter().enumerate() {
-        let bytes = match fetch(alloc, at as u32, name.as_str(), files) {
+    for at in 0..names.len() {
+        let bytes = match fetch(alloc, at as u32, word_at(names, at as u32), files) {
             Ok(bytes) => bytes,
             Err(refusal) => return Err(refusal),
         };
@@ -133,75 +141,97 @@ fn fetch_all<F: Files>(
 
 // ---- loading
 
-/// A program with the contents of its files, in their order.
+/// The contents of class files, in their order, with their program and the most steps that it makes.
 #[derive(Drop)]
-pub struct Loaded {
-    pub contents: Seq<Seq<u8>>,
-    pub program: Admitted,
+struct Found {
+    contents: Seq<Seq<u8>>,
+    program: Admitted,
+    budget: u64,
 }
 
-/// Fetches all class files of a command that asks for this, and then reads and admits them.
+/// What words and their plan ask for: the plan, the contents of the class files, in the order of
+/// their words, their program, and the most steps that it makes.
+#[derive(Drop)]
+pub struct Loaded {
+    pub plan: Plan,
+    pub contents: Seq<Seq<u8>>,
+    pub program: Admitted,
+    pub budget: u64,
+}
+
+/// Fetches all class files of words and their plan, and then reads and admits them.
 fn load<F: Files>(
     alloc: Global,
-    command: Command<'_>,
-    asked: &Asked,
+    words: &Words<'_>,
+    plan: &Plan,
     files: &mut F,
-) -> Result<Loaded, Refusal>
-    requires few { length command.files.now ≤ most_files }
-    requires asked { asked_by (command_view command) ≡ asked.now }
-    requires actions { length asked.now.plan.actions < 2 ^ 32 }
-    ensures ok { let k = command_view command.entry in
-        IfOk result (λ l. let p = l.program in
-        IsLoaded (F.contents files.old) k l.contents p.program p.root) }
+) -> Result<Found, Refusal>
+    requires sound { IsSound (read_in words.now) }
+    requires within { IsWithin plan.now }
+    ensures ok { (g : Given) → AreReadWith g (read_in words.now) plan.now →
+        g.told ≡ F.contents files.old →
+        IfOk result (λ l. IsPrepared g plan.now l.budget l.contents l.program.program l.program.root) }
+    ensures small { IfOk result (λ l. l.budget ≤ greatest_steps) }
     ensures runnable { IfOk result (λ l. IsRunnable l.program.program l.program.root) }
-    ensures refuses { let k = command_view command.entry in
-        IfErr result (λ e. status_of e ≡ 3 → AreUnfit (F.contents files.old) k) }
-    ensures early { (g : Given) → Accepts g (command_view command.entry) →
+    ensures early { (g : Given) → AreReadWith g (read_in words.now) plan.now →
         g.told ≡ F.contents files.old → IfErr result (IsEarly g) }
     ensures calm { IsOk result → F.faults files.new ≡ F.faults files.old }
-    ensures cause { let k = command_view command.entry in
-        let old = files_view (F.faults files.old) (F.last_failed files.old) in
+    ensures cause { let old = files_view (F.faults files.old) (F.last_failed files.old) in
         let new = files_view (F.faults files.new) (F.last_failed files.new) in
-        IfErr result (HasFetchCause k.files old new) }
+        let r = read_in words.now in
+        IfErr result (HasFetchCause r.plan r.files old new) }
 {
-    let contents = match fetch_all(alloc, command.files, files) {
+    let Some(command) = command_of(words, plan) else {
+        return Err(Refusal::Words);
+    };
+    let contents = match fetch_all(alloc, &words.files, files) {
         Ok(contents) => contents,
         Err(refusal) => return Err(refusal),
     };
-    match read_program(alloc, contents.as_slice(), asked) {
-        Ok(program) => Ok(Loaded { contents, program }),
+    match read_program(alloc, contents.as_slice(), command.main, plan) {
+        Ok(program) => Ok(Found {
+            contents,
+            program,
+            budget: command.budget,
+        }),
         Err(refusal) => Err(refusal),
     }
 }
 
-/// Reads what a command asks for, and loads its class files.
-pub fn prepare<F: Files>(
-    alloc: Global,
-    command: Command<'_>,
-    files: &mut F,
-) -> Result<Loaded, Refusal>
-    requires few { length command.files.now ≤ most_files }
-    ensures ok { let k = command_view command.entry in
-        IfOk result (λ l. let p = l.program in
-        IsLoaded (F.contents files.old) k l.contents p.program p.root) }
-    ensures fine { IfOk result (λ _. IsFine (command_view command.entry)) }
+/// Reads the plan of the words, and loads the class files that they ask for with it.
+pub fn prepare<F: Files>(alloc: Global, words: &Words<'_>, files: &mut F) -> Result<Loaded, Refusal>
+    requires sound { IsSound (read_in words.now) }
+    ensures ok { (g : Given) → accepted g.words ≡ Some (read_in words.now) →
+        g.told ≡ F.contents files.old →
+        IfOk result (λ l. IsPrepared g l.plan l.budget l.contents l.program.program l.program.root) }
+    ensures small { IfOk result (λ l. l.budget ≤ greatest_steps) }
     ensures runnable { IfOk result (λ l. IsRunnable l.program.program l.program.root) }
-    ensures refuses { let k = command_view command.entry in
-        IfErr result (λ e. status_of e ≡ 3 → AreUnfit (F.contents files.old) k) }
-    ensures early { let k = command_view command.entry in
-        IfErr result (IsEarly (record { asked = Some k; told = F.contents files.old })) }
+    ensures early { (g : Given) → accepted g.words ≡ Some (read_in words.now) →
+        g.told ≡ F.contents files.old → IfErr result (IsEarly g) }
     ensures calm { IsOk result → F.faults files.new ≡ F.faults files.old }
-    ensures cause { let k = command_view command.entry in
-        let old = files_view (F.faults files.old) (F.last_failed files.old) in
+    ensures cause { let old = files_view (F.faults files.old) (F.last_failed files.old) in
         let new = files_view (F.faults files.new) (F.last_failed files.new) in
-        IfErr result (HasFetchCause k.files old new) }
+        let r = read_in words.now in
+        IfErr result (HasFetchCause r.plan r.files old new) }
 {
-    let asked = match ask(alloc, command) {
-        Ok(asked) => asked,
+    let plan = match plan_of(alloc, words, files) {
+        Ok(plan) => plan,
         Err(refusal) => return Err(refusal),
     };
-    match load(alloc, command, &asked, files) {
-        Ok(loaded) => Ok(loaded),
+    match load(alloc, words, &plan, files) {
+        Ok(found) => {
+            let Found {
+                contents,
+                program,
+                budget,
+            } = found;
+            Ok(Loaded {
+                plan,
+                contents,
+                program,
+                budget,
+            })
+        }
         Err(refusal) => Err(refusal),
     }
 }

@@ -1,24 +1,28 @@
 //! The top call: from the words to a status.
 
-ghost use Rattle.std.specs.Prelude.{◌≡◌, ◌≤◌, ◌<◌, ◌⊎◌, ℕ, false, Err, map, MatchResult, IfOk, IfErr, IsOk, IsSomeAnd, OnOk};
-ghost use Rattle.std.specs.String.{string_bytes};
+ghost use Rattle.std.specs.Prelude.{◌≡◌, ◌≤◌, ◌<◌, ◌⊎◌, ℕ, List, false, Ok, Err, None, Some, MatchResult, IfOk, IfErr, IsOk, IsSomeAnd, OnOk};
+ghost use Rattle.plan_text.specs.Numbers.{greatest_steps};
+ghost use Rattle.command_line.specs.Raw.{AreTexts};
+ghost use Rattle.command_line.specs.Words.{IsSound, read_in, texts};
 ghost use Rattle.jfluid_cli.specs.Calls.{Call, IsReported, IsRun, IsAnswered};
 ghost use Rattle.jfluid_cli.specs.Stages.{IsStopped, IsSameRun, IsCarried};
 ghost use Rattle.jfluid_cli.specs.Runs.{IsFresh, IsTold, is_ended_at, IsGoing, PutsAtMost};
 ghost use Rattle.jfluid_cli.specs.Selections.{IsSelected};
-ghost use Rattle.jfluid_cli.specs.Sinks.{Streams, IsUntold, sink_view, files_view};
+ghost use Rattle.jfluid_cli.specs.Sinks.{Streams, IsUntold, sink_view, source_view, files_view};
 ghost use Rattle.jfluid_cli.specs.Top.{report_of};
-ghost use Rattle.jfluid_cli.specs.Words.{greatest_budget, file_words as file_words_in};
+ghost use Rattle.jfluid_cli.specs.Words.{accepted};
 
+use crate::input::take;
 use crate::kept::Kept;
 use crate::loading::prepare;
 use crate::making::make;
 use crate::refusal::{Refusal, tell};
 use crate::reporting::give_report;
 use crate::running::{Stop, run_all};
-use crate::words::read_words;
+use crate::words::{read, texts_in};
+use command_line::Words;
 use context_tree::Tree;
-use jf_bytes::{Files, Sink, Source};
+use jf_bytes::{Files, NoMemory, Seq, Sink, Source};
 use jvm_machine::Vm;
 use std::alloc::Global;
 
@@ -63,7 +67,7 @@ fn run_made<O: Sink, P: Sink>(
 ) -> Result<u8, Refusal>
     requires fresh { IsFresh made_of.vm }
     requires selected { IsSelected root made_of.vm }
-    requires small { budget ≤ greatest_budget }
+    requires small { budget ≤ greatest_steps }
     ensures same { IsSomeAnd kept.new (IsSameRun made_of) }
     ensures run { let s : Streams = record {
       out = sink_view (O.taken out.old) (O.faults out.old);
@@ -84,88 +88,71 @@ fn run_made<O: Sink, P: Sink>(
     answered
 }
 
-/// Does what the words say: fetches, reads, admits and runs the classes, and reports on them.
-fn carry_out<F: Files, O: Sink, P: Sink>(
+/// Does what accepted words say: loads the classes, takes the input, runs, and reports on the run.
+fn carry_out<F: Files, I: Source, O: Sink, P: Sink>(
     alloc: Global,
-    words: &[String],
-    files: &mut F,
-    out: &mut O,
-    report: &mut P,
-    kept: &mut Option<Kept>,
-) -> Result<u8, Refusal>
-    ensures carried { let call : Call = record {
-      words = map string_bytes words.now;
-      told = F.contents files.old;
-      files = files_view (F.faults files.old) (F.last_failed files.old);
-      files_after = files_view (F.faults files.new) (F.last_failed files.new);
-      streams = record {
-        out = sink_view (O.taken out.old) (O.faults out.old);
-        out_after = sink_view (O.taken out.new) (O.faults out.new);
-        report = sink_view (P.taken report.old) (P.faults report.old);
-        report_after = sink_view (P.taken report.new) (P.faults report.new);
-      };
-      kept = kept.new;
-    } in
-        IsCarried call result }
-{
-    *kept = None;
-    let Some(command) = read_words(words) else {
-        return Err(Refusal::Words);
-    };
-    let loaded = match prepare(alloc, command, files) {
-        Ok(loaded) => loaded,
-        Err(refusal) => return Err(refusal),
-    };
-    let root = loaded.program.root;
-    let Ok(made_of) = make(alloc, loaded) else {
-        return Err(Refusal::NoMemory);
-    };
-    let budget = command.options.budget;
-    run_made(alloc, made_of, root, budget, out, report, kept)
-}
-
-/// The words of the files, of which a refusal's line names one.
-fn file_words(words: &[String]) -> &[String]
-    ensures { map string_bytes result.now ≡ file_words_in (map string_bytes words.now) }
-{
-    match read_words(words) {
-        Some(command) => command.files,
-        None => &[],
-    }
-}
-
-/// Does what the words `jfluid MAIN FILE.. [BUDGET [ROOT]]` say: fetches the class files, reads them,
-/// both in the order of the words, admits them, runs the class MAIN (dots are slashes) for at most
-/// BUDGET steps, puts what the program writes to `out` and the report to `report`, and answers the
-/// exit status. Each word behind MAIN that ends with `.class`, up to the first that does not, is a
-/// FILE; there are 1 to 1,024. So far a program of one class runs. BUDGET is 1 to 13 decimal digits
-/// and at most 1,000,000,000,000; where it is left out it is 100,000,000. ROOT is a method: class,
-/// dot, name and descriptor, as in `P1.f(I)I`. Its activations and what they call are profiled: the
-/// class is rewritten before the start, and the report has the tree of calling contexts. Without it
-/// the tree is empty. Nothing is taken from `input` and nothing put to `images`. What was run is
-/// left in `kept`.
-///
-/// The statuses are 0, the run returned, with the budget's last step at the latest; 1, it ended
-/// uncaught; 2, the words are refused; 3, a file is no class file, the program is not admitted, or a
-/// class is outside the part of the language that runs so far; 4, the budget was spent before the run
-/// ended; 6, a put of output failed; 7, a file could not be fetched; 8, a put of the report failed;
-/// 9, no memory was left; 10, the code is unverifiable. With 2, 3, 6, 7 and 9 a line on `report` says
-/// it, and names the file that is at fault.
-pub fn jfluid<F: Files, I: Source, O: Sink, P: Sink, G: Sink>(
-    alloc: Global,
-    words: &[String],
+    words: &Words<'_>,
     files: &mut F,
     input: &mut I,
     out: &mut O,
     report: &mut P,
-    images: &mut G,
+    kept: &mut Option<Kept>,
+) -> Result<u8, Refusal>
+    requires sound { IsSound (read_in words.now) }
+    requires empty { kept.old ≡ None }
+    ensures carried { (list : List (List ℕ)) → accepted list ≡ Some (read_in words.now) →
+        let call : Call = record {
+          words = Ok list;
+          told = F.contents files.old;
+          files = files_view (F.faults files.old) (F.last_failed files.old);
+          files_after = files_view (F.faults files.new) (F.last_failed files.new);
+          input = source_view (I.left input.old) (I.faults input.old);
+          input_after = source_view (I.left input.new) (I.faults input.new);
+          streams = record {
+            out = sink_view (O.taken out.old) (O.faults out.old);
+            out_after = sink_view (O.taken out.new) (O.faults out.new);
+            report = sink_view (P.taken report.old) (P.faults report.old);
+            report_after = sink_view (P.taken report.new) (P.faults report.new);
+          };
+          kept = kept.new;
+        } in
+        IsCarried call result }
+{
+    let loaded = match prepare(alloc, words, files) {
+        Ok(loaded) => loaded,
+        Err(refusal) => return Err(refusal),
+    };
+    let bytes = match take(alloc, input) {
+        Ok(bytes) => bytes,
+        Err(refusal) => return Err(refusal),
+    };
+    let root = loaded.program.root;
+    let budget = loaded.budget;
+    let Ok(made_of) = make(alloc, loaded, bytes) else {
+        return Err(Refusal::NoMemory);
+    };
+    run_made(alloc, made_of, root, budget, out, report, kept)
+}
+
+/// Answers for words that are texts.
+fn answer_texts<F: Files, I: Source, O: Sink, P: Sink>(
+    alloc: Global,
+    words: &[&str],
+    files: &mut F,
+    input: &mut I,
+    out: &mut O,
+    report: &mut P,
     kept: &mut Option<Kept>,
 ) -> u8
+    requires texts { AreTexts (texts words.now) }
+    requires empty { kept.old ≡ None }
     ensures answered { let call : Call = record {
-      words = map string_bytes words.now;
+      words = Ok (texts words.now);
       told = F.contents files.old;
       files = files_view (F.faults files.old) (F.last_failed files.old);
       files_after = files_view (F.faults files.new) (F.last_failed files.new);
+      input = source_view (I.left input.old) (I.faults input.old);
+      input_after = source_view (I.left input.new) (I.faults input.new);
       streams = record {
         out = sink_view (O.taken out.old) (O.faults out.old);
         out_after = sink_view (O.taken out.new) (O.faults out.new);
@@ -175,14 +162,106 @@ pub fn jfluid<F: Files, I: Source, O: Sink, P: Sink, G: Sink>(
       kept = kept.new;
     } in
         IsAnswered call result }
-    ensures input_stays { input.new ≡ input.old }
-    ensures images_stay { images.new ≡ images.old }
 {
-    let _input = input;
-    let _images = images;
-    let refusal = match carry_out(alloc, words, files, out, report, kept) {
+    let words = match read(alloc, words) {
+        Ok(words) => words,
+        Err(refusal) => return tell(alloc, refusal, None, &[], report).status(),
+    };
+    let refusal = match carry_out(alloc, &words, files, input, out, report, kept) {
         Ok(status) => return status,
         Err(refusal) => refusal,
     };
-    tell(alloc, refusal, file_words(words), report).status()
+    tell(alloc, refusal, words.plan, &words.files, report).status()
+}
+
+/// Answers for words as bytes.
+fn answer_words<F: Files, I: Source, O: Sink, P: Sink>(
+    alloc: Global,
+    words: &[Seq<u8>],
+    files: &mut F,
+    input: &mut I,
+    out: &mut O,
+    report: &mut P,
+    kept: &mut Option<Kept>,
+) -> u8
+    requires empty { kept.old ≡ None }
+    ensures answered { let call : Call = record {
+      words = Ok words.now;
+      told = F.contents files.old;
+      files = files_view (F.faults files.old) (F.last_failed files.old);
+      files_after = files_view (F.faults files.new) (F.last_failed files.new);
+      input = source_view (I.left input.old) (I.faults input.old);
+      input_after = source_view (I.left input.new) (I.faults input.new);
+      streams = record {
+        out = sink_view (O.taken out.old) (O.faults out.old);
+        out_after = sink_view (O.taken out.new) (O.faults out.new);
+        report = sink_view (P.taken report.old) (P.faults report.old);
+        report_after = sink_view (P.taken report.new) (P.faults report.new);
+      };
+      kept = kept.new;
+    } in
+        IsAnswered call result }
+{
+    let texts = match texts_in(alloc, words) {
+        Ok(texts) => texts,
+        Err(refusal) => return tell(alloc, refusal, None, &[], report).status(),
+    };
+    answer_texts(alloc, &texts, files, input, out, report, kept)
+}
+
+/// Does what the words `jfluid [--main M] [--root R] [--budget N] [--plan P] [FILE...]` say, as the
+/// system gave them: reads the plan P, fetches the class files, reads them, both in the order of the
+/// words, admits them, takes the input to its end, runs the main class for at most so many steps, puts
+/// what the program writes to `out` and the report to `report`, and answers the exit status.
+///
+/// The main class is M, with slashes for dots, else the plan's; the budget is N, else the plan's, else
+/// 100,000,000; the heap is the plan's, else 4,194,304 slots. `--root R` is a plan that selects R
+/// before the first step: class, dot, name and descriptor, as in `P1.f(I)I`. The activations of the
+/// selected method and what they call are profiled: the class is rewritten before the start, and the
+/// report has the tree of calling contexts, which is empty without it. So far a program of one class
+/// runs, with a plan of no arguments and of no other actions. Nothing is put to `images`. What was run
+/// is left in `kept`.
+///
+/// The statuses are 0, the run returned, with the budget's last step at the latest; 1, it ended
+/// uncaught; 2, the words or the plan are refused; 3, a file is no class file, the program is not
+/// admitted, or a class or the plan is outside the part that runs so far; 4, the budget was spent
+/// before the run ended; 5, a take of input failed; 6, a put of output failed; 7, the plan or a file
+/// could not be fetched; 8, a put of the report failed; 9, no memory was left; 10, the code is
+/// unverifiable; 11, there are more than 16,777,216 bytes of input. With 2, 3, 5, 6, 7, 9 and 11 a
+/// line on `report` says it, and names the file that is at fault; where clap refuses the words, or they
+/// ask for help, it is clap's text.
+pub fn jfluid<F: Files, I: Source, O: Sink, P: Sink, G: Sink>(
+    alloc: Global,
+    words: Result<Seq<Seq<u8>>, NoMemory>,
+    files: &mut F,
+    input: &mut I,
+    out: &mut O,
+    report: &mut P,
+    images: &mut G,
+    kept: &mut Option<Kept>,
+) -> u8
+    ensures answered { let call : Call = record {
+      words = words;
+      told = F.contents files.old;
+      files = files_view (F.faults files.old) (F.last_failed files.old);
+      files_after = files_view (F.faults files.new) (F.last_failed files.new);
+      input = source_view (I.left input.old) (I.faults input.old);
+      input_after = source_view (I.left input.new) (I.faults input.new);
+      streams = record {
+        out = sink_view (O.taken out.old) (O.faults out.old);
+        out_after = sink_view (O.taken out.new) (O.faults out.new);
+        report = sink_view (P.taken report.old) (P.faults report.old);
+        report_after = sink_view (P.taken report.new) (P.faults report.new);
+      };
+      kept = kept.new;
+    } in
+        IsAnswered call result }
+    ensures images_stay { images.new ≡ images.old }
+{
+    let _images = images;
+    *kept = None;
+    match words {
+        Ok(words) => answer_words(alloc, words.as_slice(), files, input, out, report, kept),
+        Err(_) => tell(alloc, Refusal::NoMemory, None, &[], report).status(),
+    }
 }

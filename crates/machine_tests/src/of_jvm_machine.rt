@@ -1,8 +1,8 @@
 //! Machines whose heap has fewer slots than a silent plan's.
 
-ghost use Rattle.std.specs.Prelude.{◌≡◌, ◌<◌, ◌∷◌, ◌^◌, [], length, IfOk, IfSome};
+ghost use Rattle.std.specs.Prelude.{◌≡◌, ◌<◌, ◌≤◌, ◌∷◌, ◌^◌, [], length, IfOk, IfSome};
 ghost use Rattle.const_pool.specs.ClassFile.{IsClassFile};
-ghost use Rattle.small_program.specs.Runnable.{IsRunnable, IsUsual};
+ghost use Rattle.small_program.specs.Runnable.{IsRunnable, heap_of};
 
 use class_reader::read_class;
 use const_pool::ClassFile;
@@ -72,7 +72,7 @@ fn alone(alloc: Global, class: ClassFile) -> Result<Seq<ClassFile>, NoMemory>
 /// A plan that asks for a heap of 1,024 slots.
 fn plan(alloc: Global) -> Plan
     ensures actions { length result.actions < 2 ^ 32 }
-    ensures usual { IsUsual result }
+    ensures heap { 1024 ≤ heap_of result }
 {
     Plan {
         main: None,

@@ -1,10 +1,13 @@
-use Rattle.std.proofs.Common.{subst, arith, length, ◌≤◌}
+use Rattle.std.proofs.Common.{subst, arith, length, ◌≤◌, ◌<◌, ◌^◌}
 use Rattle.small_program.specs.declared.admission.Refused.TheVariants as refused
 use Rattle.small_program.specs.Admission.{IsRefusedFor}
+use Rattle.plan_text.specs.Lines.{most_said}
+use Rattle.jfluid_cli.specs.Asking.{Asked, asked_for}
 use Rattle.jfluid_cli.specs.Contents.{SpellsAlone}
-use Rattle.jfluid_cli.proofs.Early.{due-unread, due-fault, due-outside, due-foreign}
+use Rattle.jfluid_cli.proofs.Early.{due-unread, due-fault, due-outside, due-unbuilt}
 use Rattle.jfluid_cli.proofs.Pairs.{zip-length}
-use Rattle.jfluid_cli.proofs.Spelled.{spelled-program, spelled-alone, none-refused, none-unread, other-fault, other-place, other-plan}
+use Rattle.jfluid_cli.proofs.Room.{room}
+use Rattle.jfluid_cli.proofs.Spelled.{spelled-program, spelled-alone}
 use Rattle.jfluid_cli.proofs.loading.read_program.Goals as goal
 
 pub admit-requires-clause-count : goal.admit-requires-clause-count
@@ -13,23 +16,23 @@ admit-requires-clause-count c =
     let few : length c.args.contents.now ≤ 1024 = c.requires.few in
     omega (arith, many, few)
 
+pub admit-requires-clause-heap : goal.admit-requires-clause-heap
+admit-requires-clause-heap c = room c.args.plan.now c.requires.within
+
 -- ---- what was not read
 
 pub returns-in-Err-clause-early : goal.returns-in-Err-clause-early
 returns-in-Err-clause-early c g f =
-    due-unread g c.args.asked.now c.args.contents.now c.in-Err.refusal f c.in-Err.ensures.errors
-
-pub returns-in-Err-clause-refuses : goal.returns-in-Err-clause-refuses
-returns-in-Err-clause-refuses c three =
-    none-unread c.args.asked.now c.args.contents.now c.in-Err.refusal c.in-Err.ensures.errors three
+    due-unread g (asked_for c.args.main.now c.args.plan.now) c.args.contents.now c.in-Err.refusal f
+    c.in-Err.ensures.errors
 
 -- ---- what runs
 
 pub returns-in-Ok-admit-clause-ok : goal.returns-in-Ok-admit-clause-ok
 returns-in-Ok-admit-clause-ok c =
-    spelled-program c.args.asked.now c.args.contents.now c.in-Ok.classes c.in-Ok-admit.admitted.program
-    c.in-Ok-admit.admitted.root c.in-Ok.ensures.found c.in-Ok-admit.ensures.same
-    c.in-Ok-admit.ensures.runs
+    spelled-program (asked_for c.args.main.now c.args.plan.now) c.args.contents.now c.in-Ok.classes
+    c.in-Ok-admit.admitted.program c.in-Ok-admit.admitted.root c.in-Ok.ensures.found
+    c.in-Ok-admit.ensures.same c.in-Ok-admit.ensures.runs
 
 pub returns-in-Ok-admit-clause-alone : goal.returns-in-Ok-admit-clause-alone
 returns-in-Ok-admit-clause-alone c =
@@ -38,44 +41,22 @@ returns-in-Ok-admit-clause-alone c =
 
 -- ---- what does not
 
-pub returns-in-Err-Fault-clause-refuses : goal.returns-in-Err-Fault-clause-refuses
-returns-in-Err-Fault-clause-refuses c three =
-    none-refused c.args.asked.now c.args.contents.now c.in-Ok.classes (refused.Fault c.in-Err-Fault.fault)
-    c.in-Ok.ensures.found
-    (subst (IsRefusedFor _ c.in-Ok.classes) c.in-Err-Fault.field-0-is c.in-Err-Fault.ensures.refused)
-    (other-fault c.in-Err-Fault.fault)
-
 pub returns-in-Err-Fault-clause-early : goal.returns-in-Err-Fault-clause-early
 returns-in-Err-Fault-clause-early c g f =
-    due-fault g c.args.asked.now c.args.contents.now c.in-Ok.classes c.in-Err-Fault.fault f
-    c.in-Ok.ensures.found
-    (subst (IsRefusedFor _ c.in-Ok.classes) c.in-Err-Fault.field-0-is c.in-Err-Fault.ensures.refused)
-
-pub returns-in-Err-NotBuilt-clause-refuses : goal.returns-in-Err-NotBuilt-clause-refuses
-returns-in-Err-NotBuilt-clause-refuses c three =
-    none-refused c.args.asked.now c.args.contents.now c.in-Ok.classes (refused.NotBuilt c.in-Err-NotBuilt.at)
-    c.in-Ok.ensures.found
-    (subst (IsRefusedFor _ c.in-Ok.classes) c.in-Err-NotBuilt.field-0-is
-    c.in-Err-NotBuilt.ensures.refused)
-    (other-place c.in-Err-NotBuilt.at)
+    due-fault g (asked_for c.args.main.now c.args.plan.now) c.args.contents.now c.in-Ok.classes
+    c.in-Err-Fault.fault f c.in-Ok.ensures.found
+    (subst (IsRefusedFor c.args.plan.now _ c.in-Ok.classes) c.in-Err-Fault.field-0-is c.in-Err-Fault.ensures.refused)
 
 pub returns-in-Err-NotBuilt-clause-early : goal.returns-in-Err-NotBuilt-clause-early
 returns-in-Err-NotBuilt-clause-early c g f =
-    due-outside g c.args.asked.now c.args.contents.now c.in-Ok.classes c.in-Err-NotBuilt.at f
-    c.in-Ok.ensures.found
-    (subst (IsRefusedFor _ c.in-Ok.classes) c.in-Err-NotBuilt.field-0-is
+    due-outside g (asked_for c.args.main.now c.args.plan.now) c.args.contents.now c.in-Ok.classes
+    c.in-Err-NotBuilt.at f c.in-Ok.ensures.found
+    (subst (IsRefusedFor c.args.plan.now _ c.in-Ok.classes) c.in-Err-NotBuilt.field-0-is
     c.in-Err-NotBuilt.ensures.refused)
-
-pub returns-in-Err-NotBuiltPlan-clause-refuses : goal.returns-in-Err-NotBuiltPlan-clause-refuses
-returns-in-Err-NotBuiltPlan-clause-refuses c three =
-    none-refused c.args.asked.now c.args.contents.now c.in-Ok.classes refused.NotBuiltPlan
-    c.in-Ok.ensures.found
-    (subst (IsRefusedFor _ c.in-Ok.classes) c.in-Err-NotBuiltPlan.field-0-is
-    c.in-Err-NotBuiltPlan.ensures.refused)
-    other-plan
 
 pub returns-in-Err-NotBuiltPlan-clause-early : goal.returns-in-Err-NotBuiltPlan-clause-early
 returns-in-Err-NotBuiltPlan-clause-early c g f =
-    due-foreign g c.args.asked.now c.args.contents.now c.in-Ok.classes f c.in-Ok.ensures.found
-    (subst (IsRefusedFor _ c.in-Ok.classes) c.in-Err-NotBuiltPlan.field-0-is
+    due-unbuilt g (asked_for c.args.main.now c.args.plan.now) c.args.contents.now c.in-Ok.classes f
+    c.in-Ok.ensures.found
+    (subst (IsRefusedFor c.args.plan.now _ c.in-Ok.classes) c.in-Err-NotBuiltPlan.field-0-is
     c.in-Err-NotBuiltPlan.ensures.refused)

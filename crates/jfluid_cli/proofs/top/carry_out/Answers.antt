@@ -1,36 +1,64 @@
-use Rattle.std.proofs.Common.{List, ℕ, refl, sym, subst}
-use Rattle.jfluid_cli.specs.Stages.{IsLoaded}
-use Rattle.jfluid_cli.specs.Views.{command_view}
-use Rattle.jfluid_cli.proofs.Carried.{carried-refused, carried-run}
+use Rattle.std.proofs.Common.{◌≡◌, ◌≤◌, List, ℕ, length, refl, sym, subst}
+use Rattle.std.specs.Prelude.{IfSome}
+use Rattle.plan_text.specs.declared.plan.Plan.{Plan}
+use Rattle.command_line.specs.Input.{most_input}
+use Rattle.command_line.specs.Words.{read_in}
+use Rattle.jfluid_cli.specs.Causes.{Given}
+use Rattle.jfluid_cli.specs.Selections.{RunsProgram}
+use Rattle.jfluid_cli.specs.Stages.{IsPrepared}
+use Rattle.jfluid_cli.proofs.Carried.{carried-refused, carried-input, carried-memory, carried-run, of-program}
 use Rattle.jfluid_cli.proofs.top.carry_out.Goals as goal
 
 pub returns-in-Err : goal.returns-in-Err
 returns-in-Err g c = record {
-  carried = carried-refused _ (command_view c.in-Some.command) c.in-Err.refusal
-      (sym c.in-Some.ensures.command) refl (record { taken = refl; faults = refl })
-      (record { taken = refl; faults = refl })
-      c.in-Err.ensures.early c.in-Err.ensures.cause c.in-Err.ensures.refuses;
+  carried = λ list read. carried-refused _ (read_in c.args.words.now) c.in-Err.refusal read c.requires.empty
+      (record { taken = refl; faults = refl }) (record { taken = refl; faults = refl }) refl
+      (c.in-Err.ensures.early _ read refl) c.in-Err.ensures.cause;
+}
+
+pub returns-in-Err-take : goal.returns-in-Err-take
+returns-in-Err-take g c =
+    let l = c.in-Ok.loaded in
+    record {
+      carried = λ list read. carried-input _ c.in-Err-take.refusal c.requires.empty
+          (record { taken = refl; faults = refl }) (record { taken = refl; faults = refl })
+          (c.in-Ok.ensures.calm refl)
+          (of-program _ l.plan l.budget l.contents l.program.program l.program.root (c.in-Ok.ensures.ok _ read refl))
+          c.in-Err-take.ensures.refused;
+    }
+
+pub returns-in_default : goal.returns-in_default
+returns-in_default g c = record {
+  carried = λ list read. carried-memory _ c.requires.empty
+      (record { taken = refl; faults = refl }) (record { taken = refl; faults = refl });
 }
 
 pub returns : goal.returns
 returns g c =
     let l = c.in-Ok.loaded in
+    let made = c.in-Ok-make.made_of in
     record {
-      carried = carried-run _
-          (command_view c.in-Some.command) l.program.root c.in-Ok-make.made_of
-          c.run_made.result
+      carried = λ list read.
+          (let given : Given = record {
+            words = list;
+            told = g.F.Files.contents c.args.files.now;
+            left = g.I.Source.left c.args.input.now;
+          } in
+          carried-run _ l.budget l.program.root made c.run_made.result
           (record {
-            commanded = sym c.in-Some.ensures.command;
-            fine = c.in-Ok.ensures.fine;
             program = l.program.program;
-            loaded = subst (λ (contents : List (List ℕ)). IsLoaded (g.F.Files.contents c.args.files.now)
-                (command_view c.in-Some.command) contents l.program.program l.program.root)
-                (sym c.in-Ok-make.ensures.classes)
-                c.in-Ok.ensures.ok;
-            runs = c.in-Ok-make.ensures.runs;
-            input = c.in-Ok-make.ensures.input;
+            prepared = subst (λ (p : Plan). IsPrepared given p l.budget made.classes l.program.program l.program.root)
+                (sym c.in-Ok-make.ensures.plan)
+                (subst (λ (contents : List (List ℕ)). IsPrepared given l.plan l.budget contents l.program.program
+                l.program.root) (sym c.in-Ok-make.ensures.classes) (c.in-Ok.ensures.ok given read refl));
+            runs = subst (λ (bytes : List ℕ). RunsProgram l.program.program bytes made.vm)
+                (sym c.in-Ok-make.ensures.input) c.in-Ok-make.ensures.runs;
+            input = subst (λ (bytes : List ℕ). IfSome given.left (λ all. bytes ≡ all))
+                (sym c.in-Ok-make.ensures.input) c.in-Ok-take.ensures.all;
+            short = subst (λ (bytes : List ℕ). length bytes ≤ most_input)
+                (sym c.in-Ok-make.ensures.input) c.in-Ok-take.ensures.short;
             selected = c.in-Ok-make.ensures.selected;
           })
           c.run_made.ensures.same c.run_made.ensures.run c.run_made.ensures.front
-          (c.in-Ok.ensures.calm refl);
+          (c.in-Ok.ensures.calm refl) (c.in-Ok-take.ensures.calm refl));
     }
