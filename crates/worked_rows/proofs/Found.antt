@@ -1,5 +1,5 @@
 -- Lines that are looked for where none is left.
-use Rattle.std.proofs.Common.{◌≡◌, ◌+◌, ◌≤◌, ℕ, List, [], ◌∷◌, length, drop, map, refl, sym, ap, ◌∙◌, Bor, zero-add, arith}
+use Rattle.std.proofs.Common.{◌≡◌, ◌≤◌, ℕ, List, [], ◌∷◌, length, drop, map, refl, ap, ◌∙◌, Bor}
 use Rattle.std.proofs.Math.ListN.{drop_of_length-le}
 use Rattle.worked_rows.specs.Answers.{found_lines}
 

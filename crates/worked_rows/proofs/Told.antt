@@ -1,11 +1,11 @@
 -- What files tell of a row, put together from what was fetched of it.
-use Rattle.std.proofs.Common.{◌≡◌, ℕ, List, [], ◌∷◌, ◌++◌, Option, Some, None, IfSome, map, sym, ap, subst, ◌∙◌}
-use Rattle.std.specs.Prelude.{codes, All}
-use Rattle.std.specs.Str.Lines.{lines}
+use Rattle.std.proofs.Common.{◌≡◌, ℕ, List, [], ◌∷◌, ◌++◌, Option, Some, None, IfSome, sym, ap, subst, ◌∙◌}
+use Rattle.std.specs.Prelude.{codes}
 use Rattle.std.proofs.lemmas.List.Elements.{All-push}
 use Rattle.jf_bytes.specs.Streams.{Told}
 use Rattle.worked_rows.specs.Answers.{Agrees}
 use Rattle.worked_rows.specs.Calls.{IsAnswerTo}
+use Rattle.worked_rows.specs.Lines.{lines_in}
 use Rattle.worked_rows.specs.Rows.{part_at, HasExpected, HasWords}
 use Rattle.worked_rows.specs.Verdicts.{HasPassed, IsTrueOf, AreTrueOf, name_of}
 use Rattle.worked_rows.specs.declared.comparing.Answer.{Answer}
@@ -13,8 +13,8 @@ use Rattle.worked_rows.specs.declared.expected.Expected.{Expected}
 use Rattle.worked_rows.specs.declared.judging.Verdict.{Verdict}
 
 -- the words that the text of `args` says
-pub has_words : (told : Option Told) (row text now : List ℕ) (old new : List (List ℕ)) → IfSome told (λ t. part_at t row (codes "args") ≡ Some text) → now ≡ text → old ≡ codes "jfluid" ∷ lines now → new ≡ old → IfSome told (λ t. HasWords t row new)
-has_words (Some t) row text now old new found same said kept = (text, found, kept ∙ said ∙ ap (λ bytes. codes "jfluid" ∷ lines bytes) same)
+pub has_words : (told : Option Told) (row text now : List ℕ) (old new : List (List ℕ)) → IfSome told (λ t. part_at t row (codes "args") ≡ Some text) → now ≡ text → old ≡ codes "jfluid" ∷ lines_in now → new ≡ old → IfSome told (λ t. HasWords t row new)
+has_words (Some t) row text now old new found same said kept = (text, found, kept ∙ said ∙ ap (λ bytes. codes "jfluid" ∷ lines_in bytes) same)
 has_words None row text now old new found same said kept = tt
 
 -- a row whose answer agrees has passed

@@ -1,7 +1,7 @@
 -- When what came of a row is what must come, and what is told where it is not.
 use Rattle.std.specs.Prelude.{◌≡◌, ◌≢◌, ◌+◌, ◌==◌, ◌++◌, ℕ, List, [], ◌∷◌, take, length, min, codes, decimal, bytes_eq, count_by, slice_get, if◌then◌else◌}
-use Rattle.std.specs.List.{slice_split}
 use Rattle.jf_bytes.specs.Streams.{greatest}
+use Rattle.worked_rows.specs.Lines.{lines_in}
 use Rattle.worked_rows.specs.declared.comparing.Answer.{Answer}
 use Rattle.worked_rows.specs.declared.comparing.Difference.{Difference}
 use Rattle.worked_rows.specs.declared.comparing.Difference.TheVariants.{Status, Output, Report, Lacks}
@@ -25,17 +25,13 @@ found_lines (line ∷ more) [] = 0
 found_lines (line ∷ more) (first ∷ rest) =
     if bytes_eq line first then found_lines more rest + 1 else found_lines (line ∷ more) rest
 
--- the lines of a text, where each line feed parts two
-abbrev pub pieces_of : List ℕ → List (List ℕ)
-pieces_of text = slice_split (λ byte. byte == 10) text
-
 -- how many lines of one text another has, each whole and in this order
 abbrev pub lines_found : List ℕ → List ℕ → ℕ
-lines_found wanted came = found_lines (pieces_of wanted) (pieces_of came)
+lines_found wanted came = found_lines (lines_in wanted) (lines_in came)
 
 -- a text has all lines of another, each whole and in this order
 abbrev pub HasLines : List ℕ → List ℕ → Type 0
-HasLines wanted came = lines_found wanted came ≡ length (pieces_of wanted)
+HasLines wanted came = lines_found wanted came ≡ length (lines_in wanted)
 
 -- what is told of two texts that differ: the line of the first difference
 abbrev pub TextDiffers : List ℕ → List ℕ → Difference → Type 0
@@ -46,7 +42,7 @@ TextDiffers wanted came (Lacks line) = ⊥
 
 -- what is told of lines that did not all come: the first that is lacking
 abbrev pub LinesDiffer : List ℕ → List ℕ → Difference → Type 0
-LinesDiffer wanted came (Lacks line) = (lines_found wanted came ≢ length (pieces_of wanted)) × (line ≡ min (lines_found wanted came + 1) greatest)
+LinesDiffer wanted came (Lacks line) = (lines_found wanted came ≢ length (lines_in wanted)) × (line ≡ min (lines_found wanted came + 1) greatest)
 LinesDiffer wanted came (Status status) = ⊥
 LinesDiffer wanted came (Output at) = ⊥
 LinesDiffer wanted came (Report line) = ⊥

@@ -1,7 +1,7 @@
 -- What the folder of a row states.
-use Rattle.std.specs.Prelude.{◌≡◌, ◌++◌, ◌∷◌, ◌*◌, ℕ, List, Option, Some, codes}
-use Rattle.std.specs.Str.Lines.{lines}
+use Rattle.std.specs.Prelude.{◌≡◌, ◌++◌, ◌∷◌, ℕ, List, Option, Some, codes}
 use Rattle.jf_bytes.specs.Streams.{Told, front_at}
+use Rattle.worked_rows.specs.Lines.{lines_in}
 use Rattle.worked_rows.specs.declared.expected.Expected.{Expected}
 use Rattle.worked_rows.specs.declared.expected.ExpectedReport.{ExpectedReport}
 use Rattle.worked_rows.specs.declared.expected.ExpectedReport.TheVariants.{Whole, Lines}
@@ -29,6 +29,6 @@ pub record HasExpected (told : Told) (row : List ℕ) (expected : Expected) : Ty
   pub output : part_at told row (codes "stdout") ≡ Some expected.output.items
   pub report : HasReport told row expected.report
 
--- the words of a row: the program's name, and a word on each line of `args`
+-- the words of a row: the program's name, and a word, which may be any bytes, on each line of `args`
 abbrev pub HasWords : Told → List ℕ → List (List ℕ) → Type 0
-HasWords told row words = (text : List ℕ) × (part_at told row (codes "args") ≡ Some text) × (words ≡ codes "jfluid" ∷ lines text)
+HasWords told row words = (text : List ℕ) × (part_at told row (codes "args") ≡ Some text) × (words ≡ codes "jfluid" ∷ lines_in text)

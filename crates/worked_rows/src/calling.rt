@@ -1,12 +1,11 @@
 //! The top call over objects in memory.
 
-ghost use Rattle.std.specs.Prelude.{◌≡◌, map, IfOk};
-ghost use Rattle.std.specs.String.{string_bytes};
+ghost use Rattle.std.specs.Prelude.{◌≡◌, IfOk};
 ghost use Rattle.worked_rows.specs.Calls.{IsAnswerTo};
 
 use crate::comparing::Answer;
 use crate::given::{Device, Failure, Given, NamedFile};
-use jf_bytes::{MemFiles, MemSink, MemSource, NoMemory};
+use jf_bytes::{MemFiles, MemSink, MemSource, NoMemory, Seq};
 use jfluid_cli::jfluid;
 use std::alloc::{AllocError, Global};
 
@@ -41,7 +40,7 @@ fn files_of(
 /// What the top call is given.
 #[derive(Drop)]
 struct Objects {
-    words: Vec<String>,
+    words: Seq<Seq<u8>>,
     files: MemFiles,
     input: MemSource,
     out: MemSink,
@@ -76,21 +75,30 @@ fn objects_of(alloc: Global, given: Given) -> Result<Objects, NoMemory>
 /// The status that the top call answers.
 fn call(
     alloc: Global,
-    words: &[String],
+    words: Seq<Seq<u8>>,
     files: &mut MemFiles,
     input: &mut MemSource,
     out: &mut MemSink,
     report: &mut MemSink,
     images: &mut MemSink,
 ) -> u8
-    ensures { IsAnswerTo (map string_bytes words.now) result }
+    ensures { IsAnswerTo words result }
 {
-    jfluid(alloc, words, files, input, out, report, images, &mut None)
+    jfluid(
+        alloc,
+        Ok(words),
+        files,
+        input,
+        out,
+        report,
+        images,
+        &mut None,
+    )
 }
 
 /// What the top call makes of its objects.
 fn answer_of(alloc: Global, objects: Objects) -> Result<Answer, NoMemory>
-    ensures { IfOk result (λ a. IsAnswerTo (map string_bytes objects.words.items) a.status) }
+    ensures { IfOk result (λ a. IsAnswerTo objects.words a.status) }
 {
     let Objects {
         words,
@@ -102,7 +110,7 @@ fn answer_of(alloc: Global, objects: Objects) -> Result<Answer, NoMemory>
     } = objects;
     let status = call(
         alloc,
-        &words,
+        words,
         &mut files,
         &mut input,
         &mut out,
@@ -120,7 +128,7 @@ fn answer_of(alloc: Global, objects: Objects) -> Result<Answer, NoMemory>
 
 /// What comes of what a row gives.
 pub fn answer_to(alloc: Global, given: Given) -> Result<Answer, NoMemory>
-    ensures { IfOk result (λ a. IsAnswerTo (map string_bytes given.words.items) a.status) }
+    ensures { IfOk result (λ a. IsAnswerTo given.words a.status) }
 {
     let objects = objects_of(alloc, given)?;
     answer_of(alloc, objects)

@@ -1,10 +1,10 @@
 //! What came of a row beside what must come.
 
 ghost use Rattle.std.specs.Prelude.{◌≡◌, ◌==◌, ◌≤◌, None, Ok, map, length, bytes_eq, IfOk, IfSome};
-ghost use Rattle.std.specs.List.{slice_split};
-ghost use Rattle.worked_rows.specs.Answers.{IsFirstDifference, found_lines, line_number, TextDiffers, HasLines, LinesDiffer, ReportAgrees, ReportDiffers, Agrees, Differs, pieces_of as lines_of};
+ghost use Rattle.worked_rows.specs.Answers.{IsFirstDifference, found_lines, line_number, TextDiffers, HasLines, LinesDiffer, ReportAgrees, ReportDiffers, Agrees, Differs};
 
 use crate::expected::{Expected, ExpectedReport};
+use crate::lines::lines_in;
 use std::alloc::{AllocError, Global};
 use thiserror::Error;
 
@@ -47,13 +47,6 @@ fn first_difference(wanted: &[u8], came: &[u8]) -> Option<usize>
         return Some(wanted.len());
     }
     None
-}
-
-/// The lines of a text, where each line feed parts two.
-fn pieces_of<'a>(alloc: Global, text: &'a [u8]) -> Result<Vec<&'a [u8]>, AllocError>
-    ensures { IfOk result (λ pieces. map (λ p. p.now) pieces.items ≡ lines_of text.now) }
-{
-    text.split(|byte| *byte == b'\n').collect(alloc)
 }
 
 fn same_bytes(wanted: &[u8], came: &[u8]) -> bool
@@ -105,8 +98,8 @@ fn lines_difference(
     ensures same { result ≡ Ok None → HasLines wanted.now came.now }
     ensures place { IfOk result (λ found. IfSome found (LinesDiffer wanted.now came.now)) }
 {
-    let wanted = pieces_of(alloc, wanted)?;
-    let found = found_lines(&wanted, &pieces_of(alloc, came)?);
+    let wanted = lines_in(alloc, wanted)?;
+    let found = found_lines(&wanted, &lines_in(alloc, came)?);
     if found == wanted.len() {
         return Ok(None);
     }

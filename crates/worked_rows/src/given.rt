@@ -1,13 +1,14 @@
 //! What a row gives to the top call.
 
 ghost use Rattle.std.specs.Prelude.{◌≡◌, ◌∷◌, Some, map, codes, IfOk, IfSome};
-ghost use Rattle.std.specs.Str.Lines.{lines};
 ghost use Rattle.std.specs.String.{string_bytes};
+ghost use Rattle.worked_rows.specs.Lines.{lines_in};
 ghost use Rattle.worked_rows.specs.Rows.{HasWords, part_at};
 
+use crate::lines::lines_in;
 use crate::lists::lines_of;
 use crate::parts::{RowError, fetch_file, fetch_part};
-use jf_bytes::Files;
+use jf_bytes::{Files, Seq};
 use std::alloc::{AllocError, Global};
 
 /// An object that the top call is given.
@@ -38,7 +39,7 @@ pub struct NamedFile {
 /// What a row gives: the words, the program's name among them, and what is in the objects.
 #[derive(Drop)]
 pub struct Given {
-    pub words: Vec<String>,
+    pub words: Seq<Seq<u8>>,
     pub files: Vec<NamedFile>,
     pub input: Vec<u8>,
     pub failures: Vec<Failure>,
@@ -133,31 +134,25 @@ fn take_line<F: Files>(
 }
 
 /// The words that the lines say, behind the program's name.
-fn words_of(alloc: Global, text: &str) -> Result<Vec<String>, AllocError>
-    ensures { IfOk result (λ words.
-        map string_bytes words.items ≡ codes "jfluid" ∷ lines text.now) }
+fn words_of(alloc: Global, text: &[u8]) -> Result<Seq<Seq<u8>>, AllocError>
+    ensures { IfOk result (λ words. words ≡ codes "jfluid" ∷ lines_in text.now) }
 {
-    let mut words = Vec::new(alloc);
-    words.push(String::from_str(alloc, "jfluid")?)?;
-    let all = lines_of(alloc, text)?;
+    let mut words = Seq::new(alloc);
+    words.push(Seq::from_slice(alloc, "jfluid".as_bytes())?)?;
+    let all = lines_in(alloc, text)?;
     for line in &all {
-        words.push(String::from_str(alloc, line)?)?;
+        words.push(Seq::from_slice(alloc, line)?)?;
     }
     Ok(words)
 }
 
-/// A file of the row's folder that is a text.
-fn text_part<F: Files>(
-    alloc: Global,
-    row: &str,
-    part: &str,
-    files: &mut F,
-) -> Result<String, RowError>
+/// The text of the file `given` in the row's folder.
+fn given_text<F: Files>(alloc: Global, row: &str, files: &mut F) -> Result<String, RowError>
     ensures found { IfOk result (λ text. IfSome (F.contents files.old) (λ told.
-        part_at told row.now part.now ≡ Some (string_bytes text))) }
+        part_at told row.now (codes "given") ≡ Some (string_bytes text))) }
     ensures stay { F.contents files.new ≡ F.contents files.old }
 {
-    let bytes = fetch_part(alloc, row, part, files)?;
+    let bytes = fetch_part(alloc, row, "given", files)?;
     match String::from_utf8(bytes) {
         Ok(text) => Ok(text),
         Err(_) => Err(RowError::NotText),
@@ -167,17 +162,17 @@ fn text_part<F: Files>(
 /// What a row gives: the files `args` and `given` of its folder.
 pub fn read_given<F: Files>(alloc: Global, row: &str, files: &mut F) -> Result<Given, RowError>
     ensures words { IfOk result (λ given. IfSome (F.contents files.old) (λ told.
-        HasWords told row.now (map string_bytes given.words.items))) }
+        HasWords told row.now given.words)) }
     ensures stay { F.contents files.new ≡ F.contents files.old }
 {
-    let args = text_part(alloc, row, "args", files)?;
+    let args = fetch_part(alloc, row, "args", files)?;
     let mut given = Given {
-        words: words_of(alloc, args.as_str())?,
+        words: words_of(alloc, &args)?,
         files: Vec::new(alloc),
         input: Vec::new(alloc),
         failures: Vec::new(alloc),
     };
-    let text = text_part(alloc, row, "given", files)?;
+    let text = given_text(alloc, row, files)?;
     let all = lines_of(alloc, text.as_str())?;
     for line in &all {
         take_line(alloc, line, &mut given, files)?;

@@ -8,6 +8,7 @@ mod comparing;
 mod expected;
 mod given;
 mod judging;
+mod lines;
 mod lists;
 mod parts;
 

@@ -19,8 +19,8 @@ pub enum RowError {
     /// A line of the file `given` says nothing.
     #[error("what it gives is not understood: {0}")]
     Unknown(String),
-    /// The words or what is given is no UTF-8.
-    #[error("a file of words is no UTF-8")]
+    /// What is given is no UTF-8.
+    #[error("the file given is no UTF-8")]
     NotText,
     #[error("no memory")]
     NoMemory,

@@ -1,4 +1,4 @@
-use Rattle.std.proofs.Common.{◌≡◌, ◌+◌, ℕ, drop, map, arith}
+use Rattle.std.proofs.Common.{◌≡◌, drop, map, arith}
 use Rattle.worked_rows.specs.Answers.{found_lines}
 use Rattle.worked_rows.proofs.Found.{found_at_end}
 use Rattle.worked_rows.proofs.comparing.found_lines.Goals as goal
