@@ -3,7 +3,7 @@ use Rattle.std.proofs.Common.{◌≡◌, ℕ, true, false, List, [], ◌∷◌, 
 use Rattle.clap.specs.Words.{fault_of}
 use Rattle.clap.specs.Kinds.{Kinds}
 use Rattle.clap.specs.declared.error.kind.ErrorKind.TheVariants.{ArgumentConflict, DisplayHelp, InvalidValue, UnknownArgument}
-use Rattle.clap.proofs.OnLiterals.{clap_on_literals}
+unfoldable pub use Rattle.clap.proofs.OnLiterals.{clap_on_literals}
 use Rattle.command_line.specs.Described.{jfluid}
 use Rattle.command_line.specs.Words.{Read, is_refused, is_taken, read_of, said}
 

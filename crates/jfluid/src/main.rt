@@ -2,15 +2,17 @@
 #![tactic(auto)]
 
 use command_line::raw_words;
-use jf_bytes::{DiskFiles, LateFile, StdSink, StdSource};
+use jf_bytes::{DiskFiles, LateFile, NoMemory, StdSink, StdSource};
 use jfluid_cli::jfluid;
-use std::io;
 use std::process::ExitCode;
 
-/// Gives the real words, files and streams to the top call. The report goes to standard error.
-fn main(rt: HostRuntime) -> io::Result<ExitCode> {
-    let words = raw_words(rt.alloc(), &rt);
-    let images = String::from_str(rt.alloc(), "jfluid.images")?;
+/// Gives the real words, files and streams to the top call. The report goes to standard error. Where there
+/// is no memory for the name of the file of images, the top call is given no words, and answers that.
+fn main(rt: HostRuntime) -> ExitCode {
+    let (words, images) = match String::from_str(rt.alloc(), "jfluid.images") {
+        Ok(images) => (raw_words(rt.alloc(), &rt), images),
+        Err(_) => (Err(NoMemory), String::new(rt.alloc())),
+    };
     let status = jfluid(
         rt.alloc(),
         words,
@@ -21,5 +23,5 @@ fn main(rt: HostRuntime) -> io::Result<ExitCode> {
         &mut LateFile::new(&rt, images),
         &mut None,
     );
-    Ok(ExitCode::from(status))
+    ExitCode::from(status)
 }
