@@ -19,7 +19,6 @@ pub mod LineFamilies
 pub mod Actions
 pub mod Dimensions
 mod BuiltInLoads
-pub mod BuiltInOrder
 pub mod LineActs
 pub mod LineSteps
 pub mod Beneath
