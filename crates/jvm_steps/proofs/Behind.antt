@@ -34,6 +34,14 @@ pub none-there : (ms : List Marker) (p : Parts) → goes_on_in ms p ≡ true →
 none-there ms p goes =
     none-of ms (length p.frames.frames) (both (has_frame p.frames.frames) (is_unmarked ms p) (both (is_none p.ending) (has_frame p.frames.frames && is_unmarked ms p) goes).1).1
 
+-- ---- the world stays
+
+pub settled-in : (w v : World) (x y : State) → v ≡ w → x ≡ (settled v (original v.program) (still y)).after → x ≡ behind w y
+settled-in w v x y same settles = subst (λ u. x ≡ behind u y) same settles
+
+pub attempted-in : (w v : World) (s x : State) → v ≡ w → x ≡ attempts_on v s s.stack → x ≡ attempts_on w s s.stack
+attempted-in w v s x same attempted = subst (λ u. x ≡ attempts_on u s s.stack) same attempted
+
 -- ---- what is loaded behind all moves
 
 pub loaded-behind : (w : World) (old new : State) (loaded : List ℕ) → new ≡ behind w old → loaded ≡ old.shared.loaded → loaded ≡ new.shared.loaded

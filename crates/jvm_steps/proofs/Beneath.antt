@@ -1,6 +1,7 @@
 -- What an attempt does to the frames of a machine it does beneath its markers.
-use Rattle.std.proofs.Common.{◌≡◌, ℕ, suc, ◌-◌, true, false, List, [], ◌∷◌, length, map, Option, Some, None, refl, sym, ap, ◌∙◌, arith}
-use Rattle.std.specs.Prelude.{is_some}
+use Rattle.std.proofs.Common.{◌≡◌, ℕ, suc, ◌-◌, true, false, List, [], ◌∷◌, length, map, Option, Some, None, refl, sym, ap, subst, ◌∙◌, arith}
+use Rattle.std.specs.Prelude.{Result, OnOk, is_some}
+use Rattle.jf_bytes.specs.declared.error.NoMemory.{NoMemory}
 use Rattle.std.proofs.lemmas.Bool.{false≢true}
 use Rattle.std.proofs.lemmas.Option.{same_Some, none-some}
 use Rattle.const_pool.specs.declared.descriptor.Kind.{Kind}
@@ -15,7 +16,7 @@ use Rattle.jvm_steps.specs.declared.line.Line.{Line}
 use Rattle.jvm_steps.specs.declared.markers.Marker.{Marker}
 use Rattle.jvm_steps.specs.declared.parts.Here.{Here}
 use Rattle.jvm_steps.specs.declared.parts.Parts.{Parts}
-use Rattle.jvm_steps.specs.Acts.{IsTop, acts, acts_by, acts_end, attempts_line, attempts_on, awaited, awaited_by, awaited_in, awaited_on, becomes_beneath, ended, is_named, named_in, on_top}
+use Rattle.jvm_steps.specs.Acts.{BecomesBeneath, IsTop, acts, acts_by, acts_end, attempts_line, attempts_on, awaited, awaited_by, awaited_in, awaited_on, becomes_beneath, ended, is_named, named_in, on_top}
 use Rattle.jvm_steps.specs.Lines.{line_at}
 use Rattle.jvm_steps.specs.Markers.{initializing, marker_on, stack_of, state_of, with_markers}
 use Rattle.jvm_steps.specs.States.{active, frame_in, here_of, state_in, state_with}
@@ -152,6 +153,12 @@ module _ (w : World) (ms : List Marker) (p : Parts) where
       → line_at w.program here.version here.place ≡ Some line
       → becomes_beneath ms (acts w line) p p.frames.frames ≡ attempts_on w s (stack_of (map active p.frames.frames) ms)
   does-there line here is none found = does-by line p.frames.frames here is none found
+
+  -- what the code has done by the line
+  pub done-there : {A : Type 0} (result : Result A NoMemory) (new : Parts) (line : Line) (here : Here) → here_of p.frames.frames ≡ Some here
+      → marker_on (length p.frames.frames) ms ≡ None → line_at w.program here.version here.place ≡ Some line → BecomesBeneath result ms new (acts w line) p
+      → OnOk result (state_of ms new ≡ attempts_on w s (stack_of (map active p.frames.frames) ms))
+  done-there result new line here is none found made = subst (λ (x : State). OnOk result (state_of ms new ≡ x)) (does-there line here is none found) made
 
   -- where no line is there is no method
   pub top-there : (here : Here) (fs : List PlacedFrame) → here_of fs ≡ Some here → IsTop here.method fs

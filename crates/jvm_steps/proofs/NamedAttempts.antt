@@ -29,6 +29,12 @@ use Rattle.jvm_steps.proofs.Beneath.{does-there}
 use Rattle.jvm_steps.proofs.Concluded.{CanAnswer, begins-by, can-answer, concludes-by, named_beneath, starts-same}
 use Rattle.jvm_steps.proofs.LineSteps.{top-frame}
 
+-- ---- the world stays
+
+pub concluded-in : (w v : World) (here : Here) (a : Asked) (mid after : Parts) → v ≡ w → state_in after ≡ concluded v here (answer_view a) mid
+    → state_in after ≡ concluded w here (answer_view a) mid
+concluded-in w v here a mid after same made = subst (λ u. state_in after ≡ concluded u here (answer_view a) mid) same made
+
 -- ---- a line that names something
 
 record Names (lo : Option Line) : Type 0 where

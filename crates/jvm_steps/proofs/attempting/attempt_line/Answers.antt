@@ -1,7 +1,6 @@
 use Rattle.std.proofs.Common.{sym, ap, ◌∙◌}
-use Rattle.std.proofs.lemmas.Result.{on_ok_weaker}
 use Rattle.jvm_steps.specs.Markers.{state_of}
-use Rattle.jvm_steps.proofs.Beneath.{breaks-there, does-there}
+use Rattle.jvm_steps.proofs.Beneath.{breaks-there, done-there}
 use Rattle.jvm_steps.proofs.attempting.attempt_line.Goals as goal
 
 pub returns-in_default : goal.returns-in_default
@@ -11,7 +10,5 @@ returns-in_default c =
 
 pub returns : goal.returns
 returns c =
-    on_ok_weaker c.act_marked.result
-    (λ e. e ∙ does-there c.args.originals.now.world c.args.markers.now c.args.parts.now c.in-Some.line.now c.args.here c.requires.here c.requires.unmarked
-    (sym c.in-Some.ensures.line))
-    c.act_marked.ensures
+    done-there c.args.originals.now.world c.args.markers.now c.args.parts.now c.act_marked.result c.act_marked.new.parts c.in-Some.line.now c.args.here c.requires.here
+    c.requires.unmarked (sym c.in-Some.ensures.line) c.act_marked.ensures

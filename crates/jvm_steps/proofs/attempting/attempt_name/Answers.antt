@@ -1,8 +1,6 @@
-use Rattle.std.proofs.Common.{◌≡◌, Some, sym, ap, ◌∙◌}
-use Rattle.jvm_model.specs.declared.state.State.{State}
-use Rattle.jvm_steps.specs.Acts.{awaited_in}
+use Rattle.std.proofs.Common.{sym, ◌∙◌}
 use Rattle.jvm_steps.specs.Markers.{state_of}
-use Rattle.jvm_steps.proofs.NamedAttempts.{awaits-told, begins-on, goes-on, loads-told}
+use Rattle.jvm_steps.proofs.NamedAttempts.{awaits-told, begins-on, concluded-in, goes-on, loads-told}
 use Rattle.jvm_steps.proofs.Sounded.{built-in-linked, caller-linked, objects-linked}
 use Rattle.jvm_steps.proofs.attempting.attempt_name.Goals as goal
 
@@ -24,7 +22,9 @@ returns-in_default-clause-state c =
     goes-on c.args.originals.now.world c.args.markers.now c.args.here c.args.parts.now c.requires.named c.requires.here c.requires.unmarked
     c.attempt_named.new.frames c.attempt_named.new.shared c.attempt_named.new.output c.attempt_named.new.self.loaded c.in_ok-asked.asked
     c.in_ok-asked.ensures.answer c.in_ok-asked.ensures.frames c.in_ok-asked.ensures.shared c.in_ok-asked.ensures.output c.in_ok-asked.ensures.loaded
-    c.in_ok-awaited.awaited c.conclude.new.parts c.in_ok-awaited.ensures.answer c.in_default.is c.in_ok-awaited.ensures.state
+    c.in_ok-awaited.awaited c.conclude.new.parts c.in_ok-awaited.ensures.answer c.in_default.is
+    (concluded-in c.args.originals.now.world c.attempt_named.new.self.world c.args.here c.in_ok-asked.asked _ c.conclude.new.parts c.in_ok-asked.ensures.world
+    c.in_ok-awaited.ensures.state)
 
 pub returns-in_default-clause-answer : goal.returns-in_default-clause-answer
 returns-in_default-clause-answer c =
@@ -47,7 +47,9 @@ returns-clause-state c =
     ∙ begins-on c.args.originals.now.world c.args.markers.now c.args.here c.args.parts.now c.requires.named c.requires.here c.requires.unmarked
     c.attempt_named.new.frames c.attempt_named.new.shared c.attempt_named.new.output c.attempt_named.new.self.loaded c.in_ok-asked.asked
     c.in_ok-asked.ensures.answer c.in_ok-asked.ensures.frames c.in_ok-asked.ensures.shared c.in_ok-asked.ensures.output c.in_ok-asked.ensures.loaded
-    c.in_ok-awaited.awaited c.in-Some.class c.conclude.new.parts c.in_ok-awaited.ensures.answer c.in-Some.is c.in_ok-awaited.ensures.state
+    c.in_ok-awaited.awaited c.in-Some.class c.conclude.new.parts c.in_ok-awaited.ensures.answer c.in-Some.is
+    (concluded-in c.args.originals.now.world c.attempt_named.new.self.world c.args.here c.in_ok-asked.asked _ c.conclude.new.parts c.in_ok-asked.ensures.world
+    c.in_ok-awaited.ensures.state)
 
 pub returns-clause-answer : goal.returns-clause-answer
 returns-clause-answer c =
