@@ -24,10 +24,11 @@ pub mod LineSteps
 pub mod Beneath
 pub mod ActsLoad
 pub mod Concluded
+pub mod NamedAttempts
 pub mod Sounded
 pub mod Behind
+pub mod Starts
 pub mod Above
-pub mod OpenClasses
 pub mod ElementLemmas
 pub mod ElementActs
 pub mod Leading
