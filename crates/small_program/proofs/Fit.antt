@@ -272,11 +272,12 @@ module _ (classes : List ClassFile) (name : List ℕ) (p : Program) (sound : IsS
   above-past k c there less =
       let here : class_at p (n + k) ≡ Some c = class-past k ∙ there in
       let needs = needs-split (is_before built_in_files k) (map (need false) (option_to_list (named_class c.pool c.super_class))) (map (need true) (interface_names c))
-          (FitLoading.stands built_in_files files-ordered k c there).needs in
-      (subst (λ o. AllByRecursion (IsLoaded (shared_before p).loaded) (option_to_list (option_and_then (class_named p) (option_and_then (λ (c : ClassFile). named_class c.pool c.super_class) o)))) (sym here)
-      (supers k (named_class c.pool c.super_class) (omega (arith, less)) needs.0),
-      subst (λ o. AllByRecursion (IsLoaded (shared_before p).loaded) (filter_map (class_named p) (option_map_or interface_names o []))) (sym here)
-      (interfaces k (interface_names c) (omega (arith, less)) needs.1))
+      (FitLoading.stands built_in_files files-ordered k c there).needs in (
+        subst (λ o. AllByRecursion (IsLoaded (shared_before p).loaded) (option_to_list (option_and_then (class_named p) (option_and_then (λ (c : ClassFile). named_class c.pool c.super_class) o)))) (sym here)
+            (supers k (named_class c.pool c.super_class) (omega (arith, less)) needs.0),
+        subst (λ o. AllByRecursion (IsLoaded (shared_before p).loaded) (filter_map (class_named p) (option_map_or interface_names o []))) (sym here)
+            (interfaces k (interface_names c) (omega (arith, less)) needs.1),
+      )
 
   above-loaded : (class : ℕ) → IsLoaded (shared_before p).loaded class
       → (AllByRecursion (IsLoaded (shared_before p).loaded) (superclass_of p class)) × (AllByRecursion (IsLoaded (shared_before p).loaded) (interfaces_of p class))

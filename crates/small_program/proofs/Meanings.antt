@@ -76,7 +76,7 @@ module _ (c : ClassFile) (p : Program) (small : IsSmallClass c) (of : IsProgramO
   stream-kind =
       let h : HeapView = heap_before p in
       let kind : kind_for p print_stream ≡ 27 =
-          ap (λ o. base_of_class p (unwrap_or o 0)) (MeaningsOwn.printing-class c p small of streams) ∙ MeaningsOwn.printing-base-is c p small of streams in
+      ap (λ o. base_of_class p (unwrap_or o 0)) (MeaningsOwn.printing-class c p small of streams) ∙ MeaningsOwn.printing-base-is c p small of streams in
       texts-keep p (next_number h) 0 p.args (with_array (strings_kind p) null (length p.args) h) 27 (ap (λ k. let o : Option ℕ = Some k in o) kind)
 
   ready : IsReadyFor (shared_ready p)

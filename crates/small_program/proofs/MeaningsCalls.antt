@@ -117,7 +117,7 @@ module _ (c : ClassFile) (p : Program) (small : IsSmallClass c) (of : IsProgramO
   own-found : named_method p s.loaded false true r ≡ Ok place
   own-found =
       let resolved = ap (resolved_kind p s.loaded) known.class
-          ∙ kind-resolved p s.loaded own 0 256 (MeaningsOwn.own-plain c p small of streams) (MeaningsOwn.own-class c p small of streams) is.own (MeaningsOwn.own-kind c p small of streams) in
+      ∙ kind-resolved p s.loaded own 0 256 (MeaningsOwn.own-plain c p small of streams) (MeaningsOwn.own-class c p small of streams) is.own (MeaningsOwn.own-kind c p small of streams) in
       method-named p s.loaded true r 256 0 53 k resolved refl class-itself (MeaningsOwn.count c p small of streams)
       (ap (option_and_then (λ c. method_named c r.member)) (first-at c p of) ∙ known.method) static refl
 

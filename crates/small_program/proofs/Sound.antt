@@ -155,9 +155,10 @@ rooted : (classes : List ClassFile) (p : Program) (name : List ℕ) (k : ℕ) �
 rooted classes p name k formed runs sound few plain room =
     let c = runs.class in
     let one : IsSoundProgram (c ∷ []) name p = subst (λ cs. IsSoundProgram cs name p) runs.alone sound in
-    let shape : AllByRecursion IsClassFile (c ∷ []) = subst (AllByRecursion IsClassFile) runs.alone formed in
-    (built-sound c p name shape.0 runs.small one few plain room,
-    subst (λ (x : ClassFile). k < length x.methods) (sym (first-sound c p name one)) runs.own)
+    let shape : AllByRecursion IsClassFile (c ∷ []) = subst (AllByRecursion IsClassFile) runs.alone formed in (
+      built-sound c p name shape.0 runs.small one few plain room,
+      subst (λ (x : ClassFile). k < length x.methods) (sym (first-sound c p name one)) runs.own,
+    )
 
 -- a root that the classes run with
 known-root : (classes : List ClassFile) (p : Program) (root : Option ℕ) → ((k : ℕ) → RunsWith classes k → k < length (first_class p).methods) → IfSome root (RunsWith classes)

@@ -58,14 +58,14 @@ abbrev pub may_call : Callees → Reference → Bool
 may_call callees r = callees.own r || not (callees.unbuilt r.member)
 
 -- An interface's method may be implemented by one that a class inherits from a built-in one.
-abbrev pub may_select : Callees → NameAndType → Bool
-may_select callees wanted = not (callees.unbuilt wanted)
+abbrev pub may_select : Callees → Reference → Bool
+may_select callees r = not (callees.unbuilt r.member)
 
 abbrev pub runs_naming : Callees → Naming → Bool
 runs_naming callees (Invokevirtual r) = may_call callees r
 runs_naming callees (Invokespecial caller r interface) = may_call callees r
 runs_naming callees (Invokestatic r) = may_call callees r
-runs_naming callees (Invokeinterface r) = may_select callees r.member
+runs_naming callees (Invokeinterface r) = may_select callees r
 runs_naming callees n = true
 
 abbrev pub runs_operation : Callees → Operation → Bool

@@ -5,7 +5,8 @@ ghost use Rattle.std.specs.Prelude.{◌≡◌, [], OnOk, IfOk};
 ghost use Rattle.std.specs.Option.{option_map};
 ghost use Rattle.admit_check.specs.Twins.{key_text, member_key};
 ghost use Rattle.const_pool.specs.Members.{reference_view};
-ghost use Rattle.small_program.specs.Keys.{bodies_in, body_keys, callees_by, callees_of, class_keys, declared_in};
+ghost use Rattle.small_program.specs.Keys.{bodies_in, body_keys, callees_by, callees_of};
+ghost use Rattle.small_program.specs.Keys.{class_keys, declared_in};
 ghost use Rattle.small_program.specs.Keys.{key_of, own_keys, reference_key, with_body, with_own};
 ghost use Rattle.small_program.specs.Running.{is_built, may_call, may_select};
 
@@ -164,8 +165,8 @@ impl Callees {
 
     /// Whether the method may be one of a built-in class that is not called so far.
     fn is_unbuilt(&self, alloc: Global, method: &MemberRef<'_>) -> Result<bool, NoMemory>
-        ensures { IfOk result
-            (λ unbuilt. unbuilt ≡ (callees_of self.now).unbuilt (reference_view method.now).member) }
+        ensures { let r = reference_view method.now in
+            IfOk result (λ unbuilt. unbuilt ≡ (callees_of self.now).unbuilt r.member) }
     {
         if is_built(method) {
             return Ok(false);
@@ -188,7 +189,7 @@ impl Callees {
     /// Whether an instruction may name the method of an interface.
     pub fn may_select(&self, alloc: Global, method: &MemberRef<'_>) -> Result<bool, NoMemory>
         ensures { let r = reference_view method.now in
-            IfOk result (λ may. may ≡ may_select (callees_of self.now) r.member) }
+            IfOk result (λ may. may ≡ may_select (callees_of self.now) r) }
     {
         Ok(!self.is_unbuilt(alloc, method)?)
     }

@@ -36,7 +36,8 @@ pub fn is_running_class(
     class: &ClassFile,
 ) -> Result<bool, NoMemory>
     requires { IsClassFile class.now }
-    ensures { IfOk result (λ runs. IsTrue runs ↔ IsRunningClass (callees_of callees.now) class.now) }
+    ensures { let asked = callees_of callees.now in
+        IfOk result (λ runs. IsTrue runs ↔ IsRunningClass asked class.now) }
 {
     for method in class.methods.as_slice() {
         if !is_running_method(alloc, callees, class, method)? {

@@ -115,21 +115,6 @@ fn may_call(
     }
 }
 
-/// Whether an interface's method is named that may be.
-fn may_select(
-    alloc: Global,
-    callees: &Callees,
-    method: Option<MemberRef<'_>>,
-) -> Result<bool, NoMemory>
-    ensures { IfOk result (λ may. may ≡ option_map_or
-        (λ r. may_select (callees_of callees.now) r.member) (option_map reference_view method.entry) false) }
-{
-    match method {
-        Some(method) => callees.may_select(alloc, &method),
-        None => Ok(false),
-    }
-}
-
 /// The same, in a class that has a name.
 fn may_call_in(
     alloc: Global,
@@ -144,6 +129,21 @@ fn may_call_in(
         return Ok(false);
     }
     may_call(alloc, callees, method_at(&class.pool, index))
+}
+
+/// Whether an interface's method is named that may be.
+fn may_select(
+    alloc: Global,
+    callees: &Callees,
+    method: Option<MemberRef<'_>>,
+) -> Result<bool, NoMemory>
+    ensures { IfOk result (λ may. may ≡ option_map_or
+        (may_select (callees_of callees.now)) (option_map reference_view method.entry) false) }
+{
+    match method {
+        Some(method) => callees.may_select(alloc, &method),
+        None => Ok(false),
+    }
 }
 
 /// Whether an instruction with a pool index alone runs.
@@ -164,29 +164,6 @@ fn named_runs(
         183 => may_call_in(alloc, callees, class, index),
         187 | 192 | 193 => Ok(names_class(pool, index)),
         189 => Ok(names_element(pool, index)),
-        _ => Ok(false),
-    }
-}
-
-/// Whether an instruction of no family runs.
-fn other_runs(
-    alloc: Global,
-    callees: &Callees,
-    class: &ClassFile,
-    op: u8,
-    arg: &Arg,
-) -> Result<bool, NoMemory>
-    ensures { IfOk result (λ runs. runs ≡ option_map_or (runs_operation (callees_of callees.now))
-        (other_operation class.now op arg.now) false) }
-{
-    match arg {
-        Arg::Pool(index) => named_runs(alloc, callees, class, op, *index),
-        Arg::Interface(index, _, _) => interface_runs(alloc, callees, class, op, *index),
-        Arg::Multi(index, dimensions) => {
-            Ok(op == 197 && names_array(&class.pool, *index, *dimensions))
-        }
-        Arg::Array(code) => Ok(op == 188 && *code >= 4 && *code <= 11),
-        Arg::Plain => Ok(sees_objects(op)),
         _ => Ok(false),
     }
 }
@@ -218,6 +195,29 @@ fn sees_objects(op: u8) -> bool
     )
 }
 
+/// Whether an instruction of no family runs.
+fn other_runs(
+    alloc: Global,
+    callees: &Callees,
+    class: &ClassFile,
+    op: u8,
+    arg: &Arg,
+) -> Result<bool, NoMemory>
+    ensures { IfOk result (λ runs. runs ≡ option_map_or (runs_operation (callees_of callees.now))
+        (other_operation class.now op arg.now) false) }
+{
+    match arg {
+        Arg::Pool(index) => named_runs(alloc, callees, class, op, *index),
+        Arg::Interface(index, _, _) => interface_runs(alloc, callees, class, op, *index),
+        Arg::Multi(index, dimensions) => {
+            Ok(op == 197 && names_array(&class.pool, *index, *dimensions))
+        }
+        Arg::Array(code) => Ok(op == 188 && *code >= 4 && *code <= 11),
+        Arg::Plain => Ok(sees_objects(op)),
+        _ => Ok(false),
+    }
+}
+
 // ---- codes
 
 /// Whether the instruction runs.
@@ -242,7 +242,8 @@ fn all_run(
     class: &ClassFile,
     instrs: &[Instr],
 ) -> Result<bool, NoMemory>
-    ensures { IfOk result (λ all. all ≡ list_all (runs_in (callees_of callees.now) class.now) instrs.now) }
+    ensures { let runs = runs_in (callees_of callees.now) class.now in
+        IfOk result (λ all. all ≡ list_all runs instrs.now) }
 {
     for instr in instrs {
         if !runs_in(alloc, callees, class, instr)? {
@@ -261,7 +262,8 @@ pub fn is_running_code(
 ) -> Result<bool, NoMemory>
     requires some { 0 < length code.now.code }
     requires short { length code.now.code < 2 ^ 16 }
-    ensures { IfOk result (λ runs. IsTrue runs ↔ IsRunningCode (callees_of callees.now) class.now code.now) }
+    ensures { let asked = callees_of callees.now in
+        IfOk result (λ runs. IsTrue runs ↔ IsRunningCode asked class.now code.now) }
 {
     let decoded = match decode(alloc, code.code.as_slice()) {
         Ok(decoded) => decoded,

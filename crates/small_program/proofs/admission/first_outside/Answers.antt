@@ -10,5 +10,5 @@ pub returns : goal.returns
 returns c =
     let classes = c.args.classes.now in
     let alike = subst (λ x. AreAlike x (callees_in classes)) (sym c.in_ok-callees.ensures)
-        (found-alike classes c.as_slice.result.now (c.as_slice.ensures.value ∙ c.in_ok-built_in.ensures.made)) in
+    (found-alike classes c.as_slice.result.now (c.as_slice.ensures.value ∙ c.in_ok-built_in.ensures.made)) in
     IfOk-weaker c.first_by.result _ _ (λ outside is. outside-by (callees_of c.in_ok-callees.callees) (callees_in classes) alike classes outside is) c.first_by.ensures
