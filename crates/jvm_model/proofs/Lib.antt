@@ -68,3 +68,4 @@ pub mod SoundAttempts
 pub mod SoundSteps
 pub mod SoundLines
 pub mod SoundRuns
+pub mod SoundPrograms

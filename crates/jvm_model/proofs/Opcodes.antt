@@ -11,7 +11,7 @@ use Rattle.code_model.specs.declared.instr.Instr.{Instr}
 use Rattle.op_table.specs.declared.Form.{Form}
 use Rattle.op_table.specs.declared.Form.TheVariants as form
 use Rattle.op_table.specs.Opcodes.{row_of, groups, wide_row_of, wide_groups}
-use Rattle.std.specs.Int.{Width, w16}
+use Rattle.std.specs.Int.{Width, w16, is_in_range}
 use Rattle.code_model.specs.Operands.{form_of}
 use Rattle.code_model.specs.Instructions.{instruction_at}
 use Rattle.code_model.specs.Layout.{operand_width, operand_len, opcode_bytes, size_at, moved_arg}
@@ -270,7 +270,7 @@ object-unresolved c op o e =
     among-unresolved c op o object_rows (refl, (refl, (refl, (refl, (refl, (refl, (refl, (refl, (refl, (refl, (refl, (refl, (refl, (refl, (refl, (refl, tt)))))))))))))))) e
 
 newarray-unresolved : (c : ClassFile) (op code : ℕ) (o : Operation) → newarray_of op code ≡ Some o → IsUnresolved c o
-newarray-unresolved c op code o e = elim (chosen (op == 188) (Some (Newarray code)) None o e) [
+newarray-unresolved c op code o e = elim (chosen (op == 188 && is_in_range 4 11 code) (Some (Newarray code)) None o e) [
   | inl is ↦ subst (IsUnresolved c) (same_Some (Newarray code) o is.1) refl
   | inr none ↦ absurd (none-some o none)
 ]

@@ -205,7 +205,7 @@ means (unit ∷ rest) = by (unit == 91) refl
 
 -- ---- the kind
 
-named-class : {X : Type 0} (test : X → Bool) (xs : List X) (at : ℕ) → position test xs ≡ Some at → at < length xs
+pub named-class : {X : Type 0} (test : X → Bool) (xs : List X) (at : ℕ) → position test xs ≡ Some at → at < length xs
 named-class test xs at e = by (nat_lt (position_or_len test xs) (length xs)) refl e
   where
     by : (b : Bool) → nat_lt (position_or_len test xs) (length xs) ≡ b → (if b then Some (position_or_len test xs) else None) ≡ Some at → at < length xs

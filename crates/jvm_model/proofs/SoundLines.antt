@@ -1,8 +1,9 @@
 -- An instruction of original code can be attempted: it names types of the dimensions that it needs, and an invokespecial stands in the
 -- class whose name it has (JVM Specification 4.9.1, 6.5).
-use Rattle.std.proofs.Common.{◌≡◌, ℕ, Bool, true, false, List, [], ◌∷◌, ap, sym, subst, refl, ◌∙◌}
-use Rattle.std.specs.Prelude.{Option, Some, None, ◌==◌, if◌then◌else◌}
+use Rattle.std.proofs.Common.{◌≡◌, ℕ, ◌<◌, Bool, true, false, List, [], ◌∷◌, ap, sym, subst, refl, ◌∙◌, arith}
+use Rattle.std.specs.Prelude.{Option, Some, None, ◌==◌, ◌&&◌, if◌then◌else◌}
 use Rattle.std.specs.List.{AllByRecursion}
+use Rattle.std.specs.Int.{is_in_range}
 use Rattle.std.specs.Option.{IfSome, option_and_then, option_map}
 use Rattle.const_pool.specs.declared.class.ClassFile.{ClassFile}
 use Rattle.const_pool.specs.declared.class.CodeAttribute.{CodeAttribute}
@@ -19,13 +20,16 @@ use Rattle.jvm_model.specs.Lines.{ObjectRow, code_instruction, has_dimensions, i
 use Rattle.jvm_model.specs.Methods.{method_code}
 use Rattle.jvm_model.specs.Originals.{original}
 use Rattle.jvm_model.specs.Programs.{class_at, name_of, place_of_method}
-use Rattle.jvm_model.specs.Sound.{CanAttempt, HasClass, HasLoadedCaller, HasPrimitive, IsFit, IsLoaded}
+use Rattle.jvm_model.specs.Sound.{CanAttempt, HasClass, HasLoadedCaller, IsFit, IsLoaded}
 
 none-some : {A : Type 0} (x : A) → None ≡ Some x → ⊥
 none-some x e = cc
 
 some-some : {A : Type 0} (x y : A) → Some x ≡ Some y → x ≡ y
 some-some x y e = cc
+
+small : (code : ℕ) → is_in_range 4 11 code ≡ true → code < 16
+small code e = grind (arith)
 
 module _ (c : ClassFile) where
   -- ---- what a class's instruction names
@@ -36,6 +40,7 @@ module _ (c : ClassFile) where
 
   abbrev IsFormed : Operation → Type 0
   IsFormed (Named n) = NamesCaller n × (has_dimensions n ≡ true)
+  IsFormed (Newarray code) = code < 16
   IsFormed o = Unit {0}
 
   mapped : {A : Type 0} (make : A → Naming) (o : Option A) → ((x : A) → NamesCaller (make x)) → IfSome (option_map make o) NamesCaller
@@ -90,11 +95,12 @@ module _ (c : ClassFile) where
       by false rest = rest
 
   array-formed : (op code : ℕ) → IfSome (newarray_of op code) IsFormed
-  array-formed op code = by (op == 188)
+  array-formed op code = by (op == 188) (is_in_range 4 11 code) refl
     where
-      by : (b : Bool) → IfSome (if b then Some (Newarray code) else None) IsFormed
-      by true = tt
-      by false = tt
+      by : (a b : Bool) → is_in_range 4 11 code ≡ b → IfSome (if a && b then Some (Newarray code) else None) IsFormed
+      by true true e = small code e
+      by true false e = tt
+      by false b e = tt
 
   other-formed : (op : ℕ) (a : Arg) → IfSome (other_operation c op a) IsFormed
   other-formed op (arg.Pool index) = named-formed (naming_of c op index) (naming-names op index)
@@ -201,18 +207,18 @@ module _ (p : Program) (fit : IsFit p) (loaded : List ℕ) where
   caller-loaded c class (Anewarray name) at there names = tt
   caller-loaded c class (Multianewarray name dimensions) at there names = tt
 
-  formed-can : (c : ClassFile) (class : ℕ) (op : Operation) → class_at p class ≡ Some c → IsLoaded loaded class → IsFormed c op → HasPrimitive op → CanAttempt p loaded op
-  formed-can c class (Named n) at there formed primitive = (caller-loaded c class n at there formed.0, formed.1)
-  formed-can c class (Newarray code) at there formed primitive = primitive
-  formed-can c class (Within i) at there formed primitive = tt
-  formed-can c class Athrow at there formed primitive = tt
-  formed-can c class Monitor at there formed primitive = tt
-  formed-can c class Arraylength at there formed primitive = tt
-  formed-can c class (LoadElement k) at there formed primitive = tt
-  formed-can c class (StoreElement k) at there formed primitive = tt
+  formed-can : (c : ClassFile) (class : ℕ) (op : Operation) → class_at p class ≡ Some c → IsLoaded loaded class → IsFormed c op → CanAttempt p loaded op
+  formed-can c class (Named n) at there formed = (caller-loaded c class n at there formed.0, formed.1)
+  formed-can c class (Newarray code) at there formed = formed
+  formed-can c class (Within i) at there formed = tt
+  formed-can c class Athrow at there formed = tt
+  formed-can c class Monitor at there formed = tt
+  formed-can c class Arraylength at there formed = tt
+  formed-can c class (LoadElement k) at there formed = tt
+  formed-can c class (StoreElement k) at there formed = tt
 
   -- of a method whose class is loaded
   pub can-attempt : (version offset : ℕ) (i : Instruction) → HasClass p loaded version → (original p).at version offset ≡ Some i → CanAttempt p loaded i.operation
   can-attempt version offset i has e =
       let at = stands p version offset i e in
-      formed-can at.class at.place.class i.operation at.at (has at.place at.method) at.formed (fit.elements version offset i e)
+      formed-can at.class at.place.class i.operation at.at (has at.place at.method) at.formed

@@ -5,14 +5,13 @@ use Rattle.std.specs.List.{AllByRecursion, list_any}
 use Rattle.const_pool.specs.BuiltIn.{built_in_names}
 use Rattle.heap_objects.specs.declared.object.Object.{Object}
 use Rattle.heap_objects.specs.Objects.{kind_of}
-use Rattle.jvm_model.specs.Data.{Entry, Active, Initializing, MethodPlace, Naming, Invokespecial, Operation, Named, Newarray, Instruction, Outcome, Invokes, Raises, Initializes, Done, Program, Shared, State}
+use Rattle.jvm_model.specs.Data.{Entry, Active, Initializing, MethodPlace, Naming, Invokespecial, Operation, Named, Newarray, Outcome, Invokes, Raises, Initializes, Done, Program, Shared, State}
 use Rattle.jvm_model.specs.Descriptors.{same_text}
 use Rattle.jvm_model.specs.KindNumbers.{class_of_base, user_count}
 use Rattle.jvm_model.specs.Kinds.{is_array_name}
 use Rattle.jvm_model.specs.Lines.{has_dimensions}
 use Rattle.jvm_model.specs.Load.{is_among}
 use Rattle.jvm_model.specs.Lookup.{interfaces_of, superclass_of}
-use Rattle.jvm_model.specs.Originals.{original}
 use Rattle.jvm_model.specs.Programs.{class_named, name_at, place_of_method}
 use Rattle.jvm_model.specs.Run.{main_class}
 use Rattle.jvm_model.specs.SharedState.{class_of_kind, shared_before}
@@ -74,15 +73,12 @@ abbrev pub HasLoadedCaller : Program → List ℕ → Naming → Type 0
 HasLoadedCaller p loaded (Invokespecial caller r interface) = (class : ℕ) → class_named p caller ≡ Some class → IsLoaded loaded class
 HasLoadedCaller p loaded n = Unit {0}
 
--- newarray has the code of a primitive type (4.9.1)
-abbrev pub HasPrimitive : Operation → Type 0
-HasPrimitive (Newarray code) = code < 16
-HasPrimitive o = Unit {0}
-
--- what an attempt of the instruction asks: of one that names an array's type, also that it has the dimensions that it needs
+-- What an attempt asks: of an instruction that names an array's type that it has the dimensions that it needs, and of newarray the
+-- code of a primitive type (4.9.1).
 abbrev pub CanAttempt : Program → List ℕ → Operation → Type 0
 CanAttempt p loaded (Named n) = HasLoadedCaller p loaded n × (has_dimensions n ≡ true)
-CanAttempt p loaded o = HasPrimitive o
+CanAttempt p loaded (Newarray code) = code < 16
+CanAttempt p loaded o = Unit {0}
 
 -- ---- what an instruction asks for
 
@@ -125,4 +121,3 @@ pub record IsFit (p : Program) : Type 0 where
   pub built_in : AllByRecursion (IsBuiltIn p) built_in_names
   pub before : HasBuiltIn p (shared_before p).loaded
   pub above : HasSupertypes p (shared_before p).loaded
-  pub elements : (version offset : ℕ) (i : Instruction) → (original p).at version offset ≡ Some i → HasPrimitive i.operation
