@@ -33,3 +33,4 @@ pub use attempting::attempt;
 pub use constants::set_constants;
 pub use naming::{MemberName, MethodName, Naming};
 pub use numbers::MethodNumbers;
+pub use resolution::resolve;

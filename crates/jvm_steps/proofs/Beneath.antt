@@ -85,7 +85,7 @@ module _ (w : World) (ms : List Marker) (p : Parts) where
       let same : record { version = f.version; method = f.method; place = f.place } ≡ here = same_Some _ here is in
       ap (awaited_on w s) (top-frame ms f fs none)
       ∙ (ap (λ (h : Here). awaited_by w (record s { stack = stack_of (map active fs) ms }) (frame_in f) (line_at w.program h.version h.place)) same
-      ∙ (ap (awaited_by w (record s { stack = stack_of (map active fs) ms }) (frame_in f)) found ∙ quiet _ _))
+      ∙ (ap (awaited_by w (record s { stack = stack_of (map active fs) ms }) (frame_in f)) found ∙ quiet (record s { stack = stack_of (map active fs) ms }) (frame_in f)))
 
   pub awaits-nothing : (here : Here) (lo : Option Line) → here_of p.frames.frames ≡ Some here → marker_on (length p.frames.frames) ms ≡ None
       → line_at w.program here.version here.place ≡ lo → ((x : State) (f : Frame) → awaited_by w x f lo ≡ None) → awaited_in w s ≡ None

@@ -1,8 +1,9 @@
 -- The frame that begins on a caller is the one that a method begins with, where its arguments are data that fit.
 use Rattle.std.proofs.Common.{◌≡◌, ℕ, suc, ◌-◌, ◌<◌, Bool, true, false, List, [], ◌∷◌, ◌++◌, length, drop, take, cond, Option, Some, None, Result, refl, sym, ap, ◌∙◌}
 use Rattle.std.specs.Prelude.{is_some, map, nat_le, nat_lt, replicate, reverse, ◌&&◌}
-use Rattle.std.specs.Option.{option_map_or}
+use Rattle.std.specs.Option.{option_and_then, option_map}
 use Rattle.std.specs.Result.{OnOk}
+use Rattle.std.proofs.lemmas.Option.{none-some, same_Some}
 use Rattle.std.proofs.lemmas.Result.{on_ok_weaker}
 use Rattle.jf_bytes.specs.declared.error.NoMemory.{NoMemory}
 use Rattle.heap_objects.specs.declared.datum.Datum.{Datum}
@@ -11,20 +12,38 @@ use Rattle.const_pool.specs.declared.descriptor.Kind.{Kind}
 use Rattle.frame_stack.specs.Widths.{height_of, slots_of_all}
 use Rattle.frame_stack.specs.FrameLists.{PlacedFrame, FramesView, top_operands}
 use Rattle.jvm_model.specs.declared.state.State.{State}
-use Rattle.jvm_model.specs.Data.{Locals, Turn, World}
+use Rattle.jvm_model.specs.Data.{Locals, Operands, Invokes, Turn, World}
 use Rattle.jvm_model.specs.Programs.{max_locals_of, max_stack_of, params_of_method}
-use Rattle.jvm_model.specs.Values.{data_of, spread}
-use Rattle.jvm_model.specs.Rules.{invokes_with, invokes as invokes_outcome}
+use Rattle.jvm_model.specs.Values.{data_of, datum_of, spread}
+use Rattle.jvm_model.specs.Rules.{invokes as invokes_outcome}
 use Rattle.jvm_model.specs.Applies.{still, breaks, begins, live_in, most_live, with_frame, applies}
 use Rattle.jvm_model.specs.Originals.{original}
 use Rattle.jvm_steps.specs.declared.parts.Parts.{Parts}
 use Rattle.jvm_steps.specs.declared.line.Line.{Line}
 use Rattle.jvm_steps.specs.declared.originals.Exception.TheVariants.{StackOverflow}
-use Rattle.jvm_steps.specs.Acts.{IsTop, ended, on_top, on_parts, placed_line, raising}
-use Rattle.jvm_steps.specs.Invoking.{acts_invoke, may_begin}
+use Rattle.jvm_steps.specs.declared.parts.Here.{Here}
+use Rattle.jvm_steps.specs.Acts.{ended, placed_line, raising}
+use Rattle.jvm_steps.specs.Invoking.{called, may_begin}
+use Rattle.jvm_steps.specs.Settling.{own_of}
 use Rattle.jvm_steps.specs.States.{active, frame_in, state_with, state_in}
-use Rattle.jvm_steps.specs.Arguments.{arguments_of, can_begin, fits_with, fits_params, slots_for, with_begun, with_callee}
+use Rattle.jvm_steps.specs.Arguments.{arguments_of, can_begin, fits_with, fits_params, slots_for, with_begun}
+use Rattle.jvm_steps.proofs.NamedLaws.{Takes}
 use Rattle.jvm_steps.proofs.Arguments.{spread-data, length-slots, height-reverse, height-kinds, enough-data, too-many}
+
+pub live-is : (fs : List PlacedFrame) → live_in (map active fs) ≡ length fs
+live-is [] = refl
+live-is (f ∷ fs) = ap suc (live-is fs)
+
+same-length : (ks : List Kind) (vs : List Value) (ds : List Datum) → data_of ks vs ≡ Some ds → length ds ≡ length ks
+same-length [] [] ds e = ap length (sym (same_Some [] ds e))
+same-length [] (v ∷ vs) ds e = absurd (none-some ds e)
+same-length (k ∷ ks) [] ds e = absurd (none-some ds e)
+same-length (k ∷ ks) (v ∷ vs) ds e = by_first (datum_of k v) (data_of ks vs) (same-length ks vs) e where
+  by_first : (first : Option Datum) (rest : Option (List Datum)) → ((xs : List Datum) → rest ≡ Some xs → length xs ≡ length ks)
+      → option_and_then (λ d. option_map (λ xs. d ∷ xs) rest) first ≡ Some ds → length ds ≡ suc (length ks)
+  by_first None rest r e = absurd (none-some ds e)
+  by_first (Some d) None r e = absurd (none-some ds e)
+  by_first (Some d) (Some xs) r e = ap length (sym (same_Some (d ∷ xs) ds e)) ∙ ap suc (r xs refl)
 
 module _ (w : World) (line : Line) (callee : ℕ) (p : Parts) (f : PlacedFrame) (fs : List PlacedFrame) where
   abbrev most : ℕ
@@ -86,72 +105,43 @@ module _ (w : World) (line : Line) (callee : ℕ) (p : Parts) (f : PlacedFrame) 
       split true false = refl
       split false few = refl
 
-  by_params : (params : Option (List Kind))
-      → (applies w (original w.program) (placed_line line) (invokes_with callee params f.operands) (state_with fs p) (frame_in f)).after
-      ≡ begun_by (fits_with w callee (f ∷ fs) params) (option_map_or length params 0)
-  by_params None = refl
-  by_params (Some ks) = by_data ks (data_of ks (reverse (taken (length ks)))) refl
+  -- as a method that was named takes them
+  pub calls-is : (here : Here) (args : List Datum) (below : Operands) → here.method ≡ f.method → own_of w here ≡ line.instr.at → Takes f.operands args below
+      → (applies w (original w.program) (placed_line line) (Invokes callee args below) (state_with fs p) (frame_in f)).after
+      ≡ called w here callee (length args) (f ∷ fs) p (may_begin (f ∷ fs)) (can_begin w callee (length args) (f ∷ fs))
+  calls-is here args below method own takes =
+      let ks : List Kind = takes.kinds in
+      let many : length ks ≡ length args = sym (same-length ks (reverse (taken (length ks))) args takes.are) in
+      ap (λ o. (applies w (original w.program) (placed_line line) (Invokes callee args o) (state_with fs p) (frame_in f)).after)
+      (takes.off ∙ ap (λ n. drop n f.operands) (sym many))
+      ∙ (by_data ks (Some args) takes.are
+      ∙ (ap (λ n. begun_by (can_begin w callee n (f ∷ fs)) n) many
+      ∙ (ap (λ n. with_few (nat_lt (suc n) most_live)) (live-is fs)
+      ∙ (ap (λ m. with_end m line.instr.at) (sym method)
+      ∙ (ap (with_end here.method) (sym own)
+      ∙ either (can_begin w callee (length args) (f ∷ fs)))))))
+    where
+      -- by how many are live, and where the run ends
+      with_few : Bool → State
+      with_few few =
+          cond (can_begin w callee (length args) (f ∷ fs)) (cond few (state_with (with_begun true w callee (length args) (f ∷ fs)) p) thrown)
+          (state_with (f ∷ fs) (ended f.method line.instr.at p))
+
+      with_end : ℕ → ℕ → State
+      with_end method own =
+          cond (can_begin w callee (length args) (f ∷ fs)) (cond (may_begin (f ∷ fs)) (state_with (with_begun true w callee (length args) (f ∷ fs)) p) thrown)
+          (state_with (f ∷ fs) (ended method own p))
+
+      either : (b : Bool)
+          → cond b (cond (may_begin (f ∷ fs)) (state_with (with_begun true w callee (length args) (f ∷ fs)) p) thrown) (state_with (f ∷ fs) (ended here.method (own_of w here) p))
+          ≡ called w here callee (length args) (f ∷ fs) p (may_begin (f ∷ fs)) b
+      either true = refl
+      either false = refl
 
 -- what the code has done, as a state
 pub came-to : (result : Result (Unit {0}) NoMemory) (new done : Parts) (state : State) → state_in done ≡ state → OnOk result (new ≡ done)
     → OnOk result (state_in new ≡ state)
 came-to result new done state same made = on_ok_weaker result (λ (e : new ≡ done). ap state_in e ∙ same) made
-
-pub live-is : (fs : List PlacedFrame) → live_in (map active fs) ≡ length fs
-live-is [] = refl
-live-is (f ∷ fs) = ap suc (live-is fs)
-
--- where the arguments are there and fit the callee begins, or is one too many; else the run ends
-abbrev pub invoked : World → Line → ℕ → ℕ → Parts → List PlacedFrame → Bool → Bool → State
-invoked w line method callee p fs few b =
-    cond b (cond few (state_with (with_callee true w callee fs) p) (state_with fs (raising w StackOverflow None p))) (state_with fs (ended method line.instr.at p))
-
-invokes-is : (w : World) (line : Line) (method callee : ℕ) (p : Parts) (fs : List PlacedFrame) → IsTop method fs
-    → on_top (acts_invoke w line callee) p fs ≡ invoked w line method callee p fs (may_begin fs) (fits_params w callee fs)
-invokes-is w line method callee p [] top = absurd top
-invokes-is w line method callee p (f ∷ fs) top =
-    by_params w line callee p f fs (params_of_method w.program callee)
-    ∙ (ap (λ n. invoked w line f.method callee p (f ∷ fs) (nat_lt (suc n) most_live) (fits_params w callee (f ∷ fs))) (live-is fs)
-    ∙ ap (λ m. invoked w line m callee p (f ∷ fs) (may_begin (f ∷ fs)) (fits_params w callee (f ∷ fs))) (sym top))
-
--- by whether there is room for one more, and the callee's arguments fit
-invokes-by : (w : World) (line : Line) (method callee : ℕ) (p : Parts) (few b : Bool) → IsTop method p.frames.frames → may_begin p.frames.frames ≡ few
-    → b ≡ fits_params w callee p.frames.frames → on_parts (acts_invoke w line callee) p ≡ invoked w line method callee p p.frames.frames few b
-invokes-by w line method callee p few b top may fits =
-    invokes-is w line method callee p p.frames.frames top
-    ∙ (ap (λ x. invoked w line method callee p p.frames.frames x (fits_params w callee p.frames.frames)) may
-    ∙ ap (λ x. invoked w line method callee p p.frames.frames few x) (sym fits))
-
--- what the code has done, by whether the callee began
-pub record IsInvoked (w : World) (line : Line) (method callee : ℕ) (p : Parts) (frames : FramesView) (b : Bool) : Type 0 where
-  pub ends : b ≡ false → state_in (ended method line.instr.at (record p { frames = frames })) ≡ on_parts (acts_invoke w line callee) p
-  pub begins : b ≡ true → state_in (record p { frames = frames }) ≡ on_parts (acts_invoke w line callee) p
-
-pub is-invoked : (w : World) (line : Line) (method callee : ℕ) (p : Parts) (frames : FramesView) (b : Bool) → IsTop method p.frames.frames
-    → may_begin p.frames.frames ≡ true → b ≡ fits_params w callee p.frames.frames → frames.frames ≡ with_callee b w callee p.frames.frames
-    → IsInvoked w line method callee p frames b
-is-invoked w line method callee p frames b top few fits made =
-    let told : Bool → State = invoked w line method callee p p.frames.frames true in
-    let turn : on_parts (acts_invoke w line callee) p ≡ told b = invokes-by w line method callee p true b top few fits in
-    record {
-      ends = λ e. ap (λ fs. state_with fs (ended method line.instr.at p)) (made ∙ ap (λ x. with_callee x w callee p.frames.frames) e) ∙ sym (turn ∙ ap told e);
-      begins = λ e. ap (λ fs. state_with fs p) (made ∙ ap (λ x. with_callee x w callee p.frames.frames) e) ∙ sym (turn ∙ ap told e);
-    }
-
--- and where it is one too many
-pub record IsOver (w : World) (line : Line) (method callee : ℕ) (p : Parts) (b : Bool) : Type 0 where
-  pub ends : b ≡ false → state_in (ended method line.instr.at p) ≡ on_parts (acts_invoke w line callee) p
-  pub throws : b ≡ true → state_in (raising w StackOverflow None p) ≡ on_parts (acts_invoke w line callee) p
-
-pub is-over : (w : World) (line : Line) (method callee : ℕ) (p : Parts) (b : Bool) → IsTop method p.frames.frames
-    → may_begin p.frames.frames ≡ false → b ≡ fits_params w callee p.frames.frames → IsOver w line method callee p b
-is-over w line method callee p b top many fits =
-    let told : Bool → State = invoked w line method callee p p.frames.frames false in
-    let turn : on_parts (acts_invoke w line callee) p ≡ told b = invokes-by w line method callee p false b top many fits in
-    record {
-      ends = λ e. sym (turn ∙ ap told e);
-      throws = λ e. sym (turn ∙ ap told e);
-    }
 
 -- ---- arguments that do not fit
 

@@ -1,5 +1,5 @@
 -- Methods that are prepared one by one give what the definitions look up there.
-use Rattle.std.proofs.Common.{◌≡◌, ℕ, ◌≤◌, ◌<◌, List, [], length, Option, Some, None, refl, ap, ◌∙◌}
+use Rattle.std.proofs.Common.{◌≡◌, ℕ, ◌≤◌, ◌<◌, List, [], length, Option, Some, None, refl, ap, subst, sym, ◌∙◌}
 use Rattle.std.specs.Prelude.{◌^◌, map, slice_get}
 use Rattle.std.specs.Option.{option_map, option_map_or, option_and_then, option_flatten}
 use Rattle.std.proofs.lemmas.Option.{slice_get-map}
@@ -12,6 +12,7 @@ use Rattle.jvm_model.specs.declared.program.Program.{Program}
 use Rattle.jvm_model.specs.Methods.{code_of, method_code, method_params, member_shape}
 use Rattle.jvm_model.specs.Programs.{class_at}
 use Rattle.jvm_model.specs.SharedState.{kind_for, string}
+use Rattle.jvm_named.specs.Numbers.{AreNumbers, Row}
 use Rattle.jvm_steps.specs.declared.originals.Exception.{Exception}
 use Rattle.jvm_steps.specs.declared.originals.Exceptions.{Exceptions}
 use Rattle.jvm_steps.specs.declared.originals.Method.{Method}
@@ -97,9 +98,9 @@ line-place p (Some place) at = line-class place (class_at p place.class) at
 
 -- ---- all of them
 
-pub IsPrepared-entries : (p : Program) (methods : List Method) (x : Exceptions) → length p.classes < 2 ^ 24 → length p.methods < 2 ^ 32 → methods ≡ map (entry_at p) p.methods
-    → ((e : Exception) → exception_in x e ≡ exception_kind p e) → x.string ≡ kind_for p string → IsPrepared p methods x
-IsPrepared-entries p methods x few numbered is raised text =
+pub IsPrepared-entries : (p : Program) (methods : List Method) (x : Exceptions) (numbers : List Row) → length p.classes < 2 ^ 24 → length p.methods < 2 ^ 32 → methods ≡ map (entry_at p) p.methods
+    → ((e : Exception) → exception_in x e ≡ exception_kind p e) → x.string ≡ kind_for p string → AreNumbers p numbers → IsPrepared p methods x numbers
+IsPrepared-entries p methods x rows few numbered is raised text numbers =
     let entry : (k : ℕ) → slice_get methods k ≡ option_map (entry_at p) (slice_get p.methods k) = λ k. ap (λ ms. slice_get ms k) is ∙ slice_get-map (entry_at p) p.methods k in
     record {
       few = few;
@@ -110,4 +111,9 @@ IsPrepared-entries p methods x few numbered is raised text =
       lines = λ k at. ap (option_and_then (line_in at)) (entry k) ∙ line-place p (slice_get p.methods k) at;
       raised = raised;
       string = text;
+      numbers = numbers;
     }
+
+-- of the program that a linker has
+pub IsPrepared-same : (p q : Program) (methods : List Method) (x : Exceptions) (rows : List Row) → q ≡ p → IsPrepared p methods x rows → IsPrepared q methods x rows
+IsPrepared-same p q methods x rows same h = subst (λ r. IsPrepared r methods x rows) (sym same) h

@@ -16,10 +16,15 @@ pub mod Tabled
 pub mod Positions
 pub mod Entries
 pub mod LineFamilies
-mod Actions
+pub mod Actions
+pub mod Dimensions
+mod BuiltInLoads
 pub mod LineActs
 pub mod LineSteps
 pub mod Beneath
+pub mod ActsLoad
+pub mod Concluded
+pub mod Sounded
 pub mod Behind
 pub mod Above
 pub mod OpenClasses

@@ -31,7 +31,7 @@ use Rattle.jvm_model.proofs.Settles.{settled-keeps}
 
 -- ---- an object is made
 
-made-loaded : (w : World) (s : Shared) (name : List ℕ) (message : Option (List ℕ)) (cause : Datum) → (made_with w s name message cause).shared.loaded ≡ s.loaded
+pub made-loaded : (w : World) (s : Shared) (name : List ℕ) (message : Option (List ℕ)) (cause : Datum) → (made_with w s name message cause).shared.loaded ≡ s.loaded
 made-loaded w s name message cause = by (nat_le (s.heap.used + (message_cost message + 3)) s.heap.limit) where
   made : Allocated
   made = record {

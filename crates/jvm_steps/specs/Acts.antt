@@ -2,7 +2,7 @@
 -- says of the instruction that the line stands for. From the state without that frame, and the frame.
 use Rattle.std.specs.Prelude.{◌≡◌, ℕ, Bool, true, false, ◌&&◌, ◌||◌, is_some, is_none, List, [], ◌∷◌, ◌++◌, Option, Some, None, Result, OnOk, if◌then◌else◌}
 use Rattle.jf_bytes.specs.declared.error.NoMemory.{NoMemory}
-use Rattle.std.specs.Option.{option_map}
+use Rattle.std.specs.Option.{option_map, option_map_or}
 use Rattle.heap_objects.specs.declared.datum.Datum.{Datum}
 use Rattle.const_pool.specs.declared.descriptor.Kind.{Kind}
 use Rattle.frame_stack.specs.FrameLists.{PlacedFrame, has_frame}
@@ -204,10 +204,13 @@ ended_unless method own (Throws class) p = ended method own p
 ended_unless method own Bad p = ended method own p
 ended_unless method own Other p = ended method own p
 
--- an exception that the machine makes is thrown, with this message
+-- an exception of the class with this name is thrown, with this message
+abbrev pub raised_in : World → List ℕ → Option (List ℕ) → Parts → Parts
+raised_in w name message p = let a = raised w p.shared name message in record p { shared = a.shared; thrown = Some a.reference }
+
+-- one that the machine makes
 abbrev pub raising : World → Exception → Option (List ℕ) → Parts → Parts
-raising w e message p =
-    let a = raised w p.shared (exception_name e) message in record p { shared = a.shared; thrown = Some a.reference }
+raising w e message p = raised_in w (exception_name e) message p
 
 -- nothing follows by itself: the run has ended, or nothing is thrown, and there is a frame with no marker on it
 abbrev pub is_at_rest : List Marker → Parts → Bool
@@ -222,6 +225,9 @@ goes_on_in ms p = is_none p.ending && (has_frame p.frames.frames && is_unmarked 
 abbrev pub is_named : Action → Bool
 is_named (action.Named n) = true
 is_named _ = false
+
+abbrev pub named_in : Option Line → Bool
+named_in line = option_map_or (λ (l : Line). is_named l.action) line false
 
 -- by a line with this action (5.5)
 abbrev pub awaited : World → State → Frame → Action → Option ℕ

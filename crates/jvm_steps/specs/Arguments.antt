@@ -1,11 +1,12 @@
 -- The frame that a method begins with, by the values on top of its caller (JVM Specification 2.6.1).
-use Rattle.std.specs.Prelude.{ℕ, ◌+◌, Bool, true, false, List, ◌∷◌, length, count_by, take, reverse, Option, Some, None, is_some, ◌&&◌, if◌then◌else◌}
+use Rattle.std.specs.Prelude.{ℕ, ◌+◌, Bool, true, false, List, ◌∷◌, length, count_by, nat_le, take, reverse, Option, Some, None, is_some, ◌&&◌, if◌then◌else◌}
 use Rattle.std.specs.Option.{option_map_or}
 use Rattle.heap_objects.specs.declared.Value.{Value}
 use Rattle.const_pool.specs.declared.descriptor.Kind.{Kind}
 use Rattle.const_pool.specs.declared.descriptor.Kind.TheVariants as kind
 use Rattle.frame_stack.specs.FrameLists.{PlacedFrame, top_operands, arguments, without_arguments, can_enter, new_frame}
-use Rattle.jvm_model.specs.Data.{World}
+use Rattle.frame_stack.specs.Widths.{height_of}
+use Rattle.jvm_model.specs.Data.{Operands, World}
 use Rattle.jvm_model.specs.Programs.{max_stack_of, max_locals_of, params_of_method}
 use Rattle.jvm_model.specs.Values.{data_of}
 
@@ -37,7 +38,13 @@ fits_params w method fs = fits_with w method fs (params_of_method w.program meth
 abbrev pub with_callee : Bool → World → ℕ → List PlacedFrame → List PlacedFrame
 with_callee b w method fs = with_begun b w method (param_count w method) fs
 
--- ---- the locals that arguments take, by their kinds
+-- ---- the locals that arguments take
+
+-- so many of the topmost operands, where there are as many
+abbrev pub taken_slots : ℕ → Operands → Option ℕ
+taken_slots count o = if nat_le count (length o) then Some (height_of (take count o)) else None
+
+-- ---- by their kinds
 
 abbrev pub is_long_kind : Kind → Bool
 is_long_kind kind.Long = true

@@ -1,12 +1,14 @@
 -- The state before the start of a program, on whatever input, and what makes the first class ready.
-use Rattle.std.specs.Prelude.{◌≡◌, ◌≤◌, ℕ, List, [], ◌∷◌, ◌++◌}
+use Rattle.std.specs.Prelude.{◌≡◌, ◌≤◌, ℕ, List, [], ◌∷◌, ◌++◌, Result, Ok, Err}
 use Rattle.jvm_model.specs.declared.program.Program.{Program}
 use Rattle.jvm_model.specs.declared.state.Phase.TheVariants.{Ready}
 use Rattle.jvm_model.specs.declared.state.Shared.{Shared}
 use Rattle.jvm_model.specs.declared.state.State.{State}
-use Rattle.jvm_model.specs.Data.{World}
+use Rattle.jvm_model.specs.Data.{World, Outcome, Raises}
+use Rattle.jvm_model.specs.Moves.{raises}
 use Rattle.jvm_model.specs.Run.{before}
 use Rattle.jvm_model.specs.SharedState.{with_phase}
+use Rattle.jvm_steps.specs.Initializing.{begins_class}
 
 -- it holds of that state
 abbrev pub BeforeEach : Program → (State → Type 0) → Type 0
@@ -26,3 +28,9 @@ pub record IsAtStart (w : World) (s : State) : Type 0 where
 -- the first class is loaded, and ready
 abbrev pub with_first : Shared → Shared
 with_first s = with_phase (record s { loaded = s.loaded ++ 0 ∷ [] }) 0 Ready
+
+-- What was found for the main class's name: its initialization begins, or what stopped its loading is raised.
+abbrev pub begun_by : World → ℕ → Result ℕ Outcome → State → State
+begun_by w class (Ok kind) s = begins_class class s
+begun_by w class (Err (Raises name message)) s = raises w s name message
+begun_by w class (Err _) s = begins_class class s

@@ -1,19 +1,25 @@
 -- Invocation over the parts of a machine (JVM Specification 2.6, 5.5, 6.5).
-use Rattle.std.specs.Prelude.{ℕ, Bool, List, length, nat_lt}
+use Rattle.std.specs.Prelude.{ℕ, Bool, List, None, length, nat_lt, if◌then◌else◌}
 use Rattle.frame_stack.specs.FrameLists.{PlacedFrame}
-use Rattle.jvm_model.specs.declared.state.Frame.{Frame}
 use Rattle.jvm_model.specs.declared.state.State.{State}
-use Rattle.jvm_model.specs.Applies.{applies, most_live}
+use Rattle.jvm_model.specs.Applies.{most_live}
 use Rattle.jvm_model.specs.Data.{World}
-use Rattle.jvm_model.specs.Originals.{original}
-use Rattle.jvm_model.specs.Rules.{invokes_method}
-use Rattle.jvm_steps.specs.declared.line.Line.{Line}
-use Rattle.jvm_steps.specs.Acts.{placed_line}
-
--- the line asks for this method
-abbrev pub acts_invoke : World → Line → ℕ → State → Frame → State
-acts_invoke w line callee s f = (applies w (original w.program) (placed_line line) (invokes_method w callee f.operands) s f).after
+use Rattle.jvm_steps.specs.declared.originals.Exception.TheVariants.{StackOverflow}
+use Rattle.jvm_steps.specs.declared.parts.Here.{Here}
+use Rattle.jvm_steps.specs.declared.parts.Parts.{Parts}
+use Rattle.jvm_steps.specs.Acts.{ended, raising}
+use Rattle.jvm_steps.specs.Arguments.{with_begun}
+use Rattle.jvm_steps.specs.Settling.{own_of}
+use Rattle.jvm_steps.specs.States.{state_with}
 
 -- one more activation may be live beside these
 abbrev pub may_begin : List PlacedFrame → Bool
 may_begin fs = nat_lt (length fs) most_live
+
+-- A method is invoked on these frames with so many operands, by whether there may be one activation more, and whether they fit: it begins,
+-- or is one too many, or the run ends.
+abbrev pub called : World → Here → ℕ → ℕ → List PlacedFrame → Parts → Bool → Bool → State
+called w here callee count fs p few fits =
+    if fits
+    then if few then state_with (with_begun fits w callee count fs) p else state_with fs (raising w StackOverflow None p)
+    else state_with fs (ended here.method (own_of w here) p)

@@ -77,3 +77,14 @@ method_line at c method = option_and_then (λ code. option_and_then (line_of c) 
 -- at an offset of the method with this number
 abbrev pub line_at : Program → ℕ → ℕ → Option Line
 line_at p method at = by_number p (method_line at) method
+
+-- ---- what holds of the naming of a line, and of the place behind it
+
+abbrev pub IfNamedBy : Action → ℕ → (model.Naming → ℕ → Type 0) → Type 0
+IfNamedBy (action.Named n) next Holds = Holds (naming_view n) next
+IfNamedBy _ next Holds = Unit {0}
+
+-- where a line stands, and names something
+abbrev pub IfNamed : Option Line → (model.Naming → ℕ → Type 0) → Type 0
+IfNamed None Holds = Unit {0}
+IfNamed (Some line) Holds = IfNamedBy line.action line.next Holds

@@ -1,30 +1,30 @@
 //! An attempt of the current frame's line.
 
-ghost use Rattle.std.specs.Prelude.{◌≡◌, ◌++◌, ◌-◌, None, true, is_some, length, IfOk, OnOk};
+ghost use Rattle.std.specs.Prelude.{◌≡◌, ◌-◌, None, Some, true, false, is_some, length, IfOk, OnOk};
+ghost use Rattle.std.specs.Option.{option_map_or};
 ghost use Rattle.jvm_model.specs.Families.{family_of};
-ghost use Rattle.jvm_model.specs.Rules.{line_text};
-ghost use Rattle.jvm_model.specs.SharedState.{phase_of};
-ghost use Rattle.jvm_steps.specs.Acts.{IsTop, Becomes, on_parts, ended};
-ghost use Rattle.jvm_steps.specs.Acts.{acts, acts_alone, acts_out, acts_println};
-ghost use Rattle.jvm_steps.specs.Acts.{BecomesBeneath, IsAttempt, awaited, awaited_in, fresh_class};
+ghost use Rattle.jvm_model.specs.Sound.{IsFit, IsSound};
+ghost use Rattle.jvm_steps.specs.Acts.{IsTop, Becomes, ended};
+ghost use Rattle.jvm_steps.specs.Acts.{acts, acts_alone, attempts_on};
+ghost use Rattle.jvm_steps.specs.Acts.{BecomesBeneath, awaited_in, is_named, named_in};
+ghost use Rattle.jvm_steps.specs.Lines.{line_at};
 ghost use Rattle.jvm_steps.specs.Markers.{marker_on, state_of};
-ghost use Rattle.jvm_steps.specs.States.{state_in};
+ghost use Rattle.jvm_steps.specs.States.{here_of};
 
 use crate::arrays::{make_array, measure};
+use crate::asking::conclude;
 use crate::elements::{load_element, store_element};
-use crate::going::{drop_printed, printable, put_out};
-use crate::invoking::invoke_static;
+use crate::initializing::initialize;
 use crate::line::{Action, Line};
 use crate::markers::{Marker, marker_on};
 use crate::monitors::watch;
 use crate::originals::{Exception, Originals};
-use crate::parts::{Parts, where_now};
-use crate::raising::{break_off, end_unless, raise_with};
+use crate::parts::{Here, Parts, where_now};
+use crate::raising::{break_off, raise_with};
 use crate::returning::{end_initializer, return_by};
 use crate::throwing::throw_object;
-use jf_bytes::{NoMemory, Seq, Stack};
+use jf_bytes::{NoMemory, Stack};
 use jvm_basic::{Effect, basic_by};
-use jvm_model::{Phase, Shared};
 use std::alloc::Global;
 
 /// The message of a division by zero.
@@ -47,7 +47,7 @@ fn act_alone(
 ) -> Result<(), NoMemory>
     requires top { IsTop method parts.old.frames.frames }
     requires family { line.now.family ≡ family_of line.now.instr.op }
-    ensures state { Becomes result parts.new (acts_alone originals.now line.now) parts.old }
+    ensures state { Becomes result parts.new (acts_alone originals.now.world line.now) parts.old }
 {
     let effect = basic_by(
         line.family,
@@ -65,39 +65,6 @@ fn act_alone(
     }
 }
 
-/// getstatic of System.out.
-fn act_out(parts: &mut Parts, method: u32, line: &Line)
-    requires top { IsTop method parts.old.frames.frames }
-    ensures state { state_in parts.new ≡ on_parts (acts_out line.now) parts.old }
-{
-    let effect = put_out(&mut parts.frames, line.next);
-    end_unless(parts, method, line.instr.at, effect);
-}
-
-/// The text of a number, and the end of the line.
-fn write_line(alloc: Global, output: &mut Seq<u8>, n: i32) -> Result<(), NoMemory>
-    ensures { OnOk result (output.new ≡ output.old ++ line_text n) }
-{
-    let text = format!(in alloc; "{n}\n")?;
-    output.extend_from_slice(text.as_bytes())?;
-    Ok(())
-}
-
-/// println(I)V.
-fn act_println(alloc: Global, parts: &mut Parts, method: u32, line: &Line) -> Result<(), NoMemory>
-    requires top { IsTop method parts.old.frames.frames }
-    ensures state { Becomes result parts.new (acts_println line.now) parts.old }
-{
-    let Some(n) = printable(&parts.frames) else {
-        break_off(parts, method, line.instr.at);
-        return Ok(());
-    };
-    write_line(alloc, &mut parts.output, n)?;
-    let effect = drop_printed(&mut parts.frames, line.next);
-    end_unless(parts, method, line.instr.at, effect);
-    Ok(())
-}
-
 /// Does the line of the current frame.
 fn act(
     alloc: Global,
@@ -108,8 +75,8 @@ fn act(
 ) -> Result<(), NoMemory>
     requires top { IsTop method parts.old.frames.frames }
     requires family { line.now.family ≡ family_of line.now.instr.op }
-    requires none { awaited parts.old.shared line.now.action ≡ None }
-    ensures state { Becomes result parts.new (acts originals.now line.now) parts.old }
+    requires alone { is_named line.now.action ≡ false }
+    ensures state { Becomes result parts.new (acts originals.now.world line.now) parts.old }
 {
     match &line.action {
         Action::Local => act_alone(originals, parts, method, line),
@@ -117,49 +84,14 @@ fn act(
             return_by(originals, parts, method, line, *kind);
             Ok(())
         }
-        Action::Out => {
-            act_out(parts, method, line);
-            Ok(())
-        }
-        Action::Println => act_println(alloc, parts, method, line),
-        Action::Invokestatic(class, callee) => {
-            invoke_static(originals, parts, method, line, *class, *callee)
-        }
-        Action::Absent(name) => raise_with(
-            originals,
-            parts,
-            Exception::NoClassDefinition,
-            name.as_slice(),
-        ),
+        // Does not come here.
+        Action::Named(_) => break_here(parts, method, line.instr.at),
         Action::Athrow => throw_object(originals, parts, method, line),
         Action::Monitor => watch(originals, parts, method, line),
         Action::Arraylength => measure(originals, parts, method, line),
         Action::Newarray(kind) => make_array(originals, parts, method, line, *kind),
         Action::LoadElement(kind) => load_element(alloc, originals, parts, method, line, *kind),
         Action::StoreElement(kind) => store_element(alloc, originals, parts, method, line, *kind),
-    }
-}
-
-// ---- a class is initialized before
-
-/// The class itself, where it is fresh.
-fn fresh_class(shared: &Shared, class: u32) -> Option<u32>
-    ensures { result ≡ fresh_class class (phase_of shared.now class) }
-{
-    match shared.phases.at(class as usize) {
-        Some(Phase::Fresh) => Some(class),
-        Some(Phase::Running | Phase::Ready | Phase::Erroneous) => None,
-        None => None,
-    }
-}
-
-/// The class that is initialized before a line with this action, if one is (5.5).
-fn awaited(shared: &Shared, action: &Action) -> Option<u32>
-    ensures { result ≡ awaited shared.now action.now }
-{
-    match action {
-        Action::Invokestatic(class, Some(_)) => fresh_class(shared, *class),
-        _ => None,
     }
 }
 
@@ -176,11 +108,11 @@ fn act_initializer(
 ) -> Result<(), NoMemory>
     requires top { IsTop method parts.old.frames.frames }
     requires family { line.now.family ≡ family_of line.now.instr.op }
-    requires none { awaited parts.old.shared line.now.action ≡ None }
+    requires alone { is_named line.now.action ≡ false }
     requires unmarked { marker_on (length parts.old.frames.frames) markers.now ≡ None }
     requires beneath { is_some (marker_on (length parts.old.frames.frames - 1) markers.now) ≡ true }
     ensures { BecomesBeneath result markers.now parts.new
-        (acts originals.now line.now) parts.old }
+        (acts originals.now.world line.now) parts.old }
 {
     match line.action {
         Action::Return(kind) => {
@@ -202,10 +134,10 @@ fn act_marked(
 ) -> Result<(), NoMemory>
     requires top { IsTop method parts.old.frames.frames }
     requires family { line.now.family ≡ family_of line.now.instr.op }
-    requires none { awaited parts.old.shared line.now.action ≡ None }
+    requires alone { is_named line.now.action ≡ false }
     requires unmarked { marker_on (length parts.old.frames.frames) markers.now ≡ None }
     ensures { BecomesBeneath result markers.now parts.new
-        (acts originals.now line.now) parts.old }
+        (acts originals.now.world line.now) parts.old }
 {
     if marker_on(markers, parts.frames.depth() - 1).is_some() {
         act_initializer(alloc, originals, parts, markers, method, line)
@@ -214,31 +146,118 @@ fn act_marked(
     }
 }
 
-/// Attempts what stands at the current frame's place: its instruction alone, without what follows
-/// from it. Where a class has to be initialized before, its position is the answer, and nothing has
-/// changed.
-pub fn attempt(
+/// Does the line at which the current frame stands, which names nothing; where there is none the run
+/// ends.
+fn attempt_line(
     alloc: Global,
     originals: &Originals,
     parts: &mut Parts,
     markers: &Stack<Marker>,
+    here: Here,
+) -> Result<(), NoMemory>
+    requires here { here_of parts.old.frames.frames ≡ Some here }
+    requires alone { named_in (line_at originals.now.world.program here.version here.place)
+        ≡ false }
+    requires unmarked { marker_on (length parts.old.frames.frames) markers.now ≡ None }
+    ensures { let w = originals.now.world in let s = state_of markers.now parts.old in
+        OnOk result (state_of markers.now parts.new ≡ attempts_on w s s.stack) }
+{
+    let Some(line) = originals.line(here.version, here.place) else {
+        break_off(parts, here.method, 0);
+        return Ok(());
+    };
+    act_marked(alloc, originals, parts, markers, here.method, line)
+}
+
+// ---- instructions that name something
+
+/// Whether a line names something.
+fn is_named(line: &Line) -> bool
+    ensures { result ≡ is_named line.now.action }
+{
+    match line.action {
+        Action::Named(_) => true,
+        _ => false,
+    }
+}
+
+/// Whether the line at which a frame stands does.
+fn named_at(originals: &Originals, here: Here) -> bool
+    ensures { result ≡ named_in (line_at originals.now.world.program here.version here.place) }
+{
+    match originals.line(here.version, here.place) {
+        Some(line) => is_named(line),
+        None => false,
+    }
+}
+
+/// Attempts the line at which the current frame stands, which names something. Where a class has to
+/// be initialized before, that has begun, and the class is the answer.
+fn attempt_name(
+    alloc: Global,
+    originals: &mut Originals,
+    parts: &mut Parts,
+    markers: &mut Stack<Marker>,
+    here: Here,
 ) -> Result<Option<u32>, NoMemory>
-    requires { marker_on (length parts.old.frames.frames) markers.now ≡ None }
+    requires linked { originals.old.loaded ≡ parts.old.shared.loaded }
+    requires fit { IsFit originals.old.world.program }
+    requires sound { IsSound originals.old.world.program (state_of markers.old parts.old) }
+    requires here { here_of parts.old.frames.frames ≡ Some here }
+    requires named { named_in (line_at originals.old.world.program here.version here.place)
+        ≡ true }
+    requires unmarked { marker_on (length parts.old.frames.frames) markers.old ≡ None }
+    ensures world { originals.new.world ≡ originals.old.world }
+    ensures linked { OnOk result (originals.new.loaded ≡ parts.new.shared.loaded) }
     ensures answer { IfOk result (λ o.
-        o ≡ awaited_in originals.now (state_of markers.now parts.old)) }
-    ensures state { IfOk result (λ o. IsAttempt originals.now o
-        (state_of markers.now parts.old) (state_of markers.now parts.new)) }
+        o ≡ awaited_in originals.old.world (state_of markers.old parts.old)) }
+    ensures state { let w = originals.old.world in let s = state_of markers.old parts.old in
+        OnOk result (state_of markers.new parts.new ≡ attempts_on w s s.stack) }
+{
+    let asked = originals.attempt_named(
+        alloc,
+        here.version,
+        here.place,
+        &mut parts.shared,
+        &mut parts.frames,
+        &mut parts.output,
+    )?;
+    let awaited = conclude(originals, parts, here, asked)?;
+    let Some(class) = awaited else {
+        return Ok(None);
+    };
+    initialize(parts, markers, class)?;
+    Ok(Some(class))
+}
+
+// ---- every instruction
+
+/// Attempts what stands at the current frame's place: its instruction alone, without what follows
+/// from it. The classes that it names are loaded before. Where a class has to be initialized before,
+/// that has begun, and the class is the answer.
+pub fn attempt(
+    alloc: Global,
+    originals: &mut Originals,
+    parts: &mut Parts,
+    markers: &mut Stack<Marker>,
+) -> Result<Option<u32>, NoMemory>
+    requires linked { originals.old.loaded ≡ parts.old.shared.loaded }
+    requires fit { IsFit originals.old.world.program }
+    requires sound { IsSound originals.old.world.program (state_of markers.old parts.old) }
+    requires unmarked { marker_on (length parts.old.frames.frames) markers.old ≡ None }
+    ensures world { originals.new.world ≡ originals.old.world }
+    ensures linked { OnOk result (originals.new.loaded ≡ parts.new.shared.loaded) }
+    ensures answer { IfOk result (λ o.
+        o ≡ awaited_in originals.old.world (state_of markers.old parts.old)) }
+    ensures state { let w = originals.old.world in let s = state_of markers.old parts.old in
+        OnOk result (state_of markers.new parts.new ≡ attempts_on w s s.stack) }
 {
     let Some(here) = where_now(&parts.frames) else {
         return Ok(None);
     };
-    let Some(line) = originals.line(here.version, here.place) else {
-        break_off(parts, here.method, 0);
-        return Ok(None);
-    };
-    if let Some(class) = awaited(&parts.shared, &line.action) {
-        return Ok(Some(class));
+    if named_at(originals, here) {
+        return attempt_name(alloc, originals, parts, markers, here);
     }
-    act_marked(alloc, originals, parts, markers, here.method, line)?;
+    attempt_line(alloc, originals, parts, markers, here)?;
     Ok(None)
 }

@@ -143,7 +143,7 @@ fn refuse(
 ) -> Result<(), NoMemory>
     requires top { IsTop method parts.old.frames.frames }
     ensures state { Becomes result parts.new
-        (acts_refused originals.now line.now led index) parts.old }
+        (acts_refused originals.now.world line.now led index) parts.old }
 {
     match led {
         Led::ToNull => raise(originals, parts, Exception::NullPointer),
@@ -228,7 +228,7 @@ pub fn load_element(
     kind: Kind,
 ) -> Result<(), NoMemory>
     requires top { IsTop method parts.old.frames.frames }
-    ensures state { Becomes result parts.new (acts_load originals.now line.now kind) parts.old }
+    ensures state { Becomes result parts.new (acts_load originals.now.world line.now kind) parts.old }
 {
     let Some(place) = place_of(&parts.frames) else {
         break_off(parts, method, line.instr.at);
@@ -265,7 +265,7 @@ pub fn store_element(
     kind: Kind,
 ) -> Result<(), NoMemory>
     requires top { IsTop method parts.old.frames.frames }
-    ensures state { Becomes result parts.new (acts_store originals.now line.now kind) parts.old }
+    ensures state { Becomes result parts.new (acts_store originals.now.world line.now kind) parts.old }
 {
     let Some(storing) = storing_of(&parts.frames, kind) else {
         break_off(parts, method, line.instr.at);

@@ -1,26 +1,19 @@
 //! How the current frame goes on by a line (JVM Specification 6.5).
 
-ghost use Rattle.std.specs.Prelude.{◌≡◌, ◌∷◌, drop, slice_get};
+ghost use Rattle.std.specs.Prelude.{◌≡◌, slice_get};
 ghost use Rattle.frame_stack.specs.FrameLists.{top_operands};
-ghost use Rattle.heap_objects.specs.declared.Value.TheVariants.{Ref};
 ghost use Rattle.jvm_basic.specs.Outcomes.{GoesOn, effect_of, after};
 ghost use Rattle.jvm_model.specs.Values.{as_value, datum_of};
 ghost use Rattle.jvm_model.specs.Families.{family_of};
-ghost use Rattle.jvm_steps.specs.Acts.{is_athrow, is_last_family, next_in, printable};
+ghost use Rattle.jvm_steps.specs.Acts.{is_athrow, is_last_family, next_in};
 ghost use Rattle.jvm_steps.specs.Going.{takes_result, resume_effect, resume_frames, top_datum};
 
 use crate::line::{Action, Line};
 use const_pool::Kind;
 use frame_stack::Frames;
 use heap_objects::{Datum, Value};
-use jvm_basic::{Effect, drop_two, go_on, put, recall};
+use jvm_basic::{Effect, go_on, put, recall};
 use jvm_model::Family;
-
-/// System.out's object.
-const OUT: u32 = 3;
-
-/// System.err's object, which is a PrintStream too.
-const ERR: u32 = 4;
 
 /// Whether control never goes on behind an instruction of this family.
 fn is_last(family: Family) -> bool
@@ -117,34 +110,4 @@ pub fn resume(frames: &mut Frames, datum: Option<Datum>, next: Option<u16>) -> E
         None => Effect::Bad,
         Some(next) => take_result(frames, datum, next),
     }
-}
-
-/// getstatic of System.out.
-pub fn put_out(frames: &mut Frames, next: u16) -> Effect
-    ensures effect { result ≡ effect_of (λ l o. GoesOn l (Ref 3 ∷ o) next) frames.old }
-    ensures frames { frames.new ≡ after (λ l o. GoesOn l (Ref 3 ∷ o) next) frames.old }
-{
-    put(frames, Value::Ref(OUT), next)
-}
-
-/// The number that println prints: the receiver below it must be a PrintStream.
-pub fn printable(frames: &Frames) -> Option<i32>
-    ensures { result ≡ printable (top_operands frames.now.frames) }
-{
-    let Some(Value::Int(n)) = frames.peek(0) else {
-        return None;
-    };
-    match frames.peek(1) {
-        Some(Value::Ref(OUT | ERR)) => Some(n),
-        _ => None,
-    }
-}
-
-/// println's operands are taken off.
-pub fn drop_printed(frames: &mut Frames, next: u16) -> Effect
-    ensures effect { result ≡ effect_of (λ l o. GoesOn l (drop 2 o) next) frames.old }
-    ensures frames { frames.new ≡ after (λ l o. GoesOn l (drop 2 o) next) frames.old }
-{
-    recall(frames);
-    drop_two(frames, next)
 }

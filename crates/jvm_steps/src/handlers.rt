@@ -40,7 +40,7 @@ fn covers(
     class: usize,
     place: u16,
 ) -> bool
-    ensures { result ≡ covers originals.now class place (catcher_of owner.now handler.now) }
+    ensures { result ≡ covers originals.now.world class place (catcher_of owner.now handler.now) }
 {
     handler.start <= place
         && place < handler.end
@@ -55,7 +55,7 @@ fn target_among(
     class: usize,
     place: u16,
 ) -> Option<u16>
-    ensures { result ≡ handler_for originals.now class place
+    ensures { result ≡ handler_for originals.now.world class place
         (map (catcher_of owner.now) handlers.now) }
 {
     for handler in handlers {
@@ -69,8 +69,8 @@ fn target_among(
 /// Where a frame goes on, at a place of a method's code, when an object of the class at a position
 /// is thrown there; None where no handler catches it.
 pub fn handler_for(originals: &Originals, method: usize, class: usize, place: u16) -> Option<u16>
-    ensures { result ≡ handler_for originals.now class place
-        ((original originals.now.program).handlers method) }
+    ensures { result ≡ handler_for originals.now.world class place
+        ((original originals.now.world.program).handlers method) }
 {
     let program = originals.program();
     let stands = program.methods.get(method)?;

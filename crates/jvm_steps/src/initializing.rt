@@ -2,9 +2,10 @@
 
 ghost use Rattle.std.specs.Prelude.{◌≡◌, ◌<◌, ◌^◌, suc, [], true, None, length, IfOk, OnOk};
 ghost use Rattle.jvm_model.specs.Applies.{new_frame, with_frame};
+ghost use Rattle.jvm_model.specs.Constants.{sets_constants};
 ghost use Rattle.jvm_model.specs.Lookup.{is_below};
 ghost use Rattle.jvm_model.specs.Moves.{after_super, initializes, runs_initializer};
-ghost use Rattle.jvm_model.specs.Moves.{with_super, wrapped};
+ghost use Rattle.jvm_model.specs.Moves.{with_constants, with_super, wrapped};
 ghost use Rattle.jvm_model.specs.Originals.{original};
 ghost use Rattle.jvm_model.specs.Programs.{initializer_of, super_of};
 ghost use Rattle.jvm_model.specs.SharedState.{class_of, error, phase_of, with_phase};
@@ -22,6 +23,8 @@ use crate::raising::{make, raise};
 use crate::supertypes::is_below_bytes;
 use jf_bytes::{NoMemory, Stack};
 use jvm_model::{Part, Phase, Program, Shared};
+use jvm_named::set_constants;
+use std::alloc::Global;
 
 /// Gives a class this phase.
 pub fn set_phase(shared: &mut Shared, class: u32, phase: Phase)
@@ -59,8 +62,8 @@ fn is_error(program: &Program, shared: &Shared, object: u32) -> bool
 /// What is thrown on: an Error itself, or an ExceptionInInitializerError with the object as its
 /// cause.
 fn wrap(originals: &Originals, shared: &mut Shared, object: u32) -> Result<u32, NoMemory>
-    ensures shared { OnOk result (shared.new ≡ (wrapped originals.now shared.old object).shared) }
-    ensures object { IfOk result (λ r. r ≡ (wrapped originals.now shared.old object).reference) }
+    ensures shared { OnOk result (shared.new ≡ (wrapped originals.now.world shared.old object).shared) }
+    ensures object { IfOk result (λ r. r ≡ (wrapped originals.now.world shared.old object).reference) }
 {
     if is_error(originals.program(), shared, object) {
         return Ok(object);
@@ -76,7 +79,7 @@ pub fn fail(
     class: u32,
     object: u32,
 ) -> Result<(), NoMemory>
-    ensures { OnOk result (parts.new ≡ failing originals.now class object parts.old) }
+    ensures { OnOk result (parts.new ≡ failing originals.now.world class object parts.old) }
 {
     let thrown = wrap(originals, &mut parts.shared, object)?;
     set_phase(&mut parts.shared, class, Phase::Erroneous);
@@ -96,7 +99,7 @@ fn initialize_above(
     above: u32,
 ) -> Result<(), NoMemory>
     ensures { OnOk result (state_of markers.new parts.new
-        ≡ after_super originals.now (state_of markers.old parts.old) class above
+        ≡ after_super originals.now.world (state_of markers.old parts.old) class above
         (phase_of parts.old.shared above)) }
 {
     mark(parts, markers, class, Part::Initializer)?;
@@ -117,8 +120,8 @@ fn initialize_super(
     class: u32,
 ) -> Result<(), NoMemory>
     ensures { OnOk result (state_of markers.new parts.new
-        ≡ with_super originals.now (state_of markers.old parts.old) class
-        (super_of originals.now.program class)) }
+        ≡ with_super originals.now.world (state_of markers.old parts.old) class
+        (super_of originals.now.world.program class)) }
 {
     match super_of(originals.program(), class) {
         Some(above) => initialize_above(originals, parts, markers, class, above),
@@ -137,7 +140,7 @@ fn begin_initializer(
 ) -> Result<(), NoMemory>
     requires few { may_begin parts.old.frames.frames ≡ true }
     requires below { marker_on (suc (length parts.old.frames.frames)) markers.now ≡ None }
-    ensures { let w = originals.now in OnOk result (state_of markers.now parts.new
+    ensures { let w = originals.now.world in OnOk result (state_of markers.now parts.new
         ≡ with_frame (state_of markers.now parts.old)
         (new_frame w (original w.program) method [])) }
 {
@@ -158,7 +161,7 @@ fn run_initializer(
     markers: &mut Stack<Marker>,
     class: u32,
 ) -> Result<(), NoMemory>
-    ensures { let w = originals.now in OnOk result (state_of markers.new parts.new
+    ensures { let w = originals.now.world in OnOk result (state_of markers.new parts.new
         ≡ (runs_initializer w (original w.program) (state_of markers.old parts.old) class
         (initializer_of w.program class)).after) }
 {
@@ -173,21 +176,43 @@ fn run_initializer(
     }
 }
 
+// ---- the constants
+
+/// The constants of a class are set; an object that is thrown meets its initialization.
+fn run_constants(
+    alloc: Global,
+    originals: &Originals,
+    parts: &mut Parts,
+    markers: &mut Stack<Marker>,
+    class: u32,
+) -> Result<(), NoMemory>
+    ensures { let w = originals.now.world in OnOk result (state_of markers.new parts.new
+        ≡ with_constants (state_of markers.old parts.old) class
+        (sets_constants w.program class parts.old.shared)) }
+{
+    mark(parts, markers, class, Part::Superclass)?;
+    let string = originals.string_kind();
+    let program = originals.program();
+    parts.thrown = set_constants(alloc, program, string, class, &mut parts.shared)?;
+    Ok(())
+}
+
 // ---- every part
 
 /// The initialization of a class goes on with this part, after its marker was taken off.
 pub fn go_on(
+    alloc: Global,
     originals: &Originals,
     parts: &mut Parts,
     markers: &mut Stack<Marker>,
     class: u32,
     part: Part,
 ) -> Result<(), NoMemory>
-    ensures { let w = originals.now in OnOk result (state_of markers.new parts.new
+    ensures { let w = originals.now.world in OnOk result (state_of markers.new parts.new
         ≡ (initializes w (original w.program) (state_of markers.old parts.old) class part).after) }
 {
     match part {
-        Part::Constants => mark(parts, markers, class, Part::Superclass),
+        Part::Constants => run_constants(alloc, originals, parts, markers, class),
         Part::Superclass => initialize_super(originals, parts, markers, class),
         Part::Initializer => run_initializer(originals, parts, markers, class),
         Part::Finish => {

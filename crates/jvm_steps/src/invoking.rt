@@ -1,26 +1,26 @@
 //! Invocation (JVM Specification 2.6, 2.6.1, 5.5, 6.5).
 
-ghost use Rattle.std.specs.Prelude.{◌≡◌, ◌<◌, ◌^◌, None, false, true, length, is_some, IfOk, OnOk};
+ghost use Rattle.std.specs.Prelude.{◌≡◌, ◌<◌, ◌^◌, false, true, length, is_some, IfOk, OnOk};
+ghost use Rattle.frame_stack.specs.FrameLists.{top_operands};
+ghost use Rattle.frame_stack.specs.Widths.{width};
 ghost use Rattle.jvm_model.specs.Values.{data_of, datum_of};
 ghost use Rattle.jvm_model.specs.Programs.{name_at};
-ghost use Rattle.jvm_steps.specs.declared.line.Action.TheVariants.{Invokestatic};
 ghost use Rattle.jvm_steps.specs.declared.originals.Exception.TheVariants.{NoClassDefinition};
-ghost use Rattle.jvm_steps.specs.Acts.{IsTop, Becomes, acts_invokestatic, awaited, raising};
+ghost use Rattle.jvm_steps.specs.Acts.{raising};
 ghost use Rattle.jvm_steps.specs.Arguments.{arguments_of, can_begin, with_begun};
-ghost use Rattle.jvm_steps.specs.Arguments.{fits_params, is_long_kind, slots_for, with_callee};
-ghost use Rattle.jvm_steps.specs.Invoking.{acts_invoke, may_begin};
+ghost use Rattle.jvm_steps.specs.Arguments.{fits_params, is_long_kind, slots_for, taken_slots};
+ghost use Rattle.jvm_steps.specs.Invoking.{called, may_begin};
+ghost use Rattle.jvm_steps.specs.States.{state_in};
 
 use crate::going::datum_of;
-use crate::line::Line;
 use crate::lookup::name_at;
 use crate::originals::{Exception, Originals};
-use crate::parts::Parts;
-use crate::raising::{break_off, raise, raise_with};
+use crate::parts::{Here, Parts};
+use crate::raising::{break_at, raise, raise_with};
 use const_pool::Kind;
 use frame_stack::Frames;
 use heap_objects::Value;
 use jf_bytes::NoMemory;
-use jvm_model::Phase;
 
 /// How many activations are live at most.
 const MOST_LIVE: u32 = 1024;
@@ -74,7 +74,7 @@ fn slots_for(params: &[Kind]) -> usize
 
 /// Whether a method's arguments are there and fit into its locals.
 pub fn fits_params(originals: &Originals, frames: &Frames, method: u32) -> bool
-    ensures { result ≡ fits_params originals.now method frames.now.frames }
+    ensures { result ≡ fits_params originals.now.world method frames.now.frames }
 {
     let Some(params) = originals.params(method) else {
         return false;
@@ -107,9 +107,9 @@ fn begin_frame(
     args: u16,
 ) -> Result<bool, NoMemory>
     requires { may_begin frames.old.frames ≡ true }
-    ensures answer { IfOk result (λ b. b ≡ can_begin originals.now method args frames.old.frames) }
+    ensures answer { IfOk result (λ b. b ≡ can_begin originals.now.world method args frames.old.frames) }
     ensures frames { IfOk result (λ b. frames.new.frames ≡
-        with_begun b originals.now method args frames.old.frames) }
+        with_begun b originals.now.world method args frames.old.frames) }
 {
     let max_locals = originals.max_locals(method);
     let max_stack = originals.max_stack(method);
@@ -117,23 +117,59 @@ fn begin_frame(
     Ok(frames.enter(method as usize, method, max_locals, max_stack, args))
 }
 
-/// Begins a method, where its arguments are there and fit.
-fn begin_callee(originals: &Originals, frames: &mut Frames, method: u32) -> Result<bool, NoMemory>
-    requires { may_begin frames.old.frames ≡ true }
-    ensures answer { IfOk result (λ b. b ≡ fits_params originals.now method frames.old.frames) }
-    ensures frames { IfOk result (λ b. frames.new.frames ≡
-        with_callee b originals.now method frames.old.frames) }
+// ---- operands that are arguments
+
+/// How many locals a value takes.
+fn width(value: Value) -> u32
+    ensures { result ≡ width value }
 {
-    let Some(params) = originals.params(method) else {
-        return Ok(false);
-    };
-    if params.len() > originals.max_locals(method) as usize {
-        return Ok(false);
+    match value {
+        Value::Long(_) => 2,
+        _ => 1,
     }
-    if !are_of_kinds(params.as_slice(), frames) {
-        return Ok(false);
+}
+
+/// How many locals so many of the topmost operands take, where there are as many.
+fn taken_slots(frames: &Frames, args: u16) -> Option<u32>
+    ensures { result ≡ taken_slots args (top_operands frames.now.frames) }
+{
+    let mut slots = 0;
+    for i in 0..args {
+        slots += width(frames.peek(i)?);
     }
-    begin_frame(originals, frames, method, params.len() as u16)
+    Some(slots)
+}
+
+/// Whether so many of the topmost operands are there, and fit into a method's locals.
+fn can_begin(originals: &Originals, frames: &Frames, method: u32, args: u16) -> bool
+    ensures { result ≡ can_begin originals.now.world method args frames.now.frames }
+{
+    match taken_slots(frames, args) {
+        Some(slots) => slots <= u32::from(originals.max_locals(method)),
+        None => false,
+    }
+}
+
+// ---- a method begins, or the run ends
+
+/// Begins a method with so many arguments: its caller stays at the line without them.
+fn begin(
+    originals: &Originals,
+    parts: &mut Parts,
+    here: Here,
+    callee: u32,
+    args: u16,
+) -> Result<(), NoMemory>
+    requires few { may_begin parts.old.frames.frames ≡ true }
+    ensures { let fs = parts.old.frames.frames in
+        OnOk result (state_in parts.new ≡ called originals.now.world here callee args fs parts.old
+        true (can_begin originals.now.world callee args fs)) }
+{
+    let begun = begin_frame(originals, &mut parts.frames, callee, args)?;
+    if !begun {
+        break_at(originals, parts, here);
+    }
+    Ok(())
 }
 
 /// No more activation may be live: where the arguments fit, StackOverflowError is thrown at the
@@ -141,94 +177,49 @@ fn begin_callee(originals: &Originals, frames: &mut Frames, method: u32) -> Resu
 fn overflow(
     originals: &Originals,
     parts: &mut Parts,
-    method: u32,
-    line: &Line,
+    here: Here,
     callee: u32,
+    args: u16,
 ) -> Result<(), NoMemory>
-    requires top { IsTop method parts.old.frames.frames }
-    requires many { may_begin parts.old.frames.frames ≡ false }
-    ensures state { Becomes result parts.new (acts_invoke originals.now line.now callee) parts.old }
+    ensures { let fs = parts.old.frames.frames in
+        OnOk result (state_in parts.new ≡ called originals.now.world here callee args fs parts.old
+        false (can_begin originals.now.world callee args fs)) }
 {
-    if fits_params(originals, &parts.frames, callee) {
+    if can_begin(originals, &parts.frames, callee, args) {
         return raise(originals, parts, Exception::StackOverflow);
     }
-    break_off(parts, method, line.instr.at);
+    break_at(originals, parts, here);
     Ok(())
 }
 
-/// Begins a method: its caller stays at the line without the arguments.
-fn begin(
+/// Begins a method with so many arguments, unless that were one activation too many.
+pub fn call(
     originals: &Originals,
     parts: &mut Parts,
-    method: u32,
-    line: &Line,
+    here: Here,
     callee: u32,
+    args: u16,
 ) -> Result<(), NoMemory>
-    requires top { IsTop method parts.old.frames.frames }
-    requires few { may_begin parts.old.frames.frames ≡ true }
-    ensures state { Becomes result parts.new (acts_invoke originals.now line.now callee) parts.old }
-{
-    let begun = begin_callee(originals, &mut parts.frames, callee)?;
-    if !begun {
-        break_off(parts, method, line.instr.at);
-    }
-    Ok(())
-}
-
-/// Begins a method, unless that were one activation too many.
-fn invoke(
-    originals: &Originals,
-    parts: &mut Parts,
-    method: u32,
-    line: &Line,
-    callee: u32,
-) -> Result<(), NoMemory>
-    requires top { IsTop method parts.old.frames.frames }
-    ensures state { Becomes result parts.new (acts_invoke originals.now line.now callee) parts.old }
+    ensures { let fs = parts.old.frames.frames in
+        OnOk result (state_in parts.new ≡ called originals.now.world here callee args fs parts.old
+        (may_begin fs) (can_begin originals.now.world callee args fs)) }
 {
     if may_begin(&parts.frames) {
-        begin(originals, parts, method, line, callee)
+        begin(originals, parts, here, callee, args)
     } else {
-        overflow(originals, parts, method, line, callee)
+        overflow(originals, parts, here, callee, args)
     }
 }
 
-// ---- invokestatic
+// ---- a class that can not be used
 
-/// NoClassDefFoundError, with the name of the class that can not be used.
+/// NoClassDefFoundError, with the name of the class.
 pub fn raise_unusable(originals: &Originals, parts: &mut Parts, class: u32) -> Result<(), NoMemory>
-    ensures { let w = originals.now in OnOk result
+    ensures { let w = originals.now.world in OnOk result
         (parts.new ≡ raising w NoClassDefinition (name_at w.program class) parts.old) }
 {
     match name_at(originals.program(), class) {
         Some(name) => raise_with(originals, parts, Exception::NoClassDefinition, name.units()),
         None => raise(originals, parts, Exception::NoClassDefinition),
-    }
-}
-
-/// Invokes a static method of a class, where it has the method; the class is not fresh.
-pub fn invoke_static(
-    originals: &Originals,
-    parts: &mut Parts,
-    method: u32,
-    line: &Line,
-    class: u32,
-    callee: Option<u32>,
-) -> Result<(), NoMemory>
-    requires top { IsTop method parts.old.frames.frames }
-    requires none { awaited parts.old.shared (Invokestatic class callee) ≡ None }
-    ensures state { Becomes result parts.new
-        (acts_invokestatic originals.now line.now class callee) parts.old }
-{
-    let Some(callee) = callee else {
-        return raise(originals, parts, Exception::NoSuchMethod);
-    };
-    match parts.shared.phases.at(class as usize) {
-        Some(Phase::Ready) => invoke(originals, parts, method, line, callee),
-        Some(Phase::Running) => invoke(originals, parts, method, line, callee),
-        // Does not come: such a class is initialized before.
-        Some(Phase::Fresh) => raise_unusable(originals, parts, class),
-        Some(Phase::Erroneous) => raise_unusable(originals, parts, class),
-        None => raise_unusable(originals, parts, class),
     }
 }

@@ -3,15 +3,19 @@
 #![tactic(auto)]
 
 mod arrays;
+mod asking;
 mod attempting;
+mod beginning;
 mod descriptor;
 mod elements;
+mod exceptions;
 mod going;
 mod handlers;
 mod initializing;
 mod invoking;
 mod kinds;
 mod line;
+mod loading;
 mod lookup;
 mod markers;
 mod members;
@@ -31,6 +35,7 @@ mod stepping;
 mod supertypes;
 mod throwing;
 
+pub use beginning::{make_ready, start};
 pub use descriptor::shape_of;
 pub use invoking::{fits_params, may_begin};
 pub use line::{Action, Line};
@@ -41,5 +46,5 @@ pub use members::{
 pub use originals::{Exception, Originals};
 pub use parts::{Here, Parts, where_now};
 pub use raising::raise;
-pub use starting::{make_ready, parts_before, start};
+pub use starting::parts_before;
 pub use stepping::{run, step};

@@ -4,6 +4,7 @@ ghost use Rattle.std.specs.Prelude.{◌≡◌, ◌<◌, ◌^◌, length, positio
 ghost use Rattle.std.specs.Option.{option_copied};
 ghost use Rattle.const_pool.specs.Members.{reference_view};
 ghost use Rattle.jvm_model.specs.Programs.{class_named, has_name, name_at};
+ghost use Rattle.jvm_model.specs.Run.{main_class};
 ghost use Rattle.jvm_model.specs.Programs.{declared_method, initializer_of, number_from, same_place, super_of};
 
 use crate::members::{initializer_in, method_named};
@@ -22,7 +23,7 @@ pub fn has_name(name: &Text16, class: &ClassFile) -> bool
 }
 
 /// Whether the name of the class is these bytes.
-fn has_bytes(name: &[u8], class: &ClassFile) -> bool
+pub fn has_bytes(name: &[u8], class: &ClassFile) -> bool
     ensures { result ≡ has_name name.now class.now }
 {
     match class.pool.class_name(class.this_class) {
@@ -126,5 +127,15 @@ pub fn super_of(program: &Program, class: u32) -> Option<u32>
     match found.pool.class_name(found.super_class) {
         Ok(name) => class_named(program, name),
         Err(_) => None,
+    }
+}
+
+/// The position of the main class: that of the method `main`.
+pub fn main_class(program: &Program) -> u32
+    ensures { result ≡ main_class program.now }
+{
+    match program.methods.get(program.main as usize) {
+        Some(place) => place.class,
+        None => 0,
     }
 }

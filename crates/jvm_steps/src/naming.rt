@@ -23,7 +23,7 @@ use std::alloc::Global;
 // ---- names
 
 /// The same text.
-fn copy_of(alloc: Global, text: &Text16) -> Result<Text16, NoMemory>
+pub fn copy_of(alloc: Global, text: &Text16) -> Result<Text16, NoMemory>
     ensures { IfOk result (λ copy. copy ≡ text.now) }
 {
     Ok(Text16::new(Vec::from_slice(alloc, text.units())?))

@@ -1,19 +1,33 @@
 //! The original code of a program, prepared: what stands at each offset is looked up once, and is
 //! found by its offset from then on.
 
-ghost use Rattle.std.specs.Prelude.{◌≡◌, ◌<◌, ◌^◌, length, IfOk};
-ghost use Rattle.std.specs.Option.{option_copied, IfSome};
+ghost use Rattle.std.specs.Prelude.{◌≡◌, ◌<◌, ◌^◌, ◌++◌, length, slice_get, IfOk, OnOk};
+ghost use Rattle.std.specs.Option.{option_and_then, option_copied, IfSome};
+ghost use Rattle.class_linker.specs.Linkers.{IsLoaded};
 ghost use Rattle.jvm_model.specs.Families.{family_of};
+ghost use Rattle.jvm_model.specs.KindNumbers.{user_count};
+ghost use Rattle.jvm_model.specs.Load.{load_of};
+ghost use Rattle.jvm_model.specs.Naming.{resolved_kind};
 ghost use Rattle.jvm_model.specs.Programs.{max_stack_of, max_locals_of, params_of_method};
-ghost use Rattle.jvm_model.specs.SharedState.{kind_for, string};
-ghost use Rattle.jvm_steps.specs.Lines.{line_at};
-ghost use Rattle.jvm_steps.specs.Prepared.{FitsOriginals, exception_kind};
+ghost use Rattle.jvm_model.specs.SharedState.{built_in_from, kind_for, string};
+ghost use Rattle.jvm_named.specs.Answers.{Answers, Moves, Shares, found_view, wrote_by};
+ghost use Rattle.jvm_named.specs.Attempts.{attempts, loaded_for};
+ghost use Rattle.jvm_named.specs.BuiltInCalls.{HasBuiltIn};
+ghost use Rattle.jvm_named.specs.Numbers.{AreNumbers};
+ghost use Rattle.jvm_named.specs.Objects.{AreLoaded, HasDimensions, HasLoadedCaller};
+ghost use Rattle.jvm_steps.specs.Lines.{IfNamed, IfNamedBy, line_at};
+ghost use Rattle.jvm_steps.specs.Linked.{linker_in};
+ghost use Rattle.jvm_steps.specs.Prepared.{FitsOriginals, exception_kind, line_in, main_name};
 
-use crate::line::Line;
+use crate::line::{Action, Line};
+use crate::loading::{link_main, load_built_in, main_name};
 use crate::preparing::{exceptions_of, prepare_methods};
+use class_linker::Linker;
 use const_pool::Kind;
+use frame_stack::Frames;
 use jf_bytes::{NoMemory, Seq};
-use jvm_model::Program;
+use jvm_model::{Program, Shared};
+use jvm_named::{Asked, MethodNumbers, Refusal, attempt, resolve};
 use std::alloc::Global;
 use std::marker::Model;
 
@@ -29,63 +43,131 @@ pub struct Method {
 /// An exception that an instruction raises.
 #[derive(Clone, Copy, Debug, PartialEq, Eq)]
 pub enum Exception {
+    AbstractMethod,
     Arithmetic,
     ArrayStore,
+    ClassCast,
+    ClassCircularity,
+    IncompatibleClassChange,
     InInitializer,
     IndexOutside,
+    Instantiation,
     NegativeArraySize,
     NoClassDefinition,
+    NoSuchField,
     NoSuchMethod,
     NullPointer,
     StackOverflow,
+    UnsatisfiedLink,
 }
 
 /// The kinds of their classes, and of the texts of their messages.
 #[derive(Clone, Copy, Debug, PartialEq, Eq)]
 pub struct Exceptions {
+    pub abstract_method: u32,
     pub arithmetic: u32,
     pub array_store: u32,
+    pub class_cast: u32,
+    pub class_circularity: u32,
+    pub incompatible_change: u32,
     pub in_initializer: u32,
     pub index_outside: u32,
+    pub instantiation: u32,
     pub negative_array_size: u32,
     pub no_class_definition: u32,
+    pub no_such_field: u32,
     pub no_such_method: u32,
     pub null_pointer: u32,
     pub stack_overflow: u32,
+    pub unsatisfied_link: u32,
     pub string: u32,
 }
 
-/// A program on an input, with its original code prepared. A clause sees the program and the input.
+/// A program on an input, with its original code prepared, its linker and the numbers of its methods. A clause sees the program, the
+/// input and the loaded classes.
 #[derive(Drop)]
 pub struct Originals {
-    program: Program,
+    linker: Linker,
+    numbers: MethodNumbers,
     input: Seq<u8>,
     methods: Seq<Method>,
     exceptions: Exceptions,
 }
 
 impl Model for Originals {
-    ghost use Rattle.jvm_model.specs.Data.{World};
-    ghost use Rattle.jvm_steps.specs.Prepared.{IsPrepared};
+    ghost use Rattle.jvm_steps.specs.Linked.{Linked};
+    ghost use Rattle.jvm_steps.specs.Prepared.{IsPrepared, world_in};
 
-    ghost Value = { World };
+    ghost Value = { Linked };
 
-    ghost view = { λ o. record { program = o.program; input = o.input } };
+    ghost view = { λ o. record { world = world_in o.linker.program o.input; loaded = o.linker.loaded } };
 
-    ghost invariant = { λ o. IsPrepared o.program o.methods o.exceptions };
+    ghost invariant = { λ o. IsPrepared o.linker.program o.methods o.exceptions o.numbers };
+}
+
+/// The line at an offset of a method's code, by two look-ups.
+fn line_in(methods: &Seq<Method>, method: usize, place: u16) -> Option<&Line>
+    ensures { option_copied result ≡ option_and_then (line_in place) (slice_get methods.now method) }
+{
+    methods.get(method)?.lines.get(place as usize)?.as_ref()
+}
+
+/// Attempts a line that names something; another one does nothing.
+fn attempt_line(
+    alloc: Global,
+    linker: &mut Linker,
+    numbers: &MethodNumbers,
+    line: &Line,
+    shared: &mut Shared,
+    frames: &mut Frames,
+    output: &mut Seq<u8>,
+) -> Result<Asked, NoMemory>
+    requires linked { linker.old.loaded ≡ shared.old.loaded }
+    requires numbers { AreNumbers linker.old.program numbers.now }
+    requires built_in { HasBuiltIn linker.old }
+    requires objects { AreLoaded linker.old shared.old.heap }
+    requires caller { IfNamedBy line.now.action line.now.next
+        (λ n next. HasLoadedCaller linker.old n) }
+    requires dimensions { IfNamedBy line.now.action line.now.next (λ n next. HasDimensions n) }
+    ensures answer { IfNamedBy line.now.action line.now.next (λ n next.
+        Answers result (attempts linker.old.program n shared.old frames.old) frames.old) }
+    ensures frames { IfNamedBy line.now.action line.now.next (λ n next.
+        Moves result frames.new (attempts linker.old.program n shared.old frames.old) next
+        frames.old) }
+    ensures shared { IfNamedBy line.now.action line.now.next (λ n next.
+        Shares result shared.new (attempts linker.old.program n shared.old frames.old) frames.old) }
+    ensures output { IfNamedBy line.now.action line.now.next (λ n next. OnOk result (output.new
+        ≡ output.old ++ wrote_by (attempts linker.old.program n shared.old frames.old) frames.old)) }
+    ensures loaded { IfNamedBy line.now.action line.now.next (λ n next. OnOk result
+        (linker.new.loaded ≡ loaded_for linker.old.program n shared.old frames.old)) }
+    ensures built_in { OnOk result (HasBuiltIn linker.new) }
+    ensures objects { OnOk result (AreLoaded linker.new shared.new.heap) }
+    ensures program { linker.new.program ≡ linker.old.program }
+{
+    match &line.action {
+        Action::Named(naming) => attempt(
+            alloc, linker, numbers, shared, frames, output, naming, line.next,
+        ),
+        _ => Ok(Asked::Refused(Refusal::Breaks)),
+    }
 }
 
 impl Originals {
-    /// Prepares a program: each offset of each code is looked up once.
+    /// Prepares a program: each offset of each code is looked up once, and the built-in classes are loaded.
     pub fn new(alloc: Global, program: Program, input: Seq<u8>) -> Result<Originals, NoMemory>
         requires { FitsOriginals program }
-        ensures program { IfOk result (λ o. o.program ≡ program) }
-        ensures input { IfOk result (λ o. o.input ≡ input) }
+        ensures program { IfOk result (λ o. o.world.program ≡ program) }
+        ensures input { IfOk result (λ o. o.world.input ≡ input) }
+        ensures loaded { IfOk result (λ o. o.loaded ≡ built_in_from 0 program.classes) }
     {
         let methods = prepare_methods(alloc, &program)?;
         let exceptions = exceptions_of(&program);
+        let numbers = MethodNumbers::new(alloc, &program)?;
+        let mut linker = Linker::new(alloc, program)?;
+        load_built_in(alloc, &mut linker)?;
         Ok(Originals {
-            program,
+            linker,
+            numbers,
             input,
             methods,
             exceptions,
@@ -94,28 +176,38 @@ impl Originals {
 
     /// The program that it was made of.
     pub fn program(&self) -> &Program
-        ensures program { result.now ≡ self.now.program }
+        ensures program { result.now ≡ self.now.world.program }
         ensures few { length result.now.classes < 2 ^ 24 }
         ensures numbered { length result.now.methods < 2 ^ 32 }
     {
-        &self.program
+        self.linker.program()
+    }
+
+    /// Its linker.
+    pub fn linker(&self) -> &Linker
+        ensures { result.now ≡ linker_in self.now }
+    {
+        &self.linker
+    }
+
+    /// The numbers of its methods.
+    pub fn numbers(&self) -> &MethodNumbers
+        ensures { AreNumbers self.now.world.program result.now }
+    {
+        &self.numbers
     }
 
     /// The line at an offset of a method's code, by two look-ups.
     pub fn line(&self, method: usize, place: u16) -> Option<&Line>
-        ensures line { option_copied result ≡ line_at self.now.program method place }
+        ensures line { option_copied result ≡ line_at self.now.world.program method place }
         ensures family { IfSome result (λ l. l.now.family ≡ family_of l.now.instr.op) }
     {
-        self.methods
-            .get(method)?
-            .lines
-            .get(place as usize)?
-            .as_ref()
+        line_in(&self.methods, method, place)
     }
 
     /// The greatest depth of a method's operands; 0 where it has no code.
     pub fn max_stack(&self, method: u32) -> u16
-        ensures { result ≡ max_stack_of self.now method }
+        ensures { result ≡ max_stack_of self.now.world method }
     {
         match self.methods.get(method as usize) {
             Some(method) => method.max_stack,
@@ -125,7 +217,7 @@ impl Originals {
 
     /// The number of a method's locals; 0 where it has no code.
     pub fn max_locals(&self, method: u32) -> u16
-        ensures { result ≡ max_locals_of self.now method }
+        ensures { result ≡ max_locals_of self.now.world method }
     {
         match self.methods.get(method as usize) {
             Some(method) => method.max_locals,
@@ -135,32 +227,113 @@ impl Originals {
 
     /// What a method takes, where it has a method descriptor.
     pub fn params(&self, method: u32) -> Option<&Seq<Kind>>
-        ensures { option_copied result ≡ params_of_method self.now.program method }
+        ensures { option_copied result ≡ params_of_method self.now.world.program method }
     {
         self.methods.get(method as usize)?.params.as_ref()
     }
 
     /// The kind of an exception's class.
     pub fn kind_of(&self, exception: Exception) -> u32
-        ensures { result ≡ exception_kind self.now.program exception }
+        ensures { result ≡ exception_kind self.now.world.program exception }
     {
         match exception {
+            Exception::AbstractMethod => self.exceptions.abstract_method,
             Exception::Arithmetic => self.exceptions.arithmetic,
             Exception::ArrayStore => self.exceptions.array_store,
+            Exception::ClassCast => self.exceptions.class_cast,
+            Exception::ClassCircularity => self.exceptions.class_circularity,
+            Exception::IncompatibleClassChange => self.exceptions.incompatible_change,
             Exception::InInitializer => self.exceptions.in_initializer,
             Exception::IndexOutside => self.exceptions.index_outside,
+            Exception::Instantiation => self.exceptions.instantiation,
             Exception::NegativeArraySize => self.exceptions.negative_array_size,
             Exception::NoClassDefinition => self.exceptions.no_class_definition,
+            Exception::NoSuchField => self.exceptions.no_such_field,
             Exception::NoSuchMethod => self.exceptions.no_such_method,
             Exception::NullPointer => self.exceptions.null_pointer,
             Exception::StackOverflow => self.exceptions.stack_overflow,
+            Exception::UnsatisfiedLink => self.exceptions.unsatisfied_link,
         }
     }
 
     /// The kind of texts.
     pub fn string_kind(&self) -> u32
-        ensures { result ≡ kind_for self.now.program string }
+        ensures { result ≡ kind_for self.now.world.program string }
     {
         self.exceptions.string
+    }
+    // ---- loading
+
+    /// Loads the main class by its name, with what it needs, and gives its kind, or what its fault raises. What was loaded before a
+    /// fault stays loaded.
+    pub fn load_main(
+        &mut self,
+        alloc: Global,
+        loaded: &mut Seq<u32>,
+    ) -> Result<Result<u32, Refusal>, NoMemory>
+        requires linked { self.old.loaded ≡ loaded.old }
+        requires root { IsLoaded (linker_in self.old) (user_count self.old.world.program) }
+        ensures found { let p = self.old.world.program in IfOk result
+            (λ r. found_view r ≡ resolved_kind p self.old.loaded (main_name p)) }
+        ensures loaded { let p = self.old.world.program in OnOk result
+            (loaded.new ≡ (load_of p self.old.loaded (main_name p)).loaded) }
+        ensures linked { OnOk result (self.new.loaded ≡ loaded.new) }
+        ensures world { self.new.world ≡ self.old.world }
+    {
+        let name = main_name(alloc, self.linker.program())?;
+        resolve(&mut self.linker, loaded, &name)
+    }
+
+    /// Loads the main class, where nothing but the linker asks for it.
+    pub fn link_main(&mut self, alloc: Global) -> Result<(), NoMemory>
+        ensures loaded { let p = self.old.world.program in OnOk result
+            (self.new.loaded ≡ (load_of p self.old.loaded (main_name p)).loaded) }
+        ensures world { self.new.world ≡ self.old.world }
+    {
+        link_main(alloc, &mut self.linker)
+    }
+
+    /// Attempts the line at an offset of a method's code, where it names something. Where it doesn't nothing is done.
+    pub fn attempt_named(
+        &mut self,
+        alloc: Global,
+        method: usize,
+        place: u16,
+        shared: &mut Shared,
+        frames: &mut Frames,
+        output: &mut Seq<u8>,
+    ) -> Result<Asked, NoMemory>
+        requires linked { self.old.loaded ≡ shared.old.loaded }
+        requires built_in { HasBuiltIn (linker_in self.old) }
+        requires objects { AreLoaded (linker_in self.old) shared.old.heap }
+        requires caller { IfNamed (line_at self.old.world.program method place)
+            (λ n next. HasLoadedCaller (linker_in self.old) n) }
+        ensures answer { let p = self.old.world.program in IfNamed (line_at p method place)
+            (λ n next. Answers result (attempts p n shared.old frames.old) frames.old) }
+        ensures frames { let p = self.old.world.program in IfNamed (line_at p method place)
+            (λ n next. Moves result frames.new (attempts p n shared.old frames.old) next frames.old) }
+        ensures shared { let p = self.old.world.program in IfNamed (line_at p method place)
+            (λ n next. Shares result shared.new (attempts p n shared.old frames.old) frames.old) }
+        ensures output { let p = self.old.world.program in IfNamed (line_at p method place)
+            (λ n next. OnOk result (output.new
+            ≡ output.old ++ wrote_by (attempts p n shared.old frames.old) frames.old)) }
+        ensures loaded { let p = self.old.world.program in IfNamed (line_at p method place)
+            (λ n next. OnOk result (self.new.loaded ≡ loaded_for p n shared.old frames.old)) }
+        ensures built_in { OnOk result (HasBuiltIn (linker_in self.new)) }
+        ensures objects { OnOk result (AreLoaded (linker_in self.new) shared.new.heap) }
+        ensures world { self.new.world ≡ self.old.world }
+    {
+        let Some(line) = line_in(&self.methods, method, place) else {
+            return Ok(Asked::Refused(Refusal::Breaks));
+        };
+        attempt_line(
+            alloc,
+            &mut self.linker,
+            &self.numbers,
+            line,
+            shared,
+            frames,
+            output,
+        )
     }
 }

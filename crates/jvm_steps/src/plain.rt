@@ -17,7 +17,7 @@ use jvm_basic::{Effect, basic_by};
 
 /// The line at which the current frame stands, where the frame does it by itself.
 fn plain_line<'a>(originals: &'a Originals, frames: &Frames) -> Option<&'a Line>
-    ensures line { IfSome result (λ l. IsPlainLine originals.now frames.now.frames l.now) }
+    ensures line { IfSome result (λ l. IsPlainLine originals.now.world frames.now.frames l.now) }
     ensures family { IfSome result (λ l. l.now.family ≡ family_of l.now.instr.op) }
 {
     let here = where_now(frames)?;
@@ -46,7 +46,7 @@ fn pass_line(line: &Line, frames: &mut Frames) -> bool
 /// A step, where the current frame does it by itself; else nothing has changed.
 fn plain_step(originals: &Originals, frames: &mut Frames) -> bool
     ensures gone { result ≡ true
-        → LeadsPlainly originals.now frames.old.frames 1 frames.new.frames }
+        → LeadsPlainly originals.now.world frames.old.frames 1 frames.new.frames }
     ensures kept { result ≡ false → frames.new ≡ frames.old }
 {
     match plain_line(originals, frames) {
@@ -58,7 +58,7 @@ fn plain_step(originals: &Originals, frames: &mut Frames) -> bool
 /// Steps that the current frame does by itself, at most so many: how many it has made.
 pub fn plain_steps(originals: &Originals, frames: &mut Frames, most: u64) -> u64
     ensures within { result ≤ most }
-    ensures made { LeadsPlainly originals.now frames.old.frames result frames.new.frames }
+    ensures made { LeadsPlainly originals.now.world frames.old.frames result frames.new.frames }
 {
     for made in 0..most {
         if !plain_step(originals, frames) {

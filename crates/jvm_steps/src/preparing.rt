@@ -129,20 +129,27 @@ pub fn prepare_methods(alloc: Global, program: &Program) -> Result<Seq<Method>, 
 
 /// The kinds of the exceptions that instructions raise, and of texts.
 pub fn exceptions_of(program: &Program) -> Exceptions
-    requires { FitsOriginals program.now }
+    requires { length program.now.classes < 2 ^ 24 }
     ensures raised { (e : TheException) → exception_in result e ≡ exception_kind program.now e }
     ensures string { result.string ≡ kind_for program.now string }
 {
     Exceptions {
+        abstract_method: kind_for(program, b"java/lang/AbstractMethodError"),
         arithmetic: kind_for(program, b"java/lang/ArithmeticException"),
         array_store: kind_for(program, b"java/lang/ArrayStoreException"),
+        class_cast: kind_for(program, b"java/lang/ClassCastException"),
+        class_circularity: kind_for(program, b"java/lang/ClassCircularityError"),
+        incompatible_change: kind_for(program, b"java/lang/IncompatibleClassChangeError"),
         in_initializer: kind_for(program, b"java/lang/ExceptionInInitializerError"),
         index_outside: kind_for(program, b"java/lang/ArrayIndexOutOfBoundsException"),
+        instantiation: kind_for(program, b"java/lang/InstantiationError"),
         negative_array_size: kind_for(program, b"java/lang/NegativeArraySizeException"),
         no_class_definition: kind_for(program, b"java/lang/NoClassDefFoundError"),
+        no_such_field: kind_for(program, b"java/lang/NoSuchFieldError"),
         no_such_method: kind_for(program, b"java/lang/NoSuchMethodError"),
         null_pointer: kind_for(program, b"java/lang/NullPointerException"),
         stack_overflow: kind_for(program, b"java/lang/StackOverflowError"),
+        unsatisfied_link: kind_for(program, b"java/lang/UnsatisfiedLinkError"),
         string: kind_for(program, b"java/lang/String"),
     }
 }

@@ -5,9 +5,10 @@ ghost use Rattle.heap_objects.specs.Heaps.{next_number, with_text};
 ghost use Rattle.jvm_steps.specs.Acts.{ended, ended_unless, raising};
 ghost use Rattle.jvm_steps.specs.Raising.{heap_made, heap_with_both, reference_made};
 ghost use Rattle.jvm_steps.specs.Raising.{reference_of_both, with_both};
+ghost use Rattle.jvm_steps.specs.Settling.{own_of};
 
 use crate::originals::{Exception, Originals};
-use crate::parts::Parts;
+use crate::parts::{Here, Parts};
 use heap_objects::{Datum, Heap, HeapError};
 use jf_bytes::NoMemory;
 use jvm_basic::Effect;
@@ -31,6 +32,24 @@ pub fn end_unless(parts: &mut Parts, method: u32, own: u16, effect: Effect)
         Effect::Next => {}
         Effect::Bad | Effect::Other | Effect::Throws(_) => break_off(parts, method, own),
     }
+}
+
+/// The offset of the instruction at which a frame stands; 0 where there is none.
+pub fn own_of(originals: &Originals, here: Here) -> u16
+    ensures { result ≡ own_of originals.now.world here }
+{
+    match originals.line(here.version, here.place) {
+        Some(line) => line.instr.at,
+        None => 0,
+    }
+}
+
+/// Ends the run at the line at which the current frame stands.
+pub fn break_at(originals: &Originals, parts: &mut Parts, here: Here)
+    ensures { parts.new ≡ ended here.method (own_of originals.now.world here) parts.old }
+{
+    let own = own_of(originals, here);
+    break_off(parts, here.method, own);
 }
 
 /// Makes an exception of this kind without a message, with this cause, and gives its number.
@@ -72,7 +91,7 @@ fn make_with(heap: &mut Heap, string: u32, kind: u32, message: &[u16]) -> Result
 
 /// Throws an exception that the machine makes, without a message.
 pub fn raise(originals: &Originals, parts: &mut Parts, exception: Exception) -> Result<(), NoMemory>
-    ensures { OnOk result (parts.new ≡ raising originals.now exception None parts.old) }
+    ensures { OnOk result (parts.new ≡ raising originals.now.world exception None parts.old) }
 {
     let kind = originals.kind_of(exception);
     let thrown = make(&mut parts.shared.heap, kind, 0)?;
@@ -88,7 +107,7 @@ pub fn raise_with(
     message: &[u16],
 ) -> Result<(), NoMemory>
     ensures { let told = Some message.now in
-        OnOk result (parts.new ≡ raising originals.now exception told parts.old) }
+        OnOk result (parts.new ≡ raising originals.now.world exception told parts.old) }
 {
     let string = originals.string_kind();
     let kind = originals.kind_of(exception);

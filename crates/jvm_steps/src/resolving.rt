@@ -1,6 +1,7 @@
 //! What an instruction does, with the names that it gives (JVM Specification 6.5).
 
 ghost use Rattle.std.specs.Prelude.{◌≡◌, ◌<◌, ◌^◌, IfOk};
+ghost use Rattle.std.specs.Int.{is_in_range};
 ghost use Rattle.std.specs.Option.{option_map};
 ghost use Rattle.code_model.specs.Instructions.{end_of};
 ghost use Rattle.jvm_model.specs.Lines.{constant_in, local_of, number_of};
@@ -89,13 +90,21 @@ fn local_action(family: Family, pool: &Pool, arg: &Arg) -> Option<Action>
     }
 }
 
+/// Whether newarray makes arrays of elements with this code: those of the eight primitive types.
+fn is_primitive(code: u8) -> bool
+    ensures { result ≡ is_in_range 4 11 code }
+{
+    code >= 4 && code <= 11
+}
+
 /// newarray, with the kind of its array.
 fn newarray(op: u8, code: u8) -> Option<Action>
     ensures { result ≡ option_map action_of (newarray_of op code) }
 {
-    match op {
-        188 => Some(Action::Newarray(ARRAY + code as u32)),
-        _ => None,
+    if op == 188 && is_primitive(code) {
+        Some(Action::Newarray(ARRAY + code as u32))
+    } else {
+        None
     }
 }
 

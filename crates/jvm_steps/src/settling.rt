@@ -9,7 +9,7 @@ ghost use Rattle.jvm_model.specs.Originals.{original};
 ghost use Rattle.jvm_steps.specs.Initializing.{after_marker};
 ghost use Rattle.jvm_steps.specs.Markers.{state_of};
 ghost use Rattle.jvm_steps.specs.States.{active, here_of, state_in};
-ghost use Rattle.jvm_steps.specs.Settling.{emptied, fits_alone, with_alone, own_of};
+ghost use Rattle.jvm_steps.specs.Settling.{emptied, fits_alone, with_alone};
 ghost use Rattle.jvm_steps.specs.Settling.{after_move, caught_at, caught_top, main_entries};
 
 use crate::handlers::{class_of, handler_for};
@@ -17,10 +17,12 @@ use crate::initializing::{fail, go_on};
 use crate::markers::{Marker, take_marker};
 use crate::originals::Originals;
 use crate::parts::{Here, Parts, where_now};
+use crate::raising::break_at;
 use frame_stack::Frames;
 use heap_objects::Value;
 use jf_bytes::{NoMemory, Stack};
 use jvm_model::Ending;
+use std::alloc::Global;
 
 /// The argument array's object.
 const ARGUMENTS: u32 = 5;
@@ -45,27 +47,17 @@ fn put_alone(frames: &mut Frames, object: u32) -> bool
     frames.push(Value::Ref(object))
 }
 
-/// The offset of the instruction at which a frame stands; 0 where there is none.
-fn own_of(originals: &Originals, here: Here) -> u16
-    ensures { result ≡ own_of originals.now here }
-{
-    match originals.line(here.version, here.place) {
-        Some(line) => line.instr.at,
-        None => 0,
-    }
-}
-
 /// The current frame goes on at a handler, with the object that was thrown alone on its operands.
 fn go_to_handler(originals: &Originals, parts: &mut Parts, object: u32, here: Here, target: u16)
     requires { here_of parts.old.frames.frames ≡ Some here }
     ensures state { state_in parts.new ≡
-        caught_at originals.now object target parts.old.frames.frames parts.old }
+        caught_at originals.now.world object target parts.old.frames.frames parts.old }
 {
     parts.thrown = None;
     if put_alone(&mut parts.frames, object) {
         parts.frames.go(target);
     } else {
-        parts.ending = Some(Ending::Unverifiable(here.method, own_of(originals, here)));
+        break_at(originals, parts, here);
     }
 }
 
@@ -73,7 +65,7 @@ fn go_to_handler(originals: &Originals, parts: &mut Parts, object: u32, here: He
 fn meet_frame(originals: &Originals, parts: &mut Parts, object: u32, here: Here)
     requires { here_of parts.old.frames.frames ≡ Some here }
     ensures state { state_in parts.new ≡
-        caught_top originals.now object parts.old.frames.frames parts.old }
+        caught_top originals.now.world object parts.old.frames.frames parts.old }
 {
     let class = class_of(originals.program(), &parts.shared.heap, object) as usize;
     match handler_for(originals, here.version, class, here.place) {
@@ -89,7 +81,7 @@ fn meet_frame(originals: &Originals, parts: &mut Parts, object: u32, here: Here)
 fn meet_throw(originals: &Originals, parts: &mut Parts, object: u32)
     requires ending { parts.old.ending ≡ None }
     requires thrown { parts.old.thrown ≡ Some object }
-    ensures state { state_in parts.new ≡ after_move originals.now (state_in parts.old) }
+    ensures state { state_in parts.new ≡ after_move originals.now.world (state_in parts.old) }
 {
     match where_now(&parts.frames) {
         Some(here) => meet_frame(originals, parts, object, here),
@@ -106,10 +98,10 @@ fn meet_throw(originals: &Originals, parts: &mut Parts, object: u32)
 /// The frame of `main`, which has its argument array, if it has a local for it.
 fn begin_frame(originals: &Originals, frames: &mut Frames, main: u32) -> Result<bool, NoMemory>
     requires none { frames.old.frames ≡ [] }
-    requires main { main ≡ originals.now.program.main }
-    ensures answer { IfOk result (λ b. b ≡ has_room originals.now main argument_array) }
+    requires main { main ≡ originals.now.world.program.main }
+    ensures answer { IfOk result (λ b. b ≡ has_room originals.now.world main argument_array) }
     ensures frames { IfOk result (λ b.
-        map active frames.new.frames ≡ main_entries b originals.now) }
+        map active frames.new.frames ≡ main_entries b originals.now.world) }
 {
     let max_locals = originals.max_locals(main);
     let max_stack = originals.max_stack(main);
@@ -125,7 +117,7 @@ fn begin_frame(originals: &Originals, frames: &mut Frames, main: u32) -> Result<
 /// `main` begins, or the run ends where it has no local for its argument.
 fn begin_main(originals: &Originals, parts: &mut Parts) -> Result<(), NoMemory>
     requires { parts.old.frames.frames ≡ [] }
-    ensures state { let w = originals.now in OnOk result (state_in parts.new ≡
+    ensures state { let w = originals.now.world in OnOk result (state_in parts.new ≡
         (main_or_end w (original w.program) (state_in parts.old) false).after) }
 {
     let main = originals.program().main;
@@ -140,7 +132,7 @@ fn begin_main(originals: &Originals, parts: &mut Parts) -> Result<(), NoMemory>
 /// With nothing thrown and no frame left the run has returned, or `main` begins.
 fn begin_or_end(originals: &Originals, parts: &mut Parts) -> Result<(), NoMemory>
     requires { parts.old.frames.frames ≡ [] }
-    ensures state { let w = originals.now in OnOk result (state_in parts.new ≡
+    ensures state { let w = originals.now.world in OnOk result (state_in parts.new ≡
         (main_or_end w (original w.program) (state_in parts.old) parts.old.begun).after) }
 {
     if !parts.begun {
@@ -155,10 +147,10 @@ fn begin_or_end(originals: &Originals, parts: &mut Parts) -> Result<(), NoMemory
 /// A move of the frames, where no marker stands on the current one. False, with nothing changed,
 /// where none applies.
 fn move_frame(originals: &Originals, parts: &mut Parts) -> Result<bool, NoMemory>
-    ensures answer { let w = originals.now in
+    ensures answer { let w = originals.now.world in
         IfOk result (λ b. b ≡ is_some (move w (original w.program) (state_in parts.old))) }
     ensures state { OnOk result
-        (state_in parts.new ≡ after_move originals.now (state_in parts.old)) }
+        (state_in parts.new ≡ after_move originals.now.world (state_in parts.old)) }
 {
     if parts.ending.is_some() {
         return Ok(false);
@@ -176,31 +168,33 @@ fn move_frame(originals: &Originals, parts: &mut Parts) -> Result<bool, NoMemory
 
 /// A throw meets the initialization of a class, or it goes on, after its marker was taken off.
 fn move_marker(
+    alloc: Global,
     originals: &Originals,
     parts: &mut Parts,
     markers: &mut Stack<Marker>,
     marker: Marker,
 ) -> Result<(), NoMemory>
     ensures { OnOk result (state_of markers.new parts.new
-        ≡ after_marker originals.now (state_of markers.old parts.old) parts.old.thrown
+        ≡ after_marker originals.now.world (state_of markers.old parts.old) parts.old.thrown
         marker.class marker.part) }
 {
     match parts.thrown {
         Some(object) => fail(originals, parts, marker.class, object),
-        None => go_on(originals, parts, markers, marker.class, marker.part),
+        None => go_on(alloc, originals, parts, markers, marker.class, marker.part),
     }
 }
 
 /// Makes a move. False, with nothing changed, where none applies.
 fn make_move(
+    alloc: Global,
     originals: &Originals,
     parts: &mut Parts,
     markers: &mut Stack<Marker>,
 ) -> Result<bool, NoMemory>
-    ensures answer { let w = originals.now in IfOk result (λ b.
+    ensures answer { let w = originals.now.world in IfOk result (λ b.
         b ≡ is_some (move w (original w.program) (state_of markers.old parts.old))) }
     ensures state { OnOk result (state_of markers.new parts.new
-        ≡ after_move originals.now (state_of markers.old parts.old)) }
+        ≡ after_move originals.now.world (state_of markers.old parts.old)) }
 {
     if parts.ending.is_some() {
         return Ok(false);
@@ -208,20 +202,21 @@ fn make_move(
     let Some(marker) = take_marker(parts, markers) else {
         return move_frame(originals, parts);
     };
-    move_marker(originals, parts, markers, marker)?;
+    move_marker(alloc, originals, parts, markers, marker)?;
     Ok(true)
 }
 
 /// Makes all moves, up to where none applies.
 pub fn settle(
+    alloc: Global,
     originals: &Originals,
     parts: &mut Parts,
     markers: &mut Stack<Marker>,
 ) -> Result<(), NoMemory>
-    ensures { let w = originals.now in
+    ensures { let w = originals.now.world in
         let turn = still (state_of markers.old parts.old) in OnOk result
         (state_of markers.new parts.new ≡ (settled w (original w.program) turn).after) }
 {
-    while make_move(originals, parts, markers)? {}
+    while make_move(alloc, originals, parts, markers)? {}
     Ok(())
 }

@@ -1,9 +1,10 @@
 //! The state before the start, in which the built-in classes are loaded and ready, and the start (JVM Specification 5.2, 5.3, 5.5).
 
 ghost use Rattle.std.specs.Prelude.{◌≡◌, ◌<◌, ◌≤◌, ◌^◌, [], IfOk, OnOk, length, map, unwrap_or};
+ghost use Rattle.std.specs.Option.{option_and_then};
 ghost use Rattle.const_pool.specs.References.{named_text};
-ghost use Rattle.jvm_model.specs.Programs.{has_built_in_name};
-ghost use Rattle.jvm_model.specs.SharedState.{built_in_from, phase_before, shared_before, zero_for, zeros};
+ghost use Rattle.jvm_model.specs.SharedState.{built_in_from, phase_before, shared_before, static_zeros};
+ghost use Rattle.jvm_model.specs.SharedState.{system_static, system_stream, zero_for, zeros};
 ghost use Rattle.jvm_model.specs.Originals.{original};
 ghost use Rattle.jvm_model.specs.Run.{main_class, start, starts_with};
 ghost use Rattle.jvm_model.specs.Starting.{ready_in};
@@ -12,16 +13,17 @@ ghost use Rattle.jvm_steps.specs.Markers.{state_of};
 ghost use Rattle.jvm_steps.specs.States.{state_in};
 
 use crate::initializing::{initialize, set_phase};
+use crate::loading::has_built_in_name;
+use crate::lookup::{has_bytes, main_class};
 use crate::markers::Marker;
 use crate::objects::{heap_before, make_arguments};
 use crate::originals::Originals;
 use crate::parts::Parts;
 use crate::settling::settle;
-use base_classes::is_built_in;
 use const_pool::{ClassFile, Member, Pool};
 use frame_stack::Frames;
 use heap_objects::Datum;
-use jf_bytes::{NoMemory, Seq, Stack};
+use jf_bytes::{NoMemory, Seq, Stack, Text16};
 use jvm_model::{Phase, Program, Shared};
 use std::alloc::Global;
 
@@ -31,16 +33,6 @@ const LONG: u16 = 74;
 const CLASS: u16 = 76;
 
 const ARRAY: u16 = 91;
-
-/// Whether a class has the name of a built-in one.
-fn has_built_in_name(class: &ClassFile) -> bool
-    ensures { result ≡ has_built_in_name class.now }
-{
-    match class.pool.class_name(class.this_class) {
-        Ok(name) => is_built_in(name),
-        Err(_) => false,
-    }
-}
 
 /// The phase of a class before the start.
 fn phase_of(class: &ClassFile) -> Phase
@@ -100,7 +92,7 @@ fn zero_in(pool: &Pool, field: &Member) -> Datum
 }
 
 /// The first values of a class's fields.
-fn zeros_of(alloc: Global, class: &ClassFile) -> Result<Seq<Datum>, NoMemory>
+fn zeros(alloc: Global, class: &ClassFile) -> Result<Seq<Datum>, NoMemory>
     ensures { IfOk result (λ values. values ≡ zeros class.now) }
 {
     let mut values = Seq::with_capacity(alloc, class.fields.len())?;
@@ -110,13 +102,70 @@ fn zeros_of(alloc: Global, class: &ClassFile) -> Result<Seq<Datum>, NoMemory>
     Ok(values)
 }
 
+/// The object that a field of java/lang/System with this name holds: 2, 3 or 4.
+fn system_stream(name: &Text16) -> Option<u32>
+    ensures { result ≡ system_stream name.now }
+{
+    if name.is_bytes(b"in") {
+        Some(2)
+    } else if name.is_bytes(b"out") {
+        Some(3)
+    } else if name.is_bytes(b"err") {
+        Some(4)
+    } else {
+        None
+    }
+}
+
+/// The stream that a field of java/lang/System holds, if it holds one.
+fn stream_in(pool: &Pool, field: &Member) -> Option<u32>
+    ensures { result ≡ option_and_then system_stream (named_text pool.now field.now.name) }
+{
+    match pool.text(field.name) {
+        Ok(name) => system_stream(name),
+        Err(_) => None,
+    }
+}
+
+/// The first value of a field of java/lang/System.
+fn system_static(class: &ClassFile, field: &Member) -> Datum
+    ensures { result ≡ system_static class.now field.now }
+{
+    match stream_in(&class.pool, field) {
+        Some(object) => Datum::Ref(object),
+        None => zero_in(&class.pool, field),
+    }
+}
+
+/// The first values of the fields of java/lang/System.
+fn system_statics(alloc: Global, class: &ClassFile) -> Result<Seq<Datum>, NoMemory>
+    ensures { IfOk result (λ values. values ≡ map (system_static class.now) class.now.fields) }
+{
+    let mut values = Seq::with_capacity(alloc, class.fields.len())?;
+    for field in class.fields.as_slice() {
+        values.push(system_static(class, field))?;
+    }
+    Ok(values)
+}
+
+/// The first values of a class's static fields; every field has a place for one.
+fn static_zeros(alloc: Global, class: &ClassFile) -> Result<Seq<Datum>, NoMemory>
+    ensures { IfOk result (λ values. values ≡ static_zeros class.now) }
+{
+    if has_bytes(b"java/lang/System", class) {
+        system_statics(alloc, class)
+    } else {
+        zeros(alloc, class)
+    }
+}
+
 /// Those of all classes.
 fn statics_of(alloc: Global, classes: &[ClassFile]) -> Result<Seq<Seq<Datum>>, NoMemory>
-    ensures { IfOk result (λ statics. statics ≡ map zeros classes.now) }
+    ensures { IfOk result (λ statics. statics ≡ map static_zeros classes.now) }
 {
     let mut statics = Seq::with_capacity(alloc, classes.len())?;
     for class in classes {
-        statics.push(zeros_of(alloc, class)?)?;
+        statics.push(static_zeros(alloc, class)?)?;
     }
     Ok(statics)
 }
@@ -170,16 +219,6 @@ pub fn make_ready(originals: &Originals, parts: &mut Parts) -> Result<(), NoMemo
 {
     make_arguments(originals.program(), &mut parts.shared.heap)?;
     load_first(&mut parts.shared)
-}
-
-/// The position of the main class: that of the method `main`.
-fn main_class(program: &Program) -> u32
-    ensures { result ≡ main_class program.now }
-{
-    match program.methods.get(program.main as usize) {
-        Some(place) => place.class,
-        None => 0,
-    }
 }
 
 /// The main class is loaded, and its initialization begins.

@@ -1,17 +1,17 @@
 //! One step: the current frame's instruction, and all that follows from it.
 
-ghost use Rattle.std.specs.Prelude.{◌≡◌, ◌≤◌, ◌<◌, Some, true, None, is_some, IfOk, OnOk};
+ghost use Rattle.std.specs.Prelude.{◌≡◌, ◌≤◌, ◌<◌, true, None, is_some, IfOk, OnOk};
 ghost use Rattle.jvm_model.specs.Applies.{still};
 ghost use Rattle.jvm_model.specs.Moves.{settled};
 ghost use Rattle.jvm_model.specs.Originals.{original};
 ghost use Rattle.jvm_model.specs.Run.{is_ready, step};
 ghost use Rattle.jvm_model.specs.SharedState.{phase_of};
-ghost use Rattle.jvm_steps.specs.Acts.{awaited_in, is_at_rest, goes_on_in};
+ghost use Rattle.jvm_model.specs.Sound.{IsFit, IsSound};
+ghost use Rattle.jvm_steps.specs.Acts.{is_at_rest, goes_on_in};
 ghost use Rattle.jvm_steps.specs.Markers.{is_unmarked, state_of};
 ghost use Rattle.jvm_steps.specs.Runs.{Leads};
 
 use crate::attempting::attempt;
-use crate::initializing::initialize;
 use crate::markers::{Marker, marker_on};
 use crate::originals::Originals;
 use crate::parts::Parts;
@@ -46,18 +46,19 @@ fn goes_on(parts: &Parts, markers: &Stack<Marker>) -> bool
 
 /// All that follows by itself.
 fn finish(
+    alloc: Global,
     originals: &Originals,
     parts: &mut Parts,
     markers: &mut Stack<Marker>,
 ) -> Result<(), NoMemory>
-    ensures { let w = originals.now in
+    ensures { let w = originals.now.world in
         let turn = still (state_of markers.old parts.old) in OnOk result
         (state_of markers.new parts.new ≡ (settled w (original w.program) turn).after) }
 {
     if is_at_rest(parts, markers) {
         return Ok(());
     }
-    settle(originals, parts, markers)
+    settle(alloc, originals, parts, markers)
 }
 
 /// Whether a class is initialized.
@@ -71,56 +72,46 @@ fn is_ready(shared: &Shared, class: u32) -> bool
     }
 }
 
-/// A step whose instruction awaits the initialization of a class. Where the class is ready then, no
-/// code of its own has run, and the instruction is attempted in the same step.
-fn step_behind(
-    alloc: Global,
-    originals: &Originals,
-    parts: &mut Parts,
-    markers: &mut Stack<Marker>,
-    class: u32,
-) -> Result<(), NoMemory>
-    requires going { goes_on_in markers.old parts.old ≡ true }
-    requires awaits { awaited_in originals.now (state_of markers.old parts.old) ≡ Some class }
-    ensures { let w = originals.now in let s = state_of markers.old parts.old in OnOk result
-        (state_of markers.new parts.new ≡ (step w (original w.program) s).after) }
-{
-    initialize(parts, markers, class)?;
-    settle(originals, parts, markers)?;
-    if !is_ready(&parts.shared, class) {
-        return Ok(());
-    }
-    attempt(alloc, originals, parts, markers)?;
-    finish(originals, parts, markers)
-}
-
 /// One step of the run of original code: an attempt of the current frame's instruction, with all
-/// that follows.
+/// that follows. Where a class was initialized before and is ready then, no code of its own has run,
+/// and the instruction is attempted again in the same step.
 pub fn step(
     alloc: Global,
-    originals: &Originals,
+    originals: &mut Originals,
     parts: &mut Parts,
     markers: &mut Stack<Marker>,
 ) -> Result<(), NoMemory>
-    ensures { let w = originals.now in let s = state_of markers.old parts.old in OnOk result
-        (state_of markers.new parts.new ≡ (step w (original w.program) s).after) }
+    requires linked { originals.old.loaded ≡ parts.old.shared.loaded }
+    requires fit { IsFit originals.old.world.program }
+    requires sound { IsSound originals.old.world.program (state_of markers.old parts.old) }
+    ensures world { originals.new.world ≡ originals.old.world }
+    ensures linked { OnOk result (originals.new.loaded ≡ parts.new.shared.loaded) }
+    ensures state { let w = originals.old.world in let s = state_of markers.old parts.old in
+        OnOk result (state_of markers.new parts.new ≡ (step w (original w.program) s).after) }
 {
     if !goes_on(parts, markers) {
         return Ok(());
     }
-    match attempt(alloc, originals, parts, markers)? {
-        Some(class) => step_behind(alloc, originals, parts, markers, class),
-        None => finish(originals, parts, markers),
+    let awaited = attempt(alloc, originals, parts, markers)?;
+    finish(alloc, originals, parts, markers)?;
+    let Some(class) = awaited else {
+        return Ok(());
+    };
+    if !is_ready(&parts.shared, class) {
+        return Ok(());
     }
+    attempt(alloc, originals, parts, markers)?;
+    finish(alloc, originals, parts, markers)
 }
 
 /// Steps that the current frame does by itself, at most so many: how many it has made.
 fn step_plainly(originals: &Originals, parts: &mut Parts, markers: &Stack<Marker>, most: u64) -> u64
     requires { parts.old.ending ≡ None }
     ensures within { result ≤ most }
-    ensures made { Leads originals.now (state_of markers.now parts.old) result
+    ensures made { Leads originals.now.world (state_of markers.now parts.old) result
         (state_of markers.now parts.new) }
     ensures ending { parts.new.ending ≡ None }
+    ensures shared { parts.new.shared ≡ parts.old.shared }
 {
     if parts.thrown.is_some() || !is_unmarked(parts, markers) {
         return 0;
@@ -131,16 +122,21 @@ fn step_plainly(originals: &Originals, parts: &mut Parts, markers: &Stack<Marker
 /// One step or more, at most so many: how many it has made.
 fn step_on(
     alloc: Global,
-    originals: &Originals,
+    originals: &mut Originals,
     parts: &mut Parts,
     markers: &mut Stack<Marker>,
     most: u64,
 ) -> Result<u64, NoMemory>
     requires some { 0 < most }
     requires ending { parts.old.ending ≡ None }
+    requires linked { originals.old.loaded ≡ parts.old.shared.loaded }
+    requires fit { IsFit originals.old.world.program }
+    requires sound { IsSound originals.old.world.program (state_of markers.old parts.old) }
+    ensures world { originals.new.world ≡ originals.old.world }
+    ensures linked { OnOk result (originals.new.loaded ≡ parts.new.shared.loaded) }
     ensures some { IfOk result (λ n. 0 < n) }
     ensures within { IfOk result (λ n. n ≤ most) }
-    ensures made { IfOk result (λ n. Leads originals.now (state_of markers.old parts.old) n
+    ensures made { IfOk result (λ n. Leads originals.old.world (state_of markers.old parts.old) n
         (state_of markers.new parts.new)) }
 {
     let plain = step_plainly(originals, parts, markers, most);
@@ -155,13 +151,18 @@ fn step_on(
 /// made.
 pub fn run(
     alloc: Global,
-    originals: &Originals,
+    originals: &mut Originals,
     parts: &mut Parts,
     markers: &mut Stack<Marker>,
     most: u64,
 ) -> Result<u64, NoMemory>
+    requires linked { originals.old.loaded ≡ parts.old.shared.loaded }
+    requires fit { IsFit originals.old.world.program }
+    requires sound { IsSound originals.old.world.program (state_of markers.old parts.old) }
+    ensures world { originals.new.world ≡ originals.old.world }
+    ensures linked { OnOk result (originals.new.loaded ≡ parts.new.shared.loaded) }
     ensures within { IfOk result (λ n. n ≤ most) }
-    ensures made { IfOk result (λ n. Leads originals.now (state_of markers.old parts.old) n
+    ensures made { IfOk result (λ n. Leads originals.old.world (state_of markers.old parts.old) n
         (state_of markers.new parts.new)) }
     ensures ended { IfOk result (λ n. n < most → is_some parts.new.ending ≡ true) }
 {

@@ -6,5 +6,5 @@ use Rattle.jvm_steps.proofs.originals.Originals.line.Goals as goal
 
 pub returns-clause-family : goal.returns-clause-family
 returns-clause-family c =
-    let found : option_copied c.as_ref.result ≡ line_at c.args.self.now.program c.args.method c.args.place = search rules in
-    keeps-family c.args.self.now.program c.args.method c.args.place c.as_ref.result found
+    let found : option_copied c.line_in.result ≡ line_at c.args.self.now.world.program c.args.method c.args.place = search rules in
+    keeps-family c.args.self.now.world.program c.args.method c.args.place c.line_in.result found

@@ -1,0 +1,89 @@
+//! What follows from what an instruction that names something asks for (JVM Specification 2.6, 2.10,
+//! 5.5, 6.5).
+
+ghost use Rattle.std.specs.Prelude.{◌≡◌, Some, None, IfOk, OnOk};
+ghost use Rattle.std.specs.Option.{option_map};
+ghost use Rattle.jvm_model.specs.Run.{starts};
+ghost use Rattle.jvm_named.specs.Answers.{answer_view, exception_name, refusal_view};
+ghost use Rattle.jvm_steps.specs.Acts.{raised_in};
+ghost use Rattle.jvm_steps.specs.Asked.{concluded, refused_in, starts_in};
+ghost use Rattle.jvm_steps.specs.States.{state_in};
+
+use crate::exceptions::exception_of;
+use crate::invoking::call;
+use crate::originals::Originals;
+use crate::parts::{Here, Parts};
+use crate::raising::{break_at, raise, raise_with};
+use jf_bytes::{NoMemory, Text16};
+use jvm_named::{Asked, Exception, Refusal};
+
+/// Throws an exception that the instruction raises, with its message.
+pub fn raise_named(
+    originals: &Originals,
+    parts: &mut Parts,
+    exception: Exception,
+    message: Option<Text16>,
+) -> Result<(), NoMemory>
+    ensures { OnOk result (parts.new
+        ≡ raised_in originals.now.world (exception_name exception) message parts.old) }
+{
+    let exception = exception_of(exception);
+    match message {
+        Some(message) => raise_with(originals, parts, exception, message.units()),
+        None => raise(originals, parts, exception),
+    }
+}
+
+/// What is asked for in place of going on. The initialization of a class begins behind it: the class
+/// is the answer.
+fn refuse(
+    originals: &Originals,
+    parts: &mut Parts,
+    here: Here,
+    refusal: Refusal,
+) -> Result<Option<u32>, NoMemory>
+    ensures answer { IfOk result (λ o. o ≡ starts (refusal_view refusal)) }
+    ensures state { OnOk result (state_in parts.new
+        ≡ refused_in originals.now.world here (refusal_view refusal) parts.old) }
+{
+    match refusal {
+        Refusal::Raises(exception, message) => {
+            raise_named(originals, parts, exception, message)?;
+            Ok(None)
+        }
+        Refusal::Throws(object) => {
+            parts.thrown = Some(object);
+            Ok(None)
+        }
+        Refusal::Initializes(class) => Ok(Some(class)),
+        Refusal::Breaks => {
+            break_at(originals, parts, here);
+            Ok(None)
+        }
+    }
+}
+
+/// What follows from an answer. The class that is initialized before is the answer, where one is.
+pub fn conclude(
+    originals: &Originals,
+    parts: &mut Parts,
+    here: Here,
+    asked: Asked,
+) -> Result<Option<u32>, NoMemory>
+    ensures answer { IfOk result (λ o. o ≡ starts_in (answer_view asked)) }
+    ensures state { OnOk result (state_in parts.new
+        ≡ concluded originals.now.world here (answer_view asked) parts.old) }
+{
+    match asked {
+        Asked::Next => Ok(None),
+        Asked::TooDeep => {
+            break_at(originals, parts, here);
+            Ok(None)
+        }
+        Asked::Invokes(callee, args) => {
+            call(originals, parts, here, callee, args)?;
+            Ok(None)
+        }
+        Asked::Refused(refusal) => refuse(originals, parts, here, refusal),
+    }
+}

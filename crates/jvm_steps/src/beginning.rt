@@ -1,0 +1,113 @@
+//! The start (JVM Specification 5.2, 5.3, 5.5): the main class is loaded and initialized, and then
+//! `main` begins.
+
+ghost use Rattle.std.specs.Prelude.{◌≡◌, IfOk, OnOk};
+ghost use Rattle.jvm_model.specs.Originals.{original};
+ghost use Rattle.jvm_model.specs.Run.{main_class, start, starts_with};
+ghost use Rattle.jvm_model.specs.Sound.{IsFit};
+ghost use Rattle.jvm_model.specs.Starting.{ready_in};
+ghost use Rattle.jvm_named.specs.Answers.{found_view};
+ghost use Rattle.jvm_steps.specs.Before.{IsAtStart, begun_by, with_first};
+ghost use Rattle.jvm_steps.specs.Markers.{state_of};
+ghost use Rattle.jvm_steps.specs.States.{state_in};
+
+use crate::asking::raise_named;
+use crate::initializing::{initialize, set_phase};
+use crate::lookup::main_class;
+use crate::markers::Marker;
+use crate::objects::make_arguments;
+use crate::originals::Originals;
+use crate::parts::Parts;
+use crate::settling::settle;
+use jf_bytes::{NoMemory, Stack};
+use jvm_model::{Phase, Shared};
+use jvm_named::Refusal;
+use std::alloc::Global;
+
+// ---- the main class is ready by itself
+
+/// The main class, which is the first one, is loaded, and ready.
+fn load_first(shared: &mut Shared) -> Result<(), NoMemory>
+    ensures { OnOk result (shared.new ≡ with_first shared.old) }
+{
+    shared.loaded.push(0)?;
+    set_phase(shared, 0, Phase::Ready);
+    Ok(())
+}
+
+/// What comes before `main` where nothing else runs at the start: the argument array is made, and
+/// the main class is loaded, and ready.
+pub fn make_ready(originals: &Originals, parts: &mut Parts) -> Result<(), NoMemory>
+    requires { IsAtStart originals.now.world (state_in parts.old) }
+    ensures { OnOk result (state_in parts.new ≡ ready_in originals.now.world) }
+{
+    make_arguments(originals.program(), &mut parts.shared.heap)?;
+    load_first(&mut parts.shared)
+}
+
+// ---- the main class is loaded
+
+/// The initialization of the main class begins, or what stopped its loading is raised.
+fn begin_class(
+    originals: &Originals,
+    parts: &mut Parts,
+    markers: &mut Stack<Marker>,
+    class: u32,
+    found: Result<u32, Refusal>,
+) -> Result<(), NoMemory>
+    ensures state { OnOk result (state_of markers.new parts.new
+        ≡ begun_by originals.now.world class (found_view found) (state_of markers.old parts.old)) }
+    ensures loaded { OnOk result (parts.new.shared.loaded ≡ parts.old.shared.loaded) }
+{
+    match found {
+        Ok(_) => initialize(parts, markers, class),
+        Err(Refusal::Raises(exception, message)) => {
+            raise_named(originals, parts, exception, message)
+        }
+        // These do not come.
+        Err(Refusal::Throws(_)) => initialize(parts, markers, class),
+        Err(Refusal::Initializes(_)) => initialize(parts, markers, class),
+        Err(Refusal::Breaks) => initialize(parts, markers, class),
+    }
+}
+
+/// The objects of the arguments are made, and the main class is loaded: its initialization begins,
+/// or what stopped its loading is raised.
+fn load_main(
+    originals: &mut Originals,
+    parts: &mut Parts,
+    markers: &mut Stack<Marker>,
+) -> Result<(), NoMemory>
+    requires at_start { IsAtStart originals.old.world (state_of markers.old parts.old) }
+    requires linked { originals.old.loaded ≡ parts.old.shared.loaded }
+    requires fit { IsFit originals.old.world.program }
+    ensures world { originals.new.world ≡ originals.old.world }
+    ensures linked { OnOk result (originals.new.loaded ≡ parts.new.shared.loaded) }
+    ensures state { OnOk result
+        (state_of markers.new parts.new ≡ starts_with originals.old.world) }
+{
+    make_arguments(originals.program(), &mut parts.shared.heap)?;
+    let found = originals.load_main(&mut parts.shared.loaded)?;
+    let class = main_class(originals.program());
+    begin_class(originals, parts, markers, class, found)
+}
+
+/// The start: the main class is loaded and initialized, and `main` begins where no static
+/// initializer runs before; or the run ends.
+pub fn start(
+    alloc: Global,
+    originals: &mut Originals,
+    parts: &mut Parts,
+    markers: &mut Stack<Marker>,
+) -> Result<(), NoMemory>
+    requires at_start { IsAtStart originals.old.world (state_of markers.old parts.old) }
+    requires linked { originals.old.loaded ≡ parts.old.shared.loaded }
+    requires fit { IsFit originals.old.world.program }
+    ensures world { originals.new.world ≡ originals.old.world }
+    ensures linked { OnOk result (originals.new.loaded ≡ parts.new.shared.loaded) }
+    ensures state { let w = originals.old.world in OnOk result
+        (state_of markers.new parts.new ≡ (start w (original w.program)).after) }
+{
+    load_main(originals, parts, markers)?;
+    settle(alloc, originals, parts, markers)
+}
