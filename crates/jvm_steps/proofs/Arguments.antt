@@ -200,3 +200,16 @@ enough-data ks o args e =
     absurd (none-some args (sym (data_of-unequal ks values (λ same. absurd (omega arith))) ∙ e)))
     (λ (enough : length ks ≤ length o). le-leb _ _ enough)
     (cases_lt (length o) (length ks))
+
+-- ---- so many of the topmost operands
+
+-- one more takes its own locals besides
+pub height-next : (vs : List Value) (i : ℕ) (v : Value) → slice_get vs i ≡ Some v → height_of (take (suc i) vs) ≡ height_of (take i vs) + width v
+height-next [] i v e = absurd (none-some v e)
+height-next (x ∷ vs) zero v e = let same : width x ≡ width v = ap width (same_Some x v e) in omega (arith, same)
+height-next (x ∷ vs) (suc i) v e = let rest = height-next vs i v e in omega (arith, rest)
+
+pub within-next : (vs : List Value) (i : ℕ) (v : Value) → slice_get vs i ≡ Some v → i < length vs
+within-next [] i v e = absurd (none-some v e)
+within-next (x ∷ vs) zero v e = omega arith
+within-next (x ∷ vs) (suc i) v e = let rest = within-next vs i v e in omega (arith, rest)

@@ -1,6 +1,7 @@
 -- What an attempt does to the frames of a machine it does beneath its markers.
-use Rattle.std.proofs.Common.{◌≡◌, ℕ, suc, ◌-◌, true, false, List, [], ◌∷◌, length, map, Option, Some, None, refl, sym, ap, ◌∙◌, arith}
-use Rattle.std.specs.Prelude.{is_some}
+use Rattle.std.proofs.Common.{◌≡◌, ℕ, suc, ◌-◌, true, false, List, [], ◌∷◌, length, map, Option, Some, None, refl, sym, ap, subst, ◌∙◌, arith}
+use Rattle.std.specs.Prelude.{Result, OnOk, is_some}
+use Rattle.jf_bytes.specs.declared.error.NoMemory.{NoMemory}
 use Rattle.std.proofs.lemmas.Bool.{false≢true}
 use Rattle.std.proofs.lemmas.Option.{same_Some, none-some}
 use Rattle.const_pool.specs.declared.descriptor.Kind.{Kind}
@@ -15,10 +16,11 @@ use Rattle.jvm_steps.specs.declared.line.Line.{Line}
 use Rattle.jvm_steps.specs.declared.markers.Marker.{Marker}
 use Rattle.jvm_steps.specs.declared.parts.Here.{Here}
 use Rattle.jvm_steps.specs.declared.parts.Parts.{Parts}
-use Rattle.jvm_steps.specs.Acts.{IsTop, acts, acts_by, acts_end, attempts_line, attempts_on, awaited_by, awaited_in, awaited_on, becomes_beneath, ended, is_named, on_top}
+use Rattle.jvm_steps.specs.Acts.{BecomesBeneath, IsTop, acts, acts_by, acts_end, attempts_line, attempts_on, awaited, awaited_by, awaited_in, awaited_on, becomes_beneath, ended, is_named, named_in, on_top}
 use Rattle.jvm_steps.specs.Lines.{line_at}
 use Rattle.jvm_steps.specs.Markers.{initializing, marker_on, stack_of, state_of, with_markers}
 use Rattle.jvm_steps.specs.States.{active, frame_in, here_of, state_in, state_with}
+use Rattle.jvm_steps.proofs.ActsLoad.{attempts-keep}
 use Rattle.jvm_steps.proofs.Carried.{end-carried, goes_within, length-active, line-carried}
 use Rattle.jvm_steps.proofs.LineSteps.{top-frame}
 use Rattle.jvm_steps.proofs.MarkedStacks.{none-left, stack-empty, stack-on}
@@ -77,19 +79,51 @@ module _ (w : World) (ms : List Marker) (p : Parts) where
   pub nothing-there : here_of p.frames.frames ≡ None → marker_on (length p.frames.frames) ms ≡ None → stack_of (map active p.frames.frames) ms ≡ []
   nothing-there is none = nothing-by p.frames.frames is none
 
-  -- a frame that stands at a line that awaits nothing
-  awaits-by : (fs : List PlacedFrame) (here : Here) (lo : Option Line) → here_of fs ≡ Some here → marker_on (length fs) ms ≡ None
-      → line_at w.program here.version here.place ≡ lo → ((x : State) (f : Frame) → awaited_by w x f lo ≡ None) → awaited_on w s (stack_of (map active fs) ms) ≡ None
-  awaits-by [] here lo is none found quiet = absurd (none-some here is)
-  awaits-by (f ∷ fs) here lo is none found quiet =
-      let same : record { version = f.version; method = f.method; place = f.place } ≡ here = same_Some _ here is in
-      ap (awaited_on w s) (top-frame ms f fs none)
-      ∙ (ap (λ (h : Here). awaited_by w (record s { stack = stack_of (map active fs) ms }) (frame_in f) (line_at w.program h.version h.place)) same
-      ∙ (ap (awaited_by w (record s { stack = stack_of (map active fs) ms }) (frame_in f)) found ∙ quiet (record s { stack = stack_of (map active fs) ms }) (frame_in f)))
+  -- a frame that stands at a line that names nothing
+  unnamed-by : (lo : Option Line) → named_in lo ≡ false → (x : State) (f : Frame) → awaited_by w x f lo ≡ None
+  unnamed-by None is x f = refl
+  unnamed-by (Some line) is x f = by line.action is where
+    by : (a : Action) → is_named a ≡ false → awaited w x f a ≡ None
+    by (action.Named n) is = absurd (false≢true (sym is))
+    by action.Local is = refl
+    by (action.Return k) is = refl
+    by action.Athrow is = refl
+    by action.Monitor is = refl
+    by action.Arraylength is = refl
+    by (action.Newarray kind) is = refl
+    by (action.LoadElement k) is = refl
+    by (action.StoreElement k) is = refl
 
-  pub awaits-nothing : (here : Here) (lo : Option Line) → here_of p.frames.frames ≡ Some here → marker_on (length p.frames.frames) ms ≡ None
-      → line_at w.program here.version here.place ≡ lo → ((x : State) (f : Frame) → awaited_by w x f lo ≡ None) → awaited_in w s ≡ None
-  awaits-nothing here lo is none found quiet = awaits-by p.frames.frames here lo is none found quiet
+  awaits-by : (fs : List PlacedFrame) (here : Here) → here_of fs ≡ Some here → marker_on (length fs) ms ≡ None
+      → named_in (line_at w.program here.version here.place) ≡ false → awaited_on w s (stack_of (map active fs) ms) ≡ None
+  awaits-by [] here is none unnamed = absurd (none-some here is)
+  awaits-by (f ∷ fs) here is none unnamed =
+      let same : record { version = f.version; method = f.method; place = f.place } ≡ here = same_Some _ here is in
+      let under : State = record s { stack = stack_of (map active fs) ms } in
+      ap (awaited_on w s) (top-frame ms f fs none)
+      ∙ (ap (λ (h : Here). awaited_by w under (frame_in f) (line_at w.program h.version h.place)) same
+      ∙ unnamed-by (line_at w.program here.version here.place) unnamed under (frame_in f))
+
+  pub awaits-unnamed : (here : Here) → here_of p.frames.frames ≡ Some here → marker_on (length p.frames.frames) ms ≡ None
+      → named_in (line_at w.program here.version here.place) ≡ false → awaited_in w s ≡ None
+  awaits-unnamed here is none unnamed = awaits-by p.frames.frames here is none unnamed
+
+  loads-by : (fs : List PlacedFrame) (here : Here) → here_of fs ≡ Some here → marker_on (length fs) ms ≡ None
+      → named_in (line_at w.program here.version here.place) ≡ false → (attempts_on w s (stack_of (map active fs) ms)).shared.loaded ≡ p.shared.loaded
+  loads-by [] here is none unnamed = absurd (none-some here is)
+  loads-by (f ∷ fs) here is none unnamed =
+      let same : record { version = f.version; method = f.method; place = f.place } ≡ here = same_Some _ here is in
+      let under : State = record s { stack = stack_of (map active fs) ms } in
+      ap (λ es. (attempts_on w s es).shared.loaded) (top-frame ms f fs none)
+      ∙ (ap (λ (h : Here). (attempts_line w under (frame_in f) (line_at w.program h.version h.place)).shared.loaded) same
+      ∙ attempts-keep w under (frame_in f) (line_at w.program here.version here.place)
+      (λ line found. sym (ap named_in found) ∙ unnamed))
+
+  pub loads-unnamed : (here : Here) → here_of p.frames.frames ≡ Some here → marker_on (length p.frames.frames) ms ≡ None
+      → named_in (line_at w.program here.version here.place) ≡ false → (after : State) → after ≡ attempts_on w s (stack_of (map active p.frames.frames) ms)
+      → p.shared.loaded ≡ after.shared.loaded
+  loads-unnamed here is none unnamed after attempted =
+      sym (ap (λ (x : State). x.shared.loaded) attempted ∙ loads-by p.frames.frames here is none unnamed)
 
   breaks-by : (fs : List PlacedFrame) (here : Here) → here_of fs ≡ Some here → marker_on (length fs) ms ≡ None → line_at w.program here.version here.place ≡ None
       → record s { stack = stack_of (map active fs) ms; ending = Some (Unverifiable here.method 0) } ≡ attempts_on w s (stack_of (map active fs) ms)
@@ -119,6 +153,12 @@ module _ (w : World) (ms : List Marker) (p : Parts) where
       → line_at w.program here.version here.place ≡ Some line
       → becomes_beneath ms (acts w line) p p.frames.frames ≡ attempts_on w s (stack_of (map active p.frames.frames) ms)
   does-there line here is none found = does-by line p.frames.frames here is none found
+
+  -- what the code has done by the line
+  pub done-there : {A : Type 0} (result : Result A NoMemory) (new : Parts) (line : Line) (here : Here) → here_of p.frames.frames ≡ Some here
+      → marker_on (length p.frames.frames) ms ≡ None → line_at w.program here.version here.place ≡ Some line → BecomesBeneath result ms new (acts w line) p
+      → OnOk result (state_of ms new ≡ attempts_on w s (stack_of (map active p.frames.frames) ms))
+  done-there result new line here is none found made = subst (λ (x : State). OnOk result (state_of ms new ≡ x)) (does-there line here is none found) made
 
   -- where no line is there is no method
   pub top-there : (here : Here) (fs : List PlacedFrame) → here_of fs ≡ Some here → IsTop here.method fs

@@ -49,7 +49,7 @@ CanStop (Initializes c) = Unit {0}
 CanStop (Breaks false) = Unit {0}
 CanStop _ = ⊥
 
-abbrev CanAnswer : Answer → Type 0
+abbrev pub CanAnswer : Answer → Type 0
 CanAnswer (Stops q) = CanStop q
 CanAnswer a = Unit {0}
 
@@ -59,7 +59,7 @@ refusals-stop (refusal.Throws object) = tt
 refusals-stop (refusal.Initializes class) = tt
 refusals-stop refusal.Breaks = tt
 
-can-answer : (a : Asked) → CanAnswer (answer_view a)
+pub can-answer : (a : Asked) → CanAnswer (answer_view a)
 can-answer asked.Next = tt
 can-answer asked.TooDeep = tt
 can-answer (asked.Invokes method count) = tt
@@ -127,7 +127,7 @@ module _ (w : World) (line : Line) (here : Here) (own : own_of w here ≡ line.i
   stays-there (Breaks false) can none = refl
 
 -- what is initialized before is what the answer tells
-starts-same : (q : Outcome) (f : PlacedFrame) (fs : List PlacedFrame) → CanAnswer (answer_in q (f ∷ fs)) → starts_in (answer_in q (f ∷ fs)) ≡ starts q
+pub starts-same : (q : Outcome) (f : PlacedFrame) (fs : List PlacedFrame) → CanAnswer (answer_in q (f ∷ fs)) → starts_in (answer_in q (f ∷ fs)) ≡ starts q
 starts-same (GoesOn l o Next) f fs can = by (can_hold o (f ∷ fs)) where
   by : (b : Bool) → starts_in (cond b Continues Exceeds) ≡ None
   by true = refl
@@ -158,7 +158,7 @@ initializes-of (Exits n) c e = absurd (none-some c e)
 -- ---- over the parts of a machine, beneath its markers
 
 -- what a line with these names comes to
-abbrev named_beneath : World → Line → Naming → List Marker → Parts → List PlacedFrame → State
+abbrev pub named_beneath : World → Line → Naming → List Marker → Parts → List PlacedFrame → State
 named_beneath w line n ms p [] = state_of ms p
 named_beneath w line n ms p (f ∷ fs) = acts_named w line n (with_markers ms (state_with fs p)) (frame_in f)
 
@@ -177,7 +177,7 @@ module _ (w : World) (line : Line) (n : Naming) (ms : List Marker) (here : Here)
   abbrev answer_there : List PlacedFrame → Answer
   answer_there all = answer_in (done_top w n p.shared all).outcome all
 
-  concludes-by : (all : List PlacedFrame) → here_of all ≡ Some here → marker_on (length all) ms ≡ None → CanAnswer (answer_there all)
+  pub concludes-by : (all : List PlacedFrame) → here_of all ≡ Some here → marker_on (length all) ms ≡ None → CanAnswer (answer_there all)
       → starts_in (answer_there all) ≡ None → with_markers ms (concluded w here (answer_there all) (reached all)) ≡ named_beneath w line n ms p all
   concludes-by [] is none can quiet = absurd (none-some here is)
   concludes-by (f ∷ fs) is none can quiet =
@@ -190,7 +190,7 @@ module _ (w : World) (line : Line) (n : Naming) (ms : List Marker) (here : Here)
       ∙ applies-carried ms w (original w.program) (placed_line line) d.outcome (stays-there w line here own mid f fs method d.outcome can silent)
       (state_with fs mid) (frame_in f) (ap (λ k. marker_on (suc k) ms) (length-active fs) ∙ none)
 
-  begins-by : (c : ℕ) (all : List PlacedFrame) → here_of all ≡ Some here → marker_on (length all) ms ≡ None → CanAnswer (answer_there all)
+  pub begins-by : (c : ℕ) (all : List PlacedFrame) → here_of all ≡ Some here → marker_on (length all) ms ≡ None → CanAnswer (answer_there all)
       → starts_in (answer_there all) ≡ Some c
       → begins_class c (with_markers ms (concluded w here (answer_there all) (reached all))) ≡ named_beneath w line n ms p all
   begins-by c [] is none can some = absurd (none-some here is)

@@ -24,10 +24,10 @@ pub mod LineSteps
 pub mod Beneath
 pub mod ActsLoad
 pub mod Concluded
+pub mod NamedAttempts
 pub mod Sounded
 pub mod Behind
 pub mod Above
-pub mod OpenClasses
 pub mod ElementLemmas
 pub mod ElementActs
 pub mod Leading

@@ -74,6 +74,7 @@ fn begin_class(
 /// The objects of the arguments are made, and the main class is loaded: its initialization begins,
 /// or what stopped its loading is raised.
 fn load_main(
+    alloc: Global,
     originals: &mut Originals,
     parts: &mut Parts,
     markers: &mut Stack<Marker>,
@@ -87,7 +88,7 @@ fn load_main(
         (state_of markers.new parts.new ≡ starts_with originals.old.world) }
 {
     make_arguments(originals.program(), &mut parts.shared.heap)?;
-    let found = originals.load_main(&mut parts.shared.loaded)?;
+    let found = originals.load_main(alloc, &mut parts.shared.loaded)?;
     let class = main_class(originals.program());
     begin_class(originals, parts, markers, class, found)
 }
@@ -108,6 +109,6 @@ pub fn start(
     ensures state { let w = originals.old.world in OnOk result
         (state_of markers.new parts.new ≡ (start w (original w.program)).after) }
 {
-    load_main(originals, parts, markers)?;
+    load_main(alloc, originals, parts, markers)?;
     settle(alloc, originals, parts, markers)
 }

@@ -1,6 +1,6 @@
 //! Invocation (JVM Specification 2.6, 2.6.1, 5.5, 6.5).
 
-ghost use Rattle.std.specs.Prelude.{◌≡◌, ◌<◌, ◌^◌, false, true, length, is_some, IfOk, OnOk};
+ghost use Rattle.std.specs.Prelude.{◌≡◌, ◌<◌, ◌≤◌, ◌^◌, false, true, length, is_some, IfOk, OnOk};
 ghost use Rattle.frame_stack.specs.FrameLists.{top_operands};
 ghost use Rattle.frame_stack.specs.Widths.{width};
 ghost use Rattle.jvm_model.specs.Values.{data_of, datum_of};
@@ -121,11 +121,14 @@ fn begin_frame(
 
 /// How many locals a value takes.
 fn width(value: Value) -> u32
-    ensures { result ≡ width value }
+    ensures slots { result ≡ width value }
+    ensures most { result ≤ 2 }
 {
     match value {
+        Value::Int(_) => 1,
         Value::Long(_) => 2,
-        _ => 1,
+        Value::Ref(_) => 1,
+        Value::Addr(_) => 1,
     }
 }
 

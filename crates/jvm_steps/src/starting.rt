@@ -1,29 +1,21 @@
 //! The state before the start, in which the built-in classes are loaded and ready, and the start (JVM Specification 5.2, 5.3, 5.5).
 
-ghost use Rattle.std.specs.Prelude.{◌≡◌, ◌<◌, ◌≤◌, ◌^◌, [], IfOk, OnOk, length, map, unwrap_or};
+ghost use Rattle.std.specs.Prelude.{◌≡◌, ◌<◌, ◌≤◌, ◌^◌, [], IfOk, length, map, unwrap_or};
 ghost use Rattle.std.specs.Option.{option_and_then};
 ghost use Rattle.const_pool.specs.References.{named_text};
 ghost use Rattle.jvm_model.specs.SharedState.{built_in_from, phase_before, shared_before, static_zeros};
 ghost use Rattle.jvm_model.specs.SharedState.{system_static, system_stream, zero_for, zeros};
-ghost use Rattle.jvm_model.specs.Originals.{original};
-ghost use Rattle.jvm_model.specs.Run.{main_class, start, starts_with};
-ghost use Rattle.jvm_model.specs.Starting.{ready_in};
-ghost use Rattle.jvm_steps.specs.Before.{BeforeEach, IsAtStart, with_first};
-ghost use Rattle.jvm_steps.specs.Markers.{state_of};
+ghost use Rattle.jvm_steps.specs.Before.{BeforeEach};
 ghost use Rattle.jvm_steps.specs.States.{state_in};
 
-use crate::initializing::{initialize, set_phase};
 use crate::loading::has_built_in_name;
-use crate::lookup::{has_bytes, main_class};
-use crate::markers::Marker;
-use crate::objects::{heap_before, make_arguments};
-use crate::originals::Originals;
+use crate::lookup::{has_bytes};
+use crate::objects::{heap_before};
 use crate::parts::Parts;
-use crate::settling::settle;
 use const_pool::{ClassFile, Member, Pool};
 use frame_stack::Frames;
 use heap_objects::Datum;
-use jf_bytes::{NoMemory, Seq, Stack, Text16};
+use jf_bytes::{NoMemory, Seq, Text16};
 use jvm_model::{Phase, Program, Shared};
 use std::alloc::Global;
 
@@ -201,53 +193,4 @@ pub fn parts_before(alloc: Global, program: &Program) -> Result<Parts, NoMemory>
         output: Seq::new(alloc),
         ending: None,
     })
-}
-
-/// The main class, which is the first one, is loaded, and ready.
-fn load_first(shared: &mut Shared) -> Result<(), NoMemory>
-    ensures { OnOk result (shared.new ≡ with_first shared.old) }
-{
-    shared.loaded.push(0)?;
-    set_phase(shared, 0, Phase::Ready);
-    Ok(())
-}
-
-/// What comes before `main` where nothing else runs at the start: the argument array is made, and the main class is loaded, and ready.
-pub fn make_ready(originals: &Originals, parts: &mut Parts) -> Result<(), NoMemory>
-    requires { IsAtStart originals.now (state_in parts.old) }
-    ensures { OnOk result (state_in parts.new ≡ ready_in originals.now) }
-{
-    make_arguments(originals.program(), &mut parts.shared.heap)?;
-    load_first(&mut parts.shared)
-}
-
-/// The main class is loaded, and its initialization begins.
-fn load_main(
-    originals: &Originals,
-    parts: &mut Parts,
-    markers: &mut Stack<Marker>,
-) -> Result<(), NoMemory>
-    requires { IsAtStart originals.now (state_of markers.old parts.old) }
-    ensures { let w = originals.now in OnOk result (state_of markers.new parts.new
-        ≡ starts_with w (main_class w.program)) }
-{
-    let class = main_class(originals.program());
-    make_arguments(originals.program(), &mut parts.shared.heap)?;
-    parts.shared.loaded.push(class)?;
-    initialize(parts, markers, class)
-}
-
-/// The start: the main class is loaded and initialized, and `main` begins where no static
-/// initializer runs before; or the run ends.
-pub fn start(
-    originals: &Originals,
-    parts: &mut Parts,
-    markers: &mut Stack<Marker>,
-) -> Result<(), NoMemory>
-    requires { IsAtStart originals.now (state_of markers.old parts.old) }
-    ensures { let w = originals.now in OnOk result
-        (state_of markers.new parts.new ≡ (start w (original w.program)).after) }
-{
-    load_main(originals, parts, markers)?;
-    settle(originals, parts, markers)
 }

@@ -7,4 +7,4 @@ use Rattle.jvm_steps.proofs.handlers.target_among.Given as goal
 
 abbrev pub invariant-loop-handler : goal.invariant-loop-handler
 invariant-loop-handler l =
-    handler_for l.originals l.class l.place (map (catcher_of l.owner) (drop l.handler-index l.handlers)) ≡ handler_for l.originals l.class l.place (map (catcher_of l.owner) l.handlers)
+    handler_for l.originals.world l.class l.place (map (catcher_of l.owner) (drop l.handler-index l.handlers)) ≡ handler_for l.originals.world l.class l.place (map (catcher_of l.owner) l.handlers)

@@ -11,7 +11,7 @@ use Rattle.jvm_steps.proofs.initializing.run_initializer.Goals as goal
 
 pub returns-then-may_begin : goal.returns-then-may_begin
 returns-then-may_begin c =
-    let w = c.args.originals.now in
+    let w = c.args.originals.now.world in
     let s = state_of c.args.markers.now c.args.parts.now in
     let found : initializer_of w.program c.args.class ≡ Some c.in-Some.method =
     ap (λ p. initializer_of p c.args.class) (sym c.program.ensures.program) ∙ (sym c.initializer_of.ensures ∙ c.in-Some.is) in
@@ -23,7 +23,7 @@ returns-then-may_begin c =
 
 pub returns-else-may_begin : goal.returns-else-may_begin
 returns-else-may_begin c =
-    let w = c.args.originals.now in
+    let w = c.args.originals.now.world in
     let s = state_of c.args.markers.now c.args.parts.now in
     let found : initializer_of w.program c.args.class ≡ Some c.in-Some.method =
     ap (λ p. initializer_of p c.args.class) (sym c.program.ensures.program) ∙ (sym c.initializer_of.ensures ∙ c.in-Some.is) in

@@ -11,9 +11,9 @@ use Rattle.jvm_steps.proofs.settling.settle.Goals as goal
 pub loop-smaller : goal.loop-smaller
 loop-smaller c =
     subst (λ s. left s < left (state_of c.loop.markers c.loop.parts)) (sym c.in_ok-make_move.ensures.state)
-    (fewer_left c.args.originals.now (state_of c.loop.markers c.loop.parts) (sym c.in_ok-make_move.ensures.answer ∙ c.if-branch.true))
+    (fewer_left c.args.originals.now.world (state_of c.loop.markers c.loop.parts) (sym c.in_ok-make_move.ensures.answer ∙ c.if-branch.true))
 
 pub loop-preserved : goal.loop-preserved
 loop-preserved c =
-    ap (λ (s : State). (settled c.args.originals.now (original c.args.originals.now.program) (still s)).after) c.in_ok-make_move.ensures.state
-    ∙ moved_on c.args.originals.now (state_of c.loop.markers c.loop.parts) ∙ c.loop.invariant
+    ap (λ (s : State). (settled c.args.originals.now.world (original c.args.originals.now.world.program) (still s)).after) c.in_ok-make_move.ensures.state
+    ∙ moved_on c.args.originals.now.world (state_of c.loop.markers c.loop.parts) ∙ c.loop.invariant

@@ -8,8 +8,8 @@ use Rattle.jvm_steps.proofs.settling.settle.Given as goal
 
 abbrev pub invariant-loop : goal.invariant-loop
 invariant-loop l =
-    (settled l.originals (original l.originals.program) (still (state_of l.markers l.parts))).after
-    ≡ (settled l.originals (original l.originals.program) (still (state_of l.fn.markers l.fn.parts))).after
+    (settled l.originals.world (original l.originals.world.program) (still (state_of l.markers l.parts))).after
+    ≡ (settled l.originals.world (original l.originals.world.program) (still (state_of l.fn.markers l.fn.parts))).after
 
 abbrev pub decreases-loop : goal.decreases-loop
 decreases-loop l = left (state_of l.markers l.parts)

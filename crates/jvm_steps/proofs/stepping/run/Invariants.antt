@@ -6,7 +6,7 @@ use Rattle.jvm_steps.proofs.stepping.run.Given as goal
 
 pub record Loops (l : goal.Live-loop-made) : Type 0 where
   pub within : l.made ≤ l.most
-  pub leads : Leads l.originals (state_of l.fn.markers l.fn.parts) l.made (state_of l.markers l.parts)
+  pub leads : Leads l.originals.world (state_of l.fn.markers l.fn.parts) l.made (state_of l.markers l.parts)
 
 abbrev pub invariant-loop-made : goal.invariant-loop-made
 invariant-loop-made l = Loops l

@@ -1,31 +1,60 @@
-use Rattle.std.proofs.Common.{◌≡◌, sym, subst, ◌∙◌}
+use Rattle.std.proofs.Common.{sym, ap, subst, ◌∙◌}
 use Rattle.std.proofs.lemmas.Result.{on_ok_weaker}
-use Rattle.jvm_steps.specs.Acts.{IsAttempt}
+use Rattle.jvm_model.specs.Sound.{IsFit, IsSound}
 use Rattle.jvm_steps.specs.Markers.{state_of}
-use Rattle.jvm_steps.proofs.Behind.{goes-there, none-there}
-use Rattle.jvm_steps.proofs.LineSteps.{IsGoing, going-on, step-attempts, step-stays}
+use Rattle.jvm_steps.proofs.Behind.{again-done, attempts-all, loaded-behind, none-there, not-ready, settled-in, sound-again, unmarked-again}
+use Rattle.jvm_steps.proofs.LineSteps.{step-stays}
 use Rattle.jvm_steps.proofs.stepping.step.Goals as goal
 
-pub returns-then-not-goes_on : goal.returns-then-not-goes_on
-returns-then-not-goes_on c = step-stays c.args.markers.now c.args.parts.now c.args.originals.now (sym c.goes_on.ensures ∙ c.if-not-goes_on.true)
+pub returns-then-not-goes_on-clause-state : goal.returns-then-not-goes_on-clause-state
+returns-then-not-goes_on-clause-state c =
+    step-stays c.args.markers.now c.args.parts.now c.args.originals.now.world (sym c.goes_on.ensures ∙ c.if-not-goes_on.true)
 
-pub attempt-requires : goal.attempt-requires
-attempt-requires c = none-there c.args.markers.now c.args.parts.now (sym c.goes_on.ensures ∙ c.if-not-goes_on.false)
+pub attempt-requires-clause-unmarked : goal.attempt-requires-clause-unmarked
+attempt-requires-clause-unmarked c = none-there c.args.markers.now c.args.parts.now (sym c.goes_on.ensures ∙ c.if-not-goes_on.false)
 
-pub step_behind-requires-clause-going : goal.step_behind-requires-clause-going
-step_behind-requires-clause-going c =
-    let ms = c.args.markers.now in
-    let same : state_of ms c.attempt.new.parts ≡ state_of ms c.args.parts.now =
-    subst (λ o. IsAttempt c.args.originals.now o (state_of ms c.args.parts.now) (state_of ms c.attempt.new.parts)) c.in-Some.is c.in_ok-class.ensures.state in
-    goes-there ms c.attempt.new.parts (subst IsGoing (sym same) (going-on ms c.args.parts.now (sym c.goes_on.ensures ∙ c.if-not-goes_on.false)))
+pub returns-in_default-clause-linked : goal.returns-in_default-clause-linked
+returns-in_default-clause-linked c =
+    loaded-behind c.args.originals.now.world (state_of c.attempt.new.markers c.attempt.new.parts) (state_of c.finish.new.markers c.finish.new.parts) c.attempt.new.originals.loaded
+    (settled-in c.args.originals.now.world c.attempt.new.originals.world (state_of c.finish.new.markers c.finish.new.parts) (state_of c.attempt.new.markers c.attempt.new.parts) c.in_ok-awaited.ensures.world c.in_ok-finish.ensures) c.in_ok-awaited.ensures.linked
 
-pub returns-in-None : goal.returns-in-None
-returns-in-None c =
-    let w = c.args.originals.now in
-    let s = state_of c.args.markers.now c.args.parts.now in
-    let mid = state_of c.args.markers.now c.attempt.new.parts in
-    on_ok_weaker c.finish.result
-    (λ e. step-attempts w s (going-on c.args.markers.now c.args.parts.now (sym c.goes_on.ensures ∙ c.if-not-goes_on.false))
-    (sym c.in_ok-class.ensures.answer ∙ c.in-None.is) mid (state_of c.finish.new.markers c.finish.new.parts)
-    (subst (λ o. IsAttempt w o s mid) c.in-None.is c.in_ok-class.ensures.state) e)
-    c.finish.ensures
+pub returns-in_default-clause-state : goal.returns-in_default-clause-state
+returns-in_default-clause-state c =
+    attempts-all c.args.originals.now.world c.args.markers.now c.args.parts.now (sym c.goes_on.ensures ∙ c.if-not-goes_on.false)
+    c.in_ok-awaited.awaited c.in_ok-awaited.ensures.answer c.in_default.is
+    (state_of c.attempt.new.markers c.attempt.new.parts) (state_of c.finish.new.markers c.finish.new.parts) c.in_ok-awaited.ensures.state (settled-in c.args.originals.now.world c.attempt.new.originals.world (state_of c.finish.new.markers c.finish.new.parts) (state_of c.attempt.new.markers c.attempt.new.parts) c.in_ok-awaited.ensures.world c.in_ok-finish.ensures)
+
+pub returns-then-not-is_ready-clause-linked : goal.returns-then-not-is_ready-clause-linked
+returns-then-not-is_ready-clause-linked c =
+    loaded-behind c.args.originals.now.world (state_of c.attempt.new.markers c.attempt.new.parts) (state_of c.finish.new.markers c.finish.new.parts) c.attempt.new.originals.loaded
+    (settled-in c.args.originals.now.world c.attempt.new.originals.world (state_of c.finish.new.markers c.finish.new.parts) (state_of c.attempt.new.markers c.attempt.new.parts) c.in_ok-awaited.ensures.world c.in_ok-finish.ensures) c.in_ok-awaited.ensures.linked
+
+pub returns-then-not-is_ready-clause-state : goal.returns-then-not-is_ready-clause-state
+returns-then-not-is_ready-clause-state c =
+    not-ready c.args.originals.now.world c.args.markers.now c.args.parts.now (sym c.goes_on.ensures ∙ c.if-not-goes_on.false)
+    c.in_ok-awaited.awaited c.in-Some.class c.in_ok-awaited.ensures.answer c.in-Some.is
+    (state_of c.attempt.new.markers c.attempt.new.parts) c.in_ok-awaited.ensures.state c.finish.new.markers c.finish.new.parts (settled-in c.args.originals.now.world c.attempt.new.originals.world (state_of c.finish.new.markers c.finish.new.parts) (state_of c.attempt.new.markers c.attempt.new.parts) c.in_ok-awaited.ensures.world c.in_ok-finish.ensures)
+    (sym c.is_ready.ensures ∙ c.if-not-is_ready.true)
+
+pub attempt-requires-2-clause-linked : goal.attempt-requires-2-clause-linked
+attempt-requires-2-clause-linked c =
+    loaded-behind c.args.originals.now.world (state_of c.attempt.new.markers c.attempt.new.parts) (state_of c.finish.new.markers c.finish.new.parts) c.attempt.new.originals.loaded
+    (settled-in c.args.originals.now.world c.attempt.new.originals.world (state_of c.finish.new.markers c.finish.new.parts) (state_of c.attempt.new.markers c.attempt.new.parts) c.in_ok-awaited.ensures.world c.in_ok-finish.ensures) c.in_ok-awaited.ensures.linked
+
+pub attempt-requires-2-clause-fit : goal.attempt-requires-2-clause-fit
+attempt-requires-2-clause-fit c = subst (λ w. IsFit w.program) (sym c.in_ok-awaited.ensures.world) c.requires.fit
+
+pub attempt-requires-2-clause-sound : goal.attempt-requires-2-clause-sound
+attempt-requires-2-clause-sound c =
+    subst (λ w. IsSound w.program (state_of c.finish.new.markers c.finish.new.parts)) (sym c.in_ok-awaited.ensures.world)
+    (sound-again c.args.originals.now.world c.args.markers.now c.args.parts.now (sym c.goes_on.ensures ∙ c.if-not-goes_on.false)
+    c.in_ok-awaited.awaited c.in-Some.class c.in_ok-awaited.ensures.answer c.in-Some.is
+    (state_of c.attempt.new.markers c.attempt.new.parts) c.in_ok-awaited.ensures.state c.finish.new.markers c.finish.new.parts (settled-in c.args.originals.now.world c.attempt.new.originals.world (state_of c.finish.new.markers c.finish.new.parts) (state_of c.attempt.new.markers c.attempt.new.parts) c.in_ok-awaited.ensures.world c.in_ok-finish.ensures)
+    c.requires.fit c.requires.sound)
+
+pub attempt-requires-2-clause-unmarked : goal.attempt-requires-2-clause-unmarked
+attempt-requires-2-clause-unmarked c =
+    unmarked-again c.args.originals.now.world c.args.markers.now c.args.parts.now (sym c.goes_on.ensures ∙ c.if-not-goes_on.false)
+    c.in_ok-awaited.awaited c.in-Some.class c.in_ok-awaited.ensures.answer c.in-Some.is
+    (state_of c.attempt.new.markers c.attempt.new.parts) c.in_ok-awaited.ensures.state c.finish.new.markers c.finish.new.parts (settled-in c.args.originals.now.world c.attempt.new.originals.world (state_of c.finish.new.markers c.finish.new.parts) (state_of c.attempt.new.markers c.attempt.new.parts) c.in_ok-awaited.ensures.world c.in_ok-finish.ensures)
+    (sym c.is_ready.ensures ∙ c.if-not-is_ready.false)

@@ -6,7 +6,7 @@ use Rattle.jvm_steps.proofs.stepping.step_on.Goals as goal
 
 pub returns-clause-made : goal.returns-clause-made
 returns-clause-made c =
-    let w = c.args.originals.now in
+    let w = c.args.originals.now.world in
     let mid = state_of c.args.markers.now c.step_plainly-plain.new.parts in
     let new = state_of c.step.new.markers c.step.new.parts in
     leads-on w (state_of c.args.markers.now c.args.parts.now) mid new c.step_plainly-plain.result 1 c.step_plainly-plain.ensures.made

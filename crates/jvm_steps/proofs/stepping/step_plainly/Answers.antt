@@ -7,7 +7,7 @@ use Rattle.jvm_steps.proofs.stepping.step_plainly.Goals as goal
 use Rattle.std.proofs.Common.{length}
 
 pub returns-then-is_some-clause-made : goal.returns-then-is_some-clause-made
-returns-then-is_some-clause-made c = leads-none c.args.originals.now (state_of c.args.markers.now c.args.parts.now)
+returns-then-is_some-clause-made c = leads-none c.args.originals.now.world (state_of c.args.markers.now c.args.parts.now)
 
 pub returns-clause-made : goal.returns-clause-made
 returns-clause-made c =
