@@ -187,17 +187,17 @@ can-link w (Some r) s told loads_told started broken clock loaded is linked whol
 
 -- ---- going on, by what the program has computed
 
-pub is_advanced_in : (v : View) (w : World) (r : Option Rewritten) (s after : State) (told next : ℕ) (probe : Option Probe) (loads : List ℕ) (loads_told started broken : Bool) (clock n : ℕ)
+advanced-same : (v : View) (w : World) (r : Option Rewritten) (s after : State) (told next : ℕ) (probe : Option Probe) (loads : List ℕ) (loads_told started broken : Bool) (clock n : ℕ)
     → seen_in w r s told loads_told started broken clock ≡ v → AreRunning w r s told loads_told started broken clock → v.broken ≡ false → IsGoingOn v
     → (let m = moved_in w r started loads_told told s in (after ≡ m.state) × (next ≡ m.told) × (probe ≡ m.probe) × (loads ≡ m.loads))
     → n ≡ clock_in (told == 0 && not loads_told) started clock
     → GoesOnIn v w r n (moved_to after next probe loads)
-is_advanced_in v w (Some r) s after told next probe loads loads_told started broken clock n sees is whole going moves now =
+advanced-same v w (Some r) s after told next probe loads loads_told started broken clock n sees is whole going moves now =
     let goes = is_advanced v (installed w r) s after told next probe loads loads_told started broken clock n sees is whole going moves now in
     record { running = goes.running; advances = goes.advances }
-is_advanced_in v w None s after told next probe loads loads_told started true clock n sees is whole going moves now =
+advanced-same v w None s after told next probe loads loads_told started true clock n sees is whole going moves now =
     absurd (let broken : true ≡ v.broken = ap (λ (x : View). x.broken) sees in cc)
-is_advanced_in v w None s after told next probe loads loads_told started false clock n sees is whole going moves now =
+advanced-same v w None s after told next probe loads loads_told started false clock n sees is whole going moves now =
     let old : ℕ → View = λ k. seen_in w None s k loads_told started false clock in
     let m : Move = moved_original w started loads_told s in
     let same : moved_to after next probe loads ≡ m = ap (λ a. moved_to a next probe loads) moves.0 ∙ (ap (λ b. moved_to m.state b probe loads) moves.1
@@ -207,6 +207,16 @@ is_advanced_in v w None s after told next probe loads loads_told started false c
     (subst (λ k. GoesOnIn (old told) w None k m) (sym now)
     (subst (λ k. GoesOnIn (old k) w None (clock_in (k == 0 && not loads_told) started clock) m) (sym is.told)
     (original-goes w s loads_told started clock (subst (λ k. IsOriginal (old k) s) is.told is)))))
+
+-- in a world that is the same
+pub is_advanced_in : (v : View) (w now : World) (r : Option Rewritten) (s after : State) (told next : ℕ) (probe : Option Probe) (loads : List ℕ) (loads_told started broken : Bool) (clock n : ℕ)
+    → now ≡ w → seen_in w r s told loads_told started broken clock ≡ v → AreRunning w r s told loads_told started broken clock → v.broken ≡ false → IsGoingOn v
+    → (let m = moved_in w r started loads_told told s in (after ≡ m.state) × (next ≡ m.told) × (probe ≡ m.probe) × (loads ≡ m.loads))
+    → n ≡ clock_in (told == 0 && not loads_told) started clock
+    → GoesOnIn v now r n (moved_to after next probe loads)
+is_advanced_in v w now r s after told next probe loads loads_told started broken clock n same sees is whole going moves later =
+    subst (λ (x : World). GoesOnIn v x r n (moved_to after next probe loads)) (sym same)
+    (advanced-same v w r s after told next probe loads loads_told started broken clock n sees is whole going moves later)
 
 -- ---- what the linker has loaded
 
@@ -227,14 +237,14 @@ linked-now o r false clock n built agrees same =
     ∙ (ap (λ (l : Loading). l.loaded) (built.meant.alone o.world.input)
     ∙ sym (run-loaded t built.class built.program built.meant agrees n))
 
-pub is_linked_in : (o : Linked) (r : Option Rewritten) (s after : State) (told next : ℕ) (loads_told told_now started broken : Bool) (clock n : ℕ) (loaded : List ℕ)
+pub is_linked_in : (o : Linked) (now : World) (r : Option Rewritten) (s after : State) (told next : ℕ) (loads_told told_now started broken : Bool) (clock n : ℕ) (loaded : List ℕ) → now ≡ o.world
     → AreRunning o.world r s told loads_told started broken clock → IsLinked (seen_in o.world r s told loads_told started broken clock) o.loaded → broken ≡ false
-    → AreRunning o.world r after next told_now true false n → Links o r started after loaded
-    → IsLinked (seen_in o.world r after next told_now true false n) loaded
-is_linked_in o None s after told next loads_told told_now started broken clock n loaded was before whole is links =
-    linked-original (seen_in o.world None after next told_now true false n) after loaded is links
-is_linked_in o (Some r) s after told next loads_told told_now started broken clock n loaded was before whole is links =
-    λ unbroken. links ∙ linked-now o r started clock n was.built was.agrees (before whole)
+    → AreRunning now r after next told_now true false n → Links o r started after loaded
+    → IsLinked (seen_in now r after next told_now true false n) loaded
+is_linked_in o now None s after told next loads_told told_now started broken clock n loaded same was before whole is links =
+    linked-original (seen_in now None after next told_now true false n) after loaded is links
+is_linked_in o now (Some r) s after told next loads_told told_now started broken clock n loaded same was before whole is links =
+    λ unbroken. links ∙ (linked-now o r started clock n was.built was.agrees (before whole) ∙ ap (λ (x : World). (run x n).shared.loaded) (sym same))
 
 -- what is shown is the model's, of the last step or of the step before
 pub shown-in : (w : World) (r : Option Rewritten) (s : State) (told : ℕ) (loads_told started broken : Bool) (clock : ℕ) → AreRunning w r s told loads_told started broken clock

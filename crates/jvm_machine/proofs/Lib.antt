@@ -9,6 +9,7 @@ pub mod StepLoads
 pub mod Steps
 pub mod Machines
 pub mod BothWays
+mod Advanced
 mod Onward
 mod Within
 mod Families

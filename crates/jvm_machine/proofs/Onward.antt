@@ -68,16 +68,16 @@ rests-none v rests = let parts = and_parts (v.told == 0) (not v.loads_told) rest
   by false e = refl
   by true e = absurd (false≢true e)
 
-pub goes_onward : (v : View) (w : World) (r : Option Rewritten) (s after : State) (told : ℕ) (loads_told started broken : Bool) (clock n most : ℕ)
+goes-same : (v : View) (w : World) (r : Option Rewritten) (s after : State) (told : ℕ) (loads_told started broken : Bool) (clock n most : ℕ)
     → seen_in w r s told loads_told started broken clock ≡ v → AreRunning w r s told loads_told started broken clock → v.runs_original ≡ true → v.started ≡ true → v.broken ≡ false
     → is_resting v ≡ true → n ≤ most → Leads w s n after → (n < most → is_some after.ending ≡ true) → GoesOnward v w r after told loads_told started (clock + n) most
-goes_onward v w (Some r) s after told loads_told started broken clock n most sees is none started_is whole rests few leads ends =
+goes-same v w (Some r) s after told loads_told started broken clock n most sees is none started_is whole rests few leads ends =
     absurd (let versions : false ≡ v.runs_original = ap (λ (x : View). x.runs_original) sees in false≢true (versions ∙ none))
-goes_onward v w None s after told loads_told false broken clock n most sees is none started_is whole rests few leads ends =
+goes-same v w None s after told loads_told false broken clock n most sees is none started_is whole rests few leads ends =
     absurd (let early : false ≡ v.started = ap (λ (x : View). x.started) sees in false≢true (early ∙ started_is))
-goes_onward v w None s after told loads_told true true clock n most sees is none started_is whole rests few leads ends =
+goes-same v w None s after told loads_told true true clock n most sees is none started_is whole rests few leads ends =
     absurd (let broken : true ≡ v.broken = ap (λ (x : View). x.broken) sees in false≢true (sym (broken ∙ whole)))
-goes_onward v w None s after told loads_told true false clock n most sees is none started_is whole rests few leads ends =
+goes-same v w None s after told loads_told true false clock n most sees is none started_is whole rests few leads ends =
     let old : ℕ → Bool → View = λ k b. seen_in w None s k b true false clock in
     let nothing = rests-none v rests in
     let told_is : told ≡ 0 = ap (λ (x : View). x.told) sees ∙ nothing.0 in
@@ -86,6 +86,14 @@ goes_onward v w None s after told loads_told true false clock n most sees is non
     (subst (λ k. GoesOnward (old k loads_told) w None after k loads_told true (clock + n) most) (sym told_is)
     (subst (λ b. GoesOnward (old 0 b) w None after 0 b true (clock + n) most) (sym loads_is)
     (onward-at w s after clock n most (subst (λ b. IsOriginal (old 0 b) s) loads_is (subst (λ k. IsOriginal (old k loads_told) s) told_is is)) few leads ends)))
+
+-- in a world that is the same
+pub goes_onward : (v : View) (w now : World) (r : Option Rewritten) (s after : State) (told : ℕ) (loads_told started broken : Bool) (clock n most : ℕ) → now ≡ w
+    → seen_in w r s told loads_told started broken clock ≡ v → AreRunning w r s told loads_told started broken clock → v.runs_original ≡ true → v.started ≡ true → v.broken ≡ false
+    → is_resting v ≡ true → n ≤ most → Leads w s n after → (n < most → is_some after.ending ≡ true) → GoesOnward v now r after told loads_told started (clock + n) most
+goes_onward v w now r s after told loads_told started broken clock n most same sees is none started_is whole rests few leads ends =
+    subst (λ (x : World). GoesOnward v x r after told loads_told started (clock + n) most) (sym same)
+    (goes-same v w r s after told loads_told started broken clock n most sees is none started_is whole rests few leads ends)
 
 -- what that needs
 pub can-run : (v : View) (o : Linked) (r : Option Rewritten) (s : State) (told : ℕ) (loads_told started broken : Bool) (clock : ℕ)
@@ -100,13 +108,13 @@ can-run v o None s told loads_told started broken clock sees is linked none star
     (can.fit, can.sound (ap (λ (x : View). x.started) sees ∙ started_is), can-link o.world None s told loads_told started broken clock o.loaded is linked unbroken)
 
 -- and what the linker has loaded then
-pub linked-onward : (v : View) (w : World) (r : Option Rewritten) (s after : State) (told : ℕ) (loads_told started broken : Bool) (clock later : ℕ) (loaded : List ℕ)
-    → seen_in w r s told loads_told started broken clock ≡ v → v.runs_original ≡ true → AreRunning w r after told loads_told started false later → loaded ≡ after.shared.loaded
-    → IsLinked (seen_in w r after told loads_told started false later) loaded
-linked-onward v w (Some r) s after told loads_told started broken clock later loaded sees none is same =
+pub linked-onward : (v : View) (w now : World) (r : Option Rewritten) (s after : State) (told : ℕ) (loads_told started broken : Bool) (clock later : ℕ) (loaded : List ℕ)
+    → seen_in w r s told loads_told started broken clock ≡ v → v.runs_original ≡ true → AreRunning now r after told loads_told started false later → loaded ≡ after.shared.loaded
+    → IsLinked (seen_in now r after told loads_told started false later) loaded
+linked-onward v w now (Some r) s after told loads_told started broken clock later loaded sees none is same =
     absurd (let versions : false ≡ v.runs_original = ap (λ (x : View). x.runs_original) sees in false≢true (versions ∙ none))
-linked-onward v w None s after told loads_told started broken clock later loaded sees none is same =
-    linked-original (seen_in w None after told loads_told started false later) after loaded is same
+linked-onward v w now None s after told loads_told started broken clock later loaded sees none is same =
+    linked-original (seen_in now None after told loads_told started false later) after loaded is same
 
 -- original code may have markers
 pub plain-original : (v : View) (w : World) (r : Option Rewritten) (ms : List Marker) (s : State) (told : ℕ) (loads_told started broken : Bool) (clock : ℕ)

@@ -1,6 +1,6 @@
 //! One call of `step` over original code, or over the versions that are installed.
 
-ghost use Rattle.std.specs.Prelude.{◌≡◌, [], drop, false, None, OnOk, IfOk};
+ghost use Rattle.std.specs.Prelude.{◌≡◌, [], drop, false, OnOk, IfOk};
 ghost use Rattle.jvm_model.specs.Installed.{world_in};
 ghost use Rattle.jvm_steps.specs.Before.{IsAtStart};
 ghost use Rattle.jvm_steps.specs.Markers.{state_of};
@@ -12,7 +12,6 @@ ghost use Rattle.jvm_machine.specs.Prepared.{installed};
 
 use crate::stepping::{Advance, brought, move_on};
 use crate::tables::{Tables, Versions};
-use class_linker::Loaded;
 use jf_bytes::{NoMemory, Seq, Stack};
 use jvm_steps::{Marker, Originals, Parts, start, step};
 use std::alloc::Global;
@@ -70,8 +69,10 @@ fn move_original(
     requires linked { originals.old.loaded ≡ parts.old.shared.loaded }
     ensures moved { let w = originals.old.world in let s = state_of markers.old parts.old in
         MovesAll result markers.new parts.new (moved_original w started loads_told s) }
-    ensures told { IfOk result (λ a. a.told ≡ 0) }
-    ensures probe { IfOk result (λ a. a.probe ≡ None) }
+    ensures told { let w = originals.old.world in let s = state_of markers.old parts.old in
+        TellsAs result (moved_original w started loads_told s) }
+    ensures probe { let w = originals.old.world in let s = state_of markers.old parts.old in
+        PassesAs result (moved_original w started loads_told s) }
     ensures loads { let w = originals.old.world in let s = state_of markers.old parts.old in
         LoadsAs result (moved_original w started loads_told s) }
     ensures linked { OnOk result (originals.new.loaded ≡ parts.new.shared.loaded) }
@@ -111,17 +112,6 @@ fn move_versions(
     move_on(alloc, tables, parts, started, loads_told, told)
 }
 
-/// The linker loads the main class, with what it needs.
-fn link_main(alloc: Global, originals: &mut Originals) -> Result<(), NoMemory>
-    ensures loaded { OnOk result (originals.new.loaded ≡ linked_over originals.old false) }
-    ensures world { originals.new.world ≡ originals.old.world }
-{
-    match originals.load_main(alloc)? {
-        Loaded::New(..) | Loaded::Already(_) | Loaded::Throws(..) => Ok(()),
-        Loaded::NoMemory => Err(NoMemory),
-    }
-}
-
 /// The linker loads the main class by the start.
 fn link(alloc: Global, originals: &mut Originals, started: bool) -> Result<(), NoMemory>
     ensures loaded { OnOk result (originals.new.loaded ≡ linked_over originals.old started) }
@@ -130,7 +120,7 @@ fn link(alloc: Global, originals: &mut Originals, started: bool) -> Result<(), N
     if started {
         Ok(())
     } else {
-        link_main(alloc, originals)
+        originals.link_main(alloc)
     }
 }
 

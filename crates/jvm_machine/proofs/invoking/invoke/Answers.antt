@@ -13,14 +13,14 @@ returns-then-not-fits_params-clause-state c =
     ap state_in c.break_off.ensures
     ∙ sym
     (ap (λ (a : Turn). a.after)
-    (invokes-by c.args.tables.now c.args.line c.args.method c.args.callee c.args.parts.now c.originals-originals.result.now (may_begin c.args.parts.now.frames.frames) false c.requires c.originals-originals.ensures
+    (invokes-by c.args.tables.now c.args.line c.args.method c.args.callee c.args.parts.now c.originals-originals.result.now.world (may_begin c.args.parts.now.frames.frames) false c.requires c.originals-originals.ensures
     refl (sym c.fits_params.ensures ∙ c.if-not-fits_params.true)))
 
 pub returns-then-not-fits_params-clause-begun : goal.returns-then-not-fits_params-clause-begun
 returns-then-not-fits_params-clause-begun c =
     sym
     (ap (λ (a : Turn). has_begun a.changes)
-    (invokes-by c.args.tables.now c.args.line c.args.method c.args.callee c.args.parts.now c.originals-originals.result.now (may_begin c.args.parts.now.frames.frames) false c.requires c.originals-originals.ensures
+    (invokes-by c.args.tables.now c.args.line c.args.method c.args.callee c.args.parts.now c.originals-originals.result.now.world (may_begin c.args.parts.now.frames.frames) false c.requires c.originals-originals.ensures
     refl (sym c.fits_params.ensures ∙ c.if-not-fits_params.true)))
 
 pub returns-then-not-may_begin-clause-state : goal.returns-then-not-may_begin-clause-state
@@ -28,14 +28,14 @@ returns-then-not-may_begin-clause-state c =
     ap state_in (c.in_ok-raise.ensures ∙ ap (λ w. raising w StackOverflow None c.args.parts.now) c.originals-originals.ensures)
     ∙ sym
     (ap (λ (a : Turn). a.after)
-    (invokes-by c.args.tables.now c.args.line c.args.method c.args.callee c.args.parts.now c.originals-originals.result.now false true c.requires c.originals-originals.ensures
+    (invokes-by c.args.tables.now c.args.line c.args.method c.args.callee c.args.parts.now c.originals-originals.result.now.world false true c.requires c.originals-originals.ensures
     (sym c.may_begin.ensures ∙ c.if-not-may_begin.true) (sym c.fits_params.ensures ∙ c.if-not-fits_params.false)))
 
 pub returns-then-not-may_begin-clause-begun : goal.returns-then-not-may_begin-clause-begun
 returns-then-not-may_begin-clause-begun c =
     sym
     (ap (λ (a : Turn). has_begun a.changes)
-    (invokes-by c.args.tables.now c.args.line c.args.method c.args.callee c.args.parts.now c.originals-originals.result.now false true c.requires c.originals-originals.ensures
+    (invokes-by c.args.tables.now c.args.line c.args.method c.args.callee c.args.parts.now c.originals-originals.result.now.world false true c.requires c.originals-originals.ensures
     (sym c.may_begin.ensures ∙ c.if-not-may_begin.true) (sym c.fits_params.ensures ∙ c.if-not-fits_params.false)))
 
 pub returns-clause-state : goal.returns-clause-state
@@ -43,12 +43,12 @@ returns-clause-state c =
     ap (λ fs. state_with fs c.args.parts.now) c.in_ok-begin_callee.ensures
     ∙ sym
     (ap (λ (a : Turn). a.after)
-    (invokes-by c.args.tables.now c.args.line c.args.method c.args.callee c.args.parts.now c.originals-originals.result.now true true c.requires c.originals-originals.ensures
+    (invokes-by c.args.tables.now c.args.line c.args.method c.args.callee c.args.parts.now c.originals-originals.result.now.world true true c.requires c.originals-originals.ensures
     (sym c.may_begin.ensures ∙ c.if-not-may_begin.false) (sym c.fits_params.ensures ∙ c.if-not-fits_params.false)))
 
 pub returns-clause-begun : goal.returns-clause-begun
 returns-clause-begun c =
     sym
     (ap (λ (a : Turn). has_begun a.changes)
-    (invokes-by c.args.tables.now c.args.line c.args.method c.args.callee c.args.parts.now c.originals-originals.result.now true true c.requires c.originals-originals.ensures
+    (invokes-by c.args.tables.now c.args.line c.args.method c.args.callee c.args.parts.now c.originals-originals.result.now.world true true c.requires c.originals-originals.ensures
     (sym c.may_begin.ensures ∙ c.if-not-may_begin.false) (sym c.fits_params.ensures ∙ c.if-not-fits_params.false)))

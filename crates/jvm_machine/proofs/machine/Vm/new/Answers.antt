@@ -1,6 +1,8 @@
 use Rattle.std.proofs.Common.{sym, ap, subst, ◌∙◌}
 use Rattle.jvm_model.specs.declared.program.Program.{Program}
 use Rattle.jvm_model.specs.Run.{before}
+use Rattle.jvm_model.specs.SharedState.{built_in_from}
+use Rattle.jvm_model.specs.Sound.{IsFit}
 use Rattle.jvm_steps.specs.Before.{CanStart}
 use Rattle.jvm_steps.specs.Markers.{state_of}
 use Rattle.jvm_steps.proofs.MarkedParts.{plain-state}
@@ -10,16 +12,18 @@ use Rattle.jvm_machine.proofs.machine.Vm.new.Goals as goal
 pub invariant_of-result : goal.invariant_of-result
 invariant_of-result c = (
   λ whole. tt,
-  is_made c.in_ok-originals.originals (state_of c.new-2.result c.in_ok-parts.parts) (subst CanStart (sym c.in_ok-originals.ensures.program) c.requires.starts)
+  is_made c.in_ok-originals.originals.world (state_of c.new-2.result c.in_ok-parts.parts) (subst IsFit (sym c.in_ok-originals.ensures.program) c.requires.fit)
+      (subst CanStart (sym c.in_ok-originals.ensures.program) c.requires.starts)
       (plain-state c.new-2.result c.in_ok-parts.parts c.new-2.ensures
-      ∙ (c.in_ok-parts.ensures c.in_ok-originals.originals.input
-      ∙ ap (λ (p : Program). before (record { program = p; input = c.in_ok-originals.originals.input })) (sym c.in_ok-originals.ensures.program))),
+      ∙ (c.in_ok-parts.ensures c.in_ok-originals.originals.world.input
+      ∙ ap (λ (p : Program). before (record { program = p; input = c.in_ok-originals.originals.world.input })) (sym c.in_ok-originals.ensures.program))),
+  λ whole. c.in_ok-originals.ensures.loaded ∙ ap (λ (p : Program). built_in_from 0 p.classes) (sym c.in_ok-originals.ensures.program),
 )
 
 pub returns : goal.returns
 returns c =
-    seen-made c.in_ok-originals.originals c.args.program c.args.input.items (state_of c.new-2.result c.in_ok-parts.parts) c.in_ok-originals.ensures.program
+    seen-made c.in_ok-originals.originals.world c.args.program c.args.input.items (state_of c.new-2.result c.in_ok-parts.parts) c.in_ok-originals.ensures.program
     (c.in_ok-originals.ensures.input ∙ c.from_vec.ensures)
     (plain-state c.new-2.result c.in_ok-parts.parts c.new-2.ensures
-    ∙ (c.in_ok-parts.ensures c.in_ok-originals.originals.input
-    ∙ ap (λ (p : Program). before (record { program = p; input = c.in_ok-originals.originals.input })) (sym c.in_ok-originals.ensures.program)))
+    ∙ (c.in_ok-parts.ensures c.in_ok-originals.originals.world.input
+    ∙ ap (λ (p : Program). before (record { program = p; input = c.in_ok-originals.originals.world.input })) (sym c.in_ok-originals.ensures.program)))
