@@ -1,10 +1,10 @@
 -- The array types that lines name have the dimensions that the format asks (JVM Specification 4.9.1).
-use Rattle.std.proofs.Common.{◌≡◌, ◌≤◌, ◌<◌, ℕ, Bool, true, false, cond, List, [], ◌∷◌, Option, Some, None, refl, sym, ap, subst, ◌∙◌}
-use Rattle.std.specs.Prelude.{◌==◌, ◌&&◌, nat_lt, nat_le}
+use Rattle.std.proofs.Common.{◌≡◌, ℕ, Bool, true, false, cond, List, [], ◌∷◌, Option, Some, None, refl, sym, subst}
+use Rattle.std.specs.Prelude.{◌==◌, ◌&&◌, nat_le}
 use Rattle.std.specs.Borrow.{Bor}
 use Rattle.std.specs.Int.{is_in_range}
 use Rattle.std.specs.List.{AllByRecursion}
-use Rattle.std.specs.Option.{IfSome, option_and_then, option_copied, option_map}
+use Rattle.std.specs.Option.{IfSome, option_and_then, option_map}
 use Rattle.std.proofs.lemmas.Bool.{ltb-true, leb-true}
 use Rattle.const_pool.specs.declared.class.ClassFile.{ClassFile}
 use Rattle.code_model.specs.declared.instr.Arg.{Arg}
@@ -17,13 +17,13 @@ use Rattle.jvm_model.specs.declared.program.Program.{Program}
 use Rattle.jvm_model.specs.Data.{Local, Return, Operation, Within, Named, Naming, New, Getfield, Putfield, Getstatic, Putstatic, Invokevirtual, Invokespecial, Invokestatic, Invokeinterface, Checkcast, Instanceof, Anewarray, Multianewarray, Athrow, Monitor, Newarray, Arraylength, LoadElement, StoreElement}
 use Rattle.jvm_model.specs.Families.{family_of}
 use Rattle.jvm_model.specs.Kinds.{meaning_of}
-use Rattle.jvm_model.specs.Lines.{ObjectRow, constant_in, has_dimensions, interface_naming, local_of, multi_naming, named_by, naming_of, newarray_of, object_among, object_rows, operation_by, operation_of, other_operation}
+use Rattle.jvm_model.specs.Lines.{ObjectRow, constant_in, has_dimensions, interface_naming, local_of, multi_naming, named_by, naming_of, object_among, object_rows, operation_by, operation_of, other_operation}
 use Rattle.jvm_model.specs.Methods.{method_code}
 use Rattle.jvm_model.specs.Programs.{class_at, place_of_method}
 use Rattle.jvm_named.specs.Names.{naming_view}
 use Rattle.jvm_named.specs.Objects.{HasDimensions}
 use Rattle.jvm_steps.specs.declared.line.Line.{Line}
-use Rattle.jvm_steps.specs.Lines.{IfNamed, IfNamedBy, action_of, line_at, line_with, local_action, named_as}
+use Rattle.jvm_steps.specs.Lines.{IfNamed, IfNamedBy, action_of, line_at, line_with, named_as}
 
 -- ---- operations
 

@@ -27,6 +27,7 @@ pub mod Concluded
 pub mod NamedAttempts
 pub mod Sounded
 pub mod Behind
+pub mod Starts
 pub mod Above
 pub mod ElementLemmas
 pub mod ElementActs

@@ -87,7 +87,8 @@ plain-at w line ms p (f ∷ fs) room new calm stands e made =
     ∙ (comes-carried ms w line s (frame_in f) (rule_of line.instr line.constant line.next f.locals f.operands) free
     ∙ sym (ap (attempts_line w (with_markers ms s) (frame_in f)) stands.0 ∙ ap (acts_by w line (with_markers ms s) (frame_in f)) stands.1)) in
     step-attempts w (state_of ms q) going
-    (ap (awaited_on w p.shared) (top-frame ms f fs calm.unmarked) ∙ (ap (awaited_by p.shared) stands.0 ∙ ap (awaited p.shared) stands.1))
+    (ap (awaited_on w (state_of ms q)) (top-frame ms f fs calm.unmarked)
+    ∙ (ap (awaited_by w (with_markers ms s) (frame_in f)) stands.0 ∙ ap (awaited w (with_markers ms s) (frame_in f)) stands.1))
     (with_markers ms (state_with new.frames p)) (with_markers ms (state_with new.frames p))
     (attempted ∙ sym (ap (attempts_on w (state_of ms q)) (top-frame ms f fs calm.unmarked)))
     (rests w (original w.program) ms r

@@ -1,7 +1,8 @@
 -- What stands at an offset of the prepared code is what the text of original code has there.
 use Rattle.std.proofs.Common.{◌≡◌, ℕ, Bool, true, false, cond, List, [], ◌∷◌, Option, Some, None, refl, sym, ap, subst, ◌∙◌}
 use Rattle.std.proofs.lemmas.Bool.{false≢true}
-use Rattle.std.specs.Prelude.{◌==◌}
+use Rattle.std.specs.Prelude.{◌==◌, ◌&&◌}
+use Rattle.std.specs.Int.{is_in_range}
 use Rattle.std.specs.Option.{option_and_then, option_map}
 use Rattle.std.proofs.lemmas.Option.{same_Some, none-some}
 use Rattle.heap_objects.specs.declared.datum.Datum.{Datum}
@@ -218,7 +219,7 @@ module _ (c : ClassFile) (i : Instr) where
   tied-other is (arg.Pool index) = tied-naming is (naming_of c i.op index)
   tied-other is (arg.Interface index count zero) = tied-naming is (interface_naming c i.op index)
   tied-other is (arg.Multi index dimensions) = tied-naming is (multi_naming c i.op index dimensions)
-  tied-other is (arg.Array code) = either (i.op == 188) _ _ (tied-object is (Newarray code) refl) tt
+  tied-other is (arg.Array code) = either (i.op == 188 && is_in_range 4 11 code) _ _ (tied-object is (Newarray code) refl) tt
   tied-other is arg.Plain = tied-rows is object_rows refl
   tied-other is _ = tt
 

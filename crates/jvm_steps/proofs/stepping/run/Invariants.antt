@@ -1,12 +1,14 @@
--- so many steps lead to the state
-use Rattle.std.proofs.Common.{◌≤◌, ◌-◌}
+-- so many steps lead to the state, in the same world, and the linker has loaded what the state has
+use Rattle.std.proofs.Common.{◌≡◌, ◌≤◌, ◌-◌}
 use Rattle.jvm_steps.specs.Markers.{state_of}
 use Rattle.jvm_steps.specs.Runs.{Leads}
 use Rattle.jvm_steps.proofs.stepping.run.Given as goal
 
 pub record Loops (l : goal.Live-loop-made) : Type 0 where
   pub within : l.made ≤ l.most
-  pub leads : Leads l.originals.world (state_of l.fn.markers l.fn.parts) l.made (state_of l.markers l.parts)
+  pub world : l.originals.world ≡ l.fn.originals.world
+  pub linked : l.originals.loaded ≡ l.parts.shared.loaded
+  pub leads : Leads l.fn.originals.world (state_of l.fn.markers l.fn.parts) l.made (state_of l.markers l.parts)
 
 abbrev pub invariant-loop-made : goal.invariant-loop-made
 invariant-loop-made l = Loops l

@@ -2,7 +2,7 @@ use Rattle.std.proofs.Common.{sym, ap, subst, ◌∙◌}
 use Rattle.std.proofs.lemmas.Result.{on_ok_weaker}
 use Rattle.jvm_model.specs.Sound.{IsFit, IsSound}
 use Rattle.jvm_steps.specs.Markers.{state_of}
-use Rattle.jvm_steps.proofs.Behind.{again-done, attempts-all, loaded-behind, none-there, not-ready, settled-in, sound-again, unmarked-again}
+use Rattle.jvm_steps.proofs.Behind.{again-done, attempted-in, attempts-all, loaded-behind, none-there, not-ready, settled-in, sound-again, unmarked-again}
 use Rattle.jvm_steps.proofs.LineSteps.{step-stays}
 use Rattle.jvm_steps.proofs.stepping.step.Goals as goal
 
@@ -58,3 +58,27 @@ attempt-requires-2-clause-unmarked c =
     c.in_ok-awaited.awaited c.in-Some.class c.in_ok-awaited.ensures.answer c.in-Some.is
     (state_of c.attempt.new.markers c.attempt.new.parts) c.in_ok-awaited.ensures.state c.finish.new.markers c.finish.new.parts (settled-in c.args.originals.now.world c.attempt.new.originals.world (state_of c.finish.new.markers c.finish.new.parts) (state_of c.attempt.new.markers c.attempt.new.parts) c.in_ok-awaited.ensures.world c.in_ok-finish.ensures)
     (sym c.is_ready.ensures ∙ c.if-not-is_ready.false)
+
+pub returns-clause-state : goal.returns-clause-state
+returns-clause-state c =
+    let w = c.args.originals.now.world in
+    let s = state_of c.finish.new.markers c.finish.new.parts in
+    let mid = state_of c.attempt-2.new.markers c.attempt-2.new.parts in
+    on_ok_weaker c.finish-2.result
+    (λ e. again-done w c.args.markers.now c.args.parts.now (sym c.goes_on.ensures ∙ c.if-not-goes_on.false)
+    c.in_ok-awaited.awaited c.in-Some.class c.in_ok-awaited.ensures.answer c.in-Some.is
+    (state_of c.attempt.new.markers c.attempt.new.parts) c.in_ok-awaited.ensures.state c.finish.new.markers c.finish.new.parts
+    (settled-in w c.attempt.new.originals.world s (state_of c.attempt.new.markers c.attempt.new.parts) c.in_ok-awaited.ensures.world c.in_ok-finish.ensures)
+    (sym c.is_ready.ensures ∙ c.if-not-is_ready.false) mid (state_of c.finish-2.new.markers c.finish-2.new.parts)
+    (attempted-in w c.attempt.new.originals.world s mid c.in_ok-awaited.ensures.world c.in_ok-attempt.ensures.state)
+    (settled-in w c.attempt-2.new.originals.world (state_of c.finish-2.new.markers c.finish-2.new.parts) mid
+    (c.in_ok-attempt.ensures.world ∙ c.in_ok-awaited.ensures.world) e))
+    c.finish-2.ensures
+
+pub returns-clause-linked : goal.returns-clause-linked
+returns-clause-linked c =
+    let mid = state_of c.attempt-2.new.markers c.attempt-2.new.parts in
+    on_ok_weaker c.finish-2.result
+    (λ e. loaded-behind c.attempt-2.new.originals.world mid (state_of c.finish-2.new.markers c.finish-2.new.parts) c.attempt-2.new.originals.loaded
+    e c.in_ok-attempt.ensures.linked)
+    c.finish-2.ensures

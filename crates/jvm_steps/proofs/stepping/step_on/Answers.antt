@@ -1,8 +1,15 @@
-use Rattle.std.proofs.Common.{ap}
+use Rattle.std.proofs.Common.{ap, sym, ◌∙◌}
 use Rattle.std.specs.Prelude.{is_some}
+use Rattle.jvm_model.specs.declared.state.Shared.{Shared}
 use Rattle.jvm_steps.specs.Markers.{state_of}
+use Rattle.jvm_steps.proofs.Behind.{leads-sound}
 use Rattle.jvm_steps.proofs.Leading.{leads-one, leads-on}
 use Rattle.jvm_steps.proofs.stepping.step_on.Goals as goal
+
+pub step-requires-clause-sound : goal.step-requires-clause-sound
+step-requires-clause-sound c =
+    leads-sound c.args.originals.now.world c.requires.fit (state_of c.args.markers.now c.args.parts.now) c.step_plainly-plain.result
+    (state_of c.args.markers.now c.step_plainly-plain.new.parts) c.step_plainly-plain.ensures.made c.requires.sound
 
 pub returns-clause-made : goal.returns-clause-made
 returns-clause-made c =
@@ -10,4 +17,4 @@ returns-clause-made c =
     let mid = state_of c.args.markers.now c.step_plainly-plain.new.parts in
     let new = state_of c.step.new.markers c.step.new.parts in
     leads-on w (state_of c.args.markers.now c.args.parts.now) mid new c.step_plainly-plain.result 1 c.step_plainly-plain.ensures.made
-    (leads-one w mid new (ap is_some c.step_plainly-plain.ensures.ending) c.in_ok-step.ensures)
+    (leads-one w mid new (ap is_some c.step_plainly-plain.ensures.ending) c.in_ok-step.ensures.state)
