@@ -1,20 +1,23 @@
 -- The start: what was found for the main class's name is what the model's start goes on with.
-use Rattle.std.proofs.Common.{◌≡◌, ℕ, List, [], ◌∷◌, ◌++◌, Option, Some, None, refl, sym, ap, ◌∙◌}
-use Rattle.std.specs.Prelude.{Result, Ok, Err, unwrap_or}
-use Rattle.std.specs.Option.{ok_or}
+use Rattle.std.proofs.Common.{◌≡◌, ℕ, List, [], ◌∷◌, true, Option, Some, None, refl, sym, ap, ◌∙◌}
+use Rattle.std.specs.Prelude.{Result, OnOk}
+use Rattle.std.proofs.lemmas.Result.{on_ok_weaker}
+use Rattle.jf_bytes.specs.declared.error.NoMemory.{NoMemory}
 use Rattle.heap_objects.specs.Heaps.{HeapView}
 use Rattle.jvm_model.specs.declared.state.Shared.{Shared}
 use Rattle.jvm_model.specs.declared.state.State.{State}
 use Rattle.jvm_model.specs.Applies.{still}
-use Rattle.jvm_model.specs.Data.{World, New, Outcome, Breaks, Turn}
-use Rattle.jvm_model.specs.Load.{Fault, error_of, load_of}
+use Rattle.jvm_model.specs.Data.{World, New, Outcome, Turn}
+use Rattle.jvm_model.specs.KindNumbers.{user_count}
+use Rattle.jvm_model.specs.Load.{Fault, is_among, load_of}
 use Rattle.jvm_model.specs.Moves.{settled}
-use Rattle.jvm_model.specs.Naming.{kind_unless, message_of, newly_loaded, resolved_kind}
+use Rattle.jvm_model.specs.Naming.{kind_unless, resolved_kind}
 use Rattle.jvm_model.specs.Originals.{original}
-use Rattle.jvm_model.specs.Programs.{name_at}
 use Rattle.jvm_model.specs.Run.{arguments_made, before, loaded_turn, main_class, main_loading, main_loads, start, starts_unless, starts_with, with_loaded}
 use Rattle.jvm_model.specs.SharedState.{shared_before, with_arguments}
+use Rattle.jvm_model.specs.Sound.{IsFit}
 use Rattle.jvm_model.proofs.LoadsAgain.{newly-loaded}
+use Rattle.jvm_model.proofs.SoundKinds.{has-root}
 use Rattle.jvm_steps.specs.Before.{begun_by}
 use Rattle.jvm_steps.specs.Initializing.{begins_class}
 use Rattle.jvm_steps.specs.Prepared.{main_name}
@@ -50,6 +53,32 @@ begins-main w old after found is told begins =
     ∙ (ap (λ (s : State). begun_by w (main_class w.program) (resolved_kind w.program s.shared.loaded (main_name w.program)) (record s { shared = opened w s.shared })) is
     ∙ (fault-begins w (main_loading w).fault _ (record (before w) { shared = opened w (before w).shared }) refl
     ∙ ap (starts_unless w (main_loading w).fault) (opens w))))
+
+-- by what the code has found, in the world that stays
+pub begins-all : {A : Type 0} (result : Result A NoMemory) (w v : World) (class : ℕ) (old after : State) (found : Result ℕ Outcome) (heap : HeapView) (linked loaded : List ℕ)
+    → v ≡ w → class ≡ main_class v.program → linked ≡ old.shared.loaded → heap ≡ with_arguments w.program old.shared.heap
+    → loaded ≡ (load_of w.program linked (main_name w.program)).loaded → old ≡ before w → found ≡ resolved_kind w.program linked (main_name w.program)
+    → OnOk result (after ≡ begun_by v class found (record old { shared = record old.shared { heap = heap; loaded = loaded } }))
+    → OnOk result (after ≡ starts_with w)
+begins-all result w v class old after found heap linked loaded same main has arguments loads is told made =
+    on_ok_weaker result
+    (λ e. begins-main w old after found is (told ∙ ap (λ l. resolved_kind w.program l (main_name w.program)) has)
+    (e ∙ (ap (λ u. begun_by u class found given) same
+    ∙ (ap (λ k. begun_by w k found given) (main ∙ ap (λ (u : World). main_class u.program) same)
+    ∙ ap (begun_by w (main_class w.program) found)
+    (ap (λ h. record old { shared = record old.shared { heap = h; loaded = loaded } }) arguments
+    ∙ ap (λ l. record old { shared = record old.shared { heap = with_arguments w.program old.shared.heap; loaded = l } })
+    (loads ∙ ap (λ l. (load_of w.program l (main_name w.program)).loaded) has))))))
+    made
+  where
+    given : State
+    given = record old { shared = record old.shared { heap = heap; loaded = loaded } }
+
+-- java/lang/Object is loaded before
+pub root-before : (w : World) (s : State) (loaded : List ℕ) → IsFit w.program → s ≡ before w → loaded ≡ s.shared.loaded → is_among (user_count w.program) loaded ≡ true
+root-before w s loaded fit is linked =
+    ap (is_among (user_count w.program)) (linked ∙ ap (λ (x : State). x.shared.loaded) is)
+    ∙ has-root w.program fit (shared_before w.program).loaded fit.before
 
 loaded-after : (classes : List ℕ) (turn : Turn) → (loaded_turn classes turn).after ≡ turn.after
 loaded-after [] turn = refl

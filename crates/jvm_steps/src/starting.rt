@@ -9,8 +9,8 @@ ghost use Rattle.jvm_steps.specs.Before.{BeforeEach};
 ghost use Rattle.jvm_steps.specs.States.{state_in};
 
 use crate::loading::has_built_in_name;
-use crate::lookup::{has_bytes};
-use crate::objects::{heap_before};
+use crate::lookup::has_bytes;
+use crate::objects::heap_before;
 use crate::parts::Parts;
 use const_pool::{ClassFile, Member, Pool};
 use frame_stack::Frames;
