@@ -46,11 +46,7 @@ fn behind(classes: &[u32], before: usize) -> &[u32]
 }
 
 /// A list of the classes behind the first ones.
-fn classes_behind(
-    alloc: Global,
-    classes: &[u32],
-    before: usize,
-) -> Result<Seq<u32>, NoMemory>
+fn classes_behind(alloc: Global, classes: &[u32], before: usize) -> Result<Seq<u32>, NoMemory>
     ensures { IfOk result (λ some. some ≡ drop before classes.now) }
 {
     Ok(Seq::from_slice(alloc, behind(classes, before))?)
