@@ -9,8 +9,6 @@ mod of_context_tree;
 #[cfg(test)]
 mod of_inject_events;
 #[cfg(test)]
-mod of_jvm_machine;
-#[cfg(test)]
 mod of_profile_report;
 #[cfg(test)]
 mod trees;
