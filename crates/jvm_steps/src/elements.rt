@@ -230,7 +230,8 @@ pub fn load_element(
     kind: Kind,
 ) -> Result<(), NoMemory>
     requires top { IsTop method parts.old.frames.frames }
-    ensures state { Becomes result parts.new (acts_load originals.now.world line.now kind) parts.old }
+    ensures state { Becomes result parts.new
+        (acts_load originals.now.world line.now kind) parts.old }
 {
     let Some(place) = place_of(&parts.frames) else {
         break_off(parts, method, line.instr.at);
@@ -268,7 +269,8 @@ pub fn store_element(
 ) -> Result<(), NoMemory>
     requires top { IsTop method parts.old.frames.frames }
     requires objects { AreLoaded (linker_in originals.now) parts.old.shared.heap }
-    ensures state { Becomes result parts.new (acts_store originals.now.world line.now kind) parts.old }
+    ensures state { Becomes result parts.new
+        (acts_store originals.now.world line.now kind) parts.old }
 {
     let Some(storing) = storing_of(&parts.frames, kind) else {
         break_off(parts, method, line.instr.at);

@@ -1,6 +1,5 @@
 use Rattle.std.proofs.Common.{sym, ap, ◌∙◌}
 use Rattle.jvm_steps.specs.Acts.{attempts_on, awaited_on}
-use Rattle.jvm_steps.specs.Lines.{line_at}
 use Rattle.jvm_steps.specs.Markers.{state_of}
 use Rattle.jvm_steps.proofs.Beneath.{awaits-unnamed, loads-unnamed, nothing-there}
 use Rattle.jvm_steps.proofs.Sounded.{objects-linked}
