@@ -31,6 +31,7 @@ mod values;
 pub use asked::{Asked, Exception, Refusal};
 pub use attempting::attempt;
 pub use constants::set_constants;
+pub use instances::is_instance;
 pub use naming::{MemberName, MethodName, Naming};
 pub use numbers::MethodNumbers;
 pub use resolution::resolve;

@@ -1,5 +1,5 @@
 -- What is loaded behind a line: what was loaded, and what the line names.
-use Rattle.std.proofs.Common.{◌≡◌, ℕ, suc, ◌+◌, Bool, true, false, cond, List, [], ◌∷◌, ◌++◌, Option, Some, None, nat_le, nat_lt, refl, sym, ap, ◌∙◌}
+use Rattle.std.proofs.Common.{◌≡◌, ℕ, suc, ◌+◌, Bool, true, false, cond, List, [], ◌∷◌, ◌++◌, Option, Some, None, nat_le, nat_lt, refl, sym, ◌∙◌}
 use Rattle.std.specs.Prelude.{slice_get, ℤ, pos, negsuc}
 use Rattle.std.specs.Option.{option_map}
 use Rattle.std.proofs.lemmas.Bool.{false≢true}
@@ -7,11 +7,9 @@ use Rattle.heap_objects.specs.declared.datum.Datum.{Datum}
 use Rattle.heap_objects.specs.declared.Value.TheVariants.{Addr}
 use Rattle.const_pool.specs.declared.descriptor.Kind.{Kind}
 use Rattle.frame_stack.specs.Widths.{height_of}
-use Rattle.jvm_model.specs.declared.program.Program.{Program}
 use Rattle.jvm_model.specs.declared.state.Entry.{Entry}
 use Rattle.jvm_model.specs.declared.state.Entry.TheVariants.{Active, Initializing}
 use Rattle.jvm_model.specs.declared.state.Frame.{Frame}
-use Rattle.jvm_model.specs.declared.state.Shared.{Shared}
 use Rattle.jvm_model.specs.declared.state.State.{State}
 use Rattle.jvm_model.specs.Applies.{applies, breaks, enters_subroutine, gives_back, goes, has_room, invokes, live_in, most_live, place_of, resumes, begins, still, throws_at}
 use Rattle.jvm_model.specs.Data.{Locals, Operands, Naming, World, Text, Instruction, Outcome, GoesOn, Subroutine, Invokes, Returns, Throws, Raises, Initializes, Exits, Breaks, Done}
@@ -26,10 +24,10 @@ use Rattle.jvm_basic.specs.Rules.{rule_of}
 use Rattle.jvm_steps.specs.declared.line.Action.{Action}
 use Rattle.jvm_steps.specs.declared.line.Action.TheVariants as action
 use Rattle.jvm_steps.specs.declared.line.Line.{Line}
-use Rattle.jvm_steps.specs.Acts.{acts, acts_by, acts_named, attempts_line, comes_to, gives_back_line, is_named, named_done, next_in, placed_line, ready_for, resumes_line, returns_or_ends, with_done}
+use Rattle.jvm_steps.specs.Acts.{acts_by, acts_named, attempts_line, comes_to, gives_back_line, is_named, named_done, next_in, placed_line, ready_for, resumes_line, returns_or_ends, with_done}
 use Rattle.jvm_steps.specs.Lines.{line_at}
 use Rattle.jvm_steps.proofs.MovesLoad.{made-loaded}
-use Rattle.jvm_steps.proofs.NamedLaws.{IsNamed, is-named}
+use Rattle.jvm_steps.proofs.NamedLaws.{is-named}
 
 -- what is loaded stays
 abbrev pub Keeps : State → State → Type 0

@@ -10,7 +10,7 @@ use Rattle.heap_objects.specs.declared.datum.Datum.{Datum}
 use Rattle.heap_objects.specs.declared.Value.{Value}
 use Rattle.const_pool.specs.declared.descriptor.Kind.{Kind}
 use Rattle.frame_stack.specs.Widths.{height_of, slots_of_all}
-use Rattle.frame_stack.specs.FrameLists.{PlacedFrame, FramesView, top_operands}
+use Rattle.frame_stack.specs.FrameLists.{PlacedFrame, top_operands}
 use Rattle.jvm_model.specs.declared.state.State.{State}
 use Rattle.jvm_model.specs.Data.{Locals, Operands, Invokes, Turn, World}
 use Rattle.jvm_model.specs.Programs.{max_locals_of, max_stack_of, params_of_method}

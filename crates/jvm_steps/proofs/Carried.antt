@@ -1,6 +1,6 @@
 -- What a line does to the frames alone it does beneath the markers on them, and so do the moves of frames.
-use Rattle.std.proofs.Common.{◌≡◌, ℕ, suc, Bool, true, false, cond, List, [], ◌∷◌, ◌++◌, length, drop, map, Option, Some, None, nat_le, nat_lt, refl, sym, ap, subst, ◌∙◌}
-use Rattle.std.specs.Prelude.{is_some, ℤ}
+use Rattle.std.proofs.Common.{◌≡◌, ℕ, suc, Bool, true, false, cond, List, [], ◌∷◌, length, map, Option, Some, None, nat_le, nat_lt, refl, sym, ap, subst, ◌∙◌}
+use Rattle.std.specs.Prelude.{is_some}
 use Rattle.std.specs.Option.{option_map, option_map_or}
 use Rattle.std.proofs.lemmas.Bool.{false≢true}
 use Rattle.heap_objects.specs.declared.datum.Datum.{Datum}
@@ -14,8 +14,6 @@ use Rattle.jvm_model.specs.declared.program.Program.{Program}
 use Rattle.jvm_model.specs.declared.state.Entry.{Entry}
 use Rattle.jvm_model.specs.declared.state.Entry.TheVariants.{Active, Initializing}
 use Rattle.jvm_model.specs.declared.state.Frame.{Frame}
-use Rattle.jvm_model.specs.declared.state.Phase.{Phase}
-use Rattle.jvm_model.specs.declared.state.Phase.TheVariants.{Fresh, Running, Ready, Erroneous}
 use Rattle.jvm_model.specs.declared.state.Shared.{Shared}
 use Rattle.jvm_model.specs.declared.state.State.{State}
 use Rattle.jvm_model.specs.Applies.{still, with_frame, breaks, goes, place_of, enters_subroutine, new_frame, throws_at, has_room, begins, invokes, most_live, live_in, applies}

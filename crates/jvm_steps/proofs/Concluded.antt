@@ -1,16 +1,12 @@
 -- What follows from the answer that an instruction which names something gives is what applies by its rule.
-use Rattle.std.proofs.Common.{◌≡◌, ℕ, suc, Bool, true, false, cond, List, [], ◌∷◌, ◌++◌, length, map, Option, Some, None, nat_le, refl, sym, ap, subst, ◌∙◌}
+use Rattle.std.proofs.Common.{◌≡◌, ℕ, suc, Bool, true, false, cond, List, [], ◌∷◌, ◌++◌, length, Option, Some, None, nat_le, refl, sym, ap, ◌∙◌}
 use Rattle.std.specs.Option.{option_map_or}
 use Rattle.std.proofs.lemmas.Option.{same_Some, none-some}
-use Rattle.heap_objects.specs.declared.datum.Datum.{Datum}
 use Rattle.frame_stack.specs.Widths.{height_of}
 use Rattle.frame_stack.specs.FrameLists.{PlacedFrame}
 use Rattle.jvm_basic.specs.Outcomes.{can_hold, with_top}
-use Rattle.jvm_model.specs.declared.state.Entry.{Entry}
-use Rattle.jvm_model.specs.declared.state.Entry.TheVariants.{Active, Initializing}
-use Rattle.jvm_model.specs.declared.state.Frame.{Frame}
 use Rattle.jvm_model.specs.declared.state.State.{State}
-use Rattle.jvm_model.specs.Applies.{applies, breaks, with_frame}
+use Rattle.jvm_model.specs.Applies.{breaks, with_frame}
 use Rattle.jvm_model.specs.Data.{Locals, Operands, World, Naming, Next, Target, Back, Outcome, GoesOn, Subroutine, Invokes, Returns, Throws, Raises, Initializes, Exits, Breaks, Done, Instruction}
 use Rattle.jvm_model.specs.Originals.{original}
 use Rattle.jvm_model.specs.Run.{starts}
@@ -18,23 +14,21 @@ use Rattle.jvm_named.specs.declared.asked.Asked.{Asked}
 use Rattle.jvm_named.specs.declared.asked.Asked.TheVariants as asked
 use Rattle.jvm_named.specs.declared.asked.Refusal.{Refusal}
 use Rattle.jvm_named.specs.declared.asked.Refusal.TheVariants as refusal
-use Rattle.jvm_named.specs.Answers.{Answer, Continues, Exceeds, Calls, Stops, answer_in, answer_view, frames_in, refusal_view}
+use Rattle.jvm_named.specs.Answers.{Answer, Continues, Exceeds, Stops, answer_in, answer_view, frames_in, refusal_view}
 use Rattle.jvm_steps.specs.declared.line.Line.{Line}
 use Rattle.jvm_steps.specs.declared.markers.Marker.{Marker}
 use Rattle.jvm_steps.specs.declared.parts.Here.{Here}
 use Rattle.jvm_steps.specs.declared.parts.Parts.{Parts}
-use Rattle.jvm_steps.specs.Acts.{IsTop, acts_asked, acts_named, ended, named_done, placed_line, with_done}
-use Rattle.jvm_steps.specs.Arguments.{can_begin}
-use Rattle.jvm_steps.specs.Asked.{answered, concluded, done_top, refused_in, starts_in}
+use Rattle.jvm_steps.specs.Acts.{acts_asked, acts_named, ended, placed_line}
+use Rattle.jvm_steps.specs.Asked.{concluded, done_top, starts_in}
 use Rattle.jvm_steps.specs.Initializing.{begins_class}
-use Rattle.jvm_steps.specs.Invoking.{called, may_begin}
 use Rattle.jvm_steps.specs.Lines.{line_at}
-use Rattle.jvm_steps.specs.Markers.{marker_on, stack_of, state_of, with_markers}
+use Rattle.jvm_steps.specs.Markers.{marker_on, state_of, with_markers}
 use Rattle.jvm_steps.specs.Settling.{own_of}
-use Rattle.jvm_steps.specs.States.{active, frame_in, here_of, state_in, state_with}
+use Rattle.jvm_steps.specs.States.{frame_in, here_of, state_in, state_with}
 use Rattle.jvm_steps.proofs.Callees.{calls-is}
 use Rattle.jvm_steps.proofs.Carried.{applies-carried, length-active}
-use Rattle.jvm_steps.proofs.LineActs.{stays}
+use Rattle.jvm_steps.proofs.LineActs.{starts-some, stays}
 use Rattle.jvm_steps.proofs.LineSteps.{top-frame}
 use Rattle.jvm_steps.proofs.NamedLaws.{Asks, IsNamed, is-named}
 use Rattle.jvm_steps.proofs.Tied.{Tie, tied-at}
@@ -144,17 +138,6 @@ starts-same (Exits n) f fs can = absurd can
 starts-same (Breaks true) f fs can = absurd can
 starts-same (Breaks false) f fs can = refl
 
-initializes-of : (q : Outcome) (c : ℕ) → starts q ≡ Some c → q ≡ Initializes c
-initializes-of (Initializes k) c e = ap Initializes (same_Some k c e)
-initializes-of (Returns d) c e = absurd (none-some c e)
-initializes-of (Breaks b) c e = absurd (none-some c e)
-initializes-of (GoesOn m o to) c e = absurd (none-some c e)
-initializes-of Subroutine c e = absurd (none-some c e)
-initializes-of (Raises name message) c e = absurd (none-some c e)
-initializes-of (Invokes m args below) c e = absurd (none-some c e)
-initializes-of (Throws r) c e = absurd (none-some c e)
-initializes-of (Exits n) c e = absurd (none-some c e)
-
 -- ---- over the parts of a machine, beneath its markers
 
 -- what a line with these names comes to
@@ -196,7 +179,7 @@ module _ (w : World) (line : Line) (n : Naming) (ms : List Marker) (here : Here)
   begins-by c [] is none can some = absurd (none-some here is)
   begins-by c (f ∷ fs) is none can some =
       let d : Done = done_top w n p.shared (f ∷ fs) in
-      let asks : d.outcome ≡ Initializes c = initializes-of d.outcome c (sym (starts-same d.outcome f fs can) ∙ some) in
+      let asks : d.outcome ≡ Initializes c = starts-some d.outcome c (sym (starts-same d.outcome f fs can) ∙ some) in
       let mid : Parts = record p { shared = d.shared; output = p.output ++ d.wrote } in
       ap (λ q. begins_class c (with_markers ms (concluded w here (answer_in q (f ∷ fs)) (record mid { frames = record p.frames { frames = frames_in q line.next (f ∷ fs) } })))) asks
       ∙ (ap (λ es. begins_class c (record (state_in mid) { stack = es })) (top-frame ms f fs none)

@@ -1,7 +1,7 @@
 -- What a line does is what applies by the instruction that it stands for.
 use Rattle.std.proofs.Common.{◌≡◌, ℕ, Bool, true, false, cond, List, [], ◌∷◌, ◌++◌, Option, Some, None, refl, sym, ap, subst, ◌∙◌}
-use Rattle.std.specs.Prelude.{nat_le, slice_get, length, ℤ, pos, negsuc, ◌+◌, ◌==◌}
-use Rattle.std.specs.Option.{option_and_then, option_map}
+use Rattle.std.specs.Prelude.{nat_le, slice_get, ℤ, pos, negsuc, ◌+◌, ◌==◌}
+use Rattle.std.specs.Option.{option_map}
 use Rattle.std.proofs.lemmas.Bool.{false≢true}
 use Rattle.std.proofs.lemmas.List.{append-nil}
 use Rattle.std.proofs.lemmas.Option.{same_Some, none-some}
@@ -9,16 +9,13 @@ use Rattle.heap_objects.specs.declared.datum.Datum.{Datum}
 use Rattle.heap_objects.specs.declared.Value.{Value}
 use Rattle.heap_objects.specs.declared.Value.TheVariants.{Int, Long, Ref, Addr}
 use Rattle.const_pool.specs.declared.descriptor.Kind.{Kind}
-use Rattle.const_pool.specs.References.{Reference}
 use Rattle.jvm_model.specs.declared.program.Program.{Program}
 use Rattle.jvm_model.specs.declared.state.Entry.{Entry}
 use Rattle.jvm_model.specs.declared.state.Entry.TheVariants.{Active, Initializing}
 use Rattle.jvm_model.specs.declared.state.Frame.{Frame}
-use Rattle.jvm_model.specs.declared.state.Phase.{Phase}
-use Rattle.jvm_model.specs.declared.state.Phase.TheVariants.{Fresh, Running, Ready, Erroneous}
 use Rattle.jvm_model.specs.declared.state.Shared.{Shared}
 use Rattle.jvm_model.specs.declared.state.State.{State}
-use Rattle.jvm_model.specs.Applies.{breaks, enters_subroutine, goes, resumes, gives_back, applies}
+use Rattle.jvm_model.specs.Applies.{enters_subroutine, goes, resumes, gives_back, applies}
 use Rattle.jvm_model.specs.Data.{Locals, Operands, World, Text, Local, Nop, Constant, Load, Store, Arrange, BinaryOfInts, BinaryOfLongs, DivisionOfInts, DivisionOfLongs, ShiftOfLong, UnaryOfInt, UnaryOfLong, Lcmp, Iinc, Branch, Goto, Switch, Jsr, Ret, Return, Naming, New, Getfield, Putfield, Getstatic, Putstatic, Invokevirtual, Invokespecial, Invokestatic, Invokeinterface, Checkcast, Instanceof, Anewarray, Multianewarray, Operation, Within, Named, Athrow, Monitor, Newarray, Arraylength, LoadElement, StoreElement, Instruction, Outcome, GoesOn, Subroutine, Invokes, Returns, Throws, Raises, Initializes, Exits, Breaks, Next, Target, Back, Done, Keys}
 use Rattle.jvm_model.specs.Lines.{ends, is_last, targets_of}
 use Rattle.jvm_model.specs.LocalRules.{arithmetic_exception, by_zero, divides_these, goes_if, holds, tests, switches_on, goes_back, replaces, returns, returns_datum, within}
@@ -31,7 +28,7 @@ use Rattle.jvm_model.specs.NamingRules.{does_named}
 use Rattle.jvm_model.specs.Run.{starts, with_loaded}
 use Rattle.jvm_model.specs.SharedState.{class_of, null_pointer, throwable}
 use Rattle.jvm_model.specs.StackForms.{forms_of}
-use Rattle.jvm_model.specs.Values.{arguments, as_value, datum_of, loaded, local_in, int_of, ref_of, arranged, with_value}
+use Rattle.jvm_model.specs.Values.{as_value, datum_of, loaded, local_in, int_of, ref_of, arranged, with_value}
 use Rattle.jvm_basic.specs.Rules.{goes_at, placed}
 use Rattle.jvm_basic.proofs.Asked.{is_simple, pushes-simple, replaces-simple, leaves-simple, stores-simple, increments-simple}
 use Rattle.jvm_steps.specs.declared.line.Action.{Action}

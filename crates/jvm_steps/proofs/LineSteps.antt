@@ -14,14 +14,15 @@ use Rattle.jvm_model.specs.declared.state.Phase.{Phase}
 use Rattle.jvm_model.specs.declared.state.Phase.TheVariants.{Fresh, Running, Ready, Erroneous}
 use Rattle.jvm_model.specs.declared.state.State.{State}
 use Rattle.jvm_model.specs.Applies.{still, breaks, applies}
-use Rattle.jvm_model.specs.Data.{World, Text, Naming, Instruction, Operation, Named, Outcome, Initializes, Done, Turn}
+use Rattle.jvm_model.specs.Data.{World, Text, Naming, Instruction, Operation, Named, Initializes, Done, Turn}
 use Rattle.jvm_model.specs.Moves.{move, moves, left, settles, settled, then_turn}
 use Rattle.jvm_model.specs.Originals.{original}
 use Rattle.jvm_model.specs.Does.{loads}
 use Rattle.jvm_model.specs.Naming.{newly_loaded}
 use Rattle.jvm_model.specs.NamingRules.{does_named}
-use Rattle.jvm_model.specs.Run.{attempt, tries, starts, is_ready, is_quiet, goes_on, goes_again, loaded_turn, with_loaded, steps_by, steps_at, steps_on, step}
+use Rattle.jvm_model.specs.Run.{attempt, tries, starts, is_ready, is_quiet, goes_on, goes_again, with_loaded, steps_by, steps_at, steps_on, step}
 use Rattle.jvm_model.specs.SharedState.{phase_of, with_phase}
+use Rattle.jvm_model.proofs.Attempts.{loaded-after}
 use Rattle.jvm_model.proofs.LoadsAgain.{newly-again}
 use Rattle.jvm_model.proofs.QuietSettles.{stops}
 use Rattle.jvm_steps.specs.declared.line.Line.{Line}
@@ -86,10 +87,6 @@ module _ (w : World) (t : Text) where
     by None None (f ∷ fs) is = by_top f fs is
 
 -- ---- a step
-
-loaded-after : (classes : List ℕ) (turn : Turn) → (loaded_turn classes turn).after ≡ turn.after
-loaded-after [] turn = refl
-loaded-after (c ∷ more) turn = refl
 
 module _ (w : World) where
   abbrev t : Text

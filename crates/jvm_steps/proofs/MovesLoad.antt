@@ -20,13 +20,13 @@ use Rattle.jvm_model.specs.declared.state.Phase.{Phase}
 use Rattle.jvm_model.specs.declared.state.Phase.TheVariants.{Fresh, Running, Ready, Erroneous}
 use Rattle.jvm_model.specs.declared.state.Shared.{Shared}
 use Rattle.jvm_model.specs.declared.state.State.{State}
-use Rattle.jvm_model.specs.Applies.{goes, has_room, live_in, most_live, new_frame, still, with_frame, breaks}
+use Rattle.jvm_model.specs.Applies.{has_room, live_in, most_live, new_frame, still, with_frame}
 use Rattle.jvm_model.specs.Constants.{FieldConstant, Number, Units, Setting, can_intern, constant_for, set, sets_constants, sets_field, sets_fields, then_sets}
 use Rattle.jvm_model.specs.Data.{Began, Text, Turn, World}
 use Rattle.jvm_model.specs.Lookup.{is_below}
-use Rattle.jvm_model.specs.Moves.{after_super, argument_array, at_part, caught, fails, handler_for, initializes, main_or_end, move, moves, own_at, raises, runs_initializer, settled, then_turn, with_super, wrapped}
+use Rattle.jvm_model.specs.Moves.{after_super, argument_array, at_part, caught, handler_for, initializes, main_or_end, move, moves, raises, runs_initializer, settled, then_turn, with_super, wrapped}
 use Rattle.jvm_model.specs.Programs.{class_at, initializer_of, name_at, super_of}
-use Rattle.jvm_model.specs.SharedState.{Allocated, Field, class_of, error, in_initializer, made_with, message_cost, no_class_definition, null, phase_of, raised, stack_overflow, with_exception, with_message}
+use Rattle.jvm_model.specs.SharedState.{Allocated, Field, class_of, error, in_initializer, made_with, message_cost, no_class_definition, null, phase_of, stack_overflow, with_exception, with_message}
 use Rattle.jvm_model.proofs.Settles.{settled-keeps}
 
 -- ---- an object is made

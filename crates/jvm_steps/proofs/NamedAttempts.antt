@@ -1,5 +1,5 @@
 -- An attempt of a line that names something, by the answer that its instruction gives.
-use Rattle.std.proofs.Common.{◌≡◌, ℕ, Bool, true, false, List, [], ◌∷◌, ◌++◌, length, map, Option, Some, None, refl, sym, ap, subst, ◌∙◌}
+use Rattle.std.proofs.Common.{◌≡◌, ℕ, true, List, [], ◌∷◌, ◌++◌, length, map, Option, Some, None, refl, sym, ap, subst, ◌∙◌}
 use Rattle.std.proofs.lemmas.Bool.{false≢true}
 use Rattle.std.proofs.lemmas.Option.{same_Some, none-some}
 use Rattle.frame_stack.specs.FrameLists.{PlacedFrame, FramesView, top_operands}
@@ -18,7 +18,7 @@ use Rattle.jvm_steps.specs.declared.line.Line.{Line}
 use Rattle.jvm_steps.specs.declared.markers.Marker.{Marker}
 use Rattle.jvm_steps.specs.declared.parts.Here.{Here}
 use Rattle.jvm_steps.specs.declared.parts.Parts.{Parts}
-use Rattle.jvm_steps.specs.Acts.{acts, acts_by, attempts_line, attempts_on, awaited, awaited_by, awaited_in, awaited_on, becomes_beneath, is_named, named_in}
+use Rattle.jvm_steps.specs.Acts.{acts, acts_by, attempts_on, awaited, awaited_by, awaited_in, awaited_on, becomes_beneath, is_named, named_in}
 use Rattle.jvm_steps.specs.Asked.{concluded, done_top, starts_in}
 use Rattle.jvm_steps.specs.Initializing.{begins_class}
 use Rattle.jvm_steps.specs.Lines.{IfNamed, IfNamedBy, line_at}

@@ -1,15 +1,14 @@
 -- What an instruction that names something leaves as it is, and what it asks for (JVM Specification 5.5, 6.5): the loaded classes are the
 -- same behind it, a class is initialized only where it is fresh, and the arguments of an invocation are operands of their kinds.
 use Rattle.std.proofs.Common.{◌≡◌, ℕ, ◌+◌, Bool, true, false, List, [], ◌∷◌, Option, Some, None, refl}
-use Rattle.std.specs.Prelude.{Result, Ok, Err, length, take, drop, reverse, map, nat_le, nat_lt, ℤ, pos, negsuc, ◌==◌, ◌&&◌, if◌then◌else◌}
+use Rattle.std.specs.Prelude.{Result, Ok, Err, length, take, drop, reverse, map, nat_le, nat_lt, ℤ, pos, negsuc, ◌==◌, if◌then◌else◌}
 use Rattle.std.specs.Bool.{beq}
 use Rattle.std.specs.Option.{option_and_then}
 use Rattle.std.proofs.lemmas.Bool.{false≢true}
 use Rattle.heap_objects.specs.declared.datum.Datum.{Datum}
 use Rattle.heap_objects.specs.declared.datum.Datum.TheVariants as datum
 use Rattle.heap_objects.specs.declared.Value.{Value}
-use Rattle.heap_objects.specs.declared.Value.TheVariants.{Int}
-use Rattle.heap_objects.specs.Heaps.{HeapView, with_array, with_instance, with_text}
+use Rattle.heap_objects.specs.Heaps.{HeapView, with_instance, with_text}
 use Rattle.const_pool.specs.declared.descriptor.Kind.{Kind}
 use Rattle.const_pool.specs.declared.descriptor.Shape.{Shape}
 use Rattle.const_pool.specs.References.{NameAndType, Reference}
@@ -18,10 +17,10 @@ use Rattle.jvm_model.specs.declared.state.Phase.TheVariants.{Fresh, Running, Rea
 use Rattle.jvm_model.specs.declared.program.Program.{Program}
 use Rattle.jvm_model.specs.declared.state.Shared.{Shared}
 use Rattle.jvm_model.specs.CreationRules.{allocates, answers, array_over, casts_to, counts_of, has_no_instances, instantiation_error, is_text_class, lengths_of, makes_arrays, makes_by_counts, makes_instance, makes_object, slots_of_arrays, with_arrays, zero_of}
-use Rattle.jvm_model.specs.Data.{Locals, Operands, Naming, New, Getfield, Putfield, Getstatic, Putstatic, Invokevirtual, Invokespecial, Invokestatic, Invokeinterface, Checkcast, Instanceof, Anewarray, Multianewarray, Next, Outcome, GoesOn, Subroutine, Invokes, Returns, Throws, Raises, Initializes, Exits, Breaks, Done}
+use Rattle.jvm_model.specs.Data.{Locals, Operands, Naming, New, Getfield, Putfield, Getstatic, Putstatic, Invokevirtual, Invokespecial, Invokestatic, Invokeinterface, Checkcast, Instanceof, Anewarray, Multianewarray, Outcome, GoesOn, Subroutine, Invokes, Returns, Throws, Raises, Initializes, Exits, Breaks, Done}
 use Rattle.jvm_model.specs.Descriptors.{shape_of}
 use Rattle.jvm_model.specs.FieldRules.{Putting, gets_of, held_of, is_static_field, kind_by, named_field, puts_into, putting_of, sets_static}
-use Rattle.jvm_model.specs.InvocationRules.{Selecting, Virtual, OfInterface, Special, arguments_by, does_built_in, invokes_native, invokes_number, invokes_on, invokes_selected, invokes_with_static, is_plain_initializer, named_method, not_of_class, prints_line, receiver_in, runs_built_in, selected_by, with_receiver}
+use Rattle.jvm_model.specs.InvocationRules.{Selecting, Virtual, OfInterface, Special, arguments_by, does_built_in, invokes_number, invokes_on, invokes_selected, invokes_with_static, is_plain_initializer, named_method, not_of_class, prints_line, receiver_in, runs_built_in, selected_by, with_receiver}
 use Rattle.jvm_model.specs.KindNumbers.{user_count}
 use Rattle.jvm_model.specs.Layouts.{layout}
 use Rattle.jvm_model.specs.Load.{Fault}

@@ -5,13 +5,12 @@ use Rattle.std.proofs.lemmas.Option.{none-some, same_Some}
 use Rattle.heap_objects.specs.declared.object.Object.{Object}
 use Rattle.frame_stack.specs.FrameLists.{PlacedFrame}
 use Rattle.jvm_model.specs.declared.program.Program.{Program}
-use Rattle.jvm_model.specs.declared.state.Entry.{Entry}
-use Rattle.jvm_model.specs.declared.state.Entry.TheVariants.{Active, Initializing}
+use Rattle.jvm_model.specs.declared.state.Entry.TheVariants.{Active}
 use Rattle.jvm_model.specs.declared.state.Frame.{Frame}
 use Rattle.jvm_model.specs.declared.state.Shared.{Shared}
 use Rattle.jvm_model.specs.declared.state.State.{State}
 use Rattle.jvm_model.specs.Data.{World, Naming, Invokespecial, Local, Return, Operation, Within, Named, Athrow, Monitor, Newarray, Arraylength, LoadElement, StoreElement, Instruction, Breaks, Done}
-use Rattle.jvm_model.specs.Does.{does, loads}
+use Rattle.jvm_model.specs.Does.{loads}
 use Rattle.jvm_model.specs.Originals.{original}
 use Rattle.jvm_model.specs.Run.{main_class}
 use Rattle.jvm_model.specs.Sound as sound
@@ -24,17 +23,15 @@ use Rattle.jvm_model.proofs.SoundRuns.{loads-again, sound-loaded}
 use Rattle.jvm_model.proofs.SoundSteps.{entry-grows, sound-applied}
 use Rattle.class_linker.specs.Linkers.{LinkerView}
 use Rattle.jvm_named.specs.BuiltInCalls.{HasBuiltIn}
-use Rattle.jvm_named.specs.Names.{naming_view}
 use Rattle.jvm_named.specs.Objects.{AreLoaded, HasLoadedCaller, IsOfLoaded}
-use Rattle.jvm_steps.specs.declared.line.Action.{Action}
 use Rattle.jvm_steps.specs.declared.line.Line.{Line}
 use Rattle.jvm_steps.specs.declared.markers.Marker.{Marker}
 use Rattle.jvm_steps.specs.declared.parts.Here.{Here}
 use Rattle.jvm_steps.specs.declared.parts.Parts.{Parts}
 use Rattle.jvm_steps.specs.Acts.{acts, attempts_line, attempts_on, with_done}
-use Rattle.jvm_steps.specs.Lines.{IfNamed, IfNamedBy, action_of, line_at, local_action, named_as}
+use Rattle.jvm_steps.specs.Lines.{IfNamed, IfNamedBy, action_of, line_at, local_action}
 use Rattle.jvm_steps.specs.Markers.{marker_on, stack_of, state_of}
-use Rattle.jvm_steps.specs.States.{active, frame_in, here_of}
+use Rattle.jvm_steps.specs.States.{active, here_of}
 use Rattle.jvm_steps.proofs.LineActs.{readied, done_there, steps-as, viewed, with-loaded}
 use Rattle.jvm_steps.proofs.LineSteps.{IsGoing, top-frame}
 use Rattle.jvm_steps.proofs.Tied.{instruction_by, IsTied, Tie, tied-at}

@@ -1,5 +1,5 @@
 -- The start: what was found for the main class's name is what the model's start goes on with.
-use Rattle.std.proofs.Common.{◌≡◌, ℕ, List, [], ◌∷◌, true, Option, Some, None, refl, sym, ap, ◌∙◌}
+use Rattle.std.proofs.Common.{◌≡◌, ℕ, List, [], true, Option, Some, None, refl, sym, ap, ◌∙◌}
 use Rattle.std.specs.Prelude.{Result, OnOk}
 use Rattle.std.proofs.lemmas.Result.{on_ok_weaker}
 use Rattle.jf_bytes.specs.declared.error.NoMemory.{NoMemory}
@@ -7,15 +7,16 @@ use Rattle.heap_objects.specs.Heaps.{HeapView}
 use Rattle.jvm_model.specs.declared.state.Shared.{Shared}
 use Rattle.jvm_model.specs.declared.state.State.{State}
 use Rattle.jvm_model.specs.Applies.{still}
-use Rattle.jvm_model.specs.Data.{World, New, Outcome, Turn}
+use Rattle.jvm_model.specs.Data.{World, New, Outcome}
 use Rattle.jvm_model.specs.KindNumbers.{user_count}
 use Rattle.jvm_model.specs.Load.{Fault, is_among, load_of}
 use Rattle.jvm_model.specs.Moves.{settled}
 use Rattle.jvm_model.specs.Naming.{kind_unless, resolved_kind}
 use Rattle.jvm_model.specs.Originals.{original}
-use Rattle.jvm_model.specs.Run.{arguments_made, before, loaded_turn, main_class, main_loading, main_loads, start, starts_unless, starts_with, with_loaded}
+use Rattle.jvm_model.specs.Run.{arguments_made, before, main_class, main_loading, main_loads, start, starts_unless, starts_with, with_loaded}
 use Rattle.jvm_model.specs.SharedState.{shared_before, with_arguments}
 use Rattle.jvm_model.specs.Sound.{IsFit}
+use Rattle.jvm_model.proofs.Attempts.{loaded-after}
 use Rattle.jvm_model.proofs.LoadsAgain.{newly-loaded}
 use Rattle.jvm_model.proofs.SoundKinds.{has-root}
 use Rattle.jvm_steps.specs.Before.{begun_by}
@@ -79,10 +80,6 @@ pub root-before : (w : World) (s : State) (loaded : List ℕ) → IsFit w.progra
 root-before w s loaded fit is linked =
     ap (is_among (user_count w.program)) (linked ∙ ap (λ (x : State). x.shared.loaded) is)
     ∙ has-root w.program fit (shared_before w.program).loaded fit.before
-
-loaded-after : (classes : List ℕ) (turn : Turn) → (loaded_turn classes turn).after ≡ turn.after
-loaded-after [] turn = refl
-loaded-after (c ∷ more) turn = refl
 
 pub start-is : (w v : World) (mid after : State) → v ≡ w → mid ≡ starts_with w → after ≡ behind v mid → after ≡ (start w (original w.program)).after
 start-is w v mid after same begins settles =

@@ -24,11 +24,9 @@ use Rattle.jvm_model.specs.Originals.{original}
 use Rattle.jvm_model.specs.Programs.{class_at, place_of_method}
 use Rattle.jvm_model.specs.Values.{as_value}
 use Rattle.jvm_basic.specs.Rules.{datum_in, placed, going, needs, rule_by, rule_of}
-use Rattle.jvm_steps.specs.declared.line.Action.{Action}
-use Rattle.jvm_steps.specs.declared.line.Action.TheVariants as action
 use Rattle.jvm_steps.specs.declared.line.Line.{Line}
 use Rattle.jvm_steps.specs.Acts.{is_athrow, is_last_family, next_in}
-use Rattle.jvm_steps.specs.Lines.{local_action, named_as, action_of, line_with, line_of, line_at}
+use Rattle.jvm_steps.specs.Lines.{local_action, action_of, line_with, line_of, line_at}
 
 -- ---- a line and what it does
 

@@ -1,6 +1,5 @@
 -- The frame that a method begins with, by the values on top of its caller (JVM Specification 2.6.1).
 use Rattle.std.specs.Prelude.{ℕ, ◌+◌, Bool, true, false, List, ◌∷◌, length, count_by, nat_le, take, reverse, Option, Some, None, is_some, ◌&&◌, if◌then◌else◌}
-use Rattle.std.specs.Option.{option_map_or}
 use Rattle.heap_objects.specs.declared.Value.{Value}
 use Rattle.const_pool.specs.declared.descriptor.Kind.{Kind}
 use Rattle.const_pool.specs.declared.descriptor.Kind.TheVariants as kind
@@ -24,9 +23,6 @@ begun_frame w method args fs = new_frame method method (max_locals_of w method) 
 abbrev pub with_begun : Bool → World → ℕ → ℕ → List PlacedFrame → List PlacedFrame
 with_begun b w method args fs = if b then begun_frame w method args fs ∷ without_arguments args fs else fs
 
-abbrev pub param_count : World → ℕ → ℕ
-param_count w method = option_map_or length (params_of_method w.program method) 0
-
 -- the operands are the method's arguments, and fit into its locals
 abbrev pub fits_with : World → ℕ → List PlacedFrame → Option (List Kind) → Bool
 fits_with w method fs None = false
@@ -34,9 +30,6 @@ fits_with w method fs (Some ks) = is_some (data_of ks (arguments_of (length ks) 
 
 abbrev pub fits_params : World → ℕ → List PlacedFrame → Bool
 fits_params w method fs = fits_with w method fs (params_of_method w.program method)
-
-abbrev pub with_callee : Bool → World → ℕ → List PlacedFrame → List PlacedFrame
-with_callee b w method fs = with_begun b w method (param_count w method) fs
 
 -- ---- the locals that arguments take
 

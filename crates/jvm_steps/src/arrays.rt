@@ -35,7 +35,8 @@ pub fn measure(
     line: &Line,
 ) -> Result<(), NoMemory>
     requires top { IsTop method parts.old.frames.frames }
-    ensures state { Becomes result parts.new (acts_arraylength originals.now.world line.now) parts.old }
+    ensures state { Becomes result parts.new
+        (acts_arraylength originals.now.world line.now) parts.old }
 {
     let Some(reference) = ref_of(&parts.frames) else {
         break_off(parts, method, line.instr.at);
@@ -66,7 +67,8 @@ pub fn make_array(
     kind: u32,
 ) -> Result<(), NoMemory>
     requires top { IsTop method parts.old.frames.frames }
-    ensures state { Becomes result parts.new (acts_newarray originals.now.world line.now kind) parts.old }
+    ensures state { Becomes result parts.new
+        (acts_newarray originals.now.world line.now kind) parts.old }
 {
     let Some(count) = int_of(&parts.frames) else {
         break_off(parts, method, line.instr.at);

@@ -4,10 +4,12 @@ ghost use Rattle.std.specs.Prelude.{◌≡◌, ◌-◌, None, Some, true, false,
 ghost use Rattle.std.specs.Option.{option_map_or};
 ghost use Rattle.jvm_model.specs.Families.{family_of};
 ghost use Rattle.jvm_model.specs.Sound.{IsFit, IsSound};
+ghost use Rattle.jvm_named.specs.Objects.{AreLoaded};
 ghost use Rattle.jvm_steps.specs.Acts.{IsTop, Becomes, ended};
 ghost use Rattle.jvm_steps.specs.Acts.{acts, acts_alone, attempts_on};
 ghost use Rattle.jvm_steps.specs.Acts.{BecomesBeneath, awaited_in, is_named, named_in};
 ghost use Rattle.jvm_steps.specs.Lines.{line_at};
+ghost use Rattle.jvm_steps.specs.Linked.{linker_in};
 ghost use Rattle.jvm_steps.specs.Markers.{marker_on, state_of};
 ghost use Rattle.jvm_steps.specs.States.{here_of};
 
@@ -76,6 +78,7 @@ fn act(
     requires top { IsTop method parts.old.frames.frames }
     requires family { line.now.family ≡ family_of line.now.instr.op }
     requires alone { is_named line.now.action ≡ false }
+    requires objects { AreLoaded (linker_in originals.now) parts.old.shared.heap }
     ensures state { Becomes result parts.new (acts originals.now.world line.now) parts.old }
 {
     match &line.action {
@@ -109,6 +112,7 @@ fn act_initializer(
     requires top { IsTop method parts.old.frames.frames }
     requires family { line.now.family ≡ family_of line.now.instr.op }
     requires alone { is_named line.now.action ≡ false }
+    requires objects { AreLoaded (linker_in originals.now) parts.old.shared.heap }
     requires unmarked { marker_on (length parts.old.frames.frames) markers.now ≡ None }
     requires beneath { is_some (marker_on (length parts.old.frames.frames - 1) markers.now) ≡ true }
     ensures { BecomesBeneath result markers.now parts.new
@@ -135,6 +139,7 @@ fn act_marked(
     requires top { IsTop method parts.old.frames.frames }
     requires family { line.now.family ≡ family_of line.now.instr.op }
     requires alone { is_named line.now.action ≡ false }
+    requires objects { AreLoaded (linker_in originals.now) parts.old.shared.heap }
     requires unmarked { marker_on (length parts.old.frames.frames) markers.now ≡ None }
     ensures { BecomesBeneath result markers.now parts.new
         (acts originals.now.world line.now) parts.old }
@@ -158,6 +163,7 @@ fn attempt_line(
     requires here { here_of parts.old.frames.frames ≡ Some here }
     requires alone { named_in (line_at originals.now.world.program here.version here.place)
         ≡ false }
+    requires objects { AreLoaded (linker_in originals.now) parts.old.shared.heap }
     requires unmarked { marker_on (length parts.old.frames.frames) markers.now ≡ None }
     ensures { let w = originals.now.world in let s = state_of markers.now parts.old in
         OnOk result (state_of markers.now parts.new ≡ attempts_on w s s.stack) }

@@ -10,7 +10,9 @@ ghost use Rattle.jvm_model.specs.ObjectRules.{access_to, index_in, place_of};
 ghost use Rattle.jvm_model.specs.ObjectRules.{serves, serves_object, storing_of};
 ghost use Rattle.jvm_steps.specs.Acts.{IsTop, Becomes, acts_load, acts_store, on_parts};
 ghost use Rattle.jvm_steps.specs.Elements.{access_of, acts_loaded, acts_refused, acts_stored};
+ghost use Rattle.jvm_named.specs.Objects.{AreLoaded};
 ghost use Rattle.jvm_steps.specs.Elements.{element_at, place_by, storing_by};
+ghost use Rattle.jvm_steps.specs.Linked.{linker_in};
 ghost use Rattle.jvm_steps.specs.States.{state_in};
 
 use crate::going::datum_of;
@@ -228,7 +230,8 @@ pub fn load_element(
     kind: Kind,
 ) -> Result<(), NoMemory>
     requires top { IsTop method parts.old.frames.frames }
-    ensures state { Becomes result parts.new (acts_load originals.now.world line.now kind) parts.old }
+    ensures state { Becomes result parts.new
+        (acts_load originals.now.world line.now kind) parts.old }
 {
     let Some(place) = place_of(&parts.frames) else {
         break_off(parts, method, line.instr.at);
@@ -265,7 +268,9 @@ pub fn store_element(
     kind: Kind,
 ) -> Result<(), NoMemory>
     requires top { IsTop method parts.old.frames.frames }
-    ensures state { Becomes result parts.new (acts_store originals.now.world line.now kind) parts.old }
+    requires objects { AreLoaded (linker_in originals.now) parts.old.shared.heap }
+    ensures state { Becomes result parts.new
+        (acts_store originals.now.world line.now kind) parts.old }
 {
     let Some(storing) = storing_of(&parts.frames, kind) else {
         break_off(parts, method, line.instr.at);
@@ -276,8 +281,8 @@ pub fn store_element(
     let Led::Inside(slot) = led else {
         return refuse(alloc, originals, parts, method, line, led, place.index);
     };
-    let program = originals.program();
-    if !fits_array(program, &parts.shared.heap, storing.datum, place.array) {
+    let linker = originals.linker();
+    if !fits_array(linker, &parts.shared.heap, storing.datum, place.array) {
         return raise(originals, parts, Exception::ArrayStore);
     }
     store(parts, method, line, place.array, slot, storing.datum);

@@ -62,8 +62,10 @@ fn is_error(program: &Program, shared: &Shared, object: u32) -> bool
 /// What is thrown on: an Error itself, or an ExceptionInInitializerError with the object as its
 /// cause.
 fn wrap(originals: &Originals, shared: &mut Shared, object: u32) -> Result<u32, NoMemory>
-    ensures shared { OnOk result (shared.new ≡ (wrapped originals.now.world shared.old object).shared) }
-    ensures object { IfOk result (λ r. r ≡ (wrapped originals.now.world shared.old object).reference) }
+    ensures shared { OnOk result
+        (shared.new ≡ (wrapped originals.now.world shared.old object).shared) }
+    ensures object { IfOk result
+        (λ r. r ≡ (wrapped originals.now.world shared.old object).reference) }
 {
     if is_error(originals.program(), shared, object) {
         return Ok(object);

@@ -107,7 +107,8 @@ fn begin_frame(
     args: u16,
 ) -> Result<bool, NoMemory>
     requires { may_begin frames.old.frames ≡ true }
-    ensures answer { IfOk result (λ b. b ≡ can_begin originals.now.world method args frames.old.frames) }
+    ensures answer { IfOk result (λ b.
+        b ≡ can_begin originals.now.world method args frames.old.frames) }
     ensures frames { IfOk result (λ b. frames.new.frames ≡
         with_begun b originals.now.world method args frames.old.frames) }
 {

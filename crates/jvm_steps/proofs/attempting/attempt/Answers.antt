@@ -1,8 +1,8 @@
 use Rattle.std.proofs.Common.{sym, ap, ◌∙◌}
 use Rattle.jvm_steps.specs.Acts.{attempts_on, awaited_on}
-use Rattle.jvm_steps.specs.Lines.{line_at}
 use Rattle.jvm_steps.specs.Markers.{state_of}
 use Rattle.jvm_steps.proofs.Beneath.{awaits-unnamed, loads-unnamed, nothing-there}
+use Rattle.jvm_steps.proofs.Sounded.{objects-linked}
 use Rattle.jvm_steps.proofs.attempting.attempt.Goals as goal
 
 pub returns-in_default-clause-answer : goal.returns-in_default-clause-answer
@@ -16,6 +16,10 @@ returns-in_default-clause-state c =
     let w = c.args.originals.now.world in
     let p = c.args.parts.now in
     sym (ap (attempts_on w (state_of c.args.markers.now p)) (nothing-there w c.args.markers.now p (sym c.where_now.ensures ∙ c.in_default.is) c.requires.unmarked))
+
+pub attempt_line-requires-clause-objects : goal.attempt_line-requires-clause-objects
+attempt_line-requires-clause-objects c =
+    objects-linked c.args.originals.now.world.program c.args.parts.now.shared c.args.originals.now.loaded c.requires.fit c.requires.sound.shared c.requires.linked
 
 pub returns-clause-answer : goal.returns-clause-answer
 returns-clause-answer c =

@@ -1,6 +1,5 @@
-use Rattle.std.proofs.Common.{ap, sym, ◌∙◌}
+use Rattle.std.proofs.Common.{ap}
 use Rattle.std.specs.Prelude.{is_some}
-use Rattle.jvm_model.specs.declared.state.Shared.{Shared}
 use Rattle.jvm_steps.specs.Markers.{state_of}
 use Rattle.jvm_steps.proofs.Behind.{leads-sound}
 use Rattle.jvm_steps.proofs.Leading.{leads-one, leads-on}
