@@ -17,7 +17,8 @@ abbrev pub IsToldPlan : Option Told → List ℕ → Result Plan PlanError → T
 IsToldPlan told name result = (bytes : List ℕ) × IsToldAs told name bytes × IsPlanRead bytes result
 
 -- the plan of the file that is named, else of the word for a root, else the silent one
-abbrev pub IsPlanBy : Option Told → Option (List ℕ) → Option (List ℕ) → Result Plan PlanError → Type 0
+abbrev pub IsPlanBy : Option Told → Option (List ℕ) → Option (List ℕ) → Result Plan PlanError
+    → Type 0
 IsPlanBy told root (Some name) result = IsToldPlan told name result
 IsPlanBy told root None result = IsOwnPlan root result
 
@@ -37,7 +38,8 @@ pub record HasNoMain (told : Option Told) (words : Read) : Type 0 where
 
 -- the plan is refused, or the words are for want of a main class in it
 abbrev pub IsMisplanned : Option Told → Read → Type 0
-IsMisplanned told words = ((fault : PlanError) × IsFaultOfPlan told words fault) ⊎ HasNoMain told words
+IsMisplanned told words =
+    ((fault : PlanError) × IsFaultOfPlan told words fault) ⊎ HasNoMain told words
 
 -- No plan's file is named, and the word for a root names no method.
 pub record HasBadRoot (words : Read) : Type 0 where

@@ -46,7 +46,8 @@ pub record IsTrueOf (c : Call) : Type 0 where
   -- a front of the output at the budget was put, and nothing where nothing was made
   pub front :
       let s = c.streams in
-      IfSome c.kept (λ k. PutsAtMost k.vm (budget_of (words_of c) k.plan) s.out.taken s.out_after.taken)
+      IfSome c.kept
+      (λ k. PutsAtMost k.vm (budget_of (words_of c) k.plan) s.out.taken s.out_after.taken)
   pub nothing : c.kept ≡ None → c.streams.out_after.taken ≡ c.streams.out.taken
 
 -- ---- a run
@@ -88,8 +89,8 @@ pub record IsRefused (c : Call) (r : Refusal) : Type 0 where
   pub made : status_of r ≡ 6 → IsSome c.kept
   -- no input was taken where the program was not admitted
   pub untaken : is_unadmitted (status_of r) ≡ true → c.input_after ≡ c.input
-  -- a fault's count rose, and the last failed name is that of the plan's or of the class's file; with
-  -- any other status but 9 no fetch and no take failed
+  -- a fault's count rose, and the last failed name is that of the plan's or of the class's file;
+  -- with any other status but 9 no fetch and no take failed
   pub not_taken : status_of r ≡ 5 → Rose c.input.faults c.input_after.faults
   pub stopped : status_of r ≡ 6 → Rose c.streams.out.faults c.streams.out_after.faults
   pub not_fetched : status_of r ≡ 7 → Rose c.files.faults c.files_after.faults
@@ -103,8 +104,8 @@ pub record IsRefused (c : Call) (r : Refusal) : Type 0 where
 -- its line was put, or a front of it where the report's count of faults rose
 abbrev pub PutsLine : Call → Refusal → Type 0
 PutsLine c r =
-    let s = c.streams in
-    PutsOrRose s.report s.report_after (refusal_line r (plan_word (words_of c)) (file_words (words_of c)))
+    let line = refusal_line r (plan_word (words_of c)) (file_words (words_of c)) in
+    PutsOrRose c.streams.report c.streams.report_after line
 
 -- ---- the answer
 
@@ -144,7 +145,8 @@ pub record IsAnswered (c : Call) (status : ℕ) : Type 0 where
   -- 3 wherever words and plan are accepted, and all files are told, but no program
   pub file_only : IsUnfit (given_of c) → CalmFiles c → (status ≡ 3) ⊎ (status ≡ 9)
   -- 11 wherever a program is told, and more input than the limit
-  pub input_only : HasLongInput (given_of c) → CalmFiles c → CalmInput c → (status ≡ 11) ⊎ (status ≡ 9)
+  pub input_only :
+      HasLongInput (given_of c) → CalmFiles c → CalmInput c → (status ≡ 11) ⊎ (status ≡ 9)
   -- the status of the run on the input at the budget wherever all is accepted
   pub complete :
       (p : Program) → (a : IsAccepted (given_of c) p) → AllCalm c →

@@ -9,9 +9,10 @@ use Rattle.jfluid_cli.specs.Selections.{IsSelected}
 use Rattle.jfluid_cli.specs.Words.{Command}
 use Rattle.jfluid_cli.specs.Top.{IsProgram}
 
--- The kept plan is that of the words, read of the told file where they name one. The kept class files
--- are what the files tell under the words, in their order; they are the program that the kept machine
--- runs, in the versions for the plan's root, on the kept input, which is all that the source told.
+-- The kept plan is that of the words, read of the told file where they name one. The kept class
+-- files are what the files tell under the words, in their order; they are the program that the kept
+-- machine runs, in the versions for the plan's root, on the kept input, which is all that the source
+-- told.
 pub record HasOrigin (g : Given) (k : Kept) : Type 0 where
   pub command : Command
   pub accepts : Accepts g command

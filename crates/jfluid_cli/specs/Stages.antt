@@ -101,7 +101,7 @@ pub record HasFetchCause (named : Option (List ℕ)) (files : List (List ℕ)) (
   pub name_is : (at : ℕ) → r ≡ NotFetched at → slice_get files at ≡ Some new.last_failed
   pub calm : status_of r ≢ 7 → new.faults ≡ old.faults
 
--- a fetch of one file is refused so where the count rose, and leaves its name, or for want of memory
+-- a fetch of one file is refused so where the count rose, and leaves its name, or memory ran out
 abbrev pub IsFetchFault : List ℕ → Refusal → FilesView → FilesView → Refusal → Type 0
 IsFetchFault word failed old new r =
     ((r ≡ failed) × Rose old.faults new.faults × (new.last_failed ≡ word))

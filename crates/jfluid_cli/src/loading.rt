@@ -141,7 +141,7 @@ fn fetch_all<F: Files>(
 
 // ---- loading
 
-/// The contents of class files, in their order, with their program and the most steps that it makes.
+/// The contents of class files, in their order, their program, and the most steps that it makes.
 #[derive(Drop)]
 struct Found {
     contents: Seq<Seq<u8>>,
@@ -169,8 +169,8 @@ fn load<F: Files>(
     requires sound { IsSound (read_in words.now) }
     requires within { IsWithin plan.now }
     ensures ok { (g : Given) → AreReadWith g (read_in words.now) plan.now →
-        g.told ≡ F.contents files.old →
-        IfOk result (λ l. IsPrepared g plan.now l.budget l.contents l.program.program l.program.root) }
+        g.told ≡ F.contents files.old → IfOk result (λ l. let p = l.program in
+        IsPrepared g plan.now l.budget l.contents p.program p.root) }
     ensures small { IfOk result (λ l. l.budget ≤ greatest_steps) }
     ensures runnable { IfOk result (λ l. IsRunnable l.program.program l.program.root) }
     ensures early { (g : Given) → AreReadWith g (read_in words.now) plan.now →
@@ -202,8 +202,8 @@ fn load<F: Files>(
 pub fn prepare<F: Files>(alloc: Global, words: &Words<'_>, files: &mut F) -> Result<Loaded, Refusal>
     requires sound { IsSound (read_in words.now) }
     ensures ok { (g : Given) → accepted g.words ≡ Some (read_in words.now) →
-        g.told ≡ F.contents files.old →
-        IfOk result (λ l. IsPrepared g l.plan l.budget l.contents l.program.program l.program.root) }
+        g.told ≡ F.contents files.old → IfOk result (λ l. let p = l.program in
+        IsPrepared g l.plan l.budget l.contents p.program p.root) }
     ensures small { IfOk result (λ l. l.budget ≤ greatest_steps) }
     ensures runnable { IfOk result (λ l. IsRunnable l.program.program l.program.root) }
     ensures early { (g : Given) → accepted g.words ≡ Some (read_in words.now) →

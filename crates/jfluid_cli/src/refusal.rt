@@ -35,8 +35,9 @@ pub enum Refusal {
     /// before it, or it is not one of static methods alone, of which the machine runs each
     /// instruction: status 3.
     NotBuilt(u32),
-    /// The plan has arguments, or actions other than one that selects a root before the first step; or
-    /// there is a root, and the class is not small, or the root is a method of a built-in class: status 3.
+    /// The plan has arguments, or actions other than one that selects a root before the first step;
+    /// or there is a root, and the class is not small, or the root is a method of a built-in class:
+    /// status 3.
     NotBuiltPlan,
     /// A take of the input failed: status 5.
     InputFailed,

@@ -211,16 +211,16 @@ fn answer_words<F: Files, I: Source, O: Sink, P: Sink>(
 
 /// Does what the words `jfluid [--main M] [--root R] [--budget N] [--plan P] [FILE...]` say, as the
 /// system gave them: reads the plan P, fetches the class files, reads them, both in the order of the
-/// words, admits them, takes the input to its end, runs the main class for at most so many steps, puts
-/// what the program writes to `out` and the report to `report`, and answers the exit status.
+/// words, admits them, takes the input to its end, runs the main class for at most so many steps,
+/// puts what the program writes to `out` and the report to `report`, and answers the exit status.
 ///
-/// The main class is M, with slashes for dots, else the plan's; the budget is N, else the plan's, else
-/// 100,000,000; the heap is the plan's, else 4,194,304 slots. `--root R` is a plan that selects R
+/// The main class is M, with slashes for dots, else the plan's; the budget is N, else the plan's,
+/// else 100,000,000; the heap is the plan's, else 4,194,304 slots. `--root R` is a plan that selects R
 /// before the first step: class, dot, name and descriptor, as in `P1.f(I)I`. The activations of the
 /// selected method and what they call are profiled: the class is rewritten before the start, and the
 /// report has the tree of calling contexts, which is empty without it. So far a program of one class
-/// runs, with a plan of no arguments and of no other actions. Nothing is put to `images`. What was run
-/// is left in `kept`.
+/// runs, with a plan of no arguments and of no other actions. Nothing is put to `images`. What was
+/// run is left in `kept`.
 ///
 /// The statuses are 0, the run returned, with the budget's last step at the latest; 1, it ended
 /// uncaught; 2, the words or the plan are refused; 3, a file is no class file, the program is not
@@ -228,8 +228,8 @@ fn answer_words<F: Files, I: Source, O: Sink, P: Sink>(
 /// before the run ended; 5, a take of input failed; 6, a put of output failed; 7, the plan or a file
 /// could not be fetched; 8, a put of the report failed; 9, no memory was left; 10, the code is
 /// unverifiable; 11, there are more than 16,777,216 bytes of input. With 2, 3, 5, 6, 7, 9 and 11 a
-/// line on `report` says it, and names the file that is at fault; where clap refuses the words, or they
-/// ask for help, it is clap's text.
+/// line on `report` says it, and names the file that is at fault; where clap refuses the words, or
+/// they ask for help, it is clap's text.
 pub fn jfluid<F: Files, I: Source, O: Sink, P: Sink, G: Sink>(
     alloc: Global,
     words: Result<Seq<Seq<u8>>, NoMemory>,
