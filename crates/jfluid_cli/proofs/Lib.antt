@@ -18,3 +18,4 @@ pub mod Fixed
 pub mod Finished
 pub mod Reported
 pub mod Room
+mod WorkedWords

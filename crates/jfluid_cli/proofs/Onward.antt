@@ -21,6 +21,7 @@ going-onward old v most going runs = record {
   started = ap (λ (x : View). x.started) runs.stepped ∙ going.started;
   whole = ap (λ (x : View). x.broken) runs.stepped ∙ going.whole;
   resting = ap (λ (x : View). x.told) runs.stepped ∙ going.resting;
+  loads = ap (λ (x : View). x.loads_told) runs.stepped ∙ going.loads;
   done = ap (λ (x : View). x.done) runs.stepped ∙ going.done;
 }
 

@@ -31,13 +31,12 @@ pub enum Refusal {
     NotRead(u32, ReadError),
     /// The program is not admitted, and this is its first fault: status 3.
     NotAdmitted(AdmitError),
-    /// The class of the file at this position is the first that does not run so far: there is one
-    /// before it, or it is not one of static methods alone, of which the machine runs each
-    /// instruction: status 3.
+    /// The class of the file at this position is the first that does not run so far: it has an ldc of a
+    /// String or of a Class, or it names a method of a built-in class that is not called so far: status 3.
     NotBuilt(u32),
-    /// The plan has arguments, or actions other than one that selects a root before the first step;
-    /// or there is a root, and the class is not small, or the root is a method of a built-in class:
-    /// status 3.
+    /// The plan has arguments, or actions other than one that selects a root before the first step; or
+    /// there is a root, and the program has several classes, or its class is not small, or the root is a
+    /// method of a built-in class: status 3.
     NotBuiltPlan,
     /// A take of the input failed: status 5.
     InputFailed,

@@ -218,9 +218,10 @@ fn answer_words<F: Files, I: Source, O: Sink, P: Sink>(
 /// else 100,000,000; the heap is the plan's, else 4,194,304 slots. `--root R` is a plan that selects R
 /// before the first step: class, dot, name and descriptor, as in `P1.f(I)I`. The activations of the
 /// selected method and what they call are profiled: the class is rewritten before the start, and the
-/// report has the tree of calling contexts, which is empty without it. So far a program of one class
-/// runs, with a plan of no arguments and of no other actions. Nothing is put to `images`. What was
-/// run is left in `kept`.
+/// report has the tree of calling contexts, which is empty without it. So far a program runs whose
+/// classes have no ldc of a String or of a Class and call no method of a built-in class but two, with
+/// a plan of no arguments and of no other actions; with a root it is one small class. Nothing is put to
+/// `images`. What was run is left in `kept`.
 ///
 /// The statuses are 0, the run returned, with the budget's last step at the latest; 1, it ended
 /// uncaught; 2, the words or the plan are refused; 3, a file is no class file, the program is not
