@@ -13,4 +13,3 @@ mod Advanced
 mod Onward
 mod Within
 mod Families
-mod Unresolved
