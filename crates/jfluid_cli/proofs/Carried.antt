@@ -2,7 +2,7 @@
 use Rattle.std.proofs.Common.{◌≡◌, ℕ, ◌≤◌, true, false, List, [], length, Option, Some, None, refl, sym, ap, subst, ◌∙◌, inl, inr}
 use Rattle.std.specs.Prelude.{Result, Ok, Err, IfSome, IsSome, IsSomeAnd, MatchResult}
 use Rattle.std.specs.Option.{option_map_or, option_and_then}
-use Rattle.jf_bytes.specs.Streams.{PutsFront, Rose}
+use Rattle.jf_bytes.specs.Streams.{PutsFront}
 use Rattle.plan_text.specs.declared.plan.Plan.{Plan}
 use Rattle.jvm_model.specs.declared.program.Program.{Program}
 use Rattle.jvm_model.specs.Run.{output_of}
@@ -11,10 +11,10 @@ use Rattle.command_line.specs.Input.{most_input}
 use Rattle.command_line.specs.Words.{Read}
 use Rattle.jfluid_cli.specs.declared.kept.Kept.{Kept}
 use Rattle.jfluid_cli.specs.declared.refusal.Refusal.{Refusal}
-use Rattle.jfluid_cli.specs.declared.refusal.Refusal.TheVariants.{InputFailed, InputTooLong, NoMemory}
+use Rattle.jfluid_cli.specs.declared.refusal.Refusal.TheVariants.{NoMemory}
 use Rattle.jfluid_cli.specs.Calls.{Call, given_of, words_of, IsReported, IsRun, IsRunAsked, IsTrueOf, IsRefused}
 use Rattle.jfluid_cli.specs.Asking.{asked_by}
-use Rattle.jfluid_cli.specs.Causes.{Given, Accepts, OfProgram}
+use Rattle.jfluid_cli.specs.Causes.{Given, OfProgram}
 use Rattle.jfluid_cli.specs.Sinks.{SourceView, IsUntold}
 use Rattle.jfluid_cli.specs.Contents.{AreToldAs, SpellAlone, classes_for}
 use Rattle.jfluid_cli.specs.Stages.{IsEarly, IsInputRefusal, IsPrepared, HasFetchCause, is_early, IsStopped, IsSameRun, IsCarried}
@@ -22,7 +22,7 @@ use Rattle.jfluid_cli.specs.Origins.{HasOrigin, IsOnlyProgram}
 use Rattle.jfluid_cli.specs.Refusals.{status_of}
 use Rattle.jfluid_cli.specs.Runs.{PutsAtMost, SameProgram, IsCarriedOut, output_at, world_on}
 use Rattle.jfluid_cli.specs.Selections.{IsSelected, RunsProgram}
-use Rattle.jfluid_cli.specs.Top.{IsProgram, report_of, reported_of}
+use Rattle.jfluid_cli.specs.Top.{IsProgram, report_of}
 use Rattle.jfluid_cli.specs.Words.{Command, accepted, budget_of, command_of, file_words, plan_word}
 use Rattle.jfluid_cli.proofs.Answered.{root-reported, selected-later}
 use Rattle.jfluid_cli.proofs.OneCommand.{commanded}

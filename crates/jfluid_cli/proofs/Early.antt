@@ -1,5 +1,5 @@
 -- Why nothing is made: each refusal before the input is taken, from what the readers say of the contents.
-use Rattle.std.proofs.Common.{◌≡◌, ℕ, ◌<◌, List, length, take, Option, Some, None, Ok, refl, sym, ap, subst, ◌∙◌, true, inl, inr, Err}
+use Rattle.std.proofs.Common.{◌≡◌, ℕ, ◌<◌, List, length, take, Option, Some, None, refl, sym, ap, subst, ◌∙◌, true, inl, inr, Err}
 use Rattle.std.specs.Prelude.{option_map, slice_get}
 use Rattle.jf_bytes.specs.Streams.{Told, Rose}
 use Rattle.const_pool.specs.declared.class.ClassFile.{ClassFile}
@@ -23,7 +23,7 @@ use Rattle.jfluid_cli.specs.Contents.{AreFetched, AreToldAs, SpellAlone, classes
 use Rattle.jfluid_cli.specs.Sinks.{FilesView}
 use Rattle.jfluid_cli.specs.Stages.{AreReadWith, HasFetchCause, IsFetchedFor, IsFetchFault, IsFetchRefusal, IsPlanRefusal, IsReadRefusal, IsWordsRefusal, IsEarly, IsLoaded, is_early}
 use Rattle.jfluid_cli.specs.Top.{IsProgram, HasRefused, answer_for}
-use Rattle.jfluid_cli.specs.Words.{Command, accepted, command_for, command_with}
+use Rattle.jfluid_cli.specs.Words.{Command, accepted, command_with}
 use Rattle.jfluid_cli.proofs.Spelled.{files-alone}
 use Rattle.jfluid_cli.proofs.ToldFiles.{told-contents, fronts-files, fronts-fault}
 

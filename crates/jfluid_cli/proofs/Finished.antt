@@ -16,7 +16,7 @@ use Rattle.jfluid_cli.specs.declared.refusal.Refusal.{Refusal}
 use Rattle.jfluid_cli.specs.declared.refusal.Refusal.TheVariants.{Clap, Words, Plan as BadPlan, NotRead, NotAdmitted, NotBuilt, NotBuiltPlan, InputFailed, OutFailed, PlanNotFetched, NotFetched, NoMemory, InputTooLong}
 use Rattle.jfluid_cli.specs.Calls.{Call, given_of, words_of, IsRunAsked, IsTrueOf, IsRefused, IsAnswered, PutsLine, CalmFiles, CalmInput, AllCalm}
 use Rattle.jfluid_cli.specs.Asking.{asked_by, HasBadRoot}
-use Rattle.jfluid_cli.specs.Causes.{Accepts, HasBadPlan, HasLongInput, IsAccepted, IsUnfit, OfWords}
+use Rattle.jfluid_cli.specs.Causes.{HasBadPlan, HasLongInput, IsAccepted, IsUnfit, OfWords}
 use Rattle.jfluid_cli.specs.Contents.{classes_for}
 use Rattle.jfluid_cli.specs.Sinks.{SinkView, SourceView, FilesView, IsUntold, PutsOrRose}
 use Rattle.jfluid_cli.specs.Stages.{IsCarried, IsWordsRefusal}

@@ -13,9 +13,9 @@ use Rattle.plan_text.specs.Plans.{plan_selecting}
 use Rattle.plan_text.proofs.OneAnswer.{plan_read-one}
 use Rattle.command_line.specs.Chosen.{IsOwnPlan}
 use Rattle.command_line.specs.Words.{Read}
-use Rattle.jfluid_cli.specs.Asking.{HasNoMain, IsFaultOfPlan, IsMisplanned, IsPlanBy, IsPlanFor, IsToldPlan}
+use Rattle.jfluid_cli.specs.Asking.{IsMisplanned, IsPlanBy, IsPlanFor, IsToldPlan}
 use Rattle.jfluid_cli.specs.Causes.{Given, Accepts}
-use Rattle.jfluid_cli.specs.Words.{Command, accepted, budget_of, command_for, command_of}
+use Rattle.jfluid_cli.specs.Words.{Command, accepted, command_for, command_of}
 
 abbrev Answer : Type 0
 Answer = Result Plan PlanError

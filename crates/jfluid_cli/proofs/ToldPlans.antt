@@ -1,6 +1,6 @@
 -- What the files tell of a plan, from what was fetched of its file.
-use Rattle.std.proofs.Common.{◌≡◌, ℕ, ◌+◌, ◌<◌, ◌≤◌, true, false, List, length, take, Option, Some, None, Result, Ok, Err, refl, sym, ap, subst, ◌∙◌, arith, inl, inr}
-use Rattle.std.specs.Prelude.{◌⊎◌, nat_le}
+use Rattle.std.proofs.Common.{◌≡◌, ℕ, ◌+◌, ◌<◌, ◌≤◌, false, List, length, take, Option, Some, None, Result, Err, refl, sym, ap, subst, ◌∙◌, arith, inl, inr}
+use Rattle.std.specs.Prelude.{nat_le}
 use Rattle.std.specs.Bool.{MatchBool}
 use Rattle.std.specs.Option.{option_map}
 use Rattle.std.proofs.lemmas.Bool.{cases_lt, lt-leb}
@@ -15,7 +15,7 @@ use Rattle.jfluid_cli.specs.declared.refusal.Refusal.{Refusal}
 use Rattle.jfluid_cli.specs.declared.refusal.Refusal.TheVariants.{PlanNotFetched}
 use Rattle.jfluid_cli.specs.Asking.{IsToldPlan}
 use Rattle.jfluid_cli.specs.Sinks.{FilesView}
-use Rattle.jfluid_cli.specs.Stages.{IsFaultOf, IsFetchFault, IsTextRefusal, IsToldRefusal}
+use Rattle.jfluid_cli.specs.Stages.{IsFetchFault, IsTextRefusal, IsToldRefusal}
 
 abbrev Answer : Type 0
 Answer = Result Plan PlanError

@@ -1,5 +1,5 @@
 -- The refusals of the program: their statuses, and the line that is put to the report.
-use Rattle.std.specs.Prelude.{◌≡◌, ℕ, List, [], ◌++◌, Option, Some, None, codes, true, unwrap_or}
+use Rattle.std.specs.Prelude.{◌≡◌, ℕ, List, [], ◌++◌, Option, Some, None, codes, unwrap_or}
 use Rattle.std.specs.String.{string_bytes}
 use Rattle.std.specs.Fmt.{decimal}
 use Rattle.class_reader.specs.declared.error.ReadError.{ReadError}

@@ -21,7 +21,7 @@ use Rattle.jfluid_cli.specs.Contents.{AreToldAs, AreFetched, IsFaultAt, SpellAlo
 use Rattle.jfluid_cli.specs.Refusals.{status_of, refusal_of}
 use Rattle.jfluid_cli.specs.Runs.{SameProgram}
 use Rattle.jfluid_cli.specs.Sinks.{FilesView, Streams, IsUntold}
-use Rattle.jfluid_cli.specs.Top.{IsProgram, is_among, is_unadmitted}
+use Rattle.jfluid_cli.specs.Top.{IsProgram, is_among}
 use Rattle.jfluid_cli.specs.Words.{Command, accepted, AreClaps, AreRefused}
 
 -- ---- before a machine is made

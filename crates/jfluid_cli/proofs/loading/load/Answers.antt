@@ -1,4 +1,4 @@
-use Rattle.std.proofs.Common.{◌≡◌, List, ℕ, Option, refl, sym, ap, subst}
+use Rattle.std.proofs.Common.{List, ℕ, Option, refl, sym, ap, subst}
 use Rattle.jf_bytes.specs.Streams.{Told}
 use Rattle.command_line.specs.Chosen.{chosen_in}
 use Rattle.command_line.specs.Words.{read_in, texts}

@@ -1,8 +1,6 @@
-use Rattle.std.proofs.Common.{subst, arith, length, ◌≤◌, ◌<◌, ◌^◌}
-use Rattle.small_program.specs.declared.admission.Refused.TheVariants as refused
+use Rattle.std.proofs.Common.{subst, arith, length, ◌≤◌}
 use Rattle.small_program.specs.Admission.{IsRefusedFor}
-use Rattle.plan_text.specs.Lines.{most_said}
-use Rattle.jfluid_cli.specs.Asking.{Asked, asked_for}
+use Rattle.jfluid_cli.specs.Asking.{asked_for}
 use Rattle.jfluid_cli.specs.Contents.{SpellsAlone}
 use Rattle.jfluid_cli.proofs.Early.{due-unread, due-fault, due-outside, due-unbuilt}
 use Rattle.jfluid_cli.proofs.Pairs.{zip-length}

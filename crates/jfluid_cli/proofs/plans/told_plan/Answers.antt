@@ -1,4 +1,4 @@
-use Rattle.std.proofs.Common.{List, ℕ, Ok, sym, subst}
+use Rattle.std.proofs.Common.{List, ℕ, Ok, subst}
 use Rattle.plan_text.specs.Lines.{IsPlanRead}
 use Rattle.jfluid_cli.specs.Sinks.{files_view}
 use Rattle.jfluid_cli.specs.Stages.{IsTextRefusal}

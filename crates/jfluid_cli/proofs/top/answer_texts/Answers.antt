@@ -1,4 +1,4 @@
-use Rattle.std.proofs.Common.{refl, ap}
+use Rattle.std.proofs.Common.{ap}
 use Rattle.std.proofs.lemmas.Bool.{false≢true}
 use Rattle.command_line.specs.Words.{read_in, texts}
 use Rattle.jfluid_cli.proofs.Finished.{answered-run, answered-told, answered-words, called-line}
