@@ -218,5 +218,5 @@ pub p1_built : IsBuilt p1
 p1_built = record {
   formed = p1_formed;
   plain = p1_plain;
-  small = record { name = refl; super = refl; methods = p1_methods };
+  small = record { name = refl; super = refl; class = refl; methods = p1_methods };
 }
