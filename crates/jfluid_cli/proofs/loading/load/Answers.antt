@@ -50,3 +50,7 @@ returns-in-Err-read_program-clause-early g c = λ given with_plan told.
     (made-command given words c.args.plan.now of with_plan c.in-Some.ensures.chosen) told
     (subst (λ (names : List (List ℕ)). AreFetched (g.F.Files.contents c.args.files.now) names c.in-Ok.contents)
     (ap texts c.deref.ensures.value) c.in-Ok.ensures.found) (sym c.as_slice.ensures))
+
+pub returns-in-Ok-read_program-clause-small : goal.returns-in-Ok-read_program-clause-small
+returns-in-Ok-read_program-clause-small g c =
+    (c.in-Some.ensures.sound c.requires.sound c.requires.within).budget
