@@ -261,8 +261,9 @@ pub fn jfluid<F: Files, I: Source, O: Sink, P: Sink, G: Sink>(
 {
     let _images = images;
     *kept = None;
-    match words {
-        Ok(words) => answer_words(alloc, words.as_slice(), files, input, out, report, kept),
-        Err(_) => tell(alloc, Refusal::NoMemory, None, &[], report).status(),
-    }
+    let words = match words {
+        Ok(words) => words,
+        Err(_) => return tell(alloc, Refusal::NoMemory, None, &[], report).status(),
+    };
+    answer_words(alloc, words.as_slice(), files, input, out, report, kept)
 }
