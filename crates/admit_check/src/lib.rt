@@ -18,5 +18,3 @@ mod uses;
 
 pub use admission::{admit, admit_class};
 pub use error::{AdmitError, CodeCause, Place, ShapeCause};
-pub use name_set::NameSet;
-pub use twins::{add_key, key_text, member_key};

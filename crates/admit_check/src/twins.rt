@@ -10,7 +10,7 @@ use jf_bytes::{NoMemory, Text16};
 use std::alloc::Global;
 
 /// A name and a descriptor as one text, which tells where the name ends.
-pub fn key_text(alloc: Global, name: &Text16, descriptor: &Text16) -> Result<Text16, NoMemory>
+fn key_text(alloc: Global, name: &Text16, descriptor: &Text16) -> Result<Text16, NoMemory>
     ensures { IfOk result (λ key. key ≡ key_text name.now descriptor.now) }
 {
     let mut units = Vec::new(alloc);
@@ -24,7 +24,7 @@ pub fn key_text(alloc: Global, name: &Text16, descriptor: &Text16) -> Result<Tex
 }
 
 /// The name and the descriptor of a member as one text.
-pub fn member_key(alloc: Global, pool: &Pool, member: &Member) -> Result<Option<Text16>, NoMemory>
+fn member_key(alloc: Global, pool: &Pool, member: &Member) -> Result<Option<Text16>, NoMemory>
     ensures { IfOk result (λ key. key ≡ member_key pool.now member.now) }
 {
     let Ok(name) = pool.text(member.name) else {
@@ -47,7 +47,7 @@ fn has_key(keys: &NameSet, key: &Option<Text16>) -> bool
 }
 
 /// Adds the key, if it is none of these.
-pub fn add_key(alloc: Global, keys: &mut NameSet, key: &Option<Text16>) -> Result<(), NoMemory>
+fn add_key(alloc: Global, keys: &mut NameSet, key: &Option<Text16>) -> Result<(), NoMemory>
     ensures { OnOk result (keys.new ≡ with_key keys.old key.now) }
 {
     match key {

@@ -4,4 +4,5 @@ mod WellFormed
 pub mod NameLemmas
 mod NativeLemmas
 mod NativeNumbers
+pub mod NativePlaces
 mod Sound

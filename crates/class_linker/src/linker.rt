@@ -102,6 +102,13 @@ impl Linker {
         self.state.loaded.as_slice()
     }
 
+    /// Whether a class is loaded. It takes the same time however many are.
+    pub fn is_loaded(&self, class: u32) -> bool
+        ensures { result ≡ is_among class self.now.loaded }
+    {
+        self.state.loaded.has(class)
+    }
+
     /// Loads the class of this name with what it needs (5.3), or the class of an array's elements. After `NoMemory` nothing is
     /// loaded that was not.
     pub fn load(&mut self, name: &Text16) -> Loaded

@@ -1,11 +1,11 @@
 //! Native methods by hand: each with an ordinary argument or one at an edge, over the same objects.
 
-ghost use Rattle.std.specs.Prelude.{◌≡◌, ◌≤◌};
+ghost use Rattle.std.specs.Prelude.{◌≡◌};
 
 use base_classes::native_of;
 use heap_objects::{Datum, Heap, HeapError};
 use jf_bytes::{Seq, Text16, from_utf8};
-use native_ops::{Io, Kinds, Made, Native, call};
+use native_ops::{Kinds, Made, Native, call};
 use std::alloc::Global;
 use tables::{Row, boxes, builders, others, strings};
 
@@ -82,17 +82,26 @@ fn make_objects(alloc: Global, heap: &mut Heap) -> Result<(), HeapError>
     make_instances(heap)
 }
 
-/// What a call answers, or None where there is no such method or no memory.
-fn answer(alloc: Global, row: &Row, heap: &mut Heap, io: &mut Io) -> Option<Native>
-    requires { heap.old.limit ≤ 67108864 }
-{
+/// What a call answers over an input of one byte, or None where there is no such method or no memory.
+fn answer(alloc: Global, row: &Row, heap: &mut Heap, output: &mut Seq<u8>) -> Option<Native> {
     let native = native_of(
         &text(alloc, row.class),
         &text(alloc, row.name),
         &text(alloc, row.descriptor),
     )?;
     let mut made = Made::new(alloc);
-    Some(call(alloc, native, row.args, &Alone, heap, &mut made, io))
+    let mut read = 0;
+    Some(call(
+        alloc,
+        native,
+        row.args,
+        &Alone,
+        heap,
+        &mut made,
+        &[255],
+        &mut read,
+        output,
+    ))
 }
 
 /// Whether a text has these units, in ASCII.
@@ -110,41 +119,30 @@ fn has_units(units: &[u16], ascii: &str) -> bool {
 }
 
 /// Whether the object that is answered is a text of these units, or, where none is, this was written.
-fn shows(answer: &Native, heap: &Heap, io: &Io, ascii: &str) -> bool {
+fn shows(answer: &Native, heap: &Heap, output: &[u8], ascii: &str) -> bool {
     if let Native::Value(Some(Datum::Ref(object))) = answer {
         if let Some(units) = heap.units(*object) {
             return has_units(units, ascii);
         }
     }
-    io.output.as_slice() == ascii.as_bytes()
+    output == ascii.as_bytes()
 }
 
 /// Whether a row holds, in a heap of so many slots.
-fn holds(alloc: Global, row: &Row, limit: u32) -> bool
-    requires { limit ≤ 67108864 }
-{
+fn holds(alloc: Global, row: &Row, limit: u32) -> bool {
     let mut heap = Heap::new(alloc, limit);
     if make_objects(alloc, &mut heap).is_err() {
         return false;
     }
-    let Ok(input) = Seq::from_slice(alloc, &[255]) else {
-        return false;
-    };
-    let mut io = Io {
-        input,
-        at: 0,
-        output: Seq::new(alloc),
-    };
-    match answer(alloc, row, &mut heap, &mut io) {
-        Some(given) => given == row.answer && shows(&given, &heap, &io, row.text),
+    let mut output = Seq::new(alloc);
+    match answer(alloc, row, &mut heap, &mut output) {
+        Some(given) => given == row.answer && shows(&given, &heap, output.as_slice(), row.text),
         None => false,
     }
 }
 
 /// The first row that does not hold.
-fn first_false(alloc: Global, rows: &[Row], limit: u32) -> Option<usize>
-    requires { limit ≤ 67108864 }
-{
+fn first_false(alloc: Global, rows: &[Row], limit: u32) -> Option<usize> {
     for place in 0..rows.len() {
         if !holds(alloc, &rows[place], limit) {
             return Some(place);

@@ -4,3 +4,4 @@ pub mod Refusals
 pub mod Sound
 pub mod WorkedWords
 pub mod WorkedChoices
+pub mod Told

@@ -9,5 +9,5 @@ mod words;
 
 pub use chosen::{Command, command_of, own_plan};
 pub use input::{InputError, take_input};
-pub use raw::{RawError, raw_words, texts_of};
+pub use raw::{Process, RawError, SystemWords, raw_words, texts_of};
 pub use words::{Words, WordsError, read_words};

@@ -1,7 +1,8 @@
 //! The words as the system has them: bytes, which may be no text.
 
-ghost use Rattle.std.specs.Prelude.{◌≡◌, IfOk, IfErr};
-ghost use Rattle.command_line.specs.Raw.{AreTexts, HasRawCause};
+ghost use Rattle.std.specs.Prelude.{◌≡◌, ◌<◌, ◌^◌, ℕ, List, Option, None, length, IfOk, IfErr, OnOk};
+ghost use Rattle.std.specs.Io.{WritesAtMost};
+ghost use Rattle.command_line.specs.Raw.{AreTexts, AreWords, HasRawCause, IsAnswered, IsWord, word_in};
 ghost use Rattle.command_line.specs.Words.{texts};
 ghost use Rattle.command_line.specs.declared.raw.RawError.TheVariants.{NoMemory as out_of_memory};
 
@@ -9,12 +10,6 @@ use jf_bytes::{NoMemory, Seq};
 use std::alloc::{AllocError, AllocFailed, Global};
 use std::env::{Env, FillError};
 use thiserror::Error;
-
-/// The room for a word that is tried first, in bytes.
-const FIRST_ROOM: usize = 256;
-
-/// How many rooms are tried, each twice as large as the one before. No system passes on a longer word.
-const MOST_TRIES: u32 = 32;
 
 /// Why words are no texts.
 #[derive(Clone, Copy, Debug, PartialEq, Eq, Error)]
@@ -42,16 +37,59 @@ impl<T: Drop> From<AllocFailed<T>> for RawError {
     }
 }
 
-/// A word, where there is one of this number and it fits into the room.
-fn word_within<R: Env>(
+// ---- the words of a process
+
+/// The words of a process, as bytes, of which the first is the program's name.
+pub trait Process {
+    /// The words, where the object tells them.
+    ghost words: { Self → Option (List (List ℕ)) };
+
+    /// Copies the word of this number to the start of the room, and answers how long it is. `NotPresent` says that there is no such
+    /// word, and `TooLong` that it is longer than the room.
+    fn word(&self, number: usize, room: &mut [u8]) -> Result<usize, FillError>
+        ensures within { WritesAtMost result room.new }
+        ensures word { IsAnswered (words self.now) number (length room.new)
+            (word_in room.new result) };
+}
+
+/// The words of an environment. It tells nothing of them.
+#[derive(Drop)]
+pub struct SystemWords<R: Env> {
+    environment: R,
+}
+
+impl<R: Env> SystemWords<R> {
+    pub fn new(environment: R) -> SystemWords<R> {
+        SystemWords { environment }
+    }
+}
+
+impl<R: Env> Process for SystemWords<R> {
+    ghost words = { λ _. None };
+
+    fn word(&self, number: usize, room: &mut [u8]) -> Result<usize, FillError> {
+        self.environment.arg(number, room)
+    }
+}
+
+// ---- all words
+
+/// The room for a word that is tried first, in bytes.
+const FIRST_ROOM: usize = 256;
+
+/// A word, where there is one of this number and it fits into a room of so many bytes.
+fn word_within<P: Process>(
     alloc: Global,
-    runtime: &R,
+    process: &P,
     number: usize,
     room: usize,
-) -> Result<Result<Seq<u8>, FillError>, NoMemory> {
+) -> Result<Result<Seq<u8>, FillError>, NoMemory>
+    ensures word { IfOk result (IsAnswered (P.words process.now) number room) }
+    ensures room { OnOk result (room < 2 ^ 63) }
+{
     let mut bytes = Vec::new(alloc);
     bytes.resize(room, 0u8)?;
-    match runtime.arg(number, bytes.as_mut_slice()) {
+    match process.word(number, bytes.as_mut_slice()) {
         Ok(count) => {
             bytes.truncate(count);
             Ok(Ok(Seq::from_vec(bytes)))
@@ -60,31 +98,38 @@ fn word_within<R: Env>(
     }
 }
 
-/// A word, where there is one of this number.
-fn word_at<R: Env>(alloc: Global, runtime: &R, number: usize) -> Result<Option<Seq<u8>>, NoMemory> {
+/// The word of this number, or None where there is none. The room for it is doubled up to where the word fits, or where there is no
+/// memory for the room.
+fn word_at<P: Process>(
+    alloc: Global,
+    process: &P,
+    number: usize,
+) -> Result<Option<Seq<u8>>, NoMemory>
+    ensures { IfOk result (IsWord (P.words process.now) number) }
+{
     let mut room = FIRST_ROOM;
-    for _ in 0..MOST_TRIES {
-        match word_within(alloc, runtime, number, room)? {
+    loop {
+        match word_within(alloc, process, number, room)? {
             Ok(word) => return Ok(Some(word)),
             Err(FillError::NotPresent) => return Ok(None),
-            Err(FillError::TooLong) => room = room.saturating_add(room),
+            Err(FillError::TooLong) => room += room,
         }
     }
-    Err(NoMemory)
 }
 
-/// The words of the process, of which the first is the program's name, for the program's `main`. No clause speaks of what a
-/// process was given.
-pub fn raw_words<R: Env>(alloc: Global, runtime: &R) -> Result<Seq<Seq<u8>>, NoMemory> {
+/// All words of a process, each whole, in their order. An Err says that there was no memory for them.
+#[tactic(auto, using(crate::proofs::Told::first_more, crate::proofs::Told::first_all))]
+pub fn raw_words<P: Process>(alloc: Global, process: &P) -> Result<Seq<Seq<u8>>, NoMemory>
+    ensures { IfOk result (AreWords (P.words process.now)) }
+{
     let mut words = Seq::new(alloc);
-    for number in 0..usize::MAX {
-        match word_at(alloc, runtime, number)? {
-            Some(word) => words.push(word)?,
-            None => return Ok(words),
-        }
+    while let Some(word) = word_at(alloc, process, words.len())? {
+        words.push(word)?;
     }
     Ok(words)
 }
+
+// ---- words as texts
 
 /// The words as texts, for `read_words`. The top call answers `NotText` as a refusal of the words.
 pub fn texts_of<'a>(alloc: Global, words: &'a [Seq<u8>]) -> Result<Vec<&'a str>, RawError>

@@ -15,7 +15,7 @@ use Rattle.command_line.specs.Chosen.{Chosen, chosen}
 use Rattle.command_line.specs.Words.{Read}
 use Rattle.jfluid_cli.specs.declared.refusal.Refusal.{Refusal}
 use Rattle.jfluid_cli.specs.declared.refusal.Refusal.TheVariants as refusal
-use Rattle.jfluid_cli.specs.declared.refusal.Refusal.TheVariants.{NotRead, NotAdmitted, NotBuilt, NotBuiltPlan, PlanNotFetched, NotFetched, NoMemory}
+use Rattle.jfluid_cli.specs.declared.refusal.Refusal.TheVariants.{NotRead, NotAdmitted, NotBuiltPlan, PlanNotFetched, NotFetched, NoMemory}
 use Rattle.jfluid_cli.specs.Refusals.{status_of, refusal_of}
 use Rattle.jfluid_cli.specs.Asking.{Asked, asked_by, IsPlanFor}
 use Rattle.jfluid_cli.specs.Causes.{Given, Accepts, Because, OfClasses}
@@ -37,7 +37,6 @@ due-words g refusal.NoMemory is = record { cause = tt; early = refl }
 due-words g (refusal.Plan fault) is = absurd is
 due-words g (NotRead at fault) is = absurd is
 due-words g (NotAdmitted fault) is = absurd is
-due-words g (NotBuilt at) is = absurd is
 due-words g NotBuiltPlan is = absurd is
 due-words g refusal.InputFailed is = absurd is
 due-words g refusal.OutFailed is = absurd is
@@ -159,12 +158,6 @@ pub due-fault : (g : Given) (asked : Asked) (fronts : List (List ℕ)) (classes 
     → IsEarly g (NotAdmitted fault)
 due-fault g asked fronts classes fault f alone is =
     due g (NotAdmitted fault) refl (of-classes g asked fronts classes (refused.Fault fault) f alone is)
-
-pub due-outside : (g : Given) (asked : Asked) (fronts : List (List ℕ)) (classes : List ClassFile)
-    (at : ℕ) → IsFetchedFor g asked fronts → SpellAlone fronts classes
-    → IsRefusedFor asked.plan (answer_for asked classes) classes (refused.NotBuilt at) → IsEarly g (NotBuilt at)
-due-outside g asked fronts classes at f alone is =
-    due g (NotBuilt at) refl (of-classes g asked fronts classes (refused.NotBuilt at) f alone is)
 
 pub due-unbuilt : (g : Given) (asked : Asked) (fronts : List (List ℕ)) (classes : List ClassFile)
     → IsFetchedFor g asked fronts → SpellAlone fronts classes

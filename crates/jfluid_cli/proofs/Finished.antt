@@ -13,7 +13,7 @@ use Rattle.jvm_model.specs.Run.{ending_of}
 use Rattle.command_line.specs.Words.{Read}
 use Rattle.jfluid_cli.specs.declared.kept.Kept.{Kept}
 use Rattle.jfluid_cli.specs.declared.refusal.Refusal.{Refusal}
-use Rattle.jfluid_cli.specs.declared.refusal.Refusal.TheVariants.{Clap, Words, Plan as BadPlan, NotRead, NotAdmitted, NotBuilt, NotBuiltPlan, InputFailed, OutFailed, PlanNotFetched, NotFetched, NoMemory, InputTooLong}
+use Rattle.jfluid_cli.specs.declared.refusal.Refusal.TheVariants.{Clap, Words, Plan as BadPlan, NotRead, NotAdmitted, NotBuiltPlan, InputFailed, OutFailed, PlanNotFetched, NotFetched, NoMemory, InputTooLong}
 use Rattle.jfluid_cli.specs.Calls.{Call, given_of, words_of, IsRunAsked, IsTrueOf, IsRefused, IsAnswered, PutsLine, CalmFiles, CalmInput, AllCalm}
 use Rattle.jfluid_cli.specs.Asking.{asked_by, HasBadRoot}
 use Rattle.jfluid_cli.specs.Causes.{HasBadPlan, HasLongInput, IsAccepted, IsUnfit, OfWords}
@@ -317,7 +317,6 @@ not-seven words Words is seven = absurd cc
 not-seven words (BadPlan fault) is seven = absurd cc
 not-seven words (NotRead at fault) is seven = absurd cc
 not-seven words (NotAdmitted fault) is seven = absurd cc
-not-seven words (NotBuilt at) is seven = absurd cc
 not-seven words NotBuiltPlan is seven = absurd cc
 not-seven words InputFailed is seven = absurd cc
 not-seven words OutFailed is seven = absurd cc

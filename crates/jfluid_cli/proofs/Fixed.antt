@@ -11,7 +11,7 @@ use Rattle.command_line.specs.Input.{most_input}
 use Rattle.command_line.specs.Words.{Read}
 use Rattle.jfluid_cli.specs.declared.kept.Kept.{Kept}
 use Rattle.jfluid_cli.specs.declared.refusal.Refusal.{Refusal}
-use Rattle.jfluid_cli.specs.declared.refusal.Refusal.TheVariants.{Clap, Words, Plan as BadPlan, NotRead, NotAdmitted, NotBuilt, NotBuiltPlan, InputFailed, OutFailed, PlanNotFetched, NotFetched, NoMemory, InputTooLong}
+use Rattle.jfluid_cli.specs.declared.refusal.Refusal.TheVariants.{Clap, Words, Plan as BadPlan, NotRead, NotAdmitted, NotBuiltPlan, InputFailed, OutFailed, PlanNotFetched, NotFetched, NoMemory, InputTooLong}
 use Rattle.jfluid_cli.specs.Asking.{asked_by, HasBadRoot, IsPlanBy, IsPlanFor}
 use Rattle.jfluid_cli.specs.Causes.{Given, Accepts, HasLongInput, IsAccepted, IsAdmitted, IsLong, IsUnfit, OfProgram, OfWords, Because}
 use Rattle.jfluid_cli.specs.Contents.{AreToldAs}
@@ -21,7 +21,7 @@ use Rattle.jfluid_cli.specs.Top.{HasNoProgram, IsProgram, is_among}
 use Rattle.jfluid_cli.specs.Words.{Command, accepted}
 use Rattle.jfluid_cli.proofs.Accepted.{accepted-claps, accepted-refused}
 use Rattle.jfluid_cli.proofs.OneCommand.{not-misplanned, one-command}
-use Rattle.jfluid_cli.proofs.Spelled.{none-faulty, none-spelled, other-fault, other-place, other-plan}
+use Rattle.jfluid_cli.proofs.Spelled.{none-faulty, none-spelled, other-fault, other-plan}
 
 -- by the status of a refusal
 pub by-status : (r : Refusal) (P : Type 0) → (status_of r ≡ 2 → P) → (status_of r ≡ 3 → P)
@@ -32,7 +32,6 @@ by-status Words P two three five six seven nine eleven = two refl
 by-status (BadPlan fault) P two three five six seven nine eleven = two refl
 by-status (NotRead at fault) P two three five six seven nine eleven = three refl
 by-status (NotAdmitted fault) P two three five six seven nine eleven = three refl
-by-status (NotBuilt at) P two three five six seven nine eleven = three refl
 by-status NotBuiltPlan P two three five six seven nine eleven = three refl
 by-status InputFailed P two three five six seven nine eleven = five refl
 by-status OutFailed P two three five six seven nine eleven = six refl
@@ -59,7 +58,6 @@ read-or g Words cause = inl (inl refl)
 read-or g (BadPlan fault) cause = inl (inl refl)
 read-or g (NotRead at fault) cause = inr (read-by g cause.command cause.accepts)
 read-or g (NotAdmitted fault) cause = inr (read-by g cause.command cause.accepts)
-read-or g (NotBuilt at) cause = inr (read-by g cause.command cause.accepts)
 read-or g NotBuiltPlan cause = inr (read-by g cause.command cause.accepts)
 read-or g InputFailed cause = inr (read-by g cause.command cause.accepts)
 read-or g OutFailed cause = inr (read-by g cause.command cause.accepts)
@@ -78,7 +76,6 @@ accepted-or g Words cause = inl (inl refl)
 accepted-or g (BadPlan fault) cause = inl (inl refl)
 accepted-or g (NotRead at fault) cause = inr (inr (cause.command, cause.accepts))
 accepted-or g (NotAdmitted fault) cause = inr (inr (cause.command, cause.accepts))
-accepted-or g (NotBuilt at) cause = inr (inr (cause.command, cause.accepts))
 accepted-or g NotBuiltPlan cause = inr (inr (cause.command, cause.accepts))
 accepted-or g InputFailed cause = inr (inr (cause.command, cause.accepts))
 accepted-or g OutFailed cause = inr (inr (cause.command, cause.accepts))
@@ -100,7 +97,6 @@ two-refused g (BadPlan fault) k tells cause two accepts =
     not-misplanned g cause.0 k tells cause.1 (inl (fault, cause.2)) accepts
 two-refused g (NotRead at fault) k tells cause two accepts = absurd cc
 two-refused g (NotAdmitted fault) k tells cause two accepts = absurd cc
-two-refused g (NotBuilt at) k tells cause two accepts = absurd cc
 two-refused g NotBuiltPlan k tells cause two accepts = absurd cc
 two-refused g InputFailed k tells cause two accepts = absurd cc
 two-refused g OutFailed k tells cause two accepts = absurd cc
@@ -181,9 +177,6 @@ three-refused g (NotRead at fault) p cause three a =
 three-refused g (NotAdmitted fault) p cause three a =
     none-admitted g cause.command cause.contents p cause.accepts cause.told_as
     (none-spelled (asked_by cause.command) cause.contents (refused.Fault fault) cause.holds (other-fault fault)) a
-three-refused g (NotBuilt at) p cause three a =
-    none-admitted g cause.command cause.contents p cause.accepts cause.told_as
-    (none-spelled (asked_by cause.command) cause.contents (refused.NotBuilt at) cause.holds (other-place at)) a
 three-refused g NotBuiltPlan p cause three a =
     none-admitted g cause.command cause.contents p cause.accepts cause.told_as
     (none-spelled (asked_by cause.command) cause.contents refused.NotBuiltPlan cause.holds other-plan) a
@@ -208,7 +201,6 @@ program-told g Words cause late = absurd cc
 program-told g (BadPlan fault) cause late = absurd cc
 program-told g (NotRead at fault) cause late = absurd cc
 program-told g (NotAdmitted fault) cause late = absurd cc
-program-told g (NotBuilt at) cause late = absurd cc
 program-told g NotBuiltPlan cause late = absurd cc
 program-told g PlanNotFetched cause late = absurd cc
 program-told g (NotFetched at) cause late = absurd cc
@@ -235,7 +227,6 @@ long-told g Words cause eleven = absurd cc
 long-told g (BadPlan fault) cause eleven = absurd cc
 long-told g (NotRead at fault) cause eleven = absurd cc
 long-told g (NotAdmitted fault) cause eleven = absurd cc
-long-told g (NotBuilt at) cause eleven = absurd cc
 long-told g NotBuiltPlan cause eleven = absurd cc
 long-told g InputFailed cause eleven = absurd cc
 long-told g OutFailed cause eleven = absurd cc

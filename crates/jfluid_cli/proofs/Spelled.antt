@@ -112,18 +112,13 @@ not-unbuilt plan a classes p root runs unbuilt =
 not-both : (plan : Plan) (a : Result Program AdmitError) (classes : List ClassFile) (p : Program) (root : Option ℕ)
     (why : Refused) → Runs plan a classes p root → IsRefusedFor plan a classes why → why ≡ refused.NoMemory
 not-both plan a classes p root (refused.Fault fault) runs is =
-    absurd (not-ok p fault (sym runs.admitted ∙ is.0))
-not-both plan a classes p root (refused.NotBuilt at) runs is =
-    absurd (is.1.outside (runs.built at is.1.class is.1.there))
+    absurd (not-ok p fault (sym runs.admitted ∙ is))
 not-both plan a classes p root refused.NotBuiltPlan runs is =
     absurd (not-unbuilt plan a classes p root runs is)
 not-both plan a classes p root refused.NoMemory runs is = refl
 
 pub other-fault : (fault : AdmitError) → refused.Fault fault ≡ refused.NoMemory → ⊥
 other-fault fault e = cc e
-
-pub other-place : (at : ℕ) → refused.NotBuilt at ≡ refused.NoMemory → ⊥
-other-place at e = cc e
 
 pub other-plan : refused.NotBuiltPlan ≡ refused.NoMemory → ⊥
 other-plan e = cc e

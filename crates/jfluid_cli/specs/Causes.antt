@@ -113,7 +113,6 @@ Because g refusal.Words = AreRefused g.words ⊎ OfWords g (HasNoMain g.told)
 Because g (refusal.Plan fault) = OfWords g (λ words. IsFaultOfPlan g.told words fault)
 Because g (refusal.NotRead at fault) = OfFiles g (λ k contents. IsFaultAt contents at fault)
 Because g (refusal.NotAdmitted fault) = OfClasses g (refused.Fault fault)
-Because g (refusal.NotBuilt at) = OfClasses g (refused.NotBuilt at)
 Because g refusal.NotBuiltPlan = OfClasses g refused.NotBuiltPlan
 Because g refusal.InputFailed = OfProgram g
 Because g refusal.OutFailed = OfProgram g

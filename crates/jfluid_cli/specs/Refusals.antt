@@ -21,7 +21,7 @@ use Rattle.plan_text.specs.declared.plan.PlanError.TheVariants as plan
 use Rattle.small_program.specs.Admission.{class_in}
 use Rattle.jfluid_cli.specs.Contents.{word_at}
 use Rattle.jfluid_cli.specs.declared.refusal.Refusal.{Refusal}
-use Rattle.jfluid_cli.specs.declared.refusal.Refusal.TheVariants.{Clap, Words, Plan, NotRead, NotAdmitted, NotBuilt, NotBuiltPlan, InputFailed, OutFailed, PlanNotFetched, NotFetched, NoMemory, InputTooLong}
+use Rattle.jfluid_cli.specs.declared.refusal.Refusal.TheVariants.{Clap, Words, Plan, NotRead, NotAdmitted, NotBuiltPlan, InputFailed, OutFailed, PlanNotFetched, NotFetched, NoMemory, InputTooLong}
 
 abbrev pub status_of : Refusal → ℕ
 status_of (Clap text) = 2
@@ -29,7 +29,6 @@ status_of Words = 2
 status_of (Plan why) = 2
 status_of (NotRead at why) = 3
 status_of (NotAdmitted why) = 3
-status_of (NotBuilt at) = 3
 status_of NotBuiltPlan = 3
 status_of InputFailed = 5
 status_of OutFailed = 6
@@ -151,7 +150,6 @@ refusal_line Words named files = codes "jfluid: words refused\n"
 refusal_line (Plan why) named files = codes "jfluid: plan: " ++ (plan_cause why ++ codes "\n")
 refusal_line (NotRead at why) named files = told_of_file (word_at files at) (cause_of why)
 refusal_line (NotAdmitted why) named files = told_of files (class_in why) (admission_cause why)
-refusal_line (NotBuilt at) named files = codes "jfluid: " ++ (word_at files at ++ codes ": NotBuilt\n")
 refusal_line NotBuiltPlan named files = codes "jfluid: NotBuiltPlan\n"
 refusal_line InputFailed named files = codes "jfluid: input failed\n"
 refusal_line OutFailed named files = codes "jfluid: output failed\n"

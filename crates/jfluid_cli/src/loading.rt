@@ -87,7 +87,6 @@ fn read_program(
     match admit(alloc, classes, main, plan) {
         Ok(admitted) => Ok(admitted),
         Err(Refused::Fault(fault)) => Err(Refusal::NotAdmitted(fault)),
-        Err(Refused::NotBuilt(at)) => Err(Refusal::NotBuilt(at)),
         Err(Refused::NotBuiltPlan) => Err(Refusal::NotBuiltPlan),
         Err(Refused::NoMemory) => Err(Refusal::NoMemory),
     }

@@ -31,10 +31,7 @@ pub enum Refusal {
     NotRead(u32, ReadError),
     /// The program is not admitted, and this is its first fault: status 3.
     NotAdmitted(AdmitError),
-    /// The class of the file at this position is the first that does not run so far: it has an ldc of a
-    /// String or of a Class, or it names a method of a built-in class that is not called so far: status 3.
-    NotBuilt(u32),
-    /// The plan has arguments, or actions other than one that selects a root before the first step; or
+    /// The plan has actions other than one that selects a root before the first step; or
     /// there is a root, and the program has several classes, or its class is not small, or the root is a
     /// method of a built-in class: status 3.
     NotBuiltPlan,
@@ -59,10 +56,7 @@ impl Refusal {
     {
         match self {
             Refusal::Clap(_) | Refusal::Words | Refusal::Plan(_) => 2,
-            Refusal::NotRead(..)
-            | Refusal::NotAdmitted(_)
-            | Refusal::NotBuilt(_)
-            | Refusal::NotBuiltPlan => 3,
+            Refusal::NotRead(..) | Refusal::NotAdmitted(_) | Refusal::NotBuiltPlan => 3,
             Refusal::InputFailed => 5,
             Refusal::OutFailed => 6,
             Refusal::PlanNotFetched | Refusal::NotFetched(_) => 7,
@@ -198,10 +192,6 @@ fn line(
         Refusal::Plan(fault) => plan_line(alloc, fault),
         Refusal::NotRead(at, fault) => fault_line(alloc, *fault, word_at(files, *at)),
         Refusal::NotAdmitted(fault) => admission_line(alloc, *fault, files),
-        Refusal::NotBuilt(at) => {
-            let file = word_at(files, *at);
-            format!(in alloc; "jfluid: {file}: NotBuilt\n")
-        }
         Refusal::NotBuiltPlan => String::from_str(alloc, "jfluid: NotBuiltPlan\n"),
         Refusal::InputFailed => String::from_str(alloc, "jfluid: input failed\n"),
         Refusal::OutFailed => String::from_str(alloc, "jfluid: output failed\n"),

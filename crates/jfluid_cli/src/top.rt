@@ -218,14 +218,13 @@ fn answer_words<F: Files, I: Source, O: Sink, P: Sink>(
 /// else 100,000,000; the heap is the plan's, else 4,194,304 slots. `--root R` is a plan that selects R
 /// before the first step: class, dot, name and descriptor, as in `P1.f(I)I`. The activations of the
 /// selected method and what they call are profiled: the class is rewritten before the start, and the
-/// report has the tree of calling contexts, which is empty without it. So far a program runs whose
-/// classes have no ldc of a String or of a Class and call no method of a built-in class but two, with
-/// a plan of no arguments and of no other actions; with a root it is one small class. Nothing is put to
+/// report has the tree of calling contexts, which is empty without it. So far a program runs with a
+/// plan of no other actions; with a root it is one small class. Nothing is put to
 /// `images`. What was run is left in `kept`.
 ///
-/// The statuses are 0, the run returned, with the budget's last step at the latest; 1, it ended
-/// uncaught; 2, the words or the plan are refused; 3, a file is no class file, the program is not
-/// admitted, or a class or the plan is outside the part that runs so far; 4, the budget was spent
+/// The statuses are 0, the run returned, or the program called System.exit, with the budget's last step
+/// at the latest; 1, it ended uncaught; 2, the words or the plan are refused; 3, a file is no class
+/// file, the program is not admitted, or it does not run with its plan so far; 4, the budget was spent
 /// before the run ended; 5, a take of input failed; 6, a put of output failed; 7, the plan or a file
 /// could not be fetched; 8, a put of the report failed; 9, no memory was left; 10, the code is
 /// unverifiable; 11, there are more than 16,777,216 bytes of input. With 2, 3, 5, 6, 7, 9 and 11 a

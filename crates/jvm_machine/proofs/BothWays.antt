@@ -15,6 +15,7 @@ use Rattle.jvm_model.specs.Originals.{original}
 use Rattle.jvm_model.specs.Programs.{first_class}
 use Rattle.jvm_model.specs.Load.{Loading, load_of}
 use Rattle.jvm_model.specs.Run.{before, run, start, step, turn_in-zero, turn_in-more}
+use Rattle.jvm_model.specs.SharedState.{arguments_fit}
 use Rattle.jvm_model.specs.Sound.{IsFit, IsSound}
 use Rattle.jvm_model.specs.StandsFor.{mark_at, marking_of}
 use Rattle.jvm_model.specs.Agreement.{Agrees}
@@ -28,14 +29,14 @@ use Rattle.jvm_machine.specs.declared.probes.Probe.{Probe}
 use Rattle.jvm_machine.specs.Advances.{Advances}
 use Rattle.jvm_machine.specs.Loads.{loads_of_step}
 use Rattle.jvm_machine.specs.Moves.{Move, brought, clock_in, telling_of, told_behind}
-use Rattle.jvm_machine.specs.Original.{AreLinked, CanMove, Links, linked_over, new_classes, stepped_original, moved_in, moved_original}
+use Rattle.jvm_machine.specs.Original.{AreLinked, CanMove, Links, linked_if, linked_over, new_classes, stepped_original, moved_in, moved_original}
 use Rattle.jvm_machine.specs.Prepared.{Rewritten, installed}
 use Rattle.jvm_machine.specs.Running.{IsRunning, IsOriginal, AreRunning, IsLinked, seen, seen_in, shown_of, top_of}
 use Rattle.jvm_machine.specs.Turns.{IsGoingOn}
 use Rattle.jvm_machine.specs.View.{View, world, state_of, made, with_image, shown, begun, events_now, loads_left}
 use Rattle.jvm_machine.proofs.Machines.{early-state, early-running, is_advanced, shown-is}
 use Rattle.jvm_machine.proofs.StepLoads.{run-sound, run-told, start-loads}
-use Rattle.jvm_machine.proofs.Steps.{run-loaded}
+use Rattle.jvm_machine.proofs.Steps.{loaded_if, run-loaded}
 
 -- ---- before the start
 
@@ -171,12 +172,11 @@ can-move w None s told loads_told started broken clock is whole =
     let v : View = seen_in w None s told loads_told started broken clock in
     record {
       fit = is.fit;
-      start = λ early. record { before = early-state-of v s early (is.stands whole); plain = is.starts.plain; room = is.starts.room };
+      start = λ early. record { before = early-state-of v s early (is.stands whole); room = is.starts.room };
       sound = λ started. subst (IsSound w.program) (sym (started-state v s started (is.stands whole))) (run-sound w is.fit clock);
     }
 can-move w (Some r) s told loads_told started broken clock is whole = λ early. record {
   before = (early-in w (Some r) s told loads_told started broken clock is early whole).3;
-  plain = is.built.plain;
   room = is.built.room;
 }
 
@@ -232,10 +232,14 @@ linked-now o r true clock n built agrees same =
     same ∙ (run-loaded t built.class built.program built.meant agrees clock ∙ sym (run-loaded t built.class built.program built.meant agrees n))
 linked-now o r false clock n built agrees same =
     let t : Installed = installed o.world r in
-    let p : Program = o.world.program in
-    ap (λ loaded. (load_of p loaded (main_name p)).loaded) same
-    ∙ (ap (λ (l : Loading). l.loaded) (built.meant.alone o.world.input)
-    ∙ sym (run-loaded t built.class built.program built.meant agrees n))
+    by (arguments_fit o.world.program) ∙ sym (run-loaded t built.class built.program built.meant agrees n)
+  where
+    p : Program
+    p = o.world.program
+
+    by : (fits : Bool) → linked_if o fits ≡ loaded_if p fits
+    by true = ap (λ loaded. (load_of p loaded (main_name p)).loaded) same ∙ ap (λ (l : Loading). l.loaded) (built.meant.alone o.world.input)
+    by false = same
 
 pub is_linked_in : (o : Linked) (now : World) (r : Option Rewritten) (s after : State) (told next : ℕ) (loads_told told_now started broken : Bool) (clock n : ℕ) (loaded : List ℕ) → now ≡ o.world
     → AreRunning o.world r s told loads_told started broken clock → IsLinked (seen_in o.world r s told loads_told started broken clock) o.loaded → broken ≡ false

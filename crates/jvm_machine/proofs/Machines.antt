@@ -1,5 +1,5 @@
 -- The machine stands for the run where versions are installed: before the start, and when it goes on.
-use Rattle.std.proofs.Common.{◌≡◌, ℕ, ◌+◌, ◌-◌, Bool, true, false, cond, List, [], ◌∷◌, length, Option, Some, None, refl, sym, ap, subst, ◌∙◌, eqb-true, ◌<◌, arith}
+use Rattle.std.proofs.Common.{◌≡◌, ℕ, ◌+◌, ◌-◌, Bool, true, false, cond, List, [], ◌∷◌, length, Option, Some, None, refl, sym, ap, subst, ◌∙◌, eqb-true, arith}
 use Rattle.std.specs.Prelude.{slice_get, is_none, not, ◌==◌, ◌||◌, ◌&&◌}
 use Rattle.jvm_model.specs.declared.event.Event.{Event}
 use Rattle.jvm_model.specs.declared.state.State.{State}
@@ -8,6 +8,7 @@ use Rattle.jvm_model.specs.Attempts.{start_placed}
 use Rattle.jvm_model.specs.Installed.{Installed, class_in, world_in}
 use Rattle.jvm_model.specs.Moved.{moved}
 use Rattle.jvm_model.specs.Run.{before, run}
+use Rattle.jvm_model.specs.SharedState.{arguments_fit}
 use Rattle.jvm_model.specs.StandsFor.{by_homes, probe_at}
 use Rattle.jvm_machine.specs.declared.probes.Probe.{Probe}
 use Rattle.jvm_machine.specs.Advances.{Advances}
@@ -19,7 +20,7 @@ use Rattle.jvm_machine.specs.Running.{IsRunning, finished, is_done, seen, shown_
 use Rattle.jvm_machine.specs.Turns.{IsGoingOn}
 use Rattle.jvm_model.specs.OneClass.{IsBuiltProgram}
 use Rattle.jvm_machine.specs.View.{View, state_of, shown, is_resting, advanced, begun, events_now, loads_left}
-use Rattle.jvm_machine.proofs.Steps.{IsStep, start-loads, start-there, started-step, step-is, step-loads, step-none}
+use Rattle.jvm_machine.proofs.Steps.{IsStep, start-loads, start-there, started-step, unmade-step, step-is, step-loads, step-none}
 
 -- ---- before the start
 
@@ -172,9 +173,17 @@ pub goes_on : (t : Installed) (s : State) (told : ℕ) (loads_told started : Boo
     → GoesOn (seen t s told loads_told started false clock) t (clock_in (told == 0 && not loads_told) started clock) (moved_on t started loads_told told s)
 goes_on t s told loads_told started clock is going = by_told (told == 0) refl where
   at-start : (s : State) (clock : ℕ) → IsRunning (seen t s 0 false false false clock) s → GoesOn (seen t s 0 false false false clock) t 0 (begun_move t false s)
-  at-start s clock is =
-      brought-by t s (start_placed t).after clock is.built is.agrees (start-there t is.built.class is.built.program is.built.meant is.agrees)
-      (start-loads t is.built.class is.built.program is.built.meant is.agrees)
+  at-start s clock is = by (arguments_fit t.program) refl
+    where
+      loads : (fits : Bool) → arguments_fit t.program ≡ fits → loads_of_step (world_in t) 0 ≡ cond fits (0 ∷ []) []
+      loads fits is_so = start-loads t is.built.class is.built.program is.built.meant is.agrees ∙ ap (λ b. cond b (0 ∷ []) []) is_so
+
+      by : (fits : Bool) → arguments_fit t.program ≡ fits → GoesOn (seen t s 0 false false false clock) t 0 (brought (cond fits (0 ∷ []) []) (start_placed t).after)
+      by true fits =
+          brought-by t s (start_placed t).after clock is.built is.agrees (start-there t is.built.class is.built.program is.built.meant is.agrees) (loads true fits)
+      by false unfit =
+          begun-by t (seen t s 0 false false false clock) s (start_placed t).after 0 None 0 is.built is.agrees refl refl (loads false unfit) (λ told. refl)
+          (unmade-step t is.built.class is.built.program is.built.meant is.agrees unfit)
 
   at-step : (s : State) (clock : ℕ) → IsRunning (seen t s 0 false true false clock) s → IsGoingOn (seen t s 0 false true false clock)
       → GoesOn (seen t s 0 false true false clock) t (clock + 1) (begun_move t true s)

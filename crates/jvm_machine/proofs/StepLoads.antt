@@ -3,6 +3,7 @@ use Rattle.std.proofs.Common.{◌≡◌, ℕ, zero, suc, ◌+◌, Bool, true, fa
 use Rattle.std.specs.Prelude.{nat_le}
 use Rattle.std.specs.List.{AllByRecursion}
 use Rattle.std.proofs.Math.Seq.{drop-append_seam, drop-length}
+use Rattle.std.proofs.lemmas.List.{append-nil}
 use Rattle.jvm_model.specs.Changes.{EndThenBegin}
 use Rattle.heap_objects.specs.Heaps.{next_number}
 use Rattle.jvm_model.specs.declared.ending.Ending.{Ending}
@@ -18,8 +19,8 @@ use Rattle.jvm_model.specs.Moves.{move, moves, settled}
 use Rattle.jvm_model.specs.Naming.{message_of}
 use Rattle.jvm_model.specs.Originals.{original}
 use Rattle.jvm_model.specs.Applies.{still}
-use Rattle.jvm_model.specs.Run.{arguments_made, before, loaded_turn, main_loading, main_loads, run, start, starts_unless, starts_with, step, steps_at, steps_by, steps_on, turn_in-zero, turn_in-suc, turn_in-more, with_loaded}
-use Rattle.jvm_model.specs.SharedState.{Allocated, message_cost, made_with, null, raised, with_exception, with_message}
+use Rattle.jvm_model.specs.Run.{arguments_made, before, loaded_turn, loads_if, main_classes, main_loading, main_loads, opened, run, start, starts_if, starts_unless, starts_with, step, steps_at, steps_by, steps_on, turn_in-zero, turn_in-suc, turn_in-more, with_loaded}
+use Rattle.jvm_model.specs.SharedState.{Allocated, arguments_fit, message_cost, made_with, null, raised, with_exception, with_message}
 use Rattle.jvm_model.specs.Sound.{IsFit, IsSound, IsSoundEntry}
 use Rattle.jvm_model.proofs.Attempts.{loaded-after, with_loaded-shared}
 use Rattle.jvm_model.proofs.Order.{by-begins, run-stops, started-begins, stopped-calm}
@@ -73,12 +74,14 @@ unless-loaded : (w : World) (fault : Option Fault) (s : State) → (starts_unles
 unless-loaded w None s = refl
 unless-loaded w (Some fault) s = raised-loaded w s.shared (error_of fault) (message_of fault)
 
+if-loaded : (w : World) (fits : Bool) → (starts_if w fits).shared.loaded ≡ (before w).shared.loaded ++ loads_if w fits
+if-loaded w true = unless-loaded w (main_loading w).fault (opened w) ∙ with-loaded-is (main_classes w) (arguments_made w (before w))
+if-loaded w false = sym (append-nil (before w).shared.loaded)
+
 pub start-told : (w : World) → IsTold (before w) (start w (original w.program))
 start-told w =
     told-by (before w) (main_loads w) (settled w (original w.program) (still (starts_with w))) (started-begins w (original w.program))
-    (settled-loaded w (original w.program) (still (starts_with w))
-    ∙ (unless-loaded w (main_loading w).fault (with_loaded (main_loads w) (arguments_made w (before w)))
-    ∙ with-loaded-is (main_loads w) (arguments_made w (before w))))
+    (settled-loaded w (original w.program) (still (starts_with w)) ∙ if-loaded w (arguments_fit w.program))
 
 -- ---- a step
 

@@ -10,13 +10,14 @@ use Rattle.const_pool.specs.declared.class.CodeAttribute.{CodeAttribute}
 use Rattle.jvm_model.specs.declared.event.EventKind.TheVariants as kind
 use Rattle.jvm_model.specs.declared.event.Mark.{Mark}
 use Rattle.jvm_model.specs.declared.event.Mark.TheVariants.{Off, Plain, Root}
+use Rattle.jvm_model.specs.declared.program.Program.{Program}
 use Rattle.jvm_model.specs.declared.state.Entry.{Entry}
 use Rattle.jvm_model.specs.declared.state.Entry.TheVariants.{Active}
 use Rattle.jvm_model.specs.declared.state.Frame.{Frame}
 use Rattle.jvm_model.specs.declared.operation.Resolved.{Resolved}
 use Rattle.jvm_model.specs.declared.state.Shared.{Shared}
 use Rattle.jvm_model.specs.declared.state.State.{State}
-use Rattle.jvm_model.specs.Data.{Change, Loads, Began, Left, Turn, World}
+use Rattle.jvm_model.specs.Data.{Change, Loads, Began, Left, Turn, Text, World}
 use Rattle.jvm_model.specs.declared.ending.Ending.TheVariants.{Unverifiable}
 use Rattle.jvm_model.specs.Applies.{new_frame, has_room, live_in}
 use Rattle.jvm_model.proofs.AppliesMoves.{live-moves}
@@ -35,20 +36,20 @@ use Rattle.jvm_model.specs.Originals.{original}
 use Rattle.jvm_model.specs.Quiet.{AreCoded}
 use Rattle.jvm_model.specs.Run.{turn, run, step, start, turn_in-zero, turn_in-more}
 use Rattle.jvm_model.specs.StandsFor.{IsBuilt, ProbeCall, by_homes, home_at, probe_at, mark_at, marking_of}
-use Rattle.jvm_model.specs.SharedState.{shared_before}
-use Rattle.jvm_model.specs.Starting.{begun_in, unbegun_in}
+use Rattle.jvm_model.specs.SharedState.{arguments_fit, shared_before}
+use Rattle.jvm_model.specs.Starting.{begun_in, unbegun_in, unmade_in}
 use Rattle.jvm_model.proofs.QuietStart.{start-is, main-coded}
 use Rattle.jvm_model.proofs.RewrittenAgrees.{norm_in, original-agrees, rewritten-agrees}
 use Rattle.jvm_model.proofs.StepMoves.{start-moves}
 use Rattle.jvm_model.proofs.PlacedSteps.{first-home, at_return, attempt-behind, attempt-is}
 use Rattle.jvm_model.proofs.QuietChanges.{Went, stays, starts, leaves}
-use Rattle.jvm_model.proofs.QuietRun.{run-quiet, run-placed, HasFrame, run-frame}
+use Rattle.jvm_model.proofs.QuietRun.{run-quiet, run-placed, run-unfit, going-fits, HasFrame, run-frame}
 use Rattle.jvm_model.proofs.QuietSteps.{IsStepOf, step-of}
 use Rattle.jvm_model.proofs.TracesEvents.{IsAlways, all_told_of, events-start}
 use Rattle.jvm_model.proofs.TracesFrames.{events-step_more}
 use Rattle.jvm_machine.specs.declared.probes.Probe.{Probe}
 use Rattle.jvm_machine.specs.Loads.{loads_in, loads_of_step}
-use Rattle.jvm_machine.specs.Moves.{entered_with, entry_here, leave_here, leave_behind, leave_passed, Move, told_by, entered_by, entered, stack_at, started_move, state_at, stepped_by, stepped, rest_by}
+use Rattle.jvm_machine.specs.Moves.{entered_with, entry_here, first_loads, leave_here, leave_behind, leave_passed, Move, told_by, entered_by, entered, stack_at, started_move, state_at, stepped_by, stepped, rest_by}
 use Rattle.jvm_machine.specs.Probes.{placed_probe, placed_probe_at, probe_of_kind, events_by}
 use Rattle.jvm_machine.specs.Running.{top_of, is_done, finished, shown_of}
 use Rattle.jvm_machine.specs.View.{Place}
@@ -100,6 +101,11 @@ step-none t s = by (leave_here t.image s.stack) where
   by : (p : Option Probe) → (stepped_by t s p).loads ≡ []
   by None = refl
   by (Some p) = refl
+
+-- what the start of a small class has loaded, by whether there is room for the arguments
+abbrev pub loaded_if : Program → Bool → List ℕ
+loaded_if p true = (shared_before p).loaded ++ 0 ∷ []
+loaded_if p false = (shared_before p).loaded
 
 module _ (t : Installed) (built : IsBuilt (class_in t)) (of : IsProgramOf (class_in t) t.program) (meant : IsMeant (class_in t) t.program) (agrees : Agrees (class_in t) t.marks t.image t.homes) where
   abbrev w : World
@@ -213,7 +219,7 @@ module _ (t : Installed) (built : IsBuilt (class_in t)) (of : IsProgramOf (class
   stepping : (n : ℕ) → is_some (now n).ending ≡ false → Stepping n
   stepping n going =
       let hf = run-frame (class_in t) w built of meant n going in
-      let quiet = run-quiet (class_in t) w built of meant n in
+      let quiet = run-quiet (class_in t) w built of meant (going-fits (class_in t) w built of meant n going) n in
       let placed = run-placed (class_in t) w built of meant n in
       record {
         has_frame = hf;
@@ -329,79 +335,90 @@ module _ (t : Installed) (built : IsBuilt (class_in t)) (of : IsProgramOf (class
 
   -- ---- the start
 
-  start-by : (b : Bool) → has_room w t.program.main argument_array ≡ b → start w (rewritten t.program t.image t.homes) ≡ cond b (begun_in w (rewritten t.program t.image t.homes)) (unbegun_in w)
-      → start_placed t ≡ start w (rewritten t.program t.image t.homes)
-  start-by true room is =
-      let code = main-coded (class_in t) w (rewritten t.program t.image t.homes) built.small of in
-      let frame : new_frame w (tabled t) t.program.main argument_array ≡ new_frame w (rewritten t.program t.image t.homes) t.program.main argument_array =
-      ap (λ (place : ℕ). record (new_frame w (rewritten t.program t.image t.homes) t.program.main argument_array) { place = place }) (first-home t built of meant agrees t.program.main code) in
-      ap (λ b. cond b (placed_begin (new_frame w (tabled t) t.program.main argument_array)) placed_end) room ∙ (ap placed_begin frame ∙ sym is)
-    where
-      placed_begin : Frame → Turn
-      placed_begin f = record { after = record (ready t) { begun = true; stack = Active f ∷ [] }; changes = Loads (0 ∷ []) ∷ Began t.program.main ∷ [] }
+  abbrev placed_begin : Frame → Turn
+  placed_begin f = record { after = record (ready t) { begun = true; stack = Active f ∷ [] }; changes = Loads (0 ∷ []) ∷ Began t.program.main ∷ [] }
 
-      placed_end : Turn
-      placed_end = record { after = record (ready t) { ending = Some (Unverifiable t.program.main 0) }; changes = Loads (0 ∷ []) ∷ [] }
-  start-by false room is = ap (λ b. cond b (record {
-    after = record (ready t) { begun = true; stack = Active (new_frame w (tabled t) t.program.main argument_array) ∷ [] };
-    changes = Loads (0 ∷ []) ∷ Began t.program.main ∷ [];
-  }) (record { after = record (ready t) { ending = Some (Unverifiable t.program.main 0) }; changes = Loads (0 ∷ []) ∷ [] })) room ∙ sym is
+  abbrev placed_end : Turn
+  placed_end = record { after = record (ready t) { ending = Some (Unverifiable t.program.main 0) }; changes = Loads (0 ∷ []) ∷ [] }
+
+  -- what the start of a text gives, by whether there is room for the arguments and a local for their array
+  abbrev started_in : Text → Bool → Bool → Turn
+  started_in u fits room = cond fits (cond room (begun_in w u) (unbegun_in w)) (unmade_in w)
+
+  abbrev placed_in : Bool → Bool → Turn
+  placed_in fits room = cond fits (cond room (placed_begin (new_frame w (tabled t) t.program.main argument_array)) placed_end) (unmade_in w)
+
+  start-by : (fits room : Bool) → placed_in fits room ≡ started_in (rewritten t.program t.image t.homes) fits room
+  start-by true true =
+      let code = main-coded (class_in t) w (rewritten t.program t.image t.homes) built.small of in
+      ap placed_begin (ap (λ (place : ℕ). record (new_frame w (rewritten t.program t.image t.homes) t.program.main argument_array) { place = place })
+      (first-home t built of meant agrees t.program.main code))
+  start-by true false = refl
+  start-by false room = refl
 
   start-placed_is : start_placed t ≡ moved_turn (by_homes t.homes) (start w (original w.program))
   start-placed_is =
-      start-by (has_room w t.program.main argument_array) refl (start-is (class_in t) w (rewritten t.program t.image t.homes) built of meant)
-      ∙ start-moves (norm_in (class_in t)) w (by_homes t.homes) (original w.program) (rewritten t.program t.image t.homes) (original-agrees (class_in t) t.program built of) (rewritten-agrees t.program t.marks t.image t.homes built of agrees)
-
-  started-by : (b : Bool) → has_room w t.program.main argument_array ≡ b → turn w 0 ≡ cond b (begun_in w (original w.program)) (unbegun_in w) → IsStep t 0 (entered t (start_placed t))
-  started-by true room is =
-      begun-step 0 (start_placed t) t.program.main (new_frame w (original w.program) t.program.main argument_array) []
-      (ap (λ (a : Turn). has_begun a.changes) (start-placed_is ∙ ap (moved_turn (by_homes t.homes)) (sym (turn_in-zero w (original w.program)) ∙ is)))
-      (ap (λ (a : Turn). a.after) (start-placed_is ∙ ap (moved_turn (by_homes t.homes)) (sym (turn_in-zero w (original w.program)))))
-      (ap (λ (a : Turn). a.after.stack) is) refl refl
-      (main-coded (class_in t) w (original w.program) built.small of)
-      (events-start (marking_of t.marks) mark always w ∙ (ap (λ (a : Turn). all_told_of mark 0 [] a.changes) is ∙ append-nil (begin_events 0 t.program.main (mark t.program.main))))
-  started-by false room is =
-      plain-step 0 (start_placed t)
-      (ap (λ (a : Turn). has_begun a.changes) (start-placed_is ∙ ap (moved_turn (by_homes t.homes)) (sym (turn_in-zero w (original w.program)) ∙ is)))
-      (ap (λ (a : Turn). a.after) (start-placed_is ∙ ap (moved_turn (by_homes t.homes)) (sym (turn_in-zero w (original w.program)))))
-      (events-start (marking_of t.marks) mark always w ∙ ap (λ (a : Turn). all_told_of mark 0 [] a.changes) is)
+      start-by (arguments_fit t.program) (has_room w t.program.main argument_array)
+      ∙ (sym (start-is (class_in t) w (rewritten t.program t.image t.homes) built of meant)
+      ∙ start-moves (norm_in (class_in t)) w (by_homes t.homes) (original w.program) (rewritten t.program t.image t.homes) (original-agrees (class_in t) t.program built of) (rewritten-agrees t.program t.marks t.image t.homes built of agrees))
 
   -- the state that the start gives
   pub start-there : (start_placed t).after ≡ there 0
   start-there = ap (λ (a : Turn). a.after) (start-placed_is ∙ ap (moved_turn (by_homes t.homes)) (sym (turn_in-zero w (original w.program))))
 
+  -- a start in which nothing begins
+  still-started : (a : Turn) → turn w 0 ≡ a → has_begun a.changes ≡ false → all_told_of mark 0 [] a.changes ≡ [] → IsStep t 0 (entered t (start_placed t))
+  still-started a is none quiet =
+      plain-step 0 (start_placed t)
+      (ap (λ (x : Turn). has_begun x.changes) (start-placed_is ∙ ap (moved_turn (by_homes t.homes)) (sym (turn_in-zero w (original w.program)) ∙ is)) ∙ none)
+      start-there
+      (events-start (marking_of t.marks) mark always w ∙ (ap (λ (x : Turn). all_told_of mark 0 [] x.changes) is ∙ quiet))
+
+  started-by : (fits room : Bool) → turn w 0 ≡ started_in (original w.program) fits room → IsStep t 0 (entered t (start_placed t))
+  started-by true true is =
+      begun-step 0 (start_placed t) t.program.main (new_frame w (original w.program) t.program.main argument_array) []
+      (ap (λ (a : Turn). has_begun a.changes) (start-placed_is ∙ ap (moved_turn (by_homes t.homes)) (sym (turn_in-zero w (original w.program)) ∙ is)))
+      start-there
+      (ap (λ (a : Turn). a.after.stack) is) refl refl
+      (main-coded (class_in t) w (original w.program) built.small of)
+      (events-start (marking_of t.marks) mark always w ∙ (ap (λ (a : Turn). all_told_of mark 0 [] a.changes) is ∙ append-nil (begin_events 0 t.program.main (mark t.program.main))))
+  started-by true false is = still-started (unbegun_in w) is refl refl
+  started-by false room is = still-started (unmade_in w) is refl refl
+
   start-step : IsStep t 0 (entered t (start_placed t))
   start-step =
-      started-by (has_room w t.program.main argument_array) refl
+      started-by (arguments_fit t.program) (has_room w t.program.main argument_array)
       (turn_in-zero w (original w.program) ∙ start-is (class_in t) w (original w.program) built of meant)
 
   -- behind its classes: an activation began where `main` has begun
   started-is : started_move t (start_placed t).after ≡ entered t (start_placed t)
-  started-is = by (has_room w t.program.main argument_array) where
-    placed : Bool → Turn
-    placed b = cond b (record {
-      after = record (ready t) { begun = true; stack = Active (new_frame w (tabled t) t.program.main argument_array) ∷ [] };
-      changes = Loads (0 ∷ []) ∷ Began t.program.main ∷ [];
-    }) (record { after = record (ready t) { ending = Some (Unverifiable t.program.main 0) }; changes = Loads (0 ∷ []) ∷ [] })
-
-    by : (b : Bool) → started_move t (placed b).after ≡ entered t (placed b)
-    by true = refl
-    by false = refl
+  started-is = by (arguments_fit t.program) (has_room w t.program.main argument_array) where
+    by : (fits room : Bool) → started_move t (placed_in fits room).after ≡ entered t (placed_in fits room)
+    by true true = refl
+    by true false = refl
+    by false room = refl
 
   pub started-step : IsStep t 0 (started_move t (there 0))
   started-step = subst (λ s. IsStep t 0 (started_move t s)) start-there (subst (IsStep t 0) (sym started-is) start-step)
 
+  -- where there is no room for the arguments nothing is told
+  pub unmade-step : arguments_fit t.program ≡ false → IsStep t 0 (entered_with t false (start_placed t).after)
+  unmade-step unfit =
+      subst (λ b. IsStep t 0 (entered_with t b (start_placed t).after))
+      (ap (λ fits. has_begun (placed_in fits (has_room w t.program.main argument_array)).changes) unfit) start-step
+
   -- ---- what is loaded
 
-  -- the start loads the class
-  pub start-loads : loads_of_step w 0 ≡ 0 ∷ []
+  -- the start loads the class, where there is room for the arguments
+  pub start-loads : loads_of_step w 0 ≡ first_loads t
   start-loads =
       ap (λ (a : Turn). loads_in a.changes) (turn_in-zero w (original w.program) ∙ start-is (class_in t) w (original w.program) built of meant)
-      ∙ by (has_room w t.program.main argument_array)
+      ∙ by (arguments_fit t.program) (has_room w t.program.main argument_array)
     where
-      by : (b : Bool) → loads_in (cond b (begun_in w (original w.program)) (unbegun_in w)).changes ≡ 0 ∷ []
-      by true = refl
-      by false = refl
+      by : (fits room : Bool) → loads_in (started_in (original w.program) fits room).changes ≡ cond fits (0 ∷ []) []
+      by true true = refl
+      by true false = refl
+      by false room = refl
 
   went-loads : (q : Resolved) (a : Turn) → Went (class_in t) (original w.program) q a → loads_in a.changes ≡ []
   went-loads q a (stays goes changes) = ap loads_in changes
@@ -415,5 +432,9 @@ module _ (t : Installed) (built : IsBuilt (class_in t)) (of : IsProgramOf (class
       ap (λ (a : Turn). loads_in a.changes) (next-is n) ∙ went-loads now_is.step_is.has.resolved (step w (original w.program) (now n)) now_is.step_is.went
 
   -- what is loaded in the run is what the start has loaded
-  pub run-loaded : (n : ℕ) → (now n).shared.loaded ≡ (shared_before w.program).loaded ++ 0 ∷ []
-  run-loaded n = ap (λ (s : Shared). s.loaded) (run-quiet (class_in t) w built of meant n).shared
+  pub run-loaded : (n : ℕ) → (now n).shared.loaded ≡ loaded_if w.program (arguments_fit w.program)
+  run-loaded n = by (arguments_fit w.program) refl
+    where
+      by : (fits : Bool) → arguments_fit w.program ≡ fits → (now n).shared.loaded ≡ loaded_if w.program fits
+      by true fits = ap (λ (s : Shared). s.loaded) (run-quiet (class_in t) w built of meant fits n).shared
+      by false unfit = ap (λ (s : State). s.shared.loaded) (run-unfit (class_in t) w built of meant unfit n)

@@ -15,6 +15,7 @@ use Rattle.jvm_machine.specs.declared.telling.Telling.{Telling}
 use Rattle.jvm_machine.specs.declared.telling.Telling.TheVariants.{Classes, Passed, Nothing}
 use Rattle.jvm_model.specs.Attempts.{attempt_placed, start_placed, has_begun}
 use Rattle.jvm_model.specs.Installed.{Installed}
+use Rattle.jvm_model.specs.SharedState.{arguments_fit}
 use Rattle.jvm_machine.specs.Probes.{placed_probe_at, probe_of_kind}
 
 -- ---- the probes about the current frame
@@ -78,9 +79,13 @@ stepped t s = stepped_by t s (leave_here t.image s.stack)
 abbrev pub brought : List ℕ → State → Move
 brought classes s = record { state = s; told = 0; probe = None; loads = classes }
 
--- the start, which loads the first class, or one step further
+-- the classes that the start loads: the first one, where there is room for the arguments
+abbrev pub first_loads : Installed → List ℕ
+first_loads t = if arguments_fit t.program then 0 ∷ [] else []
+
+-- the start, or one step further
 abbrev pub begun_move : Installed → Bool → State → Move
-begun_move t false s = brought (0 ∷ []) (start_placed t).after
+begun_move t false s = brought (first_loads t) (start_placed t).after
 begun_move t true s = stepped t s
 
 -- behind the classes of the start: where `main` has begun it has passed its entry probe

@@ -6,6 +6,7 @@ use Rattle.jvm_model.specs.Data.{Turn, World}
 use Rattle.jvm_model.specs.Load.{load_of}
 use Rattle.jvm_model.specs.Originals.{original}
 use Rattle.jvm_model.specs.Run.{start, step}
+use Rattle.jvm_model.specs.SharedState.{arguments_fit}
 use Rattle.jvm_model.specs.Sound.{IsFit, IsSound}
 use Rattle.jvm_steps.specs.declared.markers.Marker.{Marker}
 use Rattle.jvm_steps.specs.declared.parts.Parts.{Parts}
@@ -60,10 +61,14 @@ abbrev pub AreLinked : Option Rewritten → List ℕ → State → Type 0
 AreLinked None loaded s = loaded ≡ s.shared.loaded
 AreLinked (Some r) loaded s = Unit {0}
 
--- by the start of versions it loads the main class
+-- by the start of versions it loads the main class, where there is room for the arguments
+abbrev pub linked_if : Linked → Bool → List ℕ
+linked_if o true = (load_of o.world.program o.loaded (main_name o.world.program)).loaded
+linked_if o false = o.loaded
+
 abbrev pub linked_over : Linked → Bool → List ℕ
 linked_over o true = o.loaded
-linked_over o false = (load_of o.world.program o.loaded (main_name o.world.program)).loaded
+linked_over o false = linked_if o (arguments_fit o.world.program)
 
 -- what it has loaded then
 abbrev pub Links : Linked → Option Rewritten → Bool → State → List ℕ → Type 0

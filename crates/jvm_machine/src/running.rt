@@ -13,7 +13,7 @@ ghost use Rattle.jvm_machine.specs.Prepared.{installed};
 use crate::stepping::{Advance, brought, move_on};
 use crate::tables::{Tables, Versions};
 use jf_bytes::{NoMemory, Seq, Stack};
-use jvm_steps::{Marker, Originals, Parts, start, step};
+use jvm_steps::{Marker, Originals, Parts, arguments_fit, start, step};
 use std::alloc::Global;
 
 /// The start, or one step of original code.
@@ -108,16 +108,15 @@ fn move_versions(
     move_on(alloc, tables, parts, started, loads_told, told)
 }
 
-/// The linker loads the main class by the start.
+/// The linker loads the main class by the start, where there is room for the arguments.
 fn link(alloc: Global, originals: &mut Originals, started: bool) -> Result<(), NoMemory>
     ensures loaded { OnOk result (originals.new.loaded ≡ linked_over originals.old started) }
     ensures world { originals.new.world ≡ originals.old.world }
 {
-    if started {
-        Ok(())
-    } else {
-        originals.link_main(alloc)
+    if started || !arguments_fit(originals.program()) {
+        return Ok(());
     }
+    originals.link_main(alloc)
 }
 
 /// Goes on with the step in hand, or begins the next one, over versions.

@@ -1,11 +1,12 @@
 //! One call of `step` over the parts of a machine: what it does to the state, and which probe is passed.
 
-ghost use Rattle.std.specs.Prelude.{◌≡◌, ◌^◌, ◌<◌, [], ◌∷◌, None, false, map, OnOk, IfOk};
+ghost use Rattle.std.specs.Prelude.{◌≡◌, ◌^◌, ◌<◌, [], ◌∷◌, None, true, false, map, OnOk, IfOk};
 ghost use Rattle.jvm_model.specs.Applies.{has_room};
 ghost use Rattle.jvm_model.specs.Moves.{argument_array};
 ghost use Rattle.jvm_steps.specs.Before.{IsAtStart};
-ghost use Rattle.jvm_model.specs.Attempts.{closed_state, attempt_placed, start_placed};
+ghost use Rattle.jvm_model.specs.Attempts.{closed_state, attempt_placed, made_placed};
 ghost use Rattle.jvm_model.specs.Installed.{world_in};
+ghost use Rattle.jvm_model.specs.SharedState.{arguments_fit};
 ghost use Rattle.jvm_machine.specs.Applied.{Becomes, TellsBegun, attempts_top};
 ghost use Rattle.jvm_steps.specs.States.{active, state_in};
 ghost use Rattle.jvm_machine.specs.States.{main_frames};
@@ -22,7 +23,7 @@ use frame_stack::Frames;
 use heap_objects::Value;
 use jf_bytes::{NoMemory, Seq};
 use jvm_model::Ending;
-use jvm_steps::{Parts, make_ready, where_now};
+use jvm_steps::{Parts, arguments_fit, end_unmade, make_ready, where_now};
 use std::alloc::Global;
 
 /// The position of the class that has versions, which is the main class.
@@ -71,10 +72,11 @@ fn begin_main(tables: &Tables, frames: &mut Frames) -> Result<bool, NoMemory>
     Ok(true)
 }
 
-/// The start (5.2, 5.5): `main` begins, if it can.
+/// The start where there is room for the arguments (5.2, 5.5): `main` begins, if it can.
 fn begin(tables: &Tables, parts: &mut Parts) -> Result<(), NoMemory>
-    requires { IsAtStart (world_in tables.now) (state_in parts.old) }
-    ensures { Becomes result parts.new (start_placed tables.now) }
+    requires at_start { IsAtStart (world_in tables.now) (state_in parts.old) }
+    requires fits { arguments_fit tables.now.program ≡ true }
+    ensures { Becomes result parts.new (made_placed tables.now) }
 {
     make_ready(tables.originals(), parts)?;
     let begun = begin_main(tables, &mut parts.frames)?;
@@ -156,7 +158,7 @@ fn one_class(alloc: Global, class: u32) -> Result<Seq<u32>, NoMemory>
     Ok(Seq::from_slice(alloc, &[class])?)
 }
 
-/// The start, which loads the first class.
+/// The start, which loads the first class where there is room for the arguments.
 fn make_start(alloc: Global, tables: &Tables, parts: &mut Parts) -> Result<Advance, NoMemory>
     requires { IsAtStart (world_in tables.now) (state_in parts.old) }
     ensures moved { MovesTo result parts.new (begun_move tables.now false (state_in parts.old)) }
@@ -164,6 +166,10 @@ fn make_start(alloc: Global, tables: &Tables, parts: &mut Parts) -> Result<Advan
     ensures probe { PassesAs result (begun_move tables.now false (state_in parts.old)) }
     ensures loads { LoadsAs result (begun_move tables.now false (state_in parts.old)) }
 {
+    if !arguments_fit(tables.originals().program()) {
+        end_unmade(tables.originals(), parts);
+        return Ok(brought(Seq::new(alloc)));
+    }
     begin(tables, parts)?;
     let loads = one_class(alloc, FIRST)?;
     Ok(brought(loads))

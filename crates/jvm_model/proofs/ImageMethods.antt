@@ -6,6 +6,7 @@ use Rattle.std.specs.List.{AllByRecursion}
 use Rattle.std.proofs.Math.Nat.{add-zero}
 use Rattle.std.proofs.lemmas.Option.{same_Some, none-some, option_and_then_some}
 use Rattle.const_pool.specs.declared.pool.Const.{Const}
+use Rattle.const_pool.specs.declared.pool.Const.TheVariants as const
 use Rattle.const_pool.specs.declared.class.ClassFile.{ClassFile}
 use Rattle.const_pool.specs.declared.class.Member.{Member}
 use Rattle.const_pool.specs.declared.class.CodeAttribute.{CodeAttribute}
@@ -23,11 +24,11 @@ use Rattle.jvm_model.specs.declared.operation.Resolved.{Resolved}
 use Rattle.jvm_model.specs.declared.operation.Resolved.TheVariants as resolved
 use Rattle.jvm_model.specs.declared.family.Family.{Family}
 use Rattle.jvm_model.specs.declared.family.Family.TheVariants as family
-use Rattle.jvm_model.specs.Data.{Datum, Constant, Naming, New, Getfield, Putfield, Getstatic, Putstatic, Invokevirtual, Invokestatic, Invokeinterface, Checkcast, Instanceof, Anewarray, Operation, Within, Named}
+use Rattle.jvm_model.specs.Data.{Datum, Constant, Naming, New, Getfield, Putfield, Getstatic, Putstatic, Invokevirtual, Invokestatic, Invokeinterface, Checkcast, Instanceof, Anewarray, LdcClass, Operation, Within, Named, LdcString}
 use Rattle.jvm_model.specs.Families.{family_of}
 use Rattle.jvm_model.specs.Descriptors.{same_text}
 use Rattle.jvm_model.specs.Images.{with_code_at, IsMarkedMember, IsMemberImage, next_number, AreMemberImages, IsRewritten}
-use Rattle.jvm_model.specs.Lines.{number_of, constant_in, named_interface_method, special_of, naming_of, interface_naming, multi_of, multi_naming, named_by, other_operation, operation_by, operation_of}
+use Rattle.jvm_model.specs.Lines.{number_of, constant_in, named_interface_method, special_of, naming_of, interface_naming, multi_of, multi_naming, named_by, other_operation, given_operation, object_constant, operation_by, operation_of}
 use Rattle.jvm_model.specs.Programs.{name_of}
 use Rattle.jvm_model.specs.Resolved.{own_method, resolved_name, resolved_in}
 use Rattle.jvm_model.specs.Methods.{code_among, code_of, same_text_at, is_member, method_from, method_named}
@@ -212,6 +213,9 @@ method-kept c image index alike r is = ap (λ p. named_method p index) alike.poo
 class-kept : (c image : ClassFile) (index : ℕ) → LooksAlike c image → Kept (named_class c.pool index) (named_class image.pool index)
 class-kept c image index alike name is = ap (λ p. named_class p index) alike.pool ∙ named_class-more c.pool alike.more index name is
 
+text-kept : (c image : ClassFile) (index : ℕ) → LooksAlike c image → Kept (named_text c.pool index) (named_text image.pool index)
+text-kept c image index alike text e = ap (λ p. named_text p index) alike.pool ∙ named_text-more c.pool alike.more index text e
+
 interface_method-kept : (c image : ClassFile) (index : ℕ) → LooksAlike c image → Kept (named_interface_method c.pool index) (named_interface_method image.pool index)
 interface_method-kept c image index alike r is = ap (λ p. named_interface_method p index) alike.pool ∙ named_interface_method-more c.pool alike.more index r is
 
@@ -263,17 +267,30 @@ other_operation-kept c image op (arg.Multi index dimensions) o alike e =
     named-kept (multi_naming c op index dimensions) (multi_naming image op index dimensions) o (multi_naming-kept c image op index dimensions alike) e
 other_operation-kept c image op a o alike e = e
 
-constant_in-kept : (c image : ClassFile) (a : Arg) (d : Datum) → LooksAlike c image → constant_in c.pool a ≡ Some d → constant_in image.pool a ≡ Some d
-constant_in-kept c image (arg.Pool index) d alike e =
-    then-kept number_of number_of (slice_get c.pool index) (slice_get image.pool index) d
-    (λ x is. ap (λ p. slice_get p index) alike.pool ∙ slice_get-more c.pool alike.more index x is) (λ x is. is) e
-constant_in-kept c image _ d alike e = absurd (none-some d e)
+-- what an entry of the pool is to an ldc
+abbrev given_by : List Const → Option Const → Option Operation
+given_by pool entry = given_operation (option_map Within (option_map Constant (option_and_then number_of entry))) (option_and_then (object_constant pool) entry)
+
+entry-kept : (c image : ClassFile) (entry : Const) (o : Operation) → LooksAlike c image → given_by c.pool (Some entry) ≡ Some o → given_by image.pool (Some entry) ≡ Some o
+entry-kept c image (const.Integer n) o alike e = e
+entry-kept c image (const.Long n) o alike e = e
+entry-kept c image (const.Text i) o alike e = map-kept LdcString (named_text c.pool i) (named_text image.pool i) o (text-kept c image i alike) e
+entry-kept c image (const.Class i) o alike e = map-kept (λ name. Named (LdcClass name)) (named_text c.pool i) (named_text image.pool i) o (text-kept c image i alike) e
+entry-kept c image _ o alike e = absurd (none-some o e)
+
+given-kept : (c image : ClassFile) (a : Arg) (o : Operation) → LooksAlike c image → operation_by c 18 a family.Given ≡ Some o → operation_by image 18 a family.Given ≡ Some o
+given-kept c image (arg.Pool index) o alike e = by (slice_get c.pool index) refl e
+  where
+    by : (x : Option Const) → slice_get c.pool index ≡ x → given_by c.pool x ≡ Some o → given_by image.pool (slice_get image.pool index) ≡ Some o
+    by None is e = absurd (none-some o e)
+    by (Some entry) is e =
+        subst (λ x. given_by image.pool x ≡ Some o) (sym (ap (λ p. slice_get p index) alike.pool ∙ slice_get-more c.pool alike.more index entry is))
+        (entry-kept c image entry o alike e)
+given-kept c image _ o alike e = absurd (none-some o e)
 
 operation_by-kept : (c image : ClassFile) (op : ℕ) (a : Arg) (f : Family) (o : Operation) → LooksAlike c image → operation_by c op a f ≡ Some o → operation_by image op a f ≡ Some o
 operation_by-kept c image op a family.Elsewhere o alike e = other_operation-kept c image op a o alike e
-operation_by-kept c image op a family.Given o alike e =
-    map-kept Within (option_map Constant (constant_in c.pool a)) (option_map Constant (constant_in image.pool a)) o
-    (λ i. map-kept Constant (constant_in c.pool a) (constant_in image.pool a) i (λ d is. constant_in-kept c image a d alike is)) e
+operation_by-kept c image op a family.Given o alike e = given-kept c image a o alike e
 operation_by-kept c image op a f o alike e = e
 
 -- an instruction does in the image what it does in the class

@@ -54,11 +54,13 @@ pub mod WorkedRuns
 pub mod WorkedThrows
 pub mod WorkedInitializers
 pub mod WorkedLimits
+pub mod WorkedArguments
 pub mod WorkedArrays
 pub mod WorkedFamilies
 pub mod WorkedLines
 pub mod WorkedClasses
 pub mod WorkedInvocations
+pub mod WorkedNatives
 pub mod WorkedSeveral
 pub mod SoundClasses
 pub mod SoundKinds

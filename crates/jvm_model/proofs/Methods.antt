@@ -7,12 +7,12 @@ use Rattle.jvm_model.specs.Data.{Datum, Locals, Operands, Frame, Entry, Active, 
 use Rattle.frame_stack.specs.Widths.{height_of}
 use Rattle.jvm_model.specs.Values.{as_value, with_value}
 use Rattle.jvm_model.specs.Programs.{super_of, initializer_of}
-use Rattle.jvm_model.specs.SharedState.{phase_of, class_of}
+use Rattle.jvm_model.specs.SharedState.{phase_of, class_of, arguments_fit}
 use Rattle.jvm_model.specs.Does.{does, loads}
 use Rattle.jvm_model.specs.Applies.{still, with_frame, breaks, goes, place_of, enters_subroutine, has_room, live_in, most_live, begins_beside, resumes, gives_back, applies}
 use Rattle.jvm_model.specs.Moves.{handler_for, own_at, caught, after_super, with_super, runs_initializer, argument_array, main_or_end, moves, move, then_turn, settled}
 use Rattle.jvm_model.specs.Load.{Fault}
-use Rattle.jvm_model.specs.Run.{attempt, starts, is_quiet, before, arguments_made, with_loaded, loaded_turn, steps_by, steps_at, steps_on, step, main_loading, main_loads, starts_unless, starts_with, start, turn_in, turn_in-zero, turn_in-suc}
+use Rattle.jvm_model.specs.Run.{attempt, starts, is_quiet, before, arguments_made, with_loaded, loaded_turn, steps_by, steps_at, steps_on, step, main_loading, main_classes, loads_if, starts_unless, opened, exhausted, starts_if, start, turn_in, turn_in-zero, turn_in-suc}
 use Rattle.jvm_model.specs.Changes.{methods, after_change, after_changes}
 use Rattle.jvm_model.proofs.Settles.{settled-keeps}
 use Rattle.jvm_model.proofs.Attempts.{again-by, with_loaded-shared}
@@ -162,12 +162,13 @@ starts_unless-methods w None s e = refl
 starts_unless-methods w (Some fault) s e = e
 
 pub start-tells : (w : World) (t : Text) → methods (start w t).after.stack ≡ after_changes [] (start w t).changes
-start-tells w t =
-    let classes : List ℕ = main_loads w in
-    let made : State = arguments_made w (before w) in
-    let same : (with_loaded classes made).stack ≡ [] = ap (λ (x : State). x.stack) (with_loaded-shared classes made) in
-    let none = starts_unless-methods w (main_loading w).fault (with_loaded classes made) (ap methods same) in
-    loaded-tells classes [] (settled w t (still (starts_with w))) (settled-tells w t [] (still (starts_with w)) none)
+start-tells w t = by (arguments_fit w.program) where
+  by : (b : Bool) → Tells [] (loaded_turn (loads_if w b) (settled w t (still (starts_if w b))))
+  by true =
+      let same : (opened w).stack ≡ [] = ap (λ (x : State). x.stack) (with_loaded-shared (main_classes w) (arguments_made w (before w))) in
+      let none = starts_unless-methods w (main_loading w).fault (opened w) (ap methods same) in
+      loaded-tells (main_classes w) [] (settled w t (still (starts_if w true))) (settled-tells w t [] (still (starts_if w true)) none)
+  by false = settled-tells w t [] (still (exhausted w)) refl
 
 -- ---- the run
 

@@ -1,16 +1,23 @@
 -- What an instruction asks for that names a class, a field or a method moves with its return addresses, and so does what it loads.
 use Rattle.std.proofs.Common.{◌≡◌, ℕ, zero, suc, ◌+◌, drop, length, map, Bool, true, false, not, List, [], ◌∷◌, Option, Some, None, nat_le, nat_lt, ◌==◌, if◌then◌else◌, ℤ, refl, ap, ◌∙◌}
-use Rattle.std.specs.Prelude.{pos, Result, Ok, Err}
+use Rattle.std.specs.Prelude.{pos, Result, Ok, Err, slice_get}
 use Rattle.std.specs.Bool.{beq}
 use Rattle.std.specs.Option.{option_map, option_map_or, option_and_then}
 use Rattle.std.proofs.lemmas.List.{drop-map}
 use Rattle.heap_objects.specs.declared.datum.Datum.TheVariants as datum
 use Rattle.heap_objects.specs.declared.Value.TheVariants.{Int, Ref}
-use Rattle.heap_objects.specs.Heaps.{HeapView, next_number, slot_at, with_instance, with_slot_at, with_text}
+use Rattle.heap_objects.specs.Heaps.{HeapView, interned_number, next_number, slot_at, with_instance, with_interned, with_slot_at, with_text}
 use Rattle.const_pool.specs.declared.descriptor.Kind.{Kind}
 use Rattle.const_pool.specs.declared.descriptor.Shape.{Shape}
+use Rattle.const_pool.specs.BuiltIn.{built_in_names}
 use Rattle.const_pool.specs.References.{NameAndType, Reference}
-use Rattle.jvm_model.specs.Data.{Datum, Locals, Operands, Program, Shared, Next, Outcome, GoesOn, Throws, Raises, Breaks, Done}
+use Rattle.base_classes.specs.Natives.{native_number}
+use Rattle.native_ops.specs.declared.answer.Answer.{Answer}
+use Rattle.native_ops.specs.declared.answer.Answer.TheVariants as answer
+use Rattle.native_ops.specs.Calls.{answer_by}
+use Rattle.native_ops.specs.Making.{answer_of_class}
+use Rattle.native_ops.specs.Numbers.{out_of_memory_error}
+use Rattle.jvm_model.specs.Data.{Datum, Locals, Operands, Program, Shared, World, Next, Outcome, GoesOn, Throws, Raises, Breaks, Done}
 use Rattle.jvm_model.specs.Descriptors.{shape_of}
 use Rattle.jvm_model.specs.Layouts.{layout}
 use Rattle.jvm_model.specs.Load.{Fault, load_of}
@@ -19,16 +26,18 @@ use Rattle.jvm_model.specs.Selection.{is_abstract, is_static}
 use Rattle.jvm_model.specs.KindNumbers.{user_count}
 use Rattle.jvm_model.specs.Kinds.{kind_named}
 use Rattle.jvm_model.specs.Programs.{number_of_method}
-use Rattle.jvm_model.specs.Values.{as_value, int_of, ref_of, arguments}
-use Rattle.jvm_model.specs.SharedState.{phase_of, class_of, class_of_kind, static_at, with_static, null_pointer}
+use Rattle.jvm_model.specs.Values.{as_value, int_of, ref_of, arguments, with_value}
+use Rattle.jvm_model.specs.SharedState.{phase_of, class_of, class_of_kind, kind_for, static_at, string, with_static, null_pointer}
 use Rattle.jvm_model.specs.LocalRules.{pushes, replaces}
 use Rattle.jvm_model.specs.ObjectRules.{done, makes}
-use Rattle.jvm_model.specs.Rules.{is_println}
-use Rattle.jvm_model.specs.Naming.{Naming, New, Getfield, Putfield, Getstatic, Putstatic, Invokevirtual, Invokespecial, Invokestatic, Invokeinterface, Checkcast, Instanceof, Anewarray, Multianewarray, resolved_name, is_null, resolves, newly_loaded, ◌>>=◌, unless_refused, kind_unless, resolved_kind, found, where_fitting, receiver, is_instance, extends}
+use Rattle.jvm_model.specs.Naming.{Naming, New, Getfield, Putfield, Getstatic, Putstatic, Invokevirtual, Invokespecial, Invokestatic, Invokeinterface, Checkcast, Instanceof, Anewarray, Multianewarray, LdcClass, resolved_name, is_null, resolves, newly_loaded, ◌>>=◌, unless_refused, kind_unless, resolved_kind, found, where_fitting, receiver, is_instance}
 use Rattle.jvm_model.specs.NamingRules.{does_named}
 use Rattle.jvm_model.specs.FieldRules.{is_static_field, named_field, kind_by, narrowed, held_of, static_field, gets_static, sets_static, puts_static, slot_of, has_field, field_owner, gets_of, gets_instance, Putting, putting_of, puts_into, puts_instance}
+use Rattle.jvm_model.specs.ConstantRules.{pushes_object_of, pushes_string}
+use Rattle.jvm_model.specs.Constants.{can_intern}
 use Rattle.jvm_model.specs.CreationRules.{allocates, is_text_class, has_no_instances, instantiation_error, zero_of, makes_object, makes_instance, makes_new, array_over, makes_array_of, counts_from, counts_of, lengths_of, slots_of_arrays, with_arrays, makes_arrays, makes_by_counts, makes_multi, class_cast, casts_to, casts, int_for, answers, tells_instance}
-use Rattle.jvm_model.specs.InvocationRules.{named_method, with_receiver, arguments_by, receiver_in, is_plain_initializer, initializes_object, prints_line, does_built_in, runs_built_in, abstract_method, unsatisfied_link, reference_to, invokes_native, invokes_number, invokes_selected, invokes_with_static, invokes_static_method, Selecting, Virtual, OfInterface, Special, names_interface, not_of_class, selected_by, invokes_on, invokes_instance}
+use Rattle.jvm_model.specs.InvocationRules.{named_method, with_receiver, arguments_by, receiver_in, abstract_method, unsatisfied_link, reference_to, invokes_native, invokes_number, invokes_selected, invokes_with_static, invokes_static_method, Selecting, Virtual, OfInterface, Special, names_interface, not_of_class, selected_by, invokes_on, invokes_instance}
+use Rattle.jvm_model.specs.NativeRules.{kinds_in, outcome_of, runs_native, runs_number, seen_by_natives, thrown_by}
 use Rattle.jvm_model.specs.Moved.{moved_value, moved_locals, moved_operands, moved_outcome, moved_done}
 use Rattle.jvm_model.proofs.WithinMoves.{found-moves, kind-moves, pushed-moves}
 use Rattle.jvm_model.proofs.ObjectMoves.{chosen-moves, chosen_outcome-moves, ready-moves, arguments-moves, int_of-moves, ref_of-moves, goes_on-moves, replaces-moves, makes-moves}
@@ -240,64 +249,84 @@ module _ (h : ℕ → ℕ) where
   arguments_by-moves : (instance : Bool) (member : NameAndType) (o : Operands) → arguments_by instance member (moved_operands h o) ≡ arguments_by instance member o
   arguments_by-moves instance member o = taken-moves instance (shape_of member.descriptor) o
 
-  prints_line-moves : (args : List Datum) (s : Shared) (l : Locals) (o : Operands) → prints_line args s (moved_locals h l) (moved_operands h o) ≡ moved_done h (prints_line args s l o)
-  prints_line-moves (datum.Ref object ∷ datum.Int n ∷ []) s l o = refl
-  prints_line-moves _ s l o = refl
+  value-moves : (d : Option Datum) (o : Operands) → with_value (option_map as_value d) (moved_operands h o) ≡ moved_operands h (with_value (option_map as_value d) o)
+  value-moves None o = refl
+  value-moves (Some (datum.Int n)) o = refl
+  value-moves (Some (datum.Long n)) o = refl
+  value-moves (Some (datum.Ref r)) o = refl
 
-  does_built_in-moves : (p : Program) (r : Reference) (class : ℕ) (args : List Datum) (s : Shared) (l : Locals) (o : Operands)
-      → does_built_in p r class args s (moved_locals h l) (moved_operands h o) ≡ moved_done h (does_built_in p r class args s l o)
-  does_built_in-moves p r class args s l o =
-      let printed : Done = if is_println r then prints_line args s l o else done s (Breaks false) in
-      chosen-moves h (is_plain_initializer r.member) (initializes_object p class (receiver_in args) s l o) _ printed _ refl
-      (chosen-moves h (is_println r) (prints_line args s l o) _ (done s (Breaks false)) _ (prints_line-moves args s l o) refl)
+  name-fixed : (name : Option (List ℕ)) → option_map_or (λ name. Raises name None) name (Breaks false) ≡ moved_outcome h (option_map_or (λ name. Raises name None) name (Breaks false))
+  name-fixed None = refl
+  name-fixed (Some name) = refl
 
-  runs_built_in-moves : (p : Program) (m : MemberPlace) (r : Option Reference) (args : List Datum) (s : Shared) (l : Locals) (o : Operands)
-      → runs_built_in p m r args s (moved_locals h l) (moved_operands h o) ≡ moved_done h (runs_built_in p m r args s l o)
-  runs_built_in-moves p m None args s l o = refl
-  runs_built_in-moves p m (Some r) args s l o =
-      chosen-moves h (extends p (class_of p s (receiver_in args)) m.class) (does_built_in p r m.class args s l o) _ (done s (Breaks false)) _
-      (does_built_in-moves p r m.class args s l o) refl
+  thrown-fixed : (class : ℕ) → thrown_by class ≡ moved_outcome h (thrown_by class)
+  thrown-fixed class =
+      let made : Outcome = option_map_or (λ name. Raises name None) (slice_get built_in_names class) (Breaks false) in
+      chosen_outcome-moves h (class == out_of_memory_error) (Throws 1) _ made _ refl (name-fixed (slice_get built_in_names class))
 
-  invokes_native-moves : (p : Program) (m : MemberPlace) (args : List Datum) (s : Shared) (l : Locals) (o : Operands)
-      → invokes_native p m args s (moved_locals h l) (moved_operands h o) ≡ moved_done h (invokes_native p m args s l o)
-  invokes_native-moves p m args s l o =
-      chosen-moves h (nat_lt m.class (user_count p)) (done s (Raises unsatisfied_link None)) _ (runs_built_in p m (reference_to p m) args s l o) _ refl
-      (runs_built_in-moves p m (reference_to p m) args s l o)
+  outcome_of-moves : (a : Answer) (l : Locals) (o : Operands) → outcome_of a (moved_locals h l) (moved_operands h o) ≡ moved_outcome h (outcome_of a l o)
+  outcome_of-moves (answer.Value d) l o = ap (λ below. GoesOn (moved_locals h l) below Next) (value-moves d o)
+  outcome_of-moves (answer.Throws class) l o = thrown-fixed class
+  outcome_of-moves (answer.Exit status) l o = refl
+  outcome_of-moves answer.Bad l o = refl
 
-  invokes_number-moves : (p : Program) (m : MemberPlace) (n : Option ℕ) (args : List Datum) (s : Shared) (l : Locals) (o : Operands)
-      → invokes_number p m n args s (moved_locals h l) (moved_operands h o) ≡ moved_done h (invokes_number p m n args s l o)
-  invokes_number-moves p m (Some n) args s l o = refl
-  invokes_number-moves p m None args s l o = invokes_native-moves p m args s l o
+  runs_number-moves : (w : World) (number : ℕ) (args : List Datum) (s : Shared) (l : Locals) (o : Operands)
+      → runs_number w number args s (moved_locals h l) (moved_operands h o) ≡ moved_done h (runs_number w number args s l o)
+  runs_number-moves w number args s l o =
+      let d : Done = runs_number w number args s l o in
+      ap (λ (q : Outcome). let made : Done = record { shared = d.shared; wrote = d.wrote; outcome = q } in made)
+      (outcome_of-moves (answer_by number (kinds_in w.program s.loaded) args (seen_by_natives w s)) l o)
 
-  invokes_selected-moves : (p : Program) (m : Option MemberPlace) (args : List Datum) (s : Shared) (l : Locals) (o : Operands)
-      → invokes_selected p m args s (moved_locals h l) (moved_operands h o) ≡ moved_done h (invokes_selected p m args s l o)
-  invokes_selected-moves p None args s l o = refl
-  invokes_selected-moves p (Some m) args s l o =
-      let number : Option ℕ = number_of_method p m.class m.position in
-      chosen-moves h (is_abstract p m) (done s (Raises abstract_method None)) _ (invokes_number p m number args s l o) _ refl
-      (invokes_number-moves p m number args s l o)
+  runs_found-moves : (w : World) (number : Option ℕ) (args : List Datum) (s : Shared) (l : Locals) (o : Operands)
+      → option_map_or (λ n. runs_number w n args s (moved_locals h l) (moved_operands h o)) number (done s (Breaks false))
+      ≡ moved_done h (option_map_or (λ n. runs_number w n args s l o) number (done s (Breaks false)))
+  runs_found-moves w None args s l o = refl
+  runs_found-moves w (Some number) args s l o = runs_number-moves w number args s l o
+
+  runs_native-moves : (w : World) (r : Option Reference) (args : List Datum) (s : Shared) (l : Locals) (o : Operands)
+      → runs_native w r args s (moved_locals h l) (moved_operands h o) ≡ moved_done h (runs_native w r args s l o)
+  runs_native-moves w r args s l o = runs_found-moves w (option_and_then native_number r) args s l o
+
+  invokes_native-moves : (w : World) (m : MemberPlace) (args : List Datum) (s : Shared) (l : Locals) (o : Operands)
+      → invokes_native w m args s (moved_locals h l) (moved_operands h o) ≡ moved_done h (invokes_native w m args s l o)
+  invokes_native-moves w m args s l o =
+      chosen-moves h (nat_lt m.class (user_count w.program)) (done s (Raises unsatisfied_link None)) _ (runs_native w (reference_to w.program m) args s l o) _ refl
+      (runs_native-moves w (reference_to w.program m) args s l o)
+
+  invokes_number-moves : (w : World) (m : MemberPlace) (n : Option ℕ) (args : List Datum) (s : Shared) (l : Locals) (o : Operands)
+      → invokes_number w m n args s (moved_locals h l) (moved_operands h o) ≡ moved_done h (invokes_number w m n args s l o)
+  invokes_number-moves w m (Some n) args s l o = refl
+  invokes_number-moves w m None args s l o = invokes_native-moves w m args s l o
+
+  invokes_selected-moves : (w : World) (m : Option MemberPlace) (args : List Datum) (s : Shared) (l : Locals) (o : Operands)
+      → invokes_selected w m args s (moved_locals h l) (moved_operands h o) ≡ moved_done h (invokes_selected w m args s l o)
+  invokes_selected-moves w None args s l o = refl
+  invokes_selected-moves w (Some m) args s l o =
+      let number : Option ℕ = number_of_method w.program m.class m.position in
+      chosen-moves h (is_abstract w.program m) (done s (Raises abstract_method None)) _ (invokes_number w m number args s l o) _ refl
+      (invokes_number-moves w m number args s l o)
 
   -- the arguments are taken from the operands
-  invokes_taken-moves : (p : Program) (m : Option MemberPlace) (args : List Datum) (s : Shared) (l : Locals) (o : Operands)
-      → invokes_selected p m args s (moved_locals h l) (drop (length args) (moved_operands h o)) ≡ moved_done h (invokes_selected p m args s l (drop (length args) o))
-  invokes_taken-moves p m args s l o =
-      ap (invokes_selected p m args s (moved_locals h l)) (drop-map (moved_value h) (length args) o) ∙ invokes_selected-moves p m args s l (drop (length args) o)
+  invokes_taken-moves : (w : World) (m : Option MemberPlace) (args : List Datum) (s : Shared) (l : Locals) (o : Operands)
+      → invokes_selected w m args s (moved_locals h l) (drop (length args) (moved_operands h o)) ≡ moved_done h (invokes_selected w m args s l (drop (length args) o))
+  invokes_taken-moves w m args s l o =
+      ap (invokes_selected w m args s (moved_locals h l)) (drop-map (moved_value h) (length args) o) ∙ invokes_selected-moves w m args s l (drop (length args) o)
 
   -- ---- invokestatic
 
-  invokes_with_static-moves : (p : Program) (m : MemberPlace) (args : Option (List Datum)) (s : Shared) (l : Locals) (o : Operands)
-      → invokes_with_static p m args s (moved_locals h l) (moved_operands h o) ≡ moved_done h (invokes_with_static p m args s l o)
-  invokes_with_static-moves p m None s l o = refl
-  invokes_with_static-moves p m (Some args) s l o = invokes_taken-moves p (Some m) args s l o
+  invokes_with_static-moves : (w : World) (m : MemberPlace) (args : Option (List Datum)) (s : Shared) (l : Locals) (o : Operands)
+      → invokes_with_static w m args s (moved_locals h l) (moved_operands h o) ≡ moved_done h (invokes_with_static w m args s l o)
+  invokes_with_static-moves w m None s l o = refl
+  invokes_with_static-moves w m (Some args) s l o = invokes_taken-moves w (Some m) args s l o
 
-  invokes_static_method-moves : (p : Program) (r : Reference) (s : Shared) (l : Locals) (o : Operands)
-      → invokes_static_method p r s (moved_locals h l) (moved_operands h o) ≡ moved_done h (invokes_static_method p r s l o)
-  invokes_static_method-moves p r s l o =
+  invokes_static_method-moves : (w : World) (r : Reference) (s : Shared) (l : Locals) (o : Operands)
+      → invokes_static_method w r s (moved_locals h l) (moved_operands h o) ≡ moved_done h (invokes_static_method w r s l o)
+  invokes_static_method-moves w r s l o =
       let args : Option (List Datum) = arguments_by false r.member o in
-      refused-moves s (named_method p s.loaded false true r) _ _ (method-fixed p s.loaded false true r)
-      (λ m. ready-moves h p (phase_of s m.class) m.class s (invokes_with_static p m args s l o) _
-      (ap (λ found. invokes_with_static p m found s (moved_locals h l) (moved_operands h o)) (arguments_by-moves false r.member o)
-      ∙ invokes_with_static-moves p m args s l o))
+      refused-moves s (named_method w.program s.loaded false true r) _ _ (method-fixed w.program s.loaded false true r)
+      (λ m. ready-moves h w.program (phase_of s m.class) m.class s (invokes_with_static w m args s l o) _
+      (ap (λ found. invokes_with_static w m found s (moved_locals h l) (moved_operands h o)) (arguments_by-moves false r.member o)
+      ∙ invokes_with_static-moves w m args s l o))
 
   -- ---- invokevirtual, invokeinterface, invokespecial
 
@@ -306,39 +335,50 @@ module _ (h : ℕ → ℕ) where
   not_of_class-fixed OfInterface = refl
   not_of_class-fixed (Special caller interface) = refl
 
-  invokes_on-moves : (p : Program) (by : Selecting) (r : Reference) (m : MemberPlace) (args : Option (List Datum)) (s : Shared) (l : Locals) (o : Operands)
-      → invokes_on p by r m args s (moved_locals h l) (moved_operands h o) ≡ moved_done h (invokes_on p by r m args s l o)
-  invokes_on-moves p by r m None s l o = refl
-  invokes_on-moves p by r m (Some args) s l o =
+  invokes_on-moves : (w : World) (by : Selecting) (r : Reference) (m : MemberPlace) (args : Option (List Datum)) (s : Shared) (l : Locals) (o : Operands)
+      → invokes_on w by r m args s (moved_locals h l) (moved_operands h o) ≡ moved_done h (invokes_on w by r m args s l o)
+  invokes_on-moves w by r m None s l o = refl
+  invokes_on-moves w by r m (Some args) s l o =
       let object : ℕ = receiver_in args in
-      let of_class : Bool = is_instance p s.heap object r.class in
+      let of_class : Bool = is_instance w.program s.heap object r.class in
       refused-moves s (receiver object of_class (not_of_class by)) _ _ (receiver-fixed object of_class (not_of_class by) (not_of_class-fixed by))
-      (λ owner. invokes_taken-moves p (selected_by p by m (class_of p s owner)) args s l o)
+      (λ owner. invokes_taken-moves w (selected_by w.program by m (class_of w.program s owner)) args s l o)
 
-  invokes_instance-moves : (p : Program) (by : Selecting) (r : Reference) (s : Shared) (l : Locals) (o : Operands)
-      → invokes_instance p by r s (moved_locals h l) (moved_operands h o) ≡ moved_done h (invokes_instance p by r s l o)
-  invokes_instance-moves p by r s l o =
+  invokes_instance-moves : (w : World) (by : Selecting) (r : Reference) (s : Shared) (l : Locals) (o : Operands)
+      → invokes_instance w by r s (moved_locals h l) (moved_operands h o) ≡ moved_done h (invokes_instance w by r s l o)
+  invokes_instance-moves w by r s l o =
       let args : Option (List Datum) = arguments_by true r.member o in
-      refused-moves s (named_method p s.loaded (names_interface by) false r) _ _ (method-fixed p s.loaded (names_interface by) false r)
-      (λ m. ap (λ found. invokes_on p by r m found s (moved_locals h l) (moved_operands h o)) (arguments_by-moves true r.member o)
-      ∙ invokes_on-moves p by r m args s l o)
+      refused-moves s (named_method w.program s.loaded (names_interface by) false r) _ _ (method-fixed w.program s.loaded (names_interface by) false r)
+      (λ m. ap (λ found. invokes_on w by r m found s (moved_locals h l) (moved_operands h o)) (arguments_by-moves true r.member o)
+      ∙ invokes_on-moves w by r m args s l o)
 
   -- ---- every instruction that names something
 
-  pub named-moves : (p : Program) (n : Naming) (s : Shared) (l : Locals) (o : Operands) → does_named p n s (moved_locals h l) (moved_operands h o) ≡ moved_done h (does_named p n s l o)
-  named-moves p (New name) s l o = makes_new-moves p name s l o
-  named-moves p (Getfield r) s l o = gets_instance-moves p r s l o
-  named-moves p (Putfield r) s l o = puts_instance-moves p r s l o
-  named-moves p (Getstatic r) s l o = gets_static-moves p r s l o
-  named-moves p (Putstatic r) s l o = puts_static-moves p r s l o
-  named-moves p (Invokevirtual r) s l o = invokes_instance-moves p Virtual r s l o
-  named-moves p (Invokespecial caller r interface) s l o = invokes_instance-moves p (Special caller interface) r s l o
-  named-moves p (Invokestatic r) s l o = invokes_static_method-moves p r s l o
-  named-moves p (Invokeinterface r) s l o = invokes_instance-moves p OfInterface r s l o
-  named-moves p (Checkcast name) s l o = casts-moves p name s l o
-  named-moves p (Instanceof name) s l o = tells_instance-moves p name s l o
-  named-moves p (Anewarray name) s l o = makes_array_of-moves p name s l o
-  named-moves p (Multianewarray name dimensions) s l o = makes_multi-moves p name dimensions s l o
+  pub named-moves : (w : World) (n : Naming) (s : Shared) (l : Locals) (o : Operands) → does_named w n s (moved_locals h l) (moved_operands h o) ≡ moved_done h (does_named w n s l o)
+  named-moves w (New name) s l o = makes_new-moves w.program name s l o
+  named-moves w (Getfield r) s l o = gets_instance-moves w.program r s l o
+  named-moves w (Putfield r) s l o = puts_instance-moves w.program r s l o
+  named-moves w (Getstatic r) s l o = gets_static-moves w.program r s l o
+  named-moves w (Putstatic r) s l o = puts_static-moves w.program r s l o
+  named-moves w (Invokevirtual r) s l o = invokes_instance-moves w Virtual r s l o
+  named-moves w (Invokespecial caller r interface) s l o = invokes_instance-moves w (Special caller interface) r s l o
+  named-moves w (Invokestatic r) s l o = invokes_static_method-moves w r s l o
+  named-moves w (Invokeinterface r) s l o = invokes_instance-moves w OfInterface r s l o
+  named-moves w (Checkcast name) s l o = casts-moves w.program name s l o
+  named-moves w (Instanceof name) s l o = tells_instance-moves w.program name s l o
+  named-moves w (Anewarray name) s l o = makes_array_of-moves w.program name s l o
+  named-moves w (Multianewarray name dimensions) s l o = makes_multi-moves w.program name dimensions s l o
+  named-moves w (LdcClass name) s l o =
+      refused-moves s (resolved_kind w.program s.loaded name) _ _ (kind-fixed w.program s.loaded name)
+      (λ kind. ap (done (pushes_object_of kind s l o).shared) (outcome_of-moves (answer_of_class kind s.made s.heap) l o))
+
+  -- ---- ldc of a String
+
+  pub string-moves : (p : Program) (units : List ℕ) (s : Shared) (l : Locals) (o : Operands)
+      → pushes_string p units s (moved_locals h l) (moved_operands h o) ≡ moved_done h (pushes_string p units s l o)
+  string-moves p units s l o =
+      let made : Done = done (record s { heap = with_interned (kind_for p string) units s.heap }) (GoesOn l (Ref (interned_number units s.heap) ∷ o) Next) in
+      chosen-moves h (can_intern units s.heap) made _ (done s (Throws 1)) _ refl refl
 
   -- ---- what is loaded before
 

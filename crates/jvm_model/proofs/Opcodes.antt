@@ -1,6 +1,6 @@
 -- Which opcodes and operations return: those that a leave probe goes before.
 use Rattle.std.proofs.Common.{◌≡◌, ℕ, zero, suc, ◌+◌, ◌<◌, ◌⊎◌, inl, inr, Bool, true, false, List, [], ◌∷◌, cond, Option, Some, None, refl, sym, ap, subst, ◌∙◌, eqb-true, arith}
-use Rattle.std.specs.Prelude.{ℤ, ◌==◌, ◌||◌, ◌&&◌, not, length}
+use Rattle.std.specs.Prelude.{ℤ, slice_get, ◌==◌, ◌||◌, ◌&&◌, not, length}
 use Rattle.std.specs.List.{AllByRecursion}
 use Rattle.std.specs.Option.{option_map, option_and_then}
 use Rattle.std.proofs.lemmas.Bool.{cases_lt}
@@ -20,15 +20,18 @@ use Rattle.code_model.proofs.Spelled.{HasShape}
 use Rattle.code_model.proofs.Lengths.{size_at-is}
 use Rattle.code_model.proofs.Readings.{known_at}
 use Rattle.const_pool.specs.declared.class.ClassFile.{ClassFile}
+use Rattle.const_pool.specs.declared.pool.Const.{Const}
+use Rattle.const_pool.specs.declared.pool.Const.TheVariants as const
+use Rattle.const_pool.specs.References.{named_text}
 use Rattle.jvm_model.specs.Agreement.{is_return_operation}
 use Rattle.heap_objects.specs.declared.datum.Datum.TheVariants as datum
 use Rattle.const_pool.specs.declared.descriptor.Kind.{Kind}
 use Rattle.const_pool.specs.declared.descriptor.Kind.TheVariants as kind
 use Rattle.jvm_model.specs.declared.family.Family.{Family}
 use Rattle.jvm_model.specs.declared.family.Family.TheVariants as family
-use Rattle.jvm_model.specs.Data.{Datum, IntOperator, Iadd, Isub, Imul, Local, Nop, Constant, Load, Store, Arrange, BinaryOfInts, BinaryOfLongs, DivisionOfInts, DivisionOfLongs, ShiftOfLong, UnaryOfInt, UnaryOfLong, Lcmp, Iinc, Branch, Goto, Switch, Jsr, Ret, Return, Naming, Getstatic, Invokestatic, Invokevirtual, Operation, Within, Named, Newarray}
+use Rattle.jvm_model.specs.Data.{Datum, IntOperator, Iadd, Isub, Imul, Local, Nop, Constant, Load, Store, Arrange, BinaryOfInts, BinaryOfLongs, DivisionOfInts, DivisionOfLongs, ShiftOfLong, UnaryOfInt, UnaryOfLong, Lcmp, Iinc, Branch, Goto, Switch, Jsr, Ret, Return, Naming, Getstatic, Invokestatic, Invokevirtual, LdcClass, Operation, Within, Named, Newarray, LdcString}
 use Rattle.jvm_model.specs.Families.{rows, family_of}
-use Rattle.jvm_model.specs.Lines.{value_in, slot_in, increment_in, target_in, keys_in, local_of, constant_in, naming_of, interface_naming, multi_naming, has_dimensions, named_by, ObjectRow, object_rows, object_among, newarray_of, other_operation, operation_by, operation_of, targets_of as offsets_of, ends}
+use Rattle.jvm_model.specs.Lines.{value_in, slot_in, increment_in, target_in, keys_in, local_of, constant_in, naming_of, interface_naming, multi_naming, has_dimensions, named_by, ObjectRow, object_rows, object_among, newarray_of, other_operation, operation_by, operation_of, targets_of as offsets_of, ends, given_operation, object_constant, object_constant_in}
 use Rattle.jvm_model.specs.Resolved.{own_method, resolved_local, resolved_name, resolved_in, resolved_of}
 use Rattle.jvm_model.specs.Rules.{is_out, is_println}
 use Rattle.jvm_model.specs.SmallClass.{is_return}
@@ -314,9 +317,34 @@ local-within f a d o e = by (local_of f a d) refl e where
   by None is e = absurd (none-some o e)
   by (Some i) is e = (i, is, same_Some (Within i) o e)
 
-operation-within : (c : ClassFile) (op : ℕ) (a : Arg) (f : Family) (o : Operation) → operation_by c op a f ≡ Some o → (other_operation c op a ≡ Some o) ⊎ IsWithin f a (constant_in c.pool a) o
+-- or is an object of the pool, which no small class has
+texts-unresolved : (c : ClassFile) (make : List ℕ → Operation) (text : Option (List ℕ)) (o : Operation) → ((name : List ℕ) → IsUnresolved c (make name))
+    → option_map make text ≡ Some o → IsUnresolved c o
+texts-unresolved c make None o each e = absurd (none-some o e)
+texts-unresolved c make (Some name) o each e = subst (IsUnresolved c) (same_Some (make name) o e) (each name)
+
+entry-unresolved : (c : ClassFile) (entry : Const) (o : Operation) → object_constant c.pool entry ≡ Some o → IsUnresolved c o
+entry-unresolved c (const.Text i) o e = texts-unresolved c LdcString (named_text c.pool i) o (λ units. refl) e
+entry-unresolved c (const.Class i) o e = texts-unresolved c (λ name. Named (LdcClass name)) (named_text c.pool i) o (λ name. refl) e
+entry-unresolved c _ o e = absurd (none-some o e)
+
+constant-unresolved : (c : ClassFile) (a : Arg) (o : Operation) → object_constant_in c.pool a ≡ Some o → IsUnresolved c o
+constant-unresolved c (arg.Pool index) o e =
+    option_and_then_some (object_constant c.pool) (slice_get c.pool index) o e (λ entry is found. entry-unresolved c entry o found)
+constant-unresolved c _ o e = absurd (none-some o e)
+
+abbrev IsOperationBy : ClassFile → ℕ → Arg → Family → Operation → Type 0
+IsOperationBy c op a f o = (other_operation c op a ≡ Some o) ⊎ IsWithin f a (constant_in c.pool a) o ⊎ IsUnresolved c o
+
+given-within : (c : ClassFile) (op : ℕ) (a : Arg) (o : Operation) (number : Option Operation) → option_map Within (local_of family.Given a (constant_in c.pool a)) ≡ number
+    → given_operation number (object_constant_in c.pool a) ≡ Some o → IsOperationBy c op a family.Given o
+given-within c op a o (Some number) is e = inr (inl (local-within family.Given a (constant_in c.pool a) o (is ∙ e)))
+given-within c op a o None is e = inr (inr (constant-unresolved c a o e))
+
+operation-within : (c : ClassFile) (op : ℕ) (a : Arg) (f : Family) (o : Operation) → operation_by c op a f ≡ Some o → IsOperationBy c op a f o
 operation-within c op a family.Elsewhere o e = inl e
-operation-within c op a f o e = inr (local-within f a (constant_in c.pool a) o e)
+operation-within c op a family.Given o e = given-within c op a o (option_map Within (local_of family.Given a (constant_in c.pool a))) refl e
+operation-within c op a f o e = inr (inl (local-within f a (constant_in c.pool a) o e))
 
 -- An operation returns exactly where its opcode is a return's.
 pub returns-instr : (c : ClassFile) (i : Instr) (q : Resolved) → i.op < 256 → resolved_of c i ≡ Some q → (is_return_operation q ≡ is_return_opcode i.op) × (is_return i ≡ is_return_opcode i.op)
@@ -324,7 +352,8 @@ returns-instr c i q lt e =
     let f = family_of i.op in
     option_and_then_some (resolved_in c) (operation_of c i) q e (λ o is rest. elim (operation-within c i.op i.arg f o is) [
       | inl other ↦ other-returns c i.op i.arg o q other rest
-      | inr local ↦ within-returns i.op f local.0 q (all_below-each (λ op. agrees_by op (family_of op)) 256 i.op all_agree lt) (family-fits f i.arg (constant_in c.pool i.arg) local.0 local.1)
+      | inr (inr none) ↦ absurd (none-some q (sym none ∙ rest))
+      | inr (inl local) ↦ within-returns i.op f local.0 q (all_below-each (λ op. agrees_by op (family_of op)) 256 i.op all_agree lt) (family-fits f i.arg (constant_in c.pool i.arg) local.0 local.1)
           (ap (resolved_in c) local.2 ∙ rest)
     ])
 
@@ -397,7 +426,8 @@ StaysAlike-operation c bytes at i o q lt stands is e =
     let f = family_of i.op in
     elim (operation-within c i.op i.arg f o is) [
       | inl other ↦ other-alike c i.op i.arg o other
-      | inr local ↦ (
+      | inr (inr none) ↦ absurd (none-some q (sym none ∙ e))
+      | inr (inl local) ↦ (
           let runs_so = (family-fits f i.arg (constant_in c.pool i.arg) local.0 local.1 q (ap (resolved_in c) local.2 ∙ e)).0 in
           form-alike (form_of i.wide i.op) i.arg (straight-form i.wide i.op lt runs_so) (known_at bytes at i stands).1.shape)
     ]

@@ -12,6 +12,16 @@ use Rattle.std.specs.Int.{int_wrap}
 use Rattle.op_table.specs.Opcodes.{row_of, groups}
 use Rattle.code_model.specs.Instructions.{instruction_at}
 use Rattle.code_model.specs.Reading.{read_instruction, behind_opcode_at, operand_at, value_at, index_at, signed_at, number_at}
+use Rattle.jf_bytes.specs.Unicode.{utf8_of}
+use Rattle.base_classes.specs.BuiltInClasses.{built_in_classes}
+use Rattle.base_classes.specs.ObjectClasses.{object_classes}
+use Rattle.base_classes.specs.TextClasses.{text_classes}
+use Rattle.base_classes.specs.StreamClasses.{stream_classes}
+use Rattle.base_classes.specs.ValueClasses.{value_classes}
+use Rattle.base_classes.specs.ThrowableClasses.{throwable_classes}
+use Rattle.base_classes.specs.Natives.{native_methods}
+use Rattle.native_ops.specs.KindsViews.{is_among}
+use Rattle.native_ops.specs.Rows.{rows as native_rows}
 use Rattle.jvm_model.specs.Data.{World, Returned, Unverifiable}
 use Rattle.jvm_model.specs.Programs.{numbered}
 use Rattle.jvm_model.specs.Families.{rows, family_of}
@@ -67,21 +77,21 @@ pub before_println : output_of plain 7 ≡ []
 unfolding turn_in digits instruction_at read_instruction behind_opcode_at operand_at value_at index_at signed_at number_at row_of groups family_of rows int_wrap
 before_println = refl
 
-pub after_println : output_of plain 8 ≡ codes "42\n"
-unfolding turn_in digits instruction_at read_instruction behind_opcode_at operand_at value_at index_at signed_at number_at row_of groups family_of rows int_wrap
+pub after_println : output_of plain 8 ≡ utf8_of (codes "42\n")
+unfolding turn_in digits instruction_at read_instruction behind_opcode_at operand_at value_at index_at signed_at number_at row_of groups family_of rows native_rows int_wrap native_methods built_in_classes object_classes text_classes stream_classes value_classes throwable_classes is_among
 after_println = refl
 
 -- the run goes on up to the eighth step, and returns in the ninth
 pub goes_on : ending_of plain 8 ≡ None
-unfolding turn_in digits instruction_at read_instruction behind_opcode_at operand_at value_at index_at signed_at number_at row_of groups family_of rows int_wrap
+unfolding turn_in digits instruction_at read_instruction behind_opcode_at operand_at value_at index_at signed_at number_at row_of groups family_of rows native_rows int_wrap native_methods built_in_classes object_classes text_classes stream_classes value_classes throwable_classes is_among
 goes_on = refl
 
 pub has_returned : ending_of plain 9 ≡ Some Returned
-unfolding turn_in digits instruction_at read_instruction behind_opcode_at operand_at value_at index_at signed_at number_at row_of groups family_of rows int_wrap
+unfolding turn_in digits instruction_at read_instruction behind_opcode_at operand_at value_at index_at signed_at number_at row_of groups family_of rows native_rows int_wrap native_methods built_in_classes object_classes text_classes stream_classes value_classes throwable_classes is_among
 has_returned = refl
 
 pub stays_returned : ending_of plain 12 ≡ Some Returned
-unfolding turn_in digits instruction_at read_instruction behind_opcode_at operand_at value_at index_at signed_at number_at row_of groups family_of rows int_wrap
+unfolding turn_in digits instruction_at read_instruction behind_opcode_at operand_at value_at index_at signed_at number_at row_of groups family_of rows native_rows int_wrap native_methods built_in_classes object_classes text_classes stream_classes value_classes throwable_classes is_among
 stays_returned = refl
 
 -- ---- arithmetic, wrapped to 32 bits
@@ -91,13 +101,13 @@ abbrev pub printing : List ℕ → World
 printing bytes = world_with (class_with (member_with 21 22 (record (code_with (printing_bytes bytes)) { max_stack = 3 }) ∷ [])) 0
 
 -- sipush -32768, iconst_3, isub, nop, iconst_m1, imul: the second operand of isub is the topmost
-pub subtracts : output_of (printing (17 ∷ 128 ∷ 0 ∷ 6 ∷ 100 ∷ 0 ∷ 2 ∷ 104 ∷ [])) 8 ≡ codes "32771\n"
-unfolding turn_in digits instruction_at read_instruction behind_opcode_at operand_at value_at index_at signed_at number_at row_of groups family_of rows int_wrap
+pub subtracts : output_of (printing (17 ∷ 128 ∷ 0 ∷ 6 ∷ 100 ∷ 0 ∷ 2 ∷ 104 ∷ [])) 8 ≡ utf8_of (codes "32771\n")
+unfolding turn_in digits instruction_at read_instruction behind_opcode_at operand_at value_at index_at signed_at number_at row_of groups family_of rows native_rows int_wrap native_methods built_in_classes object_classes text_classes stream_classes value_classes throwable_classes is_among
 subtracts = refl
 
 -- sipush 32767, sipush 32767, imul, iconst_3, imul: 3221028867, less 2 ^ 32
-pub wraps : output_of (printing (17 ∷ 127 ∷ 255 ∷ 17 ∷ 127 ∷ 255 ∷ 104 ∷ 6 ∷ 104 ∷ [])) 7 ≡ codes "-1073938429\n"
-unfolding turn_in digits instruction_at read_instruction behind_opcode_at operand_at value_at index_at signed_at number_at row_of groups family_of rows int_wrap
+pub wraps : output_of (printing (17 ∷ 127 ∷ 255 ∷ 17 ∷ 127 ∷ 255 ∷ 104 ∷ 6 ∷ 104 ∷ [])) 7 ≡ utf8_of (codes "-1073938429\n")
+unfolding turn_in digits instruction_at read_instruction behind_opcode_at operand_at value_at index_at signed_at number_at row_of groups family_of rows native_rows int_wrap native_methods built_in_classes object_classes text_classes stream_classes value_classes throwable_classes is_among
 wraps = refl
 
 -- iadd of an int and a reference: at its offset, in the second step

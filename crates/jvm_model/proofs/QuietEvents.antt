@@ -18,11 +18,12 @@ use Rattle.jvm_model.specs.Originals.{original}
 use Rattle.jvm_model.specs.OneClass.{IsProgramOf}
 use Rattle.jvm_model.specs.Quiet.{AreCoded}
 use Rattle.jvm_model.specs.Run.{turn, run, step, turn_in-zero, turn_in-suc}
+use Rattle.jvm_model.specs.SharedState.{arguments_fit}
 use Rattle.jvm_model.specs.StandsFor.{IsBuilt}
 use Rattle.jvm_model.proofs.Growth.{step-ended}
 use Rattle.jvm_model.proofs.QuietChanges.{Went, stays, starts, leaves}
-use Rattle.jvm_model.proofs.QuietRun.{run-quiet, run-placed, run-frame}
-use Rattle.jvm_model.specs.Starting.{begun_in, unbegun_in}
+use Rattle.jvm_model.proofs.QuietRun.{run-quiet, run-placed, run-coded, going-fits, run-frame}
+use Rattle.jvm_model.specs.Starting.{begun_in, unbegun_in, unmade_in}
 use Rattle.jvm_model.proofs.QuietStart.{start-is, main-coded}
 use Rattle.jvm_model.proofs.QuietSteps.{step-of}
 use Rattle.jvm_model.proofs.TracesEvents.{IsAlways, ended_of, all_told_of, events-start}
@@ -106,15 +107,20 @@ module _ (c : ClassFile) (w : World) (built : IsBuilt c) (of : IsProgramOf c w.p
   step-known n true ended = subst (λ (a : Turn). BeginsKnown c a.changes) (sym (step-ended w (original w.program) (run w n) ended)) tt
   step-known n false going =
       let hf = run-frame c w built of meant n going in
-      let is = step-of c w built of meant (run w n) hf.frame hf.below hf.is hf.going (run-quiet c w built of meant n) (run-placed c w built of meant n) in
+      let is = step-of c w built of meant (run w n) hf.frame hf.below hf.is hf.going (run-quiet c w built of meant (going-fits c w built of meant n going) n) (run-placed c w built of meant n) in
       went-known is.has.resolved (step w (original w.program) (run w n)) is.went
 
-  start-known : (b : Bool) → has_room w w.program.main argument_array ≡ b → turn w 0 ≡ cond b (begun_in w (original w.program)) (unbegun_in w) → BeginsKnown c (turn w 0).changes
-  start-known true room is = subst (λ (a : Turn). BeginsKnown c a.changes) (sym is) (main-coded c w (original w.program) built.small of, tt)
-  start-known false room is = subst (λ (a : Turn). BeginsKnown c a.changes) (sym is) tt
+  room-known : (b : Bool) → BeginsKnown c (cond b (begun_in w (original w.program)) (unbegun_in w)).changes
+  room-known true = (main-coded c w (original w.program) built.small of, tt)
+  room-known false = tt
+
+  start-known : (b : Bool) → BeginsKnown c (cond b (cond (has_room w w.program.main argument_array) (begun_in w (original w.program)) (unbegun_in w)) (unmade_in w)).changes
+  start-known true = room-known (has_room w w.program.main argument_array)
+  start-known false = tt
 
   turn-known : (n : ℕ) → BeginsKnown c (turn w n).changes
-  turn-known zero = start-known (has_room w w.program.main argument_array) refl (turn_in-zero w (original w.program) ∙ start-is c w (original w.program) built of meant)
+  turn-known zero =
+      subst (λ (a : Turn). BeginsKnown c a.changes) (sym (turn_in-zero w (original w.program) ∙ start-is c w (original w.program) built of meant)) (start-known (arguments_fit w.program))
   turn-known (suc n) = subst (λ (a : Turn). BeginsKnown c a.changes) (sym (turn_in-suc w (original w.program) n)) (step-known n (is_some (run w n).ending) refl)
 
   step-alike : (first second : ℕ → Mark) (n : ℕ) → AreAlike c first second → step_events (always first) w n ≡ step_events (always second) w n
@@ -123,7 +129,7 @@ module _ (c : ClassFile) (w : World) (built : IsBuilt c) (of : IsProgramOf c w.p
       ∙ (told-alike c first second 0 [] (turn w 0).changes alike tt (turn-known 0) ∙ sym (events-start (always second) second (always-is second) w))
   step-alike first second (suc n) alike =
       events-step (always first) first (always-is first) w n
-      ∙ (told-alike c first second (suc n) (methods (run w n).stack) (turn w (suc n)).changes alike (known-methods c (run w n).stack (run-quiet c w built of meant n).coded) (turn-known (suc n))
+      ∙ (told-alike c first second (suc n) (methods (run w n).stack) (turn w (suc n)).changes alike (known-methods c (run w n).stack (run-coded c w built of meant n)) (turn-known (suc n))
       ∙ sym (events-step (always second) second (always-is second) w n))
 
   pub events-alike : (first second : ℕ → Mark) (n : ℕ) → AreAlike c first second → events_of (always first) w n ≡ events_of (always second) w n

@@ -1,5 +1,6 @@
--- Every state of a run of a small class is quiet and placed, and has a frame unless the run has ended.
-use Rattle.std.proofs.Common.{◌≡◌, ℕ, zero, suc, false, List, [], ◌∷◌, Option, Some, None, refl, sym, ap, subst, ◌∙◌}
+-- Where there is room for the arguments, every state of a run of a small class is quiet; it is placed, and has a frame unless the run has
+-- ended.
+use Rattle.std.proofs.Common.{◌≡◌, ◌≤◌, ℕ, zero, suc, arith, Bool, true, false, List, [], ◌∷◌, Option, Some, None, refl, sym, ap, subst, ◌∙◌}
 use Rattle.std.specs.Prelude.{is_some}
 use Rattle.std.proofs.lemmas.Option.{none-some}
 use Rattle.const_pool.specs.declared.class.ClassFile.{ClassFile}
@@ -11,9 +12,12 @@ use Rattle.jvm_model.specs.Originals.{original}
 use Rattle.jvm_model.specs.OneClass.{IsProgramOf}
 use Rattle.jvm_model.specs.Quiet.{AreCoded, IsQuiet}
 use Rattle.jvm_model.specs.Run.{run, turn_in-zero, turn_in-suc}
+use Rattle.jvm_model.specs.SharedState.{arguments_fit}
 use Rattle.jvm_model.specs.StandsFor.{IsBuilt}
+use Rattle.jvm_model.specs.Starting.{unmade_in}
+use Rattle.jvm_model.proofs.Growth.{run-stays}
 use Rattle.jvm_model.proofs.Order.{run-stops}
-use Rattle.jvm_model.proofs.QuietStart.{start-quiet}
+use Rattle.jvm_model.proofs.QuietStart.{start-quiet, start-unfit}
 use Rattle.jvm_model.proofs.QuietSteps.{step-quiet}
 use Rattle.jvm_model.proofs.RewrittenAgrees.{norm_in, original-agrees}
 use Rattle.jvm_model.proofs.StepMoves.{turn_in-placed}
@@ -22,9 +26,33 @@ module _ (c : ClassFile) (w : World) (built : IsBuilt c) (of : IsProgramOf c w.p
   pub run-placed : (n : ℕ) → IsPlaced (norm_in c) (run w n)
   run-placed n = turn_in-placed (norm_in c) w (original w.program) (original-agrees c w.program built of) n
 
-  pub run-quiet : (n : ℕ) → IsQuiet c w.program (run w n)
-  run-quiet zero = subst (λ (a : Turn). IsQuiet c w.program a.after) (sym (turn_in-zero w (original w.program))) (start-quiet c w (original w.program) built of meant refl)
-  run-quiet (suc n) = subst (λ (a : Turn). IsQuiet c w.program a.after) (sym (turn_in-suc w (original w.program) n)) (step-quiet c w built of meant (run w n) (run-quiet n) (run-placed n))
+  pub run-quiet : arguments_fit w.program ≡ true → (n : ℕ) → IsQuiet c w.program (run w n)
+  run-quiet fits zero = subst (λ (a : Turn). IsQuiet c w.program a.after) (sym (turn_in-zero w (original w.program))) (start-quiet c w (original w.program) built of meant fits refl)
+  run-quiet fits (suc n) = subst (λ (a : Turn). IsQuiet c w.program a.after) (sym (turn_in-suc w (original w.program) n)) (step-quiet c w built of meant (run w n) (run-quiet fits n) (run-placed n))
+
+  -- where there is no room for the arguments the run has ended in the start
+  unfit-first : arguments_fit w.program ≡ false → run w 0 ≡ (unmade_in w).after
+  unfit-first unfit = ap (λ (a : Turn). a.after) (turn_in-zero w (original w.program) ∙ start-unfit c w (original w.program) built of meant unfit)
+
+  pub run-unfit : arguments_fit w.program ≡ false → (n : ℕ) → run w n ≡ (unmade_in w).after
+  run-unfit unfit n =
+      run-stays w (original w.program) 0 n (omega arith) (ap (λ (s : State). is_some s.ending) (unfit-first unfit)) ∙ unfit-first unfit
+
+  -- so where it goes on there is room
+  pub going-fits : (n : ℕ) → is_some (run w n).ending ≡ false → arguments_fit w.program ≡ true
+  going-fits n going = by (arguments_fit w.program) refl
+    where
+      by : (b : Bool) → arguments_fit w.program ≡ b → b ≡ true
+      by true fits = refl
+      by false unfit = absurd (let ended : true ≡ false = sym (ap (λ (s : State). is_some s.ending) (run-unfit unfit n)) ∙ going in cc)
+
+  -- in every state there are frames alone
+  pub run-coded : (n : ℕ) → AreCoded c (run w n).stack
+  run-coded n = by (arguments_fit w.program) refl
+    where
+      by : (b : Bool) → arguments_fit w.program ≡ b → AreCoded c (run w n).stack
+      by true fits = (run-quiet fits n).coded
+      by false unfit = subst (λ (s : State). AreCoded c s.stack) (sym (run-unfit unfit n)) tt
 
   -- a run that goes on has a frame
   pub record HasFrame (s : State) : Type 0 where
@@ -44,4 +72,4 @@ module _ (c : ClassFile) (w : World) (built : IsBuilt c) (of : IsProgramOf c w.p
       absurd (none-some (main_or_end w (original w.program) s s.begun) (sym stops ∙ moves_on))
 
   pub run-frame : (n : ℕ) → is_some (run w n).ending ≡ false → HasFrame (run w n)
-  run-frame n going = by_stack (run w n) (run w n).ending (run w n).stack (run-quiet n) (run-stops w (original w.program) n) refl refl going
+  run-frame n going = by_stack (run w n) (run w n).ending (run w n).stack (run-quiet (going-fits n going) n) (run-stops w (original w.program) n) refl refl going

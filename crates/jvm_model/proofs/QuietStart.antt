@@ -1,4 +1,4 @@
--- The start of a small class: the class is loaded and made ready, and `main` begins, where its argument fits.
+-- The start of a small class: the class is loaded and made ready, and `main` begins, where its argument fits; or the arguments do not fit.
 use Rattle.std.proofs.Common.{◌≡◌, ℕ, ◌+◌, ◌<◌, ◌≤◌, Bool, true, false, length, cond, refl, sym, ap, subst, ◌∙◌, arith}
 use Rattle.std.specs.Prelude.{is_some}
 use Rattle.std.specs.Option.{option_and_then}
@@ -12,9 +12,10 @@ use Rattle.jvm_model.specs.Moves.{argument_array}
 use Rattle.jvm_model.specs.OneClass.{IsProgramOf}
 use Rattle.jvm_model.specs.Quiet.{IsQuiet}
 use Rattle.jvm_model.specs.Run.{start}
+use Rattle.jvm_model.specs.SharedState.{arguments_fit}
 use Rattle.jvm_model.specs.SmallClass.{IsSmallClass}
 use Rattle.jvm_model.specs.StandsFor.{IsBuilt}
-use Rattle.jvm_model.specs.Starting.{begun_in, unbegun_in}
+use Rattle.jvm_model.specs.Starting.{begun_in, unbegun_in, unmade_in}
 use Rattle.jvm_model.proofs.Numbers.{main-first}
 use Rattle.jvm_model.proofs.ReadyStart.{start-small}
 
@@ -32,8 +33,16 @@ module _ (c : ClassFile) (w : World) (t : Text) (built : IsBuilt c) (of : IsProg
   abbrev main : ℕ
   main = w.program.main
 
-  pub start-is : start w t ≡ cond (has_room w main argument_array) (begun_in w t) (unbegun_in w)
+  pub start-is : start w t ≡ cond (arguments_fit w.program) (cond (has_room w main argument_array) (begun_in w t) (unbegun_in w)) (unmade_in w)
   start-is = start-small c w t built of meant
+
+  -- where there is room for the arguments
+  pub start-fits : arguments_fit w.program ≡ true → start w t ≡ cond (has_room w main argument_array) (begun_in w t) (unbegun_in w)
+  start-fits fits = start-is ∙ ap (λ b. cond b (cond (has_room w main argument_array) (begun_in w t) (unbegun_in w)) (unmade_in w)) fits
+
+  -- where there is none, the run has ended
+  pub start-unfit : arguments_fit w.program ≡ false → start w t ≡ unmade_in w
+  start-unfit unfit = start-is ∙ ap (λ b. cond b (cond (has_room w main argument_array) (begun_in w t) (unbegun_in w)) (unmade_in w)) unfit
 
   by_room : (b : Bool) → t.current main ≡ main → IsQuiet c w.program (cond b (begun_in w t) (unbegun_in w)).after
   by_room true one = record {
@@ -49,5 +58,5 @@ module _ (c : ClassFile) (w : World) (t : Text) (built : IsBuilt c) (of : IsProg
     coded = tt;
   }
 
-  pub start-quiet : t.current main ≡ main → IsQuiet c w.program (start w t).after
-  start-quiet one = subst (λ (a : Turn). IsQuiet c w.program a.after) (sym start-is) (by_room (has_room w main argument_array) one)
+  pub start-quiet : arguments_fit w.program ≡ true → t.current main ≡ main → IsQuiet c w.program (start w t).after
+  start-quiet fits one = subst (λ (a : Turn). IsQuiet c w.program a.after) (sym (start-fits fits)) (by_room (has_room w main argument_array) one)

@@ -21,11 +21,11 @@ use Rattle.jvm_model.specs.Methods.{method_named, is_member, method_from, same_t
 use Rattle.jvm_model.specs.Moves.{at_part, after_super, with_super, runs_initializer, with_constants, argument_array, move, fresh, left, settles, settled}
 use Rattle.jvm_model.specs.OneClass.{IsProgramOf}
 use Rattle.jvm_model.specs.Programs.{name_of, has_name, has_built_in_name, class_named, super_of, number_of_method, initializer_name, initializer_of}
-use Rattle.jvm_model.specs.Run.{before, arguments_made, with_loaded, loaded_turn, main_class, main_loading, main_loads, starts_unless, starts_with, start}
-use Rattle.jvm_model.specs.SharedState.{with_phase, phase_before}
+use Rattle.jvm_model.specs.Run.{before, arguments_made, with_loaded, loaded_turn, main_class, main_loading, main_classes, loads_if, starts_unless, opened, exhausted, starts_if, start}
+use Rattle.jvm_model.specs.SharedState.{with_phase, phase_before, arguments_fit}
 use Rattle.jvm_model.specs.SmallClass.{begins_with, is_free_name, is_plain_name, is_plain_member, member_of, IsSmallClass}
 use Rattle.jvm_model.specs.StandsFor.{IsBuilt}
-use Rattle.jvm_model.specs.Starting.{IsReadyAbove, StartsReady, phases_ready, ready_in, begun_in, unbegun_in, begins_or_ends}
+use Rattle.jvm_model.specs.Starting.{IsReadyAbove, StartsReady, phases_ready, ready_in, begun_in, unbegun_in, unmade_in, begins_or_ends}
 use Rattle.jvm_model.proofs.ImageMethods.{each-nth}
 use Rattle.jvm_model.proofs.Numbers.{first-at, place-first, main-first}
 use Rattle.jvm_model.proofs.QuietSettles.{stops, one-move}
@@ -163,15 +163,14 @@ none-fresh (k ∷ cs) all = ap (λ b. fresh (cond b Ready Fresh ∷ map phase_be
 others-ready : (p : Program) (c : ClassFile) (rest : List ClassFile) → p.classes ≡ c ∷ rest → AllByRecursion (λ k. has_built_in_name k ≡ true) rest → fresh (phases_ready p) ≡ 0
 others-ready p c rest is all = ap (λ cs. fresh (slice_set (map phase_before cs) 0 Ready)) is ∙ none-fresh rest all
 
-pub StartsReady-small : (c : ClassFile) (p : Program) → IsBuilt c → (of : IsProgramOf c p) → IsMeant c p → AllByRecursion (λ k. has_built_in_name k ≡ true) of.rest → p.args ≡ [] → 1024 ≤ p.heap → StartsReady p
-StartsReady-small c p built of meant built_in plain room = record {
+pub StartsReady-small : (c : ClassFile) (p : Program) → IsBuilt c → (of : IsProgramOf c p) → IsMeant c p → AllByRecursion (λ k. has_built_in_name k ≡ true) of.rest → 1024 ≤ p.heap → StartsReady p
+StartsReady-small c p built of meant built_in room = record {
   first = main-class c p built.small of;
   above = super-ready c p built.small of;
   none = no-initializer c p built.small of;
   others = others-ready p c of.rest of.classes built_in;
   alone = meant.alone;
   constants = no-constants c p built.plain.fields of;
-  plain = plain;
   room = room;
 }
 
@@ -219,12 +218,12 @@ module _ (w : World) (t : Text) where
       ap (λ b. let o : Option Turn = Some (cond b (record { after = record (ready_in w) { begun = true; stack = Active (new_frame w t main argument_array) ∷ [] }; changes = Began main ∷ [] }) next) in o) room in
       ap (loaded_turn (0 ∷ [])) (one-move w t n (still (ready_in w)) next moves ∙ stops w t n next refl)
 
-  loads-one : main_loading w ≡ done (early ++ 0 ∷ []) → main_loads w ≡ 0 ∷ []
+  loads-one : main_loading w ≡ done (early ++ 0 ∷ []) → main_classes w ≡ 0 ∷ []
   loads-one alone = ap (λ (l : Loading). drop (length early) l.loaded) alone ∙ drop-append_seam early (0 ∷ [])
 
-  starts-first : main_class w.program ≡ 0 → main_loading w ≡ done (early ++ 0 ∷ []) → starts_with w ≡ begun_with 0
+  starts-first : main_class w.program ≡ 0 → main_loading w ≡ done (early ++ 0 ∷ []) → starts_if w true ≡ begun_with 0
   starts-first first alone =
-      ap (λ o. starts_unless w o (with_loaded (main_loads w) made)) (ap (λ (l : Loading). l.fault) alone)
+      ap (λ o. starts_unless w o (opened w)) (ap (λ (l : Loading). l.fault) alone)
       ∙ (ap (λ classes. starts_unless w None (with_loaded classes made)) (loads-one alone) ∙ ap begun_with first)
 
   initialized : (n : ℕ) → IsReadyAbove w.program (super_of w.program 0) → initializer_of w.program 0 ≡ None → ((s : Shared) → sets_constants w.program 0 s ≡ set s)
@@ -237,15 +236,32 @@ module _ (w : World) (t : Text) where
       ∙ one-move w t n (still (at_part base 0 Finish)) (still (ready_in w))
       (ap (λ ps. let o : Option Turn = Some (still (record base { shared = record base.shared { phases = ps } })) in o) (put-twice (map phase_before w.program.classes)))))
 
-  pub start-by : main_class w.program ≡ 0 → IsReadyAbove w.program (super_of w.program 0) → initializer_of w.program 0 ≡ None
-      → main_loading w ≡ done (early ++ 0 ∷ []) → ((s : Shared) → sets_constants w.program 0 s ≡ set s) → start w t ≡ begins_or_ends w t
-  start-by first above none alone constants =
+  -- where there is room for the arguments
+  made-by : main_class w.program ≡ 0 → IsReadyAbove w.program (super_of w.program 0) → initializer_of w.program 0 ≡ None
+      → main_loading w ≡ done (early ++ 0 ∷ []) → ((s : Shared) → sets_constants w.program 0 s ≡ set s)
+      → loaded_turn (main_classes w) (settled w t (still (starts_if w true))) ≡ cond (has_room w main argument_array) (begun_in w t) (unbegun_in w)
+  made-by first above none alone constants =
       let rest : ℕ = 8 * fresh (begun_with 0).shared.phases + 6 in
       let more : left (begun_with 0) ≡ suc (suc (suc (suc (suc rest)))) = omega arith in
-      ap (λ classes. loaded_turn classes (settled w t (still (starts_with w)))) (loads-one alone)
+      ap (λ classes. loaded_turn classes (settled w t (still (starts_if w true)))) (loads-one alone)
       ∙ (ap (λ s. loaded_turn (0 ∷ []) (settled w t (still s))) (starts-first first alone)
       ∙ (ap (λ n. loaded_turn (0 ∷ []) (settles w t n (still (begun_with 0)))) more
       ∙ (ap (loaded_turn (0 ∷ [])) (initialized (suc rest) above none constants) ∙ over rest (has_room w main argument_array) refl)))
+
+  -- where there is none
+  unmade-is : settled w t (still (exhausted w)) ≡ unmade_in w
+  unmade-is =
+      let rest : ℕ = 8 * fresh (before w).shared.phases + 3 in
+      let more : left (exhausted w) ≡ suc rest = omega arith in
+      ap (λ n. settles w t n (still (exhausted w))) more ∙ (one-move w t rest (still (exhausted w)) (unmade_in w) refl ∙ stops w t rest (unmade_in w) refl)
+
+  pub start-by : main_class w.program ≡ 0 → IsReadyAbove w.program (super_of w.program 0) → initializer_of w.program 0 ≡ None
+      → main_loading w ≡ done (early ++ 0 ∷ []) → ((s : Shared) → sets_constants w.program 0 s ≡ set s) → start w t ≡ begins_or_ends w t
+  start-by first above none alone constants = by (arguments_fit w.program)
+    where
+      by : (b : Bool) → loaded_turn (loads_if w b) (settled w t (still (starts_if w b))) ≡ cond b (cond (has_room w main argument_array) (begun_in w t) (unbegun_in w)) (unmade_in w)
+      by true = made-by first above none alone constants
+      by false = unmade-is
 
 pub start-of : (w : World) (t : Text) → StartsReady w.program → start w t ≡ begins_or_ends w t
 start-of w t is = start-by w t is.first is.above is.none (is.alone w.input) is.constants

@@ -39,7 +39,7 @@ module _ (c : ClassFile) (w : World) (meant : IsMeant c w.program) (s : Shared) 
       → does w op s l o ≡ done_by w.program q s l o
   does-resolved (Within i) q l o e callee streams = local-done w.program i q s l o e
   does-resolved (Named n) q l o e callee streams =
-      subst (λ x. does_named w.program n x l o ≡ done_by w.program q x l o) (sym shared) (meant.does n q l o e callee streams)
+      subst (λ x. does_named w n x l o ≡ done_by w.program q x l o) (sym shared) (meant.does w refl n q l o e callee streams)
   does-resolved op q l o e callee streams = absurd (none-some q e)
 
   -- and it loads nothing

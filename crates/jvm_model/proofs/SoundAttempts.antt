@@ -4,19 +4,21 @@ use Rattle.std.specs.Prelude.{drop, Option, Some, None, ℤ, ◌==◌, ◌&&◌,
 use Rattle.heap_objects.specs.declared.datum.Datum.{Datum}
 use Rattle.heap_objects.specs.declared.Value.{Value}
 use Rattle.heap_objects.specs.declared.Value.TheVariants.{Int, Long, Ref, Addr}
-use Rattle.heap_objects.specs.Heaps.{with_slot_at}
+use Rattle.heap_objects.specs.Heaps.{HeapView, interned_number, with_interned, with_slot_at}
 use Rattle.const_pool.specs.declared.descriptor.Kind.{Kind}
-use Rattle.jvm_model.specs.Data.{Locals, Operands, Local, Nop, Constant, Load, Store, Arrange, BinaryOfInts, BinaryOfLongs, DivisionOfInts, DivisionOfLongs, ShiftOfLong, UnaryOfInt, UnaryOfLong, Lcmp, Iinc, Branch, Goto, Switch, Jsr, Ret, Return, Keys, Shared, Operation, Within, Named, Athrow, Monitor, Newarray, Arraylength, LoadElement, StoreElement, Outcome, GoesOn, Next, Throws, Raises, Breaks, Done, Program, World}
+use Rattle.jvm_model.specs.Data.{Locals, Operands, Local, Nop, Constant, Load, Store, Arrange, BinaryOfInts, BinaryOfLongs, DivisionOfInts, DivisionOfLongs, ShiftOfLong, UnaryOfInt, UnaryOfLong, Lcmp, Iinc, Branch, Goto, Switch, Jsr, Ret, Return, Keys, Shared, Operation, Within, Named, Athrow, Monitor, Newarray, Arraylength, LoadElement, StoreElement, LdcString, Outcome, GoesOn, Next, Throws, Raises, Breaks, Done, Program, World}
+use Rattle.jvm_model.specs.ConstantRules.{pushes_string}
+use Rattle.jvm_model.specs.Constants.{can_intern}
 use Rattle.jvm_model.specs.Does.{does, loads}
 use Rattle.jvm_model.specs.LocalRules.{divides_these, goes_back, goes_if, holds, increments, leaves, pushes, replaces, returns, returns_datum, stores, switches_on, tests, within}
 use Rattle.jvm_model.specs.Lookup.{is_below}
 use Rattle.jvm_model.specs.ObjectRules.{Access, ToNull, ToAnother, Outside, Inside, Storing, access_to, array_kind, done, fits_array, loads_at, loads_element, measures, place_of, refused, stores_at, stores_element, storing_of, throws, watches}
-use Rattle.jvm_model.specs.SharedState.{array_store, class_of, null_pointer, throwable}
+use Rattle.jvm_model.specs.SharedState.{array_store, class_of, kind_for, null_pointer, string, throwable}
 use Rattle.jvm_model.specs.Sound.{CanAttempt, IsFit, IsSoundDone, IsSoundOutcome, IsSoundShared}
 use Rattle.jvm_model.specs.StackForms.{forms_of}
 use Rattle.jvm_model.specs.Values.{arranged, datum_of, int_of, is_storable, has_slots, local_in, ref_of, stored}
-use Rattle.jvm_model.proofs.SoundKinds.{has-root, of-primitive}
-use Rattle.jvm_model.proofs.SoundObjects.{objects-slot, with-heap}
+use Rattle.jvm_model.proofs.SoundKinds.{has-root, kind-usable, of-primitive}
+use Rattle.jvm_model.proofs.SoundObjects.{objects-interned, objects-slot, with-heap}
 use Rattle.jvm_model.proofs.SoundRules.{array-fine, sound-named}
 
 -- ---- instructions that see their frame alone
@@ -167,15 +169,34 @@ module _ (w : World) (fit : IsFit w.program) (s : Shared) (is : IsSoundShared w.
   store-fine k None l o = quiet (Breaks false) tt
   store-fine k (Some x) l o = stores-fine (access_to k x.array x.index s.heap) x.array x.index x.datum l o
 
+  string-fine : (units : List ℕ) (l : Locals) (o : Operands) → IsSoundDone w.program s.loaded (pushes_string w.program units s l o)
+  string-fine units l o = by (can_intern units s.heap)
+    where
+      interned : HeapView
+      interned = with_interned (kind_for w.program string) units s.heap
+
+      by : (b : Bool) → IsSoundDone w.program s.loaded (let d : Done = if b
+          then done (record s { heap = interned }) (GoesOn l (Ref (interned_number units s.heap) ∷ o) Next)
+          else done s (Throws 1) in d)
+      by true = record {
+        loaded_same = refl;
+        shared = with-heap w.program s interned is
+            (objects-interned w.program s.loaded (kind_for w.program string) units s.heap
+            (kind-usable w.program fit s.loaded is.built_in string refl) is.objects);
+        outcome = tt;
+      }
+      by false = quiet (Throws 1) tt
+
   pub sound-does : (op : Operation) (l : Locals) (o : Operands) → CanAttempt w.program s.loaded op → loads w op s o ≡ []
       → IsSoundDone w.program s.loaded (does w op s l o)
   sound-does (Within i) l o can nothing = quiet (within i l o) (within-sound w.program s.loaded i l o)
-  sound-does (Named n) l o can nothing = sound-named w.program fit s is n l o can.0 can.1 nothing
+  sound-does (Named n) l o can nothing = sound-named w fit s is n l o can.0 can.1 nothing
   sound-does Athrow l o can nothing = quiet (throws w s (ref_of o)) (throws-sound w.program s.loaded w s (ref_of o))
   sound-does Monitor l o can nothing = quiet (watches (ref_of o) l o) (watches-sound w.program s.loaded (ref_of o) l o)
   sound-does (Newarray code) l o can nothing =
-      array-fine w.program fit s is (array_kind code) (int_of o) l o
+      array-fine w fit s is (array_kind code) (int_of o) l o
       (of-primitive w.program s.loaded (has-root w.program fit s.loaded is.built_in) 1 code (omega arith) can)
   sound-does Arraylength l o can nothing = quiet (measures (ref_of o) s l o) (measures-sound w.program s.loaded (ref_of o) s l o)
   sound-does (LoadElement k) l o can nothing = quiet (loads_element k (place_of o) s l o) (element-sound w.program s.loaded k (place_of o) s l o)
   sound-does (StoreElement k) l o can nothing = store-fine k (storing_of k o) l o
+  sound-does (LdcString units) l o can nothing = string-fine units l o

@@ -275,7 +275,7 @@ module _ (p : Program) (fit : IsFit p) (loaded : List ℕ) (has : HasBuiltIn p l
   pub built-in-there : (name : List ℕ) → (is : IsBuiltIn p name) → (is.class < length p.classes) × IsLoaded loaded is.class
   built-in-there name is =
       let within = named-class (has_name name) p.classes is.class is.found in
-      (within, has is.class is.behind within)
+      (within, has.each is.class is.behind within)
 
   -- java/lang/Object, which is the class of arrays, is loaded
   pub has-root : IsLoaded loaded (user_count p)
@@ -283,7 +283,7 @@ module _ (p : Program) (fit : IsFit p) (loaded : List ℕ) (has : HasBuiltIn p l
       let first : IsBuiltIn p (codes "java/lang/Object") = fit.built_in.0 in
       let within : first.class < length p.classes = (built-in-there (codes "java/lang/Object") first).0 in
       let behind : user_count p ≤ first.class = first.behind in
-      has (user_count p) (omega arith) (omega (arith, within, behind))
+      has.each (user_count p) (omega arith) (omega (arith, within, behind))
 
   -- an object of a built-in class, and an array of such
   pub built-in-usable : (dimensions : ℕ) (name : List ℕ) → IsBuiltInName name → IsUsable p loaded (dimensions * 16777216 + kind_for p name)
@@ -294,3 +294,17 @@ module _ (p : Program) (fit : IsFit p) (loaded : List ℕ) (has : HasBuiltIn p l
 
   pub kind-usable : (name : List ℕ) → IsBuiltInName name → IsUsable p loaded (kind_for p name)
   kind-usable name known = subst (IsUsable p loaded) (let e : 0 * 16777216 + kind_for p name ≡ kind_for p name = omega arith in e) (built-in-usable 0 name known)
+
+  base-behind : (place : ℕ) → place < 53 → class_of_base p (16 + place) ≡ Some (user_count p + place)
+  base-behind place few =
+      ap (λ b. if b then None else if nat_lt (16 + place) 256 then Some (user_count p + (16 + place - 16)) else Some (16 + place - 256)) (not-below (16 + place) 16 (omega arith))
+      ∙ (ap (λ b. if b then Some (user_count p + (16 + place - 16)) else Some (16 + place - 256)) (below (16 + place) 256 (omega arith))
+      ∙ ap (λ n. let o : Option ℕ = Some (user_count p + n) in o) (let e : 16 + place - 16 ≡ place = omega arith in e))
+
+  -- an object of the built-in class at this place
+  pub behind-usable : (place : ℕ) → place < 53 → IsUsable p loaded (16 + place)
+  behind-usable place few =
+      let whole : 53 ≤ length p.classes = has.whole in
+      let there : IsLoaded loaded (user_count p + place) = has.each (user_count p + place) (omega arith) (omega (arith, whole)) in
+      subst (IsUsable p loaded) (let e : 0 * 16777216 + (16 + place) ≡ 16 + place = omega arith in e)
+      (of-class p loaded has-root 0 (16 + place) (user_count p + place) (omega arith) (base-behind place few) there)

@@ -1,22 +1,24 @@
 -- An instruction of original code can be attempted: it names types of the dimensions that it needs, and an invokespecial stands in the
 -- class whose name it has (JVM Specification 4.9.1, 6.5).
 use Rattle.std.proofs.Common.{◌≡◌, ℕ, ◌<◌, Bool, true, false, List, [], ◌∷◌, ap, sym, subst, refl, ◌∙◌, arith}
-use Rattle.std.specs.Prelude.{Option, Some, None, ◌==◌, ◌&&◌, if◌then◌else◌}
+use Rattle.std.specs.Prelude.{Option, Some, None, slice_get, ◌==◌, ◌&&◌, if◌then◌else◌}
 use Rattle.std.specs.List.{AllByRecursion}
 use Rattle.std.specs.Int.{is_in_range}
 use Rattle.std.specs.Option.{IfSome, option_and_then, option_map}
 use Rattle.const_pool.specs.declared.class.ClassFile.{ClassFile}
 use Rattle.const_pool.specs.declared.class.CodeAttribute.{CodeAttribute}
-use Rattle.const_pool.specs.References.{Reference, named_class, named_field, named_method}
+use Rattle.const_pool.specs.declared.pool.Const.{Const}
+use Rattle.const_pool.specs.declared.pool.Const.TheVariants as const
+use Rattle.const_pool.specs.References.{Reference, named_class, named_field, named_method, named_text}
 use Rattle.code_model.specs.declared.instr.Instr.{Instr}
 use Rattle.code_model.specs.declared.instr.Arg.{Arg}
 use Rattle.code_model.specs.declared.instr.Arg.TheVariants as arg
 use Rattle.code_model.specs.Instructions.{instruction_at, end_of}
 use Rattle.jvm_model.specs.declared.family.Family.{Family}
 use Rattle.jvm_model.specs.declared.family.Family.TheVariants as family
-use Rattle.jvm_model.specs.Data.{Local, MethodPlace, Naming, New, Getfield, Putfield, Getstatic, Putstatic, Invokevirtual, Invokespecial, Invokestatic, Invokeinterface, Checkcast, Instanceof, Anewarray, Multianewarray, Operation, Within, Named, Athrow, Monitor, Newarray, Arraylength, LoadElement, StoreElement, Instruction, Program}
+use Rattle.jvm_model.specs.Data.{Local, MethodPlace, Naming, New, Getfield, Putfield, Getstatic, Putstatic, Invokevirtual, Invokespecial, Invokestatic, Invokeinterface, Checkcast, Instanceof, Anewarray, Multianewarray, LdcClass, Operation, Within, Named, Athrow, Monitor, Newarray, Arraylength, LoadElement, StoreElement, LdcString, Instruction, Program}
 use Rattle.jvm_model.specs.Families.{family_of}
-use Rattle.jvm_model.specs.Lines.{ObjectRow, code_instruction, has_dimensions, instruction_of, interface_naming, method_instruction, multi_naming, multi_of, named_by, named_interface_method, naming_of, newarray_of, next_of, object_among, object_rows, operation_by, operation_of, other_operation, special_of, targets_of}
+use Rattle.jvm_model.specs.Lines.{ObjectRow, code_instruction, constant_in, given_operation, has_dimensions, instruction_of, interface_naming, local_of, method_instruction, multi_naming, multi_of, named_by, named_interface_method, naming_of, newarray_of, next_of, object_among, object_constant, object_constant_in, object_rows, operation_by, operation_of, other_operation, special_of, targets_of}
 use Rattle.jvm_model.specs.Methods.{method_code}
 use Rattle.jvm_model.specs.Originals.{original}
 use Rattle.jvm_model.specs.Programs.{class_at, name_of, place_of_method}
@@ -120,11 +122,32 @@ module _ (c : ClassFile) where
   within-formed None = tt
   within-formed (Some i) = tt
 
+  texts-formed : (make : List ℕ → Operation) (o : Option (List ℕ)) → ((name : List ℕ) → IsFormed (make name)) → IfSome (option_map make o) IsFormed
+  texts-formed make None each = tt
+  texts-formed make (Some name) each = each name
+
+  entry-formed : (entry : Const) → IfSome (object_constant c.pool entry) IsFormed
+  entry-formed (const.Text i) = texts-formed LdcString (named_text c.pool i) (λ units. tt)
+  entry-formed (const.Class i) = texts-formed (λ name. Named (LdcClass name)) (named_text c.pool i) (λ name. (tt, refl))
+  entry-formed _ = tt
+
+  entry-at-formed : (o : Option Const) → IfSome (option_and_then (object_constant c.pool) o) IsFormed
+  entry-at-formed None = tt
+  entry-at-formed (Some entry) = entry-formed entry
+
+  object-constant-formed : (a : Arg) → IfSome (object_constant_in c.pool a) IsFormed
+  object-constant-formed (arg.Pool index) = entry-at-formed (slice_get c.pool index)
+  object-constant-formed _ = tt
+
+  given-formed : (number : Option Operation) (a : Arg) → IfSome number IsFormed → IfSome (given_operation number (object_constant_in c.pool a)) IsFormed
+  given-formed (Some op) a formed = formed
+  given-formed None a formed = object-constant-formed a
+
   family-formed : (op : ℕ) (a : Arg) (f : Family) → IfSome (operation_by c op a f) IsFormed
   family-formed op a family.Elsewhere = other-formed op a
   family-formed op a family.Nop = tt
   family-formed op a (family.Constant d) = tt
-  family-formed op a family.Given = within-formed _
+  family-formed op a family.Given = given-formed (option_map Within (local_of family.Given a (constant_in c.pool a))) a (within-formed _)
   family-formed op a family.Immediate = within-formed _
   family-formed op a (family.Load k) = within-formed _
   family-formed op a (family.LoadFrom k slot) = tt
@@ -206,6 +229,7 @@ module _ (p : Program) (fit : IsFit p) (loaded : List ℕ) where
   caller-loaded c class (Instanceof name) at there names = tt
   caller-loaded c class (Anewarray name) at there names = tt
   caller-loaded c class (Multianewarray name dimensions) at there names = tt
+  caller-loaded c class (LdcClass name) at there names = tt
 
   formed-can : (c : ClassFile) (class : ℕ) (op : Operation) → class_at p class ≡ Some c → IsLoaded loaded class → IsFormed c op → CanAttempt p loaded op
   formed-can c class (Named n) at there formed = (caller-loaded c class n at there formed.0, formed.1)
@@ -216,6 +240,7 @@ module _ (p : Program) (fit : IsFit p) (loaded : List ℕ) where
   formed-can c class Arraylength at there formed = tt
   formed-can c class (LoadElement k) at there formed = tt
   formed-can c class (StoreElement k) at there formed = tt
+  formed-can c class (LdcString units) at there formed = tt
 
   -- of a method whose class is loaded
   pub can-attempt : (version offset : ℕ) (i : Instruction) → HasClass p loaded version → (original p).at version offset ≡ Some i → CanAttempt p loaded i.operation

@@ -313,8 +313,8 @@ module _ (p : Program) (own built : List ClassFile) (is : StandBehind p own buil
   pub all-built-in : AllByRecursion (IsBuiltIn p) built_in_names
   all-built-in = all-then IsBuiltInName (IsBuiltIn p) built-in built_in_names all-known
 
-  pub built-in-before : HasBuiltIn p (shared_before p).loaded
-  built-in-before class behind within =
+  each-before : (class : ℕ) → user_count p ≤ class → class < length p.classes → IsLoaded (shared_before p).loaded class
+  each-before class behind within =
       let whole = length-all in
       let same = users in
       let k : ℕ = class - length own in
@@ -325,11 +325,14 @@ module _ (p : Program) (own built : List ClassFile) (is : StandBehind p own buil
       ap (λ n. is_among n (built_in_from 0 p.classes)) (let plain : class ≡ 0 + class = omega arith in plain)
       ∙ in-from 0 p.classes class c.0 there (all-at (λ c. has_built_in_name c ≡ true) built k c.0 named-built c.1)
 
+  pub built-in-before : HasBuiltIn p (shared_before p).loaded
+  built-in-before = record { whole = let all = length-all in let few = length-built in omega (arith, all, few); each = each-before }
+
   name-before : (name : List ℕ) (class : ℕ) → IsBuiltInName name → class_named p name ≡ Some class → IsLoaded (shared_before p).loaded class
   name-before name class known found =
       let at = built-in name known in
       let same : at.class ≡ class = some-some at.class class (sym at.found ∙ found) in
-      built-in-before class (subst (λ n. user_count p ≤ n) same at.behind) (named-class (has_name name) p.classes class found)
+      each-before class (subst (λ n. user_count p ≤ n) same at.behind) (named-class (has_name name) p.classes class found)
 
   names-before : (names : List (List ℕ)) → AllByRecursion IsBuiltInName names → AllByRecursion (IsLoaded (shared_before p).loaded) (filter_map (class_named p) names)
   names-before [] each = tt

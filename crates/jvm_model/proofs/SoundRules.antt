@@ -1,44 +1,58 @@
 -- What an instruction that names something gives (JVM Specification 5.4.3, 6.5): what is shared stays sound, and what is invoked or
 -- initialized is of a class that is loaded.
-use Rattle.std.proofs.Common.{◌≡◌, ℕ, zero, suc, ◌+◌, ◌*◌, ◌≤◌, Bool, true, false, List, [], ◌∷◌, ◌++◌, length, ap, sym, subst, refl, ◌∙◌, arith}
+use Rattle.std.proofs.Common.{◌≡◌, ℕ, zero, suc, ◌+◌, ◌*◌, ◌≤◌, ◌<◌, Bool, true, false, List, [], ◌∷◌, ◌++◌, length, ap, sym, subst, refl, ◌∙◌, arith}
 use Rattle.std.proofs.Math.Nat.{mod-add-div'}
 use Rattle.std.proofs.lemmas.List.{append-nil}
-use Rattle.std.specs.Prelude.{◌/◌, ◌%◌, not, codes, drop, map, Option, Some, None, Result, Ok, Err, slice_get, nat_le, nat_lt, ℤ, pos, negsuc, ◌==◌, ◌&&◌, if◌then◌else◌}
+use Rattle.std.proofs.lemmas.Slice.Eq.{bytes_eq-Decides}
+use Rattle.std.specs.Prelude.{◌/◌, ◌%◌, not, codes, drop, map, Option, Some, None, Result, Ok, Err, slice_get, nat_le, nat_lt, ℤ, pos, negsuc, ◌==◌, ◌&&◌, ◌||◌, if◌then◌else◌}
 use Rattle.std.specs.Bool.{beq}
-use Rattle.std.specs.List.{AllByRecursion}
+use Rattle.std.specs.List.{AllByRecursion, list_any}
 use Rattle.std.specs.Option.{option_and_then, option_map, option_map_or, option_to_list}
 use Rattle.heap_objects.specs.declared.datum.Datum.{Datum}
 use Rattle.heap_objects.specs.declared.datum.Datum.TheVariants as datum
 use Rattle.heap_objects.specs.declared.Value.{Value}
 use Rattle.heap_objects.specs.declared.Value.TheVariants.{Int, Long, Ref, Addr}
-use Rattle.heap_objects.specs.Heaps.{HeapView, kind_at, next_number, slot_at, with_array, with_instance, with_slot_at, with_text, with_units_replaced}
+use Rattle.heap_objects.specs.Heaps.{HeapView, kind_at, next_number, slot_at, with_array, with_instance, with_slot_at, with_text}
+use Rattle.const_pool.specs.BuiltIn.{built_in_names}
 use Rattle.const_pool.specs.References.{NameAndType, Reference}
+use Rattle.base_classes.specs.Natives.{native_number}
+use Rattle.native_ops.specs.declared.answer.Answer.{Answer}
+use Rattle.native_ops.specs.declared.answer.Answer.TheVariants as answer
+use Rattle.native_ops.specs.Calls.{answer_by, world_by}
+use Rattle.native_ops.specs.Making.{answer_of_class}
+use Rattle.native_ops.specs.Numbers.{out_of_memory_error}
+use Rattle.native_ops.specs.Worlds as natives
+use Rattle.native_ops.proofs.KindsKept.{class-kept, kinds-kept}
+use Rattle.native_ops.proofs.KindsMade.{AreMade}
 use Rattle.jvm_model.specs.declared.program.Program.{Program}
+use Rattle.jvm_model.specs.ConstantRules.{pushes_class, pushes_object_of}
 use Rattle.jvm_model.specs.CreationRules.{allocates, answers, array_over, casts, casts_to, class_cast, counts_from, counts_of, has_no_instances, instantiation_error, is_text_class, lengths_of, makes_array_of, makes_arrays, makes_by_counts, makes_instance, makes_multi, makes_new, makes_object, slots_of_arrays, tells_instance, with_arrays, zero_of}
-use Rattle.jvm_model.specs.Data.{Locals, Operands, MethodPlace, Phase, Fresh, Running, Ready, Erroneous, Shared, Outcome, GoesOn, Next, Invokes, Initializes, Throws, Raises, Breaks, Done}
+use Rattle.jvm_model.specs.Data.{Locals, Operands, MethodPlace, Phase, Fresh, Running, Ready, Erroneous, Shared, World, Outcome, GoesOn, Next, Invokes, Initializes, Throws, Raises, Breaks, Done}
 use Rattle.jvm_model.specs.FieldRules.{Putting, field_owner, gets_instance, gets_of, gets_static, has_field, held_of, is_static_field, kind_by, named_field, pushes_static, puts_instance, puts_into, puts_static, putting_of, sets_static, slot_of, static_field}
-use Rattle.jvm_model.specs.InvocationRules.{Selecting, Virtual, OfInterface, Special, abstract_method, arguments_by, does_built_in, initialized_object, initializes_object, invokes_instance, invokes_number, invokes_on, invokes_selected, invokes_static_method, invokes_with_static, is_plain_initializer, named_method, names_interface, not_of_class, prints_line, receiver_in, reference_to, runs_built_in, selected_by, unsatisfied_link}
+use Rattle.jvm_model.specs.InvocationRules.{Selecting, Virtual, OfInterface, Special, abstract_method, arguments_by, invokes_instance, invokes_number, invokes_on, invokes_selected, invokes_static_method, invokes_with_static, named_method, names_interface, not_of_class, receiver_in, reference_to, selected_by, unsatisfied_link}
 use Rattle.jvm_model.specs.KindNumbers.{user_count}
 use Rattle.jvm_model.specs.Kinds.{kind_named, meaning_of}
 use Rattle.jvm_model.specs.Layouts.{layout}
 use Rattle.jvm_model.specs.Load.{Fault, NoClass, Circular, Incompatible, error_of, load_of}
 use Rattle.jvm_model.specs.LocalRules.{pushes, replaces}
-use Rattle.jvm_model.specs.Lookup.{MemberPlace, Fails, first_in, field_at, found_or, incompatible_change, is_below, is_interface, method_at, method_order, resolved_field, resolved_method, superclasses, superinterfaces, supertypes}
-use Rattle.jvm_model.specs.Naming.{◌>>=◌, Naming, New, Getfield, Putfield, Getstatic, Putstatic, Invokevirtual, Invokespecial, Invokestatic, Invokeinterface, Checkcast, Instanceof, Anewarray, Multianewarray, extends, found, is_below_kind, is_instance, is_null, kind_unless, newly_loaded, receiver, resolved_kind, resolved_name, resolves, unless_refused, where_fitting}
+use Rattle.jvm_model.specs.Lookup.{MemberPlace, Fails, first_in, field_at, found_or, incompatible_change, is_interface, method_at, method_order, resolved_field, resolved_method, superclasses, superinterfaces, supertypes}
+use Rattle.jvm_model.specs.Naming.{◌>>=◌, Naming, New, Getfield, Putfield, Getstatic, Putstatic, Invokevirtual, Invokespecial, Invokestatic, Invokeinterface, Checkcast, Instanceof, Anewarray, Multianewarray, LdcClass, found, is_below_kind, is_instance, is_null, kind_unless, newly_loaded, receiver, resolved_kind, resolved_name, resolves, unless_refused, where_fitting}
 use Rattle.jvm_model.specs.NamingRules.{does_named}
+use Rattle.jvm_model.specs.NativeRules.{kinds_in, left_by_native, outcome_of, runs_native, runs_number, seen_by_natives, thrown_by}
+use Rattle.jvm_model.specs.Descriptors.{same_text}
 use Rattle.jvm_model.specs.ObjectRules.{done, makes}
 use Rattle.jvm_model.specs.Programs.{class_named, name_at, number_from, number_of_method, same_place, super_of}
-use Rattle.jvm_model.specs.Rules.{initialized, is_println, when_ready}
+use Rattle.jvm_model.specs.Rules.{initialized, when_ready}
 use Rattle.jvm_model.specs.Selection.{candidate, is_abstract, is_static, nearest}
-use Rattle.jvm_model.specs.SharedState.{class_of, class_of_kind, negative_array_size, no_class_definition, no_such_field, no_such_method, null, null_pointer, phase_of, static_at, throwable}
+use Rattle.jvm_model.specs.SharedState.{class_of, class_of_kind, negative_array_size, no_class_definition, no_such_field, no_such_method, null_pointer, phase_of, static_at}
 use Rattle.jvm_model.specs.Sound.{HasClass, HasLoadedCaller, IsBuiltInName, IsFit, IsLoaded, IsSoundDone, IsSoundOutcome, IsSoundShared, IsUsable}
 use Rattle.jvm_model.specs.SuperCalls.{invoked_special, is_inherited, is_initializer, nearest_above, taken}
 use Rattle.jvm_model.specs.Values.{as_value, int_of, ref_of}
 use Rattle.jvm_model.specs.Lines.{has_dimensions}
 use Rattle.jvm_model.proofs.LoadsAgain.{newly-loaded}
 use Rattle.jvm_model.proofs.SoundClasses.{all-both, superclasses-loaded, superinterfaces-loaded, supertypes-loaded}
-use Rattle.jvm_model.proofs.SoundKinds.{built-in-class, built-in-there, has-root, name-usable, over}
-use Rattle.jvm_model.proofs.SoundObjects.{AreSound, object-usable, objects-array, objects-arrays, objects-instance, objects-slot, objects-text, objects-units, static-sound, with-heap}
+use Rattle.jvm_model.proofs.SoundKinds.{behind-usable, built-in-class, built-in-there, has-root, name-usable, of-primitive, over}
+use Rattle.jvm_model.proofs.SoundObjects.{AreSound, object-usable, objects-array, objects-arrays, objects-instance, objects-slot, objects-text, static-sound, with-heap}
 
 false_true : false ≡ true → ⊥
 false_true e = cc
@@ -104,7 +118,10 @@ first-loaded loaded at (class ∷ rest) m each e = by (at class) e (first-loaded
 abbrev IsFoundLoaded : List ℕ → Option MemberPlace → Type 0
 IsFoundLoaded loaded o = (m : MemberPlace) → o ≡ Some m → IsLoaded loaded m.class
 
-module _ (p : Program) (fit : IsFit p) (s : Shared) (is : IsSoundShared p s) where
+module _ (w : World) (fit : IsFit w.program) (s : Shared) (is : IsSoundShared w.program s) where
+  abbrev p : Program
+  p = w.program
+
   -- ---- refusals, and what is gone on with
 
   abbrev Good : {A : Type 0} → (A → Type 0) → Result A Outcome → Type 0
@@ -425,57 +442,91 @@ module _ (p : Program) (fit : IsFit p) (s : Shared) (is : IsSoundShared p s) whe
 
   -- ---- what is invoked
 
-  initialized-objects : (class object : ℕ) → AreSound p s.loaded (initialized_object p class object s.heap)
-  initialized-objects class object = by (is_text_class p class) (is_below p class throwable)
+  -- the built-in class at this place is loaded, so what has its kind is usable
+  place-usable : (place : ℕ) → place < 53 → IsUsable p s.loaded (16 + place)
+  place-usable place few = behind-usable p fit s.loaded is.built_in place few
+
+  made-usable : AreMade (IsUsable p s.loaded)
+  made-usable = record {
+    text = place-usable 7 (omega arith);
+    class = place-usable 6 (omega arith);
+    chars = of-primitive p s.loaded root 1 5 (omega arith) (omega arith);
+    integer = place-usable 14 (omega arith);
+    long = place-usable 15 (omega arith);
+    character = place-usable 16 (omega arith);
+    boolean = place-usable 17 (omega arith);
+  }
+
+  same-refl : (xs : List ℕ) → same_text xs xs ≡ true
+  same-refl xs = (bytes_eq-Decides xs xs).1 refl
+
+  name-known : (names : List (List ℕ)) (place : ℕ) (name : List ℕ) → slice_get names place ≡ Some name → list_any (same_text name) names ≡ true
+  name-known [] place name e = absurd (none-some name e)
+  name-known (x ∷ names) zero name e =
+      ap (λ y. same_text name y || list_any (same_text name) names) (some-some x name e) ∙ ap (λ b. b || list_any (same_text name) names) (same-refl name)
+  name-known (x ∷ names) (suc place) name e = by (same_text name x) (name-known names place name e)
     where
-      by : (a b : Bool) → AreSound p s.loaded (if a then with_units_replaced object [] s.heap
-          else if b then with_slot_at object 0 null (with_slot_at object 1 null s.heap) else s.heap)
-      by true b = objects-units p s.loaded object [] s.heap is.objects
-      by false true =
-          objects-slot p s.loaded object 0 null (with_slot_at object 1 null s.heap) (objects-slot p s.loaded object 1 null s.heap is.objects)
-      by false false = is.objects
+      by : (b : Bool) → list_any (same_text name) names ≡ true → (b || list_any (same_text name) names) ≡ true
+      by true rest = refl
+      by false rest = rest
 
-  line-fine : (args : List Datum) (l : Locals) (below : Operands) → Fine (prints_line args s l below)
-  line-fine [] l below = quiet (Breaks false) tt
-  line-fine (datum.Int n ∷ more) l below = quiet (Breaks false) tt
-  line-fine (datum.Long n ∷ more) l below = quiet (Breaks false) tt
-  line-fine (datum.Ref object ∷ []) l below = quiet (Breaks false) tt
-  line-fine (datum.Ref object ∷ datum.Long n ∷ more) l below = quiet (Breaks false) tt
-  line-fine (datum.Ref object ∷ datum.Ref r ∷ more) l below = quiet (Breaks false) tt
-  line-fine (datum.Ref object ∷ datum.Int n ∷ []) l below = record { loaded_same = refl; shared = is; outcome = tt }
-  line-fine (datum.Ref object ∷ datum.Int n ∷ d ∷ more) l below = quiet (Breaks false) tt
+  named-sound : (o : Option (List ℕ)) (place : ℕ) → slice_get built_in_names place ≡ o
+      → IsSoundOutcome p s.loaded (option_map_or (λ name. Raises name None) o (Breaks false))
+  named-sound None place e = tt
+  named-sound (Some name) place e = name-known built_in_names place name e
 
-  built-in-fine : (m : MemberPlace) (r : Option Reference) (args : List Datum) (l : Locals) (below : Operands) → Fine (runs_built_in p m r args s l below)
-  built-in-fine m None args l below = quiet (Breaks false) tt
-  built-in-fine m (Some r) args l below =
-      chosen (extends p (class_of p s (receiver_in args)) m.class) (does_built_in p r m.class args s l below) (done s (Breaks false))
-      (chosen (is_plain_initializer r.member) (initializes_object p m.class (receiver_in args) s l below)
-      (if is_println r then prints_line args s l below else done s (Breaks false))
-      (with-objects (initialized_object p m.class (receiver_in args) s.heap) (GoesOn l below Next) [] (initialized-objects m.class (receiver_in args)) tt)
-      (chosen (is_println r) (prints_line args s l below) (done s (Breaks false)) (line-fine args l below) (quiet (Breaks false) tt)))
-      (quiet (Breaks false) tt)
+  thrown-sound : (class : ℕ) → IsSoundOutcome p s.loaded (thrown_by class)
+  thrown-sound class = by (class == out_of_memory_error)
+    where
+      by : (b : Bool) → IsSoundOutcome p s.loaded (let q : Outcome = if b then Throws 1 else option_map_or (λ name. Raises name None) (slice_get built_in_names class) (Breaks false) in q)
+      by true = tt
+      by false = named-sound (slice_get built_in_names class) class refl
+
+  answer-sound : (a : Answer) (l : Locals) (below : Operands) → IsSoundOutcome p s.loaded (outcome_of a l below)
+  answer-sound (answer.Value d) l below = tt
+  answer-sound (answer.Throws class) l below = thrown-sound class
+  answer-sound (answer.Exit status) l below = tt
+  answer-sound answer.Bad l below = tt
+
+  left-sound : (left : natives.World) → AreSound p s.loaded left.heap → IsSoundShared p (left_by_native left s)
+  left-sound left are = record { built_in = is.built_in; above = is.above; objects = are }
+
+  number-runs-fine : (number : ℕ) (args : List Datum) (l : Locals) (below : Operands) → Fine (runs_number w number args s l below)
+  number-runs-fine number args l below = record {
+    loaded_same = refl;
+    shared = left-sound (world_by number (kinds_in w.program s.loaded) args (seen_by_natives w s))
+        (kinds-kept (IsUsable p s.loaded) number (kinds_in w.program s.loaded) args (seen_by_natives w s) made-usable is.objects);
+    outcome = answer-sound (answer_by number (kinds_in w.program s.loaded) args (seen_by_natives w s)) l below;
+  }
+
+  native-fine : (r : Option Reference) (args : List Datum) (l : Locals) (below : Operands) → Fine (runs_native w r args s l below)
+  native-fine r args l below = by (option_and_then native_number r)
+    where
+      by : (o : Option ℕ) → Fine (option_map_or (λ number. runs_number w number args s l below) o (done s (Breaks false)))
+      by None = quiet (Breaks false) tt
+      by (Some number) = number-runs-fine number args l below
 
   number-fine : (m : MemberPlace) (o : Option ℕ) (args : List Datum) (l : Locals) (below : Operands) → InLoaded m → number_of_method p m.class m.position ≡ o
-      → Fine (invokes_number p m o args s l below)
+      → Fine (invokes_number w m o args s l below)
   number-fine m (Some n) args l below there e = quiet (Invokes n args below) (number-class p m.class m.position n s.loaded e there)
   number-fine m None args l below there e =
-      chosen (nat_lt m.class (user_count p)) (done s (Raises unsatisfied_link None)) (runs_built_in p m (reference_to p m) args s l below)
-      (quiet (Raises unsatisfied_link None) refl) (built-in-fine m (reference_to p m) args l below)
+      chosen (nat_lt m.class (user_count p)) (done s (Raises unsatisfied_link None)) (runs_native w (reference_to p m) args s l below)
+      (quiet (Raises unsatisfied_link None) refl) (native-fine (reference_to p m) args l below)
 
-  selected-fine : (o : Option MemberPlace) (args : List Datum) (l : Locals) (below : Operands) → IsFoundLoaded s.loaded o → Fine (invokes_selected p o args s l below)
+  selected-fine : (o : Option MemberPlace) (args : List Datum) (l : Locals) (below : Operands) → IsFoundLoaded s.loaded o → Fine (invokes_selected w o args s l below)
   selected-fine None args l below there = quiet (Raises abstract_method None) refl
   selected-fine (Some m) args l below there =
-      chosen (is_abstract p m) (done s (Raises abstract_method None)) (invokes_number p m (number_of_method p m.class m.position) args s l below)
+      chosen (is_abstract p m) (done s (Raises abstract_method None)) (invokes_number w m (number_of_method p m.class m.position) args s l below)
       (quiet (Raises abstract_method None) refl)
       (number-fine m (number_of_method p m.class m.position) args l below (there m refl) refl)
 
-  static-fine : (r : Reference) (l : Locals) (o : Operands) → Whole r.class → Fine (invokes_static_method p r s l o)
+  static-fine : (r : Reference) (l : Locals) (o : Operands) → Whole r.class → Fine (invokes_static_method w r s l o)
   static-fine r l o whole =
-      unless-fine InLoaded (named_method p s.loaded false true r) (λ m. initialized p m.class s (invokes_with_static p m (arguments_by false r.member o) s l o))
+      unless-fine InLoaded (named_method p s.loaded false true r) (λ m. initialized p m.class s (invokes_with_static w m (arguments_by false r.member o) s l o))
       (named-method false true r whole)
-      (λ m there. initialized-fine m.class (invokes_with_static p m (arguments_by false r.member o) s l o) there (by m there (arguments_by false r.member o)))
+      (λ m there. initialized-fine m.class (invokes_with_static w m (arguments_by false r.member o) s l o) there (by m there (arguments_by false r.member o)))
     where
-      by : (m : MemberPlace) → InLoaded m → (args : Option (List Datum)) → Fine (invokes_with_static p m args s l o)
+      by : (m : MemberPlace) → InLoaded m → (args : Option (List Datum)) → Fine (invokes_with_static w m args s l o)
       by m there None = quiet (Breaks false) tt
       by m there (Some args) =
           selected-fine (Some m) args l (drop (length args) o) (λ found e. subst InLoaded (some-some m found e) there)
@@ -536,22 +587,40 @@ module _ (p : Program) (fit : IsFit p) (s : Shared) (is : IsSoundShared p s) whe
       by (Some kind) is_kind e = (object-usable p s.loaded s.heap object kind is.objects is_kind).of_class
 
   on-fine : (by : Selecting) (r : Reference) (m : MemberPlace) (args : Option (List Datum)) (l : Locals) (o : Operands) → HasCaller by → InLoaded m
-      → Fine (invokes_on p by r m args s l o)
+      → Fine (invokes_on w by r m args s l o)
   on-fine by r m None l o current there = quiet (Breaks false) tt
   on-fine by r m (Some args) l o current there =
       unless-fine (λ x. (x ≡ receiver_in args) × (is_instance p s.heap (receiver_in args) r.class ≡ true))
       (receiver (receiver_in args) (is_instance p s.heap (receiver_in args) r.class) (not_of_class by))
-      (λ object. invokes_selected p (selected_by p by m (class_of p s object)) args s l (drop (length args) o))
+      (λ object. invokes_selected w (selected_by p by m (class_of p s object)) args s l (drop (length args) o))
       (receiver-good (receiver_in args) (is_instance p s.heap (receiver_in args) r.class) (not_of_class by) (not-of-class by))
       (λ object same. selected-fine (selected_by p by m (class_of p s object)) args l (drop (length args) o)
       (by-loaded by m (class_of p s object) current there
       (subst (λ x. IsLoaded s.loaded (class_of p s x)) (sym same.0) (receiver-loaded (receiver_in args) r.class same.1))))
 
-  invoked-fine : (by : Selecting) (r : Reference) (l : Locals) (o : Operands) → HasCaller by → Whole r.class → Fine (invokes_instance p by r s l o)
+  invoked-fine : (by : Selecting) (r : Reference) (l : Locals) (o : Operands) → HasCaller by → Whole r.class → Fine (invokes_instance w by r s l o)
   invoked-fine by r l o current whole =
-      unless-fine InLoaded (named_method p s.loaded (names_interface by) false r) (λ m. invokes_on p by r m (arguments_by true r.member o) s l o)
+      unless-fine InLoaded (named_method p s.loaded (names_interface by) false r) (λ m. invokes_on w by r m (arguments_by true r.member o) s l o)
       (named-method (names_interface by) false r whole)
       (λ m there. on-fine by r m (arguments_by true r.member o) l o current there)
+
+  -- ---- ldc of a Class
+
+  object-of-fine : (kind : ℕ) (l : Locals) (o : Operands) → Fine (pushes_object_of kind s l o)
+  object-of-fine kind l o = record {
+    loaded_same = refl;
+    shared = record {
+      built_in = is.built_in;
+      above = is.above;
+      objects = class-kept (IsUsable p s.loaded) kind s.made s.heap made-usable is.objects;
+    };
+    outcome = answer-sound (answer_of_class kind s.made s.heap) l o;
+  }
+
+  class-object-fine : (name : List ℕ) (l : Locals) (o : Operands) → Whole name → Fine (pushes_class p name s l o)
+  class-object-fine name l o whole =
+      unless-fine (Resolved name) (resolved_kind p s.loaded name) (λ kind. pushes_object_of kind s l o) (kind-found name whole)
+      (λ kind usable. object-of-fine kind l o)
 
   -- ---- every instruction that names something
 
@@ -561,7 +630,7 @@ module _ (p : Program) (fit : IsFit p) (s : Shared) (is : IsSoundShared p s) whe
 
   -- where all is loaded that it names, and it is resolved
   rule-fine : (n : Naming) (l : Locals) (o : Operands) → HasLoadedCaller p s.loaded n → has_dimensions n ≡ true → (resolves n o ≡ true → Whole (resolved_name n))
-      → Fine (does_named p n s l o)
+      → Fine (does_named w n s l o)
   rule-fine (New name) l o current deep whole = new-fine name l o (whole refl)
   rule-fine (Getfield r) l o current deep whole = get-fine r l o (whole refl)
   rule-fine (Putfield r) l o current deep whole = put-fine r l o (whole refl)
@@ -574,18 +643,19 @@ module _ (p : Program) (fit : IsFit p) (s : Shared) (is : IsSoundShared p s) whe
   rule-fine (Checkcast name) l o current deep whole = cast-fine name l o
   rule-fine (Instanceof name) l o current deep whole = instance-fine name l o
   rule-fine (Anewarray name) l o current deep whole = array-of-fine name l o (whole refl)
+  rule-fine (LdcClass name) l o current deep whole = class-object-fine name l o (whole refl)
   rule-fine (Multianewarray name dimensions) l o current deep whole =
       multi-fine name dimensions l o (whole refl) (second_of_and (nat_le 1 dimensions) (nat_le dimensions (meaning_of name).dimensions) deep)
 
   -- where the attempt loads nothing more
   pub sound-named : (n : Naming) (l : Locals) (o : Operands) → HasLoadedCaller p s.loaded n → has_dimensions n ≡ true → newly_loaded p s.loaded n o ≡ []
-      → IsSoundDone p s.loaded (does_named p n s l o)
+      → IsSoundDone p s.loaded (does_named w n s l o)
   sound-named n l o current deep nothing =
       rule-fine n l o current deep (λ does. sym (newly-loaded p s.loaded n o does) ∙ (ap (λ more. s.loaded ++ more) nothing ∙ append-nil s.loaded))
 
 -- What is invoked is of a class that is loaded.
-pub callee-loaded : (p : Program) (n : Naming) (s : Shared) (l : Locals) (o : Operands) (method : ℕ) (args : List Datum) (below : Operands) → IsFit p
-    → IsSoundShared p s → HasLoadedCaller p s.loaded n → has_dimensions n ≡ true → newly_loaded p s.loaded n o ≡ []
-    → (does_named p n s l o).outcome ≡ Invokes method args below → HasClass p s.loaded method
-callee-loaded p n s l o method args below fit is current deep nothing e =
-    subst (IsSoundOutcome p s.loaded) e (sound-named p fit s is n l o current deep nothing).outcome
+pub callee-loaded : (w : World) (n : Naming) (s : Shared) (l : Locals) (o : Operands) (method : ℕ) (args : List Datum) (below : Operands) → IsFit w.program
+    → IsSoundShared w.program s → HasLoadedCaller w.program s.loaded n → has_dimensions n ≡ true → newly_loaded w.program s.loaded n o ≡ []
+    → (does_named w n s l o).outcome ≡ Invokes method args below → HasClass w.program s.loaded method
+callee-loaded w n s l o method args below fit is current deep nothing e =
+    subst (IsSoundOutcome w.program s.loaded) e (sound-named w fit s is n l o current deep nothing).outcome

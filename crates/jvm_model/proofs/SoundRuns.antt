@@ -6,7 +6,7 @@ use Rattle.std.specs.Prelude.{drop, length, Option, Some, None, unwrap_or, if◌
 use Rattle.std.specs.List.{AllByRecursion}
 use Rattle.std.specs.Option.{IfSome}
 use Rattle.jvm_model.specs.Applies.{applies, still}
-use Rattle.jvm_model.specs.Data.{Operands, Frame, Entry, Active, Initializing, Ending, Uncaught, Breaks, Shared, State, Turn, Instruction, Done, Operation, Within, Named, Athrow, Monitor, Newarray, Arraylength, LoadElement, StoreElement, Program, World}
+use Rattle.jvm_model.specs.Data.{Operands, Frame, Entry, Active, Initializing, Ending, Uncaught, Breaks, Shared, State, Turn, Instruction, Done, Operation, Within, Named, Athrow, Monitor, Newarray, Arraylength, LoadElement, StoreElement, LdcString, Program, World}
 use Rattle.jvm_model.specs.Does.{does, loads}
 use Rattle.jvm_model.specs.Kinds.{meaning_of}
 use Rattle.jvm_model.specs.Load.{Fault, NoClass, Circular, Incompatible, error_of, load_of}
@@ -14,8 +14,8 @@ use Rattle.jvm_model.specs.Moves.{move, moves, settled, then_turn}
 use Rattle.jvm_model.specs.Naming.{New, message_of, newly_loaded, resolved_name, resolves}
 use Rattle.jvm_model.specs.Originals.{original}
 use Rattle.jvm_model.specs.Programs.{name_at}
-use Rattle.jvm_model.specs.Run.{arguments_made, attempt, before, main_class, main_loading, main_loads, start, starts, starts_unless, starts_with, step, steps_at, steps_by, steps_on, tries, with_loaded}
-use Rattle.jvm_model.specs.SharedState.{class_of, null, raised, shared_before, with_arguments}
+use Rattle.jvm_model.specs.Run.{arguments_made, attempt, before, main_class, main_classes, main_loading, main_loads, opened, start, starts, starts_if, starts_unless, starts_with, step, steps_at, steps_by, steps_on, tries, with_loaded}
+use Rattle.jvm_model.specs.SharedState.{arguments_fit, class_of, null, raised, shared_before, with_arguments}
 use Rattle.jvm_model.specs.Sound.{CanAttempt, HasClass, HasSupertypes, IsBuiltInName, IsFit, IsLoaded, IsSound, IsSoundEntry, IsSoundOutcome, IsSoundShared}
 use Rattle.jvm_model.proofs.Attempts.{again-by, loaded-after, with_loaded-shared}
 use Rattle.jvm_model.proofs.LoadsAgain.{newly-again, newly-loaded}
@@ -54,6 +54,7 @@ loads-supertypes w (Newarray code) s o above = subst (HasSupertypes w.program) (
 loads-supertypes w Arraylength s o above = subst (HasSupertypes w.program) (sym (append-nil s.loaded)) above
 loads-supertypes w (LoadElement k) s o above = subst (HasSupertypes w.program) (sym (append-nil s.loaded)) above
 loads-supertypes w (StoreElement k) s o above = subst (HasSupertypes w.program) (sym (append-nil s.loaded)) above
+loads-supertypes w (LdcString units) s o above = subst (HasSupertypes w.program) (sym (append-nil s.loaded)) above
 
 -- what is loaded is looked at alone
 loads-same : (w : World) (op : Operation) (a b : Shared) (o : Operands) → a.loaded ≡ b.loaded → loads w op a o ≡ loads w op b o
@@ -65,6 +66,7 @@ loads-same w (Newarray code) a b o e = refl
 loads-same w Arraylength a b o e = refl
 loads-same w (LoadElement k) a b o e = refl
 loads-same w (StoreElement k) a b o e = refl
+loads-same w (LdcString units) a b o e = refl
 
 -- nothing is left to load then
 pub loads-again : (w : World) (op : Operation) (s : State) (o : Operands) → loads w op (with_loaded (loads w op s.shared o) s).shared o ≡ []
@@ -77,12 +79,16 @@ loads-again w (Newarray code) s o = refl
 loads-again w Arraylength s o = refl
 loads-again w (LoadElement k) s o = refl
 loads-again w (StoreElement k) s o = refl
+loads-again w (LdcString units) s o = refl
 
 shared-more : (p : Program) (classes : List ℕ) (s : State) → HasSupertypes p (s.shared.loaded ++ classes) → IsSoundShared p s.shared
     → IsSoundShared p (with_loaded classes s).shared
 shared-more p [] s above is = is
 shared-more p (c ∷ more) s above is = record {
-  built_in = λ class behind within. among-front class s.shared.loaded (c ∷ more) (is.built_in class behind within);
+  built_in = record {
+    whole = is.built_in.whole;
+    each = λ class behind within. among-front class s.shared.loaded (c ∷ more) (is.built_in.each class behind within);
+  };
   above = above;
   objects = objects-grow p s.shared.loaded (s.shared.loaded ++ c ∷ more) (λ class h. among-front class s.shared.loaded (c ∷ more) h) s.shared.heap.objects is.objects;
 }
@@ -199,7 +205,7 @@ module _ (w : World) (fit : IsFit w.program) where
 
   -- ---- the start
 
-  -- loading the main class was refused
+  -- the arguments do not fit, or loading the main class was refused
   record IsRefused (s : State) : Type 0 where
     object : ℕ
     shared : IsSoundShared w.program s.shared
@@ -211,10 +217,10 @@ module _ (w : World) (fit : IsFit w.program) where
   given = arguments_made w (before w)
 
   abbrev loaded_state : State
-  loaded_state = with_loaded (main_loads w) given
+  loaded_state = opened w
 
   main-loaded : loaded_state.shared.loaded ≡ (main_loading w).loaded
-  main-loaded = with-loaded-is (main_loads w) given ∙ newly-loaded w.program (before w).shared.loaded (New (unwrap_or (name_at w.program (main_class w.program)) [])) [] refl
+  main-loaded = with-loaded-is (main_classes w) given ∙ newly-loaded w.program (before w).shared.loaded (New (unwrap_or (name_at w.program (main_class w.program)) [])) [] refl
 
   given-sound : IsSoundShared w.program given.shared
   given-sound =
@@ -223,8 +229,8 @@ module _ (w : World) (fit : IsFit w.program) where
 
   loaded-sound : IsSoundShared w.program loaded_state.shared
   loaded-sound =
-      shared-more w.program (main_loads w) given
-      (subst (HasSupertypes w.program) (sym (sym (with-loaded-is (main_loads w) given) ∙ main-loaded))
+      shared-more w.program (main_classes w) given
+      (subst (HasSupertypes w.program) (sym (sym (with-loaded-is (main_classes w) given) ∙ main-loaded))
       (load-supertypes w.program (before w).shared.loaded (unwrap_or (name_at w.program (main_class w.program)) []) fit.above))
       given-sound
 
@@ -250,10 +256,15 @@ module _ (w : World) (fit : IsFit w.program) where
   begins (Some fault) is = inr (record {
     object = (raised w loaded_state.shared (error_of fault) (message_of fault)).reference;
     shared = (exception-sound w fit loaded_state.shared loaded-sound (error_of fault) (message_of fault) null (fault-named fault)).shared;
-    stack = ap (λ (s : State). s.stack) (with_loaded-shared (main_loads w) given);
-    ending = ap (λ (s : State). s.ending) (with_loaded-shared (main_loads w) given);
+    stack = ap (λ (s : State). s.stack) (with_loaded-shared (main_classes w) given);
+    ending = ap (λ (s : State). s.ending) (with_loaded-shared (main_classes w) given);
     thrown = refl;
   })
+
+  -- or there is no room for the arguments
+  begins-if : (fits : Bool) → IsSound w.program (starts_if w fits) ⊎ IsRefused (starts_if w fits)
+  begins-if true = begins (main_loading w).fault refl
+  begins-if false = inr (record { object = 1; shared = before-sound w.program fit; stack = refl; ending = refl; thrown = refl })
 
   refused-moves : (s : State) (object : ℕ) (ending : Option Ending) (thrown : Option ℕ) (stack : List Entry) → IsSoundShared w.program s.shared → s.stack ≡ []
       → ending ≡ None → thrown ≡ Some object → stack ≡ []
@@ -295,5 +306,5 @@ module _ (w : World) (fit : IsFit w.program) where
       let first : Turn = still (starts_with w) in
       subst (λ (s : State). IsSound w.program s) (sym (loaded-after (main_loads w) (settled w (original w.program) first)))
       (at-end (settled w (original w.program) first).after
-      (settled-keeps w (original w.program) Either either-moves first (begins (main_loading w).fault refl))
+      (settled-keeps w (original w.program) Either either-moves first (begins-if (arguments_fit w.program)))
       (settled-stops w (original w.program) first))

@@ -1,15 +1,15 @@
 -- A step of a state elsewhere is the step of the state, elsewhere; and where frames and return addresses stand at places,
 -- they do so after the step, since then the state is its own image under `norm`.
-use Rattle.std.proofs.Common.{◌≡◌, ℕ, zero, suc, List, [], ◌∷◌, ◌++◌, Option, Some, None, ◌&&◌, refl, sym, ap, subst, ◌∙◌}
+use Rattle.std.proofs.Common.{◌≡◌, ℕ, zero, suc, Bool, true, false, List, [], ◌∷◌, ◌++◌, Option, Some, None, ◌&&◌, refl, sym, ap, subst, ◌∙◌}
 use Rattle.std.specs.Option.{option_map, option_map_or}
 use Rattle.std.proofs.lemmas.Option.{same_Some}
 use Rattle.jvm_model.specs.Data.{Locals, Operands, Frame, Entry, Active, Initializing, Shared, Ending, State, Turn, Operation, Instruction, Text, Outcome, Initializes, Done, World}
-use Rattle.jvm_model.specs.SharedState.{phase_of}
+use Rattle.jvm_model.specs.SharedState.{arguments_fit, phase_of}
 use Rattle.jvm_model.specs.Does.{does, loads}
 use Rattle.jvm_model.specs.Load.{Fault}
 use Rattle.jvm_model.specs.Applies.{still, applies}
 use Rattle.jvm_model.specs.Moves.{move, left, then_turn, settles, settled}
-use Rattle.jvm_model.specs.Run.{tries, attempt, starts, is_ready, is_quiet, goes_on, goes_again, steps_by, with_loaded, loaded_turn, steps_at, steps_on, step, before, arguments_made, main_loading, main_loads, starts_unless, starts_with, start, turn_in, turn_in-zero, turn_in-suc}
+use Rattle.jvm_model.specs.Run.{tries, attempt, starts, is_ready, is_quiet, goes_on, goes_again, steps_by, with_loaded, loaded_turn, steps_at, steps_on, step, before, arguments_made, main_loading, main_classes, main_loads, starts_unless, opened, starts_if, starts_with, start, turn_in, turn_in-zero, turn_in-suc}
 use Rattle.jvm_model.specs.Moved.{Moving, moved_locals, moved_operands, moved_outcome, moved_done, moved_frame, moved_stack, moved, moved_turn, moved_instruction, IsPlace, ArePlaces, Agrees, self, IsPlaced}
 use Rattle.jvm_model.proofs.Operations.{does-moves, loads-moves}
 use Rattle.jvm_model.proofs.AppliesMoves.{applies-moves, chosen_turn-moves}
@@ -196,10 +196,12 @@ module _ (m : Moving) (w : World) where
   loaded-still [] s still = still
   loaded-still (c ∷ more) s still = still
 
+  if-still : (fits : Bool) → moved m (starts_if w fits) ≡ starts_if w fits
+  if-still true = unless-still (main_loading w).fault (opened w) (loaded-still (main_classes w) (arguments_made w (before w)) refl)
+  if-still false = refl
+
   starts-still : moved m (starts_with w) ≡ starts_with w
-  starts-still =
-      unless-still (main_loading w).fault (with_loaded (main_loads w) (arguments_made w (before w)))
-      (loaded-still (main_loads w) (arguments_made w (before w)) refl)
+  starts-still = if-still (arguments_fit w.program)
 
 pub start-moves : (norm : ℕ → ℕ → ℕ) (w : World) (m : Moving) (t u : Text) → Agrees norm (self norm) t t → Agrees norm m t u → start w u ≡ moved_turn m (start w t)
 start-moves norm w m t u own agrees =

@@ -5,6 +5,15 @@ use Rattle.std.specs.Int.{int_wrap}
 use Rattle.op_table.specs.Opcodes.{row_of, groups}
 use Rattle.code_model.specs.Instructions.{instruction_at}
 use Rattle.code_model.specs.Reading.{read_instruction, behind_opcode_at, operand_at, value_at, index_at, signed_at, number_at}
+use Rattle.base_classes.specs.BuiltInClasses.{built_in_classes}
+use Rattle.base_classes.specs.ObjectClasses.{object_classes}
+use Rattle.base_classes.specs.TextClasses.{text_classes}
+use Rattle.base_classes.specs.StreamClasses.{stream_classes}
+use Rattle.base_classes.specs.ValueClasses.{value_classes}
+use Rattle.base_classes.specs.ThrowableClasses.{throwable_classes}
+use Rattle.base_classes.specs.Natives.{native_methods}
+use Rattle.native_ops.specs.KindsViews.{is_among}
+use Rattle.native_ops.specs.Rows.{rows as native_rows}
 use Rattle.jvm_model.specs.declared.event.Act.{Act}
 use Rattle.jvm_model.specs.declared.event.EventKind.TheVariants as kind
 use Rattle.jvm_model.specs.Data.{Change, Loads, Began, Left, Unwound}
@@ -30,19 +39,19 @@ pub after_all_steps : trace plain 9 ≡ record {
   activations = record { method = 1; parent = None; begin = 0; «end» = Some 9 } ∷ record { method = 0; parent = Some 0; begin = 3; «end» = Some 7 } ∷ [];
   live = [];
 }
-unfolding trace_in turn_in instruction_at read_instruction behind_opcode_at operand_at value_at index_at signed_at number_at row_of groups family_of rows int_wrap
+unfolding trace_in turn_in instruction_at read_instruction behind_opcode_at operand_at value_at index_at signed_at number_at row_of groups family_of rows native_rows int_wrap native_methods built_in_classes object_classes text_classes stream_classes value_classes throwable_classes is_among
 after_all_steps = refl
 
 -- ---- events
 
 pub f_as_root : events_of (full_marking (selected 0)) plain 9 ≡ record { kind = kind.Enter; method = 1; clock = 0 } ∷ record { kind = kind.Root; method = 0; clock = 3 }
     ∷ record { kind = kind.Leave; method = 0; clock = 7 } ∷ record { kind = kind.Leave; method = 1; clock = 9 } ∷ []
-unfolding events_of trace_in turn_in instruction_at read_instruction behind_opcode_at operand_at value_at index_at signed_at number_at row_of groups family_of rows int_wrap
+unfolding events_of trace_in turn_in instruction_at read_instruction behind_opcode_at operand_at value_at index_at signed_at number_at row_of groups family_of rows native_rows int_wrap native_methods built_in_classes object_classes text_classes stream_classes value_classes throwable_classes is_among
 f_as_root = refl
 
 pub main_as_root : events_of (full_marking (selected 1)) plain 9 ≡ record { kind = kind.Root; method = 1; clock = 0 } ∷ record { kind = kind.Enter; method = 0; clock = 3 }
     ∷ record { kind = kind.Leave; method = 0; clock = 7 } ∷ record { kind = kind.Leave; method = 1; clock = 9 } ∷ []
-unfolding events_of trace_in turn_in instruction_at read_instruction behind_opcode_at operand_at value_at index_at signed_at number_at row_of groups family_of rows int_wrap
+unfolding events_of trace_in turn_in instruction_at read_instruction behind_opcode_at operand_at value_at index_at signed_at number_at row_of groups family_of rows native_rows int_wrap native_methods built_in_classes object_classes text_classes stream_classes value_classes throwable_classes is_among
 main_as_root = refl
 
 -- ---- projections
@@ -64,16 +73,16 @@ unfolding paths_made trace_in turn_in instruction_at read_instruction behind_opc
 f_when_left = refl
 
 pub f_at_the_end : projection (selected 0) plain 9 ≡ record { path = 0 ∷ []; calls = 1; own = 4 } ∷ []
-unfolding paths_made trace_in turn_in instruction_at read_instruction behind_opcode_at operand_at value_at index_at signed_at number_at row_of groups family_of rows int_wrap
+unfolding paths_made trace_in turn_in instruction_at read_instruction behind_opcode_at operand_at value_at index_at signed_at number_at row_of groups family_of rows native_rows int_wrap native_methods built_in_classes object_classes text_classes stream_classes value_classes throwable_classes is_among
 f_at_the_end = refl
 
 pub main_at_the_end : projection (selected 1) plain 9 ≡ record { path = 1 ∷ []; calls = 1; own = 5 } ∷ record { path = 1 ∷ 0 ∷ []; calls = 1; own = 4 } ∷ []
-unfolding paths_made trace_in turn_in instruction_at read_instruction behind_opcode_at operand_at value_at index_at signed_at number_at row_of groups family_of rows int_wrap
+unfolding paths_made trace_in turn_in instruction_at read_instruction behind_opcode_at operand_at value_at index_at signed_at number_at row_of groups family_of rows native_rows int_wrap native_methods built_in_classes object_classes text_classes stream_classes value_classes throwable_classes is_among
 main_at_the_end = refl
 
 -- nothing is counted where the run has ended
 pub main_after_the_end : projection (selected 1) plain 12 ≡ record { path = 1 ∷ []; calls = 1; own = 5 } ∷ record { path = 1 ∷ 0 ∷ []; calls = 1; own = 4 } ∷ []
-unfolding paths_made trace_in turn_in instruction_at read_instruction behind_opcode_at operand_at value_at index_at signed_at number_at row_of groups family_of rows int_wrap
+unfolding paths_made trace_in turn_in instruction_at read_instruction behind_opcode_at operand_at value_at index_at signed_at number_at row_of groups family_of rows native_rows int_wrap native_methods built_in_classes object_classes text_classes stream_classes value_classes throwable_classes is_among
 main_after_the_end = refl
 
 -- ---- a throw through two frames, behind which an initializer begins

@@ -10,6 +10,16 @@ use Rattle.const_pool.specs.declared.descriptor.Kind.{Kind}
 use Rattle.const_pool.specs.declared.descriptor.Kind.TheVariants as kind
 use Rattle.code_model.specs.declared.instr.Arg.{Arg}
 use Rattle.code_model.specs.declared.instr.Arg.TheVariants as arg
+use Rattle.jf_bytes.specs.Unicode.{utf8_of}
+use Rattle.base_classes.specs.BuiltInClasses.{built_in_classes}
+use Rattle.base_classes.specs.ObjectClasses.{object_classes}
+use Rattle.base_classes.specs.TextClasses.{text_classes}
+use Rattle.base_classes.specs.StreamClasses.{stream_classes}
+use Rattle.base_classes.specs.ValueClasses.{value_classes}
+use Rattle.base_classes.specs.ThrowableClasses.{throwable_classes}
+use Rattle.base_classes.specs.Natives.{native_methods}
+use Rattle.native_ops.specs.KindsViews.{is_among}
+use Rattle.native_ops.specs.Rows.{rows as native_rows}
 use Rattle.jvm_model.specs.Data.{Datum, Operands, Frame, Active, Initializing, Constants, Finish, Returned, Unverifiable, State, Quotient, Constant, Store, DivisionOfInts, Operation, Within, Athrow, Monitor, Newarray, Arraylength, LoadElement, StoreElement, Instruction, Catcher, Began, Unwound, Turn, World}
 use Rattle.jvm_model.specs.Applies.{begins_beside, invokes, live_in, new_frame}
 use Rattle.jvm_model.specs.Families.{family_of, rows}
@@ -46,12 +56,12 @@ prints_element = main_of
     at 9 3 get_out ∷ at 12 1 aload_0 ∷ at 13 1 (int 1) ∷ at 14 1 (LoadElement kind.Int) ∷ at 15 3 println ∷ at 18 1 returns ∷ []))
     []
 
-pub prints_element-output : (after prints_element 12).output ≡ codes "7\n"
-unfolding turn_in digits
+pub prints_element-output : (after prints_element 12).output ≡ utf8_of (codes "7\n")
+unfolding turn_in digits native_methods native_rows built_in_classes object_classes text_classes stream_classes value_classes throwable_classes is_among
 prints_element-output = refl
 
 pub prints_element-returns : (after prints_element 13).ending ≡ Some Returned
-unfolding turn_in digits
+unfolding turn_in digits native_methods native_rows built_in_classes object_classes text_classes stream_classes value_classes throwable_classes is_among
 prints_element-returns = refl
 
 pub prints_element-length : length_at 6 (after prints_element 7).shared.heap ≡ Some 3

@@ -9,7 +9,7 @@ use Rattle.heap_objects.specs.declared.Value.TheVariants.{Int, Long, Ref}
 use Rattle.heap_objects.specs.Heaps.{HeapView, kind_at, length_at, next_number, slot_at, with_array, with_instance}
 use Rattle.const_pool.specs.References.{Reference}
 use Rattle.jvm_model.specs.CreationRules.{class_cast, instantiation_error}
-use Rattle.jvm_model.specs.Data.{Datum, Operands, Running, Ready, Erroneous, Program, Shared, Next, Outcome, GoesOn, Throws, Raises, Initializes, Breaks}
+use Rattle.jvm_model.specs.Data.{Datum, Operands, Running, Ready, Erroneous, Program, Shared, Next, Outcome, GoesOn, Throws, Raises, Initializes, Breaks, World}
 use Rattle.jvm_model.specs.Kinds.{kind_named}
 use Rattle.jvm_model.specs.Load.{circular_class}
 use Rattle.jvm_model.specs.ObjectRules.{array_kind}
@@ -39,11 +39,15 @@ ready p loaded = record (fresh p loaded) { phases = replicate (length p.classes)
 abbrev pub with_objects : (HeapView → HeapView) → Shared → Shared
 with_objects make s = record s { heap = make s.heap }
 
+-- the program without any input
+abbrev pub world_with : Program → World
+world_with p = record { program = p; input = [] }
+
 abbrev pub asked : Program → Naming → Shared → Operands → Outcome
-asked p n s o = (does_named p n s [] o).outcome
+asked p n s o = (does_named (world_with p) n s [] o).outcome
 
 abbrev pub shared_by : Program → Naming → Shared → Operands → Shared
-shared_by p n s o = (does_named p n s [] o).shared
+shared_by p n s o = (does_named (world_with p) n s [] o).shared
 
 -- without locals
 abbrev pub with_operands : Operands → Outcome
@@ -352,7 +356,7 @@ new-slots = refl
 pub new-fits : asked creating (New b) (used 36) [] ≡ with_operands (Ref 5 ∷ [])
 new-fits = refl
 
-pub new-without_room : does_named creating (New b) (used 37) [] [] ≡ record { shared = used 37; wrote = []; outcome = Throws 1 }
+pub new-without_room : does_named (world_with creating) (New b) (used 37) [] [] ≡ record { shared = used 37; wrote = []; outcome = Throws 1 }
 new-without_room = refl
 
 -- its static initializer runs before it is asked whether it has instances
@@ -474,7 +478,7 @@ pub multianewarray-negative : asked creating cube creatable (Int (negsuc 0) ∷ 
 multianewarray-negative = refl
 
 -- the sum of all is asked first: 3 and 2 * 3 and 6 * 6 slots
-pub multianewarray-without_room : does_named creating cube creatable [] (counts 2 3 5) ≡ record { shared = creatable; wrote = []; outcome = Throws 1 }
+pub multianewarray-without_room : does_named (world_with creating) cube creatable [] (counts 2 3 5) ≡ record { shared = creatable; wrote = []; outcome = Throws 1 }
 multianewarray-without_room = refl
 
 -- ---- checkcast and instanceof: object 5 is of B, and 6 an array of Bs

@@ -6,6 +6,16 @@ use Rattle.std.specs.Option.{option_and_then}
 use Rattle.heap_objects.specs.declared.Value.TheVariants.{Int, Long, Ref}
 use Rattle.heap_objects.specs.Heaps.{HeapView, slot_at, units_at, with_array, with_instance, with_text}
 use Rattle.const_pool.specs.declared.pool.Const.TheVariants as const
+use Rattle.jf_bytes.specs.Unicode.{utf8_of}
+use Rattle.base_classes.specs.BuiltInClasses.{built_in_classes}
+use Rattle.base_classes.specs.ObjectClasses.{object_classes}
+use Rattle.base_classes.specs.TextClasses.{text_classes}
+use Rattle.base_classes.specs.StreamClasses.{stream_classes}
+use Rattle.base_classes.specs.ValueClasses.{value_classes}
+use Rattle.base_classes.specs.ThrowableClasses.{throwable_classes}
+use Rattle.base_classes.specs.Natives.{native_methods}
+use Rattle.native_ops.specs.KindsViews.{is_among}
+use Rattle.native_ops.specs.Rows.{rows}
 use Rattle.jvm_model.specs.Constants.{Setting, sets_constants}
 use Rattle.jvm_model.specs.Data.{Datum, Operands, Program, Shared, Outcome, Invokes, Initializes, Breaks}
 use Rattle.jvm_model.specs.InvocationRules.{abstract_method, named_method, unsatisfied_link}
@@ -17,7 +27,7 @@ use Rattle.jvm_model.specs.Programs.{class_named}
 use Rattle.jvm_model.specs.SharedState.{kind_for, no_such_method, null_pointer, shared_before, string, system, throwable}
 use Rattle.jvm_model.proofs.WorkedLibrary.{class, coded, constant, interface, item, object_name, with_fields, with_methods}
 use Rattle.jvm_model.proofs.WorkedPrograms.{reference}
-use Rattle.jvm_model.proofs.WorkedClasses.{a, b, asked, fresh, long, number, program_of, raises, ready, ref, shared_by, with_objects, with_operands}
+use Rattle.jvm_model.proofs.WorkedClasses.{a, b, asked, fresh, long, number, program_of, raises, ready, ref, shared_by, with_objects, with_operands, world_with}
 
 -- ======== methods
 
@@ -237,10 +247,12 @@ method_of_array = refl
 abbrev pub init_of : List ℕ → Naming
 init_of name = Invokespecial a (reference name (codes "<init>") (codes "()V")) false
 
-pub init-of_object : does_named calling (init_of object_name) callable [] (Ref 5 ∷ Ref 2 ∷ []) ≡ record { shared = callable; wrote = []; outcome = with_operands (Ref 2 ∷ []) }
+pub init-of_object : does_named (world_with calling) (init_of object_name) callable [] (Ref 5 ∷ Ref 2 ∷ []) ≡ record { shared = callable; wrote = []; outcome = with_operands (Ref 2 ∷ []) }
+unfolding native_methods rows built_in_classes object_classes text_classes stream_classes value_classes throwable_classes is_among
 init-of_object = refl
 
 pub init-of_array : of_call (init_of object_name) (Ref 8 ∷ []) ≡ with_operands []
+unfolding native_methods rows built_in_classes object_classes text_classes stream_classes value_classes throwable_classes is_among
 init-of_array = refl
 
 pub init-of_null : of_call (init_of object_name) (Ref 0 ∷ []) ≡ raises null_pointer
@@ -248,30 +260,36 @@ init-of_null = refl
 
 -- a throwable has neither message nor cause then, and a text no units
 pub init-of_throwable : of_call (init_of throwable) (Ref 9 ∷ []) ≡ with_operands []
+unfolding native_methods rows built_in_classes object_classes text_classes stream_classes value_classes throwable_classes is_among
 init-of_throwable = refl
 
 pub init-of_throwable-message : slot_at 9 0 (shared_by calling (init_of throwable) callable (Ref 9 ∷ [])).heap ≡ Some (ref 0)
+unfolding native_methods rows built_in_classes object_classes text_classes stream_classes value_classes throwable_classes is_among
 init-of_throwable-message = refl
 
 pub init-of_throwable-cause : slot_at 9 1 (shared_by calling (init_of throwable) callable (Ref 9 ∷ [])).heap ≡ Some (ref 0)
+unfolding native_methods rows built_in_classes object_classes text_classes stream_classes value_classes throwable_classes is_among
 init-of_throwable-cause = refl
 
 pub init-of_text : units_at 10 (shared_by calling (init_of string) callable (Ref 10 ∷ [])).heap ≡ Some []
+unfolding native_methods rows built_in_classes object_classes text_classes stream_classes value_classes throwable_classes is_among
 init-of_text = refl
 
 abbrev pub call_println : Naming
 call_println = Invokevirtual (reference (codes "java/io/PrintStream") (codes "println") (codes "(I)V"))
 
-pub println-prints : does_named calling call_println callable [] (Int (pos 42) ∷ Ref 4 ∷ Ref 2 ∷ []) ≡ record { shared = callable; wrote = codes "42\n"; outcome = with_operands (Ref 2 ∷ []) }
-unfolding digits
+pub println-prints : does_named (world_with calling) call_println callable [] (Int (pos 42) ∷ Ref 4 ∷ Ref 2 ∷ []) ≡ record { shared = callable; wrote = utf8_of (codes "42\n"); outcome = with_operands (Ref 2 ∷ []) }
+unfolding digits native_methods rows built_in_classes object_classes text_classes stream_classes value_classes throwable_classes is_among
 println-prints = refl
 
 pub println-of_another_class : of_call call_println (Int (pos 42) ∷ Ref 5 ∷ []) ≡ Breaks false
+unfolding native_methods rows built_in_classes object_classes text_classes stream_classes value_classes throwable_classes is_among
 println-of_another_class = refl
 
--- left open so far
-pub hash_code-open : of_call (Invokevirtual (reference a (codes "hashCode") to_int)) (Ref 5 ∷ []) ≡ Breaks false
-hash_code-open = refl
+-- the number of the object
+pub hash_code-of_object : of_call (Invokevirtual (reference a (codes "hashCode") to_int)) (Ref 5 ∷ []) ≡ with_operands (Int (pos 5) ∷ [])
+unfolding native_methods rows built_in_classes object_classes text_classes stream_classes value_classes throwable_classes is_among
+hash_code-of_object = refl
 
 -- ======== constants of static fields: of a boolean the lowest bit, of a byte and a char the low bits, and one String for equal units
 

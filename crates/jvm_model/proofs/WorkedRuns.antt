@@ -6,6 +6,16 @@ use Rattle.const_pool.specs.declared.descriptor.Kind.TheVariants as kind
 use Rattle.heap_objects.specs.declared.Value.TheVariants.{Int, Ref, Addr}
 use Rattle.code_model.specs.declared.laying.Homes.{Homes}
 use Rattle.code_model.specs.Layout.{found_beside}
+use Rattle.jf_bytes.specs.Unicode.{utf8_of}
+use Rattle.base_classes.specs.BuiltInClasses.{built_in_classes}
+use Rattle.base_classes.specs.ObjectClasses.{object_classes}
+use Rattle.base_classes.specs.TextClasses.{text_classes}
+use Rattle.base_classes.specs.StreamClasses.{stream_classes}
+use Rattle.base_classes.specs.ValueClasses.{value_classes}
+use Rattle.base_classes.specs.ThrowableClasses.{throwable_classes}
+use Rattle.base_classes.specs.Natives.{native_methods}
+use Rattle.native_ops.specs.KindsViews.{is_among}
+use Rattle.native_ops.specs.Rows.{rows}
 use Rattle.jvm_model.specs.Data.{Entry, Active, Text, Isub, Store, BinaryOfInts, Iinc, WithZero, Equal, Greater, Branch, Jsr, Ret, Within, Returned}
 use Rattle.jvm_model.specs.declared.event.Act.{Act}
 use Rattle.jvm_model.specs.Run.{turn_in}
@@ -26,15 +36,15 @@ p2 = record {
 }
 
 pub p2-goes_on : (after p2 15).ending ≡ None
-unfolding turn_in digits int_wrap
+unfolding turn_in digits int_wrap native_methods rows built_in_classes object_classes text_classes stream_classes value_classes throwable_classes is_among
 p2-goes_on = refl
 
 pub p2-returns : (after p2 16).ending ≡ Some Returned
-unfolding turn_in digits int_wrap
+unfolding turn_in digits int_wrap native_methods rows built_in_classes object_classes text_classes stream_classes value_classes throwable_classes is_among
 p2-returns = refl
 
-pub p2-output : (after p2 16).output ≡ codes "0\n"
-unfolding turn_in digits int_wrap
+pub p2-output : (after p2 15).output ≡ utf8_of (codes "0\n")
+unfolding turn_in digits int_wrap native_methods rows built_in_classes object_classes text_classes stream_classes value_classes throwable_classes is_among
 p2-output = refl
 
 -- ---- a subroutine: main prints s(41), which adds 1 in it
@@ -48,15 +58,15 @@ p3 = record {
 }
 
 pub p3-goes_on : (after p3 10).ending ≡ None
-unfolding turn_in digits int_wrap
+unfolding turn_in digits int_wrap native_methods rows built_in_classes object_classes text_classes stream_classes value_classes throwable_classes is_among
 p3-goes_on = refl
 
 pub p3-returns : (after p3 11).ending ≡ Some Returned
-unfolding turn_in digits int_wrap
+unfolding turn_in digits int_wrap native_methods rows built_in_classes object_classes text_classes stream_classes value_classes throwable_classes is_among
 p3-returns = refl
 
-pub p3-output : (after p3 11).output ≡ codes "42\n"
-unfolding turn_in digits int_wrap
+pub p3-output : (after p3 10).output ≡ utf8_of (codes "42\n")
+unfolding turn_in digits int_wrap native_methods rows built_in_classes object_classes text_classes stream_classes value_classes throwable_classes is_among
 p3-output = refl
 
 -- ---- the same by homes: s behind an entry probe, with a leave probe before its return; main as it was
@@ -87,11 +97,11 @@ unfolding turn_in int_wrap
 p3-moved_stack = refl
 
 pub p3-laid_returns : (turn_in (world_by p3) p3_laid 11).after.ending ≡ Some Returned
-unfolding turn_in digits int_wrap
+unfolding turn_in digits int_wrap native_methods rows built_in_classes object_classes text_classes stream_classes value_classes throwable_classes is_among
 p3-laid_returns = refl
 
-pub p3-laid_output : (turn_in (world_by p3) p3_laid 11).after.output ≡ codes "42\n"
-unfolding turn_in digits int_wrap
+pub p3-laid_output : (turn_in (world_by p3) p3_laid 10).after.output ≡ utf8_of (codes "42\n")
+unfolding turn_in digits int_wrap native_methods rows built_in_classes object_classes text_classes stream_classes value_classes throwable_classes is_among
 p3-laid_output = refl
 
 -- ---- recursion: main calls r(2), which calls itself down to 0

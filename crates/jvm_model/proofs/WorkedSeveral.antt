@@ -6,6 +6,16 @@ use Rattle.heap_objects.specs.Heaps.{slot_at, units_at}
 use Rattle.heap_objects.specs.declared.datum.Datum.TheVariants as datum
 use Rattle.heap_objects.specs.declared.Value.TheVariants.{Int, Ref}
 use Rattle.const_pool.specs.declared.pool.Const.TheVariants as const
+use Rattle.jf_bytes.specs.Unicode.{utf8_of}
+use Rattle.base_classes.specs.BuiltInClasses.{built_in_classes}
+use Rattle.base_classes.specs.ObjectClasses.{object_classes}
+use Rattle.base_classes.specs.TextClasses.{text_classes}
+use Rattle.base_classes.specs.StreamClasses.{stream_classes}
+use Rattle.base_classes.specs.ValueClasses.{value_classes}
+use Rattle.base_classes.specs.ThrowableClasses.{throwable_classes}
+use Rattle.base_classes.specs.Natives.{native_methods}
+use Rattle.native_ops.specs.KindsViews.{is_among}
+use Rattle.native_ops.specs.Rows.{rows}
 use Rattle.jvm_model.specs.Data.{Dup, Arrange, BinaryOfInts, Iadd, WithZero, Equal, Branch, Within, Athrow, Fresh, Ready, Erroneous, Returned, Loads, Began, Unwound}
 use Rattle.jvm_model.specs.Load.{circular_class}
 use Rattle.jvm_model.specs.Lookup.{incompatible_change}
@@ -46,15 +56,15 @@ unfolding turn_in
 two-loads = refl
 
 two-goes_on : (after two 8).ending ≡ None
-unfolding turn_in digits int_wrap
+unfolding turn_in digits int_wrap native_methods rows built_in_classes object_classes text_classes stream_classes value_classes throwable_classes is_among
 two-goes_on = refl
 
 two-returns : (after two 9).ending ≡ Some Returned
-unfolding turn_in digits int_wrap
+unfolding turn_in digits int_wrap native_methods rows built_in_classes object_classes text_classes stream_classes value_classes throwable_classes is_among
 two-returns = refl
 
-two-output : (after two 9).output ≡ codes "42\n"
-unfolding turn_in digits int_wrap
+two-output : (after two 8).output ≡ utf8_of (codes "42\n")
+unfolding turn_in digits int_wrap native_methods rows built_in_classes object_classes text_classes stream_classes value_classes throwable_classes is_among
 two-output = refl
 
 -- ---- an override that is loaded later: main makes a B, whose superclass is A, and invokes A's v on it
@@ -93,19 +103,19 @@ overriding-object = refl
 
 -- B's v
 overriding-begins : changes_of overriding 10 ≡ Began 4 ∷ []
-unfolding turn_in
+unfolding turn_in native_methods rows built_in_classes object_classes text_classes stream_classes value_classes throwable_classes is_among
 overriding-begins = refl
 
 overriding-result : operands_of (after overriding 12) ≡ Int (pos 2) ∷ []
-unfolding turn_in
+unfolding turn_in native_methods rows built_in_classes object_classes text_classes stream_classes value_classes throwable_classes is_among
 overriding-result = refl
 
 overriding-goes_on : (after overriding 13).ending ≡ None
-unfolding turn_in
+unfolding turn_in native_methods rows built_in_classes object_classes text_classes stream_classes value_classes throwable_classes is_among
 overriding-goes_on = refl
 
 overriding-returns : (after overriding 14).ending ≡ Some Returned
-unfolding turn_in
+unfolding turn_in native_methods rows built_in_classes object_classes text_classes stream_classes value_classes throwable_classes is_among
 overriding-returns = refl
 
 overriding-trace : trace_by overriding 14 ≡ record {
@@ -115,14 +125,14 @@ overriding-trace : trace_by overriding 14 ≡ record {
       ∷ record { method = 4; parent = Some 0; begin = 10; «end» = Some 12 } ∷ [];
   live = [];
 }
-unfolding trace_in turn_in
+unfolding trace_in turn_in native_methods rows built_in_classes object_classes text_classes stream_classes value_classes throwable_classes is_among
 overriding-trace = refl
 
 -- main is selected before the start
 overriding-contexts : contexts_by overriding (selecting 0) 14
     ≡ record { path = 0 ∷ []; calls = 1; own = 6 } ∷ record { path = 0 ∷ 3 ∷ []; calls = 1; own = 3 }
     ∷ record { path = 0 ∷ 3 ∷ 1 ∷ []; calls = 1; own = 3 } ∷ record { path = 0 ∷ 4 ∷ []; calls = 1; own = 2 } ∷ []
-unfolding trace_in turn_in
+unfolding trace_in turn_in native_methods rows built_in_classes object_classes text_classes stream_classes value_classes throwable_classes is_among
 overriding-contexts = refl
 
 -- ---- an absent class: it is asked for where the instruction that names it is reached

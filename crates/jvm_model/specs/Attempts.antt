@@ -18,7 +18,8 @@ use Rattle.jvm_model.specs.LocalRules.{pushes, calculates, returns}
 use Rattle.jvm_model.specs.Rules.{is_print_stream, line_text, invokes_with}
 use Rattle.jvm_model.specs.Applies.{still, breaks, applies, new_frame, has_room}
 use Rattle.jvm_model.specs.Moves.{argument_array}
-use Rattle.jvm_model.specs.Starting.{ready_in}
+use Rattle.jvm_model.specs.Starting.{ready_in, unmade_in}
+use Rattle.jvm_model.specs.SharedState.{arguments_fit}
 use Rattle.jvm_model.specs.Installed.{Installed, world_in, line_in, placed, tabled}
 
 -- ---- what an operation asks for, and what it writes
@@ -79,15 +80,18 @@ attempt_placed t s = closed (attempts t s s.stack)
 abbrev pub ready : Installed → State
 ready t = ready_in (world_in t)
 
--- `main` begins, where it has a local for its arguments
-abbrev pub start_placed : Installed → Turn
-start_placed t =
+-- where there is room for the arguments, `main` begins, if it has a local for them
+abbrev pub made_placed : Installed → Turn
+made_placed t =
     if has_room (world_in t) t.program.main argument_array
     then record {
       after = record (ready t) { begun = true; stack = Active (new_frame (world_in t) (tabled t) t.program.main argument_array) ∷ [] };
       changes = Loads (0 ∷ []) ∷ Began t.program.main ∷ [];
     }
     else record { after = record (ready t) { ending = Some (Unverifiable t.program.main 0) }; changes = Loads (0 ∷ []) ∷ [] }
+
+abbrev pub start_placed : Installed → Turn
+start_placed t = if arguments_fit t.program then made_placed t else unmade_in (world_in t)
 
 -- whether an activation began
 abbrev pub has_begun : List Change → Bool

@@ -117,6 +117,8 @@ pub data Naming : Type 0 where
   Anewarray : List ℕ → Naming
   -- with so many dimensions that are given
   Multianewarray : List ℕ → ℕ → Naming
+  -- ldc, ldc_w of a Class
+  LdcClass : List ℕ → Naming
 
 -- An instruction as it is attempted.
 pub data Operation : Type 0 where
@@ -131,6 +133,8 @@ pub data Operation : Type 0 where
   -- iaload, .., saload and iastore, .., sastore: baload and bastore are of bytes, and serve booleans too
   LoadElement : Kind → Operation
   StoreElement : Kind → Operation
+  -- ldc, ldc_w of a String of these units
+  LdcString : List ℕ → Operation
 
 -- An instruction in a method: its offset in the original code, the place behind it, unless control never goes on there, and
 -- the places that it names.

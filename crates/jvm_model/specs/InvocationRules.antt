@@ -1,26 +1,25 @@
 -- invokestatic, invokespecial, invokevirtual and invokeinterface (JVM Specification 2.11.8, 5.4.3.3, 5.4.3.4, 6.5). In order: the
 -- method is resolved, its class is initialized where it is static, the operands are looked at, then null, then the class of the receiver,
 -- and then what is selected.
-use Rattle.std.specs.Prelude.{ℕ, Bool, true, false, List, [], ◌∷◌, length, drop, Option, Some, None, Result, nat_lt, codes, ◌&&◌, if◌then◌else◌}
+use Rattle.std.specs.Prelude.{ℕ, Bool, true, false, List, [], ◌∷◌, length, drop, Option, Some, None, Result, nat_lt, codes, if◌then◌else◌}
 use Rattle.std.specs.Bool.{beq}
 use Rattle.std.specs.Option.{option_and_then, option_map}
 use Rattle.heap_objects.specs.declared.datum.Datum.TheVariants as datum
-use Rattle.heap_objects.specs.Heaps.{HeapView, with_slot_at, with_units_replaced}
 use Rattle.const_pool.specs.declared.descriptor.Kind.{Kind}
 use Rattle.const_pool.specs.declared.descriptor.Kind.TheVariants as kind
 use Rattle.const_pool.specs.declared.descriptor.Shape.{Shape}
 use Rattle.const_pool.specs.References.{NameAndType, Reference}
-use Rattle.jvm_model.specs.CreationRules.{is_text_class}
-use Rattle.jvm_model.specs.Data.{Datum, Locals, Operands, Program, Shared, Next, Outcome, GoesOn, Invokes, Raises, Breaks, Done}
-use Rattle.jvm_model.specs.Descriptors.{same_text, shape_of}
+use Rattle.jvm_model.specs.Data.{Datum, Locals, Operands, Program, Shared, World, Outcome, Invokes, Raises, Breaks, Done}
+use Rattle.jvm_model.specs.Descriptors.{shape_of}
 use Rattle.jvm_model.specs.KindNumbers.{user_count}
-use Rattle.jvm_model.specs.Lookup.{MemberPlace, incompatible_change, is_below, resolved_method}
-use Rattle.jvm_model.specs.Naming.{◌>>=◌, extends, found, is_instance, receiver, resolved_kind, unless_refused, where_fitting}
+use Rattle.jvm_model.specs.Lookup.{MemberPlace, incompatible_change, resolved_method}
+use Rattle.jvm_model.specs.Naming.{◌>>=◌, found, is_instance, receiver, resolved_kind, unless_refused, where_fitting}
+use Rattle.jvm_model.specs.NativeRules.{runs_native}
 use Rattle.jvm_model.specs.ObjectRules.{done}
 use Rattle.jvm_model.specs.Programs.{class_named, name_at, number_of_method}
-use Rattle.jvm_model.specs.Rules.{initialized, is_println, line_text}
+use Rattle.jvm_model.specs.Rules.{initialized}
 use Rattle.jvm_model.specs.Selection.{is_abstract, is_static, selected, signature_of}
-use Rattle.jvm_model.specs.SharedState.{class_of, class_of_kind, null, throwable}
+use Rattle.jvm_model.specs.SharedState.{class_of, class_of_kind}
 use Rattle.jvm_model.specs.SuperCalls.{invoked_special}
 use Rattle.jvm_model.specs.Values.{arguments}
 
@@ -47,42 +46,6 @@ abbrev pub receiver_in : List Datum → ℕ
 receiver_in (datum.Ref object ∷ more) = object
 receiver_in _ = 0
 
--- ---- methods of built-in classes that have no Code
-
--- an instance initialization method (2.9) without parameters
-abbrev pub is_plain_initializer : NameAndType → Bool
-is_plain_initializer member = same_text member.name (codes "<init>") && same_text member.descriptor (codes "()V")
-
--- A text has no units then, and a throwable neither message nor cause, also where it had some. Other classes' set nothing.
-abbrev pub initialized_object : Program → ℕ → ℕ → HeapView → HeapView
-initialized_object p class object h =
-    if is_text_class p class then with_units_replaced object [] h
-    else if is_below p class throwable then with_slot_at object 0 null (with_slot_at object 1 null h)
-    else h
-
-abbrev pub initializes_object : Program → ℕ → ℕ → Shared → Locals → Operands → Done
-initializes_object p class object s l below =
-    done (record s { heap = initialized_object p class object s.heap }) (GoesOn l below Next)
-
--- println(I)V: the number in decimal, and byte 10
-abbrev pub prints_line : List Datum → Shared → Locals → Operands → Done
-prints_line (datum.Ref object ∷ datum.Int n ∷ []) s l below = record { shared = s; wrote = line_text n; outcome = GoesOn l below Next }
-prints_line _ s l below = done s (Breaks false)
-
--- These two; all others are left open so far.
-abbrev pub does_built_in : Program → Reference → ℕ → List Datum → Shared → Locals → Operands → Done
-does_built_in p r class args s l below =
-    if is_plain_initializer r.member then initializes_object p class (receiver_in args) s l below
-    else if is_println r then prints_line args s l below
-    else done s (Breaks false)
-
--- the receiver has what the method's class has
-abbrev pub runs_built_in : Program → MemberPlace → Option Reference → List Datum → Shared → Locals → Operands → Done
-runs_built_in p m None args s l below = done s (Breaks false)
-runs_built_in p m (Some r) args s l below =
-    if extends p (class_of p s (receiver_in args)) m.class then does_built_in p r m.class args s l below
-    else done s (Breaks false)
-
 -- ---- what is invoked
 
 abbrev pub abstract_method : List ℕ
@@ -96,33 +59,33 @@ abbrev pub reference_to : Program → MemberPlace → Option Reference
 reference_to p m =
     option_and_then (λ class. option_map (λ member. record { class = class; member = member }) (signature_of p m)) (name_at p m.class)
 
--- a native method; a user's class has none that could be linked (2.11.8)
-abbrev pub invokes_native : Program → MemberPlace → List Datum → Shared → Locals → Operands → Done
-invokes_native p m args s l below =
-    if nat_lt m.class (user_count p) then done s (Raises unsatisfied_link None)
-    else runs_built_in p m (reference_to p m) args s l below
+-- a native method: a user's class has none that could be linked (2.11.8)
+abbrev pub invokes_native : World → MemberPlace → List Datum → Shared → Locals → Operands → Done
+invokes_native w m args s l below =
+    if nat_lt m.class (user_count w.program) then done s (Raises unsatisfied_link None)
+    else runs_native w (reference_to w.program m) args s l below
 
 -- a method that has Code, by its number
-abbrev pub invokes_number : Program → MemberPlace → Option ℕ → List Datum → Shared → Locals → Operands → Done
-invokes_number p m (Some n) args s l below = done s (Invokes n args below)
-invokes_number p m None args s l below = invokes_native p m args s l below
+abbrev pub invokes_number : World → MemberPlace → Option ℕ → List Datum → Shared → Locals → Operands → Done
+invokes_number w m (Some n) args s l below = done s (Invokes n args below)
+invokes_number w m None args s l below = invokes_native w m args s l below
 
-abbrev pub invokes_selected : Program → Option MemberPlace → List Datum → Shared → Locals → Operands → Done
-invokes_selected p None args s l below = done s (Raises abstract_method None)
-invokes_selected p (Some m) args s l below =
-    if is_abstract p m then done s (Raises abstract_method None)
-    else invokes_number p m (number_of_method p m.class m.position) args s l below
+abbrev pub invokes_selected : World → Option MemberPlace → List Datum → Shared → Locals → Operands → Done
+invokes_selected w None args s l below = done s (Raises abstract_method None)
+invokes_selected w (Some m) args s l below =
+    if is_abstract w.program m then done s (Raises abstract_method None)
+    else invokes_number w m (number_of_method w.program m.class m.position) args s l below
 
 -- ---- invokestatic
 
-abbrev pub invokes_with_static : Program → MemberPlace → Option (List Datum) → Shared → Locals → Operands → Done
-invokes_with_static p m None s l o = done s (Breaks false)
-invokes_with_static p m (Some args) s l o = invokes_selected p (Some m) args s l (drop (length args) o)
+abbrev pub invokes_with_static : World → MemberPlace → Option (List Datum) → Shared → Locals → Operands → Done
+invokes_with_static w m None s l o = done s (Breaks false)
+invokes_with_static w m (Some args) s l o = invokes_selected w (Some m) args s l (drop (length args) o)
 
-abbrev pub invokes_static_method : Program → Reference → Shared → Locals → Operands → Done
-invokes_static_method p r s l o =
-    unless_refused s (named_method p s.loaded false true r) (λ m.
-    initialized p m.class s (invokes_with_static p m (arguments_by false r.member o) s l o))
+abbrev pub invokes_static_method : World → Reference → Shared → Locals → Operands → Done
+invokes_static_method w r s l o =
+    unless_refused s (named_method w.program s.loaded false true r) (λ m.
+    initialized w.program m.class s (invokes_with_static w m (arguments_by false r.member o) s l o))
 
 -- ---- invokevirtual, invokeinterface, invokespecial
 
@@ -150,13 +113,13 @@ selected_by p OfInterface m class = selected p class true m
 selected_by p (Special caller interface) m class =
     option_and_then (λ current. invoked_special p current m) (class_named p caller)
 
-abbrev pub invokes_on : Program → Selecting → Reference → MemberPlace → Option (List Datum) → Shared → Locals → Operands → Done
-invokes_on p by r m None s l o = done s (Breaks false)
-invokes_on p by r m (Some args) s l o =
-    unless_refused s (receiver (receiver_in args) (is_instance p s.heap (receiver_in args) r.class) (not_of_class by)) (λ object.
-    invokes_selected p (selected_by p by m (class_of p s object)) args s l (drop (length args) o))
+abbrev pub invokes_on : World → Selecting → Reference → MemberPlace → Option (List Datum) → Shared → Locals → Operands → Done
+invokes_on w by r m None s l o = done s (Breaks false)
+invokes_on w by r m (Some args) s l o =
+    unless_refused s (receiver (receiver_in args) (is_instance w.program s.heap (receiver_in args) r.class) (not_of_class by)) (λ object.
+    invokes_selected w (selected_by w.program by m (class_of w.program s object)) args s l (drop (length args) o))
 
-abbrev pub invokes_instance : Program → Selecting → Reference → Shared → Locals → Operands → Done
-invokes_instance p by r s l o =
-    unless_refused s (named_method p s.loaded (names_interface by) false r) (λ m.
-    invokes_on p by r m (arguments_by true r.member o) s l o)
+abbrev pub invokes_instance : World → Selecting → Reference → Shared → Locals → Operands → Done
+invokes_instance w by r s l o =
+    unless_refused s (named_method w.program s.loaded (names_interface by) false r) (λ m.
+    invokes_on w by r m (arguments_by true r.member o) s l o)

@@ -19,9 +19,11 @@ pub mod Naming
 pub mod FieldRules
 pub mod CreationRules
 pub mod SuperCalls
+pub mod NativeRules
 pub mod InvocationRules
-pub mod NamingRules
 pub mod Constants
+pub mod ConstantRules
+pub mod NamingRules
 pub mod Does
 pub mod Applies
 pub mod Moves

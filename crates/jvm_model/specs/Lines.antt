@@ -9,14 +9,14 @@ use Rattle.const_pool.specs.declared.pool.Const.TheVariants as const
 use Rattle.const_pool.specs.declared.class.ClassFile.{ClassFile}
 use Rattle.const_pool.specs.declared.descriptor.Kind.TheVariants as kind
 use Rattle.const_pool.specs.Pool.{entry_at}
-use Rattle.const_pool.specs.References.{Reference, named_class, named_field, named_member, named_method}
+use Rattle.const_pool.specs.References.{Reference, named_class, named_field, named_member, named_method, named_text}
 use Rattle.code_model.specs.declared.instr.Instr.{Instr}
 use Rattle.code_model.specs.declared.instr.Arg.{Arg}
 use Rattle.code_model.specs.declared.instr.Arg.TheVariants as arg
 use Rattle.code_model.specs.Instructions.{instruction_at, end_of}
 use Rattle.jvm_model.specs.declared.family.Family.{Family}
 use Rattle.jvm_model.specs.declared.family.Family.TheVariants as family
-use Rattle.jvm_model.specs.Data.{Datum, Keys, Consecutive, Listed, Local, Nop, Constant, Load, Store, Arrange, BinaryOfInts, BinaryOfLongs, DivisionOfInts, DivisionOfLongs, ShiftOfLong, UnaryOfInt, UnaryOfLong, Lcmp, Iinc, Branch, Goto, Switch, Jsr, Ret, Return, Naming, New, Getfield, Putfield, Getstatic, Putstatic, Invokevirtual, Invokespecial, Invokestatic, Invokeinterface, Checkcast, Instanceof, Anewarray, Multianewarray, Operation, Within, Named, Athrow, Monitor, Newarray, Arraylength, LoadElement, StoreElement, Instruction}
+use Rattle.jvm_model.specs.Data.{Datum, Keys, Consecutive, Listed, Local, Nop, Constant, Load, Store, Arrange, BinaryOfInts, BinaryOfLongs, DivisionOfInts, DivisionOfLongs, ShiftOfLong, UnaryOfInt, UnaryOfLong, Lcmp, Iinc, Branch, Goto, Switch, Jsr, Ret, Return, Naming, New, Getfield, Putfield, Getstatic, Putstatic, Invokevirtual, Invokespecial, Invokestatic, Invokeinterface, Checkcast, Instanceof, Anewarray, Multianewarray, LdcClass, Operation, Within, Named, Athrow, Monitor, Newarray, Arraylength, LoadElement, StoreElement, LdcString, Instruction}
 use Rattle.jvm_model.specs.Families.{family_of}
 use Rattle.jvm_model.specs.Kinds.{meaning_of}
 use Rattle.jvm_model.specs.Methods.{method_code}
@@ -74,7 +74,7 @@ local_of family.Switch a c = option_map Switch (keys_in a)
 local_of (family.Return k) a c = Some (Return k)
 local_of family.Elsewhere a c = None
 
--- the number that an entry of the pool is; texts and classes are none, and no instruction pushes them so far
+-- the number that an entry of the pool is; texts and classes are none
 abbrev pub number_of : Const → Option Datum
 number_of (const.Integer n) = Some (datum.Int n)
 number_of (const.Long n) = Some (datum.Long n)
@@ -175,9 +175,26 @@ other_operation c op (arg.Array code) = newarray_of op code
 other_operation c op arg.Plain = object_among object_rows op
 other_operation c op _ = None
 
+-- ldc, ldc_w: a String or a Class that an entry of the pool is (5.1)
+abbrev pub object_constant : List Const → Const → Option Operation
+object_constant pool (const.Text i) = option_map LdcString (named_text pool i)
+object_constant pool (const.Class i) = option_map (λ name. Named (LdcClass name)) (named_text pool i)
+object_constant pool _ = None
+
+abbrev pub object_constant_in : List Const → Arg → Option Operation
+object_constant_in pool (arg.Pool index) = option_and_then (object_constant pool) (slice_get pool index)
+object_constant_in pool _ = None
+
+-- a number, or else an object
+abbrev pub given_operation : Option Operation → Option Operation → Option Operation
+given_operation (Some number) object = Some number
+given_operation None object = object
+
 -- by its family
 abbrev pub operation_by : ClassFile → ℕ → Arg → Family → Option Operation
 operation_by c op a family.Elsewhere = other_operation c op a
+operation_by c op a family.Given =
+    given_operation (option_map Within (local_of family.Given a (constant_in c.pool a))) (object_constant_in c.pool a)
 operation_by c op a f = option_map Within (local_of f a (constant_in c.pool a))
 
 -- what an instruction of the class does

@@ -7,7 +7,7 @@ use Rattle.const_pool.specs.declared.class.Member.{Member}
 use Rattle.jvm_model.specs.declared.operation.Resolved.{Resolved}
 use Rattle.jvm_model.specs.declared.operation.Resolved.TheVariants as resolved
 use Rattle.jvm_model.specs.Attempts.{asks, writes}
-use Rattle.jvm_model.specs.Data.{Locals, Operands, Naming, Program, Shared, Done}
+use Rattle.jvm_model.specs.Data.{Locals, Operands, Naming, Program, Shared, World, Done}
 use Rattle.jvm_model.specs.Load.{done}
 use Rattle.jvm_model.specs.Naming.{newly_loaded}
 use Rattle.jvm_model.specs.NamingRules.{does_named}
@@ -40,5 +40,5 @@ HasCallee c _ = Unit {0}
 pub record IsMeant (c : ClassFile) (p : Program) : Type 0 where
   pub alone : (input : List ℕ) → main_loading (record { program = p; input = input }) ≡ done ((shared_before p).loaded ++ 0 ∷ [])
   pub loads : (n : Naming) (q : Resolved) (o : Operands) → resolved_name c n ≡ Some q → newly_loaded p (shared_ready p).loaded n o ≡ []
-  pub does : (n : Naming) (q : Resolved) (l : Locals) (o : Operands) → resolved_name c n ≡ Some q → HasCallee c q → AreStreams o
-      → does_named p n (shared_ready p) l o ≡ done_by p q (shared_ready p) l o
+  pub does : (w : World) → w.program ≡ p → (n : Naming) (q : Resolved) (l : Locals) (o : Operands) → resolved_name c n ≡ Some q → HasCallee c q → AreStreams o
+      → does_named w n (shared_ready p) l o ≡ done_by p q (shared_ready p) l o

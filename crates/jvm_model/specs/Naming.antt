@@ -5,7 +5,7 @@ use Rattle.std.specs.Option.{ok_or, option_map_or}
 use Rattle.heap_objects.specs.Heaps.{HeapView, kind_at}
 use Rattle.const_pool.specs.References.{Reference}
 use Rattle.jvm_model.specs.Data.{Operands, Program, Shared, Outcome, Raises, Breaks, Done}
-pub use Rattle.jvm_model.specs.Data.{Naming, New, Getfield, Putfield, Getstatic, Putstatic, Invokevirtual, Invokespecial, Invokestatic, Invokeinterface, Checkcast, Instanceof, Anewarray, Multianewarray}
+pub use Rattle.jvm_model.specs.Data.{Naming, New, Getfield, Putfield, Getstatic, Putstatic, Invokevirtual, Invokespecial, Invokestatic, Invokeinterface, Checkcast, Instanceof, Anewarray, Multianewarray, LdcClass}
 use Rattle.jvm_model.specs.KindNumbers.{kind_parts}
 use Rattle.jvm_model.specs.Kinds.{is_subkind, kind_named}
 use Rattle.jvm_model.specs.Load.{Fault, NoClass, Circular, Incompatible, error_of, is_among, load_of}
@@ -31,6 +31,7 @@ resolved_name (Checkcast name) = name
 resolved_name (Instanceof name) = name
 resolved_name (Anewarray name) = name
 resolved_name (Multianewarray name dimensions) = name
+resolved_name (LdcClass name) = name
 
 -- ---- what is loaded before the attempt (5.3, 5.4.3.1)
 

@@ -19,6 +19,5 @@ pub record IsBuiltProgram (p : Program) : Type 0 where
   pub program : IsProgramOf (first_class p) p
   pub few : length p.classes < 2 ^ 32
   pub meant : IsMeant (first_class p) p
-  -- so far no program has arguments, and the heap has room for the objects of the start
-  pub plain : p.args ≡ []
+  -- the heap has room for the objects that are there before the start
   pub room : 1024 ≤ p.heap

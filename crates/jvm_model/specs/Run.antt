@@ -4,7 +4,7 @@ use Rattle.std.specs.Option.{option_map_or}
 use Rattle.std.proofs.Common.{ap, ◌∙◌, add-one}
 use Rattle.jvm_model.specs.Data.{Frame, Entry, Active, Initializing, Constants, MethodPlace, Phase, Running, Ready, Ending, State, Change, Loads, Turn, Outcome, Initializes, Done, Instruction, Program, Text, World}
 use Rattle.jvm_model.specs.Programs.{name_at, place_of_method}
-use Rattle.jvm_model.specs.SharedState.{phase_of, with_phase, shared_before, with_arguments}
+use Rattle.jvm_model.specs.SharedState.{phase_of, with_phase, shared_before, with_arguments, arguments_fit}
 use Rattle.jvm_model.specs.Does.{does, loads}
 use Rattle.jvm_model.specs.Load.{Fault, Loading, error_of, load_of}
 use Rattle.jvm_model.specs.Naming.{message_of}
@@ -91,9 +91,17 @@ abbrev pub main_loading : World → Loading
 main_loading w =
     load_of w.program (before w).shared.loaded (unwrap_or (name_at w.program (main_class w.program)) [])
 
--- the classes that are loaded for it
+-- the classes that this loads
+abbrev pub main_classes : World → List ℕ
+main_classes w = drop (length (before w).shared.loaded) (main_loading w).loaded
+
+-- the classes that the start loads: none where there is no room for the arguments
+abbrev pub loads_if : World → Bool → List ℕ
+loads_if w true = main_classes w
+loads_if w false = []
+
 abbrev pub main_loads : World → List ℕ
-main_loads w = drop (length (before w).shared.loaded) (main_loading w).loaded
+main_loads w = loads_if w (arguments_fit w.program)
 
 -- the initialization of the main class begins, or what stopped its loading is raised
 abbrev pub starts_unless : World → Option Fault → State → State
@@ -102,10 +110,22 @@ starts_unless w None s =
     let class = main_class w.program in
     record s { stack = Initializing class Constants ∷ []; shared = with_phase s.shared class Running }
 
-abbrev pub starts_with : World → State
-starts_with w = starts_unless w (main_loading w).fault (with_loaded (main_loads w) (arguments_made w (before w)))
+-- the arguments are made and the main class is loaded
+abbrev pub opened : World → State
+opened w = with_loaded (main_classes w) (arguments_made w (before w))
 
--- the main class is loaded, and then initialized
+-- where there is no room for the arguments, object 1 is thrown: nothing is made or loaded
+abbrev pub exhausted : World → State
+exhausted w = record (before w) { thrown = Some 1 }
+
+abbrev pub starts_if : World → Bool → State
+starts_if w true = starts_unless w (main_loading w).fault (opened w)
+starts_if w false = exhausted w
+
+abbrev pub starts_with : World → State
+starts_with w = starts_if w (arguments_fit w.program)
+
+-- the arguments are made, the main class is loaded, and then initialized
 abbrev pub start : World → Text → Turn
 start w t = loaded_turn (main_loads w) (settled w t (still (starts_with w)))
 

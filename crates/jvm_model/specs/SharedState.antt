@@ -1,12 +1,13 @@
 -- What all activations share: phases and static fields of classes, objects (JVM Specification 2.5.3, 5.5), and the exceptions
 -- that the machine makes (2.10).
-use Rattle.std.specs.Prelude.{ℕ, ◌+◌, List, [], ◌∷◌, ◌++◌, length, map, Option, Some, None, unwrap_or, position, pos, slice_get, slice_set, nat_le, nat_lt, codes, ◌==◌, ◌||◌, if◌then◌else◌}
+use Rattle.std.specs.Prelude.{ℕ, ◌+◌, Bool, List, [], ◌∷◌, ◌++◌, length, map, Option, Some, None, unwrap_or, position, pos, slice_get, slice_set, nat_le, nat_lt, codes, ◌==◌, ◌||◌, if◌then◌else◌}
 use Rattle.std.specs.Option.{option_and_then, option_map, option_map_or}
 use Rattle.heap_objects.specs.declared.datum.Datum.TheVariants as datum
 use Rattle.const_pool.specs.declared.class.ClassFile.{ClassFile}
 use Rattle.const_pool.specs.declared.class.Member.{Member}
 use Rattle.const_pool.specs.References.{NameAndType, Reference, named_text}
 use Rattle.heap_objects.specs.Heaps.{HeapView, empty_heap, kind_at, with_instance, with_array, with_text, with_slot_at, next_number}
+use Rattle.native_ops.specs.MadeViews.{nothing_made}
 use Rattle.jvm_model.specs.Data.{Datum, Phase, Fresh, Ready, Program, Shared, World}
 use Rattle.jvm_model.specs.KindNumbers.{user_count, base_of_class, class_of_base, first_array, kind_number}
 use Rattle.jvm_model.specs.Descriptors.{same_text}
@@ -196,7 +197,7 @@ shared_before p = record {
   phases = map phase_before p.classes;
   statics = map static_zeros p.classes;
   heap = heap_before p;
-  made = [];
+  made = nothing_made;
   read = 0;
 }
 
@@ -206,11 +207,28 @@ shared_before p = record {
 abbrev pub strings_kind : Program → ℕ
 strings_kind p = kind_number (record { dimensions = 1; base = kind_for p string })
 
+-- a text of this kind is an element of an array
+abbrev pub with_text_in : ℕ → ℕ → ℕ → List ℕ → HeapView → HeapView
+with_text_in kind array at units h = with_slot_at array at (datum.Ref (next_number h)) (with_text kind units h)
+
 -- the texts of these arguments are elements of an array, from a place on
 abbrev pub with_texts : Program → ℕ → ℕ → List (List ℕ) → HeapView → HeapView
 with_texts p array at [] h = h
-with_texts p array at (arg ∷ args) h = with_texts p array (at + 1) args (with_slot_at array at (datum.Ref (next_number h)) (with_text (kind_for p string) arg h))
+with_texts p array at (arg ∷ args) h = with_texts p array (at + 1) args (with_text_in (kind_for p string) array at arg h)
 
--- There is room for them: so far there are none.
+-- the array of the arguments, and then their texts
 abbrev pub with_arguments : Program → HeapView → HeapView
 with_arguments p h = with_texts p (next_number h) 0 p.args (with_array (strings_kind p) null (length p.args) h)
+
+-- the slots of so many texts
+abbrev pub texts_cost : List (List ℕ) → ℕ
+texts_cost [] = 0
+texts_cost (arg ∷ args) = 1 + length arg + texts_cost args
+
+-- the slots of the array and of the texts
+abbrev pub arguments_cost : List (List ℕ) → ℕ
+arguments_cost args = 1 + length args + texts_cost args
+
+-- whether there is room for all of them behind the objects that are there before the start
+abbrev pub arguments_fit : Program → Bool
+arguments_fit p = nat_le ((heap_before p).used + arguments_cost p.args) p.heap

@@ -21,9 +21,10 @@ use Rattle.jvm_model.specs.SharedState.{class_of_kind, shared_before}
 abbrev pub IsLoaded : List ℕ → ℕ → Type 0
 IsLoaded loaded class = is_among class loaded ≡ true
 
--- the built-in classes are loaded from the beginning (5.3)
-abbrev pub HasBuiltIn : Program → List ℕ → Type 0
-HasBuiltIn p loaded = (class : ℕ) → user_count p ≤ class → class < length p.classes → IsLoaded loaded class
+-- the built-in classes stand behind the others, and are loaded from the beginning (5.3)
+pub record HasBuiltIn (p : Program) (loaded : List ℕ) : Type 0 where
+  pub whole : length built_in_names ≤ length p.classes
+  pub each : (class : ℕ) → user_count p ≤ class → class < length p.classes → IsLoaded loaded class
 
 -- the direct supertypes of what is loaded are loaded
 pub record HasSupertypes (p : Program) (loaded : List ℕ) : Type 0 where

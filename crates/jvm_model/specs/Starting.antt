@@ -1,14 +1,14 @@
 -- Programs that start without any code but `main`: the main class is the first one, its superclass is ready, it has no static initializer,
 -- and all other classes are ready before (JVM Specification 5.2, 5.5).
 use Rattle.std.specs.Prelude.{◌≡◌, ◌≤◌, ℕ, true, List, [], ◌∷◌, ◌++◌, map, slice_set, Option, Some, None, if◌then◌else◌}
-use Rattle.jvm_model.specs.Data.{Active, Phase, Running, Ready, Unverifiable, Program, Shared, State, Loads, Began, Turn, Text, World}
-use Rattle.jvm_model.specs.Applies.{new_frame, has_room}
+use Rattle.jvm_model.specs.Data.{Active, Phase, Running, Ready, Uncaught, Unverifiable, Program, Shared, State, Loads, Began, Turn, Text, World}
+use Rattle.jvm_model.specs.Applies.{still, new_frame, has_room}
 use Rattle.jvm_model.specs.Moves.{argument_array, fresh}
 use Rattle.jvm_model.specs.Programs.{super_of, initializer_of}
 use Rattle.jvm_model.specs.Constants.{set, sets_constants}
 use Rattle.jvm_model.specs.Load.{done}
-use Rattle.jvm_model.specs.Run.{before, arguments_made, main_loading, with_loaded, main_class}
-use Rattle.jvm_model.specs.SharedState.{with_phase, phase_before, phase_of, shared_before}
+use Rattle.jvm_model.specs.Run.{before, arguments_made, exhausted, main_loading, with_loaded, main_class}
+use Rattle.jvm_model.specs.SharedState.{with_phase, phase_before, phase_of, class_of, shared_before, arguments_fit}
 
 -- the phases once the first class is initialized
 abbrev pub phases_ready : Program → List Phase
@@ -27,8 +27,7 @@ pub record StartsReady (p : Program) : Type 0 where
   -- nothing else is loaded for it, and it has no constants
   pub alone : (input : List ℕ) → main_loading (record { program = p; input = input }) ≡ done ((shared_before p).loaded ++ 0 ∷ [])
   pub constants : (s : Shared) → sets_constants p 0 s ≡ set s
-  -- so far no program has arguments, and the heap has room for the objects of the start
-  pub plain : p.args ≡ []
+  -- the heap has room for the objects that are there before the start
   pub room : 1024 ≤ p.heap
 
 -- the main class is loaded and made ready, and nothing of it runs
@@ -48,5 +47,12 @@ begun_in w t = record {
 abbrev pub unbegun_in : World → Turn
 unbegun_in w = record { after = record (ready_in w) { ending = Some (Unverifiable w.program.main 0) }; changes = Loads (0 ∷ []) ∷ [] }
 
+-- or there is no room for the arguments: object 1 was thrown, and nothing was loaded
+abbrev pub unmade_in : World → Turn
+unmade_in w = still (record (exhausted w) { ending = Some (Uncaught (class_of w.program (shared_before w.program) 1)) })
+
 abbrev pub begins_or_ends : World → Text → Turn
-begins_or_ends w t = if has_room w w.program.main argument_array then begun_in w t else unbegun_in w
+begins_or_ends w t =
+    if arguments_fit w.program
+    then (if has_room w w.program.main argument_array then begun_in w t else unbegun_in w)
+    else unmade_in w

@@ -21,4 +21,4 @@ pub use family::{
 };
 pub use operation::{Line, Resolved};
 pub use program::{MethodPlace, Program};
-pub use state::{Entry, Frame, Made, Part, Phase, Shared, State};
+pub use state::{Entry, Frame, Part, Phase, Shared, State};

@@ -3,6 +3,7 @@
 use crate::ending::Ending;
 use heap_objects::{Datum, Heap, Value};
 use jf_bytes::{Seq, Stack};
+use native_ops::Made;
 
 /// A frame (JVM Specification 2.6): the number of its method, the version of it that the frame runs, the place in that
 /// version of the instruction that is executed next (or, while a callee runs, of the invoking one), its locals, of which
@@ -45,24 +46,15 @@ pub enum Phase {
     Erroneous,
 }
 
-/// Objects that the machine makes once and finds again: the text with the same units that was interned, the Class object
-/// of a class, and the object that valueOf gave for a number of a class.
-#[derive(Clone, Copy, Debug, PartialEq, Eq)]
-pub enum Made {
-    Interned(u32),
-    ClassObject(u32, u32),
-    Boxed(u32, i64, u32),
-}
-
 /// What all activations share: the positions of the loaded classes in the order in which they were loaded; the phase and
-/// the static fields of each class; the heap; the objects that are made once; and how many bytes of the input were read.
+/// the static fields of each class; the heap; the Class objects and boxes that are made once; and how many bytes of the input were read.
 #[derive(Drop)]
 pub struct Shared {
     pub loaded: Seq<u32>,
     pub phases: Seq<Phase>,
     pub statics: Seq<Seq<Datum>>,
     pub heap: Heap,
-    pub made: Seq<Made>,
+    pub made: Made,
     pub read: usize,
 }
 

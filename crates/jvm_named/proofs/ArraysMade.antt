@@ -17,6 +17,7 @@ use Rattle.jvm_model.specs.Data.{Operands, GoesOn, Next}
 use Rattle.jvm_named.specs.Answers.{frames_of}
 use Rattle.jvm_named.specs.Arrays.{int_at, lengths_from}
 use Rattle.jvm_named.specs.Objects.{AreLoaded, IsUsable}
+use Rattle.jvm_named.proofs.Going.{height-dropped, within-limit}
 use Rattle.jvm_named.proofs.KindLemmas.{under_usable}
 use Rattle.jvm_named.proofs.ObjectLemmas.{objects_slot, objects_with}
 
@@ -101,14 +102,6 @@ pub counts_count : (n : ℕ) (o : Operands) (counts : List ℤ) → counts_of n 
 counts_count n o counts e = counts-length n [] o counts e ∙ (let z : n + 0 ≡ n = omega arith in z)
 
 -- ---- the operands' room
-
-height-dropped : (n : ℕ) (o : Operands) → height_of (drop n o) ≤ height_of o
-height-dropped zero o = omega arith
-height-dropped (suc n) [] = omega arith
-height-dropped (suc n) (v ∷ below) = let rest : height_of (drop n below) ≤ height_of below = height-dropped n below in omega arith
-
-within-limit : (a b : ℕ) → a ≤ b → nat_le a b ≡ true
-within-limit a b h = grind (arith)
 
 pub fits_below : (n object : ℕ) (counts : List ℤ) (fs : List PlacedFrame) → AreSound fs → 1 ≤ n → counts_of n (top_operands fs) ≡ Some counts
     → can_hold (Ref object ∷ drop n (top_operands fs)) fs ≡ true

@@ -7,7 +7,7 @@ use Rattle.heap_objects.specs.Heaps.{HeapView}
 use Rattle.jvm_basic.specs.Outcomes.{top_locals}
 use Rattle.jvm_model.specs.declared.program.Program.{Program}
 use Rattle.jvm_model.specs.declared.state.Shared.{Shared}
-use Rattle.jvm_model.specs.Data.{Operands}
+use Rattle.jvm_model.specs.Data.{Operands, World}
 use Rattle.jvm_model.specs.Load.{load_of}
 use Rattle.jvm_model.specs.Naming.{Naming, Invokespecial, newly_loaded, resolved_kind, resolved_name, resolves, unless_refused}
 use Rattle.jvm_model.specs.NamingRules.{does_named}
@@ -16,8 +16,8 @@ use Rattle.jvm_model.proofs.LoadsAgain.{newly-loaded, resolved-again}
 use Rattle.class_linker.specs.Linkers.{LinkerView}
 use Rattle.jvm_named.specs.declared.asked.Refusal.{Refusal}
 use Rattle.jvm_named.specs.Answers.{done_on, found_view, refusal_view}
-use Rattle.jvm_named.specs.Attempts.{IsFound, attempts, linker_with}
-use Rattle.jvm_named.specs.BuiltInCalls.{HasBuiltIn}
+use Rattle.jvm_named.specs.Attempts.{IsFound, attempts, linker_with, world_over}
+use Rattle.jvm_named.specs.Natives.{HasBuiltIn}
 use Rattle.jvm_named.specs.Objects.{AreLoaded, HasLoadedCaller, IsResolved}
 use Rattle.jvm_named.specs.Resolved.{does_resolved, skips}
 use Rattle.jvm_named.proofs.Behind.{behind, skipped}
@@ -60,21 +60,21 @@ resolved_later l new n o r is e f found =
 
 -- ---- what is done then
 
-pub done_skipped : (p : Program) (n : Naming) (s : Shared) (f : FramesView) → resolves n (top_operands f.frames) ≡ false
-    → done s (skips n (top_locals f.frames) (top_operands f.frames)) ≡ done_on (does_named p n s) f
-done_skipped p n s f is = sym (skipped p n s (top_locals f.frames) (top_operands f.frames) is)
+pub done_skipped : (w : World) (n : Naming) (s : Shared) (f : FramesView) → resolves n (top_operands f.frames) ≡ false
+    → done s (skips n (top_locals f.frames) (top_operands f.frames)) ≡ done_on (does_named w n s) f
+done_skipped w n s f is = sym (skipped w n s (top_locals f.frames) (top_operands f.frames) is)
 
-pub done_refused : (p : Program) (n : Naming) (s : Shared) (f : FramesView) (e : Refusal) → resolves n (top_operands f.frames) ≡ true
-    → Err (refusal_view e) ≡ resolved_kind p s.loaded (resolved_name n) → done s (refusal_view e) ≡ done_on (does_named p n s) f
-done_refused p n s f e is found =
-    sym (behind p n s (top_locals f.frames) (top_operands f.frames) is
-    ∙ ap (λ r. unless_refused s r (λ kind. does_resolved p kind n s (top_locals f.frames) (top_operands f.frames))) (sym found))
+pub done_refused : (w : World) (n : Naming) (s : Shared) (f : FramesView) (e : Refusal) → resolves n (top_operands f.frames) ≡ true
+    → Err (refusal_view e) ≡ resolved_kind w.program s.loaded (resolved_name n) → done s (refusal_view e) ≡ done_on (does_named w n s) f
+done_refused w n s f e is found =
+    sym (behind w n s (top_locals f.frames) (top_operands f.frames) is
+    ∙ ap (λ r. unless_refused s r (λ kind. does_resolved w kind n s (top_locals f.frames) (top_operands f.frames))) (sym found))
 
-pub done_found : (p : Program) (n : Naming) (s : Shared) (f : FramesView) (kind : ℕ) → resolves n (top_operands f.frames) ≡ true
-    → Ok kind ≡ resolved_kind p s.loaded (resolved_name n) → done_on (does_resolved p kind n s) f ≡ done_on (does_named p n s) f
-done_found p n s f kind is found =
-    sym (behind p n s (top_locals f.frames) (top_operands f.frames) is
-    ∙ ap (λ r. unless_refused s r (λ kind. does_resolved p kind n s (top_locals f.frames) (top_operands f.frames))) (sym found))
+pub done_found : (w : World) (n : Naming) (s : Shared) (f : FramesView) (kind : ℕ) → resolves n (top_operands f.frames) ≡ true
+    → Ok kind ≡ resolved_kind w.program s.loaded (resolved_name n) → done_on (does_resolved w kind n s) f ≡ done_on (does_named w n s) f
+done_found w n s f kind is found =
+    sym (behind w n s (top_locals f.frames) (top_operands f.frames) is
+    ∙ ap (λ r. unless_refused s r (λ kind. does_resolved w kind n s (top_locals f.frames) (top_operands f.frames))) (sym found))
 
 -- ---- with what is loaded then
 
@@ -94,10 +94,11 @@ module _ (l new : LinkerView) (more : List ℕ) (is : new ≡ with_more l more) 
   caller_later n has = subst (λ v. HasLoadedCaller v n) (sym is) (caller_more n has)
 
   pub built_in_later : HasBuiltIn l → HasBuiltIn new
-  built_in_later has = subst HasBuiltIn (sym is) (λ class above within. loaded_more l more class (has class above within))
+  built_in_later has =
+      subst HasBuiltIn (sym is) (record { whole = has.whole; each = λ class above within. loaded_more l more class (has.each class above within) })
 
-  pub attempted : (n : Naming) (s : Shared) (f : FramesView) (loaded : List ℕ) → loaded ≡ s.loaded ++ newly_loaded l.program s.loaded n (top_operands f.frames)
-      → done_on (does_named new.program n (record s { loaded = loaded })) f ≡ done_on (attempts l.program n s f) f
-  attempted n s f loaded e =
-      ap (λ (v : LinkerView). does_named v.program n (record s { loaded = loaded }) (top_locals f.frames) (top_operands f.frames)) is
-      ∙ ap (λ classes. does_named l.program n (record s { loaded = classes }) (top_locals f.frames) (top_operands f.frames)) e
+  pub attempted : (n : Naming) (s : Shared) (f : FramesView) (input loaded : List ℕ) → loaded ≡ s.loaded ++ newly_loaded l.program s.loaded n (top_operands f.frames)
+      → done_on (does_named (world_over new input) n (record s { loaded = loaded })) f ≡ done_on (attempts (world_over l input) n s f) f
+  attempted n s f input loaded e =
+      ap (λ (v : LinkerView). does_named (world_over v input) n (record s { loaded = loaded }) (top_locals f.frames) (top_operands f.frames)) is
+      ∙ ap (λ classes. does_named (world_over l input) n (record s { loaded = classes }) (top_locals f.frames) (top_operands f.frames)) e

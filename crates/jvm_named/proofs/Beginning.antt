@@ -9,7 +9,7 @@ use Rattle.jvm_model.specs.KindNumbers.{base_of_class, user_count}
 use Rattle.jvm_model.specs.Programs.{class_named}
 use Rattle.jvm_model.specs.SharedState.{heap_before, input_stream, kind_for, null, out_of_memory, print_stream}
 use Rattle.class_linker.specs.Linkers.{LinkerView}
-use Rattle.jvm_named.specs.BuiltInCalls.{HasBuiltIn}
+use Rattle.jvm_named.specs.Natives.{HasBuiltIn}
 use Rattle.jvm_named.specs.Objects.{AreLoaded, IsUsable}
 use Rattle.jvm_named.proofs.KindLemmas.{base-below, class-back, of-class}
 use Rattle.jvm_named.proofs.ObjectLemmas.{objects_with}
@@ -28,9 +28,9 @@ module _ (l : LinkerView) (few : length l.program.classes ≤ 4149) (has : HasBu
       subst (IsUsable l)
       (sym (ap (λ o. base_of_class l.program (unwrap_or o 0)) is.named
       ∙ (let plain : base_of_class l.program is.class ≡ 0 * 16777216 + base_of_class l.program is.class = omega arith in plain)))
-      (of-class l (has (user_count l.program) (omega arith) (let least : user_count l.program ≤ is.class = is.behind in let most : is.class < length l.program.classes = is.within in omega arith))
+      (of-class l (has.each (user_count l.program) (omega arith) (let least : user_count l.program ≤ is.class = is.behind in let most : is.class < length l.program.classes = is.within in omega arith))
       0 (base_of_class l.program is.class) is.class (base-below l.program is.class is.within few) (class-back l.program is.class is.within few)
-      (has is.class is.behind is.within))
+      (has.each is.class is.behind is.within))
 
   pub with_built_in : (name : List ℕ) → IsBuiltIn l.program name → (fields : List Datum) (h : HeapView) → AreLoaded l h
       → AreLoaded l (with_instance (kind_for l.program name) fields h)
@@ -57,5 +57,5 @@ module _ (l : LinkerView) (few : length l.program.classes ≤ 4149) (has : HasBu
       none : AreLoaded l (empty_heap l.program.heap)
       none = record {
         objects = tt;
-        root = has (user_count l.program) (omega arith) (let least : user_count l.program ≤ memory.class = memory.behind in let most : memory.class < length l.program.classes = memory.within in omega arith);
+        root = has.each (user_count l.program) (omega arith) (let least : user_count l.program ≤ memory.class = memory.behind in let most : memory.class < length l.program.classes = memory.within in omega arith);
       }

@@ -3,13 +3,12 @@ use Rattle.std.proofs.Common.{◌≡◌, Bool, true, false, refl}
 use Rattle.std.specs.Prelude.{Some, Result, Ok, Err, not, pos, if◌then◌else◌}
 use Rattle.heap_objects.specs.declared.Value.TheVariants.{Int}
 use Rattle.jvm_model.specs.CreationRules.{answers, casts_to}
-use Rattle.jvm_model.specs.declared.program.Program.{Program}
 use Rattle.jvm_model.specs.declared.state.Shared.{Shared}
-use Rattle.jvm_model.specs.Data.{Locals, Operands, Next, Outcome, GoesOn, Done}
+use Rattle.jvm_model.specs.Data.{Locals, Operands, World, Next, Outcome, GoesOn, Done}
 use Rattle.jvm_model.specs.FieldRules.{gets_of, held_of, kind_by, pushes_static, puts_into, putting_of, sets_static}
 use Rattle.jvm_model.specs.InvocationRules.{Virtual, OfInterface, Special, arguments_by, invokes_on, invokes_with_static}
 use Rattle.jvm_model.specs.LocalRules.{replaces}
-use Rattle.jvm_model.specs.Naming.{◌>>=◌, Naming, New, Getfield, Putfield, Getstatic, Putstatic, Invokevirtual, Invokespecial, Invokestatic, Invokeinterface, Checkcast, Instanceof, Anewarray, Multianewarray, is_null, resolved_kind, resolved_name, resolves, unless_refused}
+use Rattle.jvm_model.specs.Naming.{◌>>=◌, Naming, New, Getfield, Putfield, Getstatic, Putstatic, Invokevirtual, Invokespecial, Invokestatic, Invokeinterface, Checkcast, Instanceof, Anewarray, Multianewarray, LdcClass, is_null, resolved_kind, resolved_name, resolves, unless_refused}
 use Rattle.jvm_model.specs.NamingRules.{does_named}
 use Rattle.jvm_model.specs.ObjectRules.{done}
 use Rattle.jvm_model.specs.Rules.{initialized}
@@ -35,45 +34,46 @@ null-is : (b : Bool) (null rest : Done) → not b ≡ false → (if b then null 
 null-is true null rest is = refl
 null-is false null rest is = absurd (true_false is)
 
-pub behind : (p : Program) (n : Naming) (s : Shared) (l : Locals) (o : Operands) → resolves n o ≡ true
-    → does_named p n s l o ≡ unless_refused s (resolved_kind p s.loaded (resolved_name n)) (λ kind. does_resolved p kind n s l o)
-behind p (New name) s l o is = refl
-behind p (Getfield r) s l o is =
-    then-unless s (resolved_kind p s.loaded r.class) (λ kind. field_found p kind false r) (λ m. gets_of p r m (ref_of o) s l o)
-behind p (Putfield r) s l o is =
-    then-unless s (resolved_kind p s.loaded r.class) (λ kind. field_found p kind false r) (λ m. puts_into p r m (putting_of (kind_by r) o) s l o)
-behind p (Getstatic r) s l o is =
-    then-unless s (resolved_kind p s.loaded r.class) (λ kind. field_found p kind true r) (λ m. pushes_static p m s l o)
-behind p (Putstatic r) s l o is =
-    then-unless s (resolved_kind p s.loaded r.class) (λ kind. field_found p kind true r)
-    (λ m. initialized p m.class s (sets_static m (held_of (kind_by r) o) s l o))
-behind p (Invokevirtual r) s l o is =
-    then-unless s (resolved_kind p s.loaded r.class) (λ kind. method_found p kind false false r)
-    (λ m. invokes_on p Virtual r m (arguments_by true r.member o) s l o)
-behind p (Invokespecial caller r interface) s l o is =
-    then-unless s (resolved_kind p s.loaded r.class) (λ kind. method_found p kind interface false r)
-    (λ m. invokes_on p (Special caller interface) r m (arguments_by true r.member o) s l o)
-behind p (Invokestatic r) s l o is =
-    then-unless s (resolved_kind p s.loaded r.class) (λ kind. method_found p kind false true r)
-    (λ m. initialized p m.class s (invokes_with_static p m (arguments_by false r.member o) s l o))
-behind p (Invokeinterface r) s l o is =
-    then-unless s (resolved_kind p s.loaded r.class) (λ kind. method_found p kind true false r)
-    (λ m. invokes_on p OfInterface r m (arguments_by true r.member o) s l o)
-behind p (Checkcast name) s l o is =
+pub behind : (w : World) (n : Naming) (s : Shared) (l : Locals) (o : Operands) → resolves n o ≡ true
+    → does_named w n s l o ≡ unless_refused s (resolved_kind w.program s.loaded (resolved_name n)) (λ kind. does_resolved w kind n s l o)
+behind w (New name) s l o is = refl
+behind w (Getfield r) s l o is =
+    then-unless s (resolved_kind w.program s.loaded r.class) (λ kind. field_found w.program kind false r) (λ m. gets_of w.program r m (ref_of o) s l o)
+behind w (Putfield r) s l o is =
+    then-unless s (resolved_kind w.program s.loaded r.class) (λ kind. field_found w.program kind false r) (λ m. puts_into w.program r m (putting_of (kind_by r) o) s l o)
+behind w (Getstatic r) s l o is =
+    then-unless s (resolved_kind w.program s.loaded r.class) (λ kind. field_found w.program kind true r) (λ m. pushes_static w.program m s l o)
+behind w (Putstatic r) s l o is =
+    then-unless s (resolved_kind w.program s.loaded r.class) (λ kind. field_found w.program kind true r)
+    (λ m. initialized w.program m.class s (sets_static m (held_of (kind_by r) o) s l o))
+behind w (Invokevirtual r) s l o is =
+    then-unless s (resolved_kind w.program s.loaded r.class) (λ kind. method_found w.program kind false false r)
+    (λ m. invokes_on w Virtual r m (arguments_by true r.member o) s l o)
+behind w (Invokespecial caller r interface) s l o is =
+    then-unless s (resolved_kind w.program s.loaded r.class) (λ kind. method_found w.program kind interface false r)
+    (λ m. invokes_on w (Special caller interface) r m (arguments_by true r.member o) s l o)
+behind w (Invokestatic r) s l o is =
+    then-unless s (resolved_kind w.program s.loaded r.class) (λ kind. method_found w.program kind false true r)
+    (λ m. initialized w.program m.class s (invokes_with_static w m (arguments_by false r.member o) s l o))
+behind w (Invokeinterface r) s l o is =
+    then-unless s (resolved_kind w.program s.loaded r.class) (λ kind. method_found w.program kind true false r)
+    (λ m. invokes_on w OfInterface r m (arguments_by true r.member o) s l o)
+behind w (Checkcast name) s l o is =
     null-or (is_null o) (done s (GoesOn l o Next))
-    (unless_refused s (resolved_kind p s.loaded name) (λ kind. done s (casts_to p name (ref_of o) s l o))) is
-behind p (Instanceof name) s l o is =
+    (unless_refused s (resolved_kind w.program s.loaded name) (λ kind. done s (casts_to w.program name (ref_of o) s l o))) is
+behind w (Instanceof name) s l o is =
     null-or (is_null o) (done s (replaces 1 (Some (Int (pos 0))) l o))
-    (unless_refused s (resolved_kind p s.loaded name) (λ kind. done s (answers p name (ref_of o) s l o))) is
-behind p (Anewarray name) s l o is = refl
-behind p (Multianewarray name dimensions) s l o is = refl
+    (unless_refused s (resolved_kind w.program s.loaded name) (λ kind. done s (answers w.program name (ref_of o) s l o))) is
+behind w (Anewarray name) s l o is = refl
+behind w (Multianewarray name dimensions) s l o is = refl
+behind w (LdcClass name) s l o is = refl
 
-pub skipped : (p : Program) (n : Naming) (s : Shared) (l : Locals) (o : Operands) → resolves n o ≡ false
-    → does_named p n s l o ≡ done s (skips n l o)
-skipped p (Checkcast name) s l o is =
+pub skipped : (w : World) (n : Naming) (s : Shared) (l : Locals) (o : Operands) → resolves n o ≡ false
+    → does_named w n s l o ≡ done s (skips n l o)
+skipped w (Checkcast name) s l o is =
     null-is (is_null o) (done s (GoesOn l o Next))
-    (unless_refused s (resolved_kind p s.loaded name) (λ kind. done s (casts_to p name (ref_of o) s l o))) is
-skipped p (Instanceof name) s l o is =
+    (unless_refused s (resolved_kind w.program s.loaded name) (λ kind. done s (casts_to w.program name (ref_of o) s l o))) is
+skipped w (Instanceof name) s l o is =
     null-is (is_null o) (done s (replaces 1 (Some (Int (pos 0))) l o))
-    (unless_refused s (resolved_kind p s.loaded name) (λ kind. done s (answers p name (ref_of o) s l o))) is
-skipped p n s l o is = absurd (true_false is)
+    (unless_refused s (resolved_kind w.program s.loaded name) (λ kind. done s (answers w.program name (ref_of o) s l o))) is
+skipped w n s l o is = absurd (true_false is)

@@ -5,10 +5,10 @@ mod Behind
 mod ObjectLemmas
 mod Resolutions
 mod Arguments
-mod BuiltInLemmas
-mod TargetLemmas
 mod Going
-mod Slots
+mod NativeLemmas
+mod TargetLemmas
+pub mod Slots
 mod Quiet
 mod Carried
 mod Attempted

@@ -6,6 +6,7 @@ use Rattle.heap_objects.specs.Heaps.{HeapView, with_instance, with_text}
 use Rattle.jvm_model.specs.Layouts.{layout}
 use Rattle.jvm_model.specs.declared.program.Program.{Program}
 use Rattle.jvm_model.specs.declared.state.Shared.{Shared}
+use Rattle.jvm_model.specs.ConstantRules.{pushes_object_of}
 use Rattle.jvm_model.specs.CreationRules.{allocates, array_over, has_no_instances, instantiation_error, is_text_class, slots_of_arrays, with_arrays, zero_of, counts_of, lengths_of, makes_arrays, makes_by_counts, makes_instance, makes_object}
 use Rattle.jvm_model.specs.declared.state.Phase.{Phase}
 use Rattle.jvm_model.specs.declared.state.Phase.TheVariants.{Fresh, Running, Ready, Erroneous}
@@ -132,6 +133,9 @@ module _ (p : Program) (kind : ℕ) (s : Shared) (l : Locals) (o : Operands) (ou
 
   pub writes_anewarray : output ≡ output ++ (makes (array_over kind) (int_of o) s l o).wrote
   writes_anewarray = nothing output (makes (array_over kind) (int_of o) s l o) (makes-silent (array_over kind) (int_of o) s l o)
+
+  pub writes_class : output ≡ output ++ (pushes_object_of kind s l o).wrote
+  writes_class = nothing output (pushes_object_of kind s l o) refl
 
   pub writes_arrays : (dimensions : ℕ) → output ≡ output ++ (makes_by_counts kind dimensions (counts_of dimensions o) s l o).wrote
   writes_arrays dimensions =

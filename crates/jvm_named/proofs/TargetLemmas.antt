@@ -7,11 +7,10 @@ use Rattle.heap_objects.specs.declared.datum.Datum.{Datum}
 use Rattle.heap_objects.specs.Heaps.{kind_at}
 use Rattle.const_pool.specs.References.{Reference}
 use Rattle.frame_stack.specs.FrameLists.{FramesView}
-use Rattle.jvm_model.specs.declared.program.Program.{Program}
 use Rattle.jvm_model.specs.declared.state.Phase.{Phase}
 use Rattle.jvm_model.specs.declared.state.Phase.TheVariants.{Fresh, Running, Ready, Erroneous}
 use Rattle.jvm_model.specs.declared.state.Shared.{Shared}
-use Rattle.jvm_model.specs.Data.{Locals, Operands, Outcome, Done}
+use Rattle.jvm_model.specs.Data.{Locals, Operands, World, Outcome, Done}
 use Rattle.jvm_model.specs.InvocationRules.{Selecting, arguments_by, invokes_on, invokes_selected, invokes_with_static, names_interface, not_of_class, receiver_in, selected_by}
 use Rattle.jvm_model.specs.Lookup.{MemberPlace}
 use Rattle.jvm_model.specs.Naming.{◌>>=◌, is_instance, present, receiver, unless_refused}
@@ -31,49 +30,49 @@ use Rattle.jvm_named.specs.Targets.{Target, as_datum, data_in, instance_target, 
 
 -- ---- instance methods
 
-module _ (p : Program) (by : Selecting) (r : Reference) (s : Shared) (l : Locals) (o : Operands) where
+module _ (w : World) (by : Selecting) (r : Reference) (s : Shared) (l : Locals) (o : Operands) where
   abbrev chosen : MemberPlace → List Datum → ℕ → Result Target Outcome
-  chosen m args class = Ok (record { selected = selected_by p by m class; args = args })
+  chosen m args class = Ok (record { selected = selected_by w.program by m class; args = args })
 
   abbrev with_class : MemberPlace → List Datum → Result ℕ Outcome → Result Target Outcome
-  with_class m args found = found >>= (λ object. Ok (class_at_kind p (kind_at object s.heap))) >>= chosen m args
+  with_class m args found = found >>= (λ object. Ok (class_at_kind w.program (kind_at object s.heap))) >>= chosen m args
 
   by-receiver : (m : MemberPlace) (args : List Datum) (found : Result ℕ Outcome)
-      → invokes_target p (with_class m args found) s l o
-      ≡ unless_refused s found (λ object. invokes_selected p (selected_by p by m (class_of p s object)) args s l (drop (length args) o))
+      → invokes_target w (with_class m args found) s l o
+      ≡ unless_refused s found (λ object. invokes_selected w (selected_by w.program by m (class_of w.program s object)) args s l (drop (length args) o))
   by-receiver m args (Ok object) = refl
   by-receiver m args (Err e) = refl
 
   abbrev receiver_of : List Datum → Result ℕ Outcome
-  receiver_of args = receiver (receiver_in args) (is_instance p s.heap (receiver_in args) r.class) (not_of_class by)
+  receiver_of args = receiver (receiver_in args) (is_instance w.program s.heap (receiver_in args) r.class) (not_of_class by)
 
   by-arguments : (m : MemberPlace) (found : Option (List Datum))
-      → invokes_target p (present found >>= λ args. with_class m args (receiver_of args)) s l o ≡ invokes_on p by r m found s l o
+      → invokes_target w (present found >>= λ args. with_class m args (receiver_of args)) s l o ≡ invokes_on w by r m found s l o
   by-arguments m None = refl
   by-arguments m (Some args) = by-receiver m args (receiver_of args)
 
   by-method : (found : Result MemberPlace Outcome)
-      → invokes_target p (found >>= λ m. present (arguments_by true r.member o) >>= λ args. with_class m args (receiver_of args)) s l o
-      ≡ unless_refused s found (λ m. invokes_on p by r m (arguments_by true r.member o) s l o)
+      → invokes_target w (found >>= λ m. present (arguments_by true r.member o) >>= λ args. with_class m args (receiver_of args)) s l o
+      ≡ unless_refused s found (λ m. invokes_on w by r m (arguments_by true r.member o) s l o)
   by-method (Ok m) = by-arguments m (arguments_by true r.member o)
   by-method (Err e) = refl
 
-  pub instance-rule : (kind : ℕ) → invokes_target p (instance_target p kind by r s.heap o) s l o ≡ invokes_instance p kind by r s l o
-  instance-rule kind = by-method (method_found p kind (names_interface by) false r)
+  pub instance-rule : (kind : ℕ) → invokes_target w (instance_target w.program kind by r s.heap o) s l o ≡ invokes_instance w kind by r s l o
+  instance-rule kind = by-method (method_found w.program kind (names_interface by) false r)
 
 -- ---- static methods
 
-module _ (p : Program) (r : Reference) (s : Shared) (l : Locals) (o : Operands) where
+module _ (w : World) (r : Reference) (s : Shared) (l : Locals) (o : Operands) where
   abbrev fixed : MemberPlace → List Datum → Result Target Outcome
   fixed m args = Ok (record { selected = Some m; args = args })
 
-  by-present : (m : MemberPlace) (found : Option (List Datum)) → invokes_target p (present found >>= fixed m) s l o ≡ invokes_with_static p m found s l o
+  by-present : (m : MemberPlace) (found : Option (List Datum)) → invokes_target w (present found >>= fixed m) s l o ≡ invokes_with_static w m found s l o
   by-present m None = refl
   by-present m (Some args) = refl
 
   by-phase : (m : MemberPlace) (phase : Option Phase)
-      → invokes_target p (unless_unready (unready_by p m.class phase) (present (arguments_by false r.member o)) >>= fixed m) s l o
-      ≡ when_ready p phase m.class s (invokes_with_static p m (arguments_by false r.member o) s l o)
+      → invokes_target w (unless_unready (unready_by w.program m.class phase) (present (arguments_by false r.member o)) >>= fixed m) s l o
+      ≡ when_ready w.program phase m.class s (invokes_with_static w m (arguments_by false r.member o) s l o)
   by-phase m (Some Ready) = by-present m (arguments_by false r.member o)
   by-phase m (Some Running) = by-present m (arguments_by false r.member o)
   by-phase m (Some Fresh) = refl
@@ -81,13 +80,13 @@ module _ (p : Program) (r : Reference) (s : Shared) (l : Locals) (o : Operands) 
   by-phase m None = refl
 
   by-found : (found : Result MemberPlace Outcome)
-      → invokes_target p (found >>= λ m. unless_unready (unready_by p m.class (phase_of s m.class)) (present (arguments_by false r.member o)) >>= fixed m) s l o
-      ≡ unless_refused s found (λ m. when_ready p (phase_of s m.class) m.class s (invokes_with_static p m (arguments_by false r.member o) s l o))
+      → invokes_target w (found >>= λ m. unless_unready (unready_by w.program m.class (phase_of s m.class)) (present (arguments_by false r.member o)) >>= fixed m) s l o
+      ≡ unless_refused s found (λ m. when_ready w.program (phase_of s m.class) m.class s (invokes_with_static w m (arguments_by false r.member o) s l o))
   by-found (Ok m) = by-phase m (phase_of s m.class)
   by-found (Err e) = refl
 
-  pub static-rule : (kind : ℕ) → invokes_target p (static_target p kind r s o) s l o ≡ invokes_static_method p kind r s l o
-  static-rule kind = by-found (method_found p kind false true r)
+  pub static-rule : (kind : ℕ) → invokes_target w (static_target w.program kind r s o) s l o ≡ invokes_static_method w kind r s l o
+  static-rule kind = by-found (method_found w.program kind false true r)
 
 -- ---- a target that was found
 
@@ -98,11 +97,11 @@ length-data count o enough =
     let len : length (take count o) ≡ min count (length o) = length-take count o in
     omega (arith, all, back, len, enough)
 
-pub does-target : (p : Program) (found : Result Target Outcome) (s : Shared) (l : Locals) (o : Operands) (t : TheTarget) → Ok (target_in o t) ≡ found → t.count ≤ length o
-    → invokes_selected p (option_map at_place t.selected) (data_in t.count o) s l (drop t.count o) ≡ invokes_target p found s l o
-does-target p found s l o t is enough =
-    ap (λ n. invokes_selected p (option_map at_place t.selected) (data_in t.count o) s l (drop n o)) (sym (length-data t.count o enough))
-    ∙ ap (λ x. invokes_target p x s l o) is
+pub does-target : (w : World) (found : Result Target Outcome) (s : Shared) (l : Locals) (o : Operands) (t : TheTarget) → Ok (target_in o t) ≡ found → t.count ≤ length o
+    → invokes_selected w (option_map at_place t.selected) (data_in t.count o) s l (drop t.count o) ≡ invokes_target w found s l o
+does-target w found s l o t is enough =
+    ap (λ n. invokes_selected w (option_map at_place t.selected) (data_in t.count o) s l (drop n o)) (sym (length-data t.count o enough))
+    ∙ ap (λ x. invokes_target w x s l o) is
 
 -- ---- a refusal changes nothing
 
@@ -113,8 +112,9 @@ refuses d next f s out e is = subst (λ d. IsDone d next (changed f s out) (chan
   by (refusal.Raises class message) = record { answer = refl; frames = refl; shared = refl; output = sym (append-nil out) }
   by (refusal.Throws object) = record { answer = refl; frames = refl; shared = refl; output = sym (append-nil out) }
   by (refusal.Initializes class) = record { answer = refl; frames = refl; shared = refl; output = sym (append-nil out) }
+  by (refusal.Exits status) = record { answer = refl; frames = refl; shared = refl; output = sym (append-nil out) }
   by refusal.Breaks = record { answer = refl; frames = refl; shared = refl; output = sym (append-nil out) }
 
-pub refuses-target : (p : Program) (found : Result Target Outcome) (s : Shared) (l : Locals) (o : Operands) (e : Refusal) → Err (refusal_view e) ≡ found
-    → invokes_target p found s l o ≡ done s (refusal_view e)
-refuses-target p found s l o e is = ap (λ x. invokes_target p x s l o) (sym is)
+pub refuses-target : (w : World) (found : Result Target Outcome) (s : Shared) (l : Locals) (o : Operands) (e : Refusal) → Err (refusal_view e) ≡ found
+    → invokes_target w found s l o ≡ done s (refusal_view e)
+refuses-target w found s l o e is = ap (λ x. invokes_target w x s l o) (sym is)

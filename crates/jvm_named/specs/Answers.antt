@@ -1,6 +1,7 @@
 -- What an instruction comes to, by the outcome of its rule: the answer, and what becomes of the current frame (JVM Specification 2.6,
 -- 4.9.2, 6.5).
-use Rattle.std.specs.Prelude.{◌≡◌, ℕ, false, List, length, Result, Ok, Err, IfOk, OnOk, ◌==◌, if◌then◌else◌}
+use Rattle.std.specs.Prelude.{◌≡◌, ℕ, false, List, [], length, slice_get, unwrap_or, Result, Ok, Err, IfOk, OnOk, ◌==◌, if◌then◌else◌}
+use Rattle.const_pool.specs.BuiltIn.{built_in_names}
 use Rattle.jf_bytes.specs.declared.error.NoMemory.{NoMemory}
 use Rattle.frame_stack.specs.FrameLists.{PlacedFrame, FramesView, with_frames, top_operands}
 use Rattle.jvm_basic.specs.declared.effect.Effect.{Effect}
@@ -8,7 +9,7 @@ use Rattle.jvm_basic.specs.declared.effect.Effect.TheVariants as effect
 use Rattle.jvm_basic.specs.Outcomes.{can_hold, top_locals, with_top}
 use Rattle.jvm_model.specs.CreationRules.{class_cast, instantiation_error}
 use Rattle.jvm_model.specs.declared.state.Shared.{Shared}
-use Rattle.jvm_model.specs.Data.{Locals, Operands, Next, Outcome, GoesOn, Invokes, Raises, Throws, Initializes, Breaks, Done}
+use Rattle.jvm_model.specs.Data.{Locals, Operands, Next, Outcome, GoesOn, Invokes, Raises, Throws, Initializes, Exits, Breaks, Done}
 use Rattle.jvm_model.specs.InvocationRules.{abstract_method, unsatisfied_link}
 use Rattle.jvm_model.specs.Load.{circular_class}
 use Rattle.jvm_model.specs.Lookup.{MemberPlace, incompatible_change}
@@ -37,6 +38,7 @@ exception_name exception.NoSuchField = no_such_field
 exception_name exception.NoSuchMethod = no_such_method
 exception_name exception.NullPointer = null_pointer
 exception_name exception.UnsatisfiedLink = unsatisfied_link
+exception_name (exception.BuiltIn place) = unwrap_or (slice_get built_in_names place) []
 
 -- that of the built-in class at this place, where it is the error of a load or of a resolution
 abbrev pub exception_numbered : ℕ → Exception
@@ -50,6 +52,7 @@ abbrev pub refusal_view : Refusal → Outcome
 refusal_view (refusal.Raises e message) = Raises (exception_name e) message
 refusal_view (refusal.Throws object) = Throws object
 refusal_view (refusal.Initializes class) = Initializes class
+refusal_view (refusal.Exits status) = Exits status
 refusal_view refusal.Breaks = Breaks false
 
 -- what a step finds, or what it asks for where it is refused

@@ -3,7 +3,7 @@ use Rattle.std.specs.Prelude.{◌≡◌, ℕ, true, false, List, ◌++◌, Optio
 use Rattle.frame_stack.specs.FrameLists.{FramesView, top_operands}
 use Rattle.jvm_model.specs.declared.program.Program.{Program}
 use Rattle.jvm_model.specs.declared.state.Shared.{Shared}
-use Rattle.jvm_model.specs.Data.{Operands}
+use Rattle.jvm_model.specs.Data.{Operands, World}
 use Rattle.jvm_model.specs.Naming.{Naming, newly_loaded, resolved_kind, resolved_name, resolves}
 use Rattle.jvm_model.specs.NamingRules.{does_named}
 use Rattle.class_linker.specs.Linkers.{LinkerView}
@@ -24,9 +24,13 @@ linker_with l loaded = record { program = l.program; loaded = loaded }
 abbrev pub linker_loaded : Naming → Shared → LinkerView → FramesView → LinkerView
 linker_loaded n s l f = linker_with l (loaded_for l.program n s f)
 
+-- the linker's program on an input
+abbrev pub world_over : LinkerView → List ℕ → World
+world_over l input = record { program = l.program; input = input }
+
 -- the rule of the instruction, over what is loaded then
-abbrev pub attempts : Program → Naming → Shared → FramesView → Rule
-attempts p n s f l o = does_named p n (shared_loaded p n s f) l o
+abbrev pub attempts : World → Naming → Shared → FramesView → Rule
+attempts w n s f l o = does_named w n (shared_loaded w.program n s f) l o
 
 -- what was found for the name, over what is loaded now: nothing where nothing is resolved
 abbrev pub IsFound : LinkerView → Naming → Operands → Option (Result ℕ Refusal) → Type 0

@@ -9,5 +9,5 @@ pub mod Numbers
 pub mod Fields
 pub mod Targets
 pub mod Does
-pub mod BuiltInCalls
+pub mod Natives
 pub mod Arrays

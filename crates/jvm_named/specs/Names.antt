@@ -18,3 +18,4 @@ naming_view (naming.Checkcast name) = model.Checkcast name
 naming_view (naming.Instanceof name) = model.Instanceof name
 naming_view (naming.Anewarray name) = model.Anewarray name
 naming_view (naming.Multianewarray name dimensions) = model.Multianewarray name dimensions
+naming_view (naming.LdcClass name) = model.LdcClass name

@@ -12,7 +12,7 @@ use Rattle.jvm_model.specs.declared.program.Program.{Program}
 use Rattle.jvm_model.specs.declared.state.Phase.{Phase}
 use Rattle.jvm_model.specs.declared.state.Phase.TheVariants.{Fresh, Running, Ready, Erroneous}
 use Rattle.jvm_model.specs.declared.state.Shared.{Shared}
-use Rattle.jvm_model.specs.Data.{Locals, Operands, Outcome, Raises, Initializes, Done}
+use Rattle.jvm_model.specs.Data.{Locals, Operands, World, Outcome, Raises, Initializes, Done}
 use Rattle.jvm_model.specs.InvocationRules.{Selecting, Virtual, OfInterface, Special, arguments_by, invokes_selected, names_interface, not_of_class, receiver_in, selected_by}
 use Rattle.jvm_model.specs.Lookup.{MemberPlace}
 use Rattle.jvm_model.specs.Naming.{◌>>=◌, is_instance, present, receiver, unless_refused}
@@ -105,6 +105,6 @@ static_target p kind r s o =
 
 -- ---- and then
 
-abbrev pub invokes_target : Program → Result Target Outcome → Shared → Locals → Operands → Done
-invokes_target p found s l o =
-    unless_refused s found (λ t. invokes_selected p t.selected t.args s l (drop (length t.args) o))
+abbrev pub invokes_target : World → Result Target Outcome → Shared → Locals → Operands → Done
+invokes_target w found s l o =
+    unless_refused s found (λ t. invokes_selected w t.selected t.args s l (drop (length t.args) o))

@@ -2,7 +2,7 @@
 
 use jf_bytes::Text16;
 
-/// The class of an exception that an instruction raises.
+/// The class of an exception that an instruction raises; one that a native method throws is of the built-in class at a place among them.
 #[derive(Clone, Copy, Debug, PartialEq, Eq)]
 pub enum Exception {
     AbstractMethod,
@@ -16,15 +16,18 @@ pub enum Exception {
     NoSuchMethod,
     NullPointer,
     UnsatisfiedLink,
+    BuiltIn(u16),
 }
 
 /// What an instruction asks for in place of going on (2.10, 5.5): an exception that the machine makes, with its message; that an object
-/// is thrown; that the class at this position is initialized before; or the end, where the code is unverifiable. The frame is as it was.
+/// is thrown; that the class at this position is initialized before; the end of the program with a status; or its end where the code is
+/// unverifiable. The frame is as it was.
 #[derive(Debug, Drop)]
 pub enum Refusal {
     Raises(Exception, Option<Text16>),
     Throws(u32),
     Initializes(u32),
+    Exits(i32),
     Breaks,
 }
 

@@ -9,8 +9,9 @@ ghost use Rattle.jvm_model.specs.NamingRules.{does_named};
 ghost use Rattle.jvm_named.specs.Answers.{Answers, Moves, Shares, answer_of, answer_view};
 ghost use Rattle.jvm_named.specs.Answers.{frames_of, wrote_by};
 ghost use Rattle.jvm_named.specs.Attempts.{IsFound, attempts, linker_loaded, linker_with};
-ghost use Rattle.jvm_named.specs.BuiltInCalls.{HasBuiltIn};
+ghost use Rattle.jvm_named.specs.Attempts.{world_over};
 ghost use Rattle.jvm_named.specs.Names.{naming_view};
+ghost use Rattle.jvm_named.specs.Natives.{HasBuiltIn};
 ghost use Rattle.jvm_named.specs.Numbers.{AreNumbers};
 ghost use Rattle.jvm_named.specs.Objects.{AreLoaded, HasDimensions, HasLoadedCaller};
 ghost use Rattle.jvm_named.specs.Resolved.{skips};
@@ -70,6 +71,7 @@ fn resolved_name(naming: &Naming) -> &Text16
         Naming::Instanceof(name) => name,
         Naming::Anewarray(name) => name,
         Naming::Multianewarray(name, _) => name,
+        Naming::LdcClass(name) => name,
     }
 }
 
@@ -116,6 +118,7 @@ fn do_found(
     numbers: &MethodNumbers,
     shared: &mut Shared,
     frames: &mut Frames,
+    input: &[u8],
     output: &mut Seq<u8>,
     naming: &Naming,
     found: Option<Result<u32, Refusal>>,
@@ -129,35 +132,36 @@ fn do_found(
     requires objects { AreLoaded linker.now shared.old.heap }
     requires caller { HasLoadedCaller linker.now (naming_view naming.now) }
     requires dimensions { HasDimensions (naming_view naming.now) }
-    ensures answer { Answers result
-        (does_named linker.now.program (naming_view naming.now) shared.old) frames.old }
-    ensures frames { Moves result frames.new
-        (does_named linker.now.program (naming_view naming.now) shared.old) next frames.old }
-    ensures shared { Shares result shared.new
-        (does_named linker.now.program (naming_view naming.now) shared.old) frames.old }
-    ensures output { OnOk result (output.new ≡ output.old ++ wrote_by
-        (does_named linker.now.program (naming_view naming.now) shared.old) frames.old) }
+    ensures answer { Answers result (does_named (world_over linker.now input.now) (naming_view
+        naming.now) shared.old) frames.old }
+    ensures frames { Moves result frames.new (does_named (world_over linker.now input.now)
+        (naming_view naming.now) shared.old) next frames.old }
+    ensures shared { Shares result shared.new (does_named (world_over linker.now input.now)
+        (naming_view naming.now) shared.old) frames.old }
+    ensures output { OnOk result (output.new ≡ output.old ++ wrote_by (does_named (world_over
+        linker.now input.now) (naming_view naming.now) shared.old) frames.old) }
     ensures objects { OnOk result (AreLoaded linker.now shared.new.heap) }
 {
     match found {
         None => Ok(skip(frames, naming, next)),
         Some(Err(refusal)) => Ok(Asked::Refused(refusal)),
         Some(Ok(kind)) => do_resolved(
-            alloc, linker, numbers, shared, frames, output, naming, kind, next,
+            alloc, linker, numbers, shared, frames, input, output, naming, kind, next,
         ),
     }
 }
 
 /// Attempts an instruction that names a class or a member (JVM Specification 5.4.3, 6.5): loads what it names, and does what its rule
-/// says over what is loaded then. `next` is the place behind it, and `output` what was written so far. The built-in classes have to be
-/// loaded, the class of each object, and that in which an invokespecial stands; they are then, too. An Err says that memory ran out, and
-/// nothing of what is changed.
+/// says over what is loaded then. `next` is the place behind it, `input` the whole input, and `output` what was written so far. The
+/// built-in classes have to be loaded, the class of each object, and that in which an invokespecial stands; they are then, too. An Err
+/// says that memory ran out, and nothing of what is changed.
 pub fn attempt(
     alloc: Global,
     linker: &mut Linker,
     numbers: &MethodNumbers,
     shared: &mut Shared,
     frames: &mut Frames,
+    input: &[u8],
     output: &mut Seq<u8>,
     naming: &Naming,
     next: u16,
@@ -168,15 +172,14 @@ pub fn attempt(
     requires objects { AreLoaded linker.old shared.old.heap }
     requires caller { HasLoadedCaller linker.old (naming_view naming.now) }
     requires dimensions { HasDimensions (naming_view naming.now) }
-    ensures answer { Answers result
-        (attempts linker.old.program (naming_view naming.now) shared.old frames.old) frames.old }
-    ensures frames { Moves result frames.new
-        (attempts linker.old.program (naming_view naming.now) shared.old frames.old) next
-        frames.old }
-    ensures shared { Shares result shared.new
-        (attempts linker.old.program (naming_view naming.now) shared.old frames.old) frames.old }
-    ensures output { OnOk result (output.new ≡ output.old ++ wrote_by
-        (attempts linker.old.program (naming_view naming.now) shared.old frames.old) frames.old) }
+    ensures answer { Answers result (attempts (world_over linker.old input.now) (naming_view
+        naming.now) shared.old frames.old) frames.old }
+    ensures frames { Moves result frames.new (attempts (world_over linker.old input.now)
+        (naming_view naming.now) shared.old frames.old) next frames.old }
+    ensures shared { Shares result shared.new (attempts (world_over linker.old input.now)
+        (naming_view naming.now) shared.old frames.old) frames.old }
+    ensures output { OnOk result (output.new ≡ output.old ++ wrote_by (attempts (world_over
+        linker.old input.now) (naming_view naming.now) shared.old frames.old) frames.old) }
     ensures linker { OnOk result (linker.new
         ≡ linker_loaded (naming_view naming.now) shared.old linker.old frames.old) }
     ensures program { linker.new.program ≡ linker.old.program }
@@ -185,6 +188,6 @@ pub fn attempt(
 {
     let found = find(linker, &mut shared.loaded, frames, naming)?;
     do_found(
-        alloc, linker, numbers, shared, frames, output, naming, found, next,
+        alloc, linker, numbers, shared, frames, input, output, naming, found, next,
     )
 }

@@ -9,8 +9,9 @@ ghost use Rattle.jvm_model.specs.InvocationRules.{OfInterface, Special, Virtual}
 ghost use Rattle.jvm_model.specs.InvocationRules.{invokes_native, invokes_selected};
 ghost use Rattle.jvm_model.specs.Naming as model;
 ghost use Rattle.jvm_named.specs.Answers.{Answers, Moves, Shares, wrote_by};
-ghost use Rattle.jvm_named.specs.BuiltInCalls.{HasBuiltIn};
+ghost use Rattle.jvm_named.specs.Attempts.{world_over};
 ghost use Rattle.jvm_named.specs.Does.{Does, changed};
+ghost use Rattle.jvm_named.specs.Natives.{HasBuiltIn};
 ghost use Rattle.jvm_named.specs.Numbers.{AreNumbers};
 ghost use Rattle.jvm_named.specs.Objects.{AreLoaded, HasLoadedCaller, IsResolved};
 ghost use Rattle.jvm_named.specs.Members.{at_place};
@@ -18,9 +19,9 @@ ghost use Rattle.jvm_named.specs.Resolved.{invokes_instance, invokes_static_meth
 ghost use Rattle.jvm_named.specs.Targets.{HasCaller, selecting_view, data_in};
 
 use crate::asked::{Asked, Exception, Refusal};
-use crate::built_in::run_built_in;
 use crate::instances::user_count;
 use crate::naming::MethodName;
+use crate::natives::run_native;
 use crate::numbers::MethodNumbers;
 use crate::place::Place;
 use crate::targets::{Selecting, instance_target, is_abstract, static_target};
@@ -38,17 +39,19 @@ fn invoke_native(
     linker: &Linker,
     shared: &mut Shared,
     frames: &mut Frames,
+    input: &[u8],
     output: &mut Seq<u8>,
     m: Place,
     count: u16,
     next: u16,
 ) -> Result<Asked, NoMemory>
     requires within { count ≤ length (top_operands frames.old.frames) }
+    requires linked { linker.now.loaded ≡ shared.old.loaded }
     requires built_in { HasBuiltIn linker.now }
     requires objects { AreLoaded linker.now shared.old.heap }
     ensures done { let fs = frames.old.frames in let o = top_operands fs in
-        let rule = invokes_native linker.now.program (at_place m) (data_in count o) shared.old
-        (top_locals fs) (drop count o) in
+        let rule = invokes_native (world_over linker.now input.now) (at_place m) (data_in count o)
+        shared.old (top_locals fs) (drop count o) in
         Does result rule next (changed frames.old shared.old output.old)
         (changed frames.new shared.new output.new) }
     ensures objects { OnOk result (AreLoaded linker.now shared.new.heap) }
@@ -56,7 +59,7 @@ fn invoke_native(
     if m.class < user_count(linker) {
         return Ok(Asked::Refused(Refusal::Raises(Exception::UnsatisfiedLink, None)));
     }
-    run_built_in(alloc, linker, shared, frames, output, m, count, next)
+    run_native(alloc, linker, shared, frames, input, output, m, count, next)
 }
 
 /// The method that was selected.
@@ -66,6 +69,7 @@ fn invoke_found(
     numbers: &MethodNumbers,
     shared: &mut Shared,
     frames: &mut Frames,
+    input: &[u8],
     output: &mut Seq<u8>,
     m: Place,
     count: u16,
@@ -73,11 +77,12 @@ fn invoke_found(
 ) -> Result<Asked, NoMemory>
     requires within { count ≤ length (top_operands frames.old.frames) }
     requires numbers { AreNumbers linker.now.program numbers.now }
+    requires linked { linker.now.loaded ≡ shared.old.loaded }
     requires built_in { HasBuiltIn linker.now }
     requires objects { AreLoaded linker.now shared.old.heap }
     ensures done { let fs = frames.old.frames in let o = top_operands fs in
-        let rule = invokes_selected linker.now.program (Some (at_place m)) (data_in count o)
-        shared.old (top_locals fs) (drop count o) in
+        let rule = invokes_selected (world_over linker.now input.now) (Some (at_place m)) (data_in
+        count o) shared.old (top_locals fs) (drop count o) in
         Does result rule next (changed frames.old shared.old output.old)
         (changed frames.new shared.new output.new) }
     ensures objects { OnOk result (AreLoaded linker.now shared.new.heap) }
@@ -87,7 +92,7 @@ fn invoke_found(
     }
     match numbers.number(m.class, m.position) {
         Some(number) => Ok(Asked::Invokes(number, count)),
-        None => invoke_native(alloc, linker, shared, frames, output, m, count, next),
+        None => invoke_native(alloc, linker, shared, frames, input, output, m, count, next),
     }
 }
 
@@ -98,6 +103,7 @@ fn invoke_selected(
     numbers: &MethodNumbers,
     shared: &mut Shared,
     frames: &mut Frames,
+    input: &[u8],
     output: &mut Seq<u8>,
     selected: Option<Place>,
     count: u16,
@@ -105,10 +111,11 @@ fn invoke_selected(
 ) -> Result<Asked, NoMemory>
     requires within { count ≤ length (top_operands frames.old.frames) }
     requires numbers { AreNumbers linker.now.program numbers.now }
+    requires linked { linker.now.loaded ≡ shared.old.loaded }
     requires built_in { HasBuiltIn linker.now }
     requires objects { AreLoaded linker.now shared.old.heap }
     ensures done { let fs = frames.old.frames in let o = top_operands fs in
-        let rule = invokes_selected linker.now.program (option_map at_place selected)
+        let rule = invokes_selected (world_over linker.now input.now) (option_map at_place selected)
         (data_in count o) shared.old (top_locals fs) (drop count o) in
         Does result rule next (changed frames.old shared.old output.old)
         (changed frames.new shared.new output.new) }
@@ -116,7 +123,7 @@ fn invoke_selected(
 {
     match selected {
         Some(m) => invoke_found(
-            alloc, linker, numbers, shared, frames, output, m, count, next,
+            alloc, linker, numbers, shared, frames, input, output, m, count, next,
         ),
         None => Ok(Asked::Refused(Refusal::Raises(Exception::AbstractMethod, None))),
     }
@@ -131,6 +138,7 @@ fn invoke_instance(
     numbers: &MethodNumbers,
     shared: &mut Shared,
     frames: &mut Frames,
+    input: &[u8],
     output: &mut Seq<u8>,
     by: Selecting<'_>,
     method: &MethodName,
@@ -140,11 +148,12 @@ fn invoke_instance(
     requires resolved { IsResolved linker.now method.now.class kind }
     requires caller { HasCaller linker.now (selecting_view by) }
     requires numbers { AreNumbers linker.now.program numbers.now }
+    requires linked { linker.now.loaded ≡ shared.old.loaded }
     requires built_in { HasBuiltIn linker.now }
     requires objects { AreLoaded linker.now shared.old.heap }
     ensures done { let fs = frames.old.frames in
-        let rule = invokes_instance linker.now.program kind (selecting_view by.entry) method.now
-        shared.old (top_locals fs) (top_operands fs) in
+        let rule = invokes_instance (world_over linker.now input.now) kind (selecting_view by.entry)
+        method.now shared.old (top_locals fs) (top_operands fs) in
         Does result rule next (changed frames.old shared.old output.old)
         (changed frames.new shared.new output.new) }
     ensures objects { OnOk result (AreLoaded linker.now shared.new.heap) }
@@ -156,6 +165,7 @@ fn invoke_instance(
             numbers,
             shared,
             frames,
+            input,
             output,
             target.selected,
             target.count,
@@ -172,6 +182,7 @@ pub fn invoke_virtual(
     numbers: &MethodNumbers,
     shared: &mut Shared,
     frames: &mut Frames,
+    input: &[u8],
     output: &mut Seq<u8>,
     method: &MethodName,
     kind: u32,
@@ -179,16 +190,17 @@ pub fn invoke_virtual(
 ) -> Result<Asked, NoMemory>
     requires resolved { IsResolved linker.now method.now.class kind }
     requires numbers { AreNumbers linker.now.program numbers.now }
+    requires linked { linker.now.loaded ≡ shared.old.loaded }
     requires built_in { HasBuiltIn linker.now }
     requires objects { AreLoaded linker.now shared.old.heap }
-    ensures answer { Answers result
-        (invokes_instance linker.now.program kind Virtual method.now shared.old) frames.old }
-    ensures frames { Moves result frames.new
-        (invokes_instance linker.now.program kind Virtual method.now shared.old) next frames.old }
-    ensures shared { Shares result shared.new
-        (invokes_instance linker.now.program kind Virtual method.now shared.old) frames.old }
-    ensures output { OnOk result (output.new ≡ output.old ++ wrote_by
-        (invokes_instance linker.now.program kind Virtual method.now shared.old) frames.old) }
+    ensures answer { Answers result (invokes_instance (world_over linker.now input.now) kind Virtual
+        method.now shared.old) frames.old }
+    ensures frames { Moves result frames.new (invokes_instance (world_over linker.now input.now)
+        kind Virtual method.now shared.old) next frames.old }
+    ensures shared { Shares result shared.new (invokes_instance (world_over linker.now input.now)
+        kind Virtual method.now shared.old) frames.old }
+    ensures output { OnOk result (output.new ≡ output.old ++ wrote_by (invokes_instance (world_over
+        linker.now input.now) kind Virtual method.now shared.old) frames.old) }
     ensures objects { OnOk result (AreLoaded linker.now shared.new.heap) }
 {
     invoke_instance(
@@ -197,6 +209,7 @@ pub fn invoke_virtual(
         numbers,
         shared,
         frames,
+        input,
         output,
         Selecting::Virtual,
         method,
@@ -212,6 +225,7 @@ pub fn invoke_interface(
     numbers: &MethodNumbers,
     shared: &mut Shared,
     frames: &mut Frames,
+    input: &[u8],
     output: &mut Seq<u8>,
     method: &MethodName,
     kind: u32,
@@ -219,17 +233,17 @@ pub fn invoke_interface(
 ) -> Result<Asked, NoMemory>
     requires resolved { IsResolved linker.now method.now.class kind }
     requires numbers { AreNumbers linker.now.program numbers.now }
+    requires linked { linker.now.loaded ≡ shared.old.loaded }
     requires built_in { HasBuiltIn linker.now }
     requires objects { AreLoaded linker.now shared.old.heap }
-    ensures answer { Answers result
-        (invokes_instance linker.now.program kind OfInterface method.now shared.old) frames.old }
-    ensures frames { Moves result frames.new
-        (invokes_instance linker.now.program kind OfInterface method.now shared.old) next
-        frames.old }
-    ensures shared { Shares result shared.new
-        (invokes_instance linker.now.program kind OfInterface method.now shared.old) frames.old }
-    ensures output { OnOk result (output.new ≡ output.old ++ wrote_by
-        (invokes_instance linker.now.program kind OfInterface method.now shared.old) frames.old) }
+    ensures answer { Answers result (invokes_instance (world_over linker.now input.now) kind
+        OfInterface method.now shared.old) frames.old }
+    ensures frames { Moves result frames.new (invokes_instance (world_over linker.now input.now)
+        kind OfInterface method.now shared.old) next frames.old }
+    ensures shared { Shares result shared.new (invokes_instance (world_over linker.now input.now)
+        kind OfInterface method.now shared.old) frames.old }
+    ensures output { OnOk result (output.new ≡ output.old ++ wrote_by (invokes_instance (world_over
+        linker.now input.now) kind OfInterface method.now shared.old) frames.old) }
     ensures objects { OnOk result (AreLoaded linker.now shared.new.heap) }
 {
     invoke_instance(
@@ -238,6 +252,7 @@ pub fn invoke_interface(
         numbers,
         shared,
         frames,
+        input,
         output,
         Selecting::OfInterface,
         method,
@@ -253,6 +268,7 @@ pub fn invoke_special(
     numbers: &MethodNumbers,
     shared: &mut Shared,
     frames: &mut Frames,
+    input: &[u8],
     output: &mut Seq<u8>,
     caller: &Text16,
     interface: bool,
@@ -264,20 +280,17 @@ pub fn invoke_special(
     requires caller { HasLoadedCaller linker.now
         (model.Invokespecial caller.now method.now interface) }
     requires numbers { AreNumbers linker.now.program numbers.now }
+    requires linked { linker.now.loaded ≡ shared.old.loaded }
     requires built_in { HasBuiltIn linker.now }
     requires objects { AreLoaded linker.now shared.old.heap }
-    ensures answer { Answers result
-        (invokes_instance linker.now.program kind (Special caller.now interface) method.now
-        shared.old) frames.old }
-    ensures frames { Moves result frames.new
-        (invokes_instance linker.now.program kind (Special caller.now interface) method.now
-        shared.old) next frames.old }
-    ensures shared { Shares result shared.new
-        (invokes_instance linker.now.program kind (Special caller.now interface) method.now
-        shared.old) frames.old }
-    ensures output { OnOk result (output.new ≡ output.old ++ wrote_by
-        (invokes_instance linker.now.program kind (Special caller.now interface) method.now
-        shared.old) frames.old) }
+    ensures answer { Answers result (invokes_instance (world_over linker.now input.now) kind
+        (Special caller.now interface) method.now shared.old) frames.old }
+    ensures frames { Moves result frames.new (invokes_instance (world_over linker.now input.now)
+        kind (Special caller.now interface) method.now shared.old) next frames.old }
+    ensures shared { Shares result shared.new (invokes_instance (world_over linker.now input.now)
+        kind (Special caller.now interface) method.now shared.old) frames.old }
+    ensures output { OnOk result (output.new ≡ output.old ++ wrote_by (invokes_instance (world_over
+        linker.now input.now) kind (Special caller.now interface) method.now shared.old) frames.old) }
     ensures objects { OnOk result (AreLoaded linker.now shared.new.heap) }
 {
     invoke_instance(
@@ -286,6 +299,7 @@ pub fn invoke_special(
         numbers,
         shared,
         frames,
+        input,
         output,
         Selecting::Special(caller, interface),
         method,
@@ -303,6 +317,7 @@ fn invoke_fixed(
     numbers: &MethodNumbers,
     shared: &mut Shared,
     frames: &mut Frames,
+    input: &[u8],
     output: &mut Seq<u8>,
     method: &MethodName,
     kind: u32,
@@ -310,11 +325,12 @@ fn invoke_fixed(
 ) -> Result<Asked, NoMemory>
     requires resolved { IsResolved linker.now method.now.class kind }
     requires numbers { AreNumbers linker.now.program numbers.now }
+    requires linked { linker.now.loaded ≡ shared.old.loaded }
     requires built_in { HasBuiltIn linker.now }
     requires objects { AreLoaded linker.now shared.old.heap }
     ensures done { let fs = frames.old.frames in
-        let rule = invokes_static_method linker.now.program kind method.now shared.old
-        (top_locals fs) (top_operands fs) in
+        let rule = invokes_static_method (world_over linker.now input.now) kind method.now
+        shared.old (top_locals fs) (top_operands fs) in
         Does result rule next (changed frames.old shared.old output.old)
         (changed frames.new shared.new output.new) }
     ensures objects { OnOk result (AreLoaded linker.now shared.new.heap) }
@@ -326,6 +342,7 @@ fn invoke_fixed(
             numbers,
             shared,
             frames,
+            input,
             output,
             target.selected,
             target.count,
@@ -342,6 +359,7 @@ pub fn invoke_static(
     numbers: &MethodNumbers,
     shared: &mut Shared,
     frames: &mut Frames,
+    input: &[u8],
     output: &mut Seq<u8>,
     method: &MethodName,
     kind: u32,
@@ -349,19 +367,20 @@ pub fn invoke_static(
 ) -> Result<Asked, NoMemory>
     requires resolved { IsResolved linker.now method.now.class kind }
     requires numbers { AreNumbers linker.now.program numbers.now }
+    requires linked { linker.now.loaded ≡ shared.old.loaded }
     requires built_in { HasBuiltIn linker.now }
     requires objects { AreLoaded linker.now shared.old.heap }
-    ensures answer { Answers result
-        (invokes_static_method linker.now.program kind method.now shared.old) frames.old }
-    ensures frames { Moves result frames.new
-        (invokes_static_method linker.now.program kind method.now shared.old) next frames.old }
-    ensures shared { Shares result shared.new
-        (invokes_static_method linker.now.program kind method.now shared.old) frames.old }
-    ensures output { OnOk result (output.new ≡ output.old ++ wrote_by
-        (invokes_static_method linker.now.program kind method.now shared.old) frames.old) }
+    ensures answer { Answers result (invokes_static_method (world_over linker.now input.now) kind
+        method.now shared.old) frames.old }
+    ensures frames { Moves result frames.new (invokes_static_method (world_over linker.now
+        input.now) kind method.now shared.old) next frames.old }
+    ensures shared { Shares result shared.new (invokes_static_method (world_over linker.now
+        input.now) kind method.now shared.old) frames.old }
+    ensures output { OnOk result (output.new ≡ output.old ++ wrote_by (invokes_static_method
+        (world_over linker.now input.now) kind method.now shared.old) frames.old) }
     ensures objects { OnOk result (AreLoaded linker.now shared.new.heap) }
 {
     invoke_fixed(
-        alloc, linker, numbers, shared, frames, output, method, kind, next,
+        alloc, linker, numbers, shared, frames, input, output, method, kind, next,
     )
 }

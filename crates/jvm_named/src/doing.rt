@@ -3,8 +3,9 @@
 ghost use Rattle.std.specs.Prelude.{◌≡◌, ◌++◌, OnOk};
 ghost use Rattle.jvm_model.specs.Naming.{resolved_name};
 ghost use Rattle.jvm_named.specs.Answers.{Answers, Moves, Shares, wrote_by};
-ghost use Rattle.jvm_named.specs.BuiltInCalls.{HasBuiltIn};
+ghost use Rattle.jvm_named.specs.Attempts.{world_over};
 ghost use Rattle.jvm_named.specs.Names.{naming_view};
+ghost use Rattle.jvm_named.specs.Natives.{HasBuiltIn};
 ghost use Rattle.jvm_named.specs.Numbers.{AreNumbers};
 ghost use Rattle.jvm_named.specs.Objects.{AreLoaded, HasDimensions, HasLoadedCaller, IsResolved};
 ghost use Rattle.jvm_named.specs.Resolved.{does_resolved};
@@ -13,6 +14,7 @@ use crate::arrays::make_array_of;
 use crate::asked::Asked;
 use crate::calls::{invoke_interface, invoke_special, invoke_static, invoke_virtual};
 use crate::casts::{cast, tell_instance};
+use crate::class_objects::push_class_object;
 use crate::creation::make_new;
 use crate::fields::{get_field, put_field};
 use crate::multi_arrays::make_arrays;
@@ -26,33 +28,34 @@ use jvm_model::Shared;
 use std::alloc::Global;
 
 /// What the instruction does, with what it names resolved to this kind; of checkcast and instanceof where the operand is not null.
-#[tactic(auto, using(crate::proofs::Quiet::writes_new, crate::proofs::Quiet::writes_getfield, crate::proofs::Quiet::writes_putfield, crate::proofs::Quiet::writes_getstatic, crate::proofs::Quiet::writes_putstatic, crate::proofs::Quiet::writes_anewarray, crate::proofs::Quiet::writes_arrays, crate::proofs::Quiet::shared_getfield, crate::proofs::Quiet::shared_getstatic, crate::proofs::KindLemmas::few_over))]
+#[tactic(auto, using(crate::proofs::Quiet::writes_new, crate::proofs::Quiet::writes_getfield, crate::proofs::Quiet::writes_putfield, crate::proofs::Quiet::writes_getstatic, crate::proofs::Quiet::writes_putstatic, crate::proofs::Quiet::writes_anewarray, crate::proofs::Quiet::writes_arrays, crate::proofs::Quiet::writes_class, crate::proofs::Quiet::shared_getfield, crate::proofs::Quiet::shared_getstatic, crate::proofs::KindLemmas::few_over))]
 pub fn do_resolved(
     alloc: Global,
     linker: &Linker,
     numbers: &MethodNumbers,
     shared: &mut Shared,
     frames: &mut Frames,
+    input: &[u8],
     output: &mut Seq<u8>,
     naming: &Naming,
     kind: u32,
     next: u16,
 ) -> Result<Asked, NoMemory>
+    requires linked { linker.now.loaded ≡ shared.old.loaded }
     requires resolved { IsResolved linker.now (resolved_name (naming_view naming.now)) kind }
     requires numbers { AreNumbers linker.now.program numbers.now }
     requires built_in { HasBuiltIn linker.now }
     requires objects { AreLoaded linker.now shared.old.heap }
     requires caller { HasLoadedCaller linker.now (naming_view naming.now) }
     requires dimensions { HasDimensions (naming_view naming.now) }
-    ensures answer { Answers result
-        (does_resolved linker.now.program kind (naming_view naming.now) shared.old) frames.old }
-    ensures frames { Moves result frames.new
-        (does_resolved linker.now.program kind (naming_view naming.now) shared.old) next
-        frames.old }
-    ensures shared { Shares result shared.new
-        (does_resolved linker.now.program kind (naming_view naming.now) shared.old) frames.old }
-    ensures output { OnOk result (output.new ≡ output.old ++ wrote_by
-        (does_resolved linker.now.program kind (naming_view naming.now) shared.old) frames.old) }
+    ensures answer { Answers result (does_resolved (world_over linker.now input.now) kind
+        (naming_view naming.now) shared.old) frames.old }
+    ensures frames { Moves result frames.new (does_resolved (world_over linker.now input.now) kind
+        (naming_view naming.now) shared.old) next frames.old }
+    ensures shared { Shares result shared.new (does_resolved (world_over linker.now input.now) kind
+        (naming_view naming.now) shared.old) frames.old }
+    ensures output { OnOk result (output.new ≡ output.old ++ wrote_by (does_resolved (world_over
+        linker.now input.now) kind (naming_view naming.now) shared.old) frames.old) }
     ensures objects { OnOk result (AreLoaded linker.now shared.new.heap) }
 {
     match naming {
@@ -63,20 +66,21 @@ pub fn do_resolved(
         Naming::Putstatic(member) => put_static(alloc, linker, shared, frames, member, kind, next),
         Naming::Invokevirtual(method) => {
             invoke_virtual(
-                alloc, linker, numbers, shared, frames, output, method, kind, next,
+                alloc, linker, numbers, shared, frames, input, output, method, kind, next,
             )
         }
         Naming::Invokespecial(caller, method, interface) => invoke_special(
-            alloc, linker, numbers, shared, frames, output, caller, *interface, method, kind, next,
+            alloc, linker, numbers, shared, frames, input, output, caller, *interface, method,
+            kind, next,
         ),
         Naming::Invokestatic(method) => {
             invoke_static(
-                alloc, linker, numbers, shared, frames, output, method, kind, next,
+                alloc, linker, numbers, shared, frames, input, output, method, kind, next,
             )
         }
         Naming::Invokeinterface(method) => {
             invoke_interface(
-                alloc, linker, numbers, shared, frames, output, method, kind, next,
+                alloc, linker, numbers, shared, frames, input, output, method, kind, next,
             )
         }
         Naming::Checkcast(name) => Ok(cast(linker, shared, frames, name, kind, next)),
@@ -85,5 +89,6 @@ pub fn do_resolved(
         Naming::Multianewarray(_, dimensions) => {
             make_arrays(alloc, linker, shared, frames, kind, *dimensions, next)
         }
+        Naming::LdcClass(_) => push_class_object(linker, shared, frames, kind, next),
     }
 }

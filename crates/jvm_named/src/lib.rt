@@ -1,13 +1,14 @@
-//! The instructions that name classes, fields and methods (JVM Specification 5.4.3, 6.5), for programs of any number of classes: what
-//! each does to what is shared and to the current frame, exactly by the definitions of jvm_model.
+//! The instructions that name classes, fields and methods, and ldc of a Class (JVM Specification 5.4.3, 6.5), for programs of any number
+//! of classes: what each does to what is shared and to the current frame, exactly by the definitions of jvm_model. So a native method of
+//! a built-in class is done where it is invoked.
 #![tactic(auto)]
 
 mod arrays;
 mod asked;
 mod attempting;
-mod built_in;
 mod calls;
 mod casts;
+mod class_objects;
 mod classes;
 mod constants;
 mod creation;
@@ -19,6 +20,7 @@ mod members;
 mod moving;
 mod multi_arrays;
 mod naming;
+mod natives;
 mod numbers;
 mod place;
 mod receivers;

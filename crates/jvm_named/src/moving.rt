@@ -1,6 +1,8 @@
 //! How the frame goes on behind an instruction that names something (JVM Specification 2.6.2, 6.5).
 
-ghost use Rattle.std.specs.Prelude.{◌≡◌, ◌∷◌, drop};
+ghost use Rattle.std.specs.Prelude.{◌≡◌, ◌≤◌, ◌∷◌, drop, length, true};
+ghost use Rattle.frame_stack.specs.FrameLists.{top_operands};
+ghost use Rattle.jvm_basic.specs.Outcomes.{can_hold};
 ghost use Rattle.jvm_model.specs.Data.{GoesOn, Next};
 ghost use Rattle.jvm_named.specs.Answers.{answer_of, answer_view, asked_by, frames_of};
 
@@ -88,4 +90,37 @@ pub fn drop_operands(frames: &mut Frames, count: u16, next: u16) -> Asked
     }
     recall(frames);
     keep(frames, next)
+}
+
+/// With a value in place of so many topmost operands, which have room for it.
+pub fn replace_many(frames: &mut Frames, value: Value, count: u16, next: u16) -> Asked
+    requires { can_hold (value ∷ drop count (top_operands frames.old.frames)) frames.old.frames
+        ≡ true }
+    ensures answer { answer_view result
+        ≡ answer_of (λ l o. GoesOn l (value ∷ drop count o) Next) frames.old }
+    ensures frames { frames.new
+        ≡ frames_of (λ l o. GoesOn l (value ∷ drop count o) Next) next frames.old }
+{
+    for _ in 0..count {
+        frames.pop();
+    }
+    put(frames, value, next)
+}
+
+/// With a value in place of so many topmost operands. Two have room for any value.
+pub fn replace_operands(frames: &mut Frames, value: Value, count: u16, next: u16) -> Asked
+    requires { count ≤ length (top_operands frames.old.frames) }
+    ensures answer { answer_view result
+        ≡ answer_of (λ l o. GoesOn l (value ∷ drop count o) Next) frames.old }
+    ensures frames { frames.new
+        ≡ frames_of (λ l o. GoesOn l (value ∷ drop count o) Next) next frames.old }
+{
+    if count == 0 {
+        return put(frames, value, next);
+    }
+    if count == 1 {
+        return replace(frames, value, next);
+    }
+    recall(frames);
+    replace_many(frames, value, count, next)
 }

@@ -9,9 +9,7 @@ ghost use Rattle.heap_objects.specs.declared.Value.TheVariants.{Ref};
 ghost use Rattle.jvm_basic.specs.Outcomes.{can_hold};
 ghost use Rattle.jvm_model.specs.CreationRules.{allocates, counts_of, lengths_of, makes_arrays};
 ghost use Rattle.jvm_model.specs.CreationRules.{makes_by_counts, slots_of_arrays, with_arrays};
-ghost use Rattle.jvm_model.specs.Data.{GoesOn, Next};
-ghost use Rattle.jvm_named.specs.Answers.{Answers, Moves, Shares, answer_of, answer_view};
-ghost use Rattle.jvm_named.specs.Answers.{frames_of};
+ghost use Rattle.jvm_named.specs.Answers.{Answers, Moves, Shares};
 ghost use Rattle.jvm_named.specs.Arrays.{capped, int_at, lengths_from};
 ghost use Rattle.jvm_named.specs.Objects.{AreLoaded, IsUsable};
 
@@ -19,7 +17,7 @@ use crate::asked::{Asked, Exception, Refusal};
 use crate::creation::RESERVED;
 use crate::fields::put_slot;
 use crate::instances::ARRAY;
-use crate::moving::put;
+use crate::moving::replace_many;
 use class_linker::Linker;
 use frame_stack::Frames;
 use heap_objects::{Datum, Heap, HeapError, Value};
@@ -77,21 +75,6 @@ fn read_lengths(alloc: Global, counts: &[i32]) -> Result<Option<Seq<u32>>, NoMem
         lengths.push(*count as u32)?;
     }
     Ok(Some(lengths))
-}
-
-/// With a reference in place of so many topmost operands, which have room for it.
-fn replace_many(frames: &mut Frames, object: u32, count: u8, next: u16) -> Asked
-    requires { can_hold (Ref object ∷ drop count (top_operands frames.old.frames))
-        frames.old.frames ≡ true }
-    ensures answer { answer_view result
-        ≡ answer_of (λ l o. GoesOn l (Ref object ∷ drop count o) Next) frames.old }
-    ensures frames { frames.new
-        ≡ frames_of (λ l o. GoesOn l (Ref object ∷ drop count o) Next) next frames.old }
-{
-    for _ in 0..count {
-        frames.pop();
-    }
-    put(frames, Value::Ref(object), next)
 }
 
 // ---- room
@@ -223,7 +206,7 @@ fn make_lengths(
         return Ok(Asked::Refused(Refusal::Throws(RESERVED)));
     }
     let made = make_all(&mut shared.heap, kind, lengths)?;
-    Ok(replace_many(frames, made.array, dimensions, next))
+    Ok(replace_many(frames, Value::Ref(made.array), dimensions as u16, next))
 }
 
 /// The same, of as many elements as the counts say.

@@ -67,7 +67,8 @@ impl MethodName {
 }
 
 /// An instruction that names a class, a field or a method. Of invokespecial there is the name of the class in which it stands, and
-/// whether it names an interface's method; of multianewarray how many dimensions are given.
+/// whether it names an interface's method; of multianewarray how many dimensions are given; LdcClass is ldc of a
+/// Class.
 #[derive(Debug, Drop)]
 pub enum Naming {
     New(Text16),
@@ -83,4 +84,5 @@ pub enum Naming {
     Instanceof(Text16),
     Anewarray(Text16),
     Multianewarray(Text16, u8),
+    LdcClass(Text16),
 }

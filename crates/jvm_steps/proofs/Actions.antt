@@ -5,7 +5,7 @@ use Rattle.const_pool.specs.declared.class.ClassFile.{ClassFile}
 use Rattle.code_model.specs.declared.instr.Arg.{Arg}
 use Rattle.jvm_model.specs.declared.family.Family.{Family}
 use Rattle.jvm_model.specs.declared.family.Family.TheVariants as family
-use Rattle.jvm_model.specs.Data.{Local, Within, Named, Naming, New, Getfield, Putfield, Getstatic, Putstatic, Invokevirtual, Invokespecial, Invokestatic, Invokeinterface, Checkcast, Instanceof, Anewarray, Multianewarray}
+use Rattle.jvm_model.specs.Data.{Local, Within, Named, Naming, New, Getfield, Putfield, Getstatic, Putstatic, Invokevirtual, Invokespecial, Invokestatic, Invokeinterface, Checkcast, Instanceof, Anewarray, Multianewarray, LdcClass}
 use Rattle.jvm_model.specs.Lines.{local_of, constant_in, has_dimensions, named_by, operation_by}
 use Rattle.jvm_named.specs.Names.{naming_view}
 use Rattle.jvm_steps.specs.declared.line.Action.TheVariants as action
@@ -28,6 +28,7 @@ viewed (Checkcast name) = refl
 viewed (Instanceof name) = refl
 viewed (Anewarray name) = refl
 viewed (Multianewarray name dimensions) = refl
+viewed (LdcClass name) = refl
 
 chosen : (n : Naming) (b : Bool) → cond b (Some (action.Named (named_as n))) None ≡ option_map action_of (cond b (Some (Named n)) None)
 chosen n true = refl
@@ -44,7 +45,9 @@ local-acted : (i : Option Local) → option_map local_action i ≡ option_map ac
 local-acted None = refl
 local-acted (Some i) = refl
 
-pub family-acted : (c : ClassFile) (op : ℕ) (a : Arg) (f : Family) → (f ≡ family.Elsewhere → ⊥)
+-- of a family that tells by itself what its instructions do
+pub family-acted : (c : ClassFile) (op : ℕ) (a : Arg) (f : Family) → (f ≡ family.Elsewhere → ⊥) → (f ≡ family.Given → ⊥)
     → option_map local_action (local_of f a (constant_in c.pool a)) ≡ option_map action_of (operation_by c op a f)
-family-acted c op a family.Elsewhere apart = absurd (apart refl)
-family-acted c op a f apart = local-acted (local_of f a (constant_in c.pool a))
+family-acted c op a family.Elsewhere apart given = absurd (apart refl)
+family-acted c op a family.Given apart given = absurd (given refl)
+family-acted c op a f apart given = local-acted (local_of f a (constant_in c.pool a))

@@ -12,6 +12,8 @@ use Rattle.jvm_model.specs.declared.state.Entry.TheVariants.{Active, Initializin
 use Rattle.jvm_model.specs.declared.state.Frame.{Frame}
 use Rattle.jvm_model.specs.declared.state.State.{State}
 use Rattle.jvm_model.specs.Applies.{applies, breaks, enters_subroutine, gives_back, goes, has_room, invokes, live_in, most_live, place_of, resumes, begins, still, throws_at}
+use Rattle.jvm_model.specs.ConstantRules.{pushes_string}
+use Rattle.jvm_model.specs.Constants.{can_intern}
 use Rattle.jvm_model.specs.Data.{Locals, Operands, Naming, World, Text, Instruction, Outcome, GoesOn, Subroutine, Invokes, Returns, Throws, Raises, Initializes, Exits, Breaks, Done}
 use Rattle.jvm_model.specs.LocalRules.{arithmetic_exception, by_zero, returns}
 use Rattle.jvm_model.specs.Naming.{newly_loaded}
@@ -125,6 +127,9 @@ module _ (w : World) (line : Line) (s : State) (f : Frame) where
     by Outside = refl
     by (Inside slot) = chosen-keeps (fits_array w.program x.datum x.array s.shared.heap) _ _ refl refl
 
+  string-keeps : (units : List ℕ) → (pushes_string w.program units s.shared f.locals f.operands).shared.loaded ≡ s.shared.loaded
+  string-keeps units = chosen-keeps (can_intern units s.shared.heap) _ _ refl refl
+
   acts-keep : (a : Action) → is_named a ≡ false → Keeps s (acts_by w line s f a)
   acts-keep (action.Named n) none = absurd (false≢true (sym none))
   acts-keep action.Local none = comes-keeps (rule_of line.instr line.constant line.next f.locals f.operands)
@@ -139,6 +144,9 @@ module _ (w : World) (line : Line) (s : State) (f : Frame) where
   acts-keep (action.StoreElement k) none =
       let d = stores_element w.program k (storing_of k f.operands) s.shared f.locals f.operands in
       asked-keeps (record s { shared = d.shared }) d.outcome ∙ stores-keep k (storing_of k f.operands)
+  acts-keep (action.LdcString units) none =
+      let d = pushes_string w.program units s.shared f.locals f.operands in
+      asked-keeps (record s { shared = d.shared }) d.outcome ∙ string-keeps units
 
 pub attempts-keep : (w : World) (s : State) (f : Frame) (lo : Option Line) → ((l : Line) → lo ≡ Some l → is_named l.action ≡ false) → Keeps s (attempts_line w s f lo)
 attempts-keep w s f None quiet = refl
@@ -151,4 +159,4 @@ pub named-loads : (w : World) (line : Line) (n : Naming) (s : State) (f : Frame)
 named-loads w line n s f =
     let d : Done = named_done w n s f in
     applies-loaded w (original w.program) (placed_line line) d.outcome (with_done d s) f
-    ∙ (is-named (ready_for w n s f).shared f.operands w.program n f.locals).loaded
+    ∙ (is-named (ready_for w n s f).shared f.operands w n f.locals).loaded

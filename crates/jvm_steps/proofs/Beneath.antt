@@ -64,6 +64,7 @@ within-unless action.Arraylength isnt h = false≢true (sym h)
 within-unless (action.Newarray kind) isnt h = false≢true (sym h)
 within-unless (action.LoadElement k) isnt h = false≢true (sym h)
 within-unless (action.StoreElement k) isnt h = false≢true (sym h)
+within-unless (action.LdcString units) isnt h = false≢true (sym h)
 
 -- ---- what stands at the top
 
@@ -93,6 +94,7 @@ module _ (w : World) (ms : List Marker) (p : Parts) where
     by (action.Newarray kind) is = refl
     by (action.LoadElement k) is = refl
     by (action.StoreElement k) is = refl
+    by (action.LdcString units) is = refl
 
   awaits-by : (fs : List PlacedFrame) (here : Here) → here_of fs ≡ Some here → marker_on (length fs) ms ≡ None
       → named_in (line_at w.program here.version here.place) ≡ false → awaited_on w s (stack_of (map active fs) ms) ≡ None

@@ -17,6 +17,7 @@ use Rattle.jvm_model.specs.declared.state.Frame.{Frame}
 use Rattle.jvm_model.specs.declared.state.Shared.{Shared}
 use Rattle.jvm_model.specs.declared.state.State.{State}
 use Rattle.jvm_model.specs.Applies.{still, with_frame, breaks, goes, place_of, enters_subroutine, new_frame, throws_at, has_room, begins, invokes, most_live, live_in, applies}
+use Rattle.jvm_model.specs.ConstantRules.{pushes_string}
 use Rattle.jvm_model.specs.Data.{Locals, Operands, World, Text, Instruction, Outcome, GoesOn, Subroutine, Invokes, Returns, Throws, Raises, Initializes, Exits, Breaks, Began, Turn}
 use Rattle.jvm_model.specs.LocalRules.{arithmetic_exception, by_zero, returns}
 use Rattle.jvm_model.specs.Moves.{argument_array, caught, handler_for, main_or_end, move, moves, own_at}
@@ -36,7 +37,7 @@ use Rattle.jvm_steps.specs.Lines.{line_at}
 use Rattle.jvm_steps.specs.Markers.{initializing, marker_on, stack_of, with_markers}
 use Rattle.jvm_steps.specs.Settling.{after_move}
 use Rattle.jvm_steps.specs.States.{active, frame_in, state_in}
-use Rattle.jvm_steps.proofs.LineActs.{stays, throws-stays, watches-stays, measures-stays, loads-stays, makes-silent, stores-silent}
+use Rattle.jvm_steps.proofs.LineActs.{stays, throws-stays, watches-stays, measures-stays, loads-stays, makes-silent, stores-silent, string-silent}
 use Rattle.jvm_steps.proofs.MarkedStacks.{none-more, none-left, stack-empty, stack-plain, stack-frame, live-stack}
 
 pub length-active : (fs : List PlacedFrame) → length (map active fs) ≡ length fs
@@ -150,6 +151,10 @@ module _ (ms : List Marker) where
       let d = stores_element w.program k (storing_of k f.operands) s.shared f.locals f.operands in
       applies-carried w (original w.program) (placed_line line) d.outcome (stores-silent w.program k (storing_of k f.operands) s.shared f.locals f.operands).kept
       (record s { shared = d.shared }) f free
+  action-carried w line s f (action.LdcString units) free none within =
+      let d = pushes_string w.program units s.shared f.locals f.operands in
+      applies-carried w (original w.program) (placed_line line) d.outcome (string-silent w.program units s.shared f.locals f.operands).kept
+      (record s { shared = d.shared }) f free
 
   -- ---- a return
 
@@ -202,6 +207,7 @@ module _ (ms : List Marker) where
     by (action.Newarray kind) none below = action-carried w line s f (action.Newarray kind) free none refl
     by (action.LoadElement k) none below = action-carried w line s f (action.LoadElement k) free none refl
     by (action.StoreElement k) none below = action-carried w line s f (action.StoreElement k) free none refl
+    by (action.LdcString units) none below = action-carried w line s f (action.LdcString units) free none refl
 
   -- ---- a return of a static initializer
 

@@ -40,6 +40,7 @@ abbrev CanStop : Outcome → Type 0
 CanStop (Raises name message) = Unit {0}
 CanStop (Throws r) = Unit {0}
 CanStop (Initializes c) = Unit {0}
+CanStop (Exits status) = Unit {0}
 CanStop (Breaks false) = Unit {0}
 CanStop _ = ⊥
 
@@ -51,6 +52,7 @@ refusals-stop : (r : Refusal) → CanStop (refusal_view r)
 refusals-stop (refusal.Raises e message) = tt
 refusals-stop (refusal.Throws object) = tt
 refusals-stop (refusal.Initializes class) = tt
+refusals-stop (refusal.Exits status) = tt
 refusals-stop refusal.Breaks = tt
 
 pub can-answer : (a : Asked) → CanAnswer (answer_view a)
@@ -104,7 +106,7 @@ module _ (w : World) (line : Line) (here : Here) (own : own_of w here ≡ line.i
   concludes-there (Throws r) asks can none = refl
   concludes-there (Raises name message) asks can none = refl
   concludes-there (Initializes c) asks can none = absurd (none-some c (sym none))
-  concludes-there (Exits n) asks can none = absurd can
+  concludes-there (Exits n) asks can none = refl
   concludes-there (Breaks true) asks can none = absurd can
   concludes-there (Breaks false) asks can none = ends-there
 
@@ -134,7 +136,7 @@ starts-same (Returns d) f fs can = absurd can
 starts-same (Throws r) f fs can = refl
 starts-same (Raises name message) f fs can = refl
 starts-same (Initializes c) f fs can = refl
-starts-same (Exits n) f fs can = absurd can
+starts-same (Exits n) f fs can = refl
 starts-same (Breaks true) f fs can = absurd can
 starts-same (Breaks false) f fs can = refl
 
@@ -168,7 +170,7 @@ module _ (w : World) (line : Line) (n : Naming) (ms : List Marker) (here : Here)
       let mid : Parts = record p { shared = d.shared; output = p.output ++ d.wrote } in
       let method : here.method ≡ f.method = ap (λ (h : Here). h.method) (sym (same_Some _ here is)) in
       let silent : starts d.outcome ≡ None = sym (starts-same d.outcome f fs can) ∙ quiet in
-      let law : IsNamed _ f.operands d = is-named _ f.operands w.program n f.locals in
+      let law : IsNamed _ f.operands d = is-named _ f.operands w n f.locals in
       ap (with_markers ms) (concludes-there w line here own mid f fs method d.outcome law.asks can silent)
       ∙ applies-carried ms w (original w.program) (placed_line line) d.outcome (stays-there w line here own mid f fs method d.outcome can silent)
       (state_with fs mid) (frame_in f) (ap (λ k. marker_on (suc k) ms) (length-active fs) ∙ none)

@@ -1,12 +1,15 @@
 -- The array types that lines name have the dimensions that the format asks (JVM Specification 4.9.1).
 use Rattle.std.proofs.Common.{◌≡◌, ℕ, Bool, true, false, cond, List, [], ◌∷◌, Option, Some, None, refl, sym, subst}
-use Rattle.std.specs.Prelude.{◌==◌, ◌&&◌, nat_le}
+use Rattle.std.specs.Prelude.{◌==◌, ◌&&◌, nat_le, slice_get}
 use Rattle.std.specs.Borrow.{Bor}
 use Rattle.std.specs.Int.{is_in_range}
 use Rattle.std.specs.List.{AllByRecursion}
 use Rattle.std.specs.Option.{IfSome, option_and_then, option_map}
 use Rattle.std.proofs.lemmas.Bool.{ltb-true, leb-true}
 use Rattle.const_pool.specs.declared.class.ClassFile.{ClassFile}
+use Rattle.const_pool.specs.declared.pool.Const.{Const}
+use Rattle.const_pool.specs.declared.pool.Const.TheVariants as const
+use Rattle.const_pool.specs.References.{named_text}
 use Rattle.code_model.specs.declared.instr.Arg.{Arg}
 use Rattle.code_model.specs.declared.instr.Arg.TheVariants as arg
 use Rattle.code_model.specs.declared.instr.Instr.{Instr}
@@ -14,10 +17,10 @@ use Rattle.code_model.specs.Instructions.{instruction_at}
 use Rattle.jvm_model.specs.declared.family.Family.{Family}
 use Rattle.jvm_model.specs.declared.family.Family.TheVariants as family
 use Rattle.jvm_model.specs.declared.program.Program.{Program}
-use Rattle.jvm_model.specs.Data.{Local, Return, Operation, Within, Named, Naming, New, Getfield, Putfield, Getstatic, Putstatic, Invokevirtual, Invokespecial, Invokestatic, Invokeinterface, Checkcast, Instanceof, Anewarray, Multianewarray, Athrow, Monitor, Newarray, Arraylength, LoadElement, StoreElement}
+use Rattle.jvm_model.specs.Data.{Local, Return, Operation, Within, Named, Naming, New, Getfield, Putfield, Getstatic, Putstatic, Invokevirtual, Invokespecial, Invokestatic, Invokeinterface, Checkcast, Instanceof, Anewarray, Multianewarray, LdcClass, Athrow, Monitor, Newarray, Arraylength, LoadElement, StoreElement, LdcString}
 use Rattle.jvm_model.specs.Families.{family_of}
 use Rattle.jvm_model.specs.Kinds.{meaning_of}
-use Rattle.jvm_model.specs.Lines.{ObjectRow, constant_in, has_dimensions, interface_naming, local_of, multi_naming, named_by, naming_of, object_among, object_rows, operation_by, operation_of, other_operation}
+use Rattle.jvm_model.specs.Lines.{ObjectRow, constant_in, given_operation, has_dimensions, interface_naming, local_of, multi_naming, named_by, naming_of, object_among, object_constant, object_constant_in, object_rows, operation_by, operation_of, other_operation}
 use Rattle.jvm_model.specs.Methods.{method_code}
 use Rattle.jvm_model.specs.Programs.{class_at, place_of_method}
 use Rattle.jvm_named.specs.Names.{naming_view}
@@ -65,8 +68,31 @@ within : (o : Option Local) → IfSome (option_map Within o) Dimensioned
 within None = tt
 within (Some i) = tt
 
+-- what ldc pushes has none
+text : (make : List ℕ → Operation) → ((units : List ℕ) → Dimensioned (make units)) → (o : Option (List ℕ)) → IfSome (option_map make o) Dimensioned
+text make each None = tt
+text make each (Some units) = each units
+
+entry : (c : ClassFile) (k : Const) → IfSome (object_constant c.pool k) Dimensioned
+entry c (const.Text index) = text LdcString (λ units. tt) (named_text c.pool index)
+entry c (const.Class index) = text (λ name. Named (LdcClass name)) (λ name. refl) (named_text c.pool index)
+entry c _ = tt
+
+entry-of : (c : ClassFile) (o : Option Const) → IfSome (option_and_then (object_constant c.pool) o) Dimensioned
+entry-of c None = tt
+entry-of c (Some k) = entry c k
+
+constant : (c : ClassFile) (a : Arg) → IfSome (object_constant_in c.pool a) Dimensioned
+constant c (arg.Pool index) = entry-of c (slice_get c.pool index)
+constant c _ = tt
+
+given : (c : ClassFile) (a : Arg) (number : Option Local) → IfSome (given_operation (option_map Within number) (object_constant_in c.pool a)) Dimensioned
+given c a None = constant c a
+given c a (Some i) = tt
+
 by-family : (c : ClassFile) (op : ℕ) (a : Arg) (f : Family) → IfSome (operation_by c op a f) Dimensioned
 by-family c op a family.Elsewhere = other c op a
+by-family c op a family.Given = given c a (local_of family.Given a (constant_in c.pool a))
 by-family c op a f = within (local_of f a (constant_in c.pool a))
 
 -- ---- lines
@@ -95,6 +121,7 @@ fits-naming (Invokestatic r) h = tt
 fits-naming (Invokeinterface r) h = tt
 fits-naming (Checkcast name) h = tt
 fits-naming (Instanceof name) h = tt
+fits-naming (LdcClass name) h = tt
 
 abbrev FitsBy : ℕ → Operation → Type 0
 FitsBy next o = IfNamedBy (action_of o) next (λ n place. HasDimensions n)
@@ -112,6 +139,7 @@ fits-operation next (Newarray code) h = tt
 fits-operation next Arraylength h = tt
 fits-operation next (LoadElement k) h = tt
 fits-operation next (StoreElement k) h = tt
+fits-operation next (LdcString units) h = tt
 
 made-with : (c : ClassFile) (i : Instr) (o : Option Operation) → IfSome o Dimensioned → IfSome (option_map (line_with c i) (option_map action_of o)) Fits
 made-with c i None h = tt

@@ -16,7 +16,9 @@ use Rattle.jvm_model.specs.declared.state.Frame.{Frame}
 use Rattle.jvm_model.specs.declared.state.Shared.{Shared}
 use Rattle.jvm_model.specs.declared.state.State.{State}
 use Rattle.jvm_model.specs.Applies.{enters_subroutine, goes, resumes, gives_back, applies}
-use Rattle.jvm_model.specs.Data.{Locals, Operands, World, Text, Local, Nop, Constant, Load, Store, Arrange, BinaryOfInts, BinaryOfLongs, DivisionOfInts, DivisionOfLongs, ShiftOfLong, UnaryOfInt, UnaryOfLong, Lcmp, Iinc, Branch, Goto, Switch, Jsr, Ret, Return, Naming, New, Getfield, Putfield, Getstatic, Putstatic, Invokevirtual, Invokespecial, Invokestatic, Invokeinterface, Checkcast, Instanceof, Anewarray, Multianewarray, Operation, Within, Named, Athrow, Monitor, Newarray, Arraylength, LoadElement, StoreElement, Instruction, Outcome, GoesOn, Subroutine, Invokes, Returns, Throws, Raises, Initializes, Exits, Breaks, Next, Target, Back, Done, Keys}
+use Rattle.jvm_model.specs.ConstantRules.{pushes_string}
+use Rattle.jvm_model.specs.Constants.{can_intern}
+use Rattle.jvm_model.specs.Data.{Locals, Operands, World, Text, Local, Nop, Constant, Load, Store, Arrange, BinaryOfInts, BinaryOfLongs, DivisionOfInts, DivisionOfLongs, ShiftOfLong, UnaryOfInt, UnaryOfLong, Lcmp, Iinc, Branch, Goto, Switch, Jsr, Ret, Return, Naming, New, Getfield, Putfield, Getstatic, Putstatic, Invokevirtual, Invokespecial, Invokestatic, Invokeinterface, Checkcast, Instanceof, Anewarray, Multianewarray, LdcClass, Operation, Within, Named, Athrow, Monitor, Newarray, Arraylength, LoadElement, StoreElement, LdcString, Instruction, Outcome, GoesOn, Subroutine, Invokes, Returns, Throws, Raises, Initializes, Exits, Breaks, Next, Target, Back, Done, Keys}
 use Rattle.jvm_model.specs.Lines.{ends, is_last, targets_of}
 use Rattle.jvm_model.specs.LocalRules.{arithmetic_exception, by_zero, divides_these, goes_if, holds, tests, switches_on, goes_back, replaces, returns, returns_datum, within}
 use Rattle.jvm_model.specs.Lookup.{is_below}
@@ -365,6 +367,10 @@ stores-silent p k (Some x) s m o = by (access_to k x.array x.index s.heap) where
   by Outside = record { kept = refl; wrote = refl }
   by (Inside slot) = chosen-silent (fits_array p x.datum x.array s.heap) _ _ (record { kept = refl; wrote = refl }) (record { kept = refl; wrote = refl })
 
+pub string-silent : (p : Program) (units : List ℕ) (s : Shared) (m : Locals) (o : Operands) → IsSilent (pushes_string p units s m o)
+string-silent p units s m o =
+    chosen-silent (can_intern units s.heap) _ _ (record { kept = refl; wrote = refl }) (record { kept = refl; wrote = refl })
+
 -- athrow goes on nowhere
 module _ (w : World) (line : Line) (s : State) (f : Frame) where
   abbrev ThrowsAs : Outcome → Type 0
@@ -432,6 +438,10 @@ op-acts w line s f (StoreElement k) none tied =
     acted w line s f (StoreElement k) (action.StoreElement k) tied.action
     (done-acts w line (StoreElement k) s f (stores_element w.program k (storing_of k f.operands) s.shared f.locals f.operands) refl
     (stores-silent w.program k (storing_of k f.operands) s.shared f.locals f.operands))
+op-acts w line s f (LdcString units) none tied =
+    acted w line s f (LdcString units) (action.LdcString units) tied.action
+    (done-acts w line (LdcString units) s f (pushes_string w.program units s.shared f.locals f.operands) refl
+    (string-silent w.program units s.shared f.locals f.operands))
 
 local-awaits : (w : World) (s : State) (f : Frame) (l : Local) → awaited w s f (local_action l) ≡ None
 local-awaits w s f (Return k) = refl
@@ -446,6 +456,7 @@ op-awaits w s f Arraylength none = refl
 op-awaits w s f (Newarray code) none = refl
 op-awaits w s f (LoadElement k) none = refl
 op-awaits w s f (StoreElement k) none = refl
+op-awaits w s f (LdcString units) none = refl
 
 -- ---- instructions that name something
 
@@ -464,6 +475,7 @@ viewed (Checkcast name) = refl
 viewed (Instanceof name) = refl
 viewed (Anewarray name) = refl
 viewed (Multianewarray name dimensions) = refl
+viewed (LdcClass name) = refl
 
 pub with-loaded : (classes : List ℕ) (s : State) → with_loaded classes s ≡ record s { shared = record s.shared { loaded = s.shared.loaded ++ classes } }
 with-loaded [] s = ap (λ loaded. record s { shared = record s.shared { loaded = loaded } }) (sym (append-nil s.shared.loaded))
@@ -487,15 +499,15 @@ named-steps : (w : World) (line : Line) (n : Naming) (s : State) (f : Frame) →
 named-steps w line n s f tied =
     let ready : State = readied w line (Named n) s f in
     let same : ready ≡ ready_for w n s f = with-loaded (newly_loaded w.program s.shared.loaded n f.operands) s in
-    let there : Done = does_named w.program n ready.shared f.locals f.operands in
+    let there : Done = does_named w n ready.shared f.locals f.operands in
     let kept : naming_view (named_as n) ≡ n = viewed n in
     record {
       starts_same =
-          ap (λ (x : State). starts (does_named w.program n x.shared f.locals f.operands).outcome) same
+          ap (λ (x : State). starts (does_named w n x.shared f.locals f.operands).outcome) same
           ∙ (ap (λ m. starts (named_done w m s f).outcome) (sym kept) ∙ ap (awaited w s f) tied.action);
       applied =
           placed-same w line (Named n) (with_done there ready) f there.outcome refl
-          ∙ (ap (λ (x : State). let d = does_named w.program n x.shared f.locals f.operands in acts_asked w line (with_done d x) f d.outcome) same
+          ∙ (ap (λ (x : State). let d = does_named w n x.shared f.locals f.operands in acts_asked w line (with_done d x) f d.outcome) same
           ∙ (ap (λ m. acts_named w line m s f) (sym kept) ∙ ap (acts_by w line s f) tied.action));
     }
 
@@ -522,6 +534,9 @@ steps-as w line (LoadElement k) s f tied =
 steps-as w line (StoreElement k) s f tied =
     let acts_so = op-acts w line s f (StoreElement k) refl tied in
     record { starts_same = acts_so.starts_none ∙ ap (awaited w s f) tied.action; applied = acts_so.applied }
+steps-as w line (LdcString units) s f tied =
+    let acts_so = op-acts w line s f (LdcString units) refl tied in
+    record { starts_same = acts_so.starts_none ∙ ap (awaited w s f) tied.action; applied = acts_so.applied }
 
 -- a line that awaits a class names something
 pub awaits-named : (w : World) (line : Line) (op : Operation) (s : State) (f : Frame) (c : ℕ) → IsTied line op → awaited w s f line.action ≡ Some c
@@ -539,6 +554,7 @@ awaits-named w line op s f c tied is = by op (ap (awaited w s f) tied.action ∙
   by (Newarray code) e = absurd (none-some c e)
   by (LoadElement k) e = absurd (none-some c e)
   by (StoreElement k) e = absurd (none-some c e)
+  by (LdcString units) e = absurd (none-some c e)
 
 pub starts-some : (q : Outcome) (c : ℕ) → starts q ≡ Some c → q ≡ Initializes c
 starts-some (Initializes k) c e = ap Initializes (same_Some k c e)

@@ -168,7 +168,7 @@ module _ (w : World) where
         (ap (λ m. starts (named_done w m s f).outcome) (sym (viewed n)) ∙ (ap (awaited w s f) tied.action ∙ is))
 
     law : IsNamed (ready_for w n s f).shared f.operands there
-    law = is-named (ready_for w n s f).shared f.operands w.program n f.locals
+    law = is-named (ready_for w n s f).shared f.operands w n f.locals
 
     fresh : phase_of there.shared c ≡ Some Fresh
     fresh = subst (λ q. Asks there.shared f.operands q) asks-for law.asks
@@ -185,7 +185,7 @@ module _ (w : World) where
 
     first-is : first s f line (Named n) tied ≡ turn
     first-is =
-        ap (λ (x : State). tries w t i x f (does_named w.program n x.shared f.locals f.operands)) (with-loaded (newly_loaded w.program s.shared.loaded n f.operands) s)
+        ap (λ (x : State). tries w t i x f (does_named w n x.shared f.locals f.operands)) (with-loaded (newly_loaded w.program s.shared.loaded n f.operands) s)
         ∙ ap (λ q. settled w t (applies w t i q (with_done there s) f)) asks-for
 
     awaits-by : (steps_at w t s f (Some i)).after ≡ (goes_again w t i (ready_for w n s f) f (Some c) turn).after
@@ -223,7 +223,7 @@ module _ (w : World) where
       loads-none = ap (λ l. newly_loaded w.program l n f.operands) same-loaded ∙ newly-again w.program s.shared.loaded n f.operands
 
       abbrev tried : State → State
-      tried x = (tries w t i x f (does_named w.program n x.shared f.locals f.operands)).after
+      tried x = (tries w t i x f (does_named w n x.shared f.locals f.operands)).after
 
       second-after : (attempt w t i from f).after ≡ behind (acts w line from f)
       second-after =

@@ -53,6 +53,7 @@ names-by action.Arraylength is = absurd (false≢true is)
 names-by (action.Newarray kind) is = absurd (false≢true is)
 names-by (action.LoadElement k) is = absurd (false≢true is)
 names-by (action.StoreElement k) is = absurd (false≢true is)
+names-by (action.LdcString units) is = absurd (false≢true is)
 
 names-there : (lo : Option Line) → named_in lo ≡ true → Names lo
 names-there None is = absurd (false≢true is)
@@ -68,10 +69,10 @@ held lo names Holds if_named =
 module _ (w : World) (ms : List Marker) (here : Here) (p : Parts) (is_named_there : named_in (line_at w.program here.version here.place) ≡ true)
     (at : here_of p.frames.frames ≡ Some here) (none : marker_on (length p.frames.frames) ms ≡ None)
     (frames : FramesView) (shared : Shared) (output loaded : List ℕ) (a : Asked)
-    (answers : IfNamed (line_at w.program here.version here.place) (λ n next. answer_view a ≡ answer_by (attempts w.program n p.shared p.frames) p.frames))
-    (moves : IfNamed (line_at w.program here.version here.place) (λ n next. frames ≡ frames_by (attempts w.program n p.shared p.frames) next p.frames))
-    (shares : IfNamed (line_at w.program here.version here.place) (λ n next. shared ≡ shared_by (attempts w.program n p.shared p.frames) p.frames))
-    (writes : IfNamed (line_at w.program here.version here.place) (λ n next. output ≡ p.output ++ wrote_by (attempts w.program n p.shared p.frames) p.frames))
+    (answers : IfNamed (line_at w.program here.version here.place) (λ n next. answer_view a ≡ answer_by (attempts w n p.shared p.frames) p.frames))
+    (moves : IfNamed (line_at w.program here.version here.place) (λ n next. frames ≡ frames_by (attempts w n p.shared p.frames) next p.frames))
+    (shares : IfNamed (line_at w.program here.version here.place) (λ n next. shared ≡ shared_by (attempts w n p.shared p.frames) p.frames))
+    (writes : IfNamed (line_at w.program here.version here.place) (λ n next. output ≡ p.output ++ wrote_by (attempts w n p.shared p.frames) p.frames))
     (loads : IfNamed (line_at w.program here.version here.place) (λ n next. loaded ≡ loaded_for w.program n p.shared p.frames)) where
   names : Names (line_at w.program here.version here.place)
   names = names-there (line_at w.program here.version here.place) is_named_there
@@ -87,26 +88,26 @@ module _ (w : World) (ms : List Marker) (here : Here) (p : Parts) (is_named_ther
   mid = record p { frames = frames; shared = shared; output = output }
 
   answer-is : answer_view a ≡ answer_in (done_top w n p.shared p.frames.frames).outcome p.frames.frames
-  answer-is = held (line_at w.program here.version here.place) names (λ n next. answer_view a ≡ answer_by (attempts w.program n p.shared p.frames) p.frames) answers
+  answer-is = held (line_at w.program here.version here.place) names (λ n next. answer_view a ≡ answer_by (attempts w n p.shared p.frames) p.frames) answers
 
   can : CanAnswer (answer_in (done_top w n p.shared p.frames.frames).outcome p.frames.frames)
   can = subst CanAnswer answer-is (can-answer a)
 
   abbrev due : Parts
   due = record p {
-    frames = frames_by (attempts w.program n p.shared p.frames) names.line.next p.frames;
-    shared = shared_by (attempts w.program n p.shared p.frames) p.frames;
-    output = p.output ++ wrote_by (attempts w.program n p.shared p.frames) p.frames;
+    frames = frames_by (attempts w n p.shared p.frames) names.line.next p.frames;
+    shared = shared_by (attempts w n p.shared p.frames) p.frames;
+    output = p.output ++ wrote_by (attempts w n p.shared p.frames) p.frames;
   }
 
   mid-is : mid ≡ due
   mid-is =
       ap (λ (x : FramesView). let q : Parts = record p { frames = x; shared = shared; output = output } in q)
-      (held (line_at w.program here.version here.place) names (λ n next. frames ≡ frames_by (attempts w.program n p.shared p.frames) next p.frames) moves)
+      (held (line_at w.program here.version here.place) names (λ n next. frames ≡ frames_by (attempts w n p.shared p.frames) next p.frames) moves)
       ∙ (ap (λ (x : Shared). let q : Parts = record p { frames = due.frames; shared = x; output = output } in q)
-      (held (line_at w.program here.version here.place) names (λ n next. shared ≡ shared_by (attempts w.program n p.shared p.frames) p.frames) shares)
+      (held (line_at w.program here.version here.place) names (λ n next. shared ≡ shared_by (attempts w n p.shared p.frames) p.frames) shares)
       ∙ ap (λ (x : List ℕ). let q : Parts = record p { frames = due.frames; shared = due.shared; output = x } in q)
-      (held (line_at w.program here.version here.place) names (λ n next. output ≡ p.output ++ wrote_by (attempts w.program n p.shared p.frames) p.frames) writes))
+      (held (line_at w.program here.version here.place) names (λ n next. output ≡ p.output ++ wrote_by (attempts w n p.shared p.frames) p.frames) writes))
 
   -- what the line does there
   attempted : named_beneath w names.line n ms p p.frames.frames ≡ attempts_on w s s.stack

@@ -1,36 +1,44 @@
 -- What an instruction that names something leaves as it is, and what it asks for (JVM Specification 5.5, 6.5): the loaded classes are the
 -- same behind it, a class is initialized only where it is fresh, and the arguments of an invocation are operands of their kinds.
-use Rattle.std.proofs.Common.{◌≡◌, ℕ, ◌+◌, Bool, true, false, List, [], ◌∷◌, Option, Some, None, refl}
-use Rattle.std.specs.Prelude.{Result, Ok, Err, length, take, drop, reverse, map, nat_le, nat_lt, ℤ, pos, negsuc, ◌==◌, if◌then◌else◌}
+use Rattle.std.proofs.Common.{◌≡◌, ℕ, ◌+◌, Bool, true, false, List, [], Option, Some, None, refl}
+use Rattle.std.specs.Prelude.{Result, Ok, Err, length, take, drop, reverse, map, slice_get, nat_le, nat_lt, ℤ, pos, negsuc, ◌==◌, if◌then◌else◌}
 use Rattle.std.specs.Bool.{beq}
-use Rattle.std.specs.Option.{option_and_then}
+use Rattle.std.specs.Option.{option_and_then, option_map_or}
 use Rattle.std.proofs.lemmas.Bool.{false≢true}
 use Rattle.heap_objects.specs.declared.datum.Datum.{Datum}
-use Rattle.heap_objects.specs.declared.datum.Datum.TheVariants as datum
 use Rattle.heap_objects.specs.declared.Value.{Value}
 use Rattle.heap_objects.specs.Heaps.{HeapView, with_instance, with_text}
 use Rattle.const_pool.specs.declared.descriptor.Kind.{Kind}
 use Rattle.const_pool.specs.declared.descriptor.Shape.{Shape}
+use Rattle.const_pool.specs.BuiltIn.{built_in_names}
 use Rattle.const_pool.specs.References.{NameAndType, Reference}
+use Rattle.base_classes.specs.Natives.{native_number}
+use Rattle.native_ops.specs.declared.answer.Answer.{Answer}
+use Rattle.native_ops.specs.declared.answer.Answer.TheVariants as answer
+use Rattle.native_ops.specs.Calls.{answer_by}
+use Rattle.native_ops.specs.Making.{answer_of_class}
+use Rattle.native_ops.specs.Numbers.{out_of_memory_error}
 use Rattle.jvm_model.specs.declared.state.Phase.{Phase}
 use Rattle.jvm_model.specs.declared.state.Phase.TheVariants.{Fresh, Running, Ready, Erroneous}
 use Rattle.jvm_model.specs.declared.program.Program.{Program}
 use Rattle.jvm_model.specs.declared.state.Shared.{Shared}
+use Rattle.jvm_model.specs.ConstantRules.{pushes_object_of}
 use Rattle.jvm_model.specs.CreationRules.{allocates, answers, array_over, casts_to, counts_of, has_no_instances, instantiation_error, is_text_class, lengths_of, makes_arrays, makes_by_counts, makes_instance, makes_object, slots_of_arrays, with_arrays, zero_of}
-use Rattle.jvm_model.specs.Data.{Locals, Operands, Naming, New, Getfield, Putfield, Getstatic, Putstatic, Invokevirtual, Invokespecial, Invokestatic, Invokeinterface, Checkcast, Instanceof, Anewarray, Multianewarray, Outcome, GoesOn, Subroutine, Invokes, Returns, Throws, Raises, Initializes, Exits, Breaks, Done}
+use Rattle.jvm_model.specs.Data.{Locals, Operands, Naming, New, Getfield, Putfield, Getstatic, Putstatic, Invokevirtual, Invokespecial, Invokestatic, Invokeinterface, Checkcast, Instanceof, Anewarray, Multianewarray, LdcClass, World, Outcome, GoesOn, Subroutine, Invokes, Returns, Throws, Raises, Initializes, Exits, Breaks, Done}
 use Rattle.jvm_model.specs.Descriptors.{shape_of}
 use Rattle.jvm_model.specs.FieldRules.{Putting, gets_of, held_of, is_static_field, kind_by, named_field, puts_into, putting_of, sets_static}
-use Rattle.jvm_model.specs.InvocationRules.{Selecting, Virtual, OfInterface, Special, arguments_by, does_built_in, invokes_number, invokes_on, invokes_selected, invokes_with_static, is_plain_initializer, named_method, not_of_class, prints_line, receiver_in, runs_built_in, selected_by, with_receiver}
+use Rattle.jvm_model.specs.InvocationRules.{Selecting, Virtual, OfInterface, Special, arguments_by, invokes_number, invokes_on, invokes_selected, invokes_with_static, named_method, not_of_class, receiver_in, reference_to, selected_by, with_receiver}
 use Rattle.jvm_model.specs.KindNumbers.{user_count}
 use Rattle.jvm_model.specs.Layouts.{layout}
 use Rattle.jvm_model.specs.Load.{Fault}
 use Rattle.jvm_model.specs.LocalRules.{pushes, replaces}
 use Rattle.jvm_model.specs.Lookup.{MemberPlace, Resolution, Found, Fails, resolved_field, resolved_method}
-use Rattle.jvm_model.specs.Naming.{◌>>=◌, extends, found, is_instance, is_null, kind_unless, receiver, resolved_kind, unless_refused, where_fitting}
+use Rattle.jvm_model.specs.Naming.{◌>>=◌, found, is_instance, is_null, kind_unless, receiver, resolved_kind, unless_refused, where_fitting}
 use Rattle.jvm_model.specs.NamingRules.{does_named}
+use Rattle.jvm_model.specs.NativeRules.{kinds_in, outcome_of, runs_native, runs_number, seen_by_natives, thrown_by}
 use Rattle.jvm_model.specs.ObjectRules.{done, makes}
 use Rattle.jvm_model.specs.Programs.{number_of_method}
-use Rattle.jvm_model.specs.Rules.{initialized, is_println, when_ready}
+use Rattle.jvm_model.specs.Rules.{initialized, when_ready}
 use Rattle.jvm_model.specs.Selection.{is_abstract, is_static}
 use Rattle.jvm_model.specs.SharedState.{class_of, class_of_kind, null_pointer, phase_of}
 use Rattle.jvm_model.specs.Values.{arguments, data_of, int_of, ref_of}
@@ -206,39 +214,48 @@ module _ (s : Shared) (o : Operands) where
 
   -- ---- invocations
 
-  prints-named : (args : List Datum) (l : Locals) (below : Operands) → IsNamed s o (prints_line args s l below)
-  prints-named [] l below = refuses s o _ refl
-  prints-named (datum.Int n ∷ more) l below = refuses s o _ refl
-  prints-named (datum.Long n ∷ more) l below = refuses s o _ refl
-  prints-named (datum.Ref object ∷ []) l below = refuses s o _ refl
-  prints-named (datum.Ref object ∷ datum.Int n ∷ []) l below = record { loaded = refl; asks = tt }
-  prints-named (datum.Ref object ∷ datum.Int n ∷ next ∷ more) l below = refuses s o _ refl
-  prints-named (datum.Ref object ∷ datum.Long n ∷ more) l below = refuses s o _ refl
-  prints-named (datum.Ref object ∷ datum.Ref n ∷ more) l below = refuses s o _ refl
+  thrown-plain : (class : ℕ) → is_plain (thrown_by class) ≡ true
+  thrown-plain class =
+      if-plain (class == out_of_memory_error) (Throws 1) (option_map_or (λ name. Raises name None) (slice_get built_in_names class) (Breaks false)) refl
+      (by (slice_get built_in_names class)) where
+        by : (name : Option (List ℕ)) → is_plain (option_map_or (λ name. Raises name None) name (Breaks false)) ≡ true
+        by None = refl
+        by (Some name) = refl
 
-  built_in-named : (p : Program) (r : Reference) (class : ℕ) (args : List Datum) (l : Locals) (below : Operands) → IsNamed s o (does_built_in p r class args s l below)
-  built_in-named p r class args l below =
-      if-named (is_plain_initializer r.member) _ _ (record { loaded = refl; asks = tt })
-      (if-named (is_println r) (prints_line args s l below) (done s (Breaks false)) (prints-named args l below) (refuses s o _ refl))
+  answer-plain : (a : Answer) (l : Locals) (below : Operands) → is_plain (outcome_of a l below) ≡ true
+  answer-plain (answer.Value d) l below = refl
+  answer-plain (answer.Throws class) l below = thrown-plain class
+  answer-plain (answer.Exit status) l below = refl
+  answer-plain answer.Bad l below = refl
 
-  runs-named : (p : Program) (m : MemberPlace) (r : Option Reference) (args : List Datum) (l : Locals) (below : Operands) → IsNamed s o (runs_built_in p m r args s l below)
-  runs-named p m None args l below = refuses s o _ refl
-  runs-named p m (Some r) args l below =
-      if-named (extends p (class_of p s (receiver_in args)) m.class) (does_built_in p r m.class args s l below) (done s (Breaks false))
-      (built_in-named p r m.class args l below) (refuses s o _ refl)
+  -- a native method changes nothing but the heap, what is made once and how much of the input was read
+  run-named : (w : World) (number : ℕ) (args : List Datum) (l : Locals) (below : Operands) → IsNamed s o (runs_number w number args s l below)
+  run-named w number args l below = record {
+    loaded = refl;
+    asks =
+        plain-asks (runs_number w number args s l below).shared o (runs_number w number args s l below).outcome
+        (answer-plain (answer_by number (kinds_in w.program s.loaded) args (seen_by_natives w s)) l below);
+  }
 
-  number-named : (p : Program) (m : MemberPlace) (n : Option ℕ) (args : List Datum) (l : Locals) (below : Operands) → Takes o args below
-      → IsNamed s o (invokes_number p m n args s l below)
-  number-named p m (Some n) args l below takes = record { loaded = refl; asks = takes }
-  number-named p m None args l below takes =
-      if-named (nat_lt m.class (user_count p)) _ (runs_built_in p m _ args s l below) (refuses s o _ refl) (runs-named p m _ args l below)
+  native-named : (w : World) (r : Option Reference) (args : List Datum) (l : Locals) (below : Operands) → IsNamed s o (runs_native w r args s l below)
+  native-named w r args l below = by (option_and_then native_number r) where
+    by : (number : Option ℕ) → IsNamed s o (option_map_or (λ number. runs_number w number args s l below) number (done s (Breaks false)))
+    by None = refuses s o _ refl
+    by (Some number) = run-named w number args l below
 
-  selected-named : (p : Program) (m : Option MemberPlace) (args : List Datum) (l : Locals) (below : Operands) → Takes o args below
-      → IsNamed s o (invokes_selected p m args s l below)
-  selected-named p None args l below takes = refuses s o _ refl
-  selected-named p (Some m) args l below takes =
-      if-named (is_abstract p m) _ (invokes_number p m (number_of_method p m.class m.position) args s l below) (refuses s o _ refl)
-      (number-named p m (number_of_method p m.class m.position) args l below takes)
+  number-named : (w : World) (m : MemberPlace) (n : Option ℕ) (args : List Datum) (l : Locals) (below : Operands) → Takes o args below
+      → IsNamed s o (invokes_number w m n args s l below)
+  number-named w m (Some n) args l below takes = record { loaded = refl; asks = takes }
+  number-named w m None args l below takes =
+      if-named (nat_lt m.class (user_count w.program)) _ (runs_native w (reference_to w.program m) args s l below) (refuses s o _ refl)
+      (native-named w (reference_to w.program m) args l below)
+
+  selected-named : (w : World) (m : Option MemberPlace) (args : List Datum) (l : Locals) (below : Operands) → Takes o args below
+      → IsNamed s o (invokes_selected w m args s l below)
+  selected-named w None args l below takes = refuses s o _ refl
+  selected-named w (Some m) args l below takes =
+      if-named (is_abstract w.program m) _ (invokes_number w m (number_of_method w.program m.class m.position) args s l below) (refuses s o _ refl)
+      (number-named w m (number_of_method w.program m.class m.position) args l below takes)
 
   -- what a descriptor tells
   arguments-take : (instance : Bool) (member : NameAndType) (args : List Datum) → arguments_by instance member o ≡ Some args → Takes o args (drop (length args) o)
@@ -248,48 +265,59 @@ module _ (s : Shared) (o : Operands) where
     by None is = absurd cc
     by (Some shape) is = record { kinds = with_receiver instance shape.params; are = is; off = refl }
 
-  static-named : (p : Program) (m : MemberPlace) (member : NameAndType) (l : Locals) → IsNamed s o (invokes_with_static p m (arguments_by false member o) s l o)
-  static-named p m member l = by (arguments_by false member o) refl where
-    by : (x : Option (List Datum)) → arguments_by false member o ≡ x → IsNamed s o (invokes_with_static p m x s l o)
+  static-named : (w : World) (m : MemberPlace) (member : NameAndType) (l : Locals) → IsNamed s o (invokes_with_static w m (arguments_by false member o) s l o)
+  static-named w m member l = by (arguments_by false member o) refl where
+    by : (x : Option (List Datum)) → arguments_by false member o ≡ x → IsNamed s o (invokes_with_static w m x s l o)
     by None is = refuses s o _ refl
-    by (Some args) is = selected-named p (Some m) args l (drop (length args) o) (arguments-take false member args is)
+    by (Some args) is = selected-named w (Some m) args l (drop (length args) o) (arguments-take false member args is)
 
   otherwise-plain : (by : Selecting) → is_plain (not_of_class by) ≡ true
   otherwise-plain Virtual = refl
   otherwise-plain OfInterface = refl
   otherwise-plain (Special caller interface) = refl
 
-  on-named : (p : Program) (by : Selecting) (r : Reference) (m : MemberPlace) (l : Locals) → IsNamed s o (invokes_on p by r m (arguments_by true r.member o) s l o)
-  on-named p selecting r m l = by (arguments_by true r.member o) refl where
-    by : (x : Option (List Datum)) → arguments_by true r.member o ≡ x → IsNamed s o (invokes_on p selecting r m x s l o)
+  on-named : (w : World) (by : Selecting) (r : Reference) (m : MemberPlace) (l : Locals) → IsNamed s o (invokes_on w by r m (arguments_by true r.member o) s l o)
+  on-named w selecting r m l = by (arguments_by true r.member o) refl where
+    by : (x : Option (List Datum)) → arguments_by true r.member o ≡ x → IsNamed s o (invokes_on w selecting r m x s l o)
     by None is = refuses s o _ refl
     by (Some args) is =
         unless-named _ _ (receiver-plain (receiver_in args) _ (not_of_class selecting) (otherwise-plain selecting))
-        (λ object. selected-named p (selected_by p selecting m (class_of p s object)) args l (drop (length args) o) (arguments-take true r.member args is))
+        (λ object. selected-named w (selected_by w.program selecting m (class_of w.program s object)) args l (drop (length args) o) (arguments-take true r.member args is))
+
+  -- ---- ldc of a Class
+
+  class-named : (kind : ℕ) (l : Locals) → IsNamed s o (pushes_object_of kind s l o)
+  class-named kind l = record {
+    loaded = refl;
+    asks =
+        plain-asks (pushes_object_of kind s l o).shared o (pushes_object_of kind s l o).outcome
+        (answer-plain (answer_of_class kind s.made s.heap) l o);
+  }
 
   -- ---- every one
 
-  pub is-named : (p : Program) (n : Naming) (l : Locals) → IsNamed s o (does_named p n s l o)
-  is-named p (New name) l =
-      unless-named _ _ (kind-plain p s.loaded name) (λ kind. ready-named p (class_of_kind p kind) _ (instance-named p kind (class_of_kind p kind) l))
-  is-named p (Getfield r) l = unless-named _ _ (field-plain p s.loaded false r) (λ m. gets-named p r m (ref_of o) l)
-  is-named p (Putfield r) l = unless-named _ _ (field-plain p s.loaded false r) (λ m. puts-named p r m (putting_of (kind_by r) o) l)
-  is-named p (Getstatic r) l =
-      unless-named _ _ (field-plain p s.loaded true r) (λ m. ready-named p m.class _ (refuses s o _ (pushes-plain _ l o)))
-  is-named p (Putstatic r) l =
-      unless-named _ _ (field-plain p s.loaded true r) (λ m. ready-named p m.class _ (sets-named m (held_of (kind_by r) o) l))
-  is-named p (Invokevirtual r) l = unless-named _ _ (method-plain p s.loaded false false r) (λ m. on-named p Virtual r m l)
-  is-named p (Invokespecial caller r interface) l =
-      unless-named _ _ (method-plain p s.loaded interface false r) (λ m. on-named p (Special caller interface) r m l)
-  is-named p (Invokestatic r) l =
-      unless-named _ _ (method-plain p s.loaded false true r) (λ m. ready-named p m.class _ (static-named p m r.member l))
-  is-named p (Invokeinterface r) l = unless-named _ _ (method-plain p s.loaded true false r) (λ m. on-named p OfInterface r m l)
-  is-named p (Checkcast name) l =
-      if-named (is_null o) _ (unless_refused s (resolved_kind p s.loaded name) (λ kind. done s (casts_to p name (ref_of o) s l o))) (refuses s o _ refl)
-      (unless-named _ _ (kind-plain p s.loaded name) (λ kind. refuses s o _ (casts-plain p name (ref_of o) l)))
-  is-named p (Instanceof name) l =
-      if-named (is_null o) _ (unless_refused s (resolved_kind p s.loaded name) (λ kind. done s (answers p name (ref_of o) s l o))) (refuses s o _ refl)
-      (unless-named _ _ (kind-plain p s.loaded name) (λ kind. refuses s o _ (answers-plain p name (ref_of o) l)))
-  is-named p (Anewarray name) l = unless-named _ _ (kind-plain p s.loaded name) (λ kind. makes-named (array_over kind) (int_of o) l)
-  is-named p (Multianewarray name dimensions) l =
-      unless-named _ _ (kind-plain p s.loaded name) (λ kind. counts-named kind dimensions (counts_of dimensions o) l)
+  pub is-named : (w : World) (n : Naming) (l : Locals) → IsNamed s o (does_named w n s l o)
+  is-named w (New name) l =
+      unless-named _ _ (kind-plain w.program s.loaded name) (λ kind. ready-named w.program (class_of_kind w.program kind) _ (instance-named w.program kind (class_of_kind w.program kind) l))
+  is-named w (Getfield r) l = unless-named _ _ (field-plain w.program s.loaded false r) (λ m. gets-named w.program r m (ref_of o) l)
+  is-named w (Putfield r) l = unless-named _ _ (field-plain w.program s.loaded false r) (λ m. puts-named w.program r m (putting_of (kind_by r) o) l)
+  is-named w (Getstatic r) l =
+      unless-named _ _ (field-plain w.program s.loaded true r) (λ m. ready-named w.program m.class _ (refuses s o _ (pushes-plain _ l o)))
+  is-named w (Putstatic r) l =
+      unless-named _ _ (field-plain w.program s.loaded true r) (λ m. ready-named w.program m.class _ (sets-named m (held_of (kind_by r) o) l))
+  is-named w (Invokevirtual r) l = unless-named _ _ (method-plain w.program s.loaded false false r) (λ m. on-named w Virtual r m l)
+  is-named w (Invokespecial caller r interface) l =
+      unless-named _ _ (method-plain w.program s.loaded interface false r) (λ m. on-named w (Special caller interface) r m l)
+  is-named w (Invokestatic r) l =
+      unless-named _ _ (method-plain w.program s.loaded false true r) (λ m. ready-named w.program m.class _ (static-named w m r.member l))
+  is-named w (Invokeinterface r) l = unless-named _ _ (method-plain w.program s.loaded true false r) (λ m. on-named w OfInterface r m l)
+  is-named w (Checkcast name) l =
+      if-named (is_null o) _ (unless_refused s (resolved_kind w.program s.loaded name) (λ kind. done s (casts_to w.program name (ref_of o) s l o))) (refuses s o _ refl)
+      (unless-named _ _ (kind-plain w.program s.loaded name) (λ kind. refuses s o _ (casts-plain w.program name (ref_of o) l)))
+  is-named w (Instanceof name) l =
+      if-named (is_null o) _ (unless_refused s (resolved_kind w.program s.loaded name) (λ kind. done s (answers w.program name (ref_of o) s l o))) (refuses s o _ refl)
+      (unless-named _ _ (kind-plain w.program s.loaded name) (λ kind. refuses s o _ (answers-plain w.program name (ref_of o) l)))
+  is-named w (Anewarray name) l = unless-named _ _ (kind-plain w.program s.loaded name) (λ kind. makes-named (array_over kind) (int_of o) l)
+  is-named w (Multianewarray name dimensions) l =
+      unless-named _ _ (kind-plain w.program s.loaded name) (λ kind. counts-named kind dimensions (counts_of dimensions o) l)
+  is-named w (LdcClass name) l = unless-named _ _ (kind-plain w.program s.loaded name) (λ kind. class-named kind l)

@@ -9,7 +9,7 @@ use Rattle.jvm_model.specs.declared.state.Entry.TheVariants.{Active}
 use Rattle.jvm_model.specs.declared.state.Frame.{Frame}
 use Rattle.jvm_model.specs.declared.state.Shared.{Shared}
 use Rattle.jvm_model.specs.declared.state.State.{State}
-use Rattle.jvm_model.specs.Data.{World, Naming, Invokespecial, Local, Return, Operation, Within, Named, Athrow, Monitor, Newarray, Arraylength, LoadElement, StoreElement, Instruction, Breaks, Done}
+use Rattle.jvm_model.specs.Data.{World, Naming, Invokespecial, Local, Return, Operation, Within, Named, Athrow, Monitor, Newarray, Arraylength, LoadElement, StoreElement, LdcString, Instruction, Breaks, Done}
 use Rattle.jvm_model.specs.Does.{loads}
 use Rattle.jvm_model.specs.Originals.{original}
 use Rattle.jvm_model.specs.Run.{main_class}
@@ -22,7 +22,7 @@ use Rattle.jvm_model.proofs.SoundLines.{can-attempt}
 use Rattle.jvm_model.proofs.SoundRuns.{loads-again, sound-loaded}
 use Rattle.jvm_model.proofs.SoundSteps.{entry-grows, sound-applied}
 use Rattle.class_linker.specs.Linkers.{LinkerView}
-use Rattle.jvm_named.specs.BuiltInCalls.{HasBuiltIn}
+use Rattle.jvm_named.specs.Natives.{HasBuiltIn}
 use Rattle.jvm_named.specs.Objects.{AreLoaded, HasLoadedCaller, IsOfLoaded}
 use Rattle.jvm_steps.specs.declared.line.Line.{Line}
 use Rattle.jvm_steps.specs.declared.markers.Marker.{Marker}
@@ -47,7 +47,8 @@ objects-loaded p loaded (o ∷ os) each = (record { known = each.0.known; of_cla
 
 -- over the classes that the linker has loaded
 pub built-in-linked : (p : Program) (s : Shared) (loaded : List ℕ) → IsSoundShared p s → loaded ≡ s.loaded → HasBuiltIn (linker_of p loaded)
-built-in-linked p s loaded is linked = subst (λ l. HasBuiltIn (linker_of p l)) (sym linked) is.built_in
+built-in-linked p s loaded is linked =
+    subst (λ l. HasBuiltIn (linker_of p l)) (sym linked) (record { whole = is.built_in.whole; each = is.built_in.each })
 
 pub objects-linked : (p : Program) (s : Shared) (loaded : List ℕ) → IsFit p → IsSoundShared p s → loaded ≡ s.loaded → AreLoaded (linker_of p loaded) s.heap
 objects-linked p s loaded fit is linked =
@@ -81,6 +82,7 @@ module _ (p : Program) (fit : IsFit p) (loaded : List ℕ) where
     by Arraylength can = tt
     by (LoadElement k) can = tt
     by (StoreElement k) can = tt
+    by (LdcString units) can = tt
 
   tie-named : (method place : ℕ) (lo : Option Line) (io : Option Instruction) → HasClass p loaded method → (original p).at method place ≡ io → Tie lo io
       → IfNamed lo (λ n next. HasLoadedCaller (linker_of p loaded) n)

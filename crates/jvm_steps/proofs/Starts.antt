@@ -1,6 +1,7 @@
 -- The start: what was found for the main class's name is what the model's start goes on with.
-use Rattle.std.proofs.Common.{◌≡◌, ℕ, List, [], true, Option, Some, None, refl, sym, ap, ◌∙◌}
+use Rattle.std.proofs.Common.{◌≡◌, ◌+◌, ◌≤◌, ℕ, List, [], true, false, Option, Some, None, refl, sym, ap, subst, ◌∙◌}
 use Rattle.std.specs.Prelude.{Result, OnOk}
+use Rattle.std.proofs.lemmas.Bool.{leb-true}
 use Rattle.std.proofs.lemmas.Result.{on_ok_weaker}
 use Rattle.jf_bytes.specs.declared.error.NoMemory.{NoMemory}
 use Rattle.heap_objects.specs.Heaps.{HeapView}
@@ -13,8 +14,8 @@ use Rattle.jvm_model.specs.Load.{Fault, is_among, load_of}
 use Rattle.jvm_model.specs.Moves.{settled}
 use Rattle.jvm_model.specs.Naming.{kind_unless, resolved_kind}
 use Rattle.jvm_model.specs.Originals.{original}
-use Rattle.jvm_model.specs.Run.{arguments_made, before, main_class, main_loading, main_loads, start, starts_unless, starts_with, with_loaded}
-use Rattle.jvm_model.specs.SharedState.{shared_before, with_arguments}
+use Rattle.jvm_model.specs.Run.{arguments_made, before, main_class, main_classes, main_loading, main_loads, opened, start, starts_if, starts_unless, starts_with}
+use Rattle.jvm_model.specs.SharedState.{arguments_cost, arguments_fit, shared_before, with_arguments}
 use Rattle.jvm_model.specs.Sound.{IsFit}
 use Rattle.jvm_model.proofs.Attempts.{loaded-after}
 use Rattle.jvm_model.proofs.LoadsAgain.{newly-loaded}
@@ -33,26 +34,26 @@ fault-begins w None None s empty = ap (λ es. begins_class (main_class w.program
 fault-begins w None (Some kind) s empty = ap (λ es. begins_class (main_class w.program) (record s { stack = es })) empty ∙ ap (λ es. starts_unless w None (record s { stack = es })) (sym empty)
 
 -- what is shared once the arguments are made and the main class is loaded
-abbrev pub opened : World → Shared → Shared
-opened w s = record s {
+abbrev pub shared_opened : World → Shared → Shared
+shared_opened w s = record s {
   heap = with_arguments w.program s.heap;
   loaded = (load_of w.program s.loaded (main_name w.program)).loaded;
 }
 
-opens : (w : World) → record (before w) { shared = opened w (before w).shared } ≡ with_loaded (main_loads w) (arguments_made w (before w))
+opens : (w : World) → record (before w) { shared = shared_opened w (before w).shared } ≡ opened w
 opens w =
     ap (λ loaded. record (before w) { shared = record (before w).shared { heap = with_arguments w.program (before w).shared.heap; loaded = loaded } })
     (sym (newly-loaded w.program (before w).shared.loaded (New (main_name w.program)) [] refl))
-    ∙ sym (with-loaded (main_loads w) (arguments_made w (before w)))
+    ∙ sym (with-loaded (main_classes w) (arguments_made w (before w)))
 
 pub begins-main : (w : World) (old after : State) (found : Result ℕ Outcome) → old ≡ before w
     → found ≡ resolved_kind w.program old.shared.loaded (main_name w.program)
-    → after ≡ begun_by w (main_class w.program) found (record old { shared = opened w old.shared }) → after ≡ starts_with w
+    → after ≡ begun_by w (main_class w.program) found (record old { shared = shared_opened w old.shared }) → after ≡ starts_if w true
 begins-main w old after found is told begins =
     begins
-    ∙ (ap (λ x. begun_by w (main_class w.program) x (record old { shared = opened w old.shared })) told
-    ∙ (ap (λ (s : State). begun_by w (main_class w.program) (resolved_kind w.program s.shared.loaded (main_name w.program)) (record s { shared = opened w s.shared })) is
-    ∙ (fault-begins w (main_loading w).fault _ (record (before w) { shared = opened w (before w).shared }) refl
+    ∙ (ap (λ x. begun_by w (main_class w.program) x (record old { shared = shared_opened w old.shared })) told
+    ∙ (ap (λ (s : State). begun_by w (main_class w.program) (resolved_kind w.program s.shared.loaded (main_name w.program)) (record s { shared = shared_opened w s.shared })) is
+    ∙ (fault-begins w (main_loading w).fault _ (record (before w) { shared = shared_opened w (before w).shared }) refl
     ∙ ap (starts_unless w (main_loading w).fault) (opens w))))
 
 -- by what the code has found, in the world that stays
@@ -60,7 +61,7 @@ pub begins-all : {A : Type 0} (result : Result A NoMemory) (w v : World) (class 
     → v ≡ w → class ≡ main_class v.program → linked ≡ old.shared.loaded → heap ≡ with_arguments w.program old.shared.heap
     → loaded ≡ (load_of w.program linked (main_name w.program)).loaded → old ≡ before w → found ≡ resolved_kind w.program linked (main_name w.program)
     → OnOk result (after ≡ begun_by v class found (record old { shared = record old.shared { heap = heap; loaded = loaded } }))
-    → OnOk result (after ≡ starts_with w)
+    → OnOk result (after ≡ starts_if w true)
 begins-all result w v class old after found heap linked loaded same main has arguments loads is told made =
     on_ok_weaker result
     (λ e. begins-main w old after found is (told ∙ ap (λ l. resolved_kind w.program l (main_name w.program)) has)
@@ -74,6 +75,12 @@ begins-all result w v class old after found heap linked loaded same main has arg
   where
     given : State
     given = record old { shared = record old.shared { heap = heap; loaded = loaded } }
+
+-- before the start there is room for arguments that fit, in the program's heap
+pub fits-room : (w : World) (s : State) → s ≡ before w → arguments_fit w.program ≡ true → s.shared.heap.used + arguments_cost w.program.args ≤ s.shared.heap.limit
+fits-room w s is fits =
+    subst (λ (x : State). x.shared.heap.used + arguments_cost w.program.args ≤ x.shared.heap.limit) (sym is)
+    (leb-true ((before w).shared.heap.used + arguments_cost w.program.args) w.program.heap fits)
 
 -- java/lang/Object is loaded before
 pub root-before : (w : World) (s : State) (loaded : List ℕ) → IsFit w.program → s ≡ before w → loaded ≡ s.shared.loaded → is_among (user_count w.program) loaded ≡ true

@@ -1,13 +1,16 @@
 -- What stands at an offset of the prepared code is what the text of original code has there.
 use Rattle.std.proofs.Common.{◌≡◌, ℕ, Bool, true, false, cond, List, [], ◌∷◌, Option, Some, None, refl, sym, ap, subst, ◌∙◌}
 use Rattle.std.proofs.lemmas.Bool.{false≢true}
-use Rattle.std.specs.Prelude.{◌==◌, ◌&&◌}
+use Rattle.std.specs.Prelude.{slice_get, ◌==◌, ◌&&◌}
 use Rattle.std.specs.Int.{is_in_range}
 use Rattle.std.specs.Option.{option_and_then, option_map}
 use Rattle.std.proofs.lemmas.Option.{same_Some, none-some}
 use Rattle.heap_objects.specs.declared.datum.Datum.{Datum}
 use Rattle.heap_objects.specs.declared.datum.Datum.TheVariants as datum
 use Rattle.const_pool.specs.declared.class.ClassFile.{ClassFile}
+use Rattle.const_pool.specs.declared.pool.Const.{Const}
+use Rattle.const_pool.specs.declared.pool.Const.TheVariants as const
+use Rattle.const_pool.specs.References.{named_text}
 use Rattle.code_model.specs.declared.instr.Arg.{Arg}
 use Rattle.code_model.specs.declared.instr.Arg.TheVariants as arg
 use Rattle.code_model.specs.declared.instr.Instr.{Instr}
@@ -15,9 +18,9 @@ use Rattle.code_model.specs.Instructions.{instruction_at, end_of}
 use Rattle.jvm_model.specs.declared.family.Family.{Family}
 use Rattle.jvm_model.specs.declared.family.Family.TheVariants as family
 use Rattle.jvm_model.specs.declared.program.Program.{Program}
-use Rattle.jvm_model.specs.Data.{Locals, Operands, Local, Nop, Constant, Load, Store, Arrange, BinaryOfInts, BinaryOfLongs, DivisionOfInts, DivisionOfLongs, ShiftOfLong, UnaryOfInt, UnaryOfLong, Lcmp, Iinc, Branch, Goto, Switch, Jsr, Ret, Return, Naming, Operation, Within, Named, Athrow, Monitor, Newarray, Arraylength, LoadElement, StoreElement, Instruction}
+use Rattle.jvm_model.specs.Data.{Locals, Operands, Local, Nop, Constant, Load, Store, Arrange, BinaryOfInts, BinaryOfLongs, DivisionOfInts, DivisionOfLongs, ShiftOfLong, UnaryOfInt, UnaryOfLong, Lcmp, Iinc, Branch, Goto, Switch, Jsr, Ret, Return, Naming, LdcClass, Operation, Within, Named, Athrow, Monitor, Newarray, Arraylength, LoadElement, StoreElement, LdcString, Instruction}
 use Rattle.jvm_model.specs.Families.{family_of}
-use Rattle.jvm_model.specs.Lines.{value_in, slot_in, increment_in, target_in, keys_in, local_of, constant_in, has_dimensions, interface_naming, multi_naming, named_by, naming_of, ObjectRow, object_among, object_rows, other_operation, operation_by, is_last, next_of, targets_of, instruction_of}
+use Rattle.jvm_model.specs.Lines.{value_in, slot_in, increment_in, target_in, keys_in, local_of, constant_in, given_operation, has_dimensions, interface_naming, multi_naming, named_by, naming_of, ObjectRow, object_among, object_constant, object_constant_in, object_rows, other_operation, operation_by, is_last, next_of, targets_of, instruction_of}
 use Rattle.jvm_model.specs.LocalRules.{within}
 use Rattle.jvm_model.specs.Methods.{method_code}
 use Rattle.jvm_model.specs.Originals.{original}
@@ -206,6 +209,7 @@ module _ (c : ClassFile) (i : Instr) where
   tied-object is (StoreElement k) object = record { op = StoreElement k; is = refl; tied = record { action = refl; next = behind is; alone = λ k same. absurd cc } }
   tied-object is (Within l) object = absurd (false≢true object)
   tied-object is (Named n) object = absurd (false≢true object)
+  tied-object is (LdcString units) object = absurd (false≢true object)
 
   tied-rows : family_of i.op ≡ family.Elsewhere → (rows : List ObjectRow) → are_objects rows ≡ true → TiedOperation (object_among rows i.op)
   tied-rows is [] objects = tt
@@ -221,10 +225,41 @@ module _ (c : ClassFile) (i : Instr) where
   tied-other is arg.Plain = tied-rows is object_rows refl
   tied-other is _ = tt
 
+  -- ---- ldc: of a String or a Class where it is of no number
+
+  behind-ldc : family_of i.op ≡ family.Given → Some (end_of i) ≡ cond (is_last_family (family_of i.op)) None (Some (end_of i))
+  behind-ldc is = ap (λ x. cond (is_last_family x) None (Some (end_of i))) (sym is)
+
+  tied-string : family_of i.op ≡ family.Given → (text : Option (List ℕ)) → TiedOperation (option_map LdcString text)
+  tied-string is None = tt
+  tied-string is (Some units) = record { op = LdcString units; is = refl; tied = record { action = refl; next = behind-ldc is; alone = λ k same. absurd cc } }
+
+  tied-class : family_of i.op ≡ family.Given → (text : Option (List ℕ)) → TiedOperation (option_map (λ name. Named (LdcClass name)) text)
+  tied-class is None = tt
+  tied-class is (Some name) = record { op = Named (LdcClass name); is = refl; tied = record { action = refl; next = behind-ldc is; alone = λ k same. absurd cc } }
+
+  tied-entry : family_of i.op ≡ family.Given → (entry : Const) → TiedOperation (object_constant c.pool entry)
+  tied-entry is (const.Text index) = tied-string is (named_text c.pool index)
+  tied-entry is (const.Class index) = tied-class is (named_text c.pool index)
+  tied-entry is _ = tt
+
+  tied-constant : family_of i.op ≡ family.Given → (a : Arg) → TiedOperation (object_constant_in c.pool a)
+  tied-constant is (arg.Pool index) = by (slice_get c.pool index) where
+    by : (o : Option Const) → TiedOperation (option_and_then (object_constant c.pool) o)
+    by None = tt
+    by (Some entry) = tied-entry is entry
+  tied-constant is _ = tt
+
+  tied-given : family_of i.op ≡ family.Given → (x : Option Local) → local_of family.Given i.arg constant ≡ x
+      → TiedOperation (given_operation (option_map Within x) (object_constant_in c.pool i.arg))
+  tied-given is None e = tied-constant is i.arg
+  tied-given is (Some l) e = tied-local family.Given (λ same. absurd cc) is (Some l) e
+
   -- ---- every instruction
 
   tied-by : (f : Family) → family_of i.op ≡ f → TiedOperation (operation_by c i.op i.arg f)
   tied-by family.Elsewhere is = tied-other is i.arg
+  tied-by family.Given is = tied-given is (local_of family.Given i.arg constant) refl
   tied-by f is = tied-local f (λ e. absurd cc) is (local_of f i.arg constant) refl
 
   tied-instruction : Tie (line_of c i) (instruction_of c i)

@@ -16,6 +16,7 @@ use Rattle.jvm_model.specs.declared.state.Frame.{Frame}
 use Rattle.jvm_model.specs.declared.state.State.{State}
 use Rattle.jvm_model.specs.Data.{World, Naming, Nop, Within, Instruction, Outcome, Returns, Done}
 use Rattle.jvm_model.specs.Applies.{breaks, goes, throws_at, applies}
+use Rattle.jvm_model.specs.ConstantRules.{pushes_string}
 use Rattle.jvm_model.specs.Families.{family_of}
 use Rattle.jvm_model.specs.Lines.{targets_of}
 use Rattle.jvm_model.specs.LocalRules.{returns, arithmetic_exception, by_zero}
@@ -116,7 +117,7 @@ ready_for w n s f =
 
 -- what its rule says over what is loaded then
 abbrev pub named_done : World → Naming → State → Frame → Done
-named_done w n s f = does_named w.program n (ready_for w n s f).shared f.locals f.operands
+named_done w n s f = does_named w n (ready_for w n s f).shared f.locals f.operands
 
 -- what a rule leaves and writes
 abbrev pub with_done : Done → State → State
@@ -149,6 +150,12 @@ abbrev pub acts_store : World → Line → Kind → State → Frame → State
 acts_store w line k s f =
     acts_done w line s f (stores_element w.program k (storing_of k f.operands) s.shared f.locals f.operands)
 
+-- ---- ldc of a String
+
+abbrev pub acts_string : World → Line → List ℕ → State → Frame → State
+acts_string w line units s f =
+    acts_done w line s f (pushes_string w.program units s.shared f.locals f.operands)
+
 -- ---- every line
 
 abbrev pub acts_by : World → Line → State → Frame → Action → State
@@ -161,6 +168,7 @@ acts_by w line s f action.Arraylength = acts_arraylength w line s f
 acts_by w line s f (action.Newarray kind) = acts_newarray w line kind s f
 acts_by w line s f (action.LoadElement k) = acts_load w line k s f
 acts_by w line s f (action.StoreElement k) = acts_store w line k s f
+acts_by w line s f (action.LdcString units) = acts_string w line units s f
 
 abbrev pub acts : World → Line → State → Frame → State
 acts w line s f = acts_by w line s f line.action

@@ -2,9 +2,10 @@
 use Rattle.std.specs.Prelude.{ℕ, List, ◌++◌, Option, Some, None}
 use Rattle.frame_stack.specs.FrameLists.{PlacedFrame, top_operands}
 use Rattle.jvm_basic.specs.Outcomes.{top_locals}
+use Rattle.jvm_model.specs.declared.ending.Ending.TheVariants.{Exited}
 use Rattle.jvm_model.specs.declared.state.Shared.{Shared}
 use Rattle.jvm_model.specs.declared.state.State.{State}
-use Rattle.jvm_model.specs.Data.{World, Naming, Outcome, Raises, Throws, Initializes, Done}
+use Rattle.jvm_model.specs.Data.{World, Naming, Outcome, Raises, Throws, Initializes, Exits, Done}
 use Rattle.jvm_model.specs.Naming.{newly_loaded}
 use Rattle.jvm_model.specs.NamingRules.{does_named}
 use Rattle.jvm_model.specs.Run.{starts}
@@ -27,6 +28,7 @@ abbrev pub refused_in : World → Here → Outcome → Parts → State
 refused_in w here (Raises name message) p = state_in (raised_in w name message p)
 refused_in w here (Throws r) p = state_in (record p { thrown = Some r })
 refused_in w here (Initializes c) p = state_in p
+refused_in w here (Exits status) p = state_in (record p { ending = Some (Exited status) })
 refused_in w here _ p = state_in (ended here.method (own_of w here) p)
 
 abbrev pub concluded : World → Here → Answer → Parts → State
@@ -41,7 +43,7 @@ concluded w here (Stops q) p = refused_in w here q p
 abbrev pub done_top : World → Naming → Shared → List PlacedFrame → Done
 done_top w n s fs =
     let ready = record s { loaded = s.loaded ++ newly_loaded w.program s.loaded n (top_operands fs) } in
-    does_named w.program n ready (top_locals fs) (top_operands fs)
+    does_named w n ready (top_locals fs) (top_operands fs)
 
 -- the parts once it has answered, where a frame that goes on does so at this place
 abbrev pub answered : Done → ℕ → Parts → Parts

@@ -14,15 +14,13 @@ use Rattle.jvm_steps.specs.Initializing.{begins_class}
 abbrev pub BeforeEach : Program → (State → Type 0) → Type 0
 BeforeEach p Holds = (input : List ℕ) → Holds (before (record { program = p; input = input }))
 
--- A program that can start so far: it has no arguments, and its heap has room for the objects of the start.
+-- A program that can start: its heap has room for the objects that are there before the start.
 pub record CanStart (p : Program) : Type 0 where
-  pub plain : p.args ≡ []
   pub room : 1024 ≤ p.heap
 
 -- before the start of such a program
 pub record IsAtStart (w : World) (s : State) : Type 0 where
   pub before : s ≡ before w
-  pub plain : w.program.args ≡ []
   pub room : 1024 ≤ w.program.heap
 
 -- the first class is loaded, and ready

@@ -6,7 +6,7 @@ use Rattle.const_pool.specs.References.{Reference}
 use Rattle.code_model.specs.declared.instr.Instr.{Instr}
 use Rattle.code_model.specs.Instructions.{instruction_at, end_of}
 use Rattle.jvm_model.specs.declared.program.Program.{Program}
-use Rattle.jvm_model.specs.Data.{Local, Return, Operation, Within, Named, Athrow, Monitor, Newarray, Arraylength, LoadElement, StoreElement}
+use Rattle.jvm_model.specs.Data.{Local, Return, Operation, Within, Named, Athrow, Monitor, Newarray, Arraylength, LoadElement, StoreElement, LdcString}
 use Rattle.jvm_model.specs.Data as model
 use Rattle.jvm_model.specs.Families.{family_of}
 use Rattle.jvm_model.specs.Lines.{constant_in, has_dimensions, operation_of}
@@ -42,6 +42,7 @@ named_as (model.Checkcast name) = naming.Checkcast name
 named_as (model.Instanceof name) = naming.Instanceof name
 named_as (model.Anewarray name) = naming.Anewarray name
 named_as (model.Multianewarray name dimensions) = naming.Multianewarray name dimensions
+named_as (model.LdcClass name) = naming.LdcClass name
 
 -- Where it is none for the dimensions of the array type that it names there is no line.
 abbrev pub named_action : Naming → Option Action
@@ -63,6 +64,7 @@ action_of (Newarray code) = action.Newarray (array_kind code)
 action_of Arraylength = action.Arraylength
 action_of (LoadElement k) = action.LoadElement k
 action_of (StoreElement k) = action.StoreElement k
+action_of (LdcString units) = action.LdcString units
 
 abbrev pub line_with : ClassFile → Instr → Action → Line
 line_with c i a = record { instr = i; family = family_of i.op; constant = option_map as_value (constant_in c.pool i.arg); next = end_of i; action = a }

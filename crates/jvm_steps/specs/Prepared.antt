@@ -3,6 +3,7 @@ use Rattle.std.specs.Prelude.{◌≡◌, ℕ, ◌<◌, ◌^◌, length, slice_ge
 use Rattle.std.specs.Option.{option_and_then, option_flatten, option_map_or}
 use Rattle.std.specs.Option.{IfSome}
 use Rattle.std.specs.List.{AllByRecursion}
+use Rattle.const_pool.specs.BuiltIn.{built_in_names}
 use Rattle.const_pool.specs.declared.class.ClassFile.{ClassFile}
 use Rattle.const_pool.specs.declared.class.Member.{Member}
 use Rattle.class_index.specs.Indices.{IsLinkable}
@@ -87,6 +88,10 @@ exception_name UnsatisfiedLink = unsatisfied_link
 -- the kind of its class's instances
 abbrev pub exception_kind : Program → Exception → ℕ
 exception_kind p e = kind_for p (exception_name e)
+
+-- the name of the built-in class at this place of their order, as native methods tell what they throw; nothing where there is none
+abbrev pub built_in_named : ℕ → List ℕ
+built_in_named place = unwrap_or (slice_get built_in_names place) []
 
 abbrev pub exception_in : Exceptions → Exception → ℕ
 exception_in x AbstractMethod = x.abstract_method

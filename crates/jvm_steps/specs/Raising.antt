@@ -1,8 +1,9 @@
--- An exception that the machine makes, over the heap alone (JVM Specification 2.10): object 1 stands for one that does not fit.
-use Rattle.std.specs.Prelude.{ℕ, ◌+◌, Bool, List, [], ◌∷◌, length, nat_le, if◌then◌else◌}
+-- An exception that the machine makes (JVM Specification 2.10), by the kind of its class: object 1 stands for one that does not fit.
+use Rattle.std.specs.Prelude.{ℕ, ◌+◌, Bool, List, [], ◌∷◌, length, nat_le, Some, if◌then◌else◌}
 use Rattle.heap_objects.specs.declared.datum.Datum.TheVariants.{Ref}
 use Rattle.heap_objects.specs.Heaps.{HeapView, next_number, with_instance, with_text}
 use Rattle.jvm_model.specs.SharedState.{null}
+use Rattle.jvm_steps.specs.declared.parts.Parts.{Parts}
 
 -- of this kind, without a message
 abbrev pub reference_made : HeapView → ℕ
@@ -24,3 +25,17 @@ reference_of_both string units h = if has_room_for_both units h then next_number
 
 abbrev pub heap_with_both : ℕ → ℕ → List ℕ → HeapView → HeapView
 heap_with_both string kind units h = if has_room_for_both units h then with_both string kind units h else h
+
+-- ---- it is made, and thrown
+
+abbrev pub throwing : ℕ → Parts → Parts
+throwing kind p = record p {
+  shared = record p.shared { heap = heap_made kind 0 p.shared.heap };
+  thrown = Some (reference_made p.shared.heap);
+}
+
+abbrev pub throwing_with : ℕ → ℕ → List ℕ → Parts → Parts
+throwing_with string kind units p = record p {
+  shared = record p.shared { heap = heap_with_both string kind units p.shared.heap };
+  thrown = Some (reference_of_both string units p.shared.heap);
+}

@@ -9,16 +9,19 @@ ghost use Rattle.jvm_steps.specs.Acts.{raised_in};
 ghost use Rattle.jvm_steps.specs.Asked.{concluded, refused_in, starts_in};
 ghost use Rattle.jvm_steps.specs.States.{state_in};
 
-use crate::exceptions::exception_of;
+use crate::exceptions::kind_raised;
 use crate::invoking::call;
 use crate::originals::Originals;
 use crate::parts::{Here, Parts};
-use crate::raising::{break_at, raise, raise_with};
+use crate::raising::{break_at, throw_kind, throw_kind_with};
 use jf_bytes::{NoMemory, Text16};
+use jvm_model::Ending;
 use jvm_named::{Asked, Exception, Refusal};
+use std::alloc::Global;
 
 /// Throws an exception that the instruction raises, with its message.
 pub fn raise_named(
+    alloc: Global,
     originals: &Originals,
     parts: &mut Parts,
     exception: Exception,
@@ -27,16 +30,17 @@ pub fn raise_named(
     ensures { OnOk result (parts.new
         ≡ raised_in originals.now.world (exception_name exception) message parts.old) }
 {
-    let exception = exception_of(exception);
+    let kind = kind_raised(alloc, originals, exception)?;
     match message {
-        Some(message) => raise_with(originals, parts, exception, message.units()),
-        None => raise(originals, parts, exception),
+        Some(message) => throw_kind_with(originals, parts, kind, message.units()),
+        None => throw_kind(parts, kind),
     }
 }
 
 /// What is asked for in place of going on. The initialization of a class begins behind it: the class
 /// is the answer.
 fn refuse(
+    alloc: Global,
     originals: &Originals,
     parts: &mut Parts,
     here: Here,
@@ -48,7 +52,7 @@ fn refuse(
 {
     match refusal {
         Refusal::Raises(exception, message) => {
-            raise_named(originals, parts, exception, message)?;
+            raise_named(alloc, originals, parts, exception, message)?;
             Ok(None)
         }
         Refusal::Throws(object) => {
@@ -56,6 +60,10 @@ fn refuse(
             Ok(None)
         }
         Refusal::Initializes(class) => Ok(Some(class)),
+        Refusal::Exits(status) => {
+            parts.ending = Some(Ending::Exited(status));
+            Ok(None)
+        }
         Refusal::Breaks => {
             break_at(originals, parts, here);
             Ok(None)
@@ -65,6 +73,7 @@ fn refuse(
 
 /// What follows from an answer. The class that is initialized before is the answer, where one is.
 pub fn conclude(
+    alloc: Global,
     originals: &Originals,
     parts: &mut Parts,
     here: Here,
@@ -84,6 +93,6 @@ pub fn conclude(
             call(originals, parts, here, callee, args)?;
             Ok(None)
         }
-        Asked::Refused(refusal) => refuse(originals, parts, here, refusal),
+        Asked::Refused(refusal) => refuse(alloc, originals, parts, here, refusal),
     }
 }

@@ -24,6 +24,7 @@ use crate::originals::{Exception, Originals};
 use crate::parts::{Here, Parts, where_now};
 use crate::raising::{break_off, raise_with};
 use crate::returning::{end_initializer, return_by};
+use crate::strings::push_string;
 use crate::throwing::throw_object;
 use jf_bytes::{NoMemory, Stack};
 use jvm_basic::{Effect, basic_by};
@@ -95,6 +96,7 @@ fn act(
         Action::Newarray(kind) => make_array(originals, parts, method, line, *kind),
         Action::LoadElement(kind) => load_element(alloc, originals, parts, method, line, *kind),
         Action::StoreElement(kind) => store_element(alloc, originals, parts, method, line, *kind),
+        Action::LdcString(units) => push_string(originals, parts, method, line, units),
     }
 }
 
@@ -228,7 +230,7 @@ fn attempt_name(
         &mut parts.frames,
         &mut parts.output,
     )?;
-    let awaited = conclude(originals, parts, here, asked)?;
+    let awaited = conclude(alloc, originals, parts, here, asked)?;
     let Some(class) = awaited else {
         return Ok(None);
     };

@@ -1,28 +1,33 @@
 //! The start (JVM Specification 5.2, 5.3, 5.5): the main class is loaded and initialized, and then
 //! `main` begins.
 
-ghost use Rattle.std.specs.Prelude.{◌≡◌, IfOk, OnOk};
+ghost use Rattle.std.specs.Prelude.{◌≡◌, true, OnOk};
 ghost use Rattle.jvm_model.specs.Originals.{original};
-ghost use Rattle.jvm_model.specs.Run.{main_class, start, starts_with};
+ghost use Rattle.jvm_model.specs.Run.{main_class, start, starts_if, starts_with};
+ghost use Rattle.jvm_model.specs.SharedState.{arguments_fit};
 ghost use Rattle.jvm_model.specs.Sound.{IsFit};
-ghost use Rattle.jvm_model.specs.Starting.{ready_in};
+ghost use Rattle.jvm_model.specs.Starting.{ready_in, unmade_in};
 ghost use Rattle.jvm_named.specs.Answers.{found_view};
 ghost use Rattle.jvm_steps.specs.Before.{IsAtStart, begun_by, with_first};
 ghost use Rattle.jvm_steps.specs.Markers.{state_of};
 ghost use Rattle.jvm_steps.specs.States.{state_in};
 
 use crate::asking::raise_named;
+use crate::handlers::class_of;
 use crate::initializing::{initialize, set_phase};
 use crate::lookup::main_class;
 use crate::markers::Marker;
-use crate::objects::make_arguments;
+use crate::objects::{arguments_fit, make_arguments};
 use crate::originals::Originals;
 use crate::parts::Parts;
 use crate::settling::settle;
 use jf_bytes::{NoMemory, Stack};
-use jvm_model::{Phase, Shared};
+use jvm_model::{Ending, Phase, Shared};
 use jvm_named::Refusal;
 use std::alloc::Global;
+
+/// The OutOfMemoryError that the machine throws.
+const OUT_OF_MEMORY: u32 = 1;
 
 // ---- the main class is ready by itself
 
@@ -35,20 +40,35 @@ fn load_first(shared: &mut Shared) -> Result<(), NoMemory>
     Ok(())
 }
 
-/// What comes before `main` where nothing else runs at the start: the argument array is made, and
-/// the main class is loaded, and ready.
+/// What comes before `main` where nothing else runs at the start: the arguments are made, for which
+/// there is room, and the main class is loaded, and ready.
 pub fn make_ready(originals: &Originals, parts: &mut Parts) -> Result<(), NoMemory>
-    requires { IsAtStart originals.now.world (state_in parts.old) }
+    requires at_start { IsAtStart originals.now.world (state_in parts.old) }
+    requires fits { arguments_fit originals.now.world.program ≡ true }
     ensures { OnOk result (state_in parts.new ≡ ready_in originals.now.world) }
 {
     make_arguments(originals.program(), &mut parts.shared.heap)?;
     load_first(&mut parts.shared)
 }
 
+/// There is no room for the arguments: object 1 is thrown, which nothing catches, and the run ends.
+pub fn end_unmade(originals: &Originals, parts: &mut Parts)
+    requires { IsAtStart originals.now.world (state_in parts.old) }
+    ensures { state_in parts.new ≡ (unmade_in originals.now.world).after }
+{
+    parts.thrown = Some(OUT_OF_MEMORY);
+    parts.ending = Some(Ending::Uncaught(class_of(
+        originals.program(),
+        &parts.shared.heap,
+        OUT_OF_MEMORY,
+    )));
+}
+
 // ---- the main class is loaded
 
 /// The initialization of the main class begins, or what stopped its loading is raised.
 fn begin_class(
+    alloc: Global,
     originals: &Originals,
     parts: &mut Parts,
     markers: &mut Stack<Marker>,
@@ -62,18 +82,41 @@ fn begin_class(
     match found {
         Ok(_) => initialize(parts, markers, class),
         Err(Refusal::Raises(exception, message)) => {
-            raise_named(originals, parts, exception, message)
+            raise_named(alloc, originals, parts, exception, message)
         }
         // These do not come.
         Err(Refusal::Throws(_)) => initialize(parts, markers, class),
         Err(Refusal::Initializes(_)) => initialize(parts, markers, class),
+        Err(Refusal::Exits(_)) => initialize(parts, markers, class),
         Err(Refusal::Breaks) => initialize(parts, markers, class),
     }
 }
 
-/// The objects of the arguments are made, and the main class is loaded: its initialization begins,
-/// or what stopped its loading is raised.
+/// The arguments are made, for which there is room, and the main class is loaded: its initialization
+/// begins, or what stopped its loading is raised.
 fn load_main(
+    alloc: Global,
+    originals: &mut Originals,
+    parts: &mut Parts,
+    markers: &mut Stack<Marker>,
+) -> Result<(), NoMemory>
+    requires at_start { IsAtStart originals.old.world (state_of markers.old parts.old) }
+    requires fits { arguments_fit originals.old.world.program ≡ true }
+    requires linked { originals.old.loaded ≡ parts.old.shared.loaded }
+    requires fit { IsFit originals.old.world.program }
+    ensures world { originals.new.world ≡ originals.old.world }
+    ensures linked { OnOk result (originals.new.loaded ≡ parts.new.shared.loaded) }
+    ensures state { OnOk result
+        (state_of markers.new parts.new ≡ starts_if originals.old.world true) }
+{
+    make_arguments(originals.program(), &mut parts.shared.heap)?;
+    let found = originals.load_main(alloc, &mut parts.shared.loaded)?;
+    let class = main_class(originals.program());
+    begin_class(alloc, originals, parts, markers, class, found)
+}
+
+/// The same, or, where there is no room for the arguments, object 1 is thrown.
+fn begin_start(
     alloc: Global,
     originals: &mut Originals,
     parts: &mut Parts,
@@ -87,14 +130,15 @@ fn load_main(
     ensures state { OnOk result
         (state_of markers.new parts.new ≡ starts_with originals.old.world) }
 {
-    make_arguments(originals.program(), &mut parts.shared.heap)?;
-    let found = originals.load_main(alloc, &mut parts.shared.loaded)?;
-    let class = main_class(originals.program());
-    begin_class(originals, parts, markers, class, found)
+    if arguments_fit(originals.program()) {
+        return load_main(alloc, originals, parts, markers);
+    }
+    parts.thrown = Some(OUT_OF_MEMORY);
+    Ok(())
 }
 
-/// The start: the main class is loaded and initialized, and `main` begins where no static
-/// initializer runs before; or the run ends.
+/// The start: the arguments are made, the main class is loaded and initialized, and `main` begins
+/// where no static initializer runs before; or the run ends.
 pub fn start(
     alloc: Global,
     originals: &mut Originals,
@@ -109,6 +153,6 @@ pub fn start(
     ensures state { let w = originals.old.world in OnOk result
         (state_of markers.new parts.new ≡ (start w (original w.program)).after) }
 {
-    load_main(alloc, originals, parts, markers)?;
+    begin_start(alloc, originals, parts, markers)?;
     settle(alloc, originals, parts, markers)
 }

@@ -115,7 +115,7 @@ fn led_to(heap: &Heap, kind: Kind, place: &Place) -> Led
 }
 
 /// The units of a text in ASCII.
-fn units_of(alloc: Global, bytes: &[u8]) -> Result<Seq<u16>, NoMemory>
+pub fn units_of(alloc: Global, bytes: &[u8]) -> Result<Seq<u16>, NoMemory>
     ensures { IfOk result (λ units. units ≡ bytes.now) }
 {
     let mut units = Seq::with_capacity(alloc, bytes.len())?;

@@ -1,27 +1,33 @@
-//! The exceptions that the instructions with names raise, among those that all instructions raise.
+//! The exceptions that the instructions with names raise, by the kinds of their classes.
 
-ghost use Rattle.std.specs.Prelude.{◌≡◌};
-ghost use Rattle.jvm_named.specs.Answers.{exception_name as name_of_exception};
-ghost use Rattle.jvm_steps.specs.Prepared.{exception_name};
+ghost use Rattle.std.specs.Prelude.{◌≡◌, IfOk};
+ghost use Rattle.jvm_model.specs.SharedState.{kind_for};
+ghost use Rattle.jvm_named.specs.Answers.{exception_name};
 
-use crate::originals::Exception;
+use crate::originals::{Exception, Originals};
+use jf_bytes::NoMemory;
 use jvm_named::Exception as Raised;
+use std::alloc::Global;
 
-/// The exception of the same class.
-pub fn exception_of(raised: Raised) -> Exception
-    ensures { exception_name result ≡ name_of_exception raised }
+/// The kind of the class of such an exception. What a native method throws is found by its name.
+pub fn kind_raised(alloc: Global, originals: &Originals, raised: Raised) -> Result<u32, NoMemory>
+    ensures { IfOk result (λ kind.
+        kind ≡ kind_for originals.now.world.program (exception_name raised)) }
 {
     match raised {
-        Raised::AbstractMethod => Exception::AbstractMethod,
-        Raised::ClassCast => Exception::ClassCast,
-        Raised::ClassCircularity => Exception::ClassCircularity,
-        Raised::IncompatibleClassChange => Exception::IncompatibleClassChange,
-        Raised::Instantiation => Exception::Instantiation,
-        Raised::NegativeArraySize => Exception::NegativeArraySize,
-        Raised::NoClassDefinition => Exception::NoClassDefinition,
-        Raised::NoSuchField => Exception::NoSuchField,
-        Raised::NoSuchMethod => Exception::NoSuchMethod,
-        Raised::NullPointer => Exception::NullPointer,
-        Raised::UnsatisfiedLink => Exception::UnsatisfiedLink,
+        Raised::AbstractMethod => Ok(originals.kind_of(Exception::AbstractMethod)),
+        Raised::ClassCast => Ok(originals.kind_of(Exception::ClassCast)),
+        Raised::ClassCircularity => Ok(originals.kind_of(Exception::ClassCircularity)),
+        Raised::IncompatibleClassChange => {
+            Ok(originals.kind_of(Exception::IncompatibleClassChange))
+        }
+        Raised::Instantiation => Ok(originals.kind_of(Exception::Instantiation)),
+        Raised::NegativeArraySize => Ok(originals.kind_of(Exception::NegativeArraySize)),
+        Raised::NoClassDefinition => Ok(originals.kind_of(Exception::NoClassDefinition)),
+        Raised::NoSuchField => Ok(originals.kind_of(Exception::NoSuchField)),
+        Raised::NoSuchMethod => Ok(originals.kind_of(Exception::NoSuchMethod)),
+        Raised::NullPointer => Ok(originals.kind_of(Exception::NullPointer)),
+        Raised::UnsatisfiedLink => Ok(originals.kind_of(Exception::UnsatisfiedLink)),
+        Raised::BuiltIn(place) => originals.built_in_kind(alloc, place),
     }
 }

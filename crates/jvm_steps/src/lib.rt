@@ -32,10 +32,11 @@ mod returning;
 mod settling;
 mod starting;
 mod stepping;
+mod strings;
 mod supertypes;
 mod throwing;
 
-pub use beginning::{make_ready, start};
+pub use beginning::{end_unmade, make_ready, start};
 pub use descriptor::shape_of;
 pub use invoking::{fits_params, may_begin};
 pub use line::{Action, Line};
@@ -44,6 +45,7 @@ pub use members::{
     code_of, field_at, interface_method_at, is_initializer, is_out, is_println, is_reference,
     method_at, method_named,
 };
+pub use objects::arguments_fit;
 pub use originals::{Exception, Originals};
 pub use parts::{Here, Parts, where_now};
 pub use raising::raise;

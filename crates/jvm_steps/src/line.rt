@@ -3,6 +3,7 @@
 use code_model::Instr;
 use const_pool::Kind;
 use heap_objects::Value;
+use jf_bytes::Text16;
 use jvm_model::Family;
 use jvm_named::Naming;
 
@@ -25,9 +26,11 @@ pub enum Action {
     LoadElement(Kind),
     /// iastore to sastore.
     StoreElement(Kind),
+    /// ldc and ldc_w of a String of these units.
+    LdcString(Text16),
 }
 
-/// An instruction with its offset, its family, the constant that an ldc pushes, the offset behind it, and what it does.
+/// An instruction with its offset, its family, the number that an ldc pushes, the offset behind it, and what it does.
 #[derive(Drop)]
 pub struct Line {
     pub instr: Instr,

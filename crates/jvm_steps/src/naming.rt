@@ -3,13 +3,14 @@
 ghost use Rattle.std.specs.Prelude.{◌≡◌, IfOk};
 ghost use Rattle.std.specs.Option.{option_and_then, option_map};
 ghost use Rattle.const_pool.specs.Members.{reference_view};
-ghost use Rattle.const_pool.specs.References.{named_class, named_field, named_method};
+ghost use Rattle.const_pool.specs.References.{named_class, named_field, named_method, named_text};
+ghost use Rattle.jvm_model.specs.Data.{LdcClass, Named};
 ghost use Rattle.jvm_model.specs.Lines.{has_dimensions, interface_naming, multi_naming};
 ghost use Rattle.jvm_model.specs.Lines.{named_interface_method, naming_of, special_of};
 ghost use Rattle.jvm_model.specs.Programs.{name_of};
 ghost use Rattle.jvm_named.specs.Members.{params_by};
 ghost use Rattle.jvm_named.specs.Names.{naming_view};
-ghost use Rattle.jvm_steps.specs.Lines.{member_as, named_action, named_as};
+ghost use Rattle.jvm_steps.specs.Lines.{action_of, member_as, named_action, named_as};
 
 use crate::descriptor::shape_of;
 use crate::line::Action;
@@ -102,6 +103,16 @@ fn class_in(alloc: Global, pool: &Pool, index: u16) -> Result<Option<Text16>, No
     }
 }
 
+/// The text of the entry at an index.
+pub fn text_in(alloc: Global, pool: &Pool, index: u16) -> Result<Option<Text16>, NoMemory>
+    ensures { IfOk result (λ text. text ≡ named_text pool.now index) }
+{
+    match pool.text(index) {
+        Ok(text) => Ok(Some(copy_of(alloc, text)?)),
+        Err(_) => Ok(None),
+    }
+}
+
 // ---- instructions
 
 /// invokespecial in a class.
@@ -178,6 +189,14 @@ pub fn multi_naming(
         Some(name) => Ok(Some(Naming::Multianewarray(name, dimensions))),
         None => Ok(None),
     }
+}
+
+/// ldc of a Class of this name.
+pub fn class_action(name: Option<Text16>) -> Option<Action>
+    ensures { let operation = option_map (λ units. Named (LdcClass units)) name in
+        result ≡ option_map action_of operation }
+{
+    Some(Action::Named(Naming::LdcClass(name?)))
 }
 
 // ---- dimensions of array types

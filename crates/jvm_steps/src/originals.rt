@@ -11,17 +11,21 @@ ghost use Rattle.jvm_model.specs.Naming.{resolved_kind};
 ghost use Rattle.jvm_model.specs.Programs.{max_stack_of, max_locals_of, params_of_method};
 ghost use Rattle.jvm_model.specs.SharedState.{built_in_from, kind_for, string};
 ghost use Rattle.jvm_named.specs.Answers.{Answers, Moves, Shares, found_view, wrote_by};
-ghost use Rattle.jvm_named.specs.Attempts.{attempts, loaded_for};
-ghost use Rattle.jvm_named.specs.BuiltInCalls.{HasBuiltIn};
+ghost use Rattle.jvm_named.specs.Attempts.{attempts, loaded_for, world_over};
+ghost use Rattle.jvm_named.specs.Natives.{HasBuiltIn};
 ghost use Rattle.jvm_named.specs.Numbers.{AreNumbers};
 ghost use Rattle.jvm_named.specs.Objects.{AreLoaded, HasDimensions, HasLoadedCaller};
 ghost use Rattle.jvm_steps.specs.Lines.{IfNamed, IfNamedBy, line_at};
 ghost use Rattle.jvm_steps.specs.Linked.{linker_in};
-ghost use Rattle.jvm_steps.specs.Prepared.{FitsOriginals, exception_kind, line_in, main_name};
+ghost use Rattle.jvm_steps.specs.Prepared.{FitsOriginals, built_in_named, exception_kind};
+ghost use Rattle.jvm_steps.specs.Prepared.{line_in, main_name};
 
+use crate::elements::units_of;
 use crate::line::{Action, Line};
 use crate::loading::{link_main, load_built_in, main_name};
+use crate::objects::kind_named;
 use crate::preparing::{exceptions_of, prepare_methods};
+use base_classes::built_in_name;
 use class_linker::Linker;
 use const_pool::Kind;
 use frame_stack::Frames;
@@ -112,6 +116,16 @@ fn line_in(methods: &Seq<Method>, method: usize, place: u16) -> Option<&Line>
     methods.get(method)?.lines.get(place as usize)?.as_ref()
 }
 
+/// The name of the built-in class at this place of their order; none has an empty one.
+fn built_in_named(place: u16) -> &'static str
+    ensures { result.now ≡ built_in_named place }
+{
+    match built_in_name(place as usize) {
+        Some(name) => name,
+        None => "",
+    }
+}
+
 /// Attempts a line that names something; another one does nothing.
 fn attempt_line(
     alloc: Global,
@@ -120,6 +134,7 @@ fn attempt_line(
     line: &Line,
     shared: &mut Shared,
     frames: &mut Frames,
+    input: &[u8],
     output: &mut Seq<u8>,
 ) -> Result<Asked, NoMemory>
     requires linked { linker.old.loaded ≡ shared.old.loaded }
@@ -129,15 +144,18 @@ fn attempt_line(
     requires caller { IfNamedBy line.now.action line.now.next
         (λ n next. HasLoadedCaller linker.old n) }
     requires dimensions { IfNamedBy line.now.action line.now.next (λ n next. HasDimensions n) }
-    ensures answer { IfNamedBy line.now.action line.now.next (λ n next.
-        Answers result (attempts linker.old.program n shared.old frames.old) frames.old) }
-    ensures frames { IfNamedBy line.now.action line.now.next (λ n next.
-        Moves result frames.new (attempts linker.old.program n shared.old frames.old) next
-        frames.old) }
-    ensures shared { IfNamedBy line.now.action line.now.next (λ n next.
-        Shares result shared.new (attempts linker.old.program n shared.old frames.old) frames.old) }
-    ensures output { IfNamedBy line.now.action line.now.next (λ n next. OnOk result (output.new
-        ≡ output.old ++ wrote_by (attempts linker.old.program n shared.old frames.old) frames.old)) }
+    ensures answer { let w = world_over linker.old input.now in
+        IfNamedBy line.now.action line.now.next (λ n next.
+        Answers result (attempts w n shared.old frames.old) frames.old) }
+    ensures frames { let w = world_over linker.old input.now in
+        IfNamedBy line.now.action line.now.next (λ n next.
+        Moves result frames.new (attempts w n shared.old frames.old) next frames.old) }
+    ensures shared { let w = world_over linker.old input.now in
+        IfNamedBy line.now.action line.now.next (λ n next.
+        Shares result shared.new (attempts w n shared.old frames.old) frames.old) }
+    ensures output { let w = world_over linker.old input.now in
+        IfNamedBy line.now.action line.now.next (λ n next. OnOk result (output.new
+        ≡ output.old ++ wrote_by (attempts w n shared.old frames.old) frames.old)) }
     ensures loaded { IfNamedBy line.now.action line.now.next (λ n next. OnOk result
         (linker.new.loaded ≡ loaded_for linker.old.program n shared.old frames.old)) }
     ensures built_in { OnOk result (HasBuiltIn linker.new) }
@@ -146,7 +164,7 @@ fn attempt_line(
 {
     match &line.action {
         Action::Named(naming) => attempt(
-            alloc, linker, numbers, shared, frames, output, naming, line.next,
+            alloc, linker, numbers, shared, frames, input, output, naming, line.next,
         ),
         _ => Ok(Asked::Refused(Refusal::Breaks)),
     }
@@ -256,12 +274,22 @@ impl Originals {
         }
     }
 
+    /// The kind of the class of this built-in name, by its place; found by the name.
+    pub fn built_in_kind(&self, alloc: Global, place: u16) -> Result<u32, NoMemory>
+        ensures { let name = built_in_named place in
+            IfOk result (λ kind. kind ≡ kind_for self.now.world.program name) }
+    {
+        let name = units_of(alloc, built_in_named(place).as_bytes())?;
+        Ok(kind_named(self.linker.index(), name.as_slice()))
+    }
+
     /// The kind of texts.
     pub fn string_kind(&self) -> u32
         ensures { result ≡ kind_for self.now.world.program string }
     {
         self.exceptions.string
     }
+
     // ---- loading
 
     /// Loads the main class by its name, with what it needs, and gives its kind, or what its fault raises. What was loaded before a
@@ -308,15 +336,15 @@ impl Originals {
         requires objects { AreLoaded (linker_in self.old) shared.old.heap }
         requires caller { IfNamed (line_at self.old.world.program method place)
             (λ n next. HasLoadedCaller (linker_in self.old) n) }
-        ensures answer { let p = self.old.world.program in IfNamed (line_at p method place)
-            (λ n next. Answers result (attempts p n shared.old frames.old) frames.old) }
-        ensures frames { let p = self.old.world.program in IfNamed (line_at p method place)
-            (λ n next. Moves result frames.new (attempts p n shared.old frames.old) next frames.old) }
-        ensures shared { let p = self.old.world.program in IfNamed (line_at p method place)
-            (λ n next. Shares result shared.new (attempts p n shared.old frames.old) frames.old) }
-        ensures output { let p = self.old.world.program in IfNamed (line_at p method place)
+        ensures answer { let w = self.old.world in IfNamed (line_at w.program method place)
+            (λ n next. Answers result (attempts w n shared.old frames.old) frames.old) }
+        ensures frames { let w = self.old.world in IfNamed (line_at w.program method place)
+            (λ n next. Moves result frames.new (attempts w n shared.old frames.old) next frames.old) }
+        ensures shared { let w = self.old.world in IfNamed (line_at w.program method place)
+            (λ n next. Shares result shared.new (attempts w n shared.old frames.old) frames.old) }
+        ensures output { let w = self.old.world in IfNamed (line_at w.program method place)
             (λ n next. OnOk result (output.new
-            ≡ output.old ++ wrote_by (attempts p n shared.old frames.old) frames.old)) }
+            ≡ output.old ++ wrote_by (attempts w n shared.old frames.old) frames.old)) }
         ensures loaded { let p = self.old.world.program in IfNamed (line_at p method place)
             (λ n next. OnOk result (self.new.loaded ≡ loaded_for p n shared.old frames.old)) }
         ensures built_in { OnOk result (HasBuiltIn (linker_in self.new)) }
@@ -333,6 +361,7 @@ impl Originals {
             line,
             shared,
             frames,
+            self.input.as_slice(),
             output,
         )
     }

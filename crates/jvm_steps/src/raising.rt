@@ -3,8 +3,9 @@
 ghost use Rattle.std.specs.Prelude.{◌≡◌, None, Some, IfOk, OnOk};
 ghost use Rattle.heap_objects.specs.Heaps.{next_number, with_text};
 ghost use Rattle.jvm_steps.specs.Acts.{ended, ended_unless, raising};
+ghost use Rattle.jvm_model.specs.SharedState.{kind_for, string};
 ghost use Rattle.jvm_steps.specs.Raising.{heap_made, heap_with_both, reference_made};
-ghost use Rattle.jvm_steps.specs.Raising.{reference_of_both, with_both};
+ghost use Rattle.jvm_steps.specs.Raising.{reference_of_both, throwing, throwing_with, with_both};
 ghost use Rattle.jvm_steps.specs.Settling.{own_of};
 
 use crate::originals::{Exception, Originals};
@@ -89,14 +90,36 @@ fn make_with(heap: &mut Heap, string: u32, kind: u32, message: &[u16]) -> Result
     }
 }
 
+/// Throws an exception of this kind, without a message.
+pub fn throw_kind(parts: &mut Parts, kind: u32) -> Result<(), NoMemory>
+    ensures { OnOk result (parts.new ≡ throwing kind parts.old) }
+{
+    let thrown = make(&mut parts.shared.heap, kind, 0)?;
+    parts.thrown = Some(thrown);
+    Ok(())
+}
+
+/// Throws an exception of this kind, with this message.
+pub fn throw_kind_with(
+    originals: &Originals,
+    parts: &mut Parts,
+    kind: u32,
+    message: &[u16],
+) -> Result<(), NoMemory>
+    ensures { let text = kind_for originals.now.world.program string in
+        OnOk result (parts.new ≡ throwing_with text kind message.now parts.old) }
+{
+    let string = originals.string_kind();
+    let thrown = make_with(&mut parts.shared.heap, string, kind, message)?;
+    parts.thrown = Some(thrown);
+    Ok(())
+}
+
 /// Throws an exception that the machine makes, without a message.
 pub fn raise(originals: &Originals, parts: &mut Parts, exception: Exception) -> Result<(), NoMemory>
     ensures { OnOk result (parts.new ≡ raising originals.now.world exception None parts.old) }
 {
-    let kind = originals.kind_of(exception);
-    let thrown = make(&mut parts.shared.heap, kind, 0)?;
-    parts.thrown = Some(thrown);
-    Ok(())
+    throw_kind(parts, originals.kind_of(exception))
 }
 
 /// Throws an exception that the machine makes, with this message.
@@ -109,9 +132,5 @@ pub fn raise_with(
     ensures { let told = Some message.now in
         OnOk result (parts.new ≡ raising originals.now.world exception told parts.old) }
 {
-    let string = originals.string_kind();
-    let kind = originals.kind_of(exception);
-    let thrown = make_with(&mut parts.shared.heap, string, kind, message)?;
-    parts.thrown = Some(thrown);
-    Ok(())
+    throw_kind_with(originals, parts, originals.kind_of(exception), message)
 }

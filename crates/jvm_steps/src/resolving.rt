@@ -4,7 +4,9 @@ ghost use Rattle.std.specs.Prelude.{◌≡◌, ◌<◌, ◌^◌, IfOk};
 ghost use Rattle.std.specs.Int.{is_in_range};
 ghost use Rattle.std.specs.Option.{option_map};
 ghost use Rattle.code_model.specs.Instructions.{end_of};
+ghost use Rattle.jvm_model.specs.Data.{Within};
 ghost use Rattle.jvm_model.specs.Lines.{constant_in, local_of, number_of};
+ghost use Rattle.jvm_model.specs.Lines.{given_operation, object_constant, object_constant_in};
 ghost use Rattle.jvm_model.specs.Values.{as_value};
 ghost use Rattle.jvm_model.specs.declared.family.Family.TheVariants.{Given};
 ghost use Rattle.jvm_model.specs.Lines.{newarray_of, object_among, object_rows};
@@ -13,7 +15,9 @@ ghost use Rattle.jvm_model.specs.Families.{family_of};
 ghost use Rattle.jvm_steps.specs.Lines.{action_of, line_of, line_with, local_action};
 
 use crate::line::{Action, Line};
-use crate::naming::{interface_naming, multi_naming, named_action, naming_of};
+use crate::naming::{
+    class_action, interface_naming, multi_naming, named_action, naming_of, text_in,
+};
 use code_model::{Arg, Instr};
 use const_pool::{ClassFile, Const, Kind, Pool};
 use heap_objects::{Datum, Value};
@@ -47,13 +51,50 @@ fn constant_in(pool: &Pool, arg: &Arg) -> Option<Datum>
 }
 
 /// What an ldc does, where its constant is a number.
-fn given(pool: &Pool, arg: &Arg) -> Option<Action>
+fn number_given(pool: &Pool, arg: &Arg) -> Option<Action>
     ensures { let constant = constant_in pool.now arg.now in
         result ≡ option_map local_action (local_of Given arg.now constant) }
 {
     match constant_in(pool, arg) {
         Some(_) => Some(Action::Local),
         None => None,
+    }
+}
+
+/// What an ldc of an entry of the pool does that is a String or a Class.
+fn object_constant(alloc: Global, pool: &Pool, entry: &Const) -> Result<Option<Action>, NoMemory>
+    ensures { IfOk result (λ a. a ≡ option_map action_of (object_constant pool.now entry.now)) }
+{
+    match entry {
+        Const::Text(index) => Ok(text_in(alloc, pool, *index)?.map(Action::LdcString)),
+        Const::Class(index) => Ok(class_action(text_in(alloc, pool, *index)?)),
+        _ => Ok(None),
+    }
+}
+
+/// What an ldc does, where its operand names such an entry.
+fn object_given(alloc: Global, pool: &Pool, arg: &Arg) -> Result<Option<Action>, NoMemory>
+    ensures { IfOk result (λ a. a ≡ option_map action_of (object_constant_in pool.now arg.now)) }
+{
+    let Arg::Pool(index) = arg else {
+        return Ok(None);
+    };
+    match pool.get(*index) {
+        Some(entry) => object_constant(alloc, pool, entry),
+        None => Ok(None),
+    }
+}
+
+/// What an ldc does: it pushes a number, or else a String or a Class.
+fn given(alloc: Global, pool: &Pool, arg: &Arg) -> Result<Option<Action>, NoMemory>
+    ensures { let constant = constant_in pool.now arg.now in
+        let number = option_map Within (local_of Given arg.now constant) in
+        IfOk result (λ a. a ≡ option_map action_of
+        (given_operation number (object_constant_in pool.now arg.now))) }
+{
+    match number_given(pool, arg) {
+        Some(action) => Ok(Some(action)),
+        None => object_given(alloc, pool, arg),
     }
 }
 
@@ -65,7 +106,7 @@ fn local_action(family: Family, pool: &Pool, arg: &Arg) -> Option<Action>
     match family {
         Family::Elsewhere => None,
         Family::Return(kind) => Some(Action::Return(kind)),
-        Family::Given => given(pool, arg),
+        Family::Given => number_given(pool, arg),
         Family::Immediate => match arg {
             Arg::Value(_) => Some(Action::Local),
             _ => None,
@@ -168,11 +209,12 @@ fn action_of(
 {
     match family {
         Family::Elsewhere => other_action(alloc, class, instr.op, &instr.arg),
+        Family::Given => given(alloc, &class.pool, &instr.arg),
         family => Ok(local_action(family, &class.pool, &instr.arg)),
     }
 }
 
-/// The value that an ldc pushes.
+/// The number that an ldc pushes.
 fn value_in(pool: &Pool, arg: &Arg) -> Option<Value>
     ensures { result ≡ option_map as_value (constant_in pool.now arg.now) }
 {

@@ -17,6 +17,7 @@ use frame_stack::Frames;
 use heap_objects::Datum;
 use jf_bytes::{NoMemory, Seq, Text16};
 use jvm_model::{Phase, Program, Shared};
+use native_ops::Made;
 use std::alloc::Global;
 
 /// The letters with which the descriptors of longs, objects and arrays begin.
@@ -174,7 +175,7 @@ fn shared_before(alloc: Global, program: &Program) -> Result<Shared, NoMemory>
         phases: phases_of(alloc, classes)?,
         statics: statics_of(alloc, classes)?,
         heap: heap_before(alloc, program)?,
-        made: Seq::new(alloc),
+        made: Made::new(alloc),
         read: 0,
     })
 }

@@ -10,3 +10,5 @@ pub mod FitLemmas
 pub mod NameLemmas
 pub mod WorkedCalls
 pub mod LimitLemmas
+pub mod KindsMade
+pub mod KindsKept

@@ -10,10 +10,9 @@ use Rattle.native_ops.specs.declared.effect.Effect.{Effect}
 use Rattle.native_ops.specs.declared.effect.Effect.TheVariants.{Answers, MakesText, MakesArray, MakesInstance, Appends, Replaces, PutsUnit, Resizes, Interns, Prints, Reads, Stores, SetsFields, GivesClass, GivesBox}
 use Rattle.native_ops.specs.Numbers.{string_kind, class_kind}
 use Rattle.native_ops.specs.Objects.{size_at, text_at}
-use Rattle.native_ops.specs.MadeViews.{MadeView, object_of_class, object_of_box}
+use Rattle.native_ops.specs.MadeViews.{object_of_class, object_of_box}
 use Rattle.native_ops.specs.Making.{is_full, put_at, with_values, heap_with_append, heap_with_replace, heap_with_interned, resized}
-use Rattle.native_ops.specs.declared.io.Io.{Io}
-use Rattle.native_ops.specs.Worlds.{World, world, after}
+use Rattle.native_ops.specs.Worlds.{World, after}
 
 -- either heap has the limit
 either : (b : Bool) (limit : ℕ) (one other : HeapView) → one.limit ≡ limit → other.limit ≡ limit → (if b then one else other).limit ≡ limit
@@ -78,7 +77,7 @@ after-limit (GivesBox kind place value) w =
     (either (is_full 2 w.heap) w.heap.limit w.heap (with_instance kind (value ∷ []) w.heap) refl refl)
 
 -- whether it is done or not
-pub kept-limit : (done : Bool) (f : World → World) (h new : HeapView) (m n : MadeView) (i j : Io) → ((w : World) → (f w).heap.limit ≡ w.heap.limit)
-    → world new n j ≡ changed_if done f (world h m i) → new.limit ≡ h.limit
-kept-limit true f h new m n i j law is = ap (λ (w : World). w.heap.limit) is ∙ law (world h m i)
-kept-limit false f h new m n i j law is = ap (λ (w : World). w.heap.limit) is
+pub kept-limit : (done : Bool) (f : World → World) (w : World) (new : HeapView) → ((w : World) → (f w).heap.limit ≡ w.heap.limit)
+    → new ≡ (changed_if done f w).heap → new.limit ≡ w.heap.limit
+kept-limit true f w new law is = ap (λ (h : HeapView). h.limit) is ∙ law w
+kept-limit false f w new law is = ap (λ (h : HeapView). h.limit) is

@@ -3,6 +3,7 @@ use Rattle.std.proofs.Common.{◌≡◌, ℕ, List, [], ◌∷◌, ◌++◌, Som
 use Rattle.std.specs.Prelude.{Option, codes, ◌||◌}
 use Rattle.std.specs.Fmt.{digits}
 use Rattle.std.specs.Int.{int_wrap}
+use Rattle.jf_bytes.specs.Unicode.{utf8_of}
 use Rattle.heap_objects.specs.declared.datum.Datum.{Datum}
 use Rattle.heap_objects.specs.declared.datum.Datum.TheVariants.{Int, Long, Ref}
 use Rattle.heap_objects.specs.declared.object.Object.{Object}
@@ -34,7 +35,9 @@ with objects room input =
     record {
       heap = record { limit = room; used = 0; objects = objects; interned = [] };
       made = nothing_made;
-      io = record { input = input; at = 0; output = [] };
+      input = input;
+      read = 0;
+      wrote = [];
     }
 
 abbrev abc : World
@@ -174,6 +177,16 @@ put_behind = refl
 read : answers 62 (Ref 1 ∷ []) (with (Instance 26 [] ∷ []) 9 (255 ∷ [])) ≡ int 255
 unfolding rows is_among
 read = refl
+
+read_on : (world_by 62 classes (Ref 1 ∷ []) (with (Instance 26 [] ∷ []) 9 (255 ∷ []))).read ≡ 1
+unfolding rows is_among
+read_on = refl
+
+-- what is written is that of the call alone
+printed : (world_by 74 classes (Ref 1 ∷ Ref 2 ∷ []) (with (Instance 27 [] ∷ Text 23 (codes "abc") ∷ []) 9 [])).wrote
+    ≡ utf8_of (codes "abc" ++ 10 ∷ [])
+unfolding rows is_among
+printed = refl
 
 exits : answers 78 (Int (negsuc 0) ∷ []) abc ≡ Exit (negsuc 0)
 unfolding rows

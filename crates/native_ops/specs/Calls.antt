@@ -2,6 +2,7 @@
 use Rattle.std.specs.Prelude.{◌≡◌, ℕ, Bool, true, false, List, slice_get, if◌then◌else◌}
 use Rattle.std.specs.Option.{option_map_or}
 use Rattle.heap_objects.specs.declared.datum.Datum.{Datum}
+use Rattle.heap_objects.specs.Changes.{changed_if}
 use Rattle.heap_objects.specs.Heaps.{HeapView}
 use Rattle.native_ops.specs.declared.answer.Answer.{Answer}
 use Rattle.native_ops.specs.declared.answer.Answer.TheVariants as answer
@@ -77,6 +78,10 @@ answer_by number kinds args w = answer_of (effect_of number kinds args w) w
 
 abbrev pub world_by : ℕ → KindsView → List Datum → World → World
 world_by number kinds args w = after (effect_of number kinds args w) w
+
+-- what a call leaves that is done, and one that is not, which changes nothing
+abbrev pub left_by : Bool → ℕ → KindsView → List Datum → World → World
+left_by done number kinds args w = changed_if done (world_by number kinds args) w
 
 -- this is answered, but where memory was wanting
 abbrev pub IsAnswer : Native → Answer → Type 0

@@ -5,15 +5,15 @@ use Rattle.jf_bytes.specs.Unicode.{utf8_of}
 use Rattle.heap_objects.specs.declared.datum.Datum.TheVariants.{Int}
 use Rattle.native_ops.specs.declared.answer.Answer.{Answer}
 use Rattle.native_ops.specs.declared.answer.Answer.TheVariants.{Value}
-use Rattle.native_ops.specs.declared.io.Io.{Io}
 
--- the next byte, and -1 at the end
-abbrev pub answer_of_read : Io → Answer
-answer_of_read io = Value (Some (Int (option_map_or pos (slice_get io.input io.at) (negsuc 0))))
+-- the byte behind those that were read, and -1 at the end
+abbrev pub answer_of_read : List ℕ → ℕ → Answer
+answer_of_read input read = Value (Some (Int (option_map_or pos (slice_get input read) (negsuc 0))))
 
-abbrev pub after_read : Io → Io
-after_read io = if is_some (slice_get io.input io.at) then record io { at = io.at + 1 } else io
+-- how many bytes are read then
+abbrev pub after_read : List ℕ → ℕ → ℕ
+after_read input read = if is_some (slice_get input read) then read + 1 else read
 
--- a text in UTF-8 behind the output
-abbrev pub with_output : List ℕ → Io → Io
-with_output units io = record io { output = io.output ++ utf8_of units }
+-- a text in UTF-8 behind what was written
+abbrev pub with_output : List ℕ → List ℕ → List ℕ
+with_output units written = written ++ utf8_of units

@@ -1,23 +1,25 @@
 -- What a native method may change, and what becomes of it by an effect. Where the heap is full nothing changes.
-use Rattle.std.specs.Prelude.{None}
+use Rattle.std.specs.Prelude.{ℕ, List, [], None}
 use Rattle.heap_objects.specs.Heaps.{HeapView}
 use Rattle.native_ops.specs.declared.answer.Answer.{Answer}
 use Rattle.native_ops.specs.declared.answer.Answer.TheVariants.{Value}
 use Rattle.native_ops.specs.declared.effect.Effect.{Effect}
 use Rattle.native_ops.specs.declared.effect.Effect.TheVariants.{Answers, MakesText, MakesArray, MakesInstance, Appends, Replaces, PutsUnit, Resizes, Interns, Prints, Reads, Stores, SetsFields, GivesClass, GivesBox}
-use Rattle.native_ops.specs.declared.io.Io.{Io}
 use Rattle.native_ops.specs.MadeViews.{MadeView}
 use Rattle.native_ops.specs.Ports.{answer_of_read, after_read, with_output}
 use Rattle.native_ops.specs.Making.{answer_of_text, heap_with_text, answer_of_array, heap_with_array, answer_of_instance, heap_with_instance, answer_of_append, heap_with_append, answer_of_replace, heap_with_replace, answer_of_unit, heap_with_unit, answer_of_resize, heap_with_resize, answer_of_intern, heap_with_interned, with_values, with_fields, answer_of_class, heap_after_class, made_after_class, answer_of_box, heap_after_box, made_after_box}
 
--- the heap, what was made once, and the input and output
+-- the heap, what was made once, the input, how many of its bytes were read, and the bytes that were written since the call began
 pub record World : Type 0 where
   pub heap : HeapView
   pub made : MadeView
-  pub io : Io
+  pub input : List ℕ
+  pub read : ℕ
+  pub wrote : List ℕ
 
-abbrev pub world : HeapView → MadeView → Io → World
-world heap made io = record { heap = heap; made = made; io = io }
+-- where a call begins
+abbrev pub world : HeapView → MadeView → List ℕ → ℕ → World
+world heap made input read = record { heap = heap; made = made; input = input; read = read; wrote = [] }
 
 -- what is answered
 abbrev pub answer_of : Effect → World → Answer
@@ -31,7 +33,7 @@ answer_of (PutsUnit object at unit) w = answer_of_unit object at w.heap
 answer_of (Resizes object size) w = answer_of_resize object size w.heap
 answer_of (Interns units) w = answer_of_intern units w.heap
 answer_of (Prints units) w = Value None
-answer_of Reads w = answer_of_read w.io
+answer_of Reads w = answer_of_read w.input w.read
 answer_of (Stores array place values answer) w = answer
 answer_of (SetsFields object first second) w = Value None
 answer_of (GivesClass kind) w = answer_of_class kind w.made w.heap
@@ -48,8 +50,8 @@ after (Replaces object units value) w = record w { heap = heap_with_replace obje
 after (PutsUnit object at unit) w = record w { heap = heap_with_unit object at unit w.heap }
 after (Resizes object size) w = record w { heap = heap_with_resize object size w.heap }
 after (Interns units) w = record w { heap = heap_with_interned units w.heap }
-after (Prints units) w = record w { io = with_output units w.io }
-after Reads w = record w { io = after_read w.io }
+after (Prints units) w = record w { wrote = with_output units w.wrote }
+after Reads w = record w { read = after_read w.input w.read }
 after (Stores array place values answer) w = record w { heap = with_values array place values w.heap }
 after (SetsFields object first second) w = record w { heap = with_fields object first second w.heap }
 after (GivesClass kind) w =

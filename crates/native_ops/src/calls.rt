@@ -1,15 +1,13 @@
 //! Calls of native methods.
 
-ghost use Rattle.std.specs.Prelude.{◌≡◌, ◌≤◌, ◌<◌, IfOk, IsSome, slice_get, true};
+ghost use Rattle.std.specs.Prelude.{◌≡◌, ◌<◌, ◌++◌, ℕ, List, IfOk, IsSome, slice_get, true};
 ghost use Rattle.std.specs.Option.{option_map};
 ghost use Rattle.base_classes.specs.Natives.{native_methods};
 ghost use Rattle.native_ops.specs.Named.{reference_of};
 ghost use Rattle.native_ops.specs.Rows.{rows};
-ghost use Rattle.native_ops.specs.declared.io.Io.{Io};
-ghost use Rattle.heap_objects.specs.Changes.{changed_if};
-ghost use Rattle.native_ops.specs.Worlds.{world, answer_of, after};
+ghost use Rattle.native_ops.specs.Worlds.{world};
 ghost use Rattle.native_ops.specs.Calls.{method_effect, row_effect, effect_of, native_of_answer, is_done};
-ghost use Rattle.native_ops.specs.Calls.{answer_by, world_by, IsAnswer};
+ghost use Rattle.native_ops.specs.Calls.{answer_by, left_by, IsAnswer};
 
 use crate::answer::{Answer, Native};
 use crate::builders::builder_effect;
@@ -20,7 +18,6 @@ use crate::effect::Effect;
 use crate::enums::enum_effect;
 use crate::fitting::fit;
 use crate::integers::integer_effect;
-use crate::io::Io;
 use crate::kinds::Kinds;
 use crate::longs::long_effect;
 use crate::made::Made;
@@ -31,7 +28,7 @@ use crate::streams::{input_effect, print_effect};
 use crate::strings::string_effect;
 use crate::throwables::throwable_effect;
 use heap_objects::{Datum, Heap};
-use jf_bytes::NoMemory;
+use jf_bytes::{NoMemory, Seq};
 use std::alloc::Global;
 
 /// What a method does by arguments that fit.
@@ -92,8 +89,8 @@ fn effect_of<K: Kinds>(
     made: &Made,
 ) -> Result<Effect, NoMemory>
     requires { native < 265 }
-    ensures { (io : Io) → IfOk result (λ e. e
-        ≡ effect_of native (K.seen kinds.now) args.now (world heap.now made.now io)) }
+    ensures { (input : List ℕ) → (read : ℕ) → IfOk result (λ e. e
+        ≡ effect_of native (K.seen kinds.now) args.now (world heap.now made.now input read)) }
 {
     row_effect(alloc, row_of(native), kinds, args, heap, made)
 }
@@ -110,8 +107,9 @@ fn native_of_answer(answer: Answer) -> Native
     }
 }
 
-/// Calls the native method of a number that `native_of` gives, with the arguments, the receiver first where it has one. What it
-/// throws is left to the caller to make. After NoMemory nothing is changed.
+/// Calls the native method of a number that `native_of` gives, with the arguments, the receiver first where it has one. Of the
+/// input, so many bytes were read; what is written goes behind the output. What it throws is left to the caller to make. After
+/// NoMemory nothing is changed.
 #[tactic(auto, using(crate::proofs::NameLemmas::numbered, crate::proofs::NameLemmas::named_at))]
 pub fn call<K: Kinds>(
     alloc: Global,
@@ -120,22 +118,30 @@ pub fn call<K: Kinds>(
     kinds: &K,
     heap: &mut Heap,
     made: &mut Made,
-    io: &mut Io,
+    input: &[u8],
+    read: &mut usize,
+    output: &mut Seq<u8>,
 ) -> Native
     requires number { IsSome (slice_get native_methods native) }
-    requires limit { heap.old.limit ≤ 67108864 }
     ensures limit { heap.new.limit ≡ heap.old.limit }
     ensures named { option_map reference_of (slice_get rows native)
         ≡ slice_get native_methods native }
-    ensures answer { IsAnswer result
-        (answer_by native (K.seen kinds.now) args.now (world heap.old made.old io.old)) }
-    ensures world { world heap.new made.new io.new ≡ changed_if (is_done result)
-        (world_by native (K.seen kinds.now) args.now) (world heap.old made.old io.old) }
+    ensures answer { IsAnswer result (answer_by native (K.seen kinds.now) args.now
+        (world heap.old made.old input.now read.old)) }
+    ensures heap { heap.new ≡ (left_by (is_done result) native (K.seen kinds.now) args.now
+        (world heap.old made.old input.now read.old)).heap }
+    ensures made { made.new ≡ (left_by (is_done result) native (K.seen kinds.now) args.now
+        (world heap.old made.old input.now read.old)).made }
+    ensures read { read.new ≡ (left_by (is_done result) native (K.seen kinds.now) args.now
+        (world heap.old made.old input.now read.old)).read }
+    ensures output { output.new ≡ output.old
+        ++ (left_by (is_done result) native (K.seen kinds.now) args.now
+        (world heap.old made.old input.now read.old)).wrote }
 {
     let Ok(effect) = effect_of(alloc, native, args, kinds, heap, made) else {
         return Native::NoMemory;
     };
-    match carry_out(alloc, effect, heap, made, io) {
+    match carry_out(alloc, effect, heap, made, input, read, output) {
         Ok(answer) => native_of_answer(answer),
         Err(NoMemory) => Native::NoMemory,
     }

@@ -1,6 +1,6 @@
 //! What an effect does.
 
-ghost use Rattle.std.specs.Prelude.{◌≡◌, ◌≤◌, IfOk, None, is_ok};
+ghost use Rattle.std.specs.Prelude.{◌≡◌, ◌++◌, IfOk, None, is_ok};
 ghost use Rattle.heap_objects.specs.Changes.{changed_if};
 ghost use Rattle.native_ops.specs.Making.{answer_of_class, heap_after_class, made_after_class};
 ghost use Rattle.native_ops.specs.Making.{answer_of_box, heap_after_box, made_after_box};
@@ -8,14 +8,14 @@ ghost use Rattle.native_ops.specs.Worlds.{world, answer_of, after};
 
 use crate::answer::Answer;
 use crate::effect::Effect;
-use crate::io::{Io, print, read_byte};
 use crate::made::Made;
 use crate::making::{
     append, intern, make_array, make_instance, make_text, object_answer, put_fields, put_unit,
     put_values, replace, resize,
 };
+use crate::ports::{print, read_byte};
 use heap_objects::{Datum, Heap};
-use jf_bytes::NoMemory;
+use jf_bytes::{NoMemory, Seq};
 use std::alloc::Global;
 
 /// The Class object of a kind.
@@ -50,12 +50,20 @@ pub fn carry_out(
     effect: Effect,
     heap: &mut Heap,
     made: &mut Made,
-    io: &mut Io,
+    input: &[u8],
+    read: &mut usize,
+    output: &mut Seq<u8>,
 ) -> Result<Answer, NoMemory>
-    requires { heap.old.limit ≤ 67108864 }
-    ensures answer { IfOk result (λ a. a ≡ answer_of effect (world heap.old made.old io.old)) }
-    ensures world { world heap.new made.new io.new
-        ≡ changed_if (is_ok result) (after effect) (world heap.old made.old io.old) }
+    ensures answer { IfOk result (λ a. a
+        ≡ answer_of effect (world heap.old made.old input.now read.old)) }
+    ensures heap { heap.new ≡ (changed_if (is_ok result) (after effect)
+        (world heap.old made.old input.now read.old)).heap }
+    ensures made { made.new ≡ (changed_if (is_ok result) (after effect)
+        (world heap.old made.old input.now read.old)).made }
+    ensures read { read.new ≡ (changed_if (is_ok result) (after effect)
+        (world heap.old made.old input.now read.old)).read }
+    ensures output { output.new ≡ output.old ++ (changed_if (is_ok result) (after effect)
+        (world heap.old made.old input.now read.old)).wrote }
 {
     match effect {
         Effect::Answers(answer) => Ok(answer),
@@ -67,8 +75,8 @@ pub fn carry_out(
         Effect::PutsUnit(object, at, unit) => Ok(put_unit(object, at, unit, heap)),
         Effect::Resizes(object, size) => resize(alloc, object, size, heap),
         Effect::Interns(units) => intern(units.as_slice(), heap),
-        Effect::Prints(units) => print(alloc, units, io),
-        Effect::Reads => Ok(read_byte(io)),
+        Effect::Prints(units) => print(alloc, units, output),
+        Effect::Reads => Ok(read_byte(input, read)),
         Effect::Stores(array, place, values, answer) => {
             put_values(array, place, values.as_slice(), heap);
             Ok(answer)

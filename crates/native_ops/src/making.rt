@@ -1,6 +1,6 @@
 //! What is made of the heap.
 
-ghost use Rattle.std.specs.Prelude.{◌≡◌, ◌≤◌, IfOk, Some, None, is_ok, is_some, length, slice_get};
+ghost use Rattle.std.specs.Prelude.{◌≡◌, IfOk, Some, None, is_ok, is_some, length, slice_get};
 ghost use Rattle.heap_objects.specs.Changes.{changed_if};
 ghost use Rattle.native_ops.specs.Making.{answer_of_text, heap_with_text, answer_of_instance, heap_with_instance};
 ghost use Rattle.native_ops.specs.Making.{put_at, with_values, with_fields, answer_of_array, heap_with_array};
@@ -90,15 +90,18 @@ pub fn put_fields(object: u32, first: Datum, second: Datum, heap: &mut Heap)
 
 /// A new array with these values.
 pub fn make_array(kind: u32, values: &[Datum], heap: &mut Heap) -> Result<Answer, NoMemory>
-    requires { heap.old.limit ≤ 67108864 }
     ensures answer { IfOk result (λ a. a ≡ answer_of_array values.now heap.old) }
     ensures heap { heap.new
         ≡ changed_if (is_ok result) (heap_with_array kind values.now) heap.old }
 {
-    if values.len() > 67108864 {
+    if !heap.has_room(1 + values.len()) {
         return Ok(Answer::Throws(OUT_OF_MEMORY_ERROR));
     }
-    let made = heap.array(kind, Datum::Int(0), values.len() as u32);
+    // A heap has fewer than 2^32 slots, so that what there is room for has fewer values.
+    let Ok(size) = u32::try_from(values.len()) else {
+        return Err(NoMemory);
+    };
+    let made = heap.array(kind, Datum::Int(0), size);
     if let Ok(object) = made {
         put_values(object, 0, values, heap);
     }
@@ -161,14 +164,13 @@ fn resized(alloc: Global, size: usize, units: &[u16]) -> Result<Seq<u16>, NoMemo
 
 /// Cuts a text, or adds units of 0, until it has so many.
 pub fn resize(alloc: Global, object: u32, size: u32, heap: &mut Heap) -> Result<Answer, NoMemory>
-    requires { heap.old.limit ≤ 67108864 }
     ensures answer { IfOk result (λ a. a ≡ answer_of_resize object size heap.old) }
     ensures heap { heap.new ≡ changed_if (is_ok result) (heap_with_resize object size) heap.old }
 {
     if heap.units(object).is_none() {
         return Ok(Answer::Bad);
     }
-    if size as usize > size_at(object, heap) as usize + 67108864 {
+    if !heap.has_room(size.saturating_sub(size_at(object, heap)) as usize) {
         return Ok(Answer::Throws(OUT_OF_MEMORY_ERROR));
     }
     let units = resized(alloc, size as usize, text_at(object, heap))?;

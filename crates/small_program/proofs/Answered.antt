@@ -1,5 +1,5 @@
 -- What is answered for classes.
-use Rattle.std.proofs.Common.{◌≡◌, ℕ, ◌<◌, Bool, true, false, List, Option, Some, None, Result, Ok, Err, refl, sym, ap, subst, ◌∙◌, inl, inr}
+use Rattle.std.proofs.Common.{◌≡◌, ℕ, ◌<◌, Bool, true, false, List, Option, Some, None, Result, Ok, Err, refl, sym, ap, subst, ◌∙◌}
 use Rattle.std.specs.Prelude.{◌≢◌, IfOk, IfErr, IfSome, cond}
 use Rattle.const_pool.specs.declared.class.ClassFile.{ClassFile}
 use Rattle.plan_text.specs.declared.plan.Plan.{Plan}
@@ -9,7 +9,7 @@ use Rattle.admit_check.specs.declared.error.AdmitError.TheVariants as fault
 use Rattle.small_program.specs.declared.admission.Admitted.{Admitted}
 use Rattle.small_program.specs.declared.admission.Refused.{Refused}
 use Rattle.small_program.specs.declared.admission.Refused.TheVariants as refused
-use Rattle.small_program.specs.Admission.{is_memory, is_of_class, passes_classes, outside_or, refusal_for, selected, AllRun, AreRoots, IsOutside, is_built_plan, Runs, RunsWith, IsRefusedFor}
+use Rattle.small_program.specs.Admission.{is_memory, refusal_for, selected, AreRoots, is_built_plan, Runs, RunsWith, IsRefusedFor}
 use Rattle.small_program.specs.Runnable.{IsRunnable}
 
 false_true : {A : Type 0} → false ≡ true → A
@@ -19,23 +19,14 @@ no_memory : (f : AdmitError) → is_memory f ≡ false → f ≢ fault.NoMemory
 no_memory f e is = false_true (sym e ∙ ap is_memory is)
 
 -- a fault that is told
-pub refuses : (plan : Plan) (f : AdmitError) (outside : Option ℕ) (answer : Result Program AdmitError) (classes : List ClassFile)
-    → (f ≢ fault.NoMemory → answer ≡ Err f) → IsOutside classes outside → IsRefusedFor plan answer classes (refusal_for f outside)
-refuses plan f outside answer classes told is = by_memory (is_memory f) refl where
-  by_outside : (o : Option ℕ) → IsOutside classes o → is_of_class f ≡ false → answer ≡ Err f → IsRefusedFor plan answer classes (outside_or o f)
-  by_outside None all other e = (e, inr all)
-  by_outside (Some at) first other e = (ap passes_classes e ∙ ap (λ (b : Bool). cond b false true) other, first)
+pub refuses : (plan : Plan) (f : AdmitError) (answer : Result Program AdmitError) (classes : List ClassFile)
+    → (f ≢ fault.NoMemory → answer ≡ Err f) → IsRefusedFor plan answer classes (refusal_for f)
+refuses plan f answer classes told = by (is_memory f) refl where
+  by : (b : Bool) → is_memory f ≡ b → IsRefusedFor plan answer classes (cond b refused.NoMemory (refused.Fault f))
+  by true e = tt
+  by false e = told (no_memory f e)
 
-  by_class : (own : Bool) → is_of_class f ≡ own → answer ≡ Err f → IsRefusedFor plan answer classes (cond own (refused.Fault f) (outside_or outside f))
-  by_class true of e = (e, inl of)
-  by_class false other e = by_outside outside is other e
-
-  by_memory : (b : Bool) → is_memory f ≡ b
-      → IsRefusedFor plan answer classes (cond b refused.NoMemory (cond (is_of_class f) (refused.Fault f) (outside_or outside f)))
-  by_memory true e = tt
-  by_memory false e = by_class (is_of_class f) refl (told (no_memory f e))
-
--- ---- classes that run and are admitted
+-- ---- classes that are admitted
 
 -- a root is below this number
 abbrev IsBelow : ℕ → Option ℕ → Type 0
@@ -46,11 +37,10 @@ below-with classes roots None decided below = tt
 below-with classes roots (Some k) decided below = (decided k).0 below
 
 pub runs-as : (plan : Plan) (r : Result Admitted Refused) (p : Program) (answer : Result Program AdmitError) (classes : List ClassFile) (roots : ℕ)
-    → AllRun classes → AreRoots classes roots → answer ≡ Ok p → IfOk r (λ a. is_built_plan plan ≡ true) → IfOk r (λ a. a.program ≡ p)
+    → AreRoots classes roots → answer ≡ Ok p → IfOk r (λ a. is_built_plan plan ≡ true) → IfOk r (λ a. a.program ≡ p)
     → IfOk r (λ a. selected p.acts ≡ a.root) → IfOk r (λ a. IsBelow roots a.root) → IfOk r (λ a. Runs plan answer classes a.program a.root)
-runs-as plan (Err e) p answer classes roots built decided admitted planned same root below = tt
-runs-as plan (Ok a) p answer classes roots built decided admitted planned same root below = record {
-  built = built;
+runs-as plan (Err e) p answer classes roots decided admitted planned same root below = tt
+runs-as plan (Ok a) p answer classes roots decided admitted planned same root below = record {
   admitted = admitted ∙ ap (λ (x : Program). let r : Result Program AdmitError = Ok x in r) (sym same);
   root_is = ap (λ (x : Program). selected x.acts) same ∙ root;
   planned = record { planned = planned; rooted = below-with classes roots a.root decided below };
@@ -62,12 +52,11 @@ with-below classes roots None decided runs = tt
 with-below classes roots (Some k) decided runs = (decided k).1 runs
 
 pub foreign-as : (plan : Plan) (r : Result Admitted Refused) (p : Program) (answer : Result Program AdmitError) (classes : List ClassFile) (roots : ℕ)
-    → AllRun classes → AreRoots classes roots → answer ≡ Ok p → IfErr r (λ e. e ≡ refused.NotBuiltPlan)
+    → AreRoots classes roots → answer ≡ Ok p → IfErr r (λ e. e ≡ refused.NotBuiltPlan)
     → IfErr r (λ e. is_built_plan plan ≡ true → IsBelow roots (selected p.acts) → ⊥) → IfErr r (IsRefusedFor plan answer classes)
-foreign-as plan (Ok a) p answer classes roots built decided admitted is foreign = tt
-foreign-as plan (Err e) p answer classes roots built decided admitted is foreign =
+foreign-as plan (Ok a) p answer classes roots decided admitted is foreign = tt
+foreign-as plan (Err e) p answer classes roots decided admitted is foreign =
     subst (IsRefusedFor plan answer classes) (sym is) (record {
-      built = built;
       program = p;
       admitted = admitted;
       unbuilt = λ runs. foreign runs.planned (with-below classes roots (selected p.acts) decided runs.rooted);

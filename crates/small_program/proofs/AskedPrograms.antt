@@ -1,7 +1,6 @@
--- What admission answers has the arguments and the heap that the plan says.
-use Rattle.std.proofs.Common.{◌≡◌, ◌≤◌, ℕ, suc, eqb-true, arith, true, List, [], ◌∷◌, length, Option, Some, None, Result, Ok, Err, refl, sym, ap, subst, ◌∙◌}
-use Rattle.std.specs.Prelude.{◌==◌, unwrap_or}
-use Rattle.std.proofs.lemmas.Bool.{and_parts}
+-- What admission answers has the heap that the plan says.
+use Rattle.std.proofs.Common.{length, ◌≡◌, ◌≤◌, ℕ, List, [], Option, Some, None, Result, Ok, Err, sym, ap, subst}
+use Rattle.std.specs.Prelude.{unwrap_or}
 use Rattle.const_pool.specs.declared.class.ClassFile.{ClassFile}
 use Rattle.plan_text.specs.declared.plan.Plan.{Plan}
 use Rattle.jvm_model.specs.declared.event.Act.{Act}
@@ -9,15 +8,10 @@ use Rattle.jvm_model.specs.declared.program.Program.{Program}
 use Rattle.base_classes.specs.BuiltInFiles.{built_in_files}
 use Rattle.admit_check.specs.declared.error.AdmitError.{AdmitError}
 use Rattle.admit_check.specs.Admission.{unless_fault, program_with, count_fault, main_in, acts_from, with_acts, with_main, completed, classes_fault, admission_of}
-use Rattle.small_program.specs.Admission.{are_built_actions, is_built_plan}
 use Rattle.small_program.specs.Runnable.{heap_of}
 
 abbrev Answer : Type 0
 Answer = Result Program AdmitError
-
-abbrev args_in : Answer → List (List ℕ)
-args_in (Ok p) = p.args
-args_in (Err fault) = []
 
 abbrev heap_in : Answer → ℕ
 heap_in (Ok p) = p.heap
@@ -29,24 +23,23 @@ refused fault = Err fault
 abbrev given : Program → Answer
 given p = Ok p
 
--- the same arguments and heap as another program
-pub record IsAsked (arguments : List (List ℕ)) (slots : ℕ) (p : Program) : Type 0 where
-  pub args : p.args ≡ arguments
-  pub heap : p.heap ≡ slots
+-- of so many slots
+abbrev pub HasHeap : ℕ → Program → Type 0
+HasHeap slots p = p.heap ≡ slots
 
 behind : (fault : Option AdmitError) (answer : Answer) (p : Program) → unless_fault fault answer ≡ given p → answer ≡ given p
 behind None answer p e = e
 behind (Some fault) answer p e = absurd (let x : refused fault ≡ given p = e in cc)
 
-with-acts : (made : Program) (main : ℕ) (acts : Result (List Act) AdmitError) (p : Program) → with_acts made main acts ≡ given p → IsAsked made.args made.heap p
-with-acts made main (Ok acts) p e = record { args = sym (ap args_in e); heap = sym (ap heap_in e) }
+with-acts : (made : Program) (main : ℕ) (acts : Result (List Act) AdmitError) (p : Program) → with_acts made main acts ≡ given p → HasHeap made.heap p
+with-acts made main (Ok acts) p e = sym (ap heap_in e)
 with-acts made main (Err fault) p e = absurd (let x : refused fault ≡ given p = e in cc)
 
-with-main : (made : Program) (plan : Plan) (main : Option ℕ) (p : Program) → with_main made plan main ≡ given p → IsAsked made.args made.heap p
+with-main : (made : Program) (plan : Plan) (main : Option ℕ) (p : Program) → with_main made plan main ≡ given p → HasHeap made.heap p
 with-main made plan None p e = absurd cc
 with-main made plan (Some main) p e = with-acts made main (acts_from made 1 plan.actions) p e
 
-pub asked-of : (classes : List ClassFile) (main : List ℕ) (plan : Plan) (p : Program) → admission_of classes main plan ≡ given p → IsAsked plan.args (unwrap_or plan.heap 4194304) p
+pub asked-of : (classes : List ClassFile) (main : List ℕ) (plan : Plan) (p : Program) → admission_of classes main plan ≡ given p → HasHeap (unwrap_or plan.heap 4194304) p
 unfolding admission_of
 asked-of classes main plan p e =
     let made : Program = program_with classes built_in_files plan in
@@ -54,15 +47,7 @@ asked-of classes main plan p e =
     (behind (count_fault made) (with_main made plan (main_in made (length classes) main)) p
     (behind (classes_fault [] classes) (completed made (length classes) main plan) p e))
 
--- ---- of a plan that runs so far, with room in the heap
+-- ---- with room in the heap
 
-none-in : (arguments : List (List ℕ)) → length arguments == 0 ≡ true → arguments ≡ []
-none-in [] e = refl
-none-in (first ∷ rest) e = let zeroed : suc (length rest) ≡ 0 = eqb-true (suc (length rest)) 0 e in absurd (omega (arith, zeroed))
-
-pub built-args : (plan : Plan) (p : Program) → is_built_plan plan ≡ true → IsAsked plan.args (unwrap_or plan.heap 4194304) p → p.args ≡ []
-built-args plan p built asked =
-    asked.args ∙ none-in plan.args (and_parts (length plan.args == 0) (are_built_actions plan.actions) built).0
-
-pub asked-heap : (plan : Plan) (p : Program) → 1024 ≤ heap_of plan → IsAsked plan.args (unwrap_or plan.heap 4194304) p → 1024 ≤ p.heap
-asked-heap plan p room asked = subst (λ n. 1024 ≤ n) (sym asked.heap) room
+pub asked-heap : (plan : Plan) (p : Program) → 1024 ≤ heap_of plan → HasHeap (unwrap_or plan.heap 4194304) p → 1024 ≤ p.heap
+asked-heap plan p room asked = subst (λ n. 1024 ≤ n) (sym asked) room

@@ -232,12 +232,18 @@ module _ (classes : List ClassFile) (name : List ℕ) (p : Program) (sound : IsS
       each-built built_in_files built_in_names p
       (λ wanted k e. record { class = n + k; found = named-past wanted k e; behind = (let u = users in omega (arith, u)) }) files-ordered.names
 
-  has-built : HasBuiltIn p (shared_before p).loaded
-  has-built class from below =
+  each-built_in : (class : ℕ) → user_count p ≤ class → class < length p.classes → IsLoaded (shared_before p).loaded class
+  each-built_in class from below =
       let u = users in
       let c = count in
       let place : n + (class - n) ≡ class = omega (arith, from, u) in
       ap (λ k. is_among k (shared_before p).loaded) (sym place) ∙ loaded-past (class - n) (omega (arith, from, below, u, c))
+
+  has-built : HasBuiltIn p (shared_before p).loaded
+  has-built = record {
+    whole = (let c = count in omega (arith, c));
+    each = each-built_in;
+  }
 
   -- what such a class needs is loaded
   needed-loaded : (at : ℕ) (x : Need) → at ≤ 53 → is_before built_in_files at x ≡ true → (class : ℕ) × (class_named p x.name ≡ Some class) × (IsLoaded (shared_before p).loaded class)

@@ -1,9 +1,6 @@
 pub mod Codes
 pub mod Formed
 pub mod Methods
-pub mod RunningMethods
-pub mod KeyLemmas
-pub mod Alike
 pub mod BuiltIn
 pub mod Answered
 pub mod AskedPrograms
@@ -11,6 +8,7 @@ pub mod DescriptorTexts
 pub mod MeaningsBuiltIn
 pub mod MeaningsLookups
 pub mod MeaningsOwn
+pub mod MeaningsPrinting
 pub mod MeaningsMembers
 pub mod MeaningsCalls
 pub mod Meanings

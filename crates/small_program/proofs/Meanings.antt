@@ -16,7 +16,7 @@ use Rattle.jvm_model.specs.declared.operation.Resolved.{Resolved}
 use Rattle.jvm_model.specs.declared.operation.Resolved.TheVariants as resolved
 use Rattle.jvm_model.specs.declared.program.Program.{Program}
 use Rattle.jvm_model.specs.declared.state.Phase.TheVariants.{Ready}
-use Rattle.jvm_model.specs.Data.{Locals, Operands, Naming, Getstatic, Invokestatic, Invokevirtual}
+use Rattle.jvm_model.specs.Data.{Locals, Operands, World, Naming, Getstatic, Invokestatic, Invokevirtual}
 use Rattle.jvm_model.specs.KindNumbers.{base_of_class}
 use Rattle.jvm_model.specs.Kinds.{is_array_name}
 use Rattle.jvm_model.specs.Load.{Loading, behind_needs, done, go_on, is_among, is_met, load_named, load_needs, load_of, need, need_fault, unless, Incompatible}
@@ -141,21 +141,27 @@ module _ (c : ClassFile) (p : Program) (small : IsSmallClass c) (of : IsProgramO
 
   -- ---- what is done
 
-  does : (n : Naming) (q : Resolved) (l : Locals) (o : Operands) → resolved_name c n ≡ Some q → HasCallee c q → AreStreams o
-      → does_named p n (shared_ready p) l o ≡ done_by p q (shared_ready p) l o
-  does (Getstatic r) q l o e callee are =
+  -- on this input
+  does-on : (input : List ℕ) (n : Naming) (q : Resolved) (l : Locals) (o : Operands) → resolved_name c n ≡ Some q → HasCallee c q → AreStreams o
+      → does_named (record { program = p; input = input }) n (shared_ready p) l o ≡ done_by p q (shared_ready p) l o
+  does-on input (Getstatic r) q l o e callee are =
       let out = chosen-true (is_out r) resolved.Out q e in
-      ap (λ r. does_named p (Getstatic r) (shared_ready p) l o) (reference-is _ _ _ r out.0)
-      ∙ (gets-out c p small of streams (shared_ready p) ready l o ∙ ap (λ q. done_by p q (shared_ready p) l o) out.1)
-  does (Invokevirtual r) q l o e callee are =
+      ap (λ r. does_named (record { program = p; input = input }) (Getstatic r) (shared_ready p) l o) (reference-is _ _ _ r out.0)
+      ∙ (gets-out c p small of streams input (shared_ready p) ready l o ∙ ap (λ q. done_by p q (shared_ready p) l o) out.1)
+  does-on input (Invokevirtual r) q l o e callee are =
       let out = chosen-true (is_println r) resolved.Println q e in
-      ap (λ r. does_named p (Invokevirtual r) (shared_ready p) l o) (reference-is _ _ _ r out.0)
-      ∙ (invokes-println c p small of streams (shared_ready p) ready l o are ∙ ap (λ q. done_by p q (shared_ready p) l o) out.1)
-  does (Invokestatic r) q l o e callee are =
+      ap (λ r. does_named (record { program = p; input = input }) (Invokevirtual r) (shared_ready p) l o) (reference-is _ _ _ r out.0)
+      ∙ (invokes-println c p small of streams input (shared_ready p) ready l o are ∙ ap (λ q. done_by p q (shared_ready p) l o) out.1)
+  does-on input (Invokestatic r) q l o e callee are =
       let found = map-found resolved.Invokestatic (own_method c r) q e in
       let there = subst (HasCallee c) (sym found.2) callee in
-      invokes-own c p small of streams (shared_ready p) ready l r found.0 there.0 found.1 there.1 o ∙ ap (λ q. done_by p q (shared_ready p) l o) found.2
-  does n q l o e callee are = absurd (none-some q e)
+      invokes-own c p small of streams input (shared_ready p) ready l r found.0 there.0 found.1 there.1 o ∙ ap (λ q. done_by p q (shared_ready p) l o) found.2
+  does-on input n q l o e callee are = absurd (none-some q e)
+
+  does : (w : World) → w.program ≡ p → (n : Naming) (q : Resolved) (l : Locals) (o : Operands) → resolved_name c n ≡ Some q → HasCallee c q → AreStreams o
+      → does_named w n (shared_ready p) l o ≡ done_by p q (shared_ready p) l o
+  does w same n q l o e callee are =
+      ap (λ (p' : Program). does_named (record { program = p'; input = w.input }) n (shared_ready p) l o) same ∙ does-on w.input n q l o e callee are
 
   -- what the names of a small class in front of the built-in ones come to
   pub IsMeant-small : c.interfaces ≡ [] → IsMeant c p

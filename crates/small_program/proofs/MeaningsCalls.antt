@@ -12,7 +12,7 @@ use Rattle.const_pool.specs.References.{NameAndType, Reference, named_class, nam
 use Rattle.jvm_model.specs.declared.operation.Resolved.TheVariants as resolved
 use Rattle.jvm_model.specs.declared.program.Program.{Program}
 use Rattle.jvm_model.specs.declared.state.Shared.{Shared}
-use Rattle.jvm_model.specs.Data.{Locals, Operands, Invokes, Raises}
+use Rattle.jvm_model.specs.Data.{Locals, Operands, World, Invokes, Raises}
 use Rattle.jvm_model.specs.Descriptors.{same_text, shape_of}
 use Rattle.jvm_model.specs.InvocationRules.{abstract_method, arguments_by, invokes_number, invokes_selected, invokes_static_method, invokes_with_static, named_method}
 use Rattle.jvm_model.specs.Lookup.{MemberPlace, is_interface, place_in}
@@ -84,8 +84,12 @@ own-is c own r k named e = by (same_text r.class own) refl (sym (ap (option_and_
   by true is e = record { class = MeaningsOwn.same r.class own is; method = e }
   by false is e = absurd (none-some k e)
 
-module _ (c : ClassFile) (p : Program) (small : IsSmallClass c) (of : IsProgramOf c p) (streams : HasStreams of.rest) (s : Shared) (is : IsReadyFor s) (l : Locals) (r : Reference) (k : ℕ) (m : Member)
+module _ (c : ClassFile) (p : Program) (small : IsSmallClass c) (of : IsProgramOf c p) (streams : HasStreams of.rest) (input : List ℕ) (s : Shared) (is : IsReadyFor s) (l : Locals) (r : Reference) (k : ℕ) (m : Member)
     (found : own_method c r ≡ Some k) (there : slice_get c.methods k ≡ Some m) where
+  -- the program on this input
+  abbrev w : World
+  w = record { program = p; input = input }
+
   abbrev own : List ℕ
   own = MeaningsOwn.own_name c p small of streams
 
@@ -127,24 +131,24 @@ module _ (c : ClassFile) (p : Program) (small : IsSmallClass c) (of : IsProgramO
       ∙ (ap (λ o. option_map (λ (shape : Shape). shape.params) (option_and_then (member_shape c.pool) o)) there
       ∙ ap (λ o. option_map (λ (shape : Shape). shape.params) (option_and_then shape_of o)) (descriptor-of c k m r.member known.method there))
 
-  begins : (args : List Datum) (below : Operands) → invokes_selected p (Some place) args s l below ≡ done_so s (Invokes k args below)
+  begins : (args : List Datum) (below : Operands) → invokes_selected w (Some place) args s l below ≡ done_so s (Invokes k args below)
   begins args below =
-      ap (λ b. cond b (done_so s (Raises abstract_method None)) (invokes_number p place (number_of_method p 0 k) args s l below)) body
-      ∙ ap (λ n. invokes_number p place n args s l below) (number-first c p k m small of there)
+      ap (λ b. cond b (done_so s (Raises abstract_method None)) (invokes_number w place (number_of_method p 0 k) args s l below)) body
+      ∙ ap (λ n. invokes_number w place n args s l below) (number-first c p k m small of there)
 
   with-shape : (o : Operands) (shape : Option Shape)
-      → invokes_with_static p place (option_and_then (λ (shape : Shape). arguments shape.params o) shape) s l o ≡ done_so s (invokes_with k (option_map (λ (shape : Shape). shape.params) shape) o)
+      → invokes_with_static w place (option_and_then (λ (shape : Shape). arguments shape.params o) shape) s l o ≡ done_so s (invokes_with k (option_map (λ (shape : Shape). shape.params) shape) o)
   with-shape o None = refl
   with-shape o (Some shape) = by (arguments shape.params o) refl where
-    by : (args : Option (List Datum)) → arguments shape.params o ≡ args → invokes_with_static p place args s l o ≡ done_so s (invokes k (length shape.params) args o)
+    by : (args : Option (List Datum)) → arguments shape.params o ≡ args → invokes_with_static w place args s l o ≡ done_so s (invokes k (length shape.params) args o)
     by None e = refl
     by (Some args) e =
         begins args (drop (length args) o)
         ∙ ap (λ n. done_so s (Invokes k args (drop n o))) (data-length shape.params _ args e)
 
-  pub invokes-own : (o : Operands) → invokes_static_method p r s l o ≡ done_by p (resolved.Invokestatic k) s l o
+  pub invokes-own : (o : Operands) → invokes_static_method w r s l o ≡ done_by p (resolved.Invokestatic k) s l o
   invokes-own o =
-      ap (λ found. unless_refused s found (λ m. initialized p m.class s (invokes_with_static p m (arguments_by false r.member o) s l o))) own-found
-      ∙ (ap (λ phase. when_ready p phase 0 s (invokes_with_static p place (arguments_by false r.member o) s l o)) is.first
+      ap (λ found. unless_refused s found (λ m. initialized p m.class s (invokes_with_static w m (arguments_by false r.member o) s l o))) own-found
+      ∙ (ap (λ phase. when_ready p phase 0 s (invokes_with_static w place (arguments_by false r.member o) s l o)) is.first
       ∙ (with-shape o (shape_of r.member.descriptor)
       ∙ ap (λ params. done_so s (invokes_with k params o)) (sym params)))

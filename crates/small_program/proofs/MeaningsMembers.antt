@@ -19,18 +19,19 @@ use Rattle.jvm_model.specs.declared.operation.Resolved.TheVariants as resolved
 use Rattle.jvm_model.specs.declared.program.Program.{Program}
 use Rattle.jvm_model.specs.declared.state.Phase.TheVariants.{Ready}
 use Rattle.jvm_model.specs.declared.state.Shared.{Shared}
-use Rattle.jvm_model.specs.Data.{Locals, Operands, Next, GoesOn, Raises, Breaks}
+use Rattle.jvm_model.specs.Data.{Locals, Operands, World, Next, GoesOn, Raises, Breaks}
 use Rattle.jvm_model.specs.Descriptors.{same_text}
 use Rattle.jvm_model.specs.FieldRules.{gets_static, is_static_field, pushes_static, static_field}
-use Rattle.jvm_model.specs.InvocationRules.{Virtual, abstract_method, named_method, unsatisfied_link, arguments_by, does_built_in, invokes_instance, invokes_number, invokes_on, invokes_selected, reference_to, runs_built_in, selected_by}
+use Rattle.jvm_model.specs.InvocationRules.{Virtual, abstract_method, named_method, unsatisfied_link, arguments_by, invokes_instance, invokes_number, invokes_on, invokes_selected, reference_to, selected_by}
+use Rattle.jvm_model.specs.NativeRules.{runs_native}
 use Rattle.jvm_model.specs.KindNumbers.{kind_parts}
 use Rattle.jvm_model.specs.Kinds.{is_subbase_of, is_subkind, kind_named}
 use Rattle.jvm_model.specs.LocalRules.{pushes}
 use Rattle.jvm_model.specs.Load.{is_among}
-use Rattle.jvm_model.specs.Lookup.{MemberPlace, field_at, first_in, is_subtype, method_at, place_in, superclasses, superclasses_within, supertypes_within}
+use Rattle.jvm_model.specs.Lookup.{MemberPlace, field_at, first_in, is_subtype, method_at, place_in, superclasses, supertypes_within}
 use Rattle.jvm_model.specs.Meanings.{AreStreams, done_by}
 use Rattle.jvm_model.specs.Methods.{has_flag, method_named}
-use Rattle.jvm_model.specs.Naming.{extends, is_below_kind, is_instance, receiver, unless_refused}
+use Rattle.jvm_model.specs.Naming.{is_below_kind, is_instance, receiver, unless_refused}
 use Rattle.jvm_model.specs.ObjectRules.{done}
 use Rattle.jvm_model.specs.OneClass.{IsProgramOf}
 use Rattle.jvm_model.specs.Programs.{name_of, number_of_method}
@@ -41,6 +42,7 @@ use Rattle.jvm_model.specs.SmallClass.{IsSmallClass}
 use Rattle.jvm_model.specs.Values.{as_value, data_of, datum_of}
 use Rattle.small_program.proofs.MeaningsLookups.{field-named, kind-resolved, method-named, superclasses-first}
 use Rattle.small_program.proofs.MeaningsBuiltIn.{HasStreams, out_field, println_method}
+use Rattle.small_program.proofs.MeaningsPrinting.{println_reference, runs-println}
 use Rattle.small_program.proofs.MeaningsOwn
 
 -- ---- references that are known by name
@@ -118,7 +120,11 @@ pub record IsReadyFor (s : Shared) : Type 0 where
   pub out : static_at s (record { class = 13; position = 1 }) ≡ Some (datum.Ref 3)
   pub stream : kind_at 3 s.heap ≡ Some 27
 
-module _ (c : ClassFile) (p : Program) (small : IsSmallClass c) (of : IsProgramOf c p) (streams : HasStreams of.rest) (s : Shared) (is : IsReadyFor s) (l : Locals) where
+module _ (c : ClassFile) (p : Program) (small : IsSmallClass c) (of : IsProgramOf c p) (streams : HasStreams of.rest) (input : List ℕ) (s : Shared) (is : IsReadyFor s) (l : Locals) where
+  -- the program on this input
+  abbrev w : World
+  w = record { program = p; input = input }
+
   -- ---- getstatic of System.out
 
   field : field_at p out_field 13 ≡ Some 1
@@ -161,9 +167,6 @@ module _ (c : ClassFile) (p : Program) (small : IsSmallClass c) (of : IsProgramO
   signature : signature_of p println_place ≡ Some println_method
   signature = ap (option_and_then (λ (c : ClassFile). option_and_then (texts_of c) (slice_get c.methods 9))) (MeaningsOwn.at-behind c p small of streams 11) ∙ streams.signature
 
-  abbrev println_reference : Reference
-  println_reference = record { class = print_stream; member = println_method }
-
   declared : reference_to p println_place ≡ Some println_reference
   declared =
       ap (λ o. option_and_then (λ class. option_map (λ (member : NameAndType). let r : Reference = record { class = class; member = member } in r) (signature_of p println_place)) (option_and_then name_of o))
@@ -186,9 +189,6 @@ module _ (c : ClassFile) (p : Program) (small : IsSmallClass c) (of : IsProgramO
       ap (λ k. is_below_kind p k (kind_named p print_stream)) is.stream
       ∙ (ap (is_below_kind p (Some 27)) (MeaningsOwn.printing-kind c p small of streams) ∙ subkind)
 
-  has-itself : extends p 12 12 ≡ true
-  has-itself = ap (λ n. is_among 12 (superclasses_within p n 12)) (MeaningsOwn.count c p small of streams)
-
   -- what is selected
   chosen : candidate p false println_place 12 ≡ Some 9
   chosen =
@@ -206,16 +206,15 @@ module _ (c : ClassFile) (p : Program) (small : IsSmallClass c) (of : IsProgramO
       ap (option_and_then (λ found. cond (is_abstract p found) None (Some found))) nearest-is
       ∙ ap (λ b. let o : Option MemberPlace = cond b None (Some println_place) in o) body
 
-  runs : (n : ℤ) (below : Operands) → invokes_selected p (Some println_place) (datum.Ref 3 ∷ datum.Int n ∷ []) s l below
+  runs : (n : ℤ) (below : Operands) → invokes_selected w (Some println_place) (datum.Ref 3 ∷ datum.Int n ∷ []) s l below
       ≡ record { shared = s; wrote = line_text n; outcome = GoesOn l below Next }
   runs n below =
       let args : List Datum = datum.Ref 3 ∷ datum.Int n ∷ [] in
-      ap (λ b. cond b (done s (Raises abstract_method None)) (invokes_number p println_place (number_of_method p 12 9) args s l below)) body
-      ∙ (ap (λ number. invokes_number p println_place number args s l below) (MeaningsOwn.println-native c p small of streams)
-      ∙ (ap (λ users. cond (nat_lt 12 users) (done s (Raises unsatisfied_link None)) (runs_built_in p println_place (reference_to p println_place) args s l below)) (MeaningsOwn.users c p small of streams)
-      ∙ (ap (λ r. runs_built_in p println_place r args s l below) declared
-      ∙ (ap (λ class. cond (extends p class 12) (does_built_in p println_reference 12 args s l below) (done s (Breaks false))) class-of
-      ∙ ap (λ b. cond b (does_built_in p println_reference 12 args s l below) (done s (Breaks false))) has-itself))))
+      ap (λ b. cond b (done s (Raises abstract_method None)) (invokes_number w println_place (number_of_method p 12 9) args s l below)) body
+      ∙ (ap (λ number. invokes_number w println_place number args s l below) (MeaningsOwn.println-native c p small of streams)
+      ∙ (ap (λ users. cond (nat_lt 12 users) (done s (Raises unsatisfied_link None)) (runs_native w (reference_to p println_place) args s l below)) (MeaningsOwn.users c p small of streams)
+      ∙ (ap (λ r. runs_native w r args s l below) declared
+      ∙ runs-println w s l below is.stream n)))
 
   println-found : named_method p s.loaded false false println_reference ≡ Ok println_place
   println-found =
@@ -224,18 +223,18 @@ module _ (c : ClassFile) (p : Program) (small : IsSmallClass c) (of : IsProgramO
       (MeaningsOwn.printing-plain c p small of streams) (MeaningsOwn.count c p small of streams) method instance refl
 
   on-stream : (n : ℤ) (r : ℕ) (below : Operands) → r ≡ 3
-      → invokes_on p Virtual println_reference println_place (Some (datum.Ref r ∷ datum.Int n ∷ [])) s l (Int n ∷ Ref r ∷ below) ≡ done_by p resolved.Println s l (Int n ∷ Ref r ∷ below)
-  on-stream n r below e = subst (λ r. invokes_on p Virtual println_reference println_place (Some (datum.Ref r ∷ datum.Int n ∷ [])) s l (Int n ∷ Ref r ∷ below) ≡ done_by p resolved.Println s l (Int n ∷ Ref r ∷ below)) (sym e) (
+      → invokes_on w Virtual println_reference println_place (Some (datum.Ref r ∷ datum.Int n ∷ [])) s l (Int n ∷ Ref r ∷ below) ≡ done_by p resolved.Println s l (Int n ∷ Ref r ∷ below)
+  on-stream n r below e = subst (λ r. invokes_on w Virtual println_reference println_place (Some (datum.Ref r ∷ datum.Int n ∷ [])) s l (Int n ∷ Ref r ∷ below) ≡ done_by p resolved.Println s l (Int n ∷ Ref r ∷ below)) (sym e) (
       let args : List Datum = datum.Ref 3 ∷ datum.Int n ∷ [] in
-      ap (λ b. unless_refused s (receiver 3 b (Breaks false)) (λ object. invokes_selected p (selected_by p Virtual println_place (class_of p s object)) args s l below)) stream-instance
-      ∙ (ap (λ class. invokes_selected p (selected p class false println_place) args s l below) class-of
-      ∙ (ap (λ m. invokes_selected p m args s l below) selected-is ∙ runs n below)))
+      ap (λ b. unless_refused s (receiver 3 b (Breaks false)) (λ object. invokes_selected w (selected_by p Virtual println_place (class_of p s object)) args s l below)) stream-instance
+      ∙ (ap (λ class. invokes_selected w (selected p class false println_place) args s l below) class-of
+      ∙ (ap (λ m. invokes_selected w m args s l below) selected-is ∙ runs n below)))
 
-  println-by : (o : Operands) → AreStreams o → invokes_on p Virtual println_reference println_place (printed_args o) s l o ≡ done_by p resolved.Println s l o
+  println-by : (o : Operands) → AreStreams o → invokes_on w Virtual println_reference println_place (printed_args o) s l o ≡ done_by p resolved.Println s l o
   println-by (Int n ∷ Ref r ∷ below) are = on-stream n r below are.0
   println-by _ are = refl
 
-  pub invokes-println : (o : Operands) → AreStreams o → invokes_instance p Virtual println_reference s l o ≡ done_by p resolved.Println s l o
+  pub invokes-println : (o : Operands) → AreStreams o → invokes_instance w Virtual println_reference s l o ≡ done_by p resolved.Println s l o
   invokes-println o are =
-      ap (λ found. unless_refused s found (λ m. invokes_on p Virtual println_reference m (arguments_by true println_method o) s l o)) println-found
-      ∙ (ap (λ args. invokes_on p Virtual println_reference println_place args s l o) (println-args o) ∙ println-by o are)
+      ap (λ found. unless_refused s found (λ m. invokes_on w Virtual println_reference m (arguments_by true println_method o) s l o)) println-found
+      ∙ (ap (λ args. invokes_on w Virtual println_reference println_place args s l o) (println-args o) ∙ println-by o are)

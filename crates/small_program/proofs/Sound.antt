@@ -1,4 +1,4 @@
--- An admitted program of classes that run is one that the machine runs.
+-- An admitted program is one that the machine runs.
 use Rattle.std.proofs.Common.{◌≡◌, ℕ, zero, suc, ◌+◌, ◌<◌, ◌≤◌, Bool, true, false, List, [], ◌∷◌, length, slice_get, cond, Option, Some, None, refl, sym, ap, subst, ◌∙◌, arith}
 use Rattle.std.specs.Prelude.{nat_lt, unwrap_or, IfSome, ◌==◌}
 use Rattle.std.specs.List.{AllByRecursion}
@@ -136,8 +136,8 @@ of-sound c p name small sound = record {
   main = main-sound c p name small sound;
 }
 
-built-sound : (c : ClassFile) (p : Program) (name : List ℕ) → IsClassFile c → IsSmall c → IsSoundProgram (c ∷ []) name p → length p.classes ≤ 4149 → p.args ≡ [] → 1024 ≤ p.heap → IsBuiltProgram p
-built-sound c p name formed small sound few plain room =
+built-sound : (c : ClassFile) (p : Program) (name : List ℕ) → IsClassFile c → IsSmall c → IsSoundProgram (c ∷ []) name p → length p.classes ≤ 4149 → 1024 ≤ p.heap → IsBuiltProgram p
+built-sound c p name formed small sound few room =
     let same : c ≡ first_class p = sym (first-sound c p name sound) in
     let of : IsProgramOf c p = of-sound c p name small.small sound in
     record {
@@ -145,18 +145,17 @@ built-sound c p name formed small sound few plain room =
       program = subst (λ k. IsProgramOf k p) same of;
       few = omega (arith, few);
       meant = subst (λ k. IsMeant k p) same (IsMeant-small c p small.small of built_in-streams small.plain.interfaces);
-      plain = plain;
       room = room;
     }
 
 -- with a root there is one class
 rooted : (classes : List ClassFile) (p : Program) (name : List ℕ) (k : ℕ) → AllByRecursion IsClassFile classes → RunsWith classes k → IsSoundProgram classes name p → length p.classes ≤ 4149
-    → p.args ≡ [] → 1024 ≤ p.heap → IsBuiltProgram p × (k < length (first_class p).methods)
-rooted classes p name k formed runs sound few plain room =
+    → 1024 ≤ p.heap → IsBuiltProgram p × (k < length (first_class p).methods)
+rooted classes p name k formed runs sound few room =
     let c = runs.class in
     let one : IsSoundProgram (c ∷ []) name p = subst (λ cs. IsSoundProgram cs name p) runs.alone sound in
     let shape : AllByRecursion IsClassFile (c ∷ []) = subst (AllByRecursion IsClassFile) runs.alone formed in (
-      built-sound c p name shape.0 runs.small one few plain room,
+      built-sound c p name shape.0 runs.small one few room,
       subst (λ (x : ClassFile). k < length x.methods) (sym (first-sound c p name one)) runs.own,
     )
 
@@ -172,13 +171,13 @@ root-runs classes (Some j) k runs e = subst (RunsWith classes) (same_Some j k e)
 
 -- classes that are a sound program, with a root that they run with, are one that the machine runs
 pub classes-runnable : (classes : List ClassFile) (p : Program) (name : List ℕ) (root : Option ℕ) → AllByRecursion IsClassFile classes → length classes ≤ 4096
-    → IfSome root (RunsWith classes) → IsSoundProgram classes name p → p.args ≡ [] → 1024 ≤ p.heap → IsRunnable p root
-classes-runnable classes p name root formed few runs sound plain room =
+    → IfSome root (RunsWith classes) → IsSoundProgram classes name p → 1024 ≤ p.heap → IsRunnable p root
+classes-runnable classes p name root formed few runs sound room =
     let is = fit classes name p sound few in
     record {
       fits = fits classes name p sound few formed;
       fit = is;
-      starts = record { plain = plain; room = room };
-      built = λ k e. (rooted classes p name k formed (root-runs classes root k runs e) sound is.few plain room).0;
-      known = known-root classes p root (λ k with_root. (rooted classes p name k formed with_root sound is.few plain room).1) runs;
+      starts = record { room = room };
+      built = λ k e. (rooted classes p name k formed (root-runs classes root k runs e) sound is.few room).0;
+      known = known-root classes p root (λ k with_root. (rooted classes p name k formed with_root sound is.few room).1) runs;
     }

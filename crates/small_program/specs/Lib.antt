@@ -1,5 +1,3 @@
-pub mod Running
-pub mod Keys
 pub mod Admission
 pub mod Runnable
 pub mod Shapes

@@ -2,7 +2,7 @@ use Rattle.std.proofs.Common.{subst, arith, length, ◌≤◌}
 use Rattle.small_program.specs.Admission.{IsRefusedFor}
 use Rattle.jfluid_cli.specs.Asking.{asked_for}
 use Rattle.jfluid_cli.specs.Contents.{SpellsAlone}
-use Rattle.jfluid_cli.proofs.Early.{due-unread, due-fault, due-outside, due-unbuilt}
+use Rattle.jfluid_cli.proofs.Early.{due-unread, due-fault, due-unbuilt}
 use Rattle.jfluid_cli.proofs.Pairs.{zip-length}
 use Rattle.jfluid_cli.proofs.Room.{room}
 use Rattle.jfluid_cli.proofs.Spelled.{spelled-program, spelled-alone}
@@ -44,13 +44,6 @@ returns-in-Err-Fault-clause-early c g f =
     due-fault g (asked_for c.args.main.now c.args.plan.now) c.args.contents.now c.in-Ok.classes
     c.in-Err-Fault.fault f c.in-Ok.ensures.found
     (subst (IsRefusedFor c.args.plan.now _ c.in-Ok.classes) c.in-Err-Fault.field-0-is c.in-Err-Fault.ensures.refused)
-
-pub returns-in-Err-NotBuilt-clause-early : goal.returns-in-Err-NotBuilt-clause-early
-returns-in-Err-NotBuilt-clause-early c g f =
-    due-outside g (asked_for c.args.main.now c.args.plan.now) c.args.contents.now c.in-Ok.classes
-    c.in-Err-NotBuilt.at f c.in-Ok.ensures.found
-    (subst (IsRefusedFor c.args.plan.now _ c.in-Ok.classes) c.in-Err-NotBuilt.field-0-is
-    c.in-Err-NotBuilt.ensures.refused)
 
 pub returns-in-Err-NotBuiltPlan-clause-early : goal.returns-in-Err-NotBuiltPlan-clause-early
 returns-in-Err-NotBuiltPlan-clause-early c g f =

@@ -2,6 +2,7 @@ use Rattle.std.proofs.Common.{◌≤◌, length, sym, ap, subst, ◌∙◌}
 use Rattle.std.specs.Prelude.{IfOk}
 use Rattle.frame_stack.specs.FrameLists.{top_operands}
 use Rattle.jvm_basic.specs.Outcomes.{top_locals}
+use Rattle.jvm_named.specs.Attempts.{world_over}
 use Rattle.jvm_named.specs.Does.{Does, changed}
 use Rattle.jvm_named.specs.Targets.{found_as, static_target, target_in}
 use Rattle.jvm_named.proofs.TargetLemmas.{does-target, static-rule, refuses, refuses-target}
@@ -9,23 +10,23 @@ use Rattle.jvm_named.proofs.calls.invoke_fixed.Goals as goal
 
 pub returns-in-Ok-clause-done : goal.returns-in-Ok-clause-done
 returns-in-Ok-clause-done c =
-    let p = c.args.linker.now.program in
+    let w = world_over c.args.linker.now c.args.input.now in
     let s = c.args.shared.now in
     let l = top_locals c.args.frames.now.frames in
     let o = top_operands c.args.frames.now.frames in
     subst (λ d. Does c.invoke_selected.result d c.args.next (changed c.args.frames.now s c.args.output.now) (changed c.invoke_selected.new.frames c.invoke_selected.new.shared c.invoke_selected.new.output))
-    (does-target p (static_target p c.args.kind c.args.method.now s o) s l o c.in-Ok.target
+    (does-target w (static_target w.program c.args.kind c.args.method.now s o) s l o c.in-Ok.target
     (sym (ap (found_as (target_in o)) c.in-Ok.is) ∙ c.in_ok-target.ensures.target)
     (subst (λ r. IfOk r (λ t. t.count ≤ length o)) c.in-Ok.is c.in_ok-target.ensures.within)
-    ∙ static-rule p c.args.method.now s l o c.args.kind)
+    ∙ static-rule w c.args.method.now s l o c.args.kind)
     c.invoke_selected.ensures.done
 
 pub returns-in-Err-clause-done : goal.returns-in-Err-clause-done
 returns-in-Err-clause-done c =
-    let p = c.args.linker.now.program in
+    let w = world_over c.args.linker.now c.args.input.now in
     let s = c.args.shared.now in
     let l = top_locals c.args.frames.now.frames in
     let o = top_operands c.args.frames.now.frames in
     refuses _ c.args.next c.args.frames.now s c.args.output.now c.in-Err.refusal
-    (sym (static-rule p c.args.method.now s l o c.args.kind) ∙ refuses-target p (static_target p c.args.kind c.args.method.now s o) s l o c.in-Err.refusal
+    (sym (static-rule w c.args.method.now s l o c.args.kind) ∙ refuses-target w (static_target w.program c.args.kind c.args.method.now s o) s l o c.in-Err.refusal
     (sym (ap (found_as (target_in o)) c.in-Err.is) ∙ c.in_ok-target.ensures.target))

@@ -1,4 +1,4 @@
-use Rattle.jvm_named.proofs.BuiltInLemmas.{popped}
+use Rattle.jvm_named.proofs.Going.{popped}
 use Rattle.jvm_named.proofs.moving.drop_operands.Goals as goal
 
 pub loop-preserved : goal.loop-preserved

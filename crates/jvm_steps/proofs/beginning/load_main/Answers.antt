@@ -1,11 +1,16 @@
-use Rattle.std.proofs.Common.{ap, ◌∙◌}
+use Rattle.std.proofs.Common.{◌+◌, ◌≤◌, sym, ap, subst, ◌∙◌}
 use Rattle.jvm_model.specs.declared.program.Program.{Program}
 use Rattle.jvm_model.specs.Run.{main_class}
-use Rattle.jvm_model.specs.SharedState.{with_arguments}
+use Rattle.jvm_model.specs.SharedState.{arguments_cost, with_arguments}
 use Rattle.jvm_named.specs.Answers.{found_view}
 use Rattle.jvm_steps.specs.Markers.{state_of}
-use Rattle.jvm_steps.proofs.Starts.{begins-all, root-before}
+use Rattle.jvm_steps.proofs.Starts.{begins-all, fits-room, root-before}
 use Rattle.jvm_steps.proofs.beginning.load_main.Goals as goal
+
+pub make_arguments-requires-clause-room : goal.make_arguments-requires-clause-room
+make_arguments-requires-clause-room c =
+    subst (λ (p : Program). c.args.parts.now.shared.heap.used + arguments_cost p.args ≤ c.args.parts.now.shared.heap.limit) (sym c.program.ensures.program)
+    (fits-room c.args.originals.now.world (state_of c.args.markers.now c.args.parts.now) c.requires.at_start.before c.requires.fits)
 
 pub load_main-requires-clause-root : goal.load_main-requires-clause-root
 load_main-requires-clause-root c =

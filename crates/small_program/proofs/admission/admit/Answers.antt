@@ -1,54 +1,42 @@
-use Rattle.std.proofs.Common.{◌≡◌, List, ℕ, true, sym, subst, ◌∙◌}
+use Rattle.std.proofs.Common.{◌≡◌, List, true, sym, subst, ◌∙◌}
 use Rattle.std.specs.Prelude.{IfOk}
 use Rattle.std.proofs.lemmas.Result.{IfOk-weaker, IfErr-weaker}
 use Rattle.const_pool.specs.declared.class.ClassFile.{ClassFile}
-use Rattle.small_program.specs.Admission.{AllRun, AreRoots, IsOutside, is_built_plan, IsRefusedFor}
+use Rattle.small_program.specs.Admission.{AreRoots, is_built_plan, IsRefusedFor}
 use Rattle.small_program.proofs.Answered.{refuses, runs-as, foreign-as, runnable-as}
 use Rattle.small_program.proofs.Sound.{classes-runnable}
-use Rattle.small_program.proofs.AskedPrograms.{asked-of, built-args, asked-heap}
+use Rattle.small_program.proofs.AskedPrograms.{asked-of, asked-heap}
 use Rattle.small_program.proofs.admission.admit.Goals as goal
 use Rattle.small_program.proofs.admission.admit.Goals.{After-run_as}
 
--- the classes run, and these are their roots
-record IsKnown (classes : List ClassFile) (roots : ℕ) : Type 0 where
-  built : AllRun classes
-  decided : AreRoots classes roots
-
-known : (c : After-run_as) → IsKnown c.args.classes c.in_ok-roots.roots
-known c = record {
-  built = subst AllRun c.as_slice.ensures
-      (subst (IsOutside c.as_slice.result.now) c.in-None.is c.in_ok-outside.ensures);
-  decided = subst (λ (cs : List ClassFile). AreRoots cs c.in_ok-roots.roots) c.as_slice-2.ensures c.in_ok-roots.ensures;
-}
+-- these are the classes' roots
+decided : (c : After-run_as) → AreRoots c.args.classes c.in_ok-roots.roots
+decided c = subst (λ (cs : List ClassFile). AreRoots cs c.in_ok-roots.roots) c.as_slice.ensures c.in_ok-roots.ensures
 
 -- the plan is built where the program runs
 planned : (c : After-run_as) → IfOk c.run_as.result (λ a. is_built_plan c.args.plan.now ≡ true)
 planned c = IfOk-weaker c.run_as.result _ _ (λ a e. sym c.is_built.ensures ∙ e) c.run_as.ensures.planned
 
-pub returns-in-None-clause-runnable : goal.returns-in-None-clause-runnable
-returns-in-None-clause-runnable c =
-    let is = known c in
+pub returns-in-Ok-clause-runnable : goal.returns-in-Ok-clause-runnable
+returns-in-Ok-clause-runnable c =
     let asked = asked-of c.args.classes c.args.main.now c.args.plan.now c.in-Ok.program c.in-Ok.ensures.admitted in
     runnable-as c.args.plan.now c.run_as.result c.in-Ok.program c.args.classes c.in_ok-roots.roots
     (λ built root fits. classes-runnable c.args.classes c.in-Ok.program c.args.main.now root c.requires.formed c.requires.count fits c.in-Ok.ensures.sound
-    (built-args c.args.plan.now c.in-Ok.program built asked) (asked-heap c.args.plan.now c.in-Ok.program c.requires.heap asked))
-    is.decided (planned c) c.run_as.ensures.program c.run_as.ensures.own
+    (asked-heap c.args.plan.now c.in-Ok.program c.requires.heap asked))
+    (decided c) (planned c) c.run_as.ensures.program c.run_as.ensures.own
 
-pub returns-in-None-clause-runs : goal.returns-in-None-clause-runs
-returns-in-None-clause-runs c =
-    let is = known c in
-    runs-as c.args.plan.now c.run_as.result c.in-Ok.program _ c.args.classes c.in_ok-roots.roots is.built is.decided c.in-Ok.ensures.admitted
+pub returns-in-Ok-clause-runs : goal.returns-in-Ok-clause-runs
+returns-in-Ok-clause-runs c =
+    runs-as c.args.plan.now c.run_as.result c.in-Ok.program _ c.args.classes c.in_ok-roots.roots (decided c) c.in-Ok.ensures.admitted
     (planned c) c.run_as.ensures.program c.run_as.ensures.root c.run_as.ensures.own
 
-pub returns-in-None-clause-refused : goal.returns-in-None-clause-refused
-returns-in-None-clause-refused c =
-    let is = known c in
-    foreign-as c.args.plan.now c.run_as.result c.in-Ok.program _ c.args.classes c.in_ok-roots.roots is.built is.decided c.in-Ok.ensures.admitted
+pub returns-in-Ok-clause-refused : goal.returns-in-Ok-clause-refused
+returns-in-Ok-clause-refused c =
+    foreign-as c.args.plan.now c.run_as.result c.in-Ok.program _ c.args.classes c.in_ok-roots.roots (decided c) c.in-Ok.ensures.admitted
     c.run_as.ensures.errors
     (IfErr-weaker c.run_as.result _ _ (λ e foreign built. foreign (c.is_built.ensures ∙ built)) c.run_as.ensures.foreign)
 
 pub returns-in-Err-clause-refused : goal.returns-in-Err-clause-refused
 returns-in-Err-clause-refused c =
     subst (IsRefusedFor c.args.plan.now _ c.args.classes) (sym c.refusal_of.ensures)
-    (refuses c.args.plan.now c.in-Err.fault c.in_ok-outside.outside _ c.args.classes c.in-Err.ensures.admitted
-    (subst (λ (cs : List ClassFile). IsOutside cs c.in_ok-outside.outside) c.as_slice.ensures c.in_ok-outside.ensures))
+    (refuses c.args.plan.now c.in-Err.fault _ c.args.classes c.in-Err.ensures.admitted)

@@ -1,0 +1,223 @@
+//! The native methods of the built-in classes (JVM Specification 2.11.8, 6.5): jvm_natives does them, and the frame goes on, or not, by what
+//! they answer.
+
+ghost use Rattle.std.specs.Prelude.{◌≡◌, ◌≤◌, Some, length, drop, true, IfOk, OnOk};
+ghost use Rattle.std.specs.Option.{option_map};
+ghost use Rattle.const_pool.specs.Members.{reference_view};
+ghost use Rattle.frame_stack.specs.FrameLists.{top_operands};
+ghost use Rattle.jvm_basic.specs.Outcomes.{top_locals};
+ghost use Rattle.jvm_model.specs.Data.{GoesOn, Next};
+ghost use Rattle.jvm_model.specs.InvocationRules.{reference_to};
+ghost use Rattle.jvm_model.specs.NativeRules.{runs_native, thrown_by};
+ghost use Rattle.jvm_model.specs.Values.{as_value, with_value};
+ghost use Rattle.native_ops.specs.Calls.{is_done};
+ghost use Rattle.jvm_named.specs.Answers.{answer_of, answer_view, frames_of, refusal_view};
+ghost use Rattle.jvm_named.specs.Attempts.{world_over};
+ghost use Rattle.jvm_named.specs.Does.{Does, changed};
+ghost use Rattle.jvm_named.specs.Members.{at_place};
+ghost use Rattle.jvm_named.specs.Natives.{HasBuiltIn, outcome_by};
+ghost use Rattle.jvm_named.specs.Objects.{AreLoaded};
+ghost use Rattle.jvm_named.specs.Targets.{as_datum, data_in};
+
+use crate::asked::{Asked, Exception, Refusal};
+use crate::creation::RESERVED;
+use crate::moving::{drop_operands, replace_operands};
+use crate::place::Place;
+use class_linker::Linker;
+use const_pool::MemberRef;
+use frame_stack::Frames;
+use heap_objects::{Datum, Value};
+use jf_bytes::{NoMemory, Seq};
+use jvm_basic::value_of;
+use jvm_model::{Program, Shared};
+use jvm_natives::call_native;
+use native_ops::Native;
+use std::alloc::Global;
+
+/// How many built-in classes there are.
+const BUILT_IN: u16 = 53;
+
+/// The place of java/lang/OutOfMemoryError among them.
+const OUT_OF_MEMORY: u16 = 51;
+
+// ---- which method it is
+
+/// The name of the class that declares a method, and its name and descriptor.
+fn reference_to(program: &Program, m: Place) -> Option<MemberRef<'_>>
+    ensures { option_map reference_view result ≡ reference_to program.now (at_place m) }
+{
+    let file = program.classes.get(m.class as usize)?;
+    let Ok(class) = file.pool.class_name(file.this_class) else {
+        return None;
+    };
+    let method = file.methods.get(m.position as usize)?;
+    let Ok(name) = file.pool.text(method.name) else {
+        return None;
+    };
+    let Ok(descriptor) = file.pool.text(method.descriptor) else {
+        return None;
+    };
+    Some(MemberRef {
+        class,
+        name,
+        descriptor,
+    })
+}
+
+// ---- its arguments
+
+/// The datum of an operand. A return address is no argument.
+fn as_datum(value: Value) -> Datum
+    ensures { result ≡ as_datum value }
+{
+    match value {
+        Value::Int(n) => Datum::Int(n),
+        Value::Long(n) => Datum::Long(n),
+        Value::Ref(object) => Datum::Ref(object),
+        Value::Addr(_) => Datum::Long(0),
+    }
+}
+
+/// So many of the topmost operands, the deepest first.
+fn arguments(alloc: Global, frames: &Frames, count: u16) -> Result<Seq<Datum>, NoMemory>
+    requires { count ≤ length (top_operands frames.now.frames) }
+    ensures { IfOk result (λ args. args ≡ data_in count (top_operands frames.now.frames)) }
+{
+    let mut args = Seq::with_capacity(alloc, count as usize)?;
+    let mut left = count;
+    while left > 0 {
+        left -= 1;
+        // It is there.
+        let Some(value) = frames.peek(left) else {
+            return Err(NoMemory);
+        };
+        args.push(as_datum(value))?;
+    }
+    Ok(args)
+}
+
+// ---- what it answers
+
+/// What is asked for where the exception of the built-in class at this place is thrown. The one of a heap that is full was made before the
+/// start.
+fn thrown_by(place: u16) -> Refusal
+    ensures { refusal_view result ≡ thrown_by place }
+{
+    if place == OUT_OF_MEMORY {
+        return Refusal::Throws(RESERVED);
+    }
+    if place < BUILT_IN {
+        Refusal::Raises(Exception::BuiltIn(place), None)
+    } else {
+        Refusal::Breaks
+    }
+}
+
+/// The frame goes on, with a value, if there is one, in place of so many operands.
+fn give(frames: &mut Frames, value: Option<Datum>, count: u16, next: u16) -> Asked
+    requires { count ≤ length (top_operands frames.old.frames) }
+    ensures answer { answer_view result ≡ answer_of
+        (λ l o. GoesOn l (with_value (option_map as_value value) (drop count o)) Next) frames.old }
+    ensures frames { frames.new ≡ frames_of
+        (λ l o. GoesOn l (with_value (option_map as_value value) (drop count o)) Next) next
+        frames.old }
+{
+    match value {
+        Some(datum) => replace_operands(frames, value_of(datum), count, next),
+        None => drop_operands(frames, count, next),
+    }
+}
+
+/// What becomes of the frame by an answer to so many arguments.
+fn conclude(frames: &mut Frames, native: Native, count: u16, next: u16) -> Result<Asked, NoMemory>
+    requires { count ≤ length (top_operands frames.old.frames) }
+    ensures done { OnOk result (is_done native ≡ true) }
+    ensures answer { IfOk result (λ a. answer_view a
+        ≡ answer_of (λ l o. outcome_by native l (drop count o)) frames.old) }
+    ensures frames { OnOk result (frames.new
+        ≡ frames_of (λ l o. outcome_by native l (drop count o)) next frames.old) }
+{
+    match native {
+        Native::Value(value) => Ok(give(frames, value, count, next)),
+        Native::Throws(place) => Ok(Asked::Refused(thrown_by(place))),
+        Native::Exit(status) => Ok(Asked::Refused(Refusal::Exits(status))),
+        Native::Bad => Ok(Asked::Refused(Refusal::Breaks)),
+        Native::NoMemory => Err(NoMemory),
+    }
+}
+
+// ---- a native method
+
+/// Does the native method of these names.
+fn run_named(
+    alloc: Global,
+    linker: &Linker,
+    shared: &mut Shared,
+    frames: &mut Frames,
+    input: &[u8],
+    output: &mut Seq<u8>,
+    method: &MemberRef<'_>,
+    count: u16,
+    next: u16,
+) -> Result<Asked, NoMemory>
+    requires within { count ≤ length (top_operands frames.old.frames) }
+    requires linked { linker.now.loaded ≡ shared.old.loaded }
+    requires built_in { HasBuiltIn linker.now }
+    requires objects { AreLoaded linker.now shared.old.heap }
+    ensures done { let fs = frames.old.frames in let o = top_operands fs in
+        let rule = runs_native (world_over linker.now input.now) (Some (reference_view method.now))
+        (data_in count o) shared.old (top_locals fs) (drop count o) in
+        Does result rule next (changed frames.old shared.old output.old)
+        (changed frames.new shared.new output.new) }
+    ensures objects { OnOk result (AreLoaded linker.now shared.new.heap) }
+{
+    let args = arguments(alloc, frames, count)?;
+    let answered = call_native(
+        alloc,
+        linker,
+        &mut shared.heap,
+        &mut shared.made,
+        input,
+        &mut shared.read,
+        output,
+        method.class,
+        method.name,
+        method.descriptor,
+        args.as_slice(),
+    );
+    match answered {
+        Some(native) => conclude(frames, native, count, next),
+        None => Ok(Asked::Refused(Refusal::Breaks)),
+    }
+}
+
+/// Does a native method of a built-in class, with so many operands as its arguments.
+pub fn run_native(
+    alloc: Global,
+    linker: &Linker,
+    shared: &mut Shared,
+    frames: &mut Frames,
+    input: &[u8],
+    output: &mut Seq<u8>,
+    m: Place,
+    count: u16,
+    next: u16,
+) -> Result<Asked, NoMemory>
+    requires within { count ≤ length (top_operands frames.old.frames) }
+    requires linked { linker.now.loaded ≡ shared.old.loaded }
+    requires built_in { HasBuiltIn linker.now }
+    requires objects { AreLoaded linker.now shared.old.heap }
+    ensures done { let fs = frames.old.frames in let o = top_operands fs in
+        let rule = runs_native (world_over linker.now input.now) (reference_to linker.now.program
+        (at_place m)) (data_in count o) shared.old (top_locals fs) (drop count o) in
+        Does result rule next (changed frames.old shared.old output.old)
+        (changed frames.new shared.new output.new) }
+    ensures objects { OnOk result (AreLoaded linker.now shared.new.heap) }
+{
+    match reference_to(linker.program(), m) {
+        Some(method) => run_named(
+            alloc, linker, shared, frames, input, output, &method, count, next,
+        ),
+        None => Ok(Asked::Refused(Refusal::Breaks)),
+    }
+}
