@@ -146,13 +146,7 @@ pub fn heap_before(alloc: Global, program: &Program) -> Result<Heap, NoMemory>
 }
 
 /// A text goes into an element of an array. There is room for it.
-fn put_text(
-    kind: u32,
-    array: u32,
-    at: u32,
-    units: &[u16],
-    heap: &mut Heap,
-) -> Result<(), NoMemory>
+fn put_text(kind: u32, array: u32, at: u32, units: &[u16], heap: &mut Heap) -> Result<(), NoMemory>
     requires array { (array == 0) ≡ false }
     requires room { heap.old.used + (1 + length units.now) ≤ heap.old.limit }
     ensures { OnOk result (heap.new
