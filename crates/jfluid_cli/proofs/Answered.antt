@@ -46,10 +46,10 @@ not_ok e = cc
 pub run-answer : {A : Type 0} (r : Result ℕ Refusal) (outcome : Result A Stop) (s : Streams)
     (budget : ℕ) (text : View → List ℕ) (k : Kept)
     → IfOk r (λ _. IsOk outcome)
-    → MatchResult r (IsReported k.vm (text k.vm) s.report s.report_after)
+    → MatchResult r (IsReported k.vm.value (text k.vm.value) s.report s.report_after)
     (λ e. IsUntold s.report s.report_after)
     → IfErr r (λ e. ((e ≡ OutFailed) × (outcome ≡ Err stop.OutFailed)) ⊎ (e ≡ NoMemory))
-    → OnOk outcome (IsCarriedOut k.vm budget s.out.taken s.out_after.taken)
+    → OnOk outcome (IsCarriedOut k.vm.value budget s.out.taken s.out_after.taken)
     → StopCause s.out.faults s.out_after.faults outcome
     → MatchResult r (λ status. IsRun budget text s status k) (IsStopped s)
 run-answer (Ok status) (Ok x) s budget text k ok reported why carried calm =

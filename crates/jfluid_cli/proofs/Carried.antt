@@ -39,7 +39,7 @@ nothing-made c none out = record {
   origin = subst (λ (o : Option Kept). IfSome o (HasOrigin (given_of c))) (sym none) tt;
   only = subst (λ (o : Option Kept). IfSome o IsOnlyProgram) (sym none) tt;
   front = subst (λ (o : Option Kept). IfSome o
-      (λ k. PutsAtMost k.vm (budget_of (words_of c) k.plan) c.streams.out.taken c.streams.out_after.taken))
+      (λ k. PutsAtMost k.vm.value (budget_of (words_of c) k.plan) c.streams.out.taken c.streams.out_after.taken))
       (sym none) tt;
   nothing = λ _. out.taken;
 }
@@ -197,10 +197,10 @@ outputs-same v w n m same at =
 pub record IsMade (c : Call) (budget : ℕ) (root : Option ℕ) (made : Kept) : Type 0 where
   pub program : Program
   pub prepared : IsPrepared (given_of c) made.plan budget made.classes program root
-  pub runs : RunsProgram program made.input made.vm
+  pub runs : RunsProgram program made.input made.vm.value
   pub input : IfSome (given_of c).left (λ all. made.input ≡ all)
   pub short : length made.input ≤ most_input
-  pub selected : IsSelected root made.vm
+  pub selected : IsSelected root made.vm.value
 
 -- the plan that is kept is the command's
 plan-is : (c : Call) (budget : ℕ) (root : Option ℕ) (made k : Kept) (is : IsMade c budget root made)
@@ -223,7 +223,7 @@ budget-is c budget root made k is same =
 made-origin : (c : Call) (budget : ℕ) (root : Option ℕ) (made k : Kept)
     → IsMade c budget root made → IsSameRun made k → HasOrigin (given_of c) k
 made-origin c budget root made k is same =
-    let program_is : is.program ≡ k.vm.program =
+    let program_is : is.program ≡ k.vm.value.program =
     sym (same.program.program ∙ is.runs.program_is) in
     let command : Command = is.prepared.command in
     record {
@@ -233,11 +233,11 @@ made-origin c budget root made k is same =
       told_as = subst (AreToldAs c.told command.files) (sym same.classes) is.prepared.loaded.told_as;
       root = root;
       program =
-          subst (λ (xs : List (List ℕ)). IsProgram (asked_by command) xs k.vm.program root)
+          subst (λ (xs : List (List ℕ)). IsProgram (asked_by command) xs k.vm.value.program root)
           (sym same.classes)
           (subst (λ (p : Program). IsProgram (asked_by command) made.classes p root) program_is
           is.prepared.loaded.program_is);
-      selected = selected-later root made.vm k.vm same.program is.selected;
+      selected = selected-later root made.vm.value k.vm.value same.program is.selected;
       input = subst (λ (bytes : List ℕ). IfSome c.input.left (λ all. bytes ≡ all)) (sym same.input) is.input;
       short = subst (λ (bytes : List ℕ). length bytes ≤ most_input) (sym same.input) is.short;
       machine_input = same.program.input ∙ (is.runs.input_is ∙ sym same.input);
@@ -246,13 +246,13 @@ made-origin c budget root made k is same =
 made-only : (c : Call) (budget : ℕ) (root : Option ℕ) (made k : Kept)
     → IsMade c budget root made → IsSameRun made k → IsOnlyProgram k
 made-only c budget root made k is same =
-    subst (λ (xs : List (List ℕ)). SpellAlone xs (classes_for xs k.vm.program)) (sym same.classes)
+    subst (λ (xs : List (List ℕ)). SpellAlone xs (classes_for xs k.vm.value.program)) (sym same.classes)
     (subst (λ (p : Program). SpellAlone made.classes (classes_for made.classes p))
     (sym (same.program.program ∙ is.runs.program_is)) is.prepared.loaded.alone)
 
 made-true : (c : Call) (budget : ℕ) (root : Option ℕ) (made k : Kept)
     → IsMade c budget root made → c.kept ≡ Some k → IsSameRun made k
-    → PutsAtMost made.vm budget c.streams.out.taken c.streams.out_after.taken
+    → PutsAtMost made.vm.value budget c.streams.out.taken c.streams.out_after.taken
     → IsTrueOf c
 made-true c budget root made k is kept same front = record {
   origin = subst (λ (o : Option Kept). IfSome o (HasOrigin (given_of c))) (sym kept)
@@ -260,10 +260,10 @@ made-true c budget root made k is kept same front = record {
   only = subst (λ (o : Option Kept). IfSome o IsOnlyProgram) (sym kept)
       (made-only c budget root made k is same);
   front = subst (λ (o : Option Kept). IfSome o
-      (λ x. PutsAtMost x.vm (budget_of (words_of c) x.plan) c.streams.out.taken c.streams.out_after.taken))
+      (λ x. PutsAtMost x.vm.value (budget_of (words_of c) x.plan) c.streams.out.taken c.streams.out_after.taken))
       (sym kept)
       (subst (PutsFront c.streams.out.taken c.streams.out_after.taken)
-      (outputs-same made.vm k.vm budget (budget_of (words_of c) k.plan) same.program
+      (outputs-same made.vm.value k.vm.value budget (budget_of (words_of c) k.plan) same.program
       (budget-is c budget root made k is same)) front);
   nothing = λ none. absurd
       (let e : (let o : Option Kept = Some k in o ≡ None) = sym kept ∙ none in cc);
@@ -276,12 +276,12 @@ made-run : (c : Call) (budget : ℕ) (root : Option ℕ) (made k : Kept) (status
 made-run c budget root made k status is same ran =
     let command : Command = is.prepared.command in
     record {
-      output = subst (λ (n : ℕ). IsCarriedOut k.vm n c.streams.out.taken c.streams.out_after.taken)
+      output = subst (λ (n : ℕ). IsCarriedOut k.vm.value n c.streams.out.taken c.streams.out_after.taken)
           (budget-is c budget root made k is same) ran.output;
       calm = ran.calm;
-      report = subst (λ (text : List ℕ). IsReported k.vm text c.streams.report c.streams.report_after
+      report = subst (λ (text : List ℕ). IsReported k.vm.value text c.streams.report c.streams.report_after
           status)
-          (root-reported (words_of c) k.plan command made.classes root is.program k.vm
+          (root-reported (words_of c) k.plan command made.classes root is.program k.vm.value
           (command-is c budget root made k is same)
           (zip-length _ command.files made.classes is.prepared.loaded.told_as)
           is.prepared.loaded.program_is.runs (same.program.program ∙ is.runs.program_is))
@@ -313,7 +313,7 @@ pub carried-run : (c : Call) (budget : ℕ) (root : Option ℕ) (made : Kept)
     (r : Result ℕ Refusal) → IsMade c budget root made → IsSomeAnd c.kept (IsSameRun made)
     → MatchResult r (λ status. IsSomeAnd c.kept (IsRun budget (report_of root) c.streams status))
     (IsStopped c.streams)
-    → PutsAtMost made.vm budget c.streams.out.taken c.streams.out_after.taken
+    → PutsAtMost made.vm.value budget c.streams.out.taken c.streams.out_after.taken
     → c.files_after.faults ≡ c.files.faults → c.input_after.faults ≡ c.input.faults → IsCarried c r
 carried-run c budget root made (Ok status) is same ran front calm calm_input =
     let k = some-kept c.kept (IsSameRun made) same in

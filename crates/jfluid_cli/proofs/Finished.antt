@@ -51,20 +51,20 @@ kept-command c k p o a =
     o.accepts a.admitted.accepts
 
 kept-ends : (c : Call) (k : Kept) (p : Program) (budget : ℕ) → HasOrigin (given_of c) k → IsOnlyProgram k
-    → (a : IsAccepted (given_of c) p) → ending_at k.vm budget ≡ ending_of (world_on p a.input) budget
+    → (a : IsAccepted (given_of c) p) → ending_at k.vm.value budget ≡ ending_of (world_on p a.input) budget
 kept-ends c k p budget o alone a =
     let d = a.admitted in
     let same : o.command ≡ d.command = kept-command c k p o a in
     let one : k.classes ≡ d.contents =
     same-contents c.told o.command d.command d.files k.classes d.contents same d.telling o.told_as d.told_as in
-    let own : List ClassFile = classes_for k.classes k.vm.program in
+    let own : List ClassFile = classes_for k.classes k.vm.value.program in
     let is : IsProgram (asked_by d.command) k.classes p d.root =
     subst (λ (xs : List (List ℕ)). IsProgram (asked_by d.command) xs p d.root) (sym one) d.program_is in
     let classes : classes_for k.classes p ≡ own =
     one-spelling k.classes own (classes_for k.classes p) alone is.files in
-    ending_of_same k.vm.program p k.vm.input a.input budget
-    (one-program d.command.plan (answer_for (asked_by d.command) own) own own k.vm.program p o.root d.root
-    (subst (λ (x : Command). RunAs (asked_by x) own k.vm.program o.root) same o.program.runs)
+    ending_of_same k.vm.value.program p k.vm.value.input a.input budget
+    (one-program d.command.plan (answer_for (asked_by d.command) own) own own k.vm.value.program p o.root d.root
+    (subst (λ (x : Command). RunAs (asked_by x) own k.vm.value.program o.root) same o.program.runs)
     (subst (λ (cs : List ClassFile). RunAs (asked_by d.command) cs p d.root) classes is.runs))
     (o.machine_input ∙ kept-input (given_of c) k a.input o a.input_is)
 
@@ -94,7 +94,7 @@ run-complete c status k p o alone ran a calm = elim (cases_eq status 8) [
       kept-budget c k o ∙ ap (λ (x : Command). x.budget) (kept-command c k p o a) in
       ran.report.ending other
       ∙ ap status_of_ending
-      (ends_as k.vm budget c.streams.out.taken c.streams.out_after.taken ran.output
+      (ends_as k.vm.value budget c.streams.out.taken c.streams.out_after.taken ran.output
       ∙ (kept-ends c k p budget o alone a ∙ ap (λ (n : ℕ). ending_of (world_on p a.input) n) same)))
 ]
 

@@ -259,5 +259,5 @@ kept-program g k o = record {
   accepts = o.accepts;
   contents = k.classes;
   told_as = o.told_as;
-  holds = (k.vm.program, o.root, o.program);
+  holds = (k.vm.value.program, o.root, o.program);
 }

@@ -47,7 +47,7 @@ pub record IsTrueOf (c : Call) : Type 0 where
   pub front :
       let s = c.streams in
       IfSome c.kept
-      (λ k. PutsAtMost k.vm (budget_of (words_of c) k.plan) s.out.taken s.out_after.taken)
+      (λ k. PutsAtMost k.vm.value (budget_of (words_of c) k.plan) s.out.taken s.out_after.taken)
   pub nothing : c.kept ≡ None → c.streams.out_after.taken ≡ c.streams.out.taken
 
 -- ---- a run
@@ -65,9 +65,9 @@ pub record IsReported (v : View) (text : List ℕ) (old new : SinkView) (status 
 -- The run of what is kept was carried out up to its end or the budget; what was put is its output.
 pub record IsRun (budget : ℕ) (text : View → List ℕ) (s : Streams) (status : ℕ) (k : Kept) : Type 0
   where
-    pub output : IsCarriedOut k.vm budget s.out.taken s.out_after.taken
+    pub output : IsCarriedOut k.vm.value budget s.out.taken s.out_after.taken
     pub calm : s.out_after.faults ≡ s.out.faults
-    pub report : IsReported k.vm (text k.vm) s.report s.report_after status
+    pub report : IsReported k.vm.value (text k.vm.value) s.report s.report_after status
 
 -- the run that the words ask for with the plan that is kept
 abbrev pub IsRunAsked : List (List ℕ) → Streams → ℕ → Kept → Type 0

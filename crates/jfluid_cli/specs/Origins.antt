@@ -19,13 +19,13 @@ pub record HasOrigin (g : Given) (k : Kept) : Type 0 where
   pub plan : k.plan ≡ command.plan
   pub told_as : AreToldAs g.told command.files k.classes
   pub root : Option ℕ
-  pub program : IsProgram (asked_by command) k.classes k.vm.program root
-  pub selected : IsSelected root k.vm
+  pub program : IsProgram (asked_by command) k.classes k.vm.value.program root
+  pub selected : IsSelected root k.vm.value
   pub input : IfSome g.left (λ all. k.input ≡ all)
   pub short : length k.input ≤ most_input
-  pub machine_input : k.vm.input ≡ k.input
+  pub machine_input : k.vm.value.input ≡ k.input
 
 -- Each of the contents that are kept spells the class at its position of the program that runs, and
 -- no other, and has no fault.
 abbrev pub IsOnlyProgram : Kept → Type 0
-IsOnlyProgram k = SpellAlone k.classes (classes_for k.classes k.vm.program)
+IsOnlyProgram k = SpellAlone k.classes (classes_for k.classes k.vm.value.program)

@@ -141,7 +141,7 @@ IsInputRefusal left old new r =
 
 -- What was made goes on.
 pub record IsSameRun (made k : Kept) : Type 0 where
-  pub program : SameProgram made.vm k.vm
+  pub program : SameProgram made.vm.value k.vm.value
   pub classes : k.classes ≡ made.classes
   pub plan : k.plan ≡ made.plan
   pub input : k.input ≡ made.input

@@ -65,8 +65,8 @@ fn run_made<O: Sink, P: Sink>(
     report: &mut P,
     kept: &mut Option<Kept>,
 ) -> Result<u8, Refusal>
-    requires fresh { IsFresh made_of.vm }
-    requires selected { IsSelected root made_of.vm }
+    requires fresh { IsFresh made_of.vm.value }
+    requires selected { IsSelected root made_of.vm.value }
     requires small { budget ≤ greatest_steps }
     ensures same { IsSomeAnd kept.new (IsSameRun made_of) }
     ensures run { let s : Streams = record {
@@ -78,12 +78,13 @@ fn run_made<O: Sink, P: Sink>(
         MatchResult result
         (λ status. IsSomeAnd kept.new (IsRun budget (report_of root) s status))
         (IsStopped s) }
-    ensures front { PutsAtMost made_of.vm budget (O.taken out.old) (O.taken out.new) }
+    ensures front { PutsAtMost made_of.vm.value budget (O.taken out.old) (O.taken out.new) }
 {
     let mut ran = made_of;
     let mut tree = Tree::new(alloc);
-    let outcome = run_all(&mut ran.vm, &mut tree, out, budget);
-    let answered = answer(alloc, outcome, &ran.vm, &mut tree, root, report);
+    let vm = &mut *ran.vm;
+    let outcome = run_all(vm, &mut tree, out, budget);
+    let answered = answer(alloc, outcome, vm, &mut tree, root, report);
     *kept = Some(ran);
     answered
 }

@@ -22,4 +22,4 @@ selected-requires-clause-built c =
 
 pub returns-in-None-clause-selected : goal.returns-in-None-clause-selected
 returns-in-None-clause-selected c =
-    made-selected c.args.program.program c.args.input.items c.in_ok-vm.vm c.args.program.root c.in_ok-vm.ensures c.in-None.is
+    made-selected c.args.program.program c.args.input.items c.in_ok-vm.vm.value c.args.program.root c.in_ok-vm.ensures c.in-None.is

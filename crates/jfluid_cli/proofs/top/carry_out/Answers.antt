@@ -51,7 +51,7 @@ returns g c =
                 (sym c.in-Ok-make.ensures.plan)
                 (subst (λ (contents : List (List ℕ)). IsPrepared given l.plan l.budget contents l.program.program
                 l.program.root) (sym c.in-Ok-make.ensures.classes) (c.in-Ok.ensures.ok given read refl));
-            runs = subst (λ (bytes : List ℕ). RunsProgram l.program.program bytes made.vm)
+            runs = subst (λ (bytes : List ℕ). RunsProgram l.program.program bytes made.vm.value)
                 (sym c.in-Ok-make.ensures.input) c.in-Ok-make.ensures.runs;
             input = subst (λ (bytes : List ℕ). IfSome given.left (λ all. bytes ≡ all))
                 (sym c.in-Ok-make.ensures.input) c.in-Ok-take.ensures.all;

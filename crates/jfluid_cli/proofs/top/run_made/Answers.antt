@@ -30,7 +30,7 @@ returns-clause-run g c =
       };
     } in
     run-answer c.answer-answered.result c.run_all-outcome.result s c.args.budget
-    (report_of c.args.root) (record c.args.made_of { vm = c.run_all-outcome.new.vm })
+    (report_of c.args.root) (record c.args.made_of { vm = record c.args.made_of.vm { value = c.run_all-outcome.new.vm } })
     c.answer-answered.ensures.carried_out c.answer-answered.ensures.reported
     c.answer-answered.ensures.stopped c.run_all-outcome.ensures.carried_out
     c.run_all-outcome.ensures.cause
