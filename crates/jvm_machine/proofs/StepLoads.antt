@@ -20,7 +20,7 @@ use Rattle.jvm_model.specs.Naming.{message_of}
 use Rattle.jvm_model.specs.Originals.{original}
 use Rattle.jvm_model.specs.Applies.{still}
 use Rattle.jvm_model.specs.Run.{arguments_made, before, loaded_turn, loads_if, main_classes, main_loading, main_loads, opened, run, start, starts_if, starts_unless, starts_with, step, steps_at, steps_by, steps_on, turn_in-zero, turn_in-suc, turn_in-more, with_loaded}
-use Rattle.jvm_model.specs.SharedState.{Allocated, arguments_fit, message_cost, made_with, null, raised, with_exception, with_message}
+use Rattle.jvm_model.specs.SharedState.{Allocated, arguments_fit, message_cost, null, raised, with_exception, with_message}
 use Rattle.jvm_model.specs.Sound.{IsFit, IsSound, IsSoundEntry}
 use Rattle.jvm_model.proofs.Attempts.{loaded-after, with_loaded-shared}
 use Rattle.jvm_model.proofs.Order.{by-begins, run-stops, started-begins, stopped-calm}

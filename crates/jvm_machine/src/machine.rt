@@ -55,11 +55,14 @@ impl Model for Vm {
 
     ghost Value = { View };
 
-    ghost view = { λ v. seen_in v.originals.world v.versions (state_of v.markers v.parts) v.told v.loads_told v.started v.broken v.clock };
+    ghost view = { λ v. seen_in v.originals.world v.versions (state_of v.markers v.parts) v.told
+        v.loads_told v.started v.broken v.clock };
 
     ghost invariant = { λ v. (v.broken ≡ false → ArePlain v.versions v.markers)
-        × AreRunning v.originals.world v.versions (state_of v.markers v.parts) v.told v.loads_told v.started v.broken v.clock
-        × IsLinked (seen_in v.originals.world v.versions (state_of v.markers v.parts) v.told v.loads_told v.started v.broken v.clock) v.originals.loaded };
+        × AreRunning v.originals.world v.versions (state_of v.markers v.parts) v.told v.loads_told
+        v.started v.broken v.clock
+        × IsLinked (seen_in v.originals.world v.versions (state_of v.markers v.parts) v.told
+        v.loads_told v.started v.broken v.clock) v.originals.loaded };
 }
 
 impl Vm {

@@ -289,8 +289,9 @@ pub fn invoke_special(
         kind (Special caller.now interface) method.now shared.old) next frames.old }
     ensures shared { Shares result shared.new (invokes_instance (world_over linker.now input.now)
         kind (Special caller.now interface) method.now shared.old) frames.old }
-    ensures output { OnOk result (output.new ≡ output.old ++ wrote_by (invokes_instance (world_over
-        linker.now input.now) kind (Special caller.now interface) method.now shared.old) frames.old) }
+    ensures output { OnOk result (output.new
+        ≡ output.old ++ wrote_by (invokes_instance (world_over linker.now input.now) kind
+        (Special caller.now interface) method.now shared.old) frames.old) }
     ensures objects { OnOk result (AreLoaded linker.now shared.new.heap) }
 {
     invoke_instance(

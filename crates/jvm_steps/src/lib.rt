@@ -42,8 +42,7 @@ pub use invoking::{fits_params, may_begin};
 pub use line::{Action, Line};
 pub use markers::Marker;
 pub use members::{
-    code_of, field_at, interface_method_at, is_initializer, is_out, is_println, is_reference,
-    method_at, method_named,
+    code_of, field_at, is_initializer, is_out, is_println, is_reference, method_at, method_named,
 };
 pub use objects::arguments_fit;
 pub use originals::{Exception, Originals};

@@ -104,14 +104,18 @@ impl Model for Originals {
 
     ghost Value = { Linked };
 
-    ghost view = { λ o. record { world = world_in o.linker.program o.input; loaded = o.linker.loaded } };
+    ghost view = { λ o. record {
+      world = world_in o.linker.program o.input;
+      loaded = o.linker.loaded;
+    } };
 
     ghost invariant = { λ o. IsPrepared o.linker.program o.methods o.exceptions o.numbers };
 }
 
 /// The line at an offset of a method's code, by two look-ups.
 fn line_in(methods: &Seq<Method>, method: usize, place: u16) -> Option<&Line>
-    ensures { option_copied result ≡ option_and_then (line_in place) (slice_get methods.now method) }
+    ensures { option_copied result
+        ≡ option_and_then (line_in place) (slice_get methods.now method) }
 {
     methods.get(method)?.lines.get(place as usize)?.as_ref()
 }
@@ -339,7 +343,8 @@ impl Originals {
         ensures answer { let w = self.old.world in IfNamed (line_at w.program method place)
             (λ n next. Answers result (attempts w n shared.old frames.old) frames.old) }
         ensures frames { let w = self.old.world in IfNamed (line_at w.program method place)
-            (λ n next. Moves result frames.new (attempts w n shared.old frames.old) next frames.old) }
+            (λ n next. Moves result frames.new (attempts w n shared.old frames.old) next
+            frames.old) }
         ensures shared { let w = self.old.world in IfNamed (line_at w.program method place)
             (λ n next. Shares result shared.new (attempts w n shared.old frames.old) frames.old) }
         ensures output { let w = self.old.world in IfNamed (line_at w.program method place)
