@@ -1,5 +1,6 @@
 -- The input of a run: all that a source has left.
-use Rattle.std.specs.Prelude.{◌≡◌, ◌<◌, ◌≤◌, ℕ, List, length, Option, Result, Ok, Err, IfErr, IfSome, OnOk}
+use Rattle.std.specs.Prelude.{◌≡◌, ◌<◌, ◌≤◌, ◌+◌, ℕ, List, length, Option, Result, Ok, Err, IfErr, IfSome, OnOk}
+use Rattle.std.specs.Io.KnownBytes.{Consumes, IsAtEnd}
 use Rattle.jf_bytes.specs.Streams.{Rose}
 use Rattle.command_line.specs.declared.input.InputError.{InputError}
 use Rattle.command_line.specs.declared.input.InputError.TheVariants.{Failed, TooLong, NoMemory}
@@ -14,6 +15,20 @@ IsInput left (Ok bytes) = (length bytes ≤ most_input) × IfSome left (λ all. 
 IsInput left (Err TooLong) = IfSome left (λ all. most_input < length all)
 IsInput left (Err Failed) = Unit {0}
 IsInput left (Err NoMemory) = Unit {0}
+
+-- One byte more than the limit was taken.
+pub record TakesOneMore (old new : Option (List ℕ)) : Type 0 where
+  pub bytes : List ℕ
+  pub count : length bytes ≡ most_input + 1
+  pub taken : Consumes old new bytes
+
+-- how far the source was taken, by what it had left and has: to its end, or to one byte more than
+-- the limit
+abbrev pub TakesInput : Option (List ℕ) → Option (List ℕ) → Result (List ℕ) InputError → Type 0
+TakesInput old new (Ok bytes) = IsAtEnd new
+TakesInput old new (Err TooLong) = TakesOneMore old new
+TakesInput old new (Err Failed) = Unit {0}
+TakesInput old new (Err NoMemory) = Unit {0}
 
 -- only a failed take raises the count of faults
 abbrev pub InputErrorCause : ℕ → ℕ → InputError → Type 0

@@ -14,7 +14,7 @@ const ABOUT: &str =
 /// What help says behind the options.
 const EXAMPLES: &str = "Examples:
   jfluid --main Shapes Shapes.class Square.class
-  jfluid --main app.Shapes --root 'app.Shapes.area(I)I' Shapes.class Square.class
+  jfluid --main Sum --root 'Sum.of(I)I' Sum.class
   jfluid --plan shapes.plan --budget 5000000 Shapes.class Square.class
 
 The Java program reads standard input and writes standard output. The report goes to standard error.";

@@ -3,7 +3,7 @@
 ghost use Rattle.std.specs.Prelude.{◌≡◌, ◌<◌, ◌≤◌, length, take, IfOk};
 ghost use Rattle.std.specs.Io.KnownBytes.{Consumes, IsAtEnd};
 ghost use Rattle.jf_bytes.specs.Streams.{HasCause};
-ghost use Rattle.command_line.specs.Input.{InputCause, IsInput};
+ghost use Rattle.command_line.specs.Input.{InputCause, IsInput, TakesInput};
 ghost use Rattle.command_line.specs.declared.input.InputError.TheVariants.{Failed as take_failed, NoMemory as out_of_memory};
 
 use jf_bytes::{Failed, Seq, Source};
@@ -61,6 +61,7 @@ fn take_some<I: Source>(source: &mut I, buf: &mut [u8]) -> Result<usize, Failed>
 /// admission, so that a program that is refused takes no input.
 pub fn take_input<I: Source>(alloc: Global, source: &mut I) -> Result<Seq<u8>, InputError>
     ensures input { IsInput (I.left source.old) result }
+    ensures taken { TakesInput (I.left source.old) (I.left source.new) result }
     ensures cause { InputCause (I.faults source.old) (I.faults source.new) result }
 {
     let mut bytes = Seq::new(alloc);

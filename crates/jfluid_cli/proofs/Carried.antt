@@ -1,6 +1,7 @@
 -- What a call leaves before a refusal's line is put.
 use Rattle.std.proofs.Common.{◌≡◌, ℕ, ◌≤◌, true, false, List, [], length, Option, Some, None, refl, sym, ap, subst, ◌∙◌, inl, inr}
 use Rattle.std.specs.Prelude.{Result, Ok, Err, IfSome, IsSome, IsSomeAnd, MatchResult}
+use Rattle.std.specs.Io.KnownBytes.{IsAtEnd}
 use Rattle.std.specs.Option.{option_map_or, option_and_then}
 use Rattle.jf_bytes.specs.Streams.{PutsFront}
 use Rattle.plan_text.specs.declared.plan.Plan.{Plan}
@@ -41,6 +42,7 @@ nothing-made c none out = record {
   front = subst (λ (o : Option Kept). IfSome o
       (λ k. PutsAtMost k.vm.value (budget_of (words_of c) k.plan) c.streams.out.taken c.streams.out_after.taken))
       (sym none) tt;
+  ended = λ some. absurd (not_both (subst (λ (o : Option Kept). IsSome o) none some));
   nothing = λ _. out.taken;
 }
 
@@ -57,6 +59,7 @@ refused-early c r none input early fetch = record {
   refused = λ _. none;
   made = λ six. absurd (other-early (status_of r) 6 refl early.early six);
   untaken = λ _. input;
+  one_more = λ eleven. absurd (other-early (status_of r) 11 refl early.early eleven);
   not_taken = λ five. absurd (other-early (status_of r) 5 refl early.early five);
   stopped = λ six. absurd (other-early (status_of r) 6 refl early.early six);
   not_fetched = fetch.failed;
@@ -106,6 +109,7 @@ memory-refused c = record {
   refused = λ early. absurd (not_both early);
   made = λ six. absurd cc;
   untaken = λ early. absurd (not_both early);
+  one_more = λ eleven. absurd cc;
   not_taken = λ five. absurd cc;
   stopped = λ six. absurd cc;
   not_fetched = λ seven. absurd cc;
@@ -141,12 +145,13 @@ not-one : (r s : Refusal) (n : ℕ) → r ≡ s → (status_of s ≡ n → ⊥) 
 not-one r s n is other same = other (sym (ap status_of is) ∙ same)
 
 refused-input : (c : Call) (r : Refusal) → c.kept ≡ None → c.files_after.faults ≡ c.files.faults
-    → OfProgram (given_of c) → IsInputRefusal c.input.left c.input.faults c.input_after.faults r → IsRefused c r
+    → OfProgram (given_of c) → IsInputRefusal c.input c.input_after r → IsRefused c r
 refused-input c r none calm of (inl (failed, rose)) = subst (IsRefused c) (sym failed) (record {
   cause = of;
   refused = λ _. none;
   made = λ six. absurd cc;
   untaken = λ early. absurd (not_both early);
+  one_more = λ eleven. absurd cc;
   not_taken = λ _. rose;
   stopped = λ six. absurd cc;
   not_fetched = λ seven. absurd cc;
@@ -155,11 +160,12 @@ refused-input c r none calm of (inl (failed, rose)) = subst (IsRefused c) (sym f
   calm = λ seven nine. calm;
   calm_input = λ five nine. absurd (five refl);
 })
-refused-input c r none calm of (inr (inl (failed, long, same))) = subst (IsRefused c) (sym failed) (record {
+refused-input c r none calm of (inr (inl (failed, long, more, same))) = subst (IsRefused c) (sym failed) (record {
   cause = (of, long);
   refused = λ _. none;
   made = λ six. absurd cc;
   untaken = λ early. absurd (not_both early);
+  one_more = λ _. more;
   not_taken = λ five. absurd cc;
   stopped = λ six. absurd cc;
   not_fetched = λ seven. absurd cc;
@@ -173,7 +179,7 @@ refused-input c r none calm of (inr (inr (memory, same))) = subst (IsRefused c) 
 pub carried-input : (c : Call) (r : Refusal) → c.kept ≡ None
     → IsUntold c.streams.out c.streams.out_after → IsUntold c.streams.report c.streams.report_after
     → c.files_after.faults ≡ c.files.faults → OfProgram (given_of c)
-    → IsInputRefusal c.input.left c.input.faults c.input_after.faults r → IsCarried c (Err r)
+    → IsInputRefusal c.input c.input_after r → IsCarried c (Err r)
 carried-input c r none out report calm of why = record {
   always = nothing-made c none out;
   ran = tt;
@@ -200,6 +206,7 @@ pub record IsMade (c : Call) (budget : ℕ) (root : Option ℕ) (made : Kept) : 
   pub runs : RunsProgram program made.input made.vm.value
   pub input : IfSome (given_of c).left (λ all. made.input ≡ all)
   pub short : length made.input ≤ most_input
+  pub ended : IsAtEnd c.input_after.left
   pub selected : IsSelected root made.vm.value
 
 -- the plan that is kept is the command's
@@ -265,6 +272,7 @@ made-true c budget root made k is kept same front = record {
       (subst (PutsFront c.streams.out.taken c.streams.out_after.taken)
       (outputs-same made.vm.value k.vm.value budget (budget_of (words_of c) k.plan) same.program
       (budget-is c budget root made k is same)) front);
+  ended = λ _. is.ended;
   nothing = λ none. absurd
       (let e : (let o : Option Kept = Some k in o ≡ None) = sym kept ∙ none in cc);
 }
@@ -298,6 +306,7 @@ stopped-refused c k r of kept calm calm_input stopped = elim stopped.why [
     refused = λ early. absurd (not_both early);
     made = λ _. subst (λ (o : Option Kept). IsSome o) (sym kept) refl;
     untaken = λ early. absurd (not_both early);
+    one_more = λ eleven. absurd cc;
     not_taken = λ five. absurd cc;
     stopped = λ _. rose;
     not_fetched = λ seven. absurd cc;

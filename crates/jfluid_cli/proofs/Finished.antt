@@ -265,6 +265,7 @@ answered-told c after r told status said unheard carried was is named puts =
       refused = carried.refused.refused;
       made = carried.refused.made;
       untaken = carried.refused.untaken;
+      one_more = carried.refused.one_more;
       not_taken = carried.refused.not_taken;
       stopped = carried.refused.stopped;
       not_fetched = carried.refused.not_fetched;
@@ -278,6 +279,7 @@ answered-told c after r told status said unheard carried was is named puts =
       origin = carried.always.origin;
       only = carried.always.only;
       front = carried.always.front;
+      ended = carried.always.ended;
       nothing = carried.always.nothing;
     })
     (elim was [

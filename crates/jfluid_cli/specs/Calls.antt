@@ -1,7 +1,9 @@
 -- What a call of the program leaves: all that it promises.
 use Rattle.std.specs.Prelude.{◌≡◌, ◌≢◌, ℕ, ◌⊎◌, true, false, List, Option, Some, None, Result, slice_get, IfSome, IsErr, IsSome, IsSomeAnd}
 use Rattle.jf_bytes.specs.declared.error.NoMemory.{NoMemory}
+use Rattle.std.specs.Io.KnownBytes.{IsAtEnd}
 use Rattle.jf_bytes.specs.Streams.{Told, PutsAll, PutsFront, Rose}
+use Rattle.command_line.specs.Input.{TakesOneMore}
 use Rattle.jvm_model.specs.declared.program.Program.{Program}
 use Rattle.jvm_model.specs.Run.{ending_of}
 use Rattle.jvm_machine.specs.View.{View}
@@ -43,6 +45,8 @@ pub record IsTrueOf (c : Call) : Type 0 where
   -- what is kept came from words, files and input, and is all that the files spell
   pub origin : IfSome c.kept (HasOrigin (given_of c))
   pub only : IfSome c.kept IsOnlyProgram
+  -- the input was taken to its end
+  pub ended : IsSome c.kept → IsAtEnd c.input_after.left
   -- a front of the output at the budget was put, and nothing where nothing was made
   pub front :
       let s = c.streams in
@@ -89,6 +93,8 @@ pub record IsRefused (c : Call) (r : Refusal) : Type 0 where
   pub made : status_of r ≡ 6 → IsSome c.kept
   -- no input was taken where the program was not admitted
   pub untaken : is_unadmitted (status_of r) ≡ true → c.input_after ≡ c.input
+  -- one byte more than the limit was taken of an input that is too long
+  pub one_more : status_of r ≡ 11 → TakesOneMore c.input.left c.input_after.left
   -- a fault's count rose, and the last failed name is that of the plan's or of the class's file;
   -- with any other status but 9 no fetch and no take failed
   pub not_taken : status_of r ≡ 5 → Rose c.input.faults c.input_after.faults

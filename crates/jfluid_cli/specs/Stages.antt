@@ -9,6 +9,7 @@ use Rattle.class_reader.specs.declared.error.ReadError.{ReadError}
 use Rattle.jvm_model.specs.declared.program.Program.{Program}
 use Rattle.plan_text.specs.Lines.{IsPlanRead}
 use Rattle.command_line.specs.Chosen.{IsOwnPlan}
+use Rattle.command_line.specs.Input.{TakesOneMore}
 use Rattle.command_line.specs.Words.{Read}
 use Rattle.jfluid_cli.specs.declared.kept.Kept.{Kept}
 use Rattle.jfluid_cli.specs.declared.refusal.Refusal.{Refusal}
@@ -20,7 +21,7 @@ use Rattle.jfluid_cli.specs.Causes.{Given, Accepts, IsLong, Because}
 use Rattle.jfluid_cli.specs.Contents.{AreToldAs, AreFetched, IsFaultAt, SpellAlone, classes_for}
 use Rattle.jfluid_cli.specs.Refusals.{status_of, refusal_of}
 use Rattle.jfluid_cli.specs.Runs.{SameProgram}
-use Rattle.jfluid_cli.specs.Sinks.{FilesView, Streams, IsUntold}
+use Rattle.jfluid_cli.specs.Sinks.{FilesView, SourceView, Streams, IsUntold}
 use Rattle.jfluid_cli.specs.Top.{IsProgram, is_among}
 use Rattle.jfluid_cli.specs.Words.{Command, accepted, AreClaps, AreRefused}
 
@@ -132,10 +133,12 @@ IsReadRefusal contents r =
 -- ---- the input
 
 -- why the input is not there: a take failed, there is too much, or memory ran out
-abbrev pub IsInputRefusal : Option (List ℕ) → ℕ → ℕ → Refusal → Type 0
-IsInputRefusal left old new r =
-    ((r ≡ InputFailed) × Rose old new)
-    ⊎ (((r ≡ InputTooLong) × IsLong left × (new ≡ old)) ⊎ ((r ≡ NoMemory) × (new ≡ old)))
+abbrev pub IsInputRefusal : SourceView → SourceView → Refusal → Type 0
+IsInputRefusal old new r =
+    ((r ≡ InputFailed) × Rose old.faults new.faults)
+    ⊎ (((r ≡ InputTooLong)
+    × IsLong old.left × TakesOneMore old.left new.left × (new.faults ≡ old.faults))
+    ⊎ ((r ≡ NoMemory) × (new.faults ≡ old.faults)))
 
 -- ---- behind a machine
 

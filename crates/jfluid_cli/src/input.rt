@@ -1,7 +1,9 @@
 //! The input of a run.
 
 ghost use Rattle.std.specs.Prelude.{◌≡◌, ◌≤◌, length, IfOk, IfErr, IfSome, IsOk};
+ghost use Rattle.std.specs.Io.KnownBytes.{IsAtEnd};
 ghost use Rattle.command_line.specs.Input.{most_input};
+ghost use Rattle.jfluid_cli.specs.Sinks.{source_view};
 ghost use Rattle.jfluid_cli.specs.Stages.{IsInputRefusal};
 
 use crate::refusal::Refusal;
@@ -14,8 +16,10 @@ pub fn take<I: Source>(alloc: Global, input: &mut I) -> Result<Seq<u8>, Refusal>
     ensures all { IfOk result (λ bytes. IfSome (I.left input.old) (λ all. bytes ≡ all)) }
     ensures short { IfOk result (λ bytes. length bytes ≤ most_input) }
     ensures calm { IsOk result → I.faults input.new ≡ I.faults input.old }
-    ensures refused { IfErr result
-        (IsInputRefusal (I.left input.old) (I.faults input.old) (I.faults input.new)) }
+    ensures ended { IsOk result → IsAtEnd (I.left input.new) }
+    ensures refused { IfErr result (IsInputRefusal
+        (source_view (I.left input.old) (I.faults input.old))
+        (source_view (I.left input.new) (I.faults input.new))) }
 {
     match take_input(alloc, input) {
         Ok(bytes) => Ok(bytes),

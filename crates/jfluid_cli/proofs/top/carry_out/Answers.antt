@@ -57,6 +57,7 @@ returns g c =
                 (sym c.in-Ok-make.ensures.input) c.in-Ok-take.ensures.all;
             short = subst (λ (bytes : List ℕ). length bytes ≤ most_input)
                 (sym c.in-Ok-make.ensures.input) c.in-Ok-take.ensures.short;
+            ended = c.in-Ok-take.ensures.ended refl;
             selected = c.in-Ok-make.ensures.selected;
           })
           c.run_made.ensures.same c.run_made.ensures.run c.run_made.ensures.front
