@@ -4,11 +4,11 @@ use Rattle.std.specs.Prelude.{codes}
 use Rattle.std.proofs.lemmas.List.Elements.{All-push}
 use Rattle.jf_bytes.specs.Streams.{Told}
 use Rattle.worked_rows.specs.Answers.{Agrees}
-use Rattle.worked_rows.specs.Calls.{IsAnswerTo}
+use Rattle.row_calls.specs.Calls.{IsAnswerTo}
 use Rattle.worked_rows.specs.Lines.{lines_in}
 use Rattle.worked_rows.specs.Rows.{part_at, HasExpected, HasWords}
 use Rattle.worked_rows.specs.Verdicts.{HasPassed, IsTrueOf, AreTrueOf, name_of}
-use Rattle.worked_rows.specs.declared.comparing.Answer.{Answer}
+use Rattle.row_calls.specs.declared.calling.Answer.{Answer}
 use Rattle.worked_rows.specs.declared.expected.Expected.{Expected}
 use Rattle.worked_rows.specs.declared.judging.Verdict.{Verdict}
 

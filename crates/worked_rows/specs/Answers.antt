@@ -2,7 +2,7 @@
 use Rattle.std.specs.Prelude.{◌≡◌, ◌≢◌, ◌+◌, ◌==◌, ◌++◌, ℕ, List, [], ◌∷◌, take, length, min, codes, decimal, bytes_eq, count_by, slice_get, if◌then◌else◌}
 use Rattle.jf_bytes.specs.Streams.{greatest}
 use Rattle.worked_rows.specs.Lines.{lines_in}
-use Rattle.worked_rows.specs.declared.comparing.Answer.{Answer}
+use Rattle.row_calls.specs.declared.calling.Answer.{Answer}
 use Rattle.worked_rows.specs.declared.comparing.Difference.{Difference}
 use Rattle.worked_rows.specs.declared.comparing.Difference.TheVariants.{Status, Output, Report, Lacks}
 use Rattle.worked_rows.specs.declared.expected.Expected.{Expected}

@@ -1,5 +1,4 @@
 pub mod Answers
-pub mod Calls
 pub mod Lines
 pub mod Lists
 pub mod Rows

@@ -3,9 +3,9 @@ use Rattle.std.specs.Prelude.{◌≡◌, ℕ, List, None, All}
 use Rattle.std.specs.String.{string_bytes}
 use Rattle.jf_bytes.specs.Streams.{Told}
 use Rattle.worked_rows.specs.Answers.{Agrees}
-use Rattle.worked_rows.specs.Calls.{IsAnswerTo}
+use Rattle.row_calls.specs.Calls.{IsAnswerTo}
 use Rattle.worked_rows.specs.Rows.{HasExpected, HasWords}
-use Rattle.worked_rows.specs.declared.comparing.Answer.{Answer}
+use Rattle.row_calls.specs.declared.calling.Answer.{Answer}
 use Rattle.worked_rows.specs.declared.expected.Expected.{Expected}
 use Rattle.worked_rows.specs.declared.judging.Verdict.{Verdict}
 

@@ -5,16 +5,9 @@ ghost use Rattle.worked_rows.specs.Answers.{IsFirstDifference, found_lines, line
 
 use crate::expected::{Expected, ExpectedReport};
 use crate::lines::lines_in;
+use row_calls::Answer;
 use std::alloc::{AllocError, Global};
 use thiserror::Error;
-
-/// What came of a row.
-#[derive(Drop)]
-pub struct Answer {
-    pub status: u8,
-    pub output: Vec<u8>,
-    pub report: Vec<u8>,
-}
 
 /// The first of what came that is not what must come.
 #[derive(Clone, Copy, Debug, Error)]

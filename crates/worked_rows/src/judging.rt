@@ -7,13 +7,13 @@ ghost use Rattle.worked_rows.specs.Lists.{row_names};
 ghost use Rattle.worked_rows.specs.Rows.{file_at};
 ghost use Rattle.worked_rows.specs.Verdicts.{HasPassed, AreTrueOf, name_of};
 
-use crate::calling::answer_to;
 use crate::comparing::{Difference, compare};
 use crate::expected::read_expected;
 use crate::given::read_given;
 use crate::lists::row_names;
 use crate::parts::{MOST, RowError};
 use jf_bytes::{FetchError, Files};
+use row_calls::answer_to;
 use std::alloc::{AllocError, AllocFailed, Global};
 use std::fmt;
 use thiserror::Error;

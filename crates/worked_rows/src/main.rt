@@ -3,7 +3,6 @@
 //! where one did not, and 2 where a list could not be read.
 #![tactic(auto)]
 
-mod calling;
 mod comparing;
 mod expected;
 mod given;

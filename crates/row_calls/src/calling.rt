@@ -1,13 +1,20 @@
 //! The top call over objects in memory.
 
 ghost use Rattle.std.specs.Prelude.{◌≡◌, IfOk};
-ghost use Rattle.worked_rows.specs.Calls.{IsAnswerTo};
+ghost use Rattle.row_calls.specs.Calls.{IsAnswerTo};
 
-use crate::comparing::Answer;
 use crate::given::{Device, Failure, Given, NamedFile};
 use jf_bytes::{MemFiles, MemSink, MemSource, NoMemory, Seq};
 use jfluid_cli::jfluid;
 use std::alloc::{AllocError, Global};
+
+/// What came of a row.
+#[derive(Drop)]
+pub struct Answer {
+    pub status: u8,
+    pub output: Vec<u8>,
+    pub report: Vec<u8>,
+}
 
 /// How many bytes the output and the report have room for: above those of a tree of a thousand levels.
 const ROOM: usize = 4_194_304;
