@@ -16,9 +16,21 @@ use std::alloc::{AllocError, Global};
 #[derive(Clone, Copy)]
 enum Line<'a> {
     /// `file NAME PATH`: the file NAME has what the file at this path has.
-    File { name: &'a str, path: &'a str },
+    File {
+        name: &'a str,
+        path: &'a str,
+    },
     /// `zeros NAME COUNT`: the file NAME is that many zeros.
-    Zeros { name: &'a str, count: usize },
+    Zeros {
+        name: &'a str,
+        count: usize,
+    },
+    /// `padded NAME PATH LENGTH`: the file NAME has what the file at this path has, with zeros behind it up to this length.
+    Padded {
+        name: &'a str,
+        path: &'a str,
+        length: usize,
+    },
     /// `input PATH`: the input is what the file at this path has.
     Input(&'a str),
     /// `input_zeros COUNT`: the input is that many zeros.
@@ -38,6 +50,14 @@ fn device_of(word: &str) -> Option<Device> {
     }
 }
 
+/// What a line of the file `given` says behind its word `padded`.
+fn padded(rest: &str) -> Option<Line<'_>> {
+    let (name, rest) = rest.split_once(' ')?;
+    let (path, length) = rest.split_once(' ')?;
+    let length = length.parse::<usize>().ok()?;
+    Some(Line::Padded { name, path, length })
+}
+
 /// What a line of the file `given` says.
 fn line_of(text: &str) -> Option<Line<'_>> {
     let (word, rest) = text.split_once(' ')?;
@@ -51,6 +71,7 @@ fn line_of(text: &str) -> Option<Line<'_>> {
             let count = count.parse::<usize>().ok()?;
             Some(Line::Zeros { name, count })
         }
+        "padded" => padded(rest),
         "input" => Some(Line::Input(rest)),
         "input_zeros" => Some(Line::InputZeros(rest.parse::<usize>().ok()?)),
         "fails" => {
@@ -90,6 +111,12 @@ fn take_line<F: Files>(
         }
         Line::Zeros { name, count } => {
             let contents = zeros(alloc, count)?;
+            let name = String::from_str(alloc, name)?;
+            given.files.push(NamedFile { name, contents })?;
+        }
+        Line::Padded { name, path, length } => {
+            let mut contents = fetch_file(alloc, path, files)?;
+            contents.resize(length, 0)?;
             let name = String::from_str(alloc, name)?;
             given.files.push(NamedFile { name, contents })?;
         }
