@@ -74,3 +74,5 @@ pub mod SoundPrograms
 pub mod WorkedPoints
 pub mod WorkedHandlers
 pub mod WorkedArrayCalls
+pub mod PoolTexts
+pub mod MoreEntries

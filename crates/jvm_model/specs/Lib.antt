@@ -64,3 +64,4 @@ pub mod Calls
 pub mod Climbing
 pub mod Revelation
 pub mod Whole
+pub mod SoundPrograms
