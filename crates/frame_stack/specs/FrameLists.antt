@@ -1,5 +1,5 @@
 -- Frames as a list, the top first, and what each call does to it (JVM Specification 2.6).
-use Rattle.std.specs.Prelude.{◌≡◌, ◌≤◌, ℕ, zero, suc, ◌+◌, ◌-◌, ◌&&◌, Bool, true, false, List, [], ◌∷◌, ◌++◌, length, take, drop, reverse, replicate, Option, Some, None, slice_get, slice_set, nat_le, if◌then◌else◌}
+use Rattle.std.specs.Prelude.{◌≡◌, ◌≤◌, ℕ, zero, suc, ◌+◌, ◌-◌, ◌&&◌, Bool, true, false, List, [], ◌∷◌, ◌++◌, length, take, drop, reverse, replicate, Option, Some, None, slice_get, slice_set, count_by, nat_le, ◌==◌, if◌then◌else◌}
 use Rattle.std.specs.Option.{option_flatten}
 use Rattle.heap_objects.specs.declared.Value.{Value}
 use Rattle.frame_stack.specs.Widths.{is_long, width, height_of, slots_of_all}
@@ -144,6 +144,10 @@ new_frame version method max_locals max_stack taken = record {
 abbrev pub version_of : List PlacedFrame → Option ℕ
 version_of [] = None
 version_of (f ∷ fs) = Some f.version
+
+-- how many frames run a version
+abbrev pub pins_of : ℕ → List PlacedFrame → ℕ
+pins_of version fs = count_by (λ f. f.version == version) fs
 
 abbrev pub rest_of : List PlacedFrame → Option ℕ → FramesView
 rest_of [] room = record { frames = []; room = room }

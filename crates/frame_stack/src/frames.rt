@@ -3,11 +3,12 @@
 ghost use Rattle.std.specs.Prelude.{◌≡◌, ◌+◌, ◌<◌, length, slice_get, OnOk, OnErr, IsTrue};
 ghost use Rattle.heap_objects.specs.Changes.{changed_if};
 ghost use Rattle.frame_stack.specs.FrameLists.{AreSound, no_frames, with_frames, has_frame};
-ghost use Rattle.frame_stack.specs.FrameLists.{top_of, place_of, version_of, top_height, with_place};
+ghost use Rattle.frame_stack.specs.FrameLists.{top_of, place_of, version_of, pins_of, top_height, with_place};
 ghost use Rattle.frame_stack.specs.FrameLists.{top_operands, can_push, with_pushed, without_operand};
 ghost use Rattle.frame_stack.specs.FrameLists.{local_of, has_slot, with_written, without_frame};
 ghost use Rattle.frame_stack.specs.FrameLists.{has_room, with_room, can_enter, with_new_frame};
 
+use crate::counters::{count, count_down, count_up, make_counter};
 use crate::entry::{Entry, floor_of, limit_of, put_below};
 use crate::slots::{end_below, fill, put, store, top_value};
 use crate::width::width;
@@ -18,26 +19,29 @@ use std::marker::Model;
 
 /// All frames in one vector of slots, each from its base on: its locals, then its operands. A clause sees the list of the
 /// frames, the top first, and the room for one more. The arguments of a call stay where the caller pushed them, and are
-/// the callee's first locals. Only `reserve` takes memory.
+/// the callee's first locals. Only `reserve` takes memory: for the frame that comes, and for a counter of the frames that run
+/// the top one's version.
 #[derive(Drop)]
 pub struct Frames {
     slots: Vec<Option<Value>>,
     below: Vec<Entry>,
     top: Option<Entry>,
     room: Option<usize>,
+    counters: Vec<u32>,
 }
 
 impl Model for Frames {
     ghost use Rattle.std.specs.Vec.{vec_capacity};
     ghost use Rattle.frame_stack.specs.FrameLists.{FramesView};
-    ghost use Rattle.frame_stack.specs.Cuts.{view_of, IsFlat};
+    ghost use Rattle.frame_stack.specs.Cuts.{view_of};
+    ghost use Rattle.frame_stack.specs.Pins.{AreKept};
 
     ghost Value = { FramesView };
 
     ghost view = { λ f. view_of f.top f.below.items f.slots.items f.room };
 
-    ghost invariant = { λ f. IsFlat f.top f.below.items (vec_capacity f.below)
-        f.slots.items (vec_capacity f.slots) f.room };
+    ghost invariant = { λ f. AreKept f.top f.below.items (vec_capacity f.below)
+        f.slots.items (vec_capacity f.slots) f.room f.counters.items };
 }
 
 impl Frames {
@@ -50,6 +54,7 @@ impl Frames {
             below: Vec::new(alloc),
             top: None,
             room: None,
+            counters: Vec::new(alloc),
         }
     }
 
@@ -77,6 +82,13 @@ impl Frames {
     {
         let entry = self.top?;
         Some(entry.place)
+    }
+
+    /// How many frames run a version. No frame is looked at for it but the top one.
+    pub fn pins(&self, version: usize) -> u32
+        ensures { result ≡ pins_of version self.now.frames }
+    {
+        count(&self.counters, &self.top, version)
     }
 
     /// Moves the top frame to a place: the `pc` of JVM Specification 2.5.1. False where there is no frame.
@@ -178,6 +190,7 @@ impl Frames {
         let entry = self.top?;
         self.slots.truncate(entry.base);
         self.top = self.below.pop();
+        count_down(&mut self.counters, &self.top);
         self.room = None;
         Some(entry.version)
     }
@@ -195,6 +208,7 @@ impl Frames {
         };
         self.slots.reserve(needed - self.slots.len())?;
         self.below.reserve(1)?;
+        make_counter(&mut self.counters, &self.top)?;
         self.room = Some(room);
         Ok(())
     }
@@ -223,6 +237,7 @@ impl Frames {
         if self.slots.len() - base > max_locals as usize {
             return false;
         }
+        count_up(&mut self.counters, &self.top);
         put_below(&mut self.below, self.top);
         fill(&mut self.slots, base + max_locals as usize);
         self.top = Some(Entry {

@@ -94,3 +94,6 @@ pub mod SoundSteps
 pub mod SoundLines
 pub mod SoundRuns
 pub mod SoundPrograms
+pub mod WorkedPoints
+pub mod WorkedHandlers
+pub mod WorkedArrayCalls

@@ -63,3 +63,12 @@ pub mod Quiet
 pub mod Starting
 pub mod Meanings
 pub mod Sound
+pub mod Targets
+pub mod Points
+pub mod Swaps
+pub mod Revealed
+pub mod Suited
+pub mod Calls
+pub mod Climbing
+pub mod Revelation
+pub mod Whole

@@ -13,7 +13,7 @@ returns c =
     let f = c.self.inside in
     let e = c.in_ok-entry.entry in
     let old : IsFlat (Some e) f.below.items (vec_capacity f.below) f.slots.items (vec_capacity f.slots) f.room =
-    subst (λ (t : Option Entry). IsFlat t f.below.items (vec_capacity f.below) f.slots.items (vec_capacity f.slots) f.room) c.in_ok-entry.was c.self.invariant in
+    subst (λ (t : Option Entry). IsFlat t f.below.items (vec_capacity f.below) f.slots.items (vec_capacity f.slots) f.room) c.in_ok-entry.was c.self.invariant.flat in
     let at : c.len.result - c.floor.result ≡ height_of (operands_of (operand_slots e (drop e.base f.slots.items))) =
     omega (arith, top-height-is (vec_capacity f.slots) e (reverse f.below.items) f.slots.items old.frames) in
     ap Some at ∙ ap (λ (s : FramesView). top_height s.frames) (sym (ap (λ t. view_of t f.below.items f.slots.items f.room) c.in_ok-entry.was) ∙ c.self.view_is)

@@ -13,7 +13,7 @@ peek-now c =
     let f = c.self.inside in
     let e = c.in_ok-entry.entry in
     let old : AreFrames (vec_capacity f.slots) (entries_in (Some e) f.below.items) f.slots.items =
-    subst (λ (t : Option Entry). AreFrames (vec_capacity f.slots) (entries_in t f.below.items) f.slots.items) c.in_ok-entry.was c.self.invariant.frames in
+    subst (λ (t : Option Entry). AreFrames (vec_capacity f.slots) (entries_in t f.below.items) f.slots.items) c.in_ok-entry.was c.self.invariant.flat.frames in
     let seen : view_of (Some e) f.below.items f.slots.items f.room ≡ c.args.self.now = sym (ap (λ t. view_of t f.below.items f.slots.items f.room) c.in_ok-entry.was) ∙ c.self.view_is in
     subst (λ (s : FramesView). CanPeek (floor e) c.in_ok-end.end c.args.below f.slots.items (top_operands s.frames)) seen
     (can-peek (Some e) f.below.items (vec_capacity f.slots) f.slots.items c.in_ok-end.end c.args.below old
@@ -30,7 +30,7 @@ returns-clause-found c =
     let f = c.self.inside in
     let e = c.in_ok-entry.entry in
     let old : AreFrames (vec_capacity f.slots) (entries_in (Some e) f.below.items) f.slots.items =
-    subst (λ (t : Option Entry). AreFrames (vec_capacity f.slots) (entries_in t f.below.items) f.slots.items) c.in_ok-entry.was c.self.invariant.frames in
+    subst (λ (t : Option Entry). AreFrames (vec_capacity f.slots) (entries_in t f.below.items) f.slots.items) c.in_ok-entry.was c.self.invariant.flat.frames in
     let peek = can-peek (Some e) f.below.items (vec_capacity f.slots) f.slots.items c.in_ok-end.end c.args.below old
     (sym c.in_ok-end.was ∙ (c.end_below.ensures ∙ rw (c.floor.ensures, c.deref.ensures.value) refl)) in
     c.top_value.ensures ∙ rw (c.floor-2.ensures, c.deref-2.ensures.value, ← c.self.view_is, c.in_ok-entry.was) peek.seen
@@ -38,9 +38,9 @@ returns-clause-found c =
 pub returns-clause-sound : goal.returns-clause-sound
 returns-clause-sound c =
     let f = c.self.inside in
-    rw (← c.self.view_is) (are-sound (vec_capacity f.slots) (entries_in f.top f.below.items) f.slots.items c.self.invariant.frames)
+    rw (← c.self.view_is) (are-sound (vec_capacity f.slots) (entries_in f.top f.below.items) f.slots.items c.self.invariant.flat.frames)
 
 pub returns-in_err-end-clause-sound : goal.returns-in_err-end-clause-sound
 returns-in_err-end-clause-sound c =
     let f = c.self.inside in
-    rw (← c.self.view_is) (are-sound (vec_capacity f.slots) (entries_in f.top f.below.items) f.slots.items c.self.invariant.frames)
+    rw (← c.self.view_is) (are-sound (vec_capacity f.slots) (entries_in f.top f.below.items) f.slots.items c.self.invariant.flat.frames)

@@ -6,6 +6,7 @@ use Rattle.frame_stack.specs.declared.entry.Entry.{Entry}
 use Rattle.frame_stack.specs.Widths.{width}
 use Rattle.frame_stack.specs.FrameLists.{with_frames, without_operand}
 use Rattle.frame_stack.specs.Cuts.{operands_of, operand_slots, floor, frames_of, IsFlat, view_of}
+use Rattle.frame_stack.specs.Pins.{AreCounted}
 use Rattle.frame_stack.proofs.OperandSlots.{AreBelow, below-is, top-width}
 use Rattle.frame_stack.proofs.CutBack.{IsCutBack, is-cut-back, flat-back, operand-slots-is}
 use Rattle.frame_stack.proofs.frames.Frames.pop.Goals as goal
@@ -35,13 +36,16 @@ popped-now c =
     let e = c.in_ok-entry.entry in
     let v = c.in_ok-value.value in
     let old : IsFlat (Some e) f.below.items (vec_capacity f.below) f.slots.items (vec_capacity f.slots) f.room =
-    subst (λ (t : Option Entry). IsFlat t f.below.items (vec_capacity f.below) f.slots.items (vec_capacity f.slots) f.room) c.in_ok-entry.was c.self.invariant in
+    subst (λ (t : Option Entry). IsFlat t f.below.items (vec_capacity f.below) f.slots.items (vec_capacity f.slots) f.room) c.in_ok-entry.was c.self.invariant.flat in
     let top : Some v ≡ slice_get (operands_of (reverse (drop (floor e) f.slots.items))) 0 =
     sym c.in_ok-value.was ∙ (c.top_value.ensures ∙ rw (c.floor.ensures, c.deref.ensures.value) refl) in
     is-popped e f.below.items (vec_capacity f.below) f.slots.items (vec_capacity f.slots) f.room v (c.len.result - c.width.result) old top (omega arith)
 
+counted-now : (c : goal.After-truncate) → AreCounted c.self.inside.counters.items (Some c.in_ok-entry.entry) c.self.inside.below.items c.self.inside.room
+counted-now c = subst (λ (t : Option Entry). AreCounted c.self.inside.counters.items t c.self.inside.below.items c.self.inside.room) c.in_ok-entry.was c.self.invariant.counted
+
 pub invariant_of-self : goal.invariant_of-self
-invariant_of-self c = rw (c.in_ok-entry.was, c.truncate.ensures.items, c.truncate.ensures.capacity) (popped-now c).flat
+invariant_of-self c = rw (c.in_ok-entry.was, c.truncate.ensures.items, c.truncate.ensures.capacity) (record { flat = (popped-now c).flat; counted = counted-now c })
 
 pub returns-clause-frames : goal.returns-clause-frames
 returns-clause-frames c = rw (← c.self.view_is, c.in_ok-entry.was, c.truncate.ensures.items) (popped-now c).seen
