@@ -99,3 +99,4 @@ pub mod WorkedHandlers
 pub mod WorkedArrayCalls
 pub mod PoolTexts
 pub mod MoreEntries
+pub mod SoundAnswers
