@@ -6,7 +6,8 @@ use Rattle.jvm_model.specs.declared.program.Program.{Program}
 use Rattle.plan_text.specs.declared.plan.Plan.{Plan}
 use Rattle.admit_check.specs.declared.error.AdmitError.TheVariants.{TooManyMethods}
 use Rattle.admit_check.specs.Checks.{fault_if}
-use Rattle.admit_check.specs.Admission.{acts_from, completed, main_in, unless_fault, with_acts, with_main}
+use Rattle.jvm_model.specs.SoundPrograms.{main_in}
+use Rattle.admit_check.specs.Admission.{acts_from, completed, unless_fault, with_acts, with_main}
 
 pub completes : (p : Program) (given : ℕ) (name : List ℕ) (plan : Plan) (main : ℕ) (acts : List Act) (whole : Program) → nat_lt 32768 (length p.methods) ≡ false
     → main_in p given name ≡ Some main → acts_from p 1 plan.actions ≡ Ok acts → whole ≡ record p { main = main; acts = acts } → completed p given name plan ≡ Ok whole

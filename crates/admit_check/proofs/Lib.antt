@@ -15,3 +15,15 @@ pub mod Readable
 pub mod Walks
 pub mod Sound
 pub mod SoundCodes
+pub mod Positions
+pub mod ReadCodes
+pub mod CodeStarts
+pub mod ArrayNames
+pub mod Operations
+pub mod BuiltInRules
+pub mod ClassCodes
+pub mod BuiltInNames
+pub mod FitPlaces
+pub mod FitNames
+pub mod FitFiles
+pub mod Fit

@@ -1,23 +1,33 @@
 -- What is admitted is a sound program.
-use Rattle.std.proofs.Common.{◌≡◌, ℕ, suc, ◌+◌, ◌<◌, Bool, true, false, cond, List, [], ◌∷◌, length, Option, Some, None, Result, Ok, Err, refl, subst, arith}
-use Rattle.std.specs.Prelude.{nat_lt, IfOk}
+use Rattle.std.proofs.Common.{◌≡◌, ℕ, suc, ◌+◌, ◌<◌, ◌≤◌, Bool, true, false, cond, List, [], ◌∷◌, ◌++◌, length, Option, Some, None, Result, Ok, Err, refl, subst, arith}
+use Rattle.std.specs.Prelude.{nat_lt, unwrap_or, IfOk, IfSome}
 use Rattle.std.specs.Option.{option_and_then, option_map}
 use Rattle.std.specs.List.{AllByRecursion}
 use Rattle.std.proofs.lemmas.Option.{same_Some, none-some, option_and_then_some}
 use Rattle.const_pool.specs.declared.class.ClassFile.{ClassFile}
 use Rattle.const_pool.specs.References.{name_type_of}
+use Rattle.const_pool.specs.ClassFile.{IsClassFile}
 use Rattle.base_classes.specs.BuiltInFiles.{built_in_files}
+use Rattle.base_classes.proofs.Computed.{all_formed}
 use Rattle.jvm_model.specs.declared.event.Act.{Act}
 use Rattle.jvm_model.specs.declared.program.MethodPlace.{MethodPlace}
 use Rattle.jvm_model.specs.declared.program.Program.{Program}
 use Rattle.jvm_model.specs.Methods.{method_named}
-use Rattle.jvm_model.specs.Programs.{class_at, class_named, declared_method, number_from, number_of_method, same_place}
+use Rattle.jvm_model.specs.Programs.{class_at, class_named, declared_method, has_built_in_name, number_from, number_of_method, same_place}
 use Rattle.plan_text.specs.declared.plan.Action.{Action}
 use Rattle.plan_text.specs.declared.plan.Plan.{Plan}
 use Rattle.admit_check.specs.declared.error.AdmitError.{AdmitError}
-use Rattle.admit_check.specs.Admission.{act_of, act_with, acts_from, admission, admission_of, declared_main, main_in, main_of_class, program_with, root_in, IsSoundProgram}
+use Rattle.jvm_model.specs.SoundPrograms.{HasOperations, IsHeapLimit, declared_main, main_in, main_of_class}
+use Rattle.jvm_model.specs.Whole.{HasSoundCodes}
+use Rattle.inject_events.specs.Answers.{IsProfilable, IsReadableClass}
+use Rattle.admit_check.specs.Admission.{act_of, act_with, acts_from, admission, admission_of, program_with, root_in, IsAdmittedProgram}
+use Rattle.admit_check.specs.Profiling.{HaveSoundTables}
 use Rattle.admit_check.specs.Stages.{Answers}
-use Rattle.admit_check.proofs.Profilable.{profilable-classes}
+use Rattle.admit_check.proofs.BuiltInRules.{built-in-follow}
+use Rattle.admit_check.proofs.ClassCodes.{IsFineClass, fine-built-in, fine-classes}
+use Rattle.admit_check.proofs.Fit.{fit}
+use Rattle.admit_check.proofs.FitNames.{IsOwnClass, own-classes}
+use Rattle.admit_check.proofs.Readable.{nth}
 use Rattle.admit_check.proofs.Admitted.{admitted}
 
 -- ---- numbers of methods
@@ -81,21 +91,57 @@ acts_below p at (a ∷ rest) acts e =
     by_parts (Some act) (Err fault) one all is = absurd cc
     by_parts (Some act) (Ok more) one all is = subst (AllByRecursion (IsBelow p)) (same_acts (act ∷ more) acts is) (one act refl, all more refl)
 
+-- ---- its codes
+
+module _ (p : Program) (fine : AllByRecursion IsFineClass p.classes) where
+  sound-codes : HasSoundCodes p
+  sound-codes method place c code stands is at = (nth IsFineClass p.classes place.class c fine is).codes place.position code at
+
+  known-codes : HasOperations p
+  known-codes method place c code stands is at = (nth IsFineClass p.classes place.class c fine is).operations place.position code at
+
 -- ---- the program
 
-sound : (classes : List ClassFile) (name : List ℕ) (plan : Plan) (p : Program) → admission classes built_in_files name plan ≡ Ok p → IsSoundProgram classes name p
-sound classes name plan p e =
+both : {A : Type 0} (P : A → Type 0) (xs ys : List A) → AllByRecursion P xs → AllByRecursion P ys → AllByRecursion P (xs ++ ys)
+both P [] ys a b = b
+both P (x ∷ xs) ys a b = (a.0, both P xs ys a.1 b)
+
+each-so : {A : Type 0} (P Q : A → Type 0) → ((x : A) → P x → Q x) → (xs : List A) → AllByRecursion P xs → AllByRecursion Q xs
+each-so P Q so [] each = tt
+each-so P Q so (x ∷ xs) each = (so x each.0, each-so P Q so xs each.1)
+
+heap-limit : (heap : Option ℕ) → IfSome heap IsHeapLimit → IsHeapLimit (unwrap_or heap 4194304)
+heap-limit None within = (omega arith, omega arith)
+heap-limit (Some slots) within = within
+
+sound : (classes : List ClassFile) (name : List ℕ) (plan : Plan) (p : Program) → AllByRecursion IsClassFile classes → length classes ≤ 4096 → IfSome plan.heap IsHeapLimit
+    → admission classes built_in_files name plan ≡ Ok p → IsAdmittedProgram classes name p
+sound classes name plan p formed few heap e =
     let is = admitted classes built_in_files name plan p e in
     let whole = is.completion in
-    subst (IsSoundProgram classes name) whole.is (record {
+    let q : Program = record (program_with classes built_in_files plan) { main = whole.main; acts = whole.acts } in
+    let each : AllByRecursion IsFineClass q.classes = both IsFineClass classes built_in_files (fine-classes [] classes formed is.fine) fine-built-in in
+    subst (IsAdmittedProgram classes name) whole.is (record {
+      sound = record {
+        few_classes = few;
+        classes_are = refl;
+        formed = both IsClassFile classes built_in_files formed (all_formed built_in_files refl);
+        free = each-so IsOwnClass (λ c. has_built_in_name c ≡ false) (λ c own. own.free) classes (own-classes [] classes is.fine);
+        methods = refl;
+        few = whole.few;
+        main_is = whole.found;
+        main = main_in-below (program_with classes built_in_files plan) (length classes) name whole.main whole.found;
+        acts = acts_below (program_with classes built_in_files plan) 1 plan.actions whole.acts whole.told;
+        heap = heap-limit plan.heap heap;
+        fit = fit classes name q is.fine refl whole.found few;
+        codes = sound-codes q each;
+        operations = known-codes q each;
+      };
       fine = is.fine;
-      profilable = profilable-classes [] classes is.fine;
-      classes_are = refl;
-      methods = refl;
-      few = whole.few;
-      main_is = whole.found;
-      main = main_in-below (program_with classes built_in_files plan) (length classes) name whole.main whole.found;
-      acts = acts_below (program_with classes built_in_files plan) 1 plan.actions whole.acts whole.told;
+      built_in = built-in-follow;
+      readable = each-so IsFineClass IsReadableClass (λ c fine. fine.readable) q.classes each;
+      profilable = each-so IsFineClass IsProfilable (λ c fine. fine.profilable) q.classes each;
+      tables = each-so IsFineClass HaveSoundTables (λ c fine. fine.tables) q.classes each;
     })
 
 -- ---- what is answered
@@ -105,8 +151,8 @@ pub answers-given : (r : Result Program AdmitError) (classes files : List ClassF
 unfolding admission_of
 answers-given r classes files name plan same answers = subst (λ (fs : List ClassFile). Answers r (admission classes fs name plan)) same answers
 
-pub sound-answers : (r : Result Program AdmitError) (classes : List ClassFile) (name : List ℕ) (plan : Plan) → Answers r (admission_of classes name plan)
-    → IfOk r (IsSoundProgram classes name)
+pub sound-answers : (r : Result Program AdmitError) (classes : List ClassFile) (name : List ℕ) (plan : Plan) → AllByRecursion IsClassFile classes → length classes ≤ 4096
+    → IfSome plan.heap IsHeapLimit → Answers r (admission_of classes name plan) → IfOk r (IsAdmittedProgram classes name)
 unfolding admission_of
-sound-answers (Ok p) classes name plan answers = sound classes name plan p answers
-sound-answers (Err fault) classes name plan answers = tt
+sound-answers (Ok p) classes name plan formed few heap answers = sound classes name plan p formed few heap answers
+sound-answers (Err fault) classes name plan formed few heap answers = tt

@@ -169,7 +169,7 @@ method-sound k at pool s m code tailed formed readable coded none =
     told-none k at (code_fault pool (result_of pool m) code) (subst (λ (o : Option CodeAttribute). option_map (told_in k at) (option_and_then (code_fault pool (result_of pool m)) o) ≡ None) coded none) in
     code-sound pool s (result_of pool m) code tailed (code-formed pool m.attributes code formed.attributes coded) (subst (λ (o : Option CodeAttribute). IfSome o IsReadableBody) coded readable) fine
 
-tables-sound : (k : ℕ) (c : ClassFile) → IsClassFile c → IsReadableClass c → codes_fault k c ≡ None → HaveSoundTables c
+pub tables-sound : (k : ℕ) (c : ClassFile) → IsClassFile c → IsReadableClass c → codes_fault k c ≡ None → HaveSoundTables c
 tables-sound k c formed readable none = λ n m code at coded.
     let fine = each-none k c.pool 0 c.methods n m none at in
     method-sound k fine.0 c.pool (setting_of c) m code refl (nth (IsMember IsMethodAttribute c.pool) c.methods n m formed.methods at) (readable.bodies n m at) coded fine.1

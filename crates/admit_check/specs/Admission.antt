@@ -10,17 +10,17 @@ use Rattle.plan_text.specs.declared.plan.Plan.{Plan}
 use Rattle.plan_text.specs.declared.plan.RootName.{RootName}
 use Rattle.jvm_model.specs.declared.event.Act.{Act}
 use Rattle.jvm_model.specs.declared.program.Program.{Program}
-use Rattle.jvm_model.specs.Methods.{method_named}
-use Rattle.jvm_model.specs.Programs.{class_at, class_named, declared_method, number_of_method, numbered}
-use Rattle.jvm_model.specs.SmallClass.{main_member, public_static}
+use Rattle.jvm_model.specs.Programs.{class_named, declared_method, numbered}
+use Rattle.jvm_model.specs.SoundPrograms.{IsSoundProgram, main_in}
 use Rattle.admit_check.specs.declared.error.AdmitError.{AdmitError}
 use Rattle.admit_check.specs.declared.error.AdmitError.TheVariants.{TooManyMethods, NoMain, NoSuchRoot}
 use Rattle.admit_check.specs.Checks.{fault_if, first_of}
 use Rattle.admit_check.specs.Shapes.{name_fault, shape_fault}
 use Rattle.admit_check.specs.Codes.{codes_fault}
 use Rattle.admit_check.specs.Floating.{floating_fault}
-use Rattle.inject_events.specs.Answers.{IsProfilable}
-use Rattle.admit_check.specs.Profiling.{profiling_fault}
+use Rattle.inject_events.specs.Answers.{IsProfilable, IsReadableClass}
+use Rattle.admit_check.specs.Profiling.{HaveSoundTables, profiling_fault}
+use Rattle.admit_check.specs.SoundBuiltIn.{IsSoundBuiltIn}
 
 -- ---- the classes, in order
 
@@ -48,21 +48,6 @@ program_with classes built_in plan = record {
 -- at most 32,768 methods have Code
 abbrev pub count_fault : Program → Option AdmitError
 count_fault p = fault_if (nat_lt 32768 (length p.methods)) (TooManyMethods (length p.methods))
-
--- ---- its main method
-
--- the position of a class's public static `main`
-abbrev pub declared_main : ClassFile → Option ℕ
-declared_main c = option_and_then (public_static c) (method_named c main_member)
-
--- the number of the one with Code in the class at this position
-abbrev pub main_of_class : Program → ℕ → Option ℕ
-main_of_class p class = option_and_then (λ c. option_and_then (number_of_method p class) (declared_main c)) (class_at p class)
-
--- the number of the main method, in the class of this name, which is one of the given
-abbrev pub main_in : Program → ℕ → List ℕ → Option ℕ
-main_in p given name =
-    option_and_then (λ class. if nat_lt class given then main_of_class p class else None) (class_named p name)
 
 -- ---- what the plan asks for
 
@@ -113,14 +98,13 @@ admission classes built_in main plan =
 unfoldable pub admission_of : List ClassFile → List ℕ → Plan → Result Program AdmitError
 admission_of classes main plan = admission classes built_in_files main plan
 
--- A sound program of these classes, which have no fault and can be rewritten: the built-in ones stand behind them, its methods are
--- those that have Code, not too many, its main method is the one of the class of this name, and its acts name methods of it.
-pub record IsSoundProgram (classes : List ClassFile) (name : List ℕ) (p : Program) : Type 0 where
+-- An admitted program of these classes with the main method of the class of this name: it is sound; its own classes have no fault, and the
+-- built-in ones follow the rules too; each of its classes can be read and rewritten, whichever of its methods with Code are marked, and
+-- its tables are moved there.
+pub record IsAdmittedProgram (classes : List ClassFile) (name : List ℕ) (p : Program) : Type 0 where
+  pub sound : IsSoundProgram classes name p
   pub fine : classes_fault [] classes ≡ None
-  pub profilable : AllByRecursion IsProfilable classes
-  pub classes_are : p.classes ≡ classes ++ built_in_files
-  pub methods : p.methods ≡ numbered p.classes
-  pub few : length p.methods ≤ 32768
-  pub main_is : main_in p (length classes) name ≡ Some p.main
-  pub main : p.main < length p.methods
-  pub acts : AllByRecursion (λ (act : Act). act.method < length p.methods) p.acts
+  pub built_in : AllByRecursion IsSoundBuiltIn built_in_files
+  pub readable : AllByRecursion IsReadableClass p.classes
+  pub profilable : AllByRecursion IsProfilable p.classes
+  pub tables : AllByRecursion HaveSoundTables p.classes

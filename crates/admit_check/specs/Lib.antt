@@ -10,3 +10,4 @@ pub mod Floating
 pub mod Admission
 pub mod FloatingFrames
 pub mod Profiling
+pub mod SoundBuiltIn

@@ -1,9 +1,10 @@
 //! Admission: a program's classes in order, then its methods, its main method and its acts.
 
-ghost use Rattle.std.specs.Prelude.{◌≡◌, ◌++◌, [], ◌<◌, ◌≤◌, ◌^◌, length, IfOk, OnOk};
+ghost use Rattle.std.specs.Prelude.{◌≡◌, ◌++◌, [], ◌<◌, ◌≤◌, ◌^◌, length, IfOk, IfSome, OnOk};
 ghost use Rattle.std.specs.List.{AllByRecursion};
 ghost use Rattle.const_pool.specs.ClassFile.{IsClassFile};
-ghost use Rattle.admit_check.specs.Admission.{admission_of, IsSoundProgram};
+ghost use Rattle.jvm_model.specs.SoundPrograms.{IsHeapLimit};
+ghost use Rattle.admit_check.specs.Admission.{admission_of, IsAdmittedProgram};
 ghost use Rattle.admit_check.specs.Stages.{Answers, AreBuiltIn, HasNumbers, Passes};
 ghost use Rattle.admit_check.specs.Admission.{class_fault, classes_fault};
 ghost use Rattle.inject_events.specs.Answers.{IsReadableClass};
@@ -235,7 +236,7 @@ fn admit_over(
 /// of each its name, its shape, its codes, its floating point and then what can't be rewritten with probes; behind the last class
 /// come the number of methods, the main method in the class named `main`, with slashes, and the roots of the plan's actions. Each
 /// class is read and rewritten once; each action looks through the classes and the methods. Neither the plan's main class nor its
-/// budget is looked at.
+/// budget is looked at. What the program has is all that the machine, the linker, the report and what rewrites classes ask of it.
 pub fn admit(
     alloc: Global,
     classes: Seq<ClassFile>,
@@ -245,8 +246,9 @@ pub fn admit(
     requires formed { AllByRecursion IsClassFile classes }
     requires count { length classes ≤ 4096 }
     requires actions { length plan.now.actions < 2 ^ 32 }
+    requires heap { IfSome plan.now.heap IsHeapLimit }
     ensures admitted { Answers result (admission_of classes main.now plan.now) }
-    ensures sound { IfOk result (IsSoundProgram classes main.now) }
+    ensures sound { IfOk result (IsAdmittedProgram classes main.now) }
 {
     match built_in(alloc) {
         Ok(built_in) => admit_over(alloc, classes, built_in, main, plan),

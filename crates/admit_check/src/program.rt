@@ -11,7 +11,8 @@ ghost use Rattle.jvm_model.specs.Programs.{numbered, same_place};
 ghost use Rattle.jvm_model.specs.SmallClass.{is_public_static, main_member, public_static};
 ghost use Rattle.admit_check.specs.Admission.{act_of, acts_from};
 ghost use Rattle.admit_check.specs.Stages.{Answers, HasNumbers};
-ghost use Rattle.admit_check.specs.Admission.{declared_main, main_in, main_of_class, root_in};
+ghost use Rattle.admit_check.specs.Admission.{root_in};
+ghost use Rattle.jvm_model.specs.SoundPrograms.{declared_main, main_in, main_of_class};
 
 use crate::error::AdmitError;
 use const_pool::{Attribute, ClassFile, Member, Pool};

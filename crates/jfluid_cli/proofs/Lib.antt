@@ -17,5 +17,4 @@ pub mod Carried
 pub mod Fixed
 pub mod Finished
 pub mod Reported
-pub mod Room
 mod WorkedWords

@@ -1,4 +1,3 @@
 pub mod WorkedClass
 mod WorkedVersion
-mod BuiltInCodes
 pub mod Lists

@@ -3,7 +3,6 @@ pub mod Formed
 pub mod Methods
 pub mod BuiltIn
 pub mod Answered
-pub mod AskedPrograms
 pub mod DescriptorTexts
 pub mod MeaningsBuiltIn
 pub mod MeaningsLookups
@@ -12,8 +11,6 @@ pub mod MeaningsPrinting
 pub mod MeaningsMembers
 pub mod MeaningsCalls
 pub mod Meanings
-pub mod FitPlaces
-pub mod FitNames
 pub mod FitLoading
 pub mod Fit
 pub mod Sound

@@ -24,7 +24,8 @@ use Rattle.jvm_model.specs.SharedState.{built_in_from, class_of_kind, print_stre
 use Rattle.jvm_model.specs.SmallClass.{IsSmallClass, begins_with, is_free_name}
 use Rattle.jvm_model.proofs.ImageMethods.{small-coded}
 use Rattle.jvm_model.proofs.Numbers.{first-at, main-first, place-coded}
-use Rattle.small_program.proofs.MeaningsLookups.{position-behind, position-first, kind-class}
+use Rattle.admit_check.proofs.Positions.{position-behind, position-first}
+use Rattle.small_program.proofs.MeaningsLookups.{kind-class}
 use Rattle.small_program.proofs.MeaningsBuiltIn.{HasStreams, object_name}
 
 -- ---- tests

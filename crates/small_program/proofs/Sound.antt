@@ -21,10 +21,11 @@ use Rattle.jvm_model.specs.SmallClass.{IsSmallClass, main_member, is_public_stat
 use Rattle.jvm_model.specs.StandsFor.{IsBuilt}
 use Rattle.jvm_model.proofs.ImageMethods.{small-coded}
 use Rattle.jvm_model.proofs.Numbers.{place-coded}
-use Rattle.admit_check.specs.Admission.{declared_main, main_of_class, main_in, IsSoundProgram}
+use Rattle.jvm_model.specs.SoundPrograms.{IsSoundProgram, declared_main, main_in, main_of_class}
+use Rattle.admit_check.specs.Admission.{IsAdmittedProgram}
 use Rattle.small_program.specs.Admission.{IsSmall, RunsWith}
 use Rattle.small_program.specs.Runnable.{IsRunnable}
-use Rattle.small_program.proofs.Fit.{fit, fits}
+use Rattle.small_program.proofs.Fit.{fits}
 use Rattle.small_program.proofs.Meanings.{IsMeant-small}
 use Rattle.small_program.proofs.MeaningsBuiltIn.{built_in-streams}
 
@@ -170,14 +171,15 @@ root-runs classes None k runs e = absurd (none-some k e)
 root-runs classes (Some j) k runs e = subst (RunsWith classes) (same_Some j k e) runs
 
 -- classes that are a sound program, with a root that they run with, are one that the machine runs
-pub classes-runnable : (classes : List ClassFile) (p : Program) (name : List ℕ) (root : Option ℕ) → AllByRecursion IsClassFile classes → length classes ≤ 4096
-    → IfSome root (RunsWith classes) → IsSoundProgram classes name p → 1024 ≤ p.heap → IsRunnable p root
-classes-runnable classes p name root formed few runs sound room =
-    let is = fit classes name p sound few in
+pub classes-runnable : (classes : List ClassFile) (p : Program) (name : List ℕ) (root : Option ℕ) → AllByRecursion IsClassFile classes → IfSome root (RunsWith classes)
+    → IsAdmittedProgram classes name p → IsRunnable p root
+classes-runnable classes p name root formed runs admitted =
+    let sound = admitted.sound in
+    let room = sound.heap.0 in
     record {
-      fits = fits classes name p sound few formed;
-      fit = is;
+      fits = fits classes name p admitted;
+      fit = sound.fit;
       starts = record { room = room };
-      built = λ k e. (rooted classes p name k formed (root-runs classes root k runs e) sound is.few room).0;
-      known = known-root classes p root (λ k with_root. (rooted classes p name k formed with_root sound is.few room).1) runs;
+      built = λ k e. (rooted classes p name k formed (root-runs classes root k runs e) sound sound.fit.few room).0;
+      known = known-root classes p root (λ k with_root. (rooted classes p name k formed with_root sound sound.fit.few room).1) runs;
     }

@@ -1,16 +1,11 @@
 -- What the machine asks of a program and of its root.
-use Rattle.std.specs.Prelude.{◌≡◌, ◌<◌, ℕ, length, Option, Some, IfSome, unwrap_or}
-use Rattle.plan_text.specs.declared.plan.Plan.{Plan}
+use Rattle.std.specs.Prelude.{◌≡◌, ◌<◌, ℕ, length, Option, Some, IfSome}
 use Rattle.jvm_model.specs.declared.program.Program.{Program}
 use Rattle.jvm_model.specs.OneClass.{IsBuiltProgram}
 use Rattle.jvm_model.specs.Programs.{first_class}
 use Rattle.jvm_model.specs.Sound.{IsFit}
 use Rattle.jvm_steps.specs.Before.{CanStart}
 use Rattle.jvm_steps.specs.Prepared.{FitsOriginals}
-
--- the limit of the heap
-abbrev pub heap_of : Plan → ℕ
-heap_of plan = unwrap_or plan.heap 4194304
 
 -- Its original code can be prepared, its states are of loaded classes, it can start, and where there is a root its first class can be
 -- rewritten and has the root.

@@ -3,6 +3,7 @@
 ghost use Rattle.std.specs.Prelude.{◌<◌, ◌≤◌, ◌^◌, length, IfSome};
 ghost use Rattle.std.specs.List.{AllByRecursion};
 ghost use Rattle.const_pool.specs.ClassFile.{IsClassFile};
+ghost use Rattle.jvm_model.specs.SoundPrograms.{IsHeapLimit};
 
 use admit_check::{AdmitError, admit};
 use class_reader::read_class;
@@ -40,7 +41,8 @@ fn list(alloc: Global, first: &[u8], second: &[u8]) -> Option<Seq<ClassFile>>
 
 /// The plan that selects this root, or none where the word is empty.
 fn plan(alloc: Global, root: &str) -> Option<Plan>
-    ensures { IfSome result (λ plan. length plan.actions < 2 ^ 32) }
+    ensures actions { IfSome result (λ plan. length plan.actions < 2 ^ 32) }
+    ensures heap { IfSome result (λ plan. IfSome plan.heap IsHeapLimit) }
 {
     if root.is_empty() {
         return Some(Plan {

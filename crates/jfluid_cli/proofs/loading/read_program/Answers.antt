@@ -4,7 +4,6 @@ use Rattle.jfluid_cli.specs.Asking.{asked_for}
 use Rattle.jfluid_cli.specs.Contents.{SpellsAlone}
 use Rattle.jfluid_cli.proofs.Early.{due-unread, due-fault, due-unbuilt}
 use Rattle.jfluid_cli.proofs.Pairs.{zip-length}
-use Rattle.jfluid_cli.proofs.Room.{room}
 use Rattle.jfluid_cli.proofs.Spelled.{spelled-program, spelled-alone}
 use Rattle.jfluid_cli.proofs.loading.read_program.Goals as goal
 
@@ -15,7 +14,7 @@ admit-requires-clause-count c =
     omega (arith, many, few)
 
 pub admit-requires-clause-heap : goal.admit-requires-clause-heap
-admit-requires-clause-heap c = room c.args.plan.now c.requires.within
+admit-requires-clause-heap c = c.requires.within.heap
 
 -- ---- what was not read
 

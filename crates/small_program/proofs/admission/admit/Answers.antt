@@ -5,7 +5,6 @@ use Rattle.const_pool.specs.declared.class.ClassFile.{ClassFile}
 use Rattle.small_program.specs.Admission.{AreRoots, is_built_plan, IsRefusedFor}
 use Rattle.small_program.proofs.Answered.{refuses, runs-as, foreign-as, runnable-as}
 use Rattle.small_program.proofs.Sound.{classes-runnable}
-use Rattle.small_program.proofs.AskedPrograms.{asked-of, asked-heap}
 use Rattle.small_program.proofs.admission.admit.Goals as goal
 use Rattle.small_program.proofs.admission.admit.Goals.{After-run_as}
 
@@ -19,10 +18,8 @@ planned c = IfOk-weaker c.run_as.result _ _ (λ a e. sym c.is_built.ensures ∙ 
 
 pub returns-in-Ok-clause-runnable : goal.returns-in-Ok-clause-runnable
 returns-in-Ok-clause-runnable c =
-    let asked = asked-of c.args.classes c.args.main.now c.args.plan.now c.in-Ok.program c.in-Ok.ensures.admitted in
     runnable-as c.args.plan.now c.run_as.result c.in-Ok.program c.args.classes c.in_ok-roots.roots
-    (λ built root fits. classes-runnable c.args.classes c.in-Ok.program c.args.main.now root c.requires.formed c.requires.count fits c.in-Ok.ensures.sound
-    (asked-heap c.args.plan.now c.in-Ok.program c.requires.heap asked))
+    (λ built root fits. classes-runnable c.args.classes c.in-Ok.program c.args.main.now root c.requires.formed fits c.in-Ok.ensures.sound)
     (decided c) (planned c) c.run_as.ensures.program c.run_as.ensures.own
 
 pub returns-in-Ok-clause-runs : goal.returns-in-Ok-clause-runs

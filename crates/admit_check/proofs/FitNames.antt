@@ -14,7 +14,7 @@ use Rattle.admit_check.specs.Admission.{class_fault, classes_fault}
 use Rattle.admit_check.specs.Checks.{fault_if}
 use Rattle.admit_check.specs.Shapes.{has_same_name, has_wrong_name, is_reserved, is_taken_name, name_fault, own_name, same_named, shape_fault}
 use Rattle.admit_check.specs.Texts as texts
-use Rattle.small_program.proofs.MeaningsLookups.{position-behind, position-first}
+use Rattle.admit_check.proofs.Positions.{position-behind, position-first}
 
 -- ---- tests
 
