@@ -115,3 +115,6 @@ pub mod Revealable
 pub mod WorkedPoints
 pub mod WorkedHandlers
 pub mod WorkedArrayCalls
+pub mod PoolTexts
+pub mod MoreEntries
+pub mod SoundAnswers

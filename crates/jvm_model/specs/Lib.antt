@@ -72,3 +72,4 @@ pub mod Calls
 pub mod Climbing
 pub mod Revelation
 pub mod Whole
+pub mod SoundPrograms
