@@ -5,3 +5,4 @@ mod Again
 pub mod Rising
 pub mod Laid
 pub mod FramesRead
+pub mod Sizes
