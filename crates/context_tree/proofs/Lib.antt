@@ -18,3 +18,6 @@ pub mod Totals
 pub mod TotalLoop
 pub mod PassedTotals
 pub mod Giving
+pub mod SeenRuns
+pub mod Headline
+pub mod Credits

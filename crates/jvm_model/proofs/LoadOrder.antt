@@ -5,13 +5,16 @@ use Rattle.std.proofs.lemmas.List.{append-nil, append_assoc}
 use Rattle.std.specs.Prelude.{Option, Some, None, ◌==◌, ◌||◌, if◌then◌else◌}
 use Rattle.std.specs.List.{AllByRecursion}
 use Rattle.const_pool.specs.declared.class.ClassFile.{ClassFile}
-use Rattle.jvm_model.specs.Data.{Program}
+use Rattle.jvm_model.specs.Data.{Program, World}
 use Rattle.jvm_model.specs.Kinds.{Element, Primitive, Named, meaning_of}
 use Rattle.jvm_model.specs.Load.{Fault, Loading, Need, There, Begun, Fresh as Unloaded, behind_needs, by_standing, done, is_among, load_element, load_named, load_needs, load_of, need_fault, needs_of, standing_of, unless}
-use Rattle.jvm_model.specs.Programs.{class_named}
+use Rattle.jvm_model.specs.Programs.{class_named, has_built_in_name}
 use Rattle.jvm_model.specs.Revelation.{IsLoadOrder}
+use Rattle.jvm_model.specs.Run.{before}
+use Rattle.jvm_model.specs.SharedState.{built_in_from}
 use Rattle.jvm_model.specs.Sound.{HasSupertypes}
-use Rattle.jvm_model.proofs.SoundClasses.{AreLoads, HasLoaded, IsLoad, among-front, named-load, needs-load, one-more}
+use Rattle.jvm_model.proofs.Ranked.{AreInOrder}
+use Rattle.jvm_model.proofs.SoundClasses.{AreLoads, HasLoaded, among-front, named-load, needs-load, one-more}
 
 false_true : false ≡ true → ⊥
 false_true e = cc
@@ -201,3 +204,49 @@ pub order-behind : (p : Program) (first front rest : List ℕ) → IsLoadOrder p
 order-behind p first [] rest order = subst (λ l. IsLoadOrder p l rest) (sym (append-nil first)) order
 order-behind p first (class ∷ front) rest order =
     subst (λ l. IsLoadOrder p l rest) (append_assoc first (class ∷ []) front) (order-behind p (first ++ class ∷ []) front rest order.2)
+
+-- ---- what is loaded before the start
+
+-- each above the one before
+abbrev Rising : ℕ → List ℕ → Type 0
+Rising least [] = Unit {0}
+Rising least (x ∷ xs) = (least ≤ x) × Rising (suc x) xs
+
+rising-later : (less least : ℕ) (xs : List ℕ) → less ≤ least → Rising least xs → Rising less xs
+rising-later less least [] le rising = tt
+rising-later less least (x ∷ xs) le rising = (omega (arith, rising.0), rising.1)
+
+built-in-rising : (at : ℕ) (cs : List ClassFile) → Rising at (built_in_from at cs)
+built-in-rising at [] = tt
+built-in-rising at (c ∷ rest) = by (has_built_in_name c) (built-in-rising (at + 1) rest)
+  where
+    by : (b : Bool) → Rising (at + 1) (built_in_from (at + 1) rest) → Rising at (if b then at ∷ built_in_from (at + 1) rest else built_in_from (at + 1) rest)
+    by true h = (omega arith, rising-later (suc at) (at + 1) (built_in_from (at + 1) rest) (omega arith) h)
+    by false h = rising-later at (at + 1) (built_in_from (at + 1) rest) (omega arith) h
+
+above-all : (class : ℕ) (xs : List ℕ) → AllByRecursion (λ x. x < class) xs → is_among class xs ≡ false
+above-all class [] below = refl
+above-all class (x ∷ xs) below = ap (λ b. b || is_among class xs) (ne_eqb class x (λ same. omega (arith, same, below.0))) ∙ above-all class xs below.1
+
+all-above : (least class : ℕ) (xs : List ℕ) → least ≤ class → AllByRecursion (λ x. x < least) xs → AllByRecursion (λ x. x < suc class) (xs ++ class ∷ [])
+all-above least class [] le below = ((let less : class < suc class = omega arith in less), tt)
+all-above least class (x ∷ xs) le below = (omega (arith, below.0), all-above least class xs le below.1)
+
+all-less : (least class : ℕ) (xs : List ℕ) → least ≤ class → AllByRecursion (λ x. x < least) xs → AllByRecursion (λ x. x < class) xs
+all-less least class [] le below = tt
+all-less least class (x ∷ xs) le below = (omega (arith, below.0), all-less least class xs le below.1)
+
+rising-order : (p : Program) (least : ℕ) (first rest : List ℕ) → AreInOrder p first rest → Rising least rest → AllByRecursion (λ x. x < least) first → HasSupertypes p first
+    → IsLoadOrder p first rest
+rising-order p least first [] order rising below above = above
+rising-order p least first (class ∷ rest) order rising below above = (
+  above,
+  above-all class first (all-less least class first rising.0 below),
+  rising-order p (suc class) (first ++ class ∷ []) rest order.1 rising.1 (all-above least class first rising.0 below) (one-more p first class order.0 above),
+)
+
+-- the built-in classes, where each of them stands behind what it needs
+pub before-order : (w : World) → AreInOrder w.program [] (before w).shared.loaded → IsLoadOrder w.program [] (before w).shared.loaded
+before-order w order =
+    rising-order w.program 0 [] (before w).shared.loaded order (built-in-rising 0 w.program.classes) tt
+    (record { superclass = λ c h. absurd (false_true h); interfaces = λ c h. absurd (false_true h) })

@@ -377,22 +377,24 @@ module _ (p : Program) where
 
 -- ---- the run
 
-module _ (w : World) (fit : IsFit w.program) where
-  loads-ranked : (op : Operation) (s : Shared) (o : Operands) → IsRanked w.program s.loaded → IsRanked w.program (s.loaded ++ loads w op s o)
-  loads-ranked op s o ranked = by op
+-- whatever each load keeps is kept
+module _ (w : World) (fit : IsFit w.program) (P : List ℕ → Type 0)
+    (load-keeps : (loaded name : List ℕ) → P loaded → P (load_of w.program loaded name).loaded) where
+  loads-keep : (op : Operation) (s : Shared) (o : Operands) → P s.loaded → P (s.loaded ++ loads w op s o)
+  loads-keep op s o h = by op
     where
-      same : IsRanked w.program (s.loaded ++ [])
-      same = subst (IsRanked w.program) (sym (append-nil s.loaded)) ranked
+      same : P (s.loaded ++ [])
+      same = subst P (sym (append-nil s.loaded)) h
 
-      by : (op : Operation) → IsRanked w.program (s.loaded ++ loads w op s o)
+      by : (op : Operation) → P (s.loaded ++ loads w op s o)
       by (operation.Named n) = resolved (resolves n o) refl
         where
-          resolved : (b : Bool) → resolves n o ≡ b → IsRanked w.program (s.loaded ++ newly_loaded w.program s.loaded n o)
+          resolved : (b : Bool) → resolves n o ≡ b → P (s.loaded ++ newly_loaded w.program s.loaded n o)
           resolved true does =
-              subst (IsRanked w.program) (sym (newly-loaded w.program s.loaded n o does)) (load-ranked w.program s.loaded (resolved_name n) ranked)
+              subst P (sym (newly-loaded w.program s.loaded n o does)) (load-keeps s.loaded (resolved_name n) h)
           resolved false does =
-              subst (IsRanked w.program)
-              (sym (ap (λ (b : Bool). s.loaded ++ (if b then drop (length s.loaded) (load_of w.program s.loaded (resolved_name n)).loaded else [])) does ∙ append-nil s.loaded)) ranked
+              subst P
+              (sym (ap (λ (b : Bool). s.loaded ++ (if b then drop (length s.loaded) (load_of w.program s.loaded (resolved_name n)).loaded else [])) does ∙ append-nil s.loaded)) h
       by (operation.Within i) = same
       by operation.Athrow = same
       by operation.Monitor = same
@@ -402,38 +404,43 @@ module _ (w : World) (fit : IsFit w.program) where
       by (operation.StoreElement k) = same
       by (operation.LdcString units) = same
 
-  at-ranked : (s : State) (f : Frame) (found : Option Instruction) → IsSound w.program s → IsSoundEntry w.program s.shared.loaded (Active f)
-      → (original w.program).at f.version f.place ≡ found → IsRanked w.program s.shared.loaded → IsRanked w.program (steps_at w (original w.program) s f found).after.shared.loaded
-  at-ranked s f None is entry e ranked = ranked
-  at-ranked s f (Some i) is entry e ranked =
+  at-keeps : (s : State) (f : Frame) (found : Option Instruction) → IsSound w.program s → IsSoundEntry w.program s.shared.loaded (Active f)
+      → (original w.program).at f.version f.place ≡ found → P s.shared.loaded → P (steps_at w (original w.program) s f found).after.shared.loaded
+  at-keeps s f None is entry e h = h
+  at-keeps s f (Some i) is entry e h =
       let classes = loads w i.operation s.shared f.operands in
       let ready : State = with_loaded classes s in
       let turn : Turn = steps_by w (original w.program) i ready f (does w i.operation ready.shared f.locals f.operands) in
-      subst (IsRanked w.program)
+      subst P
       (sym (ap (λ (x : State). x.shared.loaded) (loaded-after classes turn) ∙ ((at-goes w fit s f i is entry e).same ∙ with-loaded-is classes s)))
-      (loads-ranked i.operation s.shared f.operands ranked)
+      (loads-keep i.operation s.shared f.operands h)
 
-  on-ranked : (s : State) (ending : Option Ending) (stack : List Entry) → IsSound w.program s → AllByRecursion (IsSoundEntry w.program s.shared.loaded) stack
-      → IsRanked w.program s.shared.loaded → IsRanked w.program (steps_on w (original w.program) s ending stack).after.shared.loaded
-  on-ranked s (Some e) [] is each ranked = ranked
-  on-ranked s (Some e) (f ∷ below) is each ranked = ranked
-  on-ranked s None [] is each ranked = ranked
-  on-ranked s None (Initializing c part ∷ below) is each ranked = ranked
-  on-ranked s None (Active f ∷ below) is each ranked =
-      at-ranked (record s { stack = below }) f ((original w.program).at f.version f.place) (record { shared = is.shared; stack = each.1; main = is.main }) each.0 refl ranked
+  on-keeps : (s : State) (ending : Option Ending) (stack : List Entry) → IsSound w.program s → AllByRecursion (IsSoundEntry w.program s.shared.loaded) stack
+      → P s.shared.loaded → P (steps_on w (original w.program) s ending stack).after.shared.loaded
+  on-keeps s (Some e) [] is each h = h
+  on-keeps s (Some e) (f ∷ below) is each h = h
+  on-keeps s None [] is each h = h
+  on-keeps s None (Initializing c part ∷ below) is each h = h
+  on-keeps s None (Active f ∷ below) is each h =
+      at-keeps (record s { stack = below }) f ((original w.program).at f.version f.place) (record { shared = is.shared; stack = each.1; main = is.main }) each.0 refl h
 
-  main-ranked : (b : Bool) → IsRanked w.program (before w).shared.loaded → IsRanked w.program ((before w).shared.loaded ++ loads_if w b)
-  main-ranked false ranked = subst (IsRanked w.program) (sym (append-nil (before w).shared.loaded)) ranked
-  main-ranked true ranked =
+  main-keeps : (b : Bool) → P (before w).shared.loaded → P ((before w).shared.loaded ++ loads_if w b)
+  main-keeps false h = subst P (sym (append-nil (before w).shared.loaded)) h
+  main-keeps true h =
       let name = unwrap_or (name_at w.program (main_class w.program)) [] in
-      subst (IsRanked w.program) (sym (newly-loaded w.program (before w).shared.loaded (New name) [] refl)) (load-ranked w.program (before w).shared.loaded name ranked)
+      subst P (sym (newly-loaded w.program (before w).shared.loaded (New name) [] refl)) (load-keeps (before w).shared.loaded name h)
 
-  module _ (first : IsRanked w.program (before w).shared.loaded) where
-    pub run-ranked : (start_is : (start w (original w.program)).after.shared.loaded ≡ (before w).shared.loaded ++ main_loads w)
-        → ((n : ℕ) → IsSound w.program (run w n)) → (n : ℕ) → IsRanked w.program (run w n).shared.loaded
-    run-ranked start_is sound zero =
-        subst (λ (a : Turn). IsRanked w.program a.after.shared.loaded) (sym (turn_in-zero w (original w.program)))
-        (subst (IsRanked w.program) (sym start_is) (main-ranked (arguments_fit w.program) first))
-    run-ranked start_is sound (suc n) =
-        subst (λ (a : Turn). IsRanked w.program a.after.shared.loaded) (sym (turn_in-suc w (original w.program) n))
-        (on-ranked (run w n) (run w n).ending (run w n).stack (sound n) (sound n).stack (run-ranked start_is sound n))
+  module _ (first : P (before w).shared.loaded) where
+    pub run-keeps : (start_is : (start w (original w.program)).after.shared.loaded ≡ (before w).shared.loaded ++ main_loads w)
+        → ((n : ℕ) → IsSound w.program (run w n)) → (n : ℕ) → P (run w n).shared.loaded
+    run-keeps start_is sound zero =
+        subst (λ (a : Turn). P a.after.shared.loaded) (sym (turn_in-zero w (original w.program)))
+        (subst P (sym start_is) (main-keeps (arguments_fit w.program) first))
+    run-keeps start_is sound (suc n) =
+        subst (λ (a : Turn). P a.after.shared.loaded) (sym (turn_in-suc w (original w.program) n))
+        (on-keeps (run w n) (run w n).ending (run w n).stack (sound n) (sound n).stack (run-keeps start_is sound n))
+
+pub run-ranked : (w : World) → IsFit w.program → IsRanked w.program (before w).shared.loaded
+    → (start w (original w.program)).after.shared.loaded ≡ (before w).shared.loaded ++ main_loads w
+    → ((n : ℕ) → IsSound w.program (run w n)) → (n : ℕ) → IsRanked w.program (run w n).shared.loaded
+run-ranked w fit = run-keeps w fit (IsRanked w.program) (load-ranked w.program)

@@ -8,6 +8,7 @@ use Rattle.jvm_model.specs.Climbing.{HasBareObject}
 use Rattle.jvm_model.specs.Data.{World}
 use Rattle.jvm_model.specs.Points.{marking_of}
 use Rattle.jvm_model.specs.Programs.{place_of_method}
+use Rattle.jvm_model.specs.Revelation.{IsLoadOrder}
 use Rattle.jvm_model.specs.Run.{before, run, turn}
 use Rattle.jvm_model.specs.Sound.{IsFit}
 use Rattle.jvm_model.specs.Suited.{StaySuited}
@@ -16,8 +17,9 @@ use Rattle.jvm_model.specs.Whole.{HasSoundCodes, IsWhole}
 use Rattle.jvm_model.proofs.CalledRuns.{RunStands, run-sound, run-told, start-loaded}
 use Rattle.jvm_model.proofs.ClosedBy.{closed-by}
 use Rattle.jvm_model.proofs.Library.{library-bare, library-order}
+use Rattle.jvm_model.proofs.LoadOrder.{before-order, load-order}
 use Rattle.jvm_model.proofs.Marked.{suits-run}
-use Rattle.jvm_model.proofs.Ranked.{AreInOrder, none-ranked, order-ranked, ranked-climbs, run-ranked}
+use Rattle.jvm_model.proofs.Ranked.{AreInOrder, none-ranked, order-ranked, ranked-climbs, run-keeps, run-ranked}
 use Rattle.jvm_model.proofs.StandingFrames.{closed-stands, places-stand}
 
 -- What is asked of a program: that it is fit, that nothing stands above java/lang/Object, that the built-in classes stand each behind what it
@@ -49,6 +51,12 @@ module _ (w : World) (is : IsRevealable w) where
 
   pub run-suits : (acts : List Act) → AreFrom 0 acts → (n : ℕ) → StaySuited acts (marking_of acts w) n (trace_before w n) (turn w n).changes
   run-suits acts from = suits-run acts w (operations_of w.program) from calls-told
+
+  -- the classes that are loaded come each once, behind what stands above them
+  pub run-order : (n : ℕ) → IsLoadOrder w.program [] (run w n).shared.loaded
+  run-order =
+      run-keeps w is.fit (IsLoadOrder w.program []) (load-order w.program) (before-order w is.order)
+      (start-loaded w is.fit is.bare (operations_of w.program) is.main) (run-sound w is.fit is.bare (operations_of w.program) is.main)
 
 pub revealable : (w : World) → IsWhole w.program → IsRevealable w
 revealable w is = record {
