@@ -1,6 +1,6 @@
 -- One class more.
 use Rattle.program_gen.proofs.GeneratedClasses.{next-classes, next-formed, next-state}
-use Rattle.program_gen.proofs.generator.generate.Goals as goal
+use Rattle.program_gen.proofs.generator.classes_of.Goals as goal
 
 pub loop-number-preserved : goal.loop-number-preserved
 loop-number-preserved c = (
