@@ -21,3 +21,4 @@ pub mod Giving
 pub mod SeenRuns
 pub mod Headline
 pub mod Credits
+pub mod WorkedTrees
