@@ -114,6 +114,8 @@ pub fn read_image(alloc: Global, bytes: &[u8]) -> Result<ClassFile, ReadError>
     ensures refused { TellsFault result (IsImageFault bytes.now) }
     ensures first_fault { (fault : Fault) → IsImageFault bytes.now fault
         → IsUnless result (Err fault) ReadError.NoMemory }
+    ensures one_fault { HasOneAtMost (IsImageFault bytes.now) }
+    ensures no_fault { AreApart (Spells bytes.now) (IsImageFault bytes.now) }
 {
     image_in(alloc, bytes)
 }

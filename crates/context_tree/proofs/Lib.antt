@@ -18,3 +18,7 @@ pub mod Totals
 pub mod TotalLoop
 pub mod PassedTotals
 pub mod Giving
+pub mod SeenRuns
+pub mod Headline
+pub mod Credits
+pub mod WorkedTrees

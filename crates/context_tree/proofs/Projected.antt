@@ -1,5 +1,5 @@
--- The tree of a run's events is the projection of its activations: what the events tell, one change after another, comes to
--- the paths of the activations and to the path of each step. It holds for any changes of any step.
+-- The tree of a run's events is the projection of its activations, under each marking that suits them: what the events tell, one change
+-- after another, comes to the paths of the activations and to the path of each step. It holds for any changes of any step.
 use Rattle.std.proofs.Common.{◌≡◌, ℕ, zero, suc, ◌<◌, ◌≤◌, Bool, true, false, ◌||◌, List, [], ◌∷◌, ◌++◌, length, filter, Option, Some, None, option_and_then, is_some, slice_get, slice_set, if◌then◌else◌, refl, sym, ap, ap₂, subst, ◌∙◌, arith}
 use Rattle.std.specs.Option.{option_map_or}
 use Rattle.std.proofs.lemmas.Bool.{cond-true, cond-false, ne_eqb}
@@ -9,17 +9,19 @@ use Rattle.jvm_model.specs.declared.event.Act.{Act}
 use Rattle.jvm_model.specs.declared.event.Event.{Event}
 use Rattle.jvm_model.specs.declared.event.EventKind.{EventKind}
 use Rattle.jvm_model.specs.declared.event.EventKind.TheVariants as kind
-use Rattle.jvm_model.specs.declared.event.Mark.TheVariants.{Plain, Root}
+use Rattle.jvm_model.specs.declared.event.Mark.{Mark}
+use Rattle.jvm_model.specs.declared.event.Mark.TheVariants.{Off, Plain, Root}
 use Rattle.jvm_model.specs.Paths.{is_outside, is_inside, contexts_of}
 use Rattle.jvm_model.specs.Data.{World, Change, Loads, Began, Left, Unwound}
 use Rattle.jvm_model.specs.Run.{turn, run}
 use Rattle.jvm_model.specs.Originals.{original}
-use Rattle.jvm_model.specs.Activations.{Activation, Trace, no_trace, current, with_begin, without_current, with_end, changed, all_changed, trace, trace_in-zero, trace_in-suc}
-use Rattle.jvm_model.specs.Projection.{is_selected, paths_of, path_at, who, paths_made, paths_made-zero, paths_made-suc, projection}
-use Rattle.jvm_model.specs.EventLists.{begin_events, end_events, end_of, told, all_told, step_events, events_of, events_of-zero, events_of-suc, full_marking}
-use Rattle.jvm_model.proofs.Chains.{IsBelow, is_inside-cons, path_in, paths_of-push, paths_of-ended, path_at-push, path_at-last, path_at-found}
+use Rattle.jvm_model.specs.Activations.{Activation, Trace, no_trace, current, with_begin, without_current, with_end, changed, all_changed, trace, trace_before, trace_in-zero, trace_in-suc}
+use Rattle.jvm_model.specs.Projection.{is_root, is_selected, paths_of, path_at, who, paths_made, paths_made-zero, paths_made-suc, projection}
+use Rattle.jvm_model.specs.EventLists.{Marking, begin_events, end_events, end_of, told, all_told, step_events, events_of, events_of-zero, events_of-suc, full_marking}
+use Rattle.jvm_model.proofs.Chains.{slice_get_at, IsBelow, is_inside-cons, path_in, paths_of-push, paths_of-ended, path_at-push, path_at-last, path_at-found}
 use Rattle.jvm_model.proofs.Traces.{IsLive, AreLive, IsTrace, no_trace-is, trace_in-is, changed-keeps, current-below, ended_in, ended_at-found}
 use Rattle.context_tree.specs.Profiles.{parent_path}
+use Rattle.jvm_model.specs.Suited.{Suits, AreSuited, StaySuited}
 use Rattle.context_tree.specs.Counts.{path_by, path_after, opens, paths_opened, paths_stepped, counted, AreInOrder}
 use Rattle.context_tree.proofs.ProjectedCounts.{open_after, AllAt, open_after-append, paths_opened-append, AreInOrder-later, AreInOrder-append, stepped-at, stepped-same, stepped-more, contexts_of-inside}
 
@@ -31,7 +33,7 @@ parent_path-push [] m = refl
 parent_path-push (n ∷ []) m = refl
 parent_path-push (n ∷ k ∷ path) m = ap (λ rest. n ∷ rest) (parent_path-push (k ∷ path) m)
 
-is_inside-push : (path : List ℕ) (m : ℕ) → is_inside (path ++ m ∷ []) ≡ true
+pub is_inside-push : (path : List ℕ) (m : ℕ) → is_inside (path ++ m ∷ []) ≡ true
 is_inside-push [] m = is_inside-cons m []
 is_inside-push (n ∷ path) m = is_inside-cons n (path ++ m ∷ [])
 
@@ -43,7 +45,7 @@ abbrev entry : ℕ → ℕ → Bool → List Event
 entry step method root = begin_events step method (if root then Root else Plain)
 
 -- the path of an activation by its parent's, where it is a root or not
-abbrev gone_on : ℕ → Bool → List ℕ → List ℕ
+abbrev pub gone_on : ℕ → Bool → List ℕ → List ℕ
 gone_on method root path = if root || is_inside path then path ++ method ∷ [] else []
 
 entry-at : (step method : ℕ) (root : Bool) → AllAt step (entry step method root)
@@ -76,16 +78,39 @@ gone_back method true path = parent_path-push path method
 gone_back method false [] = refl
 gone_back method false (m ∷ path) = ap parent_path (cond-true (is_inside (m ∷ path)) ((m ∷ path) ++ method ∷ []) [] (is_inside-cons m path)) ∙ parent_path-push (m ∷ path) method
 
+-- ---- one event under any marking
+
+-- It tells as under the full marking, or is outside and tells nothing.
+pub data Telling (method : ℕ) (root : Bool) (path : List ℕ) (mark : Mark) : Type 0 where
+  in_full : mark ≡ (if root then Root else Plain) → Telling method root path mark
+  outside : mark ≡ Off → gone_on method root path ≡ [] → path ≡ [] → Telling method root path mark
+
+off_root : Off ≡ Root → ⊥
+off_root e = cc
+
+plain_root : Plain ≡ Root → ⊥
+plain_root e = cc
+
+pub telling : (method : ℕ) (root : Bool) (path : List ℕ) (mark : Mark) → Suits root (gone_on method root path) mark → Telling method root path mark
+telling method true path mark suits = in_full (suits.roots refl)
+telling method false path Root suits = absurd (let no : false ≡ true → ⊥ = λ e. cc in no (suits.only refl))
+telling method false path Plain suits = in_full refl
+telling method false [] Off suits = outside refl refl refl
+telling method false (m ∷ path) Off suits =
+    let on = (m ∷ path) ++ method ∷ [] in
+    let goes_on : gone_on method false (m ∷ path) ≡ on = cond-true (is_inside (m ∷ path)) on [] (is_inside-cons m path) in
+    absurd (suits.inside (ap is_inside goes_on ∙ is_inside-push (m ∷ path) method) refl)
+
 -- ---- one change
 
 -- the open path after these events: that of the current activation
-abbrev open_of : List Act → Trace → List ℕ
+abbrev pub open_of : List Act → Trace → List ℕ
 open_of acts t = path_at acts t.activations (current t.live)
 
 -- The events of a step lead from one trace to another.
-record Follows (acts : List Act) (step : ℕ) (t after : Trace) (events : List Event) : Type 0 where
+pub record Follows (acts : List Act) (step : ℕ) (t after : Trace) (events : List Event) : Type 0 where
   at : AllAt step events
-  path : open_after (open_of acts t) events ≡ open_of acts after
+  pub path : open_after (open_of acts t) events ≡ open_of acts after
   opened : filter is_inside (paths_of acts after.activations) ≡ filter is_inside (paths_of acts t.activations) ++ paths_opened (open_of acts t) events
   longer : length t.activations ≤ length after.activations
   kept : (number : Option ℕ) → IsBelow (length t.activations) number → path_at acts after.activations number ≡ path_at acts t.activations number
@@ -113,6 +138,29 @@ begin-follows acts step method t =
       kept = path_at-push acts t.activations a;
     }
 
+-- nothing is told outside
+begin_outside-follows : (acts : List Act) (step method : ℕ) (t : Trace) → gone_on method (is_selected acts step method) (open_of acts t) ≡ [] → open_of acts t ≡ []
+    → Follows acts step t (with_begin step method t) []
+begin_outside-follows acts step method t none empty =
+    let a : Activation = record { method = method; parent = current t.live; begin = step; «end» = None } in
+    let paths = paths_of acts t.activations in
+    record {
+      at = tt;
+      path = empty ∙ (sym none ∙ sym (path_at-last acts t.activations a));
+      opened = ap (filter is_inside) (paths_of-push acts t.activations a) ∙ (filter-append is_inside paths (gone_on method (is_selected acts step method) (open_of acts t) ∷ [])
+          ∙ ap (λ path. filter is_inside paths ++ filter is_inside (path ∷ [])) none);
+      longer = omega (arith, length_push t.activations a);
+      kept = path_at-push acts t.activations a;
+    }
+
+begins-follows : (acts : List Act) (step method : ℕ) (t : Trace) (mark : Mark) → Suits (is_selected acts step method) (gone_on method (is_selected acts step method) (open_of acts t)) mark
+    → Follows acts step t (with_begin step method t) (begin_events step method mark)
+begins-follows acts step method t mark suits = by (telling method (is_selected acts step method) (open_of acts t) mark suits) where
+  by : Telling method (is_selected acts step method) (open_of acts t) mark → Follows acts step t (with_begin step method t) (begin_events step method mark)
+  by (in_full e) = subst (λ m. Follows acts step t (with_begin step method t) (begin_events step method m)) (sym e) (begin-follows acts step method t)
+  by (outside e none empty) =
+      subst (λ m. Follows acts step t (with_begin step method t) (begin_events step method m)) (sym e) (begin_outside-follows acts step method t none empty)
+
 -- An event of this kind goes back to the path before.
 record GoesBack (k : EventKind) : Type 0 where
   back : (method : ℕ) (path : List ℕ) → path_by k method path ≡ parent_path path
@@ -123,6 +171,15 @@ leave-back = record { back = λ method path. refl; none = λ path. refl }
 
 unwind-back : GoesBack kind.Unwind
 unwind-back = record { back = λ method path. refl; none = λ path. refl }
+
+-- the open path is the current activation's own, gone on from that of the one that invoked it
+own-path : (acts : List Act) (t : Trace) (number : ℕ) (rest : List ℕ) → t.live ≡ number ∷ rest → (is : IsLive t.activations number rest)
+    → open_of acts t ≡ gone_on is.activation.method (is_selected acts is.activation.begin is.activation.method) (path_at acts t.activations (current rest))
+own-path acts t number rest live one =
+    let a = one.activation in
+    ap (λ numbers. path_at acts t.activations (current numbers)) live
+    ∙ (path_at-found acts t.activations number a one.found (subst (IsBelow number) (sym one.invoked) one.earlier)
+    ∙ ap (gone_on a.method (is_selected acts a.begin a.method)) (ap (path_at acts t.activations) one.invoked))
 
 end_at-follows : (acts : List Act) (k : EventKind) → GoesBack k → (step : ℕ) (t : Trace) (number : ℕ) (rest : List ℕ) → t.live ≡ number ∷ rest → (is : IsLive t.activations number rest)
     → Follows acts step t (record { activations = slice_set t.activations number (ended_in step is.activation); live = rest }) (record { kind = k; method = is.activation.method; clock = step } ∷ [])
@@ -143,26 +200,61 @@ end_at-follows acts k goes step t number rest live one =
       kept = λ index below. ap (λ paths. path_in paths index) same;
     }
 
-end-follows : (acts : List Act) (k : EventKind) → GoesBack k → (step : ℕ) (t : Trace) → IsTrace t → Follows acts step t (with_end step t) (end_of (full_marking acts) k step t)
-end-follows acts k goes step t is = ends t.live refl is where
+end_outside-follows : (acts : List Act) (k : EventKind) (step : ℕ) (t : Trace) (number : ℕ) (rest : List ℕ) → t.live ≡ number ∷ rest → (is : IsLive t.activations number rest)
+    → gone_on is.activation.method (is_selected acts is.activation.begin is.activation.method) (path_at acts t.activations (current rest)) ≡ []
+    → path_at acts t.activations (current rest) ≡ []
+    → Follows acts step t (record { activations = slice_set t.activations number (ended_in step is.activation); live = rest }) []
+end_outside-follows acts k step t number rest live one none empty =
+    let a = one.activation in
+    let same : paths_of acts (slice_set t.activations number (ended_in step a)) ≡ paths_of acts t.activations = paths_of-ended acts t.activations number a (Some step) one.found in
+    let on : open_of acts t ≡ gone_on a.method (is_selected acts a.begin a.method) (path_at acts t.activations (current rest)) = own-path acts t number rest live one in
+    record {
+      at = tt;
+      path = on ∙ (none ∙ (sym empty ∙ ap (λ paths. path_in paths (current rest)) (sym same)));
+      opened = ap (filter is_inside) same ∙ sym (append-nil (filter is_inside (paths_of acts t.activations)));
+      longer = omega (arith, length-set t.activations number (ended_in step a));
+      kept = λ index below. ap (λ paths. path_in paths index) same;
+    }
+
+end-follows : (acts : List Act) (marking : Marking) (k : EventKind) → GoesBack k → (step : ℕ) (t : Trace) → IsTrace t → AreSuited acts marking t.activations
+    → Follows acts step t (with_end step t) (end_of marking k step t)
+end-follows acts marking k goes step t is suited = ends t.live refl is where
   told_of : Option Activation → List Event
-  told_of found = option_map_or (λ (a : Activation). end_events k step a.method (full_marking acts a.begin a.method)) found []
+  told_of found = option_map_or (λ (a : Activation). end_events k step a.method (marking a.begin a.method)) found []
 
   ends : (live : List ℕ) → t.live ≡ live → AreLive t.activations live → Follows acts step t (without_current step live t) (told_of (option_and_then (slice_get t.activations) (current live)))
   ends [] e are = same-follows acts step t
   ends (number ∷ rest) e are =
       let a = are.0.activation in
-      let told_is : told_of (slice_get t.activations number) ≡ record { kind = k; method = a.method; clock = step } ∷ [] =
-      ap told_of are.0.found ∙ exit-is k step a.method (is_selected acts a.begin a.method) in
-      subst (Follows acts step t (without_current step (number ∷ rest) t)) (sym told_is)
-      (subst (λ (activations : List Activation). Follows acts step t (record { activations = activations; live = rest }) (record { kind = k; method = a.method; clock = step } ∷ []))
-      (sym (ended_at-found step number t.activations a are.0.found)) (end_at-follows acts k goes step t number rest e are.0))
+      let root = is_selected acts a.begin a.method in
+      let path = path_at acts t.activations (current rest) in
+      let mark = marking a.begin a.method in
+      let after : Trace = record { activations = slice_set t.activations number (ended_in step a); live = rest } in
+      let own : path_at acts t.activations (Some number) ≡ gone_on a.method root path = ap (λ numbers. path_at acts t.activations (current numbers)) (sym e) ∙ own-path acts t number rest e are.0 in
+      let suits : Suits root (gone_on a.method root path) mark = subst (λ q. Suits root q mark) own (suited number a are.0.found) in
+      subst (Follows acts step t (without_current step (number ∷ rest) t)) (sym (ap told_of are.0.found))
+      (subst (λ (activations : List Activation). Follows acts step t (record { activations = activations; live = rest }) (end_events k step a.method mark))
+      (sym (ended_at-found step number t.activations a are.0.found)) (by a root path mark after (telling a.method root path mark suits)
+      (end_at-follows acts k goes step t number rest e are.0) (λ none empty. end_outside-follows acts k step t number rest e are.0 none empty)))
+    where
+      by : (a : Activation) (root : Bool) (path : List ℕ) (mark : Mark) (after : Trace) → Telling a.method root path mark
+          → Follows acts step t after (record { kind = k; method = a.method; clock = step } ∷ [])
+          → (gone_on a.method root path ≡ [] → path ≡ [] → Follows acts step t after [])
+          → Follows acts step t after (end_events k step a.method mark)
+      by a root path mark after (in_full e) told none =
+          subst (λ m. Follows acts step t after (end_events k step a.method m)) (sym e) (subst (Follows acts step t after) (sym (exit-is k step a.method root)) told)
+      by a root path mark after (outside e gone empty) told none = subst (λ m. Follows acts step t after (end_events k step a.method m)) (sym e) (none gone empty)
 
-changed-follows : (acts : List Act) (step : ℕ) (t : Trace) (c : Change) → IsTrace t → Follows acts step t (changed step t c) (told (full_marking acts) step t c)
-changed-follows acts step t (Loads classes) is = same-follows acts step t
-changed-follows acts step t (Began method) is = begin-follows acts step method t
-changed-follows acts step t Left is = end-follows acts kind.Leave leave-back step t is
-changed-follows acts step t Unwound is = end-follows acts kind.Unwind unwind-back step t is
+pub changed-follows : (acts : List Act) (marking : Marking) (step : ℕ) (t : Trace) (c : Change) → IsTrace t → AreSuited acts marking t.activations
+    → AreSuited acts marking (changed step t c).activations → Follows acts step t (changed step t c) (told marking step t c)
+changed-follows acts marking step t (Loads classes) is suited then_suited = same-follows acts step t
+changed-follows acts marking step t (Began method) is suited then_suited =
+    let a : Activation = record { method = method; parent = current t.live; begin = step; «end» = None } in
+    begins-follows acts step method t (marking step method)
+    (subst (λ q. Suits (is_selected acts step method) q (marking step method)) (path_at-last acts t.activations a)
+    (then_suited (length t.activations) a (slice_get_at t.activations a [])))
+changed-follows acts marking step t Left is suited then_suited = end-follows acts marking kind.Leave leave-back step t is suited
+changed-follows acts marking step t Unwound is suited then_suited = end-follows acts marking kind.Unwind unwind-back step t is suited
 
 -- ---- all changes of a step
 
@@ -187,12 +279,18 @@ then-follows acts step t middle after events more first second = record {
   kept = λ number below. second.kept number (IsBelow-longer (length t.activations) (length middle.activations) number first.longer below) ∙ first.kept number below;
 }
 
-all_changed-follows : (acts : List Act) (step : ℕ) (t : Trace) (changes : List Change) → IsTrace t → Follows acts step t (all_changed step t changes) (all_told (full_marking acts) step t changes)
-all_changed-follows acts step t [] is = same-follows acts step t
-all_changed-follows acts step t (c ∷ more) is =
+first_suited : (acts : List Act) (marking : Marking) (step : ℕ) (t : Trace) (changes : List Change) → StaySuited acts marking step t changes → AreSuited acts marking t.activations
+first_suited acts marking step t [] stay = stay
+first_suited acts marking step t (c ∷ more) stay = stay.0
+
+all_changed-follows : (acts : List Act) (marking : Marking) (step : ℕ) (t : Trace) (changes : List Change) → IsTrace t → StaySuited acts marking step t changes
+    → Follows acts step t (all_changed step t changes) (all_told marking step t changes)
+all_changed-follows acts marking step t [] is stay = same-follows acts step t
+all_changed-follows acts marking step t (c ∷ more) is stay =
     let next = changed step t c in
-    then-follows acts step t next (all_changed step next more) (told (full_marking acts) step t c) (all_told (full_marking acts) step next more)
-    (changed-follows acts step t c is) (all_changed-follows acts step next more (changed-keeps step t c is))
+    then-follows acts step t next (all_changed step next more) (told marking step t c) (all_told marking step next more)
+    (changed-follows acts marking step t c is stay.0 (first_suited acts marking step next more stay.1))
+    (all_changed-follows acts marking step next more (changed-keeps step t c is) stay.1)
 
 -- ---- all steps so far
 
@@ -216,52 +314,78 @@ step-agrees acts n t after events more agrees follows = record {
   order = AreInOrder-append 0 events more (suc n) (AreInOrder-later 0 events n agrees.order) follows.at;
 }
 
--- the trace after the start and after each step goes on from the one before
-start-follows : (acts : List Act) (w : World) → Follows acts 0 no_trace (trace w 0) (step_events (full_marking acts) w 0)
-start-follows acts w = subst (λ after. Follows acts 0 no_trace after (step_events (full_marking acts) w 0)) (sym (trace_in-zero w (original w.program)))
-    (all_changed-follows acts 0 no_trace (turn w 0).changes no_trace-is)
+-- behind each change of each step
+abbrev pub SuitsRun : List Act → Marking → World → Type 0
+SuitsRun acts marking w = (n : ℕ) → StaySuited acts marking n (trace_before w n) (turn w n).changes
 
-step-follows : (acts : List Act) (w : World) (n : ℕ) → Follows acts (suc n) (trace w n) (trace w (suc n)) (step_events (full_marking acts) w (suc n))
-step-follows acts w n = subst (λ after. Follows acts (suc n) (trace w n) after (step_events (full_marking acts) w (suc n))) (sym (trace_in-suc w (original w.program) n))
-    (all_changed-follows acts (suc n) (trace w n) (turn w (suc n)).changes (trace_in-is w (original w.program) n))
+module _ (acts : List Act) (marking : Marking) (w : World) (suited : SuitsRun acts marking w) where
+  start-follows : Follows acts 0 no_trace (trace w 0) (step_events marking w 0)
+  start-follows = subst (λ after. Follows acts 0 no_trace after (step_events marking w 0)) (sym (trace_in-zero w (original w.program)))
+      (all_changed-follows acts marking 0 no_trace (turn w 0).changes no_trace-is (suited 0))
 
-run-agrees : (acts : List Act) (w : World) (n : ℕ) → Agrees acts n (trace w n) (events_of (full_marking acts) w n)
-run-agrees acts w zero = subst (Agrees acts 0 (trace w 0)) (sym (events_of-zero (full_marking acts) w))
-    (start-agrees acts (trace w 0) (step_events (full_marking acts) w 0) (start-follows acts w))
-run-agrees acts w (suc n) = subst (Agrees acts (suc n) (trace w (suc n))) (sym (events_of-suc (full_marking acts) w n))
-    (step-agrees acts n (trace w n) (trace w (suc n)) (events_of (full_marking acts) w n) (step_events (full_marking acts) w (suc n))
-    (run-agrees acts w n) (step-follows acts w n))
+  step-follows : (n : ℕ) → Follows acts (suc n) (trace w n) (trace w (suc n)) (step_events marking w (suc n))
+  step-follows n = subst (λ after. Follows acts (suc n) (trace w n) after (step_events marking w (suc n))) (sym (trace_in-suc w (original w.program) n))
+      (all_changed-follows acts marking (suc n) (trace w n) (turn w (suc n)).changes (trace_in-is w (original w.program) n) (suited (suc n)))
 
--- While the run goes on, each step is made in the path that is open before it.
-stepped-made : (acts : List Act) (w : World) (n : ℕ) → ((m : ℕ) → m < n → is_some (run w m).ending ≡ false)
-    → paths_stepped [] 0 (events_of (full_marking acts) w n) n ≡ paths_made acts w n
-stepped-made acts w zero on = ap (λ events. paths_stepped [] 0 events 0) (events_of-zero (full_marking acts) w)
-    ∙ (stepped-at [] 0 (step_events (full_marking acts) w 0) 0 (start-follows acts w).at ∙ sym (paths_made-zero acts w))
-stepped-made acts w (suc n) on =
-    let before = events_of (full_marking acts) w n in
-    let t = trace w n in
-    let after = trace w (suc n) in
-    let agrees = run-agrees acts w n in
-    let follows = step-follows acts w n in
-    let made : who w (suc n) ≡ current t.live = cond-false (is_some (run w n).ending) None (current t.live) (on n (omega arith)) in
-    let mover : path_at acts after.activations (who w (suc n)) ≡ open_of acts t = ap (path_at acts after.activations) made
-    ∙ follows.kept (current t.live) (current-below t.activations t.live (trace_in-is w (original w.program) n)) in
-    ap (λ events. paths_stepped [] 0 events (suc n)) (events_of-suc (full_marking acts) w n)
-    ∙ (stepped-same [] 0 before (step_events (full_marking acts) w (suc n)) (suc n) follows.at
-    ∙ (stepped-more [] 0 before n agrees.order
-    ∙ (ap₂ (λ paths path. paths ++ path ∷ []) (stepped-made acts w n (λ m le. on m (omega arith))) (agrees.path ∙ sym mover)
-    ∙ sym (paths_made-suc acts w n))))
+  run-agrees : (n : ℕ) → Agrees acts n (trace w n) (events_of marking w n)
+  run-agrees zero = subst (Agrees acts 0 (trace w 0)) (sym (events_of-zero marking w))
+      (start-agrees acts (trace w 0) (step_events marking w 0) (start-follows))
+  run-agrees (suc n) = subst (Agrees acts (suc n) (trace w (suc n))) (sym (events_of-suc marking w n))
+      (step-agrees acts n (trace w n) (trace w (suc n)) (events_of marking w n) (step_events marking w (suc n))
+      (run-agrees n) (step-follows n))
 
--- ---- the theorem
+  -- While the run goes on, each step is made in the path that is open before it.
+  stepped-made : (n : ℕ) → ((m : ℕ) → m < n → is_some (run w m).ending ≡ false)
+      → paths_stepped [] 0 (events_of marking w n) n ≡ paths_made acts w n
+  stepped-made zero on = ap (λ events. paths_stepped [] 0 events 0) (events_of-zero marking w)
+      ∙ (stepped-at [] 0 (step_events marking w 0) 0 (start-follows).at ∙ sym (paths_made-zero acts w))
+  stepped-made (suc n) on =
+      let before = events_of marking w n in
+      let t = trace w n in
+      let after = trace w (suc n) in
+      let agrees = run-agrees n in
+      let follows = step-follows n in
+      let made : who w (suc n) ≡ current t.live = cond-false (is_some (run w n).ending) None (current t.live) (on n (omega arith)) in
+      let mover : path_at acts after.activations (who w (suc n)) ≡ open_of acts t = ap (path_at acts after.activations) made
+      ∙ follows.kept (current t.live) (current-below t.activations t.live (trace_in-is w (original w.program) n)) in
+      ap (λ events. paths_stepped [] 0 events (suc n)) (events_of-suc marking w n)
+      ∙ (stepped-same [] 0 before (step_events marking w (suc n)) (suc n) follows.at
+      ∙ (stepped-more [] 0 before n agrees.order
+      ∙ (ap₂ (λ paths path. paths ++ path ∷ []) (stepped-made n (λ m le. on m (omega arith))) (agrees.path ∙ sym mover)
+      ∙ sym (paths_made-suc acts w n))))
 
--- The clocks of a run's events do not fall, and none is above the number of steps.
-pub in_order : (acts : List Act) (w : World) (n : ℕ) → AreInOrder 0 (events_of (full_marking acts) w n) n
-in_order acts w n = (run-agrees acts w n).order
+  -- ---- the theorem
 
--- The contexts that are counted from the events of a run are the projection of its activations, as long as the run has not
--- ended before these steps.
-pub projected : (acts : List Act) (w : World) (n : ℕ) → ((m : ℕ) → m < n → is_some (run w m).ending ≡ false)
+  -- The clocks of a run's events do not fall, and none is above the number of steps.
+  pub in_order : (n : ℕ) → AreInOrder 0 (events_of marking w n) n
+  in_order n = (run-agrees n).order
+
+  -- The contexts that are counted from the events of a run are the projection of its activations, as long as the run has not
+  -- ended before these steps.
+  pub projected : (n : ℕ) → ((m : ℕ) → m < n → is_some (run w m).ending ≡ false)
+      → counted (events_of marking w n) n ≡ projection acts w n
+  projected n on =
+      ap₂ contexts_of (run-agrees n).opened (stepped-made n on)
+      ∙ contexts_of-inside (paths_of acts (trace w n).activations) (paths_made acts w n)
+
+-- ---- the full marking is one that suits
+
+full-suits : (acts : List Act) (root : Bool) (path : List ℕ) → Suits root path (if root then Root else Plain)
+full-suits acts true path = record { roots = λ e. refl; only = λ e. refl; inside = λ within off. let no : Root ≡ Off → ⊥ = λ e. cc in no off }
+full-suits acts false path = record {
+  roots = λ e. absurd (let no : false ≡ true → ⊥ = λ e. cc in no e);
+  only = λ e. absurd (plain_root e);
+  inside = λ within off. let no : Plain ≡ Off → ⊥ = λ e. cc in no off;
+}
+
+full-stays : (acts : List Act) (step : ℕ) (t : Trace) (changes : List Change) → StaySuited acts (full_marking acts) step t changes
+full-stays acts step t [] = λ number a found. full-suits acts (is_root acts a) (path_at acts t.activations (Some number))
+full-stays acts step t (c ∷ more) = ((λ number a found. full-suits acts (is_root acts a) (path_at acts t.activations (Some number))), full-stays acts step (changed step t c) more)
+
+-- where every selected method is a root and every other method is marked too
+pub projected-full : (acts : List Act) (w : World) (n : ℕ) → ((m : ℕ) → m < n → is_some (run w m).ending ≡ false)
     → counted (events_of (full_marking acts) w n) n ≡ projection acts w n
-projected acts w n on =
-    ap₂ contexts_of (run-agrees acts w n).opened (stepped-made acts w n on)
-    ∙ contexts_of-inside (paths_of acts (trace w n).activations) (paths_made acts w n)
+projected-full acts w n on = projected acts (full_marking acts) w (λ k. full-stays acts k (trace_before w k) (turn w k).changes) n on
+
+pub in_order-full : (acts : List Act) (w : World) (n : ℕ) → AreInOrder 0 (events_of (full_marking acts) w n) n
+in_order-full acts w n = in_order acts (full_marking acts) w (λ k. full-stays acts k (trace_before w k) (turn w k).changes) n

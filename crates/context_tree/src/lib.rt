@@ -8,6 +8,6 @@ mod node;
 mod table;
 mod tree;
 
-pub use laws::folds_to_counts;
+pub use laws::{folds_to_counts, session_sees, tree_is_projection};
 pub use node::Node;
 pub use tree::Tree;

@@ -1,6 +1,7 @@
 //! The tree: nodes in order of first begin, and a cursor at the open path.
 
-ghost use Rattle.std.specs.Prelude.{◌≡◌, ◌<◌, ◌≤◌, ◌+◌, ◌-◌, ◌^◌, Some, length, slice_get, OnOk, OnErr, IfOk, IfSome};
+ghost use Rattle.std.specs.Prelude.{ℕ, ◌≡◌, ◌<◌, ◌≤◌, ◌+◌, ◌-◌, ◌^◌, Some, length, slice_get, OnOk, OnErr, IfOk, IfSome};
+ghost use Rattle.jvm_model.specs.declared.event.Event.{Event as TheEvent};
 ghost use Rattle.context_tree.specs.Profiles.{blank, taken, credited, calls_of, nodes_of, child_at, path_of_node, total_of, totals_of};
 
 use crate::children::{ChildLists, Children};
@@ -62,10 +63,13 @@ impl Tree {
         Ok(())
     }
 
-    /// Gives the steps since the last clock to the open path.
+    /// Gives the steps since the last clock to the open path. Credits add up, and one between two events changes nothing of
+    /// what the tree is behind them.
     pub fn credit(&mut self, clock: u64)
         requires { self.old.clock ≤ clock }
         ensures credited { self.new ≡ credited clock self.old }
+        ensures adds { (later : ℕ) → clock ≤ later → credited later self.new ≡ credited later self.old }
+        ensures unseen { (e : TheEvent) → clock ≤ e.clock → taken self.new e ≡ taken self.old e }
         ensures calls { calls_of self.new ≡ calls_of self.old }
     {
         let node = self.table.open;

@@ -55,7 +55,7 @@ deselect moment method = record { moment = moment; select = false; method = meth
 
 -- ---- main prints f(41): f is method 0, main method 1
 
-abbrev p1 : Sketches
+abbrev pub p1 : Sketches
 p1 = record {
   classes = alone (codes "P1") (
       routine (member (codes "f") (codes "(I)I")) 2 1 (at 0 1 (iload 0) ∷ at 1 1 (int 1) ∷ at 2 1 (Within (BinaryOfInts Iadd)) ∷ at 3 1 ireturn ∷ [])
@@ -111,7 +111,7 @@ p1-between-swaps = refl
 
 -- ---- recursion under deselection: r is method 0, main method 1
 
-abbrev under_deselection : List Act
+abbrev pub under_deselection : List Act
 under_deselection = select 0 0 ∷ deselect 4 0 ∷ []
 
 recursive-swaps : swaps_by under_deselection recursive 19

@@ -1,7 +1,6 @@
 -- What is drawn from state to state is what the places of the draws decide.
-use Rattle.std.proofs.Common.{◌≡◌, ℕ, zero, suc, ◌+◌, ◌*◌, ◌%◌, refl, ap, sym, ◌∙◌, subst, arith}
+use Rattle.std.proofs.Common.{◌≡◌, ℕ, zero, suc, ◌+◌, ◌*◌, ◌%◌, refl, ap, ◌∙◌, arith}
 use Rattle.program_gen.specs.declared.rows.ClassName.{ClassName}
-use Rattle.program_gen.specs.declared.rows.ClassName.TheVariants.{Object, Numbered}
 use Rattle.program_gen.specs.declared.rows.Choices.{Choices}
 use Rattle.program_gen.specs.Draws.{next_state, number_of, state_at, draw_at, superclass_of, choices_of}
 use Rattle.program_gen.specs.Chains.{state_above, superclass_from, state_behind, choices_from}

@@ -6,3 +6,5 @@ pub mod MadeMethods
 pub mod MadeClasses
 pub mod DrawnChoices
 pub mod GeneratedClasses
+pub mod GeneratedFacts
+pub mod DistinctNames

@@ -1,9 +1,9 @@
 -- The methods of a class, and the pool behind them.
-use Rattle.std.proofs.Common.{◌≡◌, ℕ, zero, suc, ◌+◌, ◌*◌, ◌<◌, ◌≤◌, ◌^◌, List, [], ◌∷◌, ◌++◌, length, Option, Some, None, slice_get, refl, ap, sym, ◌∙◌, subst, length-append, arith, lit<}
+use Rattle.std.proofs.Common.{◌≡◌, ℕ, ◌+◌, ◌*◌, ◌<◌, ◌≤◌, ◌^◌, List, [], ◌∷◌, ◌++◌, length, Option, Some, slice_get, refl, ap, sym, subst, length-append, arith, lit<}
 use Rattle.std.specs.Prelude.{codes}
 use Rattle.std.specs.Option.{option_and_then, ok_or}
 use Rattle.std.specs.Result.{result_ok}
-use Rattle.std.specs.List.{AllByRecursion}
+use Rattle.std.specs.List.{AllByRecursion, flat_map}
 use Rattle.const_pool.specs.declared.pool.Const.{Const}
 use Rattle.const_pool.specs.declared.pool.Const.TheVariants.{Utf8}
 use Rattle.const_pool.specs.declared.pool.PoolError.TheVariants.{BadIndex}
@@ -11,14 +11,14 @@ use Rattle.const_pool.specs.declared.class.Member.{Member}
 use Rattle.const_pool.specs.declared.class.CodeAttribute.{CodeAttribute}
 use Rattle.const_pool.specs.declared.class.Attribute.{Attribute}
 use Rattle.const_pool.specs.declared.class.Attribute.TheVariants.{Code}
-use Rattle.const_pool.specs.Pool.{Names, is_utf8, entry_of}
+use Rattle.const_pool.specs.Pool.{is_utf8, entry_of}
 use Rattle.const_pool.specs.References.{named_text, text_entry, ◌>>=◌}
-use Rattle.const_pool.specs.ClassFile.{IsByte, IsCode, IsMember, IsMethodAttribute, code_bytes, code_name}
+use Rattle.const_pool.specs.ClassFile.{IsByte, IsCode, IsMember, IsMethodAttribute, code_bytes, code_name, member_bytes}
 use Rattle.program_gen.specs.declared.rows.MethodRow.{MethodRow}
 use Rattle.program_gen.specs.Names.{member_text, member_descriptor}
 use Rattle.program_gen.specs.Making.{shared, code_from, MethodMade, method_added, MethodsMade, methods_from}
 use Rattle.program_gen.specs.Fits.{FitsMethod}
-use Rattle.program_gen.proofs.Pools.{front, each-push, each-by, names-at, IsGood}
+use Rattle.program_gen.proofs.Pools.{each-push, each-by, names-at, IsGood}
 use Rattle.program_gen.proofs.SharedNames.{Grows, then-grows, at-grown, text-added, member_text-fit, member_descriptor-fit, code-fit}
 use Rattle.program_gen.proofs.MadeCode.{grows-none, grows-wider, code-grows}
 
@@ -185,3 +185,21 @@ length-methods_from (row ∷ rest) pool done =
     let later = length-methods_from rest made.pool (done ++ made.member ∷ []) in
     let one = length-append done (made.member ∷ []) in
     omega (arith, later, one)
+
+-- ---- how many bytes they have
+
+member-bytes : (pool : List Const) (m : Member) → IsMade pool m → length (member_bytes m) ≤ 104
+member-bytes pool m h = subst (λ (list : List Attribute). length (member_bytes (record m { attributes = list })) ≤ 104) (sym h.is) (
+    let whole = length-code_bytes h.stack h.locals h.bytes in
+    let code = code_bytes (code_of h.stack h.locals h.bytes) in
+    let more = length-append code [] in
+    let few = h.few in
+    omega (arith, whole, more, few))
+
+pub members-bytes : (pool : List Const) (ms : List Member) → AllByRecursion (IsMade pool) ms → length (flat_map member_bytes ms) ≤ 104 * length ms
+members-bytes pool [] h = omega arith
+members-bytes pool (m ∷ ms) h =
+    let here = member-bytes pool m h.0 in
+    let rest = members-bytes pool ms h.1 in
+    let both = length-append (member_bytes m) (flat_map member_bytes ms) in
+    omega (arith, both)

@@ -1,12 +1,10 @@
 -- A pool of a gap and entries that take one index each.
-use Rattle.std.proofs.Common.{◌≡◌, ℕ, zero, suc, ◌+◌, ◌<◌, ◌≤◌, ◌^◌, Bool, true, false, List, [], ◌∷◌, ◌++◌, length, Option, Some, None, slice_get, refl, ap, sym, ◌∙◌, subst, arith}
-use Rattle.std.specs.Prelude.{IsTrue, ◌&&◌}
-use Rattle.std.specs.Option.{option_map_or, option_and_then, ok_or}
-use Rattle.std.specs.Result.{result_ok}
-use Rattle.std.specs.List.{AllByRecursion}
+use Rattle.std.proofs.Common.{◌≡◌, ℕ, zero, suc, ◌+◌, ◌<◌, ◌≤◌, ◌*◌, ◌^◌, Bool, true, false, List, [], ◌∷◌, ◌++◌, length, Option, Some, None, slice_get, refl, ap, sym, ◌∙◌, subst, length-append, arith}
+use Rattle.std.specs.Option.{option_map_or}
+use Rattle.std.specs.List.{AllByRecursion, flat_map}
 use Rattle.const_pool.specs.declared.pool.Const.{Const}
 use Rattle.const_pool.specs.declared.pool.Const.TheVariants.{Gap, Utf8, Integer, Float, Long, Double, Class, Text, Field, Method, InterfaceMethod, NameType}
-use Rattle.const_pool.specs.Pool.{IsPool, IsEntry, AreEntries, Names, has_gaps, gaps_due, is_wide}
+use Rattle.const_pool.specs.Pool.{IsPool, IsEntry, AreEntries, Names, has_gaps, gaps_due, is_wide, entry_bytes, pool_bytes}
 
 pub front : {A : Type 0} (xs ys : List A) (k : ℕ) (x : A) → slice_get xs k ≡ Some x → slice_get (xs ++ ys) k ≡ Some x
 front [] ys k x h = absurd cc
@@ -60,6 +58,7 @@ entry-more pool more (NameType n d) h = (h.0, h.1, names-more _ pool more n h.2,
 pub record IsNarrow (pool : List Const) (c : Const) : Type 0 where
   pub entry : IsEntry pool c
   pub narrow : is_wide c ≡ false
+  pub few : length (entry_bytes c) ≤ 258
 
 pub record IsGood (n : ℕ) (pool : List Const) : Type 0 where
   pub entries : List Const
@@ -68,7 +67,7 @@ pub record IsGood (n : ℕ) (pool : List Const) : Type 0 where
   pub count : length pool ≤ n
 
 narrow-more : (pool more : List Const) (c : Const) → IsNarrow pool c → IsNarrow (pool ++ more) c
-narrow-more pool more c h = record { entry = entry-more pool more c h.entry; narrow = h.narrow }
+narrow-more pool more c h = record { entry = entry-more pool more c h.entry; narrow = h.narrow; few = h.few }
 
 pub good-push : (n : ℕ) (pool : List Const) (c : Const) → IsGood n pool → IsNarrow pool c → IsGood (suc n) (pool ++ c ∷ [])
 good-push n pool c g h =
@@ -137,3 +136,21 @@ good-pool n pool h g = record {
 
 pub good-start : IsGood 1 (Gap ∷ [])
 good-start = record { entries = []; is = refl; each = tt; count = omega arith }
+
+-- ---- how many bytes they have
+
+few-bytes : (pool xs : List Const) → AllByRecursion (IsNarrow pool) xs → length (flat_map entry_bytes xs) ≤ 258 * length xs
+few-bytes pool [] h = omega arith
+few-bytes pool (x ∷ xs) h =
+    let here = h.0.few in
+    let rest = few-bytes pool xs h.1 in
+    let both = length-append (entry_bytes x) (flat_map entry_bytes xs) in
+    omega (arith, both)
+
+pub good-bytes : (n : ℕ) (pool : List Const) → IsGood n pool → length (pool_bytes pool) ≤ 2 + 258 * n
+good-bytes n pool g =
+    let count = g.count in
+    let entries = few-bytes pool g.entries g.each in
+    let all : length (flat_map entry_bytes pool) ≡ length (flat_map entry_bytes g.entries) = ap (λ (p : List Const). length (flat_map entry_bytes p)) g.is in
+    let longer : length pool ≡ suc (length g.entries) = ap length g.is in
+    omega (arith, all, longer, entries, count)

@@ -1,5 +1,5 @@
 -- The entries of texts, classes and members.
-use Rattle.std.proofs.Common.{◌≡◌, ℕ, zero, suc, ◌+◌, ◌<◌, ◌≤◌, ◌^◌, Bool, true, false, List, [], ◌∷◌, ◌++◌, length, Option, Some, None, slice_get, refl, ap, sym, ◌∙◌, subst, append_assoc, arith}
+use Rattle.std.proofs.Common.{◌≡◌, ℕ, zero, suc, ◌+◌, ◌<◌, ◌^◌, Bool, true, false, List, [], ◌∷◌, ◌++◌, length, Some, slice_get, refl, ap, sym, ◌∙◌, subst, append_assoc, arith}
 use Rattle.std.specs.Prelude.{◌&&◌, ◌==◌, nat_lt, codes, if◌then◌else◌}
 use Rattle.std.specs.Fmt.{decimal, digits}
 use Rattle.std.specs.List.{list_all, AllByRecursion}
@@ -16,12 +16,12 @@ use Rattle.program_gen.specs.Names.{class_text, member_text, member_descriptor}
 use Rattle.program_gen.specs.Making.{Shared, shared, class_shared, name_type_shared, member_entry, member_shared}
 use Rattle.program_gen.specs.Fits.{FitsName}
 use Rattle.program_gen.proofs.Pools.{front, names-at, IsNarrow, IsGood}
-use Rattle.program_gen.proofs.SharedEntries.{IsShared, shared-holds}
+use Rattle.program_gen.proofs.SharedEntries.{shared-holds}
 
 -- ---- texts
 
 abbrev is_fit : List ℕ → Bool
-is_fit text = list_all (λ unit. nat_lt unit 65536) text && nat_lt (length (modified_utf8 text)) 65536
+is_fit text = list_all (λ unit. nat_lt unit 65536) text && nat_lt (length (modified_utf8 text)) 256
 
 units-fit : (text : List ℕ) → list_all (λ unit. nat_lt unit 65536) text ≡ true → AllByRecursion (λ unit. unit < 2 ^ 16) text
 units-fit [] h = tt
@@ -29,8 +29,9 @@ units-fit (unit ∷ text) h = let parts = and_parts _ _ h in (ltb-true unit 6553
 
 pub text-narrow : (pool : List Const) (text : List ℕ) → is_fit text ≡ true → IsNarrow pool (Utf8 text)
 text-narrow pool text h =
-    let parts = and_parts (list_all (λ unit. nat_lt unit 65536) text) (nat_lt (length (modified_utf8 text)) 65536) h in
-    record { entry = (units-fit text parts.0, ltb-true _ 65536 parts.1); narrow = refl }
+    let parts = and_parts (list_all (λ unit. nat_lt unit 65536) text) (nat_lt (length (modified_utf8 text)) 256) h in
+    let short = ltb-true (length (modified_utf8 text)) 256 parts.1 in
+    record { entry = (units-fit text parts.0, omega (arith, short)); narrow = refl; few = omega (arith, short) }
 
 -- all names with a number below this one are fit
 abbrev are_fit : ℕ → Bool
@@ -113,19 +114,21 @@ pub text-added : (n : ℕ) (pool : List Const) (text : List ℕ) → IsGood n po
 text-added n pool text g h fit = entry-added n pool (Utf8 text) g h (text-narrow pool text fit)
 
 -- a class has its text's index
-pub record HasClass (n : ℕ) (pool : List Const) (s : Shared) : Type 0 where
+pub record HasClass (n : ℕ) (pool : List Const) (text : List ℕ) (s : Shared) : Type 0 where
   pub name : ℕ
+  pub named : slice_get s.pool name ≡ Some (Utf8 text)
   pub added : HasAdded n 2 pool (Class name) s
 
-pub class-added : (n : ℕ) (pool : List Const) (name : ClassName) → IsGood n pool → n < 65000 → FitsName name → HasClass n pool (class_shared pool name)
+pub class-added : (n : ℕ) (pool : List Const) (name : ClassName) → IsGood n pool → n < 65000 → FitsName name → HasClass n pool (class_text name) (class_shared pool name)
 unfolding class_shared
 class-added n pool name g h fits =
     let t = text-added n pool (class_text name) g (omega arith) (class_text-fit name fits) in
     let text = shared pool (Utf8 (class_text name)) in
     let c = entry-added (n + 1) text.pool (Class text.index) t.grows.good (omega arith)
-    (record { entry = (t.small, names-at is_utf8 text.pool text.index _ t.at refl); narrow = refl }) in
+    (record { entry = (t.small, names-at is_utf8 text.pool text.index _ t.at refl); narrow = refl; few = omega arith }) in
     record {
       name = text.index;
+      named = at-grown (n + 1) 1 _ _ text.index _ c.grows t.at;
       added = record { grows = then-grows n 1 1 _ _ _ t.grows c.grows; at = c.at; small = c.small };
     }
 
@@ -144,7 +147,7 @@ name_type-added n pool member g h =
     let both = then-grows n 1 1 _ _ _ a.grows b.grows in
     let name_at = at-grown (n + 1) 1 _ _ name.index _ b.grows a.at in
     let c = entry-added (n + 2) descriptor.pool (NameType name.index descriptor.index) both.good (omega arith)
-    (record { entry = (a.small, b.small, names-at is_utf8 descriptor.pool name.index _ name_at refl, names-at is_utf8 descriptor.pool descriptor.index _ b.at refl); narrow = refl }) in
+    (record { entry = (a.small, b.small, names-at is_utf8 descriptor.pool name.index _ name_at refl, names-at is_utf8 descriptor.pool descriptor.index _ b.at refl); narrow = refl; few = omega arith }) in
     record {
       name = name.index;
       descriptor = descriptor.index;
@@ -156,8 +159,8 @@ member-narrow : (pool : List Const) (op class member : ℕ) → (class < 2 ^ 16)
 member-narrow pool op class member h = by (op == 178)
   where
     by : (b : Bool) → IsNarrow pool (if b then Field class member else Method class member)
-    by true = record { entry = h; narrow = refl }
-    by false = record { entry = h; narrow = refl }
+    by true = record { entry = h; narrow = refl; few = omega arith }
+    by false = record { entry = h; narrow = refl; few = omega arith }
 
 pub record HasMember (n : ℕ) (pool : List Const) (s : Shared) : Type 0 where
   pub entry : Const

@@ -1,8 +1,8 @@
 -- Rows whose class files are class files: their numbers are in the range of their fields, and there are not too many.
-use Rattle.std.specs.Prelude.{ℕ, ◌<◌, ◌≤◌, ◌^◌, List, length}
+use Rattle.std.specs.Prelude.{◌<◌, ◌≤◌, ◌^◌, length}
 use Rattle.std.specs.List.{AllByRecursion}
 use Rattle.program_gen.specs.declared.rows.ClassName.{ClassName}
-use Rattle.program_gen.specs.declared.rows.ClassName.TheVariants.{Object, System, PrintStream, Main, Numbered}
+use Rattle.program_gen.specs.declared.rows.ClassName.TheVariants.{Numbered}
 use Rattle.program_gen.specs.declared.rows.Instruction.{Instruction}
 use Rattle.program_gen.specs.declared.rows.Instruction.TheVariants.{Plain, Byte, Short, OfClass, OfMember}
 use Rattle.program_gen.specs.declared.rows.MethodRow.{MethodRow}

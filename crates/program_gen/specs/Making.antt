@@ -1,6 +1,6 @@
 -- The class file that is made of a row. It is walked as it is written: each text, class and member gets its entry where it
 -- is needed first, behind the entries of its parts, and one that is equal to an earlier one is not made again.
-use Rattle.std.specs.Prelude.{◌≡◌, ℕ, ◌+◌, List, [], ◌∷◌, ◌++◌, length, min, Option, Some, None, Result, IfOk, OnOk, codes, Bool, true, false, ◌&&◌, ◌==◌, if◌then◌else◌}
+use Rattle.std.specs.Prelude.{◌≡◌, ℕ, List, [], ◌∷◌, ◌++◌, length, min, Option, Some, None, Result, IfOk, OnOk, codes, Bool, false, ◌&&◌, ◌==◌, if◌then◌else◌}
 use Rattle.std.specs.Int.{w16, to_be_bytes}
 use Rattle.std.specs.List.{position_from}
 use Rattle.std.specs.Str.{bytes_eq}
@@ -9,7 +9,6 @@ use Rattle.const_pool.specs.declared.pool.Const.{Const}
 use Rattle.const_pool.specs.declared.pool.Const.TheVariants.{Gap, Utf8, Class, Field, Method, NameType}
 use Rattle.const_pool.specs.declared.class.ClassFile.{ClassFile}
 use Rattle.const_pool.specs.declared.class.Member.{Member}
-use Rattle.const_pool.specs.declared.class.Attribute.{Attribute}
 use Rattle.const_pool.specs.declared.class.Attribute.TheVariants.{Code}
 use Rattle.program_gen.specs.declared.rows.ClassName.{ClassName}
 use Rattle.program_gen.specs.declared.rows.MemberName.{MemberName}

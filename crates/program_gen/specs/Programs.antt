@@ -2,7 +2,6 @@
 use Rattle.std.specs.Prelude.{ℕ, zero, suc, List, [], ◌∷◌, ◌++◌}
 use Rattle.program_gen.specs.declared.rows.ClassName.{ClassName}
 use Rattle.program_gen.specs.declared.rows.ClassName.TheVariants.{Object, System, PrintStream, Main, Numbered}
-use Rattle.program_gen.specs.declared.rows.MemberName.{MemberName}
 use Rattle.program_gen.specs.declared.rows.MemberName.TheVariants.{Initializer, Entry, Run, Out, Println}
 use Rattle.program_gen.specs.declared.rows.Instruction.{Instruction}
 use Rattle.program_gen.specs.declared.rows.Instruction.TheVariants.{Plain, Byte, Short, OfClass, OfMember}

@@ -1,9 +1,10 @@
 //! A generated program.
 
-ghost use Rattle.std.specs.Prelude.{◌≡◌, ◌<◌, ◌≤◌, IfOk};
+ghost use Rattle.std.specs.Prelude.{◌≡◌, ◌<◌, ◌≤◌, ◌+◌, length, IfOk};
 ghost use Rattle.std.specs.List.{AllByRecursion};
 ghost use Rattle.const_pool.specs.ClassFile.{IsClassFile};
-ghost use Rattle.program_gen.specs.Generated.{generated};
+ghost use Rattle.program_gen.specs.Generated.{AreNamed, HaveOwnNames, IsShortFile, generated};
+ghost use Rattle.program_gen.specs.Programs.{program_rows};
 
 use crate::draws::draw_choices;
 use crate::making::class_of;
@@ -12,8 +13,8 @@ use const_pool::ClassFile;
 use jf_bytes::NoMemory;
 use std::alloc::Global;
 
-/// The class files of the program that the seed decides: GenMain, and `size` classes that it runs.
-pub fn generate(alloc: Global, seed: u32, size: u32) -> Result<Vec<ClassFile>, NoMemory>
+/// The class files of the program that the seed decides.
+fn classes_of(alloc: Global, seed: u32, size: u32) -> Result<Vec<ClassFile>, NoMemory>
     requires some { 1 ≤ size }
     requires most { size ≤ 200 }
     ensures classes { IfOk result (λ classes. classes.items ≡ generated seed size) }
@@ -28,4 +29,19 @@ pub fn generate(alloc: Global, seed: u32, size: u32) -> Result<Vec<ClassFile>, N
         classes.push(class_of(alloc, &row)?)?;
     }
     Ok(classes)
+}
+
+/// The class files of the program that the seed decides: GenMain, and `size` classes that it runs. Each is one that `read_class`
+/// reads.
+pub fn generate(alloc: Global, seed: u32, size: u32) -> Result<Vec<ClassFile>, NoMemory>
+    requires some { 1 ≤ size }
+    requires most { size ≤ 200 }
+    ensures classes { IfOk result (λ classes. classes.items ≡ generated seed size) }
+    ensures formed { IfOk result (λ classes. AllByRecursion IsClassFile classes.items) }
+    ensures count { IfOk result (λ classes. length classes.items ≡ size + 1) }
+    ensures short { IfOk result (λ classes. AllByRecursion IsShortFile classes.items) }
+    ensures names { IfOk result (λ classes. AreNamed (program_rows seed size) classes.items) }
+    ensures own_names { HaveOwnNames (program_rows seed size) }
+{
+    classes_of(alloc, seed, size)
 }

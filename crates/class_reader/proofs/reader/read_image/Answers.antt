@@ -2,7 +2,7 @@ use Rattle.std.proofs.Common.{arith}
 use Rattle.const_pool.specs.ClassFile.{Spells}
 use Rattle.class_reader.specs.Files.{IsImageFault}
 use Rattle.class_reader.specs.Reading.{image_of}
-use Rattle.class_reader.proofs.Files.{image_spells, spells_image, image_faults, faults_image}
+use Rattle.class_reader.proofs.Files.{image_spells, spells_image, image_faults, faults_image, one_image_fault, no_image_fault}
 use Rattle.class_reader.proofs.FileAnswers.{is_found, is_refused, gives_same}
 use Rattle.class_reader.proofs.reader.read_image.Goals as goal
 
@@ -21,3 +21,9 @@ returns-clause-refused c =
 
 pub returns-clause-first_fault : goal.returns-clause-first_fault
 returns-clause-first_fault c = λ fault h. gives_same c.image_in.result (image_of c.args.bytes.now) _ c.image_in.ensures (faults_image c.args.bytes.now fault h)
+
+pub returns-clause-one_fault : goal.returns-clause-one_fault
+returns-clause-one_fault c = one_image_fault c.args.bytes.now
+
+pub returns-clause-no_fault : goal.returns-clause-no_fault
+returns-clause-no_fault c = no_image_fault c.args.bytes.now

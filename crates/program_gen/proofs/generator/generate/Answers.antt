@@ -1,12 +1,24 @@
--- One class more.
-use Rattle.program_gen.proofs.GeneratedClasses.{next-classes, next-formed, next-state}
+-- What holds of the classes of a generated program.
+use Rattle.std.specs.List.{AllByRecursion}
+use Rattle.program_gen.specs.Generated.{AreNamed, IsShortFile}
+use Rattle.program_gen.specs.Programs.{program_rows}
+use Rattle.std.proofs.Common.{◌≡◌, ◌+◌, length}
+use Rattle.program_gen.proofs.DistinctNames.{own-names}
+use Rattle.program_gen.proofs.GeneratedFacts.{all-of, generated-count, generated-short, generated-named}
 use Rattle.program_gen.proofs.generator.generate.Goals as goal
 
-pub loop-number-preserved : goal.loop-number-preserved
-loop-number-preserved c = (
-  next-classes c.args.seed c.args.size c.loop-number.number c.loop-number.state _ _ _ _ _ c.loop-number.invariant.0 c.in_ok-push-2.ensures.items c.in_ok-class_of-2.ensures.class
-      c.in_ok-row.ensures.row c.draw_choices-choices.ensures.choices c.loop-number.invariant.2,
-  next-formed _ _ _ c.loop-number.invariant.1 c.in_ok-push-2.ensures.items c.in_ok-class_of-2.ensures.formed,
-  next-state c.args.seed c.loop-number.number _ _ c.loop-number.invariant.2 c.draw_choices-choices.ensures.next,
-  c.draw_choices-choices.ensures.narrow,
-)
+pub returns-clause-count : goal.returns-clause-count
+returns-clause-count c =
+    all-of (λ v. v.items) (λ classes. length classes ≡ c.args.size + 1) c.args.seed c.args.size (generated-count c.args.seed c.args.size) c.classes_of.result c.classes_of.ensures.classes
+
+pub returns-clause-short : goal.returns-clause-short
+returns-clause-short c =
+    all-of (λ v. v.items) (AllByRecursion IsShortFile) c.args.seed c.args.size (generated-short c.args.seed c.args.size c.requires.some c.requires.most) c.classes_of.result c.classes_of.ensures.classes
+
+pub returns-clause-names : goal.returns-clause-names
+returns-clause-names c =
+    all-of (λ v. v.items) (AreNamed (program_rows c.args.seed c.args.size)) c.args.seed c.args.size (generated-named c.args.seed c.args.size c.requires.some c.requires.most) c.classes_of.result
+    c.classes_of.ensures.classes
+
+pub returns-clause-own_names : goal.returns-clause-own_names
+returns-clause-own_names c = own-names c.args.seed c.args.size c.requires.most

@@ -6,7 +6,7 @@ use Rattle.program_gen.specs.Draws.{state_at}
 use Rattle.program_gen.specs.Programs.{main_row, rows_below}
 use Rattle.program_gen.specs.Making.{class_file_of}
 use Rattle.program_gen.proofs.DrawnChoices.{draws_before}
-use Rattle.program_gen.proofs.generator.generate.Given as goal
+use Rattle.program_gen.proofs.generator.classes_of.Given as goal
 
 abbrev pub invariant-loop-number : goal.invariant-loop-number
 invariant-loop-number l =

@@ -1,0 +1,5 @@
+use Rattle.context_tree.proofs.Headline as headline
+use Rattle.context_tree.proofs.laws.session_sees.Goals as goal
+
+pub returns : goal.returns
+returns c = headline.session_sees
