@@ -93,6 +93,8 @@ pub mod SoundAttempts
 pub mod SoundSteps
 pub mod SoundLines
 pub mod SoundRuns
+pub mod SoundTextSteps
+pub mod SoundTextRuns
 pub mod SoundPrograms
 pub mod Callees
 pub mod IdleRules

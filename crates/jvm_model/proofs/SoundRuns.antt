@@ -38,7 +38,7 @@ pub with-loaded-is : (classes : List ℕ) (s : State) → (with_loaded classes s
 with-loaded-is [] s = sym (append-nil s.shared.loaded)
 with-loaded-is (c ∷ more) s = refl
 
-loads-supertypes : (w : World) (op : Operation) (s : Shared) (o : Operands) → HasSupertypes w.program s.loaded → HasSupertypes w.program (s.loaded ++ loads w op s o)
+pub loads-supertypes : (w : World) (op : Operation) (s : Shared) (o : Operands) → HasSupertypes w.program s.loaded → HasSupertypes w.program (s.loaded ++ loads w op s o)
 loads-supertypes w (Named n) s o above = by (resolves n o) refl
   where
     by : (b : Bool) → resolves n o ≡ b → HasSupertypes w.program (s.loaded ++ newly_loaded w.program s.loaded n o)
@@ -57,7 +57,7 @@ loads-supertypes w (StoreElement k) s o above = subst (HasSupertypes w.program) 
 loads-supertypes w (LdcString units) s o above = subst (HasSupertypes w.program) (sym (append-nil s.loaded)) above
 
 -- what is loaded is looked at alone
-loads-same : (w : World) (op : Operation) (a b : Shared) (o : Operands) → a.loaded ≡ b.loaded → loads w op a o ≡ loads w op b o
+pub loads-same : (w : World) (op : Operation) (a b : Shared) (o : Operands) → a.loaded ≡ b.loaded → loads w op a o ≡ loads w op b o
 loads-same w (Named n) a b o e = ap (λ loaded. newly_loaded w.program loaded n o) e
 loads-same w (Within i) a b o e = refl
 loads-same w Athrow a b o e = refl
@@ -81,7 +81,7 @@ loads-again w (LoadElement k) s o = refl
 loads-again w (StoreElement k) s o = refl
 loads-again w (LdcString units) s o = refl
 
-shared-more : (p : Program) (classes : List ℕ) (s : State) → HasSupertypes p (s.shared.loaded ++ classes) → IsSoundShared p s.shared
+pub shared-more : (p : Program) (classes : List ℕ) (s : State) → HasSupertypes p (s.shared.loaded ++ classes) → IsSoundShared p s.shared
     → IsSoundShared p (with_loaded classes s).shared
 shared-more p [] s above is = is
 shared-more p (c ∷ more) s above is = record {

@@ -63,6 +63,7 @@ pub mod Quiet
 pub mod Starting
 pub mod Meanings
 pub mod Sound
+pub mod SoundTexts
 pub mod Targets
 pub mod Points
 pub mod Swaps
