@@ -13,7 +13,7 @@ ghost use Rattle.class_index.specs.Indices.{IsLinkable};
 ghost use Rattle.class_index.specs.Members.{place_view};
 ghost use Rattle.class_linker.specs.Linkers.{IsAnswer, IsKnown, IsLoaded, linker_of, load_answer};
 ghost use Rattle.class_linker.specs.Linkers.{loaded_by, parts_of, resolved_of};
-ghost use Rattle.class_linker.specs.SuperCalls.{invoked_special};
+ghost use Rattle.jvm_model.specs.SuperCalls.{invoked_special};
 
 use crate::answers::{Loaded, Resolved};
 use crate::kinds::is_subkind;

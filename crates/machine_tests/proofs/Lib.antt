@@ -1,4 +1,5 @@
 pub mod WorkedClass
 mod WorkedVersion
 mod BuiltInCodes
+mod WorkedLoads
 pub mod Lists
