@@ -25,7 +25,7 @@ use Rattle.jvm_model.proofs.WorkedPrograms.{Routine, Sketches, aload_0, alone, a
 use Rattle.jvm_model.proofs.WorkedRuns.{recursive, p3}
 use Rattle.jvm_model.proofs.WorkedInitializers.{both_set}
 use Rattle.jvm_model.specs.Points.{marking_in, standing_in}
-use Rattle.jvm_model.specs.Swaps.{Swapped, points_in, swaps_in}
+use Rattle.jvm_model.specs.Swaps.{Swapped, first_number, points_in, swaps_in}
 
 -- the operations of a method that is given by hand
 abbrev pub code_by : Sketches → ℕ → List Operation
@@ -144,6 +144,10 @@ initializers-events : events_by (selecting 0) both_set 10
     ≡ event kind.Root 0 0 ∷ event kind.Enter 1 1 ∷ event kind.Leave 1 4 ∷ event kind.Enter 2 4 ∷ event kind.Leave 2 7 ∷ event kind.Leave 0 10 ∷ []
 unfolding points_in standing_in turn_in trace_in
 initializers-events = refl
+
+-- each class's methods are numbered from here on
+initializers-numbers : map (first_number (world_by both_set).program) (0 ∷ 1 ∷ 2 ∷ 3 ∷ []) ≡ 0 ∷ 1 ∷ 2 ∷ 3 ∷ []
+initializers-numbers = refl
 
 -- ---- an override that is loaded later: N's main is method 0, A's constructor and v are 1 and 2, and B's 3 and 4
 
