@@ -12,6 +12,7 @@ use crate::members::code_of;
 use crate::objects::class_of_kind;
 use crate::originals::Originals;
 use crate::supertypes::is_below;
+use class_linker::Linker;
 use const_pool::{ClassFile, Handler};
 use heap_objects::Heap;
 use jvm_model::Program;
@@ -19,15 +20,15 @@ use jvm_model::Program;
 // ---- handlers
 
 /// Whether a handler of a class's code catches objects of the class at a position: 0 catches all.
-fn catches(program: &Program, owner: &ClassFile, handler: &Handler, class: usize) -> bool
-    ensures { result ≡ option_map_or (is_below program.now class)
+fn catches(linker: &Linker, owner: &ClassFile, handler: &Handler, class: usize) -> bool
+    ensures { result ≡ option_map_or (is_below linker.now.program class)
         (catcher_of owner.now handler.now).catches true }
 {
     if handler.catch_class == 0 {
         return true;
     }
     match owner.pool.class_name(handler.catch_class) {
-        Ok(name) => is_below(program, class, name),
+        Ok(name) => is_below(linker, class, name),
         Err(_) => true,
     }
 }
@@ -44,7 +45,7 @@ fn covers(
 {
     handler.start <= place
         && place < handler.end
-        && catches(originals.program(), owner, handler, class)
+        && catches(originals.linker(), owner, handler, class)
 }
 
 /// Where the first one of them goes on that covers the place.

@@ -1,6 +1,6 @@
 //! The initialization of classes (JVM Specification 5.5), part by part.
 
-ghost use Rattle.std.specs.Prelude.{◌≡◌, ◌<◌, ◌^◌, suc, [], true, None, length, IfOk, OnOk};
+ghost use Rattle.std.specs.Prelude.{◌≡◌, suc, [], true, None, length, IfOk, OnOk};
 ghost use Rattle.jvm_model.specs.Applies.{new_frame, with_frame};
 ghost use Rattle.jvm_model.specs.Constants.{sets_constants};
 ghost use Rattle.jvm_model.specs.Lookup.{is_below};
@@ -22,7 +22,7 @@ use crate::parts::Parts;
 use crate::raising::{make, raise};
 use crate::supertypes::is_below_bytes;
 use jf_bytes::{NoMemory, Stack};
-use jvm_model::{Part, Phase, Program, Shared};
+use jvm_model::{Part, Phase, Shared};
 use jvm_named::set_constants;
 use std::alloc::Global;
 
@@ -51,12 +51,12 @@ pub fn initialize(
 // ---- a throw meets an initialization
 
 /// Whether an object is an Error.
-fn is_error(program: &Program, shared: &Shared, object: u32) -> bool
-    requires { length program.now.classes < 2 ^ 24 }
-    ensures { result ≡ is_below program.now (class_of program.now shared.now object) error }
+fn is_error(originals: &Originals, shared: &Shared, object: u32) -> bool
+    ensures { let p = originals.now.world.program in
+        result ≡ is_below p (class_of p shared.now object) error }
 {
-    let class = class_of(program, &shared.heap, object) as usize;
-    is_below_bytes(program, class, b"java/lang/Error")
+    let class = class_of(originals.program(), &shared.heap, object) as usize;
+    is_below_bytes(originals.linker(), class, b"java/lang/Error")
 }
 
 /// What is thrown on: an Error itself, or an ExceptionInInitializerError with the object as its
@@ -67,7 +67,7 @@ fn wrap(originals: &Originals, shared: &mut Shared, object: u32) -> Result<u32, 
     ensures object { IfOk result
         (λ r. r ≡ (wrapped originals.now.world shared.old object).reference) }
 {
-    if is_error(originals.program(), shared, object) {
+    if is_error(originals, shared, object) {
         return Ok(object);
     }
     let kind = originals.kind_of(Exception::InInitializer);

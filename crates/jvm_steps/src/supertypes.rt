@@ -8,6 +8,7 @@ ghost use Rattle.jvm_model.specs.Lookup.{is_below, is_subtype, supertypes_within
 ghost use Rattle.jvm_model.specs.Programs.{class_named};
 
 use crate::lookup::{position_of, position_of_bytes};
+use class_linker::Linker;
 use const_pool::ClassFile;
 use jf_bytes::Text16;
 use jvm_model::Program;
@@ -51,42 +52,43 @@ fn is_within(program: &Program, left: usize, lower: usize, upper: usize) -> bool
     }
 }
 
-/// Whether a class is another one, or inherits from it, or implements it. No chain of supertypes
-/// is longer than the list of classes.
-pub fn is_subtype(program: &Program, lower: usize, upper: usize) -> bool
-    ensures { result ≡ is_subtype program.now lower upper }
+/// Whether a class is another one, or inherits from it, or implements it. Of a loaded class, as the class of each object is, the
+/// linker's row of it tells that in one look-up; walks by names are left for the others.
+pub fn is_subtype(linker: &Linker, lower: usize, upper: usize) -> bool
+    ensures { result ≡ is_subtype linker.now.program lower upper }
 {
+    let most = u32::MAX as usize;
+    if lower <= most && upper <= most && linker.is_loaded(lower as u32) {
+        return linker.is_subtype(lower as u32, upper as u32);
+    }
+    let program = linker.program();
     is_within(program, program.classes.len(), lower, upper)
 }
 
 /// The same, where there is another one.
-fn is_at(program: &Program, lower: usize, upper: Option<usize>) -> bool
-    ensures { result ≡ option_map_or (is_subtype program.now lower) upper false }
+fn is_at(linker: &Linker, lower: usize, upper: Option<usize>) -> bool
+    ensures { result ≡ option_map_or (is_subtype linker.now.program lower) upper false }
 {
     match upper {
-        Some(upper) => is_subtype(program, lower, upper),
+        Some(upper) => is_subtype(linker, lower, upper),
         None => false,
     }
 }
 
-/// Whether a class is the one with this name, or stands below it.
-pub fn is_below(program: &Program, class: usize, name: &Text16) -> bool
-    ensures { result ≡ is_below program.now class name.now }
+/// Whether a class is the one with this name, or stands below it. The name is looked up once.
+pub fn is_below(linker: &Linker, class: usize, name: &Text16) -> bool
+    ensures { result ≡ is_below linker.now.program class name.now }
 {
-    is_at(
-        program,
-        class,
-        position_of(program.classes.as_slice(), name),
-    )
+    match linker.index().class_named(name.units()) {
+        Some(upper) => is_subtype(linker, class, upper as usize),
+        None => false,
+    }
 }
 
 /// The same, by the name's bytes.
-pub fn is_below_bytes(program: &Program, class: usize, name: &[u8]) -> bool
-    ensures { result ≡ is_below program.now class name.now }
+pub fn is_below_bytes(linker: &Linker, class: usize, name: &[u8]) -> bool
+    ensures { result ≡ is_below linker.now.program class name.now }
 {
-    is_at(
-        program,
-        class,
-        position_of_bytes(program.classes.as_slice(), name),
-    )
+    let classes = linker.program().classes.as_slice();
+    is_at(linker, class, position_of_bytes(classes, name))
 }

@@ -1,6 +1,6 @@
 //! athrow (JVM Specification 2.10, 6.5).
 
-ghost use Rattle.std.specs.Prelude.{◌≡◌, ◌<◌, ◌^◌, length, OnOk};
+ghost use Rattle.std.specs.Prelude.{◌≡◌, OnOk};
 ghost use Rattle.jvm_model.specs.Lookup.{is_below};
 ghost use Rattle.jvm_model.specs.SharedState.{class_of, throwable};
 ghost use Rattle.jvm_steps.specs.Acts.{IsTop, Becomes, acts_athrow};
@@ -13,15 +13,15 @@ use crate::raising::{break_off, raise};
 use crate::supertypes::is_below_bytes;
 use jf_bytes::NoMemory;
 use jvm_basic::ref_of;
-use jvm_model::{Program, Shared};
+use jvm_model::Shared;
 
 /// Whether an object is a Throwable.
-fn is_throwable(program: &Program, shared: &Shared, object: u32) -> bool
-    requires { length program.now.classes < 2 ^ 24 }
-    ensures { result ≡ is_below program.now (class_of program.now shared.now object) throwable }
+fn is_throwable(originals: &Originals, shared: &Shared, object: u32) -> bool
+    ensures { let p = originals.now.world.program in
+        result ≡ is_below p (class_of p shared.now object) throwable }
 {
-    let class = class_of(program, &shared.heap, object) as usize;
-    is_below_bytes(program, class, b"java/lang/Throwable")
+    let class = class_of(originals.program(), &shared.heap, object) as usize;
+    is_below_bytes(originals.linker(), class, b"java/lang/Throwable")
 }
 
 /// Throws the object on top, which has to be a Throwable.
@@ -41,7 +41,7 @@ pub fn throw_object(
     if object == 0 {
         return raise(originals, parts, Exception::NullPointer);
     }
-    if is_throwable(originals.program(), &parts.shared, object) {
+    if is_throwable(originals, &parts.shared, object) {
         parts.thrown = Some(object);
     } else {
         break_off(parts, method, line.instr.at);
