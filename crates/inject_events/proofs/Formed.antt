@@ -51,7 +51,8 @@ use Rattle.inject_events.specs.Answers.{IsReadableCode, IsReadableBody, HasReada
 use Rattle.inject_events.specs.Probing.{first_marked}
 use Rattle.inject_events.specs.Rewriting.{Refused, instrs_in, laid_version_of, version_of, version_cause, far_cause, cause_of_coded, cause_of_method, image_of_coded, image_of_method, images_from, refused_here, refused_from, is_full_pool, refused_of_marked, refused_of, original_of, image_of_marked, image_of}
 use Rattle.inject_events.specs.Settings.{setting_of, probes_in, entry_in}
-use Rattle.inject_events.specs.Tables.{table_of, last_frame, is_writable, version_frames, framed_or_kept, moved_table, moved_raw, lacks_frames, added_table, added_tables}
+use Rattle.jvm_model.specs.ImageTables.{last_frame, is_writable}
+use Rattle.inject_events.specs.Tables.{table_of, version_frames, framed_or_kept, moved_table, moved_raw, lacks_frames, added_table, added_tables}
 use Rattle.inject_events.proofs.Built.{IsCode-among}
 use Rattle.inject_events.proofs.InstrsIn.{instrs_in-is}
 use Rattle.inject_events.proofs.LaidBytes.{AreBytes, both, probe, laid, home-le, table, moved-lines, moved-variables}

@@ -6,6 +6,7 @@ pub mod InstrsIn
 pub mod Tabling
 pub mod Causes
 pub mod Rooms
+pub mod Marked
 pub mod Profilable
 pub mod TailPools
 pub mod LaidBytes

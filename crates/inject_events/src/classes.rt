@@ -133,8 +133,9 @@ pub fn instrument(
         → IsImage class.now first marks.now image.class image.homes) }
     // The image of a class file is one.
     ensures formed { IfOk result (λ image. IsClassFile class.now → IsClassFile image.class) }
-    // A class each of whose methods could be rewritten is never refused.
-    ensures profilable { IsProfilable class.now → (method : ℕ) (cause : TheCause)
+    // A class each of whose methods with Code could be rewritten is never refused.
+    ensures profilable { MarkedHaveCode marks.now class.now.methods → IsProfilable class.now
+        → (method : ℕ) (cause : TheCause)
         → result ≢ Err (InjectError.NotProfilable method cause) }
 {
     image_of(alloc, class, first, marks)

@@ -1,9 +1,10 @@
 //! The methods of a class in its image.
 
-ghost use Rattle.std.specs.Prelude.{◌≡◌, ◌<◌, None, IfOk};
+ghost use Rattle.std.specs.Prelude.{◌≡◌, ◌<◌, length, true, false, None, IfOk};
 ghost use Rattle.std.specs.Option.{option_copied};
 ghost use Rattle.jvm_model.specs.Methods.{code_of};
 ghost use Rattle.jvm_model.specs.Images.{is_off, all_off, with_code_at, with_code, next_number};
+ghost use Rattle.inject_events.specs.Answers.{MarkedHaveCode, can_be_marked, can_all_be_marked};
 ghost use Rattle.inject_events.specs.Probing.{refusal};
 
 use crate::copying::{copy_code, copy_member, copy_raw};
@@ -29,6 +30,35 @@ pub fn all_off(marks: &[Mark]) -> bool
     ensures { result ≡ all_off marks.now }
 {
     marks.iter().all(|mark| is_off(*mark))
+}
+
+/// Whether a method can have this mark.
+fn can_be_marked(mark: Mark, member: &Member) -> bool
+    ensures { result ≡ can_be_marked mark member.now }
+{
+    is_off(mark) || code_of(member).is_some()
+}
+
+/// Whether each method can have its mark.
+fn can_all_be_marked(marks: &[Mark], methods: &[Member]) -> bool
+    requires marks { length marks.now ≡ length methods.now }
+    ensures { result ≡ can_all_be_marked marks.now methods.now }
+{
+    for (position, mark) in marks.iter().enumerate() {
+        if !can_be_marked(*mark, &methods[position]) {
+            return false;
+        }
+    }
+    true
+}
+
+/// Whether each marked method has Code, as rewriting asks of the marks of a class's methods.
+pub fn marked_have_code(marks: &[Mark], methods: &[Member]) -> bool
+    requires marks { length marks.now ≡ length methods.now }
+    ensures have { result ≡ true → MarkedHaveCode marks.now methods.now }
+    ensures lack { result ≡ false → MarkedHaveCode marks.now methods.now → ⊥ }
+{
+    can_all_be_marked(marks, methods)
 }
 
 /// A method's code, where it has one.

@@ -9,6 +9,7 @@ pub mod ImageProbes
 pub mod ImageLines
 pub mod ImageAgrees
 pub mod LaidLengths
+pub mod MethodsOfImages
 pub mod Settles
 pub mod NormalForms
 pub mod LoopOfMoves

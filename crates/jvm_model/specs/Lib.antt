@@ -40,6 +40,7 @@ pub mod Moved
 pub mod Closed
 pub mod StandsForRun
 pub mod Versions
+pub mod ImageTables
 pub mod Images
 pub mod Paths
 pub mod Activations
