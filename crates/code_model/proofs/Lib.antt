@@ -21,3 +21,4 @@ pub mod LaidReads
 mod LaidRows
 mod ReadRows
 pub mod Starting
+pub mod Carried

@@ -39,17 +39,25 @@ found-none [] ys x others = refl
 found-none (n ∷ xs) [] x others = refl
 found-none (n ∷ xs) (y ∷ ys) x others = rw (ne_eqb n x (others 0 (omega arith))) (found-none xs ys x (λ j lt. others (suc j) (omega arith)))
 
--- the home of an offset that was found at an index
-pub home_of-at : (homes : Homes) (i at : ℕ) → IsStrictlyIncreasing homes.from → i < length homes.from → get_or homes.from i 0 ≡ at → unwrap_or (slice_get homes.home i) 0 ≡ home_of homes at
-home_of-at homes i at up within here =
-    let others : (j : ℕ) → j < i → get_or homes.from j 0 ≢ at = λ j lt same. (let below = rise-lt homes.from up j i lt within in omega arith) in
-    ap (λ o. unwrap_or o 0) (sym (found-at homes.from homes.home i at others within here))
+-- what stands beside a number that was found at an index of rising numbers
+pub found-in_order : (xs ys : List ℕ) (i x : ℕ) → IsStrictlyIncreasing xs → i < length xs → get_or xs i 0 ≡ x → found_beside xs ys x ≡ slice_get ys i
+found-in_order xs ys i x up within here =
+    let others : (j : ℕ) → j < i → get_or xs j 0 ≢ x = λ j lt same. (let below = rise-lt xs up j i lt within in omega arith) in
+    found-at xs ys i x others within here
 
--- and of one that was not found
-pub home_of-none : (homes : Homes) (i at : ℕ) → ((k : ℕ) → k < i → get_or homes.from k 0 < at) → ((k : ℕ) → i ≤ k → k < length homes.from → at < get_or homes.from k 0) → 0 ≡ home_of homes at
-home_of-none homes i at below above =
-    let others : (j : ℕ) → j < length homes.from → get_or homes.from j 0 ≢ at = λ j within same. elim (cases_lt j i) [
+-- and beside one that was not found
+pub found-between : (xs ys : List ℕ) (i x : ℕ) → ((k : ℕ) → k < i → get_or xs k 0 < x) → ((k : ℕ) → i ≤ k → k < length xs → x < get_or xs k 0) → found_beside xs ys x ≡ None
+found-between xs ys i x below above =
+    let others : (j : ℕ) → j < length xs → get_or xs j 0 ≢ x = λ j within same. elim (cases_lt j i) [
       | inl lt ↦ let b = below j lt in omega arith
       | inr ge ↦ let a = above j ge within in omega arith
     ] in
-    ap (λ o. unwrap_or o 0) (sym (found-none homes.from homes.home at others))
+    found-none xs ys x others
+
+-- the home of an offset that was found at an index
+pub home_of-at : (homes : Homes) (i at : ℕ) → IsStrictlyIncreasing homes.from → i < length homes.from → get_or homes.from i 0 ≡ at → unwrap_or (slice_get homes.home i) 0 ≡ home_of homes at
+home_of-at homes i at up within here = ap (λ o. unwrap_or o 0) (sym (found-in_order homes.from homes.home i at up within here))
+
+-- and of one that was not found
+pub home_of-none : (homes : Homes) (i at : ℕ) → ((k : ℕ) → k < i → get_or homes.from k 0 < at) → ((k : ℕ) → i ≤ k → k < length homes.from → at < get_or homes.from k 0) → 0 ≡ home_of homes at
+home_of-none homes i at below above = ap (λ o. unwrap_or o 0) (sym (found-between homes.from homes.home i at below above))

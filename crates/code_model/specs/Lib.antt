@@ -4,5 +4,6 @@ pub mod Reading
 pub mod Layout
 pub mod Instructions
 pub mod Groups
+pub mod Offsets
 pub mod Widths
 pub mod Spelling

@@ -3,6 +3,7 @@
 ghost use Rattle.std.specs.Prelude.{◌≡◌, ◌≤◌, ℕ, length, Err, None, IfOk};
 ghost use Rattle.std.specs.List.Sorted.{IsStrictlyIncreasing};
 ghost use Rattle.code_model.specs.Groups.{AreGroups, IsShort, AreLaidIn, IsTooLong, IsTooFar};
+ghost use Rattle.code_model.specs.Offsets.{AreRising};
 ghost use Rattle.code_model.specs.Layout.{width_of, home_of, end_from, laid_of};
 ghost use Rattle.code_model.specs.Layout.{is_near, fits_branch, first_far_from, first_far};
 ghost use Rattle.code_model.specs.declared.laying.LayError.TheVariants.{TooLong, Far};
@@ -110,6 +111,7 @@ pub fn lay_out(alloc: Global, front: &[u8], groups: &[Group], back: &[u8]) -> Re
     requires back { IsShort back.now }
     ensures laid { IfOk result (λ laid. laid ≡ laid_of front.now groups.now back.now) }
     ensures moved { IfOk result (λ laid. AreLaidIn laid groups.now) }
+    ensures rising { IfOk result (λ laid. AreRising laid.homes) }
     ensures short { IfOk result (λ laid. length laid.code ≤ 65535) }
     ensures near { IfOk result (λ laid. first_far front.now groups.now ≡ None) }
     ensures too_long { (len : ℕ) → result ≡ Err (TooLong len)

@@ -33,6 +33,7 @@ use Rattle.jvm_model.specs.Programs.{name_of}
 use Rattle.jvm_model.specs.Resolved.{own_method, resolved_name, resolved_in}
 use Rattle.jvm_model.specs.Methods.{code_among, code_of, same_text_at, is_member, method_from, method_named}
 use Rattle.jvm_model.specs.SmallClass.{IsSmallMethod, IsSmallClass, is_plain_member, is_free_name, member_of}
+use Rattle.jvm_model.proofs.MoreEntries.{HasMore, map-kept, name_of-kept, operation-more}
 use Rattle.jvm_model.proofs.ImagePools.{slice_get-more, named_text-more, named_class-more, named_field-more, named_method-more, named_interface_method-more}
 
 -- ---- one method
@@ -176,126 +177,19 @@ pub record LooksAlike (c image : ClassFile) : Type 0 where
   pub this : image.this_class ≡ c.this_class
   pub methods : (wanted : NameAndType) → method_named image wanted ≡ method_named c wanted
 
--- the image has the class's name
-name_of-kept : (c image : ClassFile) (name : List ℕ) → LooksAlike c image → name_of c ≡ Some name → name_of image ≡ Some name
-name_of-kept c image name alike e =
-    ap (named_class image.pool) alike.this ∙ (ap (λ p. named_class p c.this_class) alike.pool ∙ named_class-more c.pool alike.more c.this_class name e)
+has-more : (c image : ClassFile) → LooksAlike c image → HasMore c image
+has-more c image alike = record { more = alike.more; pool = alike.pool; this = alike.this }
 
 own_method-kept : (c image : ClassFile) (r : Reference) (k : ℕ) → LooksAlike c image → own_method c r ≡ Some k → own_method image r ≡ Some k
 own_method-kept c image r k alike e =
     option_and_then_some (λ own. cond (same_text r.class own) (method_named c r.member) None) (named_class c.pool c.this_class) k e
     (λ own is rest.
-    ap (option_and_then (λ own. cond (same_text r.class own) (method_named image r.member) None)) (name_of-kept c image own alike is)
+    ap (option_and_then (λ own. cond (same_text r.class own) (method_named image r.member) None)) (name_of-kept c image own (has-more c image alike) is)
     ∙ (ap (λ m. cond (same_text r.class own) m None) (alike.methods r.member) ∙ rest))
-
-map-kept : {A B : Type 0} (f : A → B) (old new : Option A) (o : B) → ((a : A) → old ≡ Some a → new ≡ Some a) → option_map f old ≡ Some o → option_map f new ≡ Some o
-map-kept f None new o keeps e = absurd (none-some o e)
-map-kept f (Some a) new o keeps e = ap (option_map f) (keeps a refl) ∙ e
-
-chosen-kept : {A : Type 0} (b : Bool) (x y x' y' : Option A) (o : A) → (x ≡ Some o → x' ≡ Some o) → (y ≡ Some o → y' ≡ Some o) → cond b x y ≡ Some o → cond b x' y' ≡ Some o
-chosen-kept true x y x' y' o first second e = first e
-chosen-kept false x y x' y' o first second e = second e
-
-then-kept : {A B : Type 0} (f g : A → Option B) (old new : Option A) (o : B) → ((a : A) → old ≡ Some a → new ≡ Some a) → ((a : A) → f a ≡ Some o → g a ≡ Some o)
-    → option_and_then f old ≡ Some o → option_and_then g new ≡ Some o
-then-kept f g old new o first second e = option_and_then_some f old o e (λ a is rest. ap (option_and_then g) (first a is) ∙ second a rest)
-
--- what the class's pool names at an index the image's names
-abbrev Kept : {A : Type 0} → Option A → Option A → Type 0
-Kept {A} old new = (x : A) → old ≡ Some x → new ≡ Some x
-
-field-kept : (c image : ClassFile) (index : ℕ) → LooksAlike c image → Kept (named_field c.pool index) (named_field image.pool index)
-field-kept c image index alike r is = ap (λ p. named_field p index) alike.pool ∙ named_field-more c.pool alike.more index r is
-
-method-kept : (c image : ClassFile) (index : ℕ) → LooksAlike c image → Kept (named_method c.pool index) (named_method image.pool index)
-method-kept c image index alike r is = ap (λ p. named_method p index) alike.pool ∙ named_method-more c.pool alike.more index r is
-
-class-kept : (c image : ClassFile) (index : ℕ) → LooksAlike c image → Kept (named_class c.pool index) (named_class image.pool index)
-class-kept c image index alike name is = ap (λ p. named_class p index) alike.pool ∙ named_class-more c.pool alike.more index name is
-
-text-kept : (c image : ClassFile) (index : ℕ) → LooksAlike c image → Kept (named_text c.pool index) (named_text image.pool index)
-text-kept c image index alike text e = ap (λ p. named_text p index) alike.pool ∙ named_text-more c.pool alike.more index text e
-
-interface_method-kept : (c image : ClassFile) (index : ℕ) → LooksAlike c image → Kept (named_interface_method c.pool index) (named_interface_method image.pool index)
-interface_method-kept c image index alike r is = ap (λ p. named_interface_method p index) alike.pool ∙ named_interface_method-more c.pool alike.more index r is
-
--- invokespecial names the class in which it stands too
-special-kept : (c image : ClassFile) (index : ℕ) → LooksAlike c image
-    → Kept (option_and_then (λ caller. option_map (special_of caller) (named_method c.pool index)) (name_of c))
-    (option_and_then (λ caller. option_map (special_of caller) (named_method image.pool index)) (name_of image))
-special-kept c image index alike n =
-    then-kept (λ caller. option_map (special_of caller) (named_method c.pool index)) (λ caller. option_map (special_of caller) (named_method image.pool index)) (name_of c) (name_of image) n
-    (λ caller. name_of-kept c image caller alike)
-    (λ caller. map-kept (special_of caller) (named_method c.pool index) (named_method image.pool index) n (method-kept c image index alike))
-
-naming_of-kept : (c image : ClassFile) (op index : ℕ) → LooksAlike c image → Kept (naming_of c op index) (naming_of image op index)
-naming_of-kept c image op index alike n =
-    chosen-kept (op == 178) _ _ _ _ n (field Getstatic) (chosen-kept (op == 179) _ _ _ _ n (field Putstatic)
-    (chosen-kept (op == 180) _ _ _ _ n (field Getfield) (chosen-kept (op == 181) _ _ _ _ n (field Putfield)
-    (chosen-kept (op == 182) _ _ _ _ n (method Invokevirtual) (chosen-kept (op == 183) _ _ _ _ n (special-kept c image index alike n)
-    (chosen-kept (op == 184) _ _ _ _ n (method Invokestatic) (chosen-kept (op == 187) _ _ _ _ n (class New)
-    (chosen-kept (op == 189) _ _ _ _ n (class Anewarray) (chosen-kept (op == 192) _ _ _ _ n (class Checkcast)
-    (chosen-kept (op == 193) _ None _ None n (class Instanceof) (λ none. none)))))))))))
-  where
-    field : (make : Reference → Naming) → option_map make (named_field c.pool index) ≡ Some n → option_map make (named_field image.pool index) ≡ Some n
-    field make = map-kept make (named_field c.pool index) (named_field image.pool index) n (field-kept c image index alike)
-
-    method : (make : Reference → Naming) → option_map make (named_method c.pool index) ≡ Some n → option_map make (named_method image.pool index) ≡ Some n
-    method make = map-kept make (named_method c.pool index) (named_method image.pool index) n (method-kept c image index alike)
-
-    class : (make : List ℕ → Naming) → option_map make (named_class c.pool index) ≡ Some n → option_map make (named_class image.pool index) ≡ Some n
-    class make = map-kept make (named_class c.pool index) (named_class image.pool index) n (class-kept c image index alike)
-
-interface_naming-kept : (c image : ClassFile) (op index : ℕ) → LooksAlike c image → Kept (interface_naming c op index) (interface_naming image op index)
-interface_naming-kept c image op index alike n =
-    chosen-kept (op == 185) _ None _ None n
-    (map-kept Invokeinterface (named_interface_method c.pool index) (named_interface_method image.pool index) n (interface_method-kept c image index alike)) (λ none. none)
-
-multi_naming-kept : (c image : ClassFile) (op index dimensions : ℕ) → LooksAlike c image → Kept (multi_naming c op index dimensions) (multi_naming image op index dimensions)
-multi_naming-kept c image op index dimensions alike n =
-    chosen-kept (op == 197) _ None _ None n
-    (map-kept (multi_of dimensions) (named_class c.pool index) (named_class image.pool index) n (class-kept c image index alike)) (λ none. none)
-
-named-kept : (old new : Option Naming) (o : Operation) → Kept old new → option_and_then named_by old ≡ Some o → option_and_then named_by new ≡ Some o
-named-kept old new o keeps = then-kept named_by named_by old new o keeps (λ n is. is)
-
-other_operation-kept : (c image : ClassFile) (op : ℕ) (a : Arg) (o : Operation) → LooksAlike c image → other_operation c op a ≡ Some o → other_operation image op a ≡ Some o
-other_operation-kept c image op (arg.Pool index) o alike e = named-kept (naming_of c op index) (naming_of image op index) o (naming_of-kept c image op index alike) e
-other_operation-kept c image op (arg.Interface index count last) o alike e =
-    named-kept (interface_naming c op index) (interface_naming image op index) o (interface_naming-kept c image op index alike) e
-other_operation-kept c image op (arg.Multi index dimensions) o alike e =
-    named-kept (multi_naming c op index dimensions) (multi_naming image op index dimensions) o (multi_naming-kept c image op index dimensions alike) e
-other_operation-kept c image op a o alike e = e
-
--- what an entry of the pool is to an ldc
-abbrev given_by : List Const → Option Const → Option Operation
-given_by pool entry = given_operation (option_map Within (option_map Constant (option_and_then number_of entry))) (option_and_then (object_constant pool) entry)
-
-entry-kept : (c image : ClassFile) (entry : Const) (o : Operation) → LooksAlike c image → given_by c.pool (Some entry) ≡ Some o → given_by image.pool (Some entry) ≡ Some o
-entry-kept c image (const.Integer n) o alike e = e
-entry-kept c image (const.Long n) o alike e = e
-entry-kept c image (const.Text i) o alike e = map-kept LdcString (named_text c.pool i) (named_text image.pool i) o (text-kept c image i alike) e
-entry-kept c image (const.Class i) o alike e = map-kept (λ name. Named (LdcClass name)) (named_text c.pool i) (named_text image.pool i) o (text-kept c image i alike) e
-entry-kept c image _ o alike e = absurd (none-some o e)
-
-given-kept : (c image : ClassFile) (a : Arg) (o : Operation) → LooksAlike c image → operation_by c 18 a family.Given ≡ Some o → operation_by image 18 a family.Given ≡ Some o
-given-kept c image (arg.Pool index) o alike e = by (slice_get c.pool index) refl e
-  where
-    by : (x : Option Const) → slice_get c.pool index ≡ x → given_by c.pool x ≡ Some o → given_by image.pool (slice_get image.pool index) ≡ Some o
-    by None is e = absurd (none-some o e)
-    by (Some entry) is e =
-        subst (λ x. given_by image.pool x ≡ Some o) (sym (ap (λ p. slice_get p index) alike.pool ∙ slice_get-more c.pool alike.more index entry is))
-        (entry-kept c image entry o alike e)
-given-kept c image _ o alike e = absurd (none-some o e)
-
-operation_by-kept : (c image : ClassFile) (op : ℕ) (a : Arg) (f : Family) (o : Operation) → LooksAlike c image → operation_by c op a f ≡ Some o → operation_by image op a f ≡ Some o
-operation_by-kept c image op a family.Elsewhere o alike e = other_operation-kept c image op a o alike e
-operation_by-kept c image op a family.Given o alike e = given-kept c image a o alike e
-operation_by-kept c image op a f o alike e = e
 
 -- an instruction does in the image what it does in the class
 pub operation_of-kept : (c image : ClassFile) (i : Instr) (o : Operation) → LooksAlike c image → operation_of c i ≡ Some o → operation_of image i ≡ Some o
-operation_of-kept c image i o alike e = operation_by-kept c image i.op i.arg (family_of i.op) o alike e
+operation_of-kept c image i o alike e = operation-more c image i o (has-more c image alike) e
 
 -- and so with its names looked up
 resolved_name-kept : (c image : ClassFile) (n : Naming) (q : Resolved) → LooksAlike c image → resolved_name c n ≡ Some q → resolved_name image n ≡ Some q

@@ -96,7 +96,7 @@ main-tells : (w : World) (t : Text) (s : State) (begun : Bool) → methods s.sta
 main-tells w t s true e = e
 main-tells w t s false e = chosen-tells [] (has_room w w.program.main argument_array) _ _ refl e
 
-moves-tell : (w : World) (t : Text) (s : State) (ending : Option Ending) (thrown : Option ℕ) (stack : List Entry) → s.stack ≡ stack → IfSome (moves w t s ending thrown stack) (Tells (methods stack))
+pub moves-tell : (w : World) (t : Text) (s : State) (ending : Option Ending) (thrown : Option ℕ) (stack : List Entry) → s.stack ≡ stack → IfSome (moves w t s ending thrown stack) (Tells (methods stack))
 moves-tell w t s (Some e) thrown stack same = tt
 moves-tell w t s None (Some r) [] same = ap methods same
 moves-tell w t s None (Some r) (Active f ∷ below) same = caught-tells w t (record s { stack = below }) r f (handler_for w (class_of w.program s.shared r) f.place (t.handlers f.version))

@@ -41,7 +41,7 @@ among-last class (x ∷ xs) = by (class == x) (among-last class xs)
     by false rest = rest
 
 -- one of the first, or the last one
-among-either : (P : ℕ → Type 0) (last : ℕ) (xs : List ℕ) → ((c : ℕ) → is_among c xs ≡ true → P c) → P last → (c : ℕ) → is_among c (xs ++ last ∷ []) ≡ true → P c
+pub among-either : (P : ℕ → Type 0) (last : ℕ) (xs : List ℕ) → ((c : ℕ) → is_among c xs ≡ true → P c) → P last → (c : ℕ) → is_among c (xs ++ last ∷ []) ≡ true → P c
 among-either P last [] first is c e = by (c == last) refl e
   where
     by : (b : Bool) → (c == last) ≡ b → (b || false) ≡ true → P c
@@ -81,23 +81,23 @@ module _ {A : Type 0} (P : A → Type 0) where
 -- ---- loading
 
 -- what a need names is loaded
-abbrev HasLoaded : Program → List ℕ → Need → Type 0
+abbrev pub HasLoaded : Program → List ℕ → Need → Type 0
 HasLoaded p loaded n = (class : ℕ) → class_named p n.name ≡ Some class → IsLoaded loaded class
 
-abbrev Grows : List ℕ → List ℕ → Type 0
+abbrev pub Grows : List ℕ → List ℕ → Type 0
 Grows before after = (class : ℕ) → IsLoaded before class → IsLoaded after class
 
 -- a class by its name, or an element's
-record IsLoad (p : Program) (P : List ℕ → Type 0) (e : Element) (loaded : List ℕ) (l : Loading) : Type 0 where
-  kept : P loaded → P l.loaded
-  grown : Grows loaded l.loaded
-  there : l.fault ≡ None → (name : List ℕ) → e ≡ Named name → (class : ℕ) → class_named p name ≡ Some class → IsLoaded l.loaded class
+pub record IsLoad (p : Program) (P : List ℕ → Type 0) (e : Element) (loaded : List ℕ) (l : Loading) : Type 0 where
+  pub kept : P loaded → P l.loaded
+  pub grown : Grows loaded l.loaded
+  pub there : l.fault ≡ None → (name : List ℕ) → e ≡ Named name → (class : ℕ) → class_named p name ≡ Some class → IsLoaded l.loaded class
 
 -- all that a class needs
-record AreLoads (p : Program) (P : List ℕ → Type 0) (needs : List Need) (loaded : List ℕ) (l : Loading) : Type 0 where
-  kept : P loaded → P l.loaded
-  grown : Grows loaded l.loaded
-  there : l.fault ≡ None → AllByRecursion (HasLoaded p l.loaded) needs
+pub record AreLoads (p : Program) (P : List ℕ → Type 0) (needs : List Need) (loaded : List ℕ) (l : Loading) : Type 0 where
+  pub kept : P loaded → P l.loaded
+  pub grown : Grows loaded l.loaded
+  pub there : l.fault ≡ None → AllByRecursion (HasLoaded p l.loaded) needs
 
 some-none : (f : Fault) → Some f ≡ None → ⊥
 some-none f e = cc
@@ -173,7 +173,7 @@ module _ (p : Program) (P : List ℕ → Type 0)
         by false h = refl
         by true h = absurd (false_true h)
 
-    needs-load : (needs : List Need) (loaded : List ℕ) → AreLoads p P needs loaded (load_needs p load needs loaded)
+    pub needs-load : (needs : List Need) (loaded : List ℕ) → AreLoads p P needs loaded (load_needs p load needs loaded)
     needs-load [] loaded = record { kept = λ h. h; grown = λ c h. h; there = λ none. tt }
     needs-load (n ∷ rest) loaded = by (load n.name loaded).fault refl (needs-load rest (load n.name loaded).loaded)
       where
@@ -204,7 +204,7 @@ module _ (p : Program) (P : List ℕ → Type 0)
           there = λ none. absurd (some-none fault none);
         }
 
-  named-load : (depth : ℕ) (path name loaded : List ℕ) → IsLoad p P (meaning_of name).element loaded (load_named p depth path name loaded)
+  pub named-load : (depth : ℕ) (path name loaded : List ℕ) → IsLoad p P (meaning_of name).element loaded (load_named p depth path name loaded)
   named-load zero path name loaded = stopped (meaning_of name).element loaded Circular
   named-load (suc n) path name loaded =
       let within : ℕ → Loading = λ class. load_needs p (load_named p n (path ++ class ∷ [])) (needs_of p class) loaded in
@@ -236,7 +236,7 @@ module _ (p : Program) (loaded : List ℕ) where
       by None found = tt
       by (Some class) found = (each.0 class found, tt)
 
-  directs : (o : Option ClassFile) → AllByRecursion (HasLoaded p loaded) (option_map_or class_needs o [])
+  pub directs : (o : Option ClassFile) → AllByRecursion (HasLoaded p loaded) (option_map_or class_needs o [])
       → AllByRecursion (IsLoaded loaded) (option_to_list (option_and_then (class_named p) (option_and_then (λ (c : ClassFile). named_class c.pool c.super_class) o)))
       × AllByRecursion (IsLoaded loaded) (filter_map (class_named p) (option_map_or interface_names o []))
   directs None each = (tt, tt)
@@ -244,7 +244,7 @@ module _ (p : Program) (loaded : List ℕ) where
       let both = all-split (HasLoaded p loaded) (map (need false) (option_to_list (named_class c.pool c.super_class))) (map (need true) (interface_names c)) each in
       (name-loaded (named_class c.pool c.super_class) both.0, names-loaded true (interface_names c) both.1)
 
-one-more : (p : Program) (loaded : List ℕ) (class : ℕ) → AllByRecursion (HasLoaded p loaded) (needs_of p class) → HasSupertypes p loaded
+pub one-more : (p : Program) (loaded : List ℕ) (class : ℕ) → AllByRecursion (HasLoaded p loaded) (needs_of p class) → HasSupertypes p loaded
     → HasSupertypes p (loaded ++ class ∷ [])
 one-more p loaded class needs above = record {
   superclass = among-either (λ c. AllByRecursion (IsLoaded (loaded ++ class ∷ [])) (superclass_of p c)) class loaded

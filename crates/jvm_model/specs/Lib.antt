@@ -31,6 +31,7 @@ pub mod Normal
 pub mod Lines
 pub mod Originals
 pub mod Run
+pub mod Rest
 pub mod Resolved
 pub mod SmallClass
 pub mod PlainShape
@@ -39,14 +40,21 @@ pub mod Changes
 pub mod Moved
 pub mod Closed
 pub mod StandsForRun
+pub mod Told
+pub mod Pauses
+pub mod StepPauses
+pub mod InHand
+pub mod Probed
 pub mod Versions
 pub mod ImageTables
+pub mod Homed
 pub mod Images
 pub mod Paths
 pub mod Activations
 pub mod Projection
 pub mod EventLists
 pub mod Places
+pub mod ProgramPlaces
 pub mod StandsFor
 pub mod Agreement
 pub mod Installed
@@ -65,3 +73,4 @@ pub mod Calls
 pub mod Climbing
 pub mod Revelation
 pub mod Whole
+pub mod SoundPrograms

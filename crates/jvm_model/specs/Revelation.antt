@@ -1,15 +1,24 @@
 -- What the loading of one class adds to the targets of a method: so a revelation looks at the instructions that name this class, and at
 -- the calls that name a class above it, and at nothing else.
-use Rattle.std.specs.Prelude.{ℕ, Bool, false, List, [], ◌∷◌, ◌++◌, flat_map, filter_map, Option, Some, None, ◌==◌, if◌then◌else◌}
+use Rattle.std.specs.Prelude.{◌≡◌, ℕ, Bool, false, List, [], ◌∷◌, ◌++◌, flat_map, filter_map, Option, Some, None, ◌==◌, if◌then◌else◌}
 use Rattle.std.specs.Option.{option_and_then, option_map, option_map_or}
 use Rattle.const_pool.specs.References.{Reference}
 use Rattle.jvm_model.specs.Data.{Program, Operation, Named, Naming, New, Getstatic, Putstatic, Invokevirtual, Invokespecial, Invokestatic, Invokeinterface}
 use Rattle.jvm_model.specs.InvocationRules.{Selecting, Virtual, OfInterface, names_interface, selected_by}
+use Rattle.jvm_model.specs.Load.{is_among}
 use Rattle.jvm_model.specs.Lookup.{MemberPlace, is_subtype, resolved_method}
 use Rattle.jvm_model.specs.Naming.{resolved_name}
 use Rattle.jvm_model.specs.Programs.{class_named}
 use Rattle.jvm_model.specs.Selection.{is_static}
+use Rattle.jvm_model.specs.Sound.{HasSupertypes}
 use Rattle.jvm_model.specs.Targets.{begun_by, coded, found_where, loaded_class_named}
+
+-- ---- the order in which classes are loaded
+
+-- behind these, each once and behind what stands above it (JVM Specification 5.3.5)
+abbrev pub IsLoadOrder : Program → List ℕ → List ℕ → Type 0
+IsLoadOrder p done [] = HasSupertypes p done
+IsLoadOrder p done (class ∷ rest) = HasSupertypes p done × (is_among class done ≡ false) × IsLoadOrder p (done ++ class ∷ []) rest
 
 -- ---- of an instruction that names the class itself: all that it begins then
 

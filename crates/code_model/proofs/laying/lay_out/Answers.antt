@@ -5,6 +5,8 @@ use Rattle.code_model.specs.declared.laying.Laid.{Laid}
 use Rattle.code_model.specs.Layout.{home_of, homes_of, groups_bytes, first_far_from, first_far, laid_of}
 use Rattle.code_model.specs.declared.laying.Group.{Group}
 use Rattle.code_model.specs.Groups.{AreGroups, AreLaidIn}
+use Rattle.code_model.specs.Offsets.{AreRising}
+use Rattle.code_model.proofs.Carried.{laid_rise}
 use Rattle.code_model.proofs.Ready.{groups_fit, groups_within, groups_end, groups_read}
 use Rattle.code_model.proofs.Layouts.{starts-increasing}
 use Rattle.code_model.proofs.Walks.{length-laid_of}
@@ -88,3 +90,6 @@ returns-clause-moved c =
     let none : c.first_far.result ≡ None = search rules in
     let near = near_is front groups homes c.in_ok-homes.ensures (sym c.first_far.ensures ∙ none) in
     subst (λ (l : Laid). AreLaidIn l groups) (sym (laid_is front back c.in_ok-code.code groups homes code c.in_ok-homes.ensures)) (all_laid front back groups c.requires.groups near (omega arith))
+
+pub returns-clause-rising : goal.returns-clause-rising
+returns-clause-rising c = subst (λ (h : Homes). AreRising h) (sym c.in_ok-homes.ensures) (laid_rise c.args.front.now c.args.groups.now c.requires.groups)
