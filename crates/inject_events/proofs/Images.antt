@@ -1,5 +1,5 @@
 -- An image by its function is an image as the machine takes it.
-use Rattle.std.proofs.Common.{◌≡◌, ℕ, suc, ◌+◌, ◌≤◌, false, true, Bool, cond, ltb, List, [], ◌∷◌, ◌++◌, length, Option, Some, None, refl, sym, ap, subst, ◌∙◌, arith}
+use Rattle.std.proofs.Common.{◌≡◌, ℕ, suc, ◌+◌, ◌*◌, ◌<◌, ◌≤◌, ◌^◌, false, true, Bool, cond, ltb, List, [], ◌∷◌, ◌++◌, length, Option, Some, None, refl, sym, ap, subst, ◌∙◌, arith}
 use Rattle.std.specs.Prelude.{map, is_some, not, codes, ◌&&◌, ◌||◌, ◌==◌, IfSome, MatchBool, Result, Ok, Err, IfOk}
 use Rattle.std.specs.List.{list_any}
 use Rattle.std.specs.Option.{option_map_or}
@@ -10,6 +10,7 @@ use Rattle.const_pool.specs.declared.class.Member.{Member}
 use Rattle.const_pool.specs.declared.class.CodeAttribute.{CodeAttribute}
 use Rattle.const_pool.specs.declared.class.Raw.{Raw}
 use Rattle.const_pool.specs.declared.pool.Const.{Const}
+use Rattle.const_pool.specs.ClassFile.{class_bytes}
 use Rattle.const_pool.specs.References.{named_text}
 use Rattle.const_pool.specs.Tail.{with_tail}
 use Rattle.code_model.specs.declared.instr.Code.{Code}
@@ -24,6 +25,7 @@ use Rattle.jvm_model.specs.Methods.{code_of}
 use Rattle.jvm_model.specs.Images.{is_off, all_off, IsMarkedMember, IsMemberImage, AreMemberImages, IsOriginal, IsRewritten, IsImage, next_number}
 use Rattle.jvm_model.specs.ImageTables.{moved_lines, moved_variables, moved_frames_of, is_stack_map_table, image_attribute, added_stack_map_table, image_attributes}
 use Rattle.jvm_model.specs.Versions.{IsVersion, entry_probe, leave_probe, unwind_code, group_of, laid_version, code_with}
+use Rattle.jvm_model.proofs.ImageSizes.{image-le}
 use Rattle.inject_events.specs.declared.error.Cause.{Cause}
 use Rattle.inject_events.specs.declared.error.Cause.TheVariants as cause
 use Rattle.inject_events.specs.declared.error.InjectError.{InjectError}
@@ -212,3 +214,9 @@ pub IsImage-answer : (c : ClassFile) (first : ℕ) (marks : List Mark) (answer :
 IsImage-answer c first marks (Ok image) readable counted is =
     λ have. subst (λ (i : Image). IsImage c first marks i.class i.homes) (sym is.1) (image-is c first marks readable counted have is.0)
 IsImage-answer c first marks (Err error) readable counted is = tt
+
+-- its bytes can be counted where those of the class are as many as a class file may have
+pub small-answer : (c : ClassFile) (first : ℕ) (marks : List Mark) (answer : Result Image InjectError) → IfOk answer (λ (image : Image). MarkedHaveCode marks c.methods → IsImage c first marks image.class image.homes)
+    → IfOk answer (λ (image : Image). MarkedHaveCode marks c.methods → length (class_bytes c) ≤ 4194304 → length (class_bytes image.class) < 2 ^ 32)
+small-answer c first marks (Ok image) is = λ have few. let most = image-le c first marks image.class image.homes (is have) in omega arith
+small-answer c first marks (Err error) is = tt

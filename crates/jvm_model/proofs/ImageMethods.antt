@@ -27,7 +27,7 @@ use Rattle.jvm_model.specs.declared.family.Family.TheVariants as family
 use Rattle.jvm_model.specs.Data.{Datum, Constant, Naming, New, Getfield, Putfield, Getstatic, Putstatic, Invokevirtual, Invokestatic, Invokeinterface, Checkcast, Instanceof, Anewarray, LdcClass, Operation, Within, Named, LdcString}
 use Rattle.jvm_model.specs.Families.{family_of}
 use Rattle.jvm_model.specs.Descriptors.{same_text}
-use Rattle.jvm_model.specs.Images.{with_code_at, IsMarkedMember, IsMemberImage, next_number, AreMemberImages, IsRewritten}
+use Rattle.jvm_model.specs.Images.{with_code_among, IsMarkedMember, IsMemberImage, next_number, AreMemberImages, IsRewritten}
 use Rattle.jvm_model.specs.Lines.{number_of, constant_in, named_interface_method, special_of, naming_of, interface_naming, multi_of, multi_naming, named_by, other_operation, given_operation, object_constant, operation_by, operation_of}
 use Rattle.jvm_model.specs.Programs.{name_of}
 use Rattle.jvm_model.specs.Resolved.{own_method, resolved_name, resolved_in}
@@ -38,7 +38,7 @@ use Rattle.jvm_model.proofs.ImagePools.{slice_get-more, named_text-more, named_c
 
 -- ---- one method
 
-code_among-with_code : (attributes : List Attribute) (before after : CodeAttribute) → code_among attributes ≡ Some before → code_among (map (with_code_at after) attributes) ≡ Some after
+code_among-with_code : (attributes : List Attribute) (before after : CodeAttribute) → code_among attributes ≡ Some before → code_among (with_code_among after attributes) ≡ Some after
 code_among-with_code [] before after e = absurd (none-some before e)
 code_among-with_code (Code name old ∷ rest) before after e = refl
 code_among-with_code (ConstantValue name index ∷ rest) before after e = code_among-with_code rest before after e

@@ -10,6 +10,8 @@ pub mod ImageLines
 pub mod ImageAgrees
 pub mod LaidLengths
 pub mod MethodsOfImages
+pub mod ImageSizes
+pub mod NumbersOfMethods
 pub mod Settles
 pub mod NormalForms
 pub mod LoopOfMoves

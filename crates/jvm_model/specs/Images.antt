@@ -26,14 +26,15 @@ all_off marks = list_all is_off marks
 
 -- ---- one method
 
--- a method's attributes with this Code in place of its own
-abbrev pub with_code_at : CodeAttribute → Attribute → Attribute
-with_code_at code (Code name old) = Code name code
-with_code_at code (ConstantValue name index) = ConstantValue name index
-with_code_at code (Other raw) = Other raw
+-- a method's attributes with this Code in place of its own, which is the first
+abbrev pub with_code_among : CodeAttribute → List Attribute → List Attribute
+with_code_among code [] = []
+with_code_among code (Code name old ∷ rest) = Code name code ∷ rest
+with_code_among code (ConstantValue name index ∷ rest) = ConstantValue name index ∷ with_code_among code rest
+with_code_among code (Other raw ∷ rest) = Other raw ∷ with_code_among code rest
 
 abbrev pub with_code : CodeAttribute → Member → Member
-with_code code m = record m { attributes = map (with_code_at code) m.attributes }
+with_code code m = record m { attributes = with_code_among code m.attributes }
 
 -- a marked method of a class with its version, whose tables are moved
 pub record IsMarkedMember (c : ClassFile) (number : ℕ) (mark : Mark) (old new : Member) (homes : Homes) : Type 0 where
