@@ -1,6 +1,6 @@
 -- The definitions of a version and of an image, computed on the worked class P1: its method f has the number 0, and its pool
 -- 24 entries.
-use Rattle.std.specs.Prelude.{◌≡◌, ℕ, ◌≤◌, List, [], ◌∷◌, length, Some, None, refl}
+use Rattle.std.specs.Prelude.{◌≡◌, ℕ, List, [], ◌∷◌, length, Some, None, refl}
 use Rattle.std.proofs.Common.{arith}
 use Rattle.op_table.specs.Opcodes.{row_of, groups}
 use Rattle.const_pool.specs.declared.class.CodeAttribute.{CodeAttribute}
@@ -87,11 +87,11 @@ abbrev p1_with : List Member → ClassFile
 p1_with methods = record p1 { pool = with_tail p1.pool; methods = methods }
 
 f_framed : IsVersion 24 0 Root (code_with f_bytes) (with_frame 16 (f_version 0x1D)) f_homes
-unfolding row_of groups
+unfolding row_of groups f_root
 f_framed = record { reading = f_reading; reads = f_reads; moved = refl; code = refl; short = f_root.short; near = refl }
 
 main_framed : IsVersion 24 1 Plain (code_with main_bytes) (with_frame 24 main_version) main_homes
-unfolding row_of groups
+unfolding row_of groups main_plain
 main_framed = record { reading = main_reading; reads = main_reads; moved = refl; code = refl; short = main_plain.short; near = refl }
 
 f_marked : IsMarkedMember p1 0 Root f_member f_rewritten f_homes
