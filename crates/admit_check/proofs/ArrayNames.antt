@@ -1,15 +1,14 @@
 -- The dimensions of a name by which code may refer to a class are those of what it stands for.
-use Rattle.std.proofs.Common.{◌≡◌, ◌≢◌, ℕ, zero, suc, ◌+◌, ◌<◌, ◌≤◌, Bool, true, false, cond, List, [], ◌∷◌, ◌++◌, length, position, take, Option, Some, None, refl, sym, ap, subst, ◌∙◌, codes, eqb-true, zero-add, arith}
-use Rattle.std.specs.Prelude.{◌==◌, ◌&&◌, ◌||◌, not, is_some, nat_le, unwrap_or}
+use Rattle.std.proofs.Common.{◌≡◌, ◌≢◌, ℕ, zero, suc, ◌+◌, ◌≤◌, Bool, true, false, cond, List, [], ◌∷◌, ◌++◌, length, position, take, Option, Some, None, refl, sym, ap, subst, ◌∙◌, codes, zero-add, arith}
+use Rattle.std.specs.Prelude.{◌==◌, ◌||◌, not, is_some, nat_le, unwrap_or}
 use Rattle.std.specs.List.{AllByRecursion}
 use Rattle.std.specs.Option.{option_and_then, option_map}
 use Rattle.std.proofs.lemmas.Bool.{le-leb, ne_eqb, eq-eqb}
 use Rattle.std.proofs.lemmas.List.{length-append}
-use Rattle.std.proofs.lemmas.Option.{none-some, same_Some}
 use Rattle.const_pool.specs.declared.descriptor.Kind.{Kind}
 use Rattle.const_pool.specs.declared.descriptor.Kind.TheVariants as kind
 use Rattle.const_pool.specs.Descriptors.{IsBase, IsField, IsName, dimensions_text}
-use Rattle.jvm_model.specs.Kinds.{Element, Primitive, Named, Meaning, array_from, array_of, before_semicolon, element_of, is_array_name, meaning_of}
+use Rattle.jvm_model.specs.Kinds.{Element, Named, array_from, array_of, before_semicolon, element_of, is_array_name, meaning_of}
 use Rattle.admit_check.specs.Texts.{dimensions_of, field_kind, is_class_name, is_field_text}
 use Rattle.admit_check.specs.Texts as texts
 use Rattle.admit_check.proofs.Grammar.{field_kind_found}

@@ -1,5 +1,5 @@
 -- The codes of a class that breaks no rule: they are read, lead to themselves, and each instruction has an operation.
-use Rattle.std.proofs.Common.{◌≡◌, ℕ, zero, suc, ◌+◌, Bool, true, false, List, [], ◌∷◌, ◌++◌, length, map, Option, Some, None, Result, Ok, is_some, refl, sym, ap, subst, ◌∙◌}
+use Rattle.std.proofs.Common.{◌≡◌, ℕ, zero, suc, ◌+◌, Bool, true, false, List, [], ◌∷◌, ◌++◌, length, map, Option, Some, None, Result, Ok, refl, sym, subst}
 use Rattle.std.specs.Prelude.{not, slice_get}
 use Rattle.std.specs.List.{AllByRecursion}
 use Rattle.std.specs.Option.{option_and_then, option_map, option_or}
@@ -13,7 +13,6 @@ use Rattle.code_model.specs.declared.error.CodeError.{CodeError}
 use Rattle.code_model.specs.declared.instr.Instr.{Instr}
 use Rattle.code_model.specs.Instructions.{instruction_at}
 use Rattle.code_model.proofs.Readings.{Reads-each}
-use Rattle.jvm_model.specs.Lines.{operation_of}
 use Rattle.jvm_model.specs.Methods.{code_of, method_code}
 use Rattle.inject_events.specs.Answers.{IsProfilable, IsReadableClass}
 use Rattle.admit_check.specs.declared.error.AdmitError.{AdmitError}
@@ -39,7 +38,7 @@ use Rattle.jvm_model.specs.Whole.{HasSoundCode, instrs_of}
 use Rattle.jvm_model.proofs.PoolTexts.{have-texts, named-there}
 use Rattle.admit_check.proofs.Operations.{operation-there}
 use Rattle.admit_check.proofs.ReadCodes.{code-read}
-use Rattle.admit_check.proofs.CodeStarts.{IsReadAs, code-sound, first-none, fits-of, mapped-none, read-as, rest-none}
+use Rattle.admit_check.proofs.CodeStarts.{code-sound, first-none, fits-of, mapped-none, read-as, rest-none}
 
 -- each code of the class leads to its own starts
 abbrev pub HaveSoundCodes : ClassFile → Type 0

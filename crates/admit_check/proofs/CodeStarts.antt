@@ -1,15 +1,13 @@
 -- A code without a fault is instructions from its front to its end, which lead to starts of instructions, and so do its handlers, whose ranges may
 -- end where the code does.
-use Rattle.std.proofs.Common.{◌≡◌, ℕ, zero, suc, ◌+◌, ◌≤◌, Bool, true, false, cond, List, [], ◌∷◌, length, Option, Some, None, Result, Ok, refl, sym, ap, subst, ◌∙◌, arith, eqb-true}
-use Rattle.std.specs.Prelude.{◌==◌, ◌||◌, ◌&&◌, not, slice_get}
+use Rattle.std.proofs.Common.{◌≡◌, ℕ, zero, suc, ◌+◌, ◌≤◌, Bool, true, false, List, [], ◌∷◌, length, Option, Some, None, Result, Ok, refl, sym, ap, subst, ◌∙◌, arith, eqb-true}
+use Rattle.std.specs.Prelude.{◌==◌, ◌||◌, not}
 use Rattle.std.specs.List.{AllByRecursion, list_all}
-use Rattle.std.specs.Option.{option_and_then, option_map, option_map_or, option_or}
-use Rattle.std.proofs.lemmas.Bool.{and_parts, cases_eq, eq-eqb}
+use Rattle.std.specs.Option.{option_map, option_map_or, option_or}
+use Rattle.std.proofs.lemmas.Bool.{and_parts, eq-eqb}
 use Rattle.std.proofs.lemmas.Option.{none-some}
-use Rattle.const_pool.specs.declared.class.ClassFile.{ClassFile}
 use Rattle.const_pool.specs.declared.class.CodeAttribute.{CodeAttribute}
 use Rattle.const_pool.specs.declared.class.Handler.{Handler}
-use Rattle.const_pool.specs.declared.class.Member.{Member}
 use Rattle.const_pool.specs.declared.descriptor.Kind.{Kind}
 use Rattle.const_pool.specs.declared.pool.Const.{Const}
 use Rattle.code_model.specs.declared.error.CodeError.{CodeError}
@@ -17,15 +15,14 @@ use Rattle.code_model.specs.declared.instr.Arg.{Arg}
 use Rattle.code_model.specs.declared.instr.Arg.TheVariants as arg
 use Rattle.code_model.specs.declared.instr.Instr.{Instr}
 use Rattle.code_model.specs.Groups as groups
-use Rattle.code_model.specs.Instructions.{Reads, end_of, instruction_at}
+use Rattle.code_model.specs.Instructions.{Reads, end_of}
 use Rattle.code_model.proofs.Lengths.{size_at-some}
 use Rattle.code_model.proofs.Readings.{at-instruction_at, instruction_at-past, instruction_at_within}
 use Rattle.jvm_model.specs.Lines.{targets_of}
-use Rattle.jvm_model.specs.Methods.{code_of, method_code}
 use Rattle.jvm_model.specs.Places.{is_start_in, read_from}
 use Rattle.admit_check.specs.Checks.{fault_if, first_in}
-use Rattle.admit_check.specs.Codes.{Method, cause_of, code_fault, codes_fault, falls, fault_by, fits_handler, handler_fault, instr_fault, method_with, read_fault, result_of}
-use Rattle.admit_check.specs.Uses.{fits_locals, fits_pool, fits_targets, is_start}
+use Rattle.admit_check.specs.Codes.{Method, cause_of, code_fault, fault_by, fits_handler, handler_fault, instr_fault, method_with, read_fault}
+use Rattle.admit_check.specs.Uses.{fits_targets, is_start}
 use Rattle.admit_check.proofs.Decoded.{reading_found}
 use Rattle.jvm_model.specs.Whole.{FitsHandler, HasSoundCode, instrs_of, is_stop}
 use Rattle.admit_check.proofs.ReadCodes.{code-read}

@@ -31,10 +31,6 @@ use Rattle.admit_check.proofs.FitFiles
 
 -- ---- lists
 
-all-append : {A : Type 0} (P : A → Type 0) (xs ys : List A) → AllByRecursion P xs → AllByRecursion P ys → AllByRecursion P (xs ++ ys)
-all-append P [] ys a b = b
-all-append P (x ∷ xs) ys a b = (a.0, all-append P xs ys a.1 b)
-
 -- an element of the first list, or one of the second
 record IsPast (at front : ℕ) (files : List ClassFile) (c : ClassFile) : Type 0 where
   k : ℕ

@@ -1,8 +1,8 @@
 -- Each instruction of a code without a fault does something that the rules of instructions know.
-use Rattle.std.proofs.Common.{◌≡◌, ℕ, zero, suc, ◌+◌, ◌<◌, ◌≤◌, Bool, true, false, cond, List, [], ◌∷◌, length, Option, Some, None, inl, inr, refl, sym, ap, subst, ◌∙◌, eqb-true, arith}
+use Rattle.std.proofs.Common.{◌≡◌, ℕ, zero, suc, ◌<◌, ◌≤◌, Bool, true, false, cond, List, [], ◌∷◌, Option, Some, None, inl, inr, refl, sym, ap, subst, ◌∙◌, eqb-true, arith}
 use Rattle.std.specs.Prelude.{◌⊎◌, ◌==◌, ◌&&◌, ◌||◌, not, is_some, nat_le, nat_lt, slice_get}
 use Rattle.std.specs.Int.{is_in_range}
-use Rattle.std.specs.List.{AllByRecursion, list_all}
+use Rattle.std.specs.List.{list_all}
 use Rattle.std.specs.Option.{option_and_then, option_map, option_map_or}
 use Rattle.std.proofs.lemmas.Bool.{and_parts, cases_eq, cases_lt, false≢true, le-leb, leb-true, lt-ltb, ltb-true}
 use Rattle.std.proofs.lemmas.Option.{none-some, same_Some}
@@ -10,7 +10,7 @@ use Rattle.const_pool.specs.declared.class.ClassFile.{ClassFile}
 use Rattle.const_pool.specs.declared.pool.Const.{Const}
 use Rattle.const_pool.specs.declared.pool.Const.TheVariants as const
 use Rattle.const_pool.specs.Pool.{entry_at, entry_of}
-use Rattle.const_pool.specs.References.{Reference, named_class, named_field, named_method, named_text}
+use Rattle.const_pool.specs.References.{Reference, named_class, named_method, named_text}
 use Rattle.op_table.specs.declared.Form.{Form}
 use Rattle.op_table.specs.declared.Form.TheVariants as form
 use Rattle.op_table.specs.declared.OpRow.{OpRow}
@@ -27,15 +27,14 @@ use Rattle.jvm_model.specs.declared.family.Family.TheVariants as family
 use Rattle.jvm_model.specs.Data.{Anewarray, Checkcast, Constant, Getfield, Getstatic, Instanceof, Invokeinterface, Invokestatic, Invokevirtual, Local, Multianewarray, Named, Naming, New, Newarray, Operation, Putfield, Putstatic, Within}
 use Rattle.jvm_model.specs.Families.{family_of, rows}
 use Rattle.jvm_model.specs.Kinds.{meaning_of}
-use Rattle.jvm_model.specs.Lines.{constant_in, given_operation, has_dimensions, interface_naming, local_of, multi_naming, multi_of, named_by, named_interface_method, naming_of, newarray_of, number_of, object_among, object_constant, object_constant_in, object_rows, operation_by, operation_of, other_operation, special_of}
+use Rattle.jvm_model.specs.Lines.{given_operation, has_dimensions, interface_naming, multi_naming, multi_of, named_by, named_interface_method, naming_of, newarray_of, number_of, object_among, object_constant, object_rows, operation_by, operation_of, other_operation, special_of}
 use Rattle.jvm_model.specs.Programs.{name_of}
 use Rattle.jvm_model.proofs.Opcodes.{all_below, all_below-each}
 use Rattle.admit_check.specs.Floating.{is_floating_entry, is_floating_index, is_floating_instr, is_floating_operand}
-use Rattle.admit_check.specs.Texts.{dimensions_of, is_class_name, is_field_text, is_method_text}
-use Rattle.admit_check.specs.Uses.{fits_pool, fits_type, fits_use, is_loadable, is_member_name, is_wide_constant, named_dimensions, pool_use}
-use Rattle.admit_check.specs.declared.uses.PoolUse.TheVariants as use_of
+use Rattle.admit_check.specs.Texts.{dimensions_of, is_class_name}
+use Rattle.admit_check.specs.Uses.{fits_pool, fits_type, fits_use, is_loadable, is_wide_constant, named_dimensions, pool_use}
 use Rattle.admit_check.proofs.ArrayNames.{class-dimensions}
-use Rattle.jvm_model.proofs.PoolTexts.{HasText, HaveTexts}
+use Rattle.jvm_model.proofs.PoolTexts.{HaveTexts}
 
 -- ---- opcodes, by the form of their operand
 

@@ -1,17 +1,15 @@
 -- A class without a fault can be rewritten.
-use Rattle.std.proofs.Common.{◌≡◌, ℕ, List, [], ◌∷◌, ◌++◌, length, Option, Some, None, refl}
+use Rattle.std.proofs.Common.{◌≡◌, ℕ, [], ◌∷◌, Option, Some, None, refl}
 use Rattle.std.specs.Option.{option_map, option_or}
-use Rattle.std.specs.List.{AllByRecursion}
 use Rattle.const_pool.specs.declared.class.ClassFile.{ClassFile}
 use Rattle.inject_events.specs.Answers.{IsProfilable}
 use Rattle.inject_events.specs.Rewriting.{Refused, refused_of, all_plain}
 use Rattle.inject_events.proofs.Rooms.{neither}
 use Rattle.admit_check.specs.declared.error.AdmitError.{AdmitError}
-use Rattle.admit_check.specs.Admission.{class_fault, classes_fault}
 use Rattle.admit_check.specs.Checks.{first_of}
 use Rattle.admit_check.specs.Codes.{codes_fault}
 use Rattle.admit_check.specs.Floating.{floating_fault}
-use Rattle.admit_check.specs.Shapes.{name_fault, shape_fault}
+use Rattle.admit_check.specs.Shapes.{shape_fault}
 use Rattle.admit_check.specs.Profiling.{profiling_fault, refusal_told}
 
 none-told : (k : ℕ) (refused : Option Refused) → option_map (refusal_told k) refused ≡ None → refused ≡ None
@@ -34,9 +32,3 @@ profilable-class named k c fine =
     let d = neither (codes_fault k c) behind_codes b.1 in
     let e = neither (floating_fault k c) behind_floats d.1 in
     profilable-none k c (neither (profiling_fault k c) None e.1).0
-
-pub profilable-classes : (earlier classes : List ClassFile) → classes_fault earlier classes ≡ None → AllByRecursion IsProfilable classes
-profilable-classes earlier [] fine = tt
-profilable-classes earlier (c ∷ rest) fine =
-    let parts = neither (class_fault earlier (length earlier) c) (classes_fault (earlier ++ c ∷ []) rest) fine in
-    (profilable-class (name_fault earlier (length earlier) c) (length earlier) c parts.0, profilable-classes (earlier ++ c ∷ []) rest parts.1)

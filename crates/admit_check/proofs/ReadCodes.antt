@@ -1,15 +1,10 @@
 -- A code that has no fault is instructions: reading never wants memory.
-use Rattle.std.proofs.Common.{◌≡◌, ℕ, zero, suc, Bool, true, false, List, [], ◌∷◌, Option, Some, None, Result, Ok, Err, map, inl, inr, refl, sym, subst}
-use Rattle.std.specs.Prelude.{◌⊎◌, ℤ, int_le, slice_get}
-use Rattle.std.specs.Int.{w8, w16, w32}
-use Rattle.std.specs.Option.{option_and_then, option_map}
-use Rattle.std.proofs.lemmas.Option.{none-some, same_Some}
-use Rattle.const_pool.specs.declared.class.ClassFile.{ClassFile}
+use Rattle.std.proofs.Common.{◌≡◌, ℕ, zero, suc, Bool, true, false, List, Option, None, Result, Ok, Err, map, inl, inr, refl, sym}
+use Rattle.std.specs.Prelude.{int_le}
+use Rattle.std.proofs.lemmas.Option.{none-some}
 use Rattle.const_pool.specs.declared.class.CodeAttribute.{CodeAttribute}
-use Rattle.const_pool.specs.declared.class.Member.{Member}
 use Rattle.const_pool.specs.declared.descriptor.Kind.{Kind}
 use Rattle.const_pool.specs.declared.pool.Const.{Const}
-use Rattle.const_pool.specs.ClassFile.{IsClassFile}
 use Rattle.op_table.specs.declared.Form.{Form}
 use Rattle.op_table.specs.declared.Form.TheVariants as form
 use Rattle.op_table.specs.Opcodes.{row_of}
@@ -17,14 +12,9 @@ use Rattle.code_model.specs.declared.error.CodeError.{CodeError}
 use Rattle.code_model.specs.declared.error.CodeError.TheVariants.{BadOpcode, BadSwitch, Cut, NoMemory}
 use Rattle.code_model.specs.declared.instr.Instr.{Instr}
 use Rattle.code_model.specs.Formats.{Format, either, in_turn, many, tested}
-use Rattle.code_model.specs.Instructions.{IsFirstFault}
-use Rattle.code_model.specs.Operands.{behind_opcode, behind_wide, case_count, form_of, instruction, is_count, is_wide, key_of, keys_rise, operand, pair}
-use Rattle.jvm_model.specs.Methods.{code_of}
-use Rattle.inject_events.specs.Answers.{IsReadableClass}
-use Rattle.admit_check.specs.Codes.{AreRead, IsRead, code_fault, codes_fault, fault_by, instructions_of, method_fault, reading_fault, result_of, told_in}
-use Rattle.admit_check.specs.Checks.{first_from}
+use Rattle.code_model.specs.Operands.{behind_opcode, case_count, form_of, instruction, is_count, is_wide, key_of, keys_rise, operand}
+use Rattle.admit_check.specs.Codes.{IsRead, code_fault, fault_by, instructions_of}
 use Rattle.admit_check.proofs.Decoded.{fault_found}
-use Rattle.admit_check.proofs.Readable.{IsReadableClass-read}
 
 -- ---- the first fault of bytes that are no code is one of the format
 

@@ -2,15 +2,26 @@
 
 ghost use Rattle.std.specs.Prelude.{◌≡◌, IfOk};
 ghost use Rattle.inject_events.specs.Answers.{IsReadableClass};
-ghost use Rattle.inject_events.specs.Rewriting.{all_plain};
+ghost use Rattle.inject_events.specs.Rewriting.{plain_mark, all_plain};
 ghost use Rattle.admit_check.specs.Profiling.{profiling_fault};
 
+use crate::codes::code_of;
 use crate::error::AdmitError;
-use const_pool::ClassFile;
+use const_pool::{ClassFile, Member};
 use inject_events::{InjectError, instrument};
 use jf_bytes::{NoMemory, Seq};
 use jvm_model::Mark;
 use std::alloc::Global;
+
+/// The mark with which a method is tried.
+fn plain_mark(method: &Member) -> Mark
+    ensures { result ≡ plain_mark method.now }
+{
+    match code_of(method) {
+        Some(_code) => Mark::Plain,
+        None => Mark::Off,
+    }
+}
 
 /// A mark for each method.
 fn all_plain(alloc: Global, class: &ClassFile) -> Result<Seq<Mark>, NoMemory>
@@ -18,13 +29,13 @@ fn all_plain(alloc: Global, class: &ClassFile) -> Result<Seq<Mark>, NoMemory>
 {
     let methods = class.methods.as_slice();
     let mut marks = Seq::with_capacity(alloc, methods.len())?;
-    for _method in methods {
-        marks.push(Mark::Plain)?;
+    for method in methods {
+        marks.push(plain_mark(method))?;
     }
     Ok(marks)
 }
 
-/// The fault of the first method that cannot be rewritten where all methods are. What they become is made and given up: the size of
+/// The fault of the first method that cannot be rewritten where all methods with Code are. What they become is made and given up: the size of
 /// each table is known only then.
 pub(crate) fn profiling_fault(
     alloc: Global,

@@ -7,6 +7,7 @@ use Rattle.class_reader.specs.declared.error.ReadError.{ReadError}
 use Rattle.class_reader.specs.Files.{IsFile, IsFirstFault, most_bytes}
 use Rattle.jvm_model.specs.declared.event.Mark.{Mark}
 use Rattle.admit_check.specs.Admission.{class_fault}
+use Rattle.inject_events.specs.Answers.{MarkedHaveCode}
 use Rattle.inject_events.specs.Rewriting.{image_of, refused_of}
 use Rattle.class_image.specs.declared.imaging.ImageError.{ImageError}
 use Rattle.class_image.specs.declared.imaging.ImageError.TheVariants.{NotNumbered, NotMarked, NotFetched, NotRead, NotAdmitted, NotPut, NoMemory}
@@ -22,6 +23,7 @@ pub record IsImageOf (bytes : List ℕ) (first : ℕ) (marks : List Mark) (out :
   pub class : ClassFile
   pub admitted : IsAdmittedFile bytes class
   pub counted : length marks ≡ length class.methods
+  pub coded : MarkedHaveCode marks class.methods
   pub profilable : refused_of class first marks ≡ None
   pub image : out ≡ class_bytes (image_of class first marks).class
 
@@ -33,8 +35,12 @@ IsNoFile bytes = (fault : ReadError) × IsFirstFault bytes fault
 abbrev pub IsNotAdmitted : List ℕ → Type 0
 IsNotAdmitted bytes = (class : ClassFile) × IsFile bytes class × (class_fault [] 0 class ≢ None)
 
+-- there are other methods than marks, or a method without Code is marked
+abbrev pub AreNoMarks : ClassFile → List Mark → Type 0
+AreNoMarks class marks = (length marks ≢ length class.methods) ⊎ (MarkedHaveCode marks class.methods → ⊥)
+
 abbrev pub IsNotMarked : List ℕ → List Mark → Type 0
-IsNotMarked bytes marks = (class : ClassFile) × IsFile bytes class × (length marks ≢ length class.methods)
+IsNotMarked bytes marks = (class : ClassFile) × IsFile bytes class × AreNoMarks class marks
 
 -- what a refusal says of the bytes of a file
 abbrev pub IsRefusal : List ℕ → ℕ → List Mark → ImageError → Type 0
@@ -99,7 +105,7 @@ IsTold told name first marks NoMemory = Unit {0}
 -- what standard error tells of a refusal
 abbrev pub reason_of : ImageError → List ℕ
 reason_of NotNumbered = codes "its first method has no number"
-reason_of NotMarked = codes "it has other methods than marks"
+reason_of NotMarked = codes "its methods cannot have these marks"
 reason_of NotFetched = codes "it could not be fetched"
 reason_of NotRead = codes "it is no class file"
 reason_of NotAdmitted = codes "it is not admitted"

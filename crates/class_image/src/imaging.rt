@@ -11,7 +11,7 @@ use admit_check::{AdmitError, admit_class};
 use class_reader::{MOST_BYTES, ReadError, read_class};
 use class_writer::write_fitting;
 use const_pool::ClassFile;
-use inject_events::{InjectError, instrument};
+use inject_events::{InjectError, instrument, marked_have_code};
 use jf_bytes::{FetchError, Files, Sink};
 use jvm_model::Mark;
 use std::alloc::Global;
@@ -21,7 +21,7 @@ use std::alloc::Global;
 pub enum ImageError {
     /// The word for the number of the first method with Code is none.
     NotNumbered,
-    /// The letters are no marks, or not one for each method.
+    /// The letters are no marks, or not one for each method, or one marks a method without Code.
     NotMarked,
     NotFetched,
     NotRead,
@@ -73,6 +73,9 @@ fn image_bytes(
         Err(error) => return Err(error),
     };
     if marks.len() != class.methods.len() {
+        return Err(ImageError::NotMarked);
+    }
+    if !marked_have_code(marks, class.methods.as_slice()) {
         return Err(ImageError::NotMarked);
     }
     let image = match instrument(alloc, &class, first, marks) {

@@ -1,5 +1,5 @@
 //! Rewrites class files: `class_image FILE FIRST MARKS ..` puts the image of each to standard output. FIRST is the number of the
-//! class's first method with Code, and MARKS has one letter a method: O for one that stays, P for a plain one, R for a root. It
+//! class's first method with Code, and MARKS has one letter a method: O for one that stays or has no Code, P for a plain one, R for a root. It
 //! shows on real files what rewriting makes.
 #![tactic(auto)]
 
@@ -20,7 +20,7 @@ fn reason(error: ImageError) -> &'static str
 {
     match error {
         ImageError::NotNumbered => "its first method has no number",
-        ImageError::NotMarked => "it has other methods than marks",
+        ImageError::NotMarked => "its methods cannot have these marks",
         ImageError::NotFetched => "it could not be fetched",
         ImageError::NotRead => "it is no class file",
         ImageError::NotAdmitted => "it is not admitted",

@@ -30,7 +30,7 @@ use Rattle.code_model.specs.Layout.{home_of, first_far}
 use Rattle.code_model.proofs.Walks.{length-laid_of}
 use Rattle.jvm_model.specs.declared.event.Mark.{Mark}
 use Rattle.jvm_model.specs.declared.event.Mark.TheVariants.{Off, Plain, Root}
-use Rattle.jvm_model.specs.Images.{all_off, next_number, with_code_at}
+use Rattle.jvm_model.specs.Images.{all_off, next_number, with_code_among}
 use Rattle.jvm_model.specs.Methods.{code_of}
 use Rattle.jvm_model.specs.Versions.{probe_bytes, group_of, moved_handler, catch_all}
 use Rattle.jvm_model.proofs.ImagePools.{named_text-more}
@@ -51,7 +51,8 @@ use Rattle.inject_events.specs.Answers.{IsReadableCode, IsReadableBody, HasReada
 use Rattle.inject_events.specs.Probing.{first_marked}
 use Rattle.inject_events.specs.Rewriting.{Refused, instrs_in, laid_version_of, version_of, version_cause, far_cause, cause_of_coded, cause_of_method, image_of_coded, image_of_method, images_from, refused_here, refused_from, is_full_pool, refused_of_marked, refused_of, original_of, image_of_marked, image_of}
 use Rattle.inject_events.specs.Settings.{setting_of, probes_in, entry_in}
-use Rattle.inject_events.specs.Tables.{table_of, last_frame, is_writable, version_frames, framed_or_kept, moved_table, moved_raw, lacks_frames, added_table, added_tables}
+use Rattle.jvm_model.specs.ImageTables.{last_frame, is_writable}
+use Rattle.inject_events.specs.Tables.{table_of, version_frames, framed_or_kept, moved_table, moved_raw, lacks_frames, added_table, added_tables}
 use Rattle.inject_events.proofs.Built.{IsCode-among}
 use Rattle.inject_events.proofs.InstrsIn.{instrs_in-is}
 use Rattle.inject_events.proofs.LaidBytes.{AreBytes, both, probe, laid, home-le, table, moved-lines, moved-variables}
@@ -255,11 +256,19 @@ version-formed c number mark old room is readable none =
 -- ---- a method
 
 with-version : (pool more : List Const) (new : CodeAttribute) (attributes : List Attribute) → IsCode (pool ++ more) new → AllByRecursion (IsMethodAttribute pool) attributes
-    → AllByRecursion (IsMethodAttribute (pool ++ more)) (map (with_code_at new) attributes)
+    → AllByRecursion (IsMethodAttribute (pool ++ more)) (with_code_among new attributes)
 with-version pool more new [] is are = tt
 with-version pool more new (ConstantValue name index ∷ rest) is are = absurd are.0
-with-version pool more new (Code name old ∷ rest) is are = ((are.0.0, named_text-more pool more name code_name are.0.1, is), with-version pool more new rest is are.1)
+with-version pool more new (Code name old ∷ rest) is are =
+    ((are.0.0, named_text-more pool more name code_name are.0.1, is), each-weaker (IsMethodAttribute pool) (IsMethodAttribute (pool ++ more)) rest (method-more pool more) are.1)
 with-version pool more new (Other raw ∷ rest) is are = (method-more pool more (Other raw) are.0, with-version pool more new rest is are.1)
+
+-- as many attributes as before
+with-count : (new : CodeAttribute) (attributes : List Attribute) → length (with_code_among new attributes) ≡ length attributes
+with-count new [] = refl
+with-count new (ConstantValue name index ∷ rest) = ap suc (with-count new rest)
+with-count new (Code name old ∷ rest) = refl
+with-count new (Other raw ∷ rest) = ap suc (with-count new rest)
 
 coded-formed : (c : ClassFile) (number : ℕ) (mark : Mark) (m : Member) (code : Option CodeAttribute) → length c.pool + 18 ≤ 65535 → code_of m ≡ code → IsMember IsMethodAttribute c.pool m → IfSome code (λ k. IsReadableCode k.code)
     → cause_of_coded (setting_of c) number mark code ≡ None → IsMember IsMethodAttribute (with_tail c.pool) (image_of_coded (setting_of c) number mark m code).member
@@ -268,7 +277,7 @@ coded-formed c number mark m (Some old) room coded is body none =
     let more : List Const = tail_entries (length c.pool) in
     let new : CodeAttribute = (version_of (setting_of c) number mark old).code in
     let formed = version-formed c number mark old room (IsCode-among c.pool m.attributes old is.attributes coded) body none in
-    let same = length-map m.attributes (with_code_at new) in
+    let same = with-count new m.attributes in
     record {
       access = is.access;
       name = is.name;

@@ -26,7 +26,7 @@ use Rattle.stackmap_shift.specs.declared.frames.VType.TheVariants as item
 use Rattle.stackmap_shift.specs.DebugTables.{line_bytes, variable_bytes, rows_bytes, lines_of, variables_of, moved_line, moved_variable, shifted_lines, shifted_variables}
 use Rattle.stackmap_shift.specs.Spelling.{type_bytes, types_bytes, counted_bytes, short_or_long, kind_bytes, frame_bytes, delta_of, frames_bytes, table_bytes}
 use Rattle.stackmap_shift.specs.Tables.{◌>>=◌}
-use Rattle.inject_events.specs.Tables.{moved_or_kept}
+use Rattle.jvm_model.specs.ImageTables.{moved_or_kept}
 
 -- ---- lists
 

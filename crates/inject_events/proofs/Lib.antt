@@ -6,6 +6,8 @@ pub mod InstrsIn
 pub mod Tabling
 pub mod Causes
 pub mod Rooms
+pub mod Marked
+pub mod Coding
 pub mod Profilable
 pub mod TailPools
 pub mod LaidBytes

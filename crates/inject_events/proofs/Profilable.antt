@@ -1,7 +1,7 @@
--- Whether a class can be rewritten does not depend on the numbers of its methods, nor on which marks other than Off they have: all
--- probes have the same lengths.
+-- Whether a class can be rewritten does not depend on the numbers of its methods, nor on which marks other than Off those with Code
+-- have: all probes have the same lengths.
 use Rattle.std.proofs.Common.{◌≡◌, ◌≢◌, ℕ, ◌+◌, ◌*◌, Bool, true, false, cond, ltb, List, [], ◌∷◌, ◌++◌, length, Option, Some, None, refl, sym, ap, subst, ◌∙◌, arith}
-use Rattle.std.specs.Prelude.{map, Result, Err}
+use Rattle.std.specs.Prelude.{map, is_some, ◌&&◌, Result, Err}
 use Rattle.std.specs.List.{flat_map}
 use Rattle.std.specs.Option.{option_or}
 use Rattle.std.proofs.lemmas.Option.{none-some}
@@ -18,7 +18,7 @@ use Rattle.code_model.proofs.Walks.{length-laid_of}
 use Rattle.jvm_model.specs.declared.event.Mark.{Mark}
 use Rattle.jvm_model.specs.declared.event.Mark.TheVariants.{Off, Plain, Root}
 use Rattle.jvm_model.specs.Methods.{code_of}
-use Rattle.jvm_model.specs.Images.{all_off, next_number}
+use Rattle.jvm_model.specs.Images.{is_off, all_off, next_number}
 use Rattle.jvm_model.specs.Versions.{is_return_opcode, group_of, probe_bytes}
 use Rattle.inject_events.specs.declared.error.Cause.{Cause}
 use Rattle.inject_events.specs.declared.error.Cause.TheVariants as cause
@@ -27,9 +27,9 @@ use Rattle.inject_events.specs.declared.error.InjectError.TheVariants as inject
 use Rattle.inject_events.specs.declared.image.Image.{Image}
 use Rattle.inject_events.specs.declared.probes.Probes.{Probes}
 use Rattle.inject_events.specs.declared.settings.Setting.{Setting}
-use Rattle.inject_events.specs.Answers.{IsImageAnswer, IsProfilable}
+use Rattle.inject_events.specs.Answers.{IsImageAnswer, IsProfilable, MarkedHaveCode}
 use Rattle.inject_events.specs.Probing.{laid_with, first_marked}
-use Rattle.inject_events.specs.Rewriting.{Refused, instrs_in, code_around, version_of, room_cause, far_cause, layout_cause, size_cause, version_cause, cause_of_coded, cause_of_method, refused_here, refused_from, is_full_pool, refused_of_marked, refused_of, all_plain}
+use Rattle.inject_events.specs.Rewriting.{Refused, instrs_in, code_around, version_of, room_cause, far_cause, layout_cause, size_cause, version_cause, cause_of_coded, cause_of_method, refused_here, refused_from, is_full_pool, refused_of_marked, refused_of, plain_mark, all_plain}
 use Rattle.inject_events.specs.Settings.{setting_of, probes_in, entry_in}
 use Rattle.inject_events.proofs.Rooms.{none_of}
 use Rattle.inject_events.proofs.Tabling.{length-code_bytes}
@@ -156,10 +156,17 @@ coded-same : (s : Setting) (n m : ℕ) (a b : Mark) (code : Option CodeAttribute
 coded-same s n m a b None none = refl
 coded-same s n m a b (Some old) none = version_cause-same s n m a b old ∙ none
 
-method-same : (s : Setting) (n m : ℕ) (mark : Mark) (method : Member) → cause_of_method s m Plain method ≡ None → cause_of_method s n mark method ≡ None
+-- where a method is tried, it has Code
+tried-coded : (s : Setting) (n m : ℕ) (a : Mark) (method : Member) (code : Option CodeAttribute) → code_of method ≡ code → cause_of_method s m (cond (is_some code) Plain Off) method ≡ None
+    → cause_of_coded s n a code ≡ None
+tried-coded s n m a method None coded none = refl
+tried-coded s n m a method (Some old) coded none =
+    coded-same s n m a Plain (Some old) (subst (λ (o : Option CodeAttribute). cause_of_coded s m Plain o ≡ None) coded none)
+
+method-same : (s : Setting) (n m : ℕ) (mark : Mark) (method : Member) → cause_of_method s m (plain_mark method) method ≡ None → cause_of_method s n mark method ≡ None
 method-same s n m Off method none = refl
-method-same s n m Plain method none = coded-same s n m Plain Plain (code_of method) none
-method-same s n m Root method none = coded-same s n m Root Plain (code_of method) none
+method-same s n m Plain method none = tried-coded s n m Plain method (code_of method) refl none
+method-same s n m Root method none = tried-coded s n m Root method (code_of method) refl none
 
 -- ---- the class
 
@@ -171,11 +178,11 @@ none-here : (position : ℕ) (why : Option Cause) (later : Option Refused) → w
 none-here position None later none rest = rest
 none-here position (Some why) later none rest = absurd cc
 
-methods-same : (s : Setting) (n m place position : ℕ) (marks : List Mark) (methods : List Member) → refused_from s m place (map (λ (x : Member). Plain) methods) methods ≡ None → refused_from s n position marks methods ≡ None
+methods-same : (s : Setting) (n m place position : ℕ) (marks : List Mark) (methods : List Member) → refused_from s m place (map plain_mark methods) methods ≡ None → refused_from s n position marks methods ≡ None
 methods-same s n m place position [] methods none = refl
 methods-same s n m place position (mark ∷ marks) [] none = refl
 methods-same s n m place position (mark ∷ marks) (x ∷ methods) none =
-    let parts = here-none place (cause_of_method s m Plain x) (refused_from s (next_number m x) (place + 1) (map (λ (y : Member). Plain) methods) methods) none in
+    let parts = here-none place (cause_of_method s m (plain_mark x) x) (refused_from s (next_number m x) (place + 1) (map plain_mark methods) methods) none in
     none-here position (cause_of_method s n mark x) (refused_from s (next_number n x) (position + 1) marks methods) (method-same s n m mark x parts.0)
     (methods-same s (next_number n x) (next_number m x) (place + 1) (position + 1) marks methods parts.1)
 
@@ -184,24 +191,38 @@ marked-same c first marks none =
     let parts = none_of (is_full_pool c) (first_marked (all_plain c), cause.Pool) (refused_from (setting_of c) 0 0 (all_plain c) c.methods) none in
     rw parts.0 (methods-same (setting_of c) first 0 0 0 marks c.methods parts.1)
 
-pub refused_of-profilable : (c : ClassFile) (first : ℕ) (marks : List Mark) → length marks ≡ length c.methods → IsProfilable c → refused_of c first marks ≡ None
-refused_of-profilable c first marks counted none = by_methods c.methods refl counted
+-- where no method has Code, none is marked
+off-uncoded : (mark : Mark) (coded : Bool) → (is_off mark ≡ false → coded ≡ true) → is_off (cond coded Plain Off) ≡ true → is_off mark ≡ true
+off-uncoded Off coded has off = refl
+off-uncoded Plain true has off = absurd cc
+off-uncoded Plain false has off = absurd (let found = has refl in cc)
+off-uncoded Root true has off = absurd cc
+off-uncoded Root false has off = absurd (let found = has refl in cc)
+
+both : (a b : Bool) → (a && b) ≡ true → (a ≡ true) × (b ≡ true)
+both true b is = (refl, is)
+both false b is = absurd cc
+
+off-marks : (marks : List Mark) (methods : List Member) → length marks ≡ length methods → MarkedHaveCode marks methods → all_off (map plain_mark methods) ≡ true → all_off marks ≡ true
+off-marks [] methods counted have off = refl
+off-marks (mark ∷ marks) [] counted have off = absurd (omega (arith, counted))
+off-marks (mark ∷ marks) (m ∷ methods) counted have off =
+    let parts = both (is_off (plain_mark m)) (all_off (map plain_mark methods)) off in
+    rw (off-uncoded mark (is_some (code_of m)) have.0 parts.0) (off-marks marks methods (omega (arith, counted)) have.1 parts.1)
+
+pub refused_of-profilable : (c : ClassFile) (first : ℕ) (marks : List Mark) → length marks ≡ length c.methods → MarkedHaveCode marks c.methods → IsProfilable c → refused_of c first marks ≡ None
+refused_of-profilable c first marks counted have none = by_plain (all_off (all_plain c)) refl none
   where
     by_marked : (off : Bool) → refused_of_marked c 0 (all_plain c) ≡ None → cond off None (refused_of_marked c first marks) ≡ None
     by_marked true plain = refl
     by_marked false plain = marked-same c first marks plain
 
-    by_methods : (methods : List Member) → c.methods ≡ methods → length marks ≡ length methods → refused_of c first marks ≡ None
-    by_methods [] same counted = by_marks marks counted
-      where
-        by_marks : (ms : List Mark) → length ms ≡ 0 → cond (all_off ms) None (refused_of_marked c first ms) ≡ None
-        by_marks [] counted = refl
-        by_marks (m ∷ ms) counted = absurd (omega (arith, counted))
-    by_methods (m ∷ methods) same counted =
-        by_marked (all_off marks) (subst (λ (ms : List Member). cond (all_off (map (λ (x : Member). Plain) ms)) None (refused_of_marked c 0 (all_plain c)) ≡ None) same none)
+    by_plain : (plain : Bool) → all_off (all_plain c) ≡ plain → cond plain None (refused_of_marked c 0 (all_plain c)) ≡ None → refused_of c first marks ≡ None
+    by_plain true off none = rw (off-marks marks c.methods counted have off) refl
+    by_plain false off none = by_marked (all_off marks) none
 
 pub never_refused : (c : ClassFile) (first : ℕ) (marks : List Mark) (answer : Result Image InjectError) (made : Image) → length marks ≡ length c.methods → IsImageAnswer answer (refused_of c first marks) made
-    → IsProfilable c → (method : ℕ) (why : Cause) → answer ≢ Err (inject.NotProfilable method why)
-never_refused c first marks answer made counted is profilable = λ method why refused.
+    → MarkedHaveCode marks c.methods → IsProfilable c → (method : ℕ) (why : Cause) → answer ≢ Err (inject.NotProfilable method why)
+never_refused c first marks answer made counted is have profilable = λ method why refused.
     let answered : IsImageAnswer (Err (inject.NotProfilable method why)) (refused_of c first marks) made = subst (λ (a : Result Image InjectError). IsImageAnswer a (refused_of c first marks) made) refused is in
-    none-some (method, why) (sym (refused_of-profilable c first marks counted profilable) ∙ answered)
+    none-some (method, why) (sym (refused_of-profilable c first marks counted have profilable) ∙ answered)

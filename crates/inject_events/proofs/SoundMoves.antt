@@ -32,7 +32,8 @@ use Rattle.inject_events.specs.Answers.{IsReadableCode}
 use Rattle.inject_events.specs.Rewriting.{instrs_in, laid_version_of}
 use Rattle.inject_events.specs.Settings.{probes_in}
 use Rattle.inject_events.specs.SoundTables.{starts_of, HasSoundFrames, IsSoundTable, IsMovedTable, IsMovedRaw, MovesSoundTables}
-use Rattle.inject_events.specs.Tables.{table_of, moved_or_kept, moved_lines, moved_variables, is_behind, rise_from, is_writable, version_frames, framed_or_kept, moved_frame_table, moved_table, is_frame_table, frame_count, is_full_table, has_full_table}
+use Rattle.jvm_model.specs.ImageTables.{moved_or_kept, moved_lines, moved_variables, is_behind, rise_from, is_writable}
+use Rattle.inject_events.specs.Tables.{table_of, version_frames, framed_or_kept, moved_frame_table, moved_table, is_frame_table, frame_count, is_full_table, has_full_table}
 use Rattle.inject_events.proofs.InstrsIn.{instrs_in-is, rise-in}
 use Rattle.inject_events.proofs.Laying.{instrs_of-groups}
 use Rattle.inject_events.proofs.Rooms.{IsMadeWhole-none, neither_is}

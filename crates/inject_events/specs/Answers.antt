@@ -1,5 +1,5 @@
 -- What the functions of rewriting owe: what is asked of a class, and which answer comes.
-use Rattle.std.specs.Prelude.{◌≡◌, ℕ, ◌<◌, ◌≤◌, true, false, List, [], ◌∷◌, length, Option, Some, None, is_some, Result, Ok, Err, IfSome, slice_get}
+use Rattle.std.specs.Prelude.{◌≡◌, ℕ, ◌<◌, ◌≤◌, Bool, true, false, ◌&&◌, ◌||◌, List, [], ◌∷◌, length, Option, Some, None, is_some, Result, Ok, Err, IfSome, slice_get}
 use Rattle.const_pool.specs.declared.class.ClassFile.{ClassFile}
 use Rattle.const_pool.specs.declared.class.CodeAttribute.{CodeAttribute}
 use Rattle.const_pool.specs.declared.class.Member.{Member}
@@ -43,6 +43,15 @@ MarkedHaveCode [] methods = Unit {0}
 MarkedHaveCode (mark ∷ marks) [] = Unit {0}
 MarkedHaveCode (mark ∷ marks) (m ∷ methods) = (is_off mark ≡ false → is_some (code_of m) ≡ true) × MarkedHaveCode marks methods
 
+-- the same as a test
+abbrev pub can_be_marked : Mark → Member → Bool
+can_be_marked mark m = is_off mark || is_some (code_of m)
+
+abbrev pub can_all_be_marked : List Mark → List Member → Bool
+can_all_be_marked [] methods = true
+can_all_be_marked (mark ∷ marks) [] = true
+can_all_be_marked (mark ∷ marks) (m ∷ methods) = can_be_marked mark m && can_all_be_marked marks methods
+
 -- what was made, unless a limit would be passed or memory ran out
 abbrev pub IsVersionAnswer : {A : Type 0} → Result A NoVersion → Option Cause → A → Type 0
 IsVersionAnswer (Ok made) cause wanted = (cause ≡ None) × (made ≡ wanted)
@@ -54,7 +63,7 @@ IsImageAnswer (Ok made) refused wanted = (refused ≡ None) × (made ≡ wanted)
 IsImageAnswer (Err (inject.NotProfilable position why)) refused wanted = refused ≡ Some (position, why)
 IsImageAnswer (Err inject.NoMemory) refused wanted = Unit {0}
 
--- Each method could be rewritten, as admission asks of a class. The numbers of the methods and which marks they have make no
--- difference.
+-- Each method that has Code could be rewritten, as admission asks of a class. The numbers of the methods and which marks they have
+-- make no difference.
 abbrev pub IsProfilable : ClassFile → Type 0
 IsProfilable c = refused_of c 0 (all_plain c) ≡ None

@@ -1,5 +1,8 @@
 -- Parts of a version: the code with its probes, its exception table, and what is told where there is none.
-use Rattle.std.specs.Prelude.{ℕ, ◌+◌, List, [], ◌∷◌, ◌++◌, map, Some, if◌then◌else◌}
+use Rattle.std.specs.Prelude.{ℕ, ◌+◌, Bool, true, false, List, [], ◌∷◌, ◌++◌, map, Some, if◌then◌else◌}
+use Rattle.const_pool.specs.declared.class.Attribute.{Attribute}
+use Rattle.const_pool.specs.declared.class.Attribute.TheVariants.{ConstantValue, Code, Other}
+use Rattle.const_pool.specs.declared.class.CodeAttribute.{CodeAttribute}
 use Rattle.const_pool.specs.declared.class.Handler.{Handler}
 use Rattle.const_pool.specs.declared.class.Member.{Member}
 use Rattle.code_model.specs.declared.instr.Instr.{Instr}
@@ -10,7 +13,7 @@ use Rattle.code_model.specs.declared.laying.LayError.TheVariants as lay
 use Rattle.code_model.specs.Layout.{laid_of}
 use Rattle.jvm_model.specs.declared.event.Mark.{Mark}
 use Rattle.jvm_model.specs.Versions.{group_of, moved_handler, catch_all}
-use Rattle.jvm_model.specs.Images.{is_off, with_code}
+use Rattle.jvm_model.specs.Images.{is_off, with_code_among, with_code}
 use Rattle.inject_events.specs.declared.error.Cause.TheVariants.{Length, Branch}
 use Rattle.inject_events.specs.declared.error.InjectError.{InjectError}
 use Rattle.inject_events.specs.declared.error.InjectError.TheVariants as inject
@@ -23,6 +26,24 @@ use Rattle.inject_events.specs.declared.versions.Version.{Version}
 -- the code with these probes
 abbrev pub laid_with : Probes → List Instr → Laid
 laid_with probes instrs = laid_of probes.entry (map (group_of probes.leave) instrs) probes.unwind
+
+-- an attribute of a method that gets this code
+abbrev pub with_code_at : CodeAttribute → Attribute → Attribute
+with_code_at code (Code name old) = Code name code
+with_code_at code (ConstantValue name index) = ConstantValue name index
+with_code_at code (Other raw) = Other raw
+
+-- the same where one in front of it may have got the code
+abbrev pub coded_at : Bool → CodeAttribute → Attribute → Attribute
+coded_at placed code attribute = if placed then attribute else with_code_at code attribute
+
+abbrev pub is_code : Attribute → Bool
+is_code (Code name code) = true
+is_code (ConstantValue name index) = false
+is_code (Other raw) = false
+
+abbrev pub coded_among : Bool → CodeAttribute → List Attribute → List Attribute
+coded_among placed code attributes = if placed then attributes else with_code_among code attributes
 
 -- a method with this version of its code
 abbrev pub image_with : Version → Member → MethodImage

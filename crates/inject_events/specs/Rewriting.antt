@@ -1,6 +1,6 @@
 -- Versions and images of any class, as functions: what becomes of a method's Code, of a method and of the class, and the first
 -- limit that is passed (JVM Specification 4.1, 4.7.3).
-use Rattle.std.specs.Prelude.{ℕ, zero, suc, ◌+◌, Bool, List, [], ◌∷◌, length, map, max, Option, Some, None, nat_lt, ◌==◌, if◌then◌else◌}
+use Rattle.std.specs.Prelude.{ℕ, zero, suc, ◌+◌, Bool, List, [], ◌∷◌, length, map, max, Option, Some, None, is_some, nat_lt, ◌==◌, if◌then◌else◌}
 use Rattle.std.specs.Option.{option_map_or, option_or}
 use Rattle.const_pool.specs.declared.class.ClassFile.{ClassFile}
 use Rattle.const_pool.specs.declared.class.CodeAttribute.{CodeAttribute}
@@ -169,6 +169,10 @@ refused_of_marked c first marks = if is_full_pool c then Some (first_marked mark
 abbrev pub refused_of : ClassFile → ℕ → List Mark → Option Refused
 refused_of c first marks = if all_off marks then None else refused_of_marked c first marks
 
--- a mark for each method, none of them Off
+-- the mark with which admission tries a method: one without Code is never rewritten
+abbrev pub plain_mark : Member → Mark
+plain_mark m = if is_some (code_of m) then Plain else Off
+
+-- a mark for each method: Plain for those that have Code, and Off for the others
 abbrev pub all_plain : ClassFile → List Mark
-all_plain c = map (λ (m : Member). Plain) c.methods
+all_plain c = map plain_mark c.methods

@@ -1,6 +1,6 @@
--- The tables of a Code in its version, each attribute's move (JVM Specification 4.7.4, 4.7.8, 4.7.9, 4.7.10). A table that breaks
--- its grammar, or whose frames do not come to stand in order, stays as it is: no class that passed admission has one.
-use Rattle.std.specs.Prelude.{ℕ, Bool, true, false, not, List, [], ◌∷◌, ◌++◌, length, map, Option, Some, None, Result, Ok, Err, codes, nat_le, nat_lt, ◌==◌, ◌&&◌, ◌||◌, if◌then◌else◌}
+-- The tables of a Code in its version, by what the versions of a class have in common: an image has each so (proofs/Images). And tables
+-- without room.
+use Rattle.std.specs.Prelude.{ℕ, Bool, true, false, not, List, [], ◌∷◌, ◌++◌, length, map, Result, Ok, Err, codes, ◌==◌, ◌&&◌, ◌||◌, if◌then◌else◌}
 use Rattle.std.specs.Option.{option_map_or}
 use Rattle.std.specs.List.{list_any}
 use Rattle.const_pool.specs.declared.class.Raw.{Raw}
@@ -9,13 +9,10 @@ use Rattle.const_pool.specs.References.{named_text}
 use Rattle.code_model.specs.declared.laying.Homes.{Homes}
 use Rattle.code_model.specs.Layout.{home_of}
 use Rattle.jvm_model.specs.Descriptors.{same_text}
+use Rattle.jvm_model.specs.ImageTables.{moved_lines, moved_variables, last_frame, frames_with_last, framed_by, moved_frames_of}
 use Rattle.stackmap_shift.specs.declared.error.FrameError.{FrameError}
 use Rattle.stackmap_shift.specs.declared.frames.Frame.{Frame}
-use Rattle.stackmap_shift.specs.declared.frames.FrameKind.TheVariants.{Full}
-use Rattle.stackmap_shift.specs.declared.frames.VType.TheVariants.{Object}
-use Rattle.stackmap_shift.specs.DebugTables.{shifted_lines, shifted_variables}
 use Rattle.stackmap_shift.specs.Frames.{frames_of}
-use Rattle.stackmap_shift.specs.Moves.{moved_frames}
 use Rattle.stackmap_shift.specs.Spelling.{table_bytes}
 use Rattle.inject_events.specs.declared.settings.Setting.{Setting}
 use Rattle.inject_events.specs.declared.settings.Table.{Table}
@@ -35,52 +32,17 @@ table_of s name =
     else if s.framed && is_named s.tail.pool name (codes "StackMapTable") then table.Frames
     else table.Other
 
--- ---- debug tables
-
-abbrev pub moved_or_kept : List ℕ → Result (List ℕ) FrameError → List ℕ
-moved_or_kept bytes (Ok moved) = moved
-moved_or_kept bytes (Err fault) = bytes
-
--- rows by homes: LineNumberTable (4.7.8)
-abbrev pub moved_lines : Homes → List ℕ → List ℕ
-moved_lines homes bytes = moved_or_kept bytes (shifted_lines homes bytes)
-
--- LocalVariableTable and LocalVariableTypeTable (4.7.9, 4.7.10)
-abbrev pub moved_variables : Homes → List ℕ → List ℕ
-moved_variables homes bytes = moved_or_kept bytes (shifted_variables homes bytes)
-
 -- ---- frames (4.7.4)
-
--- the frame of the added handler: no locals, and a java/lang/Throwable
-abbrev pub last_frame : ℕ → ℕ → Frame
-last_frame handler throwable = record { at = handler; kind = Full [] (Object throwable ∷ []) }
-
--- whether a frame stands behind the one before
-abbrev pub is_behind : Option ℕ → ℕ → Bool
-is_behind None at = true
-is_behind (Some before) at = nat_lt before at
-
-abbrev pub rise_from : Option ℕ → List Frame → Bool
-rise_from before [] = true
-rise_from before (frame ∷ rest) = is_behind before frame.at && rise_from (Some frame.at) rest
-
--- whether a table can have these frames
-abbrev pub is_writable : List Frame → Bool
-is_writable frames = nat_le (length frames) 65535 && rise_from None frames
-
-abbrev pub written_or_kept : List ℕ → List Frame → List ℕ
-written_or_kept bytes frames = if is_writable frames then table_bytes frames else bytes
 
 -- the frames by homes, and behind them the one of the added handler, which stands at the home of the code's end
 abbrev pub version_frames : Setting → Homes → ℕ → List Frame → List Frame
-version_frames s homes end frames = moved_frames homes frames ++ last_frame (home_of homes end) s.tail.throwable ∷ []
+version_frames s homes end frames = frames_with_last s.tail.throwable homes end frames
 
 abbrev pub framed_or_kept : Setting → Homes → ℕ → List ℕ → Result (List Frame) FrameError → List ℕ
-framed_or_kept s homes end bytes (Ok frames) = written_or_kept bytes (version_frames s homes end frames)
-framed_or_kept s homes end bytes (Err fault) = bytes
+framed_or_kept s homes end bytes found = framed_by s.tail.throwable homes end bytes found
 
 abbrev pub moved_frame_table : Setting → Homes → ℕ → List ℕ → List ℕ
-moved_frame_table s homes end bytes = framed_or_kept s homes end bytes (frames_of bytes)
+moved_frame_table s homes end bytes = moved_frames_of s.tail.throwable homes end bytes
 
 -- ---- all attributes of a Code, which ended at `end`
 

@@ -1,7 +1,7 @@
 //! The image of a class: its marked methods with their probes, and the pool tail that the probes name.
 
-ghost use Rattle.std.specs.Prelude.{◌≡◌, ◌≢◌, ◌≤◌, ◌+◌, ◌<◌, ℕ, length, Err, IfOk};
-ghost use Rattle.const_pool.specs.ClassFile.{IsClassFile};
+ghost use Rattle.std.specs.Prelude.{◌≡◌, ◌≢◌, ◌≤◌, ◌+◌, ◌<◌, ◌^◌, ℕ, length, Err, IfOk};
+ghost use Rattle.const_pool.specs.ClassFile.{IsClassFile, class_bytes};
 ghost use Rattle.const_pool.specs.declared.tail.TailError.{TailError as TheTailError};
 ghost use Rattle.jvm_model.specs.Images.{IsImage};
 ghost use Rattle.inject_events.specs.declared.error.Cause.{Cause as TheCause};
@@ -131,10 +131,15 @@ pub fn instrument(
     // It is an image as the machine takes it.
     ensures image { IfOk result (λ image. MarkedHaveCode marks.now class.now.methods
         → IsImage class.now first marks.now image.class image.homes) }
+    // Its bytes can be counted by a u4 where those of the class are as many as a class file may have.
+    ensures small { IfOk result (λ image. MarkedHaveCode marks.now class.now.methods
+        → length (class_bytes class.now) ≤ 4194304
+        → length (class_bytes image.class) < 2 ^ 32) }
     // The image of a class file is one.
     ensures formed { IfOk result (λ image. IsClassFile class.now → IsClassFile image.class) }
-    // A class each of whose methods could be rewritten is never refused.
-    ensures profilable { IsProfilable class.now → (method : ℕ) (cause : TheCause)
+    // A class each of whose methods with Code could be rewritten is never refused.
+    ensures profilable { MarkedHaveCode marks.now class.now.methods → IsProfilable class.now
+        → (method : ℕ) (cause : TheCause)
         → result ≢ Err (InjectError.NotProfilable method cause) }
 {
     image_of(alloc, class, first, marks)

@@ -41,7 +41,7 @@ pub fn copy_code(alloc: Global, code: &CodeAttribute) -> Result<CodeAttribute, N
 }
 
 /// An attribute, copied.
-fn copy_attribute(alloc: Global, attribute: &Attribute) -> Result<Attribute, NoMemory>
+pub(crate) fn copy_attribute(alloc: Global, attribute: &Attribute) -> Result<Attribute, NoMemory>
     ensures { IfOk result (λ copy. copy ≡ attribute.now) }
 {
     match attribute {

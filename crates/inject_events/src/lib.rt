@@ -17,3 +17,4 @@ mod versions;
 pub use classes::instrument;
 pub use error::{Cause, InjectError};
 pub use image::Image;
+pub use methods::marked_have_code;

@@ -1,12 +1,13 @@
 //! The methods of a class in its image.
 
-ghost use Rattle.std.specs.Prelude.{◌≡◌, ◌<◌, None, IfOk};
+ghost use Rattle.std.specs.Prelude.{◌≡◌, ◌<◌, length, true, false, None, IfOk};
 ghost use Rattle.std.specs.Option.{option_copied};
 ghost use Rattle.jvm_model.specs.Methods.{code_of};
-ghost use Rattle.jvm_model.specs.Images.{is_off, all_off, with_code_at, with_code, next_number};
-ghost use Rattle.inject_events.specs.Probing.{refusal};
+ghost use Rattle.jvm_model.specs.Images.{is_off, all_off, with_code, next_number};
+ghost use Rattle.inject_events.specs.Answers.{MarkedHaveCode, can_be_marked, can_all_be_marked};
+ghost use Rattle.inject_events.specs.Probing.{with_code_at, coded_at, is_code, refusal};
 
-use crate::copying::{copy_code, copy_member, copy_raw};
+use crate::copying::{copy_attribute, copy_code, copy_member, copy_raw};
 use crate::error::{InjectError, NoVersion};
 use code_model::Homes;
 use const_pool::{Attribute, CodeAttribute, Member};
@@ -29,6 +30,35 @@ pub fn all_off(marks: &[Mark]) -> bool
     ensures { result ≡ all_off marks.now }
 {
     marks.iter().all(|mark| is_off(*mark))
+}
+
+/// Whether a method can have this mark.
+fn can_be_marked(mark: Mark, member: &Member) -> bool
+    ensures { result ≡ can_be_marked mark member.now }
+{
+    is_off(mark) || code_of(member).is_some()
+}
+
+/// Whether each method can have its mark.
+fn can_all_be_marked(marks: &[Mark], methods: &[Member]) -> bool
+    requires marks { length marks.now ≡ length methods.now }
+    ensures { result ≡ can_all_be_marked marks.now methods.now }
+{
+    for (position, mark) in marks.iter().enumerate() {
+        if !can_be_marked(*mark, &methods[position]) {
+            return false;
+        }
+    }
+    true
+}
+
+/// Whether each marked method has Code, as rewriting asks of the marks of a class's methods.
+pub fn marked_have_code(marks: &[Mark], methods: &[Member]) -> bool
+    requires marks { length marks.now ≡ length methods.now }
+    ensures have { result ≡ true → MarkedHaveCode marks.now methods.now }
+    ensures lack { result ≡ false → MarkedHaveCode marks.now methods.now → ⊥ }
+{
+    can_all_be_marked(marks, methods)
 }
 
 /// A method's code, where it has one.
@@ -69,7 +99,34 @@ fn with_code_at(
     }
 }
 
+/// The same where an attribute in front of it may have got the code.
+fn coded_at(
+    alloc: Global,
+    placed: bool,
+    code: &CodeAttribute,
+    attribute: &Attribute,
+) -> Result<Attribute, NoMemory>
+    ensures { IfOk result (λ new. new ≡ coded_at placed code.now attribute.now) }
+{
+    if placed {
+        copy_attribute(alloc, attribute)
+    } else {
+        with_code_at(alloc, code, attribute)
+    }
+}
+
+fn is_code(attribute: &Attribute) -> bool
+    ensures { result ≡ is_code attribute.now }
+{
+    match attribute {
+        Attribute::Code(_name, _code) => true,
+        Attribute::ConstantValue(_name, _index) => false,
+        Attribute::Other(_raw) => false,
+    }
+}
+
 /// A method with this code in place of its own.
+#[tactic(auto, using(crate::proofs::Coding::coded_next))]
 pub(crate) fn with_code(
     alloc: Global,
     code: &CodeAttribute,
@@ -78,8 +135,10 @@ pub(crate) fn with_code(
     ensures { IfOk result (λ new. new ≡ with_code code.now member.now) }
 {
     let mut attributes = Seq::with_capacity(alloc, member.attributes.len())?;
+    let mut placed = false;
     for attribute in member.attributes.as_slice() {
-        attributes.push(with_code_at(alloc, code, attribute)?)?;
+        attributes.push(coded_at(alloc, placed, code, attribute)?)?;
+        placed = placed || is_code(attribute);
     }
     Ok(Member {
         access: member.access,

@@ -55,17 +55,17 @@ Agrees-original c marks image homes built off is =
 -- ---- some are
 
 -- there are homes for the methods alone
-none-past : (count number : ℕ) (marks : List Mark) (olds news : List Member) (homes : List (Option Homes)) (m : ℕ) → AreMemberImages count number marks olds news homes
+none-past : (c : ClassFile) (number : ℕ) (marks : List Mark) (olds news : List Member) (homes : List (Option Homes)) (m : ℕ) → AreMemberImages c number marks olds news homes
     → slice_get olds m ≡ None → slice_get homes m ≡ None
-none-past count number [] [] [] [] m are past = refl
-none-past count number (mark ∷ marks) (old ∷ olds) (new ∷ news) (h ∷ homes) zero are past = absurd (none-some old (sym past))
-none-past count number (mark ∷ marks) (old ∷ olds) (new ∷ news) (h ∷ homes) (suc m) are past = none-past count (next_number number old) marks olds news homes m are.1 past
-none-past count number _ _ _ _ m are past = absurd are
+none-past c number [] [] [] [] m are past = refl
+none-past c number (mark ∷ marks) (old ∷ olds) (new ∷ news) (h ∷ homes) zero are past = absurd (none-some old (sym past))
+none-past c number (mark ∷ marks) (old ∷ olds) (new ∷ news) (h ∷ homes) (suc m) are past = none-past c (next_number number old) marks olds news homes m are.1 past
+none-past c number _ _ _ _ m are past = absurd are
 
 -- a marked method is rewritten
 laid-method : (c image : ClassFile) (marks : List Mark) (homes : List (Option Homes)) (m : ℕ) (code : CodeAttribute) (old new : Member) (mark : Mark) (home : Option Homes) (moved : Homes)
     → IsBuilt c → (is : IsRewritten c 0 marks image homes) → method_code c m ≡ Some code → code_of old ≡ Some code → slice_get c.methods m ≡ Some old → slice_get marks m ≡ Some mark → is_off mark ≡ false
-    → slice_get image.methods m ≡ Some new → slice_get homes m ≡ Some home → IsMarkedMember (length c.pool) (0 + m) mark old new moved → home ≡ Some moved → IsLaidMethod c image homes marks m
+    → slice_get image.methods m ≡ Some new → slice_get homes m ≡ Some home → IsMarkedMember c (0 + m) mark old new moved → home ≡ Some moved → IsLaidMethod c image homes marks m
 laid-method c image marks homes m code old new mark home moved built is coded has at marked isnt_off found housed member home_is =
     let count = length c.pool in
     let version = member.version in
@@ -82,7 +82,7 @@ laid-method c image marks homes m code old new mark home moved built is coded ha
       marked = ap (λ x. unwrap_or x Off) marked;
       isnt_off = isnt_off;
       after = member.after;
-      coded = ap (option_and_then code_of) found ∙ code_of-marked count (0 + m) mark old new moved member;
+      coded = ap (option_and_then code_of) found ∙ code_of-marked c (0 + m) mark old new moved member;
       laid = ap (λ (k : CodeAttribute). k.code) version.code ∙ ap (λ n. (laid_version count n mark version.reading.instrs).code) number;
       moved = ap (λ x. unwrap_or x None) housed ∙ (home_is ∙ ap (λ (h : Homes). let o : Option Homes = Some h in o) (version.moved ∙ ap (λ n. (laid_version count n mark version.reading.instrs).homes) number));
       pool = ap (λ (x : ClassFile). x.pool) is.rest;
@@ -97,7 +97,7 @@ Agrees-rewritten c marks image homes built is =
     others : (m : ℕ) → method_code c m ≡ None → homes_at homes m ≡ None
     others m none = by_member (slice_get c.methods m) refl where
       by_member : (o : Option Member) → slice_get c.methods m ≡ o → homes_at homes m ≡ None
-      by_member None past = ap (λ x. unwrap_or x None) (none-past (length c.pool) 0 marks c.methods image.methods homes m is.methods past)
+      by_member None past = ap (λ x. unwrap_or x None) (none-past c 0 marks c.methods image.methods homes m is.methods past)
       by_member (Some old) at =
           absurd (let code : is_some (code_of old) ≡ true = nth-each has_code c.methods m old (small-coded c built.small) at in
           let no : false ≡ true = sym (ap is_some (ap (option_and_then code_of) (sym at) ∙ none)) ∙ code in cc)
@@ -105,11 +105,11 @@ Agrees-rewritten c marks image homes built is =
     each : (m : ℕ) (code : CodeAttribute) → method_code c m ≡ Some code → IsPlainMethod c image homes marks m code ⊎ IsLaidMethod c image homes marks m
     each m code coded =
         let has = HasCode-method_code c m code coded in
-        let nth = nth-image (length c.pool) 0 marks c.methods image.methods homes m has.member (small-coded c built.small) is.methods has.is in
+        let nth = nth-image c 0 marks c.methods image.methods homes m has.member (small-coded c built.small) is.methods has.is in
         by_mark m code coded has nth.mark nth.new nth.home nth.marked nth.is nth.housed nth.image
       where
         by_mark : (m : ℕ) (code : CodeAttribute) → method_code c m ≡ Some code → (has : HasCode c m code) → (mark : Mark) (new : Member) (home : Option Homes)
-            → slice_get marks m ≡ Some mark → slice_get image.methods m ≡ Some new → slice_get homes m ≡ Some home → IsMemberImage (length c.pool) (0 + m) mark has.member new home
+            → slice_get marks m ≡ Some mark → slice_get image.methods m ≡ Some new → slice_get homes m ≡ Some home → IsMemberImage c (0 + m) mark has.member new home
             → IsPlainMethod c image homes marks m code ⊎ IsLaidMethod c image homes marks m
         by_mark m code coded has Off new home marked found housed member = inl (record {
           coded = ap (option_and_then code_of) found ∙ (ap code_of member.0 ∙ has.coded);

@@ -27,7 +27,7 @@ use Rattle.jvm_model.specs.declared.family.Family.TheVariants as family
 use Rattle.jvm_model.specs.Data.{Datum, Constant, Naming, New, Getfield, Putfield, Getstatic, Putstatic, Invokevirtual, Invokestatic, Invokeinterface, Checkcast, Instanceof, Anewarray, LdcClass, Operation, Within, Named, LdcString}
 use Rattle.jvm_model.specs.Families.{family_of}
 use Rattle.jvm_model.specs.Descriptors.{same_text}
-use Rattle.jvm_model.specs.Images.{with_code_at, IsMarkedMember, IsMemberImage, next_number, AreMemberImages, IsRewritten}
+use Rattle.jvm_model.specs.Images.{with_code_among, IsMarkedMember, IsMemberImage, next_number, AreMemberImages, IsRewritten}
 use Rattle.jvm_model.specs.Lines.{number_of, constant_in, named_interface_method, special_of, naming_of, interface_naming, multi_of, multi_naming, named_by, other_operation, given_operation, object_constant, operation_by, operation_of}
 use Rattle.jvm_model.specs.Programs.{name_of}
 use Rattle.jvm_model.specs.Resolved.{own_method, resolved_name, resolved_in}
@@ -38,43 +38,43 @@ use Rattle.jvm_model.proofs.ImagePools.{slice_get-more, named_text-more, named_c
 
 -- ---- one method
 
-code_among-with_code : (attributes : List Attribute) (before after : CodeAttribute) → code_among attributes ≡ Some before → code_among (map (with_code_at after) attributes) ≡ Some after
+code_among-with_code : (attributes : List Attribute) (before after : CodeAttribute) → code_among attributes ≡ Some before → code_among (with_code_among after attributes) ≡ Some after
 code_among-with_code [] before after e = absurd (none-some before e)
 code_among-with_code (Code name old ∷ rest) before after e = refl
 code_among-with_code (ConstantValue name index ∷ rest) before after e = code_among-with_code rest before after e
 code_among-with_code (Other raw ∷ rest) before after e = code_among-with_code rest before after e
 
-pub code_of-marked : (count number : ℕ) (mark : Mark) (old new : Member) (homes : Homes) → (is : IsMarkedMember count number mark old new homes) → code_of new ≡ Some is.after
-code_of-marked count number mark old new homes is = ap code_of is.replaced ∙ code_among-with_code old.attributes is.before is.after is.coded
+pub code_of-marked : (c : ClassFile) (number : ℕ) (mark : Mark) (old new : Member) (homes : Homes) → (is : IsMarkedMember c number mark old new homes) → code_of new ≡ Some is.after
+code_of-marked c number mark old new homes is = ap code_of is.replaced ∙ code_among-with_code old.attributes is.before is.after is.coded
 
 -- a method keeps its name and its descriptor
 abbrev SameNames : Member → Member → Type 0
 SameNames old new = (new.name ≡ old.name) × (new.descriptor ≡ old.descriptor)
 
-names-kept : (count number : ℕ) (mark : Mark) (old new : Member) (h : Option Homes) → IsMemberImage count number mark old new h → SameNames old new
-names-kept count number Off old new h is = (ap (λ (m : Member). m.name) is.0, ap (λ (m : Member). m.descriptor) is.0)
-names-kept count number Plain old new h is = (ap (λ (m : Member). m.name) is.1.replaced, ap (λ (m : Member). m.descriptor) is.1.replaced)
-names-kept count number Root old new h is = (ap (λ (m : Member). m.name) is.1.replaced, ap (λ (m : Member). m.descriptor) is.1.replaced)
+names-kept : (c : ClassFile) (number : ℕ) (mark : Mark) (old new : Member) (h : Option Homes) → IsMemberImage c number mark old new h → SameNames old new
+names-kept c number Off old new h is = (ap (λ (m : Member). m.name) is.0, ap (λ (m : Member). m.descriptor) is.0)
+names-kept c number Plain old new h is = (ap (λ (m : Member). m.name) is.1.replaced, ap (λ (m : Member). m.descriptor) is.1.replaced)
+names-kept c number Root old new h is = (ap (λ (m : Member). m.name) is.1.replaced, ap (λ (m : Member). m.descriptor) is.1.replaced)
 
 -- ---- all methods, by number
 
 -- the method with this number in the image, where each method has code
-pub record NthImage (count number : ℕ) (marks : List Mark) (old : Member) (news : List Member) (homes : List (Option Homes)) (k : ℕ) : Type 0 where
+pub record NthImage (c : ClassFile) (number : ℕ) (marks : List Mark) (old : Member) (news : List Member) (homes : List (Option Homes)) (k : ℕ) : Type 0 where
   pub mark : Mark
   pub new : Member
   pub home : Option Homes
   pub marked : slice_get marks k ≡ Some mark
   pub is : slice_get news k ≡ Some new
   pub housed : slice_get homes k ≡ Some home
-  pub image : IsMemberImage count (number + k) mark old new home
+  pub image : IsMemberImage c (number + k) mark old new home
 
 abbrev pub has_code : Member → Type 0
 has_code m = is_some (code_of m) ≡ true
 
-pub nth-image : (count number : ℕ) (marks : List Mark) (olds news : List Member) (homes : List (Option Homes)) (k : ℕ) (old : Member)
-    → AllByRecursion has_code olds → AreMemberImages count number marks olds news homes → slice_get olds k ≡ Some old → NthImage count number marks old news homes k
-nth-image count number [] [] [] [] k old coded are e = absurd (none-some old e)
-nth-image count number (mark ∷ marks) (o ∷ olds) (n ∷ news) (h ∷ homes) zero old coded are e =
+pub nth-image : (c : ClassFile) (number : ℕ) (marks : List Mark) (olds news : List Member) (homes : List (Option Homes)) (k : ℕ) (old : Member)
+    → AllByRecursion has_code olds → AreMemberImages c number marks olds news homes → slice_get olds k ≡ Some old → NthImage c number marks old news homes k
+nth-image c number [] [] [] [] k old coded are e = absurd (none-some old e)
+nth-image c number (mark ∷ marks) (o ∷ olds) (n ∷ news) (h ∷ homes) zero old coded are e =
     record {
       mark = mark;
       new = n;
@@ -82,11 +82,11 @@ nth-image count number (mark ∷ marks) (o ∷ olds) (n ∷ news) (h ∷ homes) 
       marked = refl;
       is = refl;
       housed = refl;
-      image = subst (λ (m : Member). IsMemberImage count (number + 0) mark m n h) (same_Some o old e) (subst (λ (x : ℕ). IsMemberImage count x mark o n h) (sym (add-zero number)) are.0);
+      image = subst (λ (m : Member). IsMemberImage c (number + 0) mark m n h) (same_Some o old e) (subst (λ (x : ℕ). IsMemberImage c x mark o n h) (sym (add-zero number)) are.0);
     }
-nth-image count number (mark ∷ marks) (o ∷ olds) (n ∷ news) (h ∷ homes) (suc k) old coded are e =
+nth-image c number (mark ∷ marks) (o ∷ olds) (n ∷ news) (h ∷ homes) (suc k) old coded are e =
     let next : next_number number o ≡ number + 1 = ap (λ b. cond b (number + 1) number) coded.0 in
-    let rest = nth-image count (number + 1) marks olds news homes k old coded.1 (subst (λ (x : ℕ). AreMemberImages count x marks olds news homes) next are.1) e in
+    let rest = nth-image c (number + 1) marks olds news homes k old coded.1 (subst (λ (x : ℕ). AreMemberImages c x marks olds news homes) next are.1) e in
     let number_is : number + 1 + k ≡ number + suc k = omega arith in
     record {
       mark = rest.mark;
@@ -95,14 +95,14 @@ nth-image count number (mark ∷ marks) (o ∷ olds) (n ∷ news) (h ∷ homes) 
       marked = rest.marked;
       is = rest.is;
       housed = rest.housed;
-      image = subst (λ (x : ℕ). IsMemberImage count x rest.mark old rest.new rest.home) number_is rest.image;
+      image = subst (λ (x : ℕ). IsMemberImage c x rest.mark old rest.new rest.home) number_is rest.image;
     }
-nth-image count number [] (o ∷ olds) news homes k old coded are e = absurd are
-nth-image count number (mark ∷ marks) (o ∷ olds) [] homes k old coded are e = absurd are
-nth-image count number (mark ∷ marks) (o ∷ olds) (n ∷ news) [] k old coded are e = absurd are
-nth-image count number (mark ∷ marks) [] news homes k old coded are e = absurd (none-some old e)
-nth-image count number [] [] (n ∷ news) homes k old coded are e = absurd (none-some old e)
-nth-image count number [] [] [] (h ∷ homes) k old coded are e = absurd (none-some old e)
+nth-image c number [] (o ∷ olds) news homes k old coded are e = absurd are
+nth-image c number (mark ∷ marks) (o ∷ olds) [] homes k old coded are e = absurd are
+nth-image c number (mark ∷ marks) (o ∷ olds) (n ∷ news) [] k old coded are e = absurd are
+nth-image c number (mark ∷ marks) [] news homes k old coded are e = absurd (none-some old e)
+nth-image c number [] [] (n ∷ news) homes k old coded are e = absurd (none-some old e)
+nth-image c number [] [] [] (h ∷ homes) k old coded are e = absurd (none-some old e)
 
 -- ---- names
 
@@ -137,19 +137,19 @@ is_member-kept pool more wanted old new same has =
     let descriptor = same_text-kept pool more old.descriptor new.descriptor has.descriptor wanted.descriptor same.1 has.described in
     ap (λ b. b && same_text_at (pool ++ more) new.descriptor wanted.descriptor) name ∙ ap (λ b. same_text_at pool old.name wanted.name && b) descriptor
 
-method_from-kept : (pool more : List Const) (wanted : NameAndType) (n count number : ℕ) (marks : List Mark) (olds news : List Member) (homes : List (Option Homes))
-    → AllByRecursion (HasNames pool) olds → AreMemberImages count number marks olds news homes → method_from (pool ++ more) wanted n news ≡ method_from pool wanted n olds
-method_from-kept pool more wanted n count number [] [] [] [] has are = refl
-method_from-kept pool more wanted n count number (mark ∷ marks) (o ∷ olds) (m ∷ news) (h ∷ homes) has are =
-    let test = is_member-kept pool more wanted o m (names-kept count number mark o m h are.0) has.0 in
-    let rest = method_from-kept pool more wanted (n + 1) count (next_number number o) marks olds news homes has.1 are.1 in
+method_from-kept : (pool more : List Const) (wanted : NameAndType) (n : ℕ) (c : ClassFile) (number : ℕ) (marks : List Mark) (olds news : List Member) (homes : List (Option Homes))
+    → AllByRecursion (HasNames pool) olds → AreMemberImages c number marks olds news homes → method_from (pool ++ more) wanted n news ≡ method_from pool wanted n olds
+method_from-kept pool more wanted n c number [] [] [] [] has are = refl
+method_from-kept pool more wanted n c number (mark ∷ marks) (o ∷ olds) (m ∷ news) (h ∷ homes) has are =
+    let test = is_member-kept pool more wanted o m (names-kept c number mark o m h are.0) has.0 in
+    let rest = method_from-kept pool more wanted (n + 1) c (next_number number o) marks olds news homes has.1 are.1 in
     ap (λ b. cond b (Some n) (method_from (pool ++ more) wanted (n + 1) news)) test ∙ ap (cond (is_member pool wanted o) (Some n)) rest
-method_from-kept pool more wanted n count number [] (o ∷ olds) news homes has are = absurd are
-method_from-kept pool more wanted n count number (mark ∷ marks) (o ∷ olds) [] homes has are = absurd are
-method_from-kept pool more wanted n count number (mark ∷ marks) (o ∷ olds) (m ∷ news) [] has are = absurd are
-method_from-kept pool more wanted n count number (mark ∷ marks) [] news homes has are = absurd are
-method_from-kept pool more wanted n count number [] [] (m ∷ news) homes has are = absurd are
-method_from-kept pool more wanted n count number [] [] [] (h ∷ homes) has are = absurd are
+method_from-kept pool more wanted n c number [] (o ∷ olds) news homes has are = absurd are
+method_from-kept pool more wanted n c number (mark ∷ marks) (o ∷ olds) [] homes has are = absurd are
+method_from-kept pool more wanted n c number (mark ∷ marks) (o ∷ olds) (m ∷ news) [] has are = absurd are
+method_from-kept pool more wanted n c number (mark ∷ marks) [] news homes has are = absurd are
+method_from-kept pool more wanted n c number [] [] (m ∷ news) homes has are = absurd are
+method_from-kept pool more wanted n c number [] [] [] (h ∷ homes) has are = absurd are
 
 -- ---- a small class
 
@@ -210,5 +210,5 @@ LooksAlike-rewritten c first marks image homes small is =
       pool = pool;
       this = ap (λ (x : ClassFile). x.this_class) is.rest;
       methods = λ wanted. ap (λ p. method_from p wanted 0 image.methods) pool
-          ∙ method_from-kept c.pool (tail_entries (length c.pool)) wanted 0 (length c.pool) first marks c.methods image.methods homes (small-named c small) is.methods;
+          ∙ method_from-kept c.pool (tail_entries (length c.pool)) wanted 0 c first marks c.methods image.methods homes (small-named c small) is.methods;
     }

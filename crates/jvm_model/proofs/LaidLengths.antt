@@ -20,7 +20,7 @@ use Rattle.jvm_model.specs.declared.event.Mark.TheVariants.{Off, Plain, Root}
 use Rattle.jvm_model.specs.Images.{all_off, IsMarkedMember, IsMemberImage, next_number, AreMemberImages, IsOriginal, IsRewritten, IsImage}
 use Rattle.jvm_model.specs.Methods.{code_of}
 use Rattle.jvm_model.specs.StandsFor.{IsBuilt}
-use Rattle.jvm_model.specs.Versions.{is_return_opcode, group_of, entry_probe, leave_probe, unwind_code}
+use Rattle.jvm_model.specs.Versions.{is_return_opcode, group_of}
 use Rattle.jvm_model.proofs.ImageMethods.{code_of-marked}
 
 -- ---- each instruction has a byte at least, and at most six in front of it
@@ -40,8 +40,9 @@ end_from-le leave bytes at place (i ∷ rest) reads six =
     let behind = end_from-le leave bytes (end_of i) (group_end place g) rest reads.1 six in
     omega arith
 
-pub length-laid_of-le : (front leave back bytes : List ℕ) (code : Reading) → IsReading bytes code → length bytes ≤ 9000 → length front ≤ 6 → length leave ≤ 6 → length back ≤ 7 → length (laid_of front (map (group_of leave) code.instrs) back).code ≤ 65535
-length-laid_of-le front leave back bytes code reads short few six seven =
+pub length-laid_of-le : (front leave back bytes : List ℕ) (code : Reading) → IsReading bytes code → length front ≤ 6 → length leave ≤ 6 → length back ≤ 7
+    → length (laid_of front (map (group_of leave) code.instrs) back).code ≤ 13 + 7 * length bytes
+length-laid_of-le front leave back bytes code reads few six seven =
     let bound = end_from-le leave bytes 0 (length front) code.instrs reads.instrs six in
     let whole = length-laid_of front (map (group_of leave) code.instrs) back in
     omega arith
@@ -65,18 +66,17 @@ original-measured m plain = by_code (code_of m) refl
     by_code None e = subst (λ x. IfSome x (λ (k : CodeAttribute). length k.code < 2 ^ 16)) (sym e) tt
     by_code (Some code) e = let short = plain-short m code plain e in some-measured m code e (omega arith)
 
-marked-measured : (count number : ℕ) (mark : Mark) (old new : Member) (homes : Homes) → HasPlainCode old → IsMarkedMember count number mark old new homes → IsMeasured new
-marked-measured count number mark old new homes plain is =
-    let short = plain-short old is.before plain is.coded in
+marked-measured : (c : ClassFile) (number : ℕ) (mark : Mark) (old new : Member) (homes : Homes) → HasPlainCode old → IsMarkedMember c number mark old new homes → IsMeasured new
+marked-measured c number mark old new homes plain is =
     let version = is.version in
-    let laid = length-laid_of-le (entry_probe count number mark) (leave_probe count number) (unwind_code count number) is.before.code version.reading version.reads short (omega arith) (omega arith) (omega arith) in
+    let short = version.short in
     let same = ap (λ (k : CodeAttribute). length k.code) version.code in
-    some-measured new is.after (code_of-marked count number mark old new homes is) (omega arith)
+    some-measured new is.after (code_of-marked c number mark old new homes is) (omega arith)
 
-member-measured : (count number : ℕ) (mark : Mark) (old new : Member) (home : Option Homes) → HasPlainCode old → IsMemberImage count number mark old new home → IsMeasured new
-member-measured count number Off old new home plain is = subst IsMeasured (sym is.0) (original-measured old plain)
-member-measured count number Plain old new home plain is = marked-measured count number Plain old new is.0 plain is.1
-member-measured count number Root old new home plain is = marked-measured count number Root old new is.0 plain is.1
+member-measured : (c : ClassFile) (number : ℕ) (mark : Mark) (old new : Member) (home : Option Homes) → HasPlainCode old → IsMemberImage c number mark old new home → IsMeasured new
+member-measured c number Off old new home plain is = subst IsMeasured (sym is.0) (original-measured old plain)
+member-measured c number Plain old new home plain is = marked-measured c number Plain old new is.0 plain is.1
+member-measured c number Root old new home plain is = marked-measured c number Root old new is.0 plain is.1
 
 -- each code is measured, and there are as many methods and as many homes
 pub record IsMeasuredImage (olds news : List Member) (homes : List (Option Homes)) : Type 0 where
@@ -84,17 +84,17 @@ pub record IsMeasuredImage (olds news : List Member) (homes : List (Option Homes
   pub methods : length news ≡ length olds
   pub housed : length homes ≡ length olds
 
-members-measured : (count number : ℕ) (marks : List Mark) (olds news : List Member) (homes : List (Option Homes)) → AllByRecursion HasPlainCode olds → AreMemberImages count number marks olds news homes → IsMeasuredImage olds news homes
-members-measured count number [] [] [] [] plain are = record { codes = tt; methods = refl; housed = refl }
-members-measured count number (mark ∷ marks) (o ∷ olds) (n ∷ news) (h ∷ homes) plain are =
-    let rest = members-measured count (next_number number o) marks olds news homes plain.1 are.1 in
-    record { codes = (member-measured count number mark o n h plain.0 are.0, rest.codes); methods = ap suc rest.methods; housed = ap suc rest.housed }
-members-measured count number [] (o ∷ olds) news homes plain are = absurd are
-members-measured count number (mark ∷ marks) (o ∷ olds) [] homes plain are = absurd are
-members-measured count number (mark ∷ marks) (o ∷ olds) (n ∷ news) [] plain are = absurd are
-members-measured count number (mark ∷ marks) [] news homes plain are = absurd are
-members-measured count number [] [] (n ∷ news) homes plain are = absurd are
-members-measured count number [] [] [] (h ∷ homes) plain are = absurd are
+members-measured : (c : ClassFile) (number : ℕ) (marks : List Mark) (olds news : List Member) (homes : List (Option Homes)) → AllByRecursion HasPlainCode olds → AreMemberImages c number marks olds news homes → IsMeasuredImage olds news homes
+members-measured c number [] [] [] [] plain are = record { codes = tt; methods = refl; housed = refl }
+members-measured c number (mark ∷ marks) (o ∷ olds) (n ∷ news) (h ∷ homes) plain are =
+    let rest = members-measured c (next_number number o) marks olds news homes plain.1 are.1 in
+    record { codes = (member-measured c number mark o n h plain.0 are.0, rest.codes); methods = ap suc rest.methods; housed = ap suc rest.housed }
+members-measured c number [] (o ∷ olds) news homes plain are = absurd are
+members-measured c number (mark ∷ marks) (o ∷ olds) [] homes plain are = absurd are
+members-measured c number (mark ∷ marks) (o ∷ olds) (n ∷ news) [] plain are = absurd are
+members-measured c number (mark ∷ marks) [] news homes plain are = absurd are
+members-measured c number [] [] (n ∷ news) homes plain are = absurd are
+members-measured c number [] [] [] (h ∷ homes) plain are = absurd are
 
 each-measured : (olds : List Member) → AllByRecursion HasPlainCode olds → AllByRecursion IsMeasured olds
 each-measured [] plain = tt
@@ -114,7 +114,7 @@ measured-original c image homes built is = record {
 by_test : (c : ClassFile) (marks : List Mark) (image : ClassFile) (homes : List (Option Homes)) (b : Bool) → IsBuilt c
     → MatchBool b (IsOriginal c image homes) (IsRewritten c 0 marks image homes) → IsMeasuredImage c.methods image.methods homes
 by_test c marks image homes true built is = measured-original c image homes built is
-by_test c marks image homes false built is = members-measured (length c.pool) 0 marks c.methods image.methods homes built.plain.methods is.methods
+by_test c marks image homes false built is = members-measured c 0 marks c.methods image.methods homes built.plain.methods is.methods
 
 pub IsMeasuredImage-image : (c : ClassFile) (marks : List Mark) (image : ClassFile) (homes : List (Option Homes)) → IsBuilt c → IsImage c 0 marks image homes → IsMeasuredImage c.methods image.methods homes
 IsMeasuredImage-image c marks image homes built is = by_test c marks image homes (all_off marks) built is

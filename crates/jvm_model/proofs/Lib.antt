@@ -9,6 +9,9 @@ pub mod ImageProbes
 pub mod ImageLines
 pub mod ImageAgrees
 pub mod LaidLengths
+pub mod MethodsOfImages
+pub mod ImageSizes
+pub mod NumbersOfMethods
 pub mod Settles
 pub mod NormalForms
 pub mod LoopOfMoves

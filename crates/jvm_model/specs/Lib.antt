@@ -46,6 +46,7 @@ pub mod StepPauses
 pub mod InHand
 pub mod Probed
 pub mod Versions
+pub mod ImageTables
 pub mod Homed
 pub mod Images
 pub mod Paths

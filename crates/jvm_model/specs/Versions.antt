@@ -1,6 +1,6 @@
 -- Versions: the code of a method with its probes, and where its instructions come to stand. A probe pushes the method's
 -- number and invokes a static method of jfluid/Probe, which takes it.
-use Rattle.std.specs.Prelude.{◌≡◌, ℕ, ◌+◌, Bool, List, [], ◌∷◌, ◌++◌, length, map, max, nat_le, ◌&&◌, if◌then◌else◌}
+use Rattle.std.specs.Prelude.{◌≡◌, ℕ, ◌+◌, ◌≤◌, Bool, List, [], ◌∷◌, ◌++◌, length, map, max, None, nat_le, ◌&&◌, if◌then◌else◌}
 use Rattle.const_pool.specs.declared.class.CodeAttribute.{CodeAttribute}
 use Rattle.const_pool.specs.declared.class.Handler.{Handler}
 use Rattle.const_pool.specs.Tail.{root_index, enter_index, leave_index, unwind_index}
@@ -10,7 +10,7 @@ use Rattle.code_model.specs.declared.laying.Group.{Group}
 use Rattle.code_model.specs.declared.laying.Homes.{Homes}
 use Rattle.code_model.specs.declared.laying.Laid.{Laid}
 use Rattle.code_model.specs.Instructions.{IsReading}
-use Rattle.code_model.specs.Layout.{u2, laid_of, home_of}
+use Rattle.code_model.specs.Layout.{u2, laid_of, home_of, first_far}
 use Rattle.jvm_model.specs.declared.event.Mark.{Mark}
 use Rattle.jvm_model.specs.declared.event.Mark.TheVariants.{Off, Plain, Root}
 
@@ -66,9 +66,12 @@ code_with old laid = record old {
   attributes = [];
 }
 
--- The version of a method with this number, for a mark other than Off. A code has at most one reading. Its attributes may be any.
+-- The version of a method with this number, for a mark other than Off. A code has at most one reading. The version's code fits, and its
+-- branches reach. What becomes of the attributes is said of the image.
 pub record IsVersion (count number : ℕ) (mark : Mark) (old new : CodeAttribute) (homes : Homes) : Type 0 where
   pub reading : Code
   pub reads : IsReading old.code reading
   pub moved : homes ≡ (laid_version count number mark reading.instrs).homes
   pub code : record new { attributes = [] } ≡ code_with old (laid_version count number mark reading.instrs)
+  pub short : length (laid_version count number mark reading.instrs).code ≤ 65535
+  pub near : first_far (entry_probe count number mark) (groups_of count number reading.instrs) ≡ None

@@ -1,6 +1,7 @@
 -- The definitions of a version and of an image, computed on the worked class P1: its method f has the number 0, and its pool
 -- 24 entries.
-use Rattle.std.specs.Prelude.{◌≡◌, ℕ, List, [], ◌∷◌, Some, None, refl}
+use Rattle.std.specs.Prelude.{◌≡◌, ℕ, List, [], ◌∷◌, length, Some, None, refl}
+use Rattle.std.proofs.Common.{arith}
 use Rattle.op_table.specs.Opcodes.{row_of, groups}
 use Rattle.const_pool.specs.declared.class.CodeAttribute.{CodeAttribute}
 use Rattle.const_pool.specs.declared.class.ClassFile.{ClassFile}
@@ -32,11 +33,11 @@ f_version index = record {
 
 f_root : IsVersion 24 0 Root (code_with f_bytes) (f_version 0x1D) f_homes
 unfolding row_of groups
-f_root = record { reading = f_reading; reads = f_reads; moved = refl; code = refl }
+f_root = record { reading = f_reading; reads = f_reads; moved = refl; code = refl; short = (let long : length (laid_version 24 0 Root f_reading.instrs).code ≡ 23 = refl in omega (arith, long)); near = refl }
 
 f_plain : IsVersion 24 0 Plain (code_with f_bytes) (f_version 0x20) f_homes
 unfolding row_of groups
-f_plain = record { reading = f_reading; reads = f_reads; moved = refl; code = refl }
+f_plain = record { reading = f_reading; reads = f_reads; moved = refl; code = refl; short = (let long : length (laid_version 24 0 Plain f_reading.instrs).code ≡ 23 = refl in omega (arith, long)); near = refl }
 
 home_of_return : home_in f_homes 3 ≡ Some 9
 home_of_return = refl
@@ -65,27 +66,39 @@ main_version = record {
 
 main_plain : IsVersion 24 1 Plain (code_with main_bytes) main_version main_homes
 unfolding row_of groups
-main_plain = record { reading = main_reading; reads = main_reads; moved = refl; code = refl }
+main_plain = record { reading = main_reading; reads = main_reads; moved = refl; code = refl; short = (let long : length (laid_version 24 1 Plain main_reading.instrs).code ≡ 31 = refl in omega (arith, long)); near = refl }
 
 -- ---- images
+
+-- P1 is of major 50: a version gets a StackMapTable, whose frame is at the added handler
+abbrev with_frame : ℕ → CodeAttribute → CodeAttribute
+with_frame handler code = record code { attributes = record { name = 41; bytes = 0 ∷ 1 ∷ 0xFF ∷ 0 ∷ handler ∷ 0 ∷ 0 ∷ 0 ∷ 1 ∷ 7 ∷ 0 ∷ 40 ∷ [] } ∷ [] }
 
 abbrev with_version : Member → CodeAttribute → Member
 with_version m code = record m { attributes = Code 23 code ∷ [] }
 
 abbrev f_rewritten : Member
-f_rewritten = with_version f_member (f_version 0x1D)
+f_rewritten = with_version f_member (with_frame 16 (f_version 0x1D))
 
 abbrev main_rewritten : Member
-main_rewritten = with_version main_member main_version
+main_rewritten = with_version main_member (with_frame 24 main_version)
 
 abbrev p1_with : List Member → ClassFile
 p1_with methods = record p1 { pool = with_tail p1.pool; methods = methods }
 
-f_marked : IsMarkedMember 24 0 Root f_member f_rewritten f_homes
-f_marked = record { before = code_with f_bytes; after = f_version 0x1D; coded = refl; version = f_root; replaced = refl }
+f_framed : IsVersion 24 0 Root (code_with f_bytes) (with_frame 16 (f_version 0x1D)) f_homes
+unfolding row_of groups f_root
+f_framed = record { reading = f_reading; reads = f_reads; moved = refl; code = refl; short = f_root.short; near = refl }
 
-main_marked : IsMarkedMember 24 1 Plain main_member main_rewritten main_homes
-main_marked = record { before = code_with main_bytes; after = main_version; coded = refl; version = main_plain; replaced = refl }
+main_framed : IsVersion 24 1 Plain (code_with main_bytes) (with_frame 24 main_version) main_homes
+unfolding row_of groups main_plain
+main_framed = record { reading = main_reading; reads = main_reads; moved = refl; code = refl; short = main_plain.short; near = refl }
+
+f_marked : IsMarkedMember p1 0 Root f_member f_rewritten f_homes
+f_marked = record { before = code_with f_bytes; after = with_frame 16 (f_version 0x1D); coded = refl; version = f_framed; tables = refl; replaced = refl }
+
+main_marked : IsMarkedMember p1 1 Plain main_member main_rewritten main_homes
+main_marked = record { before = code_with main_bytes; after = with_frame 24 main_version; coded = refl; version = main_framed; tables = refl; replaced = refl }
 
 -- f alone: main is the original
 f_image : IsImage p1 0 (Root ∷ Off ∷ []) (p1_with (f_rewritten ∷ main_member ∷ [])) (Some f_homes ∷ None ∷ [])

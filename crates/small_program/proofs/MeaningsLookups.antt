@@ -1,9 +1,7 @@
 -- Looking up a class that is behind another one, what is loaded, and the front of a walk (JVM Specification 5.3, 5.4.3).
-use Rattle.std.proofs.Common.{◌≡◌, ℕ, suc, ◌+◌, ◌*◌, Bool, true, false, List, [], ◌∷◌, ◌++◌, length, position, cond, Option, Some, None, refl, sym, ap, ◌∙◌, add-one, arith}
+use Rattle.std.proofs.Common.{◌≡◌, ℕ, suc, ◌+◌, ◌*◌, Bool, true, false, List, [], ◌∷◌, ◌++◌, length, cond, Option, Some, None, ap, ◌∙◌, add-one}
 use Rattle.std.specs.Prelude.{Ok, codes, flat_map, unwrap_or}
 use Rattle.std.specs.Bool.{beq}
-use Rattle.std.specs.List.{position_from}
-use Rattle.std.proofs.lemmas.Iterator.Adapters.{position_from-zero}
 use Rattle.std.specs.Option.{option_map, option_map_or, option_to_list}
 use Rattle.const_pool.specs.References.{NameAndType, Reference}
 use Rattle.jvm_model.specs.declared.program.Program.{Program}
