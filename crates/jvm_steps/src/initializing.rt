@@ -11,7 +11,6 @@ ghost use Rattle.jvm_model.specs.Programs.{initializer_of, super_of};
 ghost use Rattle.jvm_model.specs.SharedState.{class_of, error, phase_of, with_phase};
 ghost use Rattle.jvm_steps.specs.Initializing.{begins_class, failing};
 ghost use Rattle.jvm_steps.specs.Invoking.{may_begin};
-ghost use Rattle.jvm_steps.specs.Linked.{linker_in};
 ghost use Rattle.jvm_steps.specs.Markers.{marker_on, state_of};
 
 use crate::handlers::class_of;
@@ -53,7 +52,7 @@ pub fn initialize(
 
 /// Whether an object is an Error.
 fn is_error(originals: &Originals, shared: &Shared, object: u32) -> bool
-    ensures { let p = (linker_in originals.now).program in
+    ensures { let p = originals.now.world.program in
         result ≡ is_below p (class_of p shared.now object) error }
 {
     let class = class_of(originals.program(), &shared.heap, object) as usize;

@@ -4,7 +4,6 @@ ghost use Rattle.std.specs.Prelude.{◌≡◌, OnOk};
 ghost use Rattle.jvm_model.specs.Lookup.{is_below};
 ghost use Rattle.jvm_model.specs.SharedState.{class_of, throwable};
 ghost use Rattle.jvm_steps.specs.Acts.{IsTop, Becomes, acts_athrow};
-ghost use Rattle.jvm_steps.specs.Linked.{linker_in};
 
 use crate::handlers::class_of;
 use crate::line::Line;
@@ -18,7 +17,7 @@ use jvm_model::Shared;
 
 /// Whether an object is a Throwable.
 fn is_throwable(originals: &Originals, shared: &Shared, object: u32) -> bool
-    ensures { let p = (linker_in originals.now).program in
+    ensures { let p = originals.now.world.program in
         result ≡ is_below p (class_of p shared.now object) throwable }
 {
     let class = class_of(originals.program(), &shared.heap, object) as usize;
