@@ -32,7 +32,7 @@ pub fn throw_object(
     line: &Line,
 ) -> Result<(), NoMemory>
     requires top { IsTop method parts.old.frames.frames }
-    ensures state { Becomes result parts.new (acts_athrow originals.now.world line.now) parts.old }
+    ensures state { Becomes result parts.new (acts_athrow originals.now.setup line.now) parts.old }
 {
     let Some(object) = ref_of(&parts.frames) else {
         break_off(parts, method, line.instr.at);
