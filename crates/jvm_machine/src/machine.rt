@@ -183,7 +183,7 @@ impl Vm {
                 method: probe.number,
                 clock: self.clock,
             }),
-            Telling::Nothing if self.parts.ending.is_some() => Turn::Ended,
+            Telling::Nothing if self.is_over() => Turn::Ended,
             Telling::Nothing => Turn::Settled,
         }
     }
