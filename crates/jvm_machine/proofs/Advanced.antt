@@ -4,6 +4,8 @@ use Rattle.std.specs.Prelude.{not, ◌==◌, ◌&&◌}
 use Rattle.jvm_model.specs.declared.state.State.{State}
 use Rattle.jvm_model.specs.Data.{World}
 use Rattle.jvm_steps.specs.Linked.{Linked}
+use Rattle.jvm_steps.specs.OriginalRun.{original_setup}
+use Rattle.jvm_steps.specs.Versions.{Setup}
 use Rattle.jvm_machine.specs.declared.probes.Probe.{Probe}
 use Rattle.jvm_machine.specs.declared.telling.Telling.{Telling}
 use Rattle.jvm_machine.specs.Advances.{Advances}
@@ -22,14 +24,15 @@ pub record HasAdvanced (v : View) (now : World) (r : Option Rewritten) (after : 
 
 pub has_advanced : (v : View) (o : Linked) (now : World) (r : Option Rewritten) (s after : State) (told next : ℕ) (probe : Option Probe) (loads : List ℕ)
     (loads_told told_now started broken resting : Bool) (clock n : ℕ) (telling : Telling) (loaded : List ℕ)
-    → now ≡ o.world → seen_in o.world r s told loads_told started broken clock ≡ v → AreRunning o.world r s told loads_told started broken clock
-    → IsLinked (seen_in o.world r s told loads_told started broken clock) o.loaded → v.broken ≡ false → IsGoingOn v
-    → (let m = moved_in o.world r started loads_told told s in (after ≡ m.state) × (next ≡ m.told) × (probe ≡ m.probe) × (loads ≡ m.loads))
+    → o.setup ≡ original_setup o.setup.world → now ≡ o.setup.world → seen_in o.setup.world r s told loads_told started broken clock ≡ v → AreRunning o.setup.world r s told loads_told started broken clock
+    → IsLinked (seen_in o.setup.world r s told loads_told started broken clock) o.loaded → v.broken ≡ false → IsGoingOn v
+    → (let m = moved_in o.setup r started loads_told told s in (after ≡ m.state) × (next ≡ m.told) × (probe ≡ m.probe) × (loads ≡ m.loads))
     → resting ≡ is_resting v → n ≡ clock_in resting started clock → telling ≡ telling_by probe loads → told_now ≡ told_behind loads_told telling
     → Links o r started after loaded → HasAdvanced v now r after next told_now n telling loaded
-has_advanced v o now r s after told next probe loads loads_told told_now started broken resting clock n telling loaded same sees is linked whole going moves rests later tells told_is links =
+has_advanced v o now r s after told next probe loads loads_told told_now started broken resting clock n telling loaded own same sees is linked whole going moves rests later tells told_is links =
     let rest : resting ≡ (told == 0 && not loads_told) = rests ∙ ap is_resting (sym sees) in
-    let goes = is_advanced_in v o.world now r s after told next probe loads loads_told started broken clock n same sees is whole going moves
+    let goes = is_advanced_in v o.setup.world now r s after told next probe loads loads_told started broken clock n same sees is whole going
+    (subst (λ (w : Setup). let m = moved_in w r started loads_told told s in (after ≡ m.state) × (next ≡ m.told) × (probe ≡ m.probe) × (loads ≡ m.loads)) own moves)
     (later ∙ ap (λ b. clock_in b started clock) rest) in
     let behind : told_behind v.loads_told (telling_by probe loads) ≡ told_now =
     ap (λ (x : View). told_behind x.loads_told (telling_by probe loads)) (sym sees) ∙ (ap (told_behind loads_told) (sym tells) ∙ sym told_is) in

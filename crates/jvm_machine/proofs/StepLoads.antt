@@ -25,6 +25,7 @@ use Rattle.jvm_model.specs.Sound.{IsFit, IsSound, IsSoundEntry}
 use Rattle.jvm_model.proofs.Attempts.{loaded-after, with_loaded-shared}
 use Rattle.jvm_model.proofs.Order.{by-begins, run-stops, started-begins, stopped-calm}
 use Rattle.jvm_model.proofs.SoundRuns.{at-goes, sound-start, sound-step, with-loaded-is}
+use Rattle.jvm_steps.specs.OriginalRun.{original_setup}
 use Rattle.jvm_steps.proofs.MovesLoad.{settled-loaded}
 use Rattle.jvm_machine.specs.Loads.{loads_in, loads_of_step}
 use Rattle.jvm_machine.specs.Original.{new_classes}
@@ -81,7 +82,7 @@ if-loaded w false = sym (append-nil (before w).shared.loaded)
 pub start-told : (w : World) → IsTold (before w) (start w (original w.program))
 start-told w =
     told-by (before w) (main_loads w) (settled w (original w.program) (still (starts_with w))) (started-begins w (original w.program))
-    (settled-loaded w (original w.program) (still (starts_with w)) ∙ if-loaded w (arguments_fit w.program))
+    (settled-loaded (original_setup w) (original w.program) (still (starts_with w)) ∙ if-loaded w (arguments_fit w.program))
 
 -- ---- a step
 

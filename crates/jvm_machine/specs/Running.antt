@@ -1,5 +1,5 @@
 -- How the parts of a machine stand for what a clause sees of it.
-use Rattle.std.specs.Prelude.{◌≡◌, ℕ, ◌-◌, Bool, true, false, List, [], ◌∷◌, length, Option, Some, None, is_none, ◌==◌, ◌||◌, if◌then◌else◌}
+use Rattle.std.specs.Prelude.{◌≡◌, ℕ, ◌-◌, ◌≤◌, Bool, true, false, List, [], ◌∷◌, length, Option, Some, None, is_none, ◌==◌, ◌||◌, if◌then◌else◌}
 use Rattle.jvm_model.specs.declared.state.Entry.{Entry}
 use Rattle.jvm_model.specs.declared.ending.Ending.{Ending}
 use Rattle.jvm_model.specs.declared.state.State.{State}
@@ -15,6 +15,7 @@ use Rattle.jvm_model.specs.Programs.{first_class}
 use Rattle.jvm_model.specs.Installed.{Installed}
 use Rattle.jvm_model.specs.Data.{World}
 use Rattle.jvm_steps.specs.Before.{CanStart}
+use Rattle.jvm_steps.specs.OriginalRun.{IsAfter}
 use Rattle.jvm_machine.specs.Moves.{leave_passed, rest_of}
 use Rattle.jvm_machine.specs.Prepared.{Rewritten, installed_in}
 use Rattle.jvm_machine.specs.View.{View, Place, world, state_of, is_resting, events_now, loads_left}
@@ -75,11 +76,12 @@ pub record IsRunning (v : View) (state : State) : Type 0 where
   pub first : v.broken ≡ false → v.loads_told ≡ true → v.clock ≡ 0
   pub early : v.started ≡ false → (v.clock ≡ 0) × (v.told ≡ 0) × (v.loads_told ≡ false)
 
--- No versions were installed: unless memory has run out, the state is the run's. The program is fit.
+-- No versions were installed: unless memory has run out, the state stands for the run's. The program is fit, and a u32 numbers its methods.
 pub record IsOriginal (v : View) (state : State) : Type 0 where
   pub starts : CanStart v.program
   pub fit : IsFit v.program
-  pub stands : v.broken ≡ false → state ≡ state_of v
+  pub few : length v.program.methods ≤ 4294967296
+  pub stands : v.broken ≡ false → IsAfter (world v) v.started v.clock state
   pub told : v.told ≡ 0
   pub early : v.started ≡ false → (v.clock ≡ 0) × (v.loads_told ≡ false)
 

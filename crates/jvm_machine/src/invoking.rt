@@ -6,7 +6,7 @@ ghost use Rattle.jvm_model.specs.Programs.{max_locals_of};
 ghost use Rattle.jvm_steps.specs.Arguments.{can_begin, fits_params};
 ghost use Rattle.jvm_steps.specs.Invoking.{may_begin};
 ghost use Rattle.jvm_machine.specs.Applied.{Becomes, TellsBegun, IsTop, invokes_here};
-ghost use Rattle.jvm_machine.specs.Arguments.{with_begun, with_callee};
+ghost use Rattle.jvm_machine.specs.Arguments.{setup_in, with_begun, with_callee};
 
 use crate::applying::break_off;
 use crate::tables::Tables;
@@ -26,7 +26,7 @@ pub fn begin_frame(
     requires few { may_begin frames.old.frames ≡ true }
     requires args { args ≤ max_locals_of (world_in tables.now) method }
     ensures answer { IfOk result (λ b. b ≡
-        can_begin (world_in tables.now) method args frames.old.frames) }
+        can_begin (setup_in tables.now) method args frames.old.frames) }
     ensures frames { IfOk result (λ b. frames.new.frames ≡
         with_begun b tables.now method args frames.old.frames) }
 {
@@ -43,7 +43,7 @@ pub fn begin_frame(
 /// Begins a method, whose arguments are there and fit.
 fn begin_callee(tables: &Tables, frames: &mut Frames, method: u32) -> Result<(), NoMemory>
     requires few { may_begin frames.old.frames ≡ true }
-    requires fits { fits_params (world_in tables.now) method frames.old.frames ≡ true }
+    requires fits { fits_params (setup_in tables.now) method frames.old.frames ≡ true }
     ensures { OnOk result
         (frames.new.frames ≡ with_callee tables.now method frames.old.frames) }
 {

@@ -52,17 +52,19 @@ impl Model for Vm {
     ghost use Rattle.jvm_machine.specs.Original.{ArePlain};
     ghost use Rattle.jvm_machine.specs.Running.{AreRunning, IsLinked, seen_in};
     ghost use Rattle.jvm_steps.specs.Markers.{state_of};
+    ghost use Rattle.jvm_steps.specs.OriginalRun.{original_setup};
 
     ghost Value = { View };
 
-    ghost view = { λ v. seen_in v.originals.world v.versions (state_of v.markers v.parts) v.told
+    ghost view = { λ v. seen_in v.originals.setup.world v.versions (state_of v.markers v.parts) v.told
         v.loads_told v.started v.broken v.clock };
 
     ghost invariant = { λ v. (v.broken ≡ false → ArePlain v.versions v.markers)
-        × AreRunning v.originals.world v.versions (state_of v.markers v.parts) v.told v.loads_told
+        × AreRunning v.originals.setup.world v.versions (state_of v.markers v.parts) v.told v.loads_told
         v.started v.broken v.clock
-        × IsLinked (seen_in v.originals.world v.versions (state_of v.markers v.parts) v.told
-        v.loads_told v.started v.broken v.clock) v.originals.loaded };
+        × IsLinked (seen_in v.originals.setup.world v.versions (state_of v.markers v.parts) v.told
+        v.loads_told v.started v.broken v.clock) v.originals.loaded
+        × (v.originals.setup ≡ original_setup v.originals.setup.world) };
 }
 
 impl Vm {
@@ -181,7 +183,7 @@ impl Vm {
                 method: probe.number,
                 clock: self.clock,
             }),
-            Telling::Nothing if self.parts.ending.is_some() => Turn::Ended,
+            Telling::Nothing if self.is_over() => Turn::Ended,
             Telling::Nothing => Turn::Settled,
         }
     }

@@ -24,12 +24,12 @@ fn step_original(
     markers: &mut Stack<Marker>,
     started: bool,
 ) -> Result<(), NoMemory>
-    requires able { CanStep originals.old.world started (state_of markers.old parts.old) }
+    requires able { CanStep originals.old.setup started (state_of markers.old parts.old) }
     requires linked { originals.old.loaded ≡ parts.old.shared.loaded }
     ensures state { let s = state_of markers.old parts.old in OnOk result
-        (state_of markers.new parts.new ≡ stepped_original originals.old.world started s) }
+        (state_of markers.new parts.new ≡ stepped_original originals.old.setup started s) }
     ensures linked { OnOk result (originals.new.loaded ≡ parts.new.shared.loaded) }
-    ensures world { originals.new.world ≡ originals.old.world }
+    ensures world { originals.new.setup ≡ originals.old.setup }
 {
     if started {
         step(alloc, originals, parts, markers)
@@ -61,18 +61,18 @@ fn move_original(
     started: bool,
     loads_told: bool,
 ) -> Result<Advance, NoMemory>
-    requires able { CanStep originals.old.world started (state_of markers.old parts.old) }
+    requires able { CanStep originals.old.setup started (state_of markers.old parts.old) }
     requires linked { originals.old.loaded ≡ parts.old.shared.loaded }
-    ensures moved { let w = originals.old.world in let s = state_of markers.old parts.old in
+    ensures moved { let w = originals.old.setup in let s = state_of markers.old parts.old in
         MovesAll result markers.new parts.new (moved_original w started loads_told s) }
-    ensures told { let w = originals.old.world in let s = state_of markers.old parts.old in
+    ensures told { let w = originals.old.setup in let s = state_of markers.old parts.old in
         TellsAs result (moved_original w started loads_told s) }
-    ensures probe { let w = originals.old.world in let s = state_of markers.old parts.old in
+    ensures probe { let w = originals.old.setup in let s = state_of markers.old parts.old in
         PassesAs result (moved_original w started loads_told s) }
-    ensures loads { let w = originals.old.world in let s = state_of markers.old parts.old in
+    ensures loads { let w = originals.old.setup in let s = state_of markers.old parts.old in
         LoadsAs result (moved_original w started loads_told s) }
     ensures linked { OnOk result (originals.new.loaded ≡ parts.new.shared.loaded) }
-    ensures world { originals.new.world ≡ originals.old.world }
+    ensures world { originals.new.setup ≡ originals.old.setup }
 {
     if loads_told {
         return Ok(brought(Seq::new(alloc)));
@@ -111,7 +111,7 @@ fn move_versions(
 /// The linker loads the main class by the start, where there is room for the arguments.
 fn link(alloc: Global, originals: &mut Originals, started: bool) -> Result<(), NoMemory>
     ensures loaded { OnOk result (originals.new.loaded ≡ linked_over originals.old started) }
-    ensures world { originals.new.world ≡ originals.old.world }
+    ensures world { originals.new.setup ≡ originals.old.setup }
 {
     if started || !arguments_fit(originals.program()) {
         return Ok(());
@@ -132,21 +132,21 @@ fn go_over(
 ) -> Result<Advance, NoMemory>
     requires plain { markers.now ≡ [] }
     requires early { started ≡ false
-        → IsAtStart originals.old.world (state_of markers.now parts.old) }
-    ensures moved { let t = installed originals.old.world versions.now in
+        → IsAtStart originals.old.setup.world (state_of markers.now parts.old) }
+    ensures moved { let t = installed originals.old.setup.world versions.now in
         let s = state_of markers.now parts.old in
         MovesAll result markers.now parts.new (moved_on t started loads_told told s) }
-    ensures told { let t = installed originals.old.world versions.now in
+    ensures told { let t = installed originals.old.setup.world versions.now in
         let s = state_of markers.now parts.old in
         TellsAs result (moved_on t started loads_told told s) }
-    ensures probe { let t = installed originals.old.world versions.now in
+    ensures probe { let t = installed originals.old.setup.world versions.now in
         let s = state_of markers.now parts.old in
         PassesAs result (moved_on t started loads_told told s) }
-    ensures loads { let t = installed originals.old.world versions.now in
+    ensures loads { let t = installed originals.old.setup.world versions.now in
         let s = state_of markers.now parts.old in
         LoadsAs result (moved_on t started loads_told told s) }
     ensures linked { OnOk result (originals.new.loaded ≡ linked_over originals.old started) }
-    ensures world { originals.new.world ≡ originals.old.world }
+    ensures world { originals.new.setup ≡ originals.old.setup }
 {
     link(alloc, originals, started)?;
     let tables = Tables::new(originals, versions);
@@ -164,22 +164,22 @@ pub fn go_on(
     loads_told: bool,
     told: u32,
 ) -> Result<Advance, NoMemory>
-    requires able { CanMove originals.old.world versions.now started
+    requires able { CanMove originals.old.setup versions.now started
         (state_of markers.old parts.old) }
     requires linked { AreLinked versions.now originals.old.loaded (state_of markers.old parts.old) }
     requires plain { ArePlain versions.now markers.old }
-    ensures moved { let s = state_of markers.old parts.old in let w = originals.old.world in
+    ensures moved { let s = state_of markers.old parts.old in let w = originals.old.setup in
         MovesAll result markers.new parts.new (moved_in w versions.now started loads_told told s) }
-    ensures told { let s = state_of markers.old parts.old in let w = originals.old.world in
+    ensures told { let s = state_of markers.old parts.old in let w = originals.old.setup in
         TellsAs result (moved_in w versions.now started loads_told told s) }
-    ensures probe { let s = state_of markers.old parts.old in let w = originals.old.world in
+    ensures probe { let s = state_of markers.old parts.old in let w = originals.old.setup in
         PassesAs result (moved_in w versions.now started loads_told told s) }
-    ensures loads { let s = state_of markers.old parts.old in let w = originals.old.world in
+    ensures loads { let s = state_of markers.old parts.old in let w = originals.old.setup in
         LoadsAs result (moved_in w versions.now started loads_told told s) }
     ensures linked { let s = state_of markers.new parts.new in OnOk result
         (Links originals.old versions.now started s originals.new.loaded) }
     ensures plain { OnOk result (ArePlain versions.now markers.new) }
-    ensures world { originals.new.world ≡ originals.old.world }
+    ensures world { originals.new.setup ≡ originals.old.setup }
 {
     match versions {
         None => move_original(alloc, originals, parts, markers, started, loads_told),

@@ -123,12 +123,12 @@ impl<'a> Model for Tables<'a> {
 
     ghost Value = { Installed };
 
-    ghost view = { λ t. installed t.originals.now.world t.versions.now };
+    ghost view = { λ t. installed t.originals.now.setup.world t.versions.now };
 }
 
 impl<'a> Tables<'a> {
     pub fn new(originals: &'a Originals, versions: &'a Versions) -> Tables<'a>
-        ensures { result ≡ installed originals.now.world versions.now }
+        ensures { result ≡ installed originals.now.setup.world versions.now }
     {
         Tables {
             originals,
@@ -138,7 +138,7 @@ impl<'a> Tables<'a> {
 
     /// The program's original code.
     pub fn originals(&self) -> &Originals
-        ensures { result.now.world ≡ world_in self.now }
+        ensures { result.now.setup.world ≡ world_in self.now }
     {
         self.originals
     }

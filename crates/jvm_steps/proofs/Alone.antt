@@ -3,7 +3,6 @@ use Rattle.std.proofs.Common.{◌≡◌, ℕ, Bool, true, false, List, [], ◌�
 use Rattle.std.specs.Prelude.{nat_le}
 use Rattle.frame_stack.specs.Widths.{height_of}
 use Rattle.frame_stack.specs.FrameLists.{PlacedFrame, FramesView}
-use Rattle.jvm_model.specs.Data.{World}
 use Rattle.jvm_model.specs.Applies.{breaks, with_frame}
 use Rattle.jvm_model.specs.LocalRules.{by_zero}
 use Rattle.jvm_basic.specs.declared.effect.Effect.TheVariants.{Next, Throws, Bad, Other}
@@ -14,8 +13,9 @@ use Rattle.jvm_steps.specs.declared.parts.Parts.{Parts}
 use Rattle.jvm_steps.specs.declared.originals.Exception.TheVariants.{Arithmetic}
 use Rattle.jvm_steps.specs.Acts.{IsTop, comes_to, acts_alone, on_top, on_parts, ended, raising}
 use Rattle.jvm_steps.specs.States.{frame_in, state_with, state_in}
+use Rattle.jvm_steps.specs.Versions.{Setup}
 
-module _ (w : World) (line : Line) (p : Parts) where
+module _ (w : Setup) (line : Line) (p : Parts) where
   next-is : (x : Outcome) (f : PlacedFrame) (fs : List PlacedFrame) → effect_in x (f ∷ fs) ≡ Next
       → state_with (frames_in x (f ∷ fs)) p ≡ comes_to w line (state_with fs p) (frame_in f) x
   next-is (GoesOn l o place) f fs e = by (nat_le (height_of o) f.max_stack) e where

@@ -9,7 +9,6 @@ use Rattle.frame_stack.specs.FrameLists.{PlacedFrame}
 use Rattle.jvm_model.specs.declared.ending.Ending.TheVariants.{Unverifiable}
 use Rattle.jvm_model.specs.declared.state.Frame.{Frame}
 use Rattle.jvm_model.specs.declared.state.State.{State}
-use Rattle.jvm_model.specs.Data.{World}
 use Rattle.jvm_steps.specs.declared.line.Action.{Action}
 use Rattle.jvm_steps.specs.declared.line.Action.TheVariants as action
 use Rattle.jvm_steps.specs.declared.line.Line.{Line}
@@ -17,15 +16,15 @@ use Rattle.jvm_steps.specs.declared.markers.Marker.{Marker}
 use Rattle.jvm_steps.specs.declared.parts.Here.{Here}
 use Rattle.jvm_steps.specs.declared.parts.Parts.{Parts}
 use Rattle.jvm_steps.specs.Acts.{BecomesBeneath, IsTop, acts, acts_by, acts_end, attempts_line, attempts_on, awaited, awaited_by, awaited_in, awaited_on, becomes_beneath, ended, is_named, named_in, on_top}
-use Rattle.jvm_steps.specs.Lines.{line_at}
 use Rattle.jvm_steps.specs.Markers.{initializing, marker_on, stack_of, state_of, with_markers}
 use Rattle.jvm_steps.specs.States.{active, frame_in, here_of, state_in, state_with}
 use Rattle.jvm_steps.proofs.ActsLoad.{attempts-keep}
 use Rattle.jvm_steps.proofs.Carried.{end-carried, goes_within, length-active, line-carried}
 use Rattle.jvm_steps.proofs.LineSteps.{top-frame}
 use Rattle.jvm_steps.proofs.MarkedStacks.{none-left, stack-empty, stack-on}
+use Rattle.jvm_steps.specs.Versions.{Setup, line_at}
 
-module _ (w : World) (line : Line) (ms : List Marker) (p new : Parts) (method : ℕ) where
+module _ (w : Setup) (line : Line) (ms : List Marker) (p new : Parts) (method : ℕ) where
   pub does-beneath : (fs : List PlacedFrame) → IsTop method fs → marker_on (length fs) ms ≡ None → is_named line.action ≡ false
       → (goes_within line.action ≡ false → marker_on (length fs - 1) ms ≡ None) → state_in new ≡ on_top (acts w line) p fs
       → state_of ms new ≡ becomes_beneath ms (acts w line) p fs
@@ -68,7 +67,7 @@ within-unless (action.LdcString units) isnt h = false≢true (sym h)
 
 -- ---- what stands at the top
 
-module _ (w : World) (ms : List Marker) (p : Parts) where
+module _ (w : Setup) (ms : List Marker) (p : Parts) where
   abbrev s : State
   s = state_of ms p
 
@@ -97,68 +96,68 @@ module _ (w : World) (ms : List Marker) (p : Parts) where
     by (action.LdcString units) is = refl
 
   awaits-by : (fs : List PlacedFrame) (here : Here) → here_of fs ≡ Some here → marker_on (length fs) ms ≡ None
-      → named_in (line_at w.program here.version here.place) ≡ false → awaited_on w s (stack_of (map active fs) ms) ≡ None
+      → named_in (line_at w.versions here.version here.place) ≡ false → awaited_on w s (stack_of (map active fs) ms) ≡ None
   awaits-by [] here is none unnamed = absurd (none-some here is)
   awaits-by (f ∷ fs) here is none unnamed =
       let same : record { version = f.version; method = f.method; place = f.place } ≡ here = same_Some _ here is in
       let under : State = record s { stack = stack_of (map active fs) ms } in
       ap (awaited_on w s) (top-frame ms f fs none)
-      ∙ (ap (λ (h : Here). awaited_by w under (frame_in f) (line_at w.program h.version h.place)) same
-      ∙ unnamed-by (line_at w.program here.version here.place) unnamed under (frame_in f))
+      ∙ (ap (λ (h : Here). awaited_by w under (frame_in f) (line_at w.versions h.version h.place)) same
+      ∙ unnamed-by (line_at w.versions here.version here.place) unnamed under (frame_in f))
 
   pub awaits-unnamed : (here : Here) → here_of p.frames.frames ≡ Some here → marker_on (length p.frames.frames) ms ≡ None
-      → named_in (line_at w.program here.version here.place) ≡ false → awaited_in w s ≡ None
+      → named_in (line_at w.versions here.version here.place) ≡ false → awaited_in w s ≡ None
   awaits-unnamed here is none unnamed = awaits-by p.frames.frames here is none unnamed
 
   loads-by : (fs : List PlacedFrame) (here : Here) → here_of fs ≡ Some here → marker_on (length fs) ms ≡ None
-      → named_in (line_at w.program here.version here.place) ≡ false → (attempts_on w s (stack_of (map active fs) ms)).shared.loaded ≡ p.shared.loaded
+      → named_in (line_at w.versions here.version here.place) ≡ false → (attempts_on w s (stack_of (map active fs) ms)).shared.loaded ≡ p.shared.loaded
   loads-by [] here is none unnamed = absurd (none-some here is)
   loads-by (f ∷ fs) here is none unnamed =
       let same : record { version = f.version; method = f.method; place = f.place } ≡ here = same_Some _ here is in
       let under : State = record s { stack = stack_of (map active fs) ms } in
       ap (λ es. (attempts_on w s es).shared.loaded) (top-frame ms f fs none)
-      ∙ (ap (λ (h : Here). (attempts_line w under (frame_in f) (line_at w.program h.version h.place)).shared.loaded) same
-      ∙ attempts-keep w under (frame_in f) (line_at w.program here.version here.place)
+      ∙ (ap (λ (h : Here). (attempts_line w under (frame_in f) (line_at w.versions h.version h.place)).shared.loaded) same
+      ∙ attempts-keep w under (frame_in f) (line_at w.versions here.version here.place)
       (λ line found. sym (ap named_in found) ∙ unnamed))
 
   pub loads-unnamed : (here : Here) → here_of p.frames.frames ≡ Some here → marker_on (length p.frames.frames) ms ≡ None
-      → named_in (line_at w.program here.version here.place) ≡ false → (after : State) → after ≡ attempts_on w s (stack_of (map active p.frames.frames) ms)
+      → named_in (line_at w.versions here.version here.place) ≡ false → (after : State) → after ≡ attempts_on w s (stack_of (map active p.frames.frames) ms)
       → p.shared.loaded ≡ after.shared.loaded
   loads-unnamed here is none unnamed after attempted =
       sym (ap (λ (x : State). x.shared.loaded) attempted ∙ loads-by p.frames.frames here is none unnamed)
 
-  breaks-by : (fs : List PlacedFrame) (here : Here) → here_of fs ≡ Some here → marker_on (length fs) ms ≡ None → line_at w.program here.version here.place ≡ None
+  breaks-by : (fs : List PlacedFrame) (here : Here) → here_of fs ≡ Some here → marker_on (length fs) ms ≡ None → line_at w.versions here.version here.place ≡ None
       → record s { stack = stack_of (map active fs) ms; ending = Some (Unverifiable here.method 0) } ≡ attempts_on w s (stack_of (map active fs) ms)
   breaks-by [] here is none found = absurd (none-some here is)
   breaks-by (f ∷ fs) here is none found =
       let same : record { version = f.version; method = f.method; place = f.place } ≡ here = same_Some _ here is in
-      let at : line_at w.program f.version f.place ≡ None = ap (λ (h : Here). line_at w.program h.version h.place) same ∙ found in
+      let at : line_at w.versions f.version f.place ≡ None = ap (λ (h : Here). line_at w.versions h.version h.place) same ∙ found in
       ap (λ (h : Here). record s { stack = stack_of (map active (f ∷ fs)) ms; ending = Some (Unverifiable h.method 0) }) (sym same)
       ∙ (ap (λ es. record s { stack = es; ending = Some (Unverifiable f.method 0) }) (top-frame ms f fs none)
       ∙ sym (ap (attempts_on w s) (top-frame ms f fs none)
       ∙ ap (attempts_line w (record s { stack = stack_of (map active fs) ms }) (frame_in f)) at))
 
-  pub breaks-there : (here : Here) → here_of p.frames.frames ≡ Some here → marker_on (length p.frames.frames) ms ≡ None → line_at w.program here.version here.place ≡ None
+  pub breaks-there : (here : Here) → here_of p.frames.frames ≡ Some here → marker_on (length p.frames.frames) ms ≡ None → line_at w.versions here.version here.place ≡ None
       → state_of ms (ended here.method 0 p) ≡ attempts_on w s (stack_of (map active p.frames.frames) ms)
   breaks-there here is none found = breaks-by p.frames.frames here is none found
 
-  does-by : (line : Line) (fs : List PlacedFrame) (here : Here) → here_of fs ≡ Some here → marker_on (length fs) ms ≡ None → line_at w.program here.version here.place ≡ Some line
+  does-by : (line : Line) (fs : List PlacedFrame) (here : Here) → here_of fs ≡ Some here → marker_on (length fs) ms ≡ None → line_at w.versions here.version here.place ≡ Some line
       → becomes_beneath ms (acts w line) p fs ≡ attempts_on w s (stack_of (map active fs) ms)
   does-by line [] here is none found = absurd (none-some here is)
   does-by line (f ∷ fs) here is none found =
       let same : record { version = f.version; method = f.method; place = f.place } ≡ here = same_Some _ here is in
-      let at : line_at w.program f.version f.place ≡ Some line = ap (λ (h : Here). line_at w.program h.version h.place) same ∙ found in
+      let at : line_at w.versions f.version f.place ≡ Some line = ap (λ (h : Here). line_at w.versions h.version h.place) same ∙ found in
       sym (ap (attempts_on w s) (top-frame ms f fs none)
       ∙ ap (attempts_line w (record s { stack = stack_of (map active fs) ms }) (frame_in f)) at)
 
   pub does-there : (line : Line) (here : Here) → here_of p.frames.frames ≡ Some here → marker_on (length p.frames.frames) ms ≡ None
-      → line_at w.program here.version here.place ≡ Some line
+      → line_at w.versions here.version here.place ≡ Some line
       → becomes_beneath ms (acts w line) p p.frames.frames ≡ attempts_on w s (stack_of (map active p.frames.frames) ms)
   does-there line here is none found = does-by line p.frames.frames here is none found
 
   -- what the code has done by the line
   pub done-there : {A : Type 0} (result : Result A NoMemory) (new : Parts) (line : Line) (here : Here) → here_of p.frames.frames ≡ Some here
-      → marker_on (length p.frames.frames) ms ≡ None → line_at w.program here.version here.place ≡ Some line → BecomesBeneath result ms new (acts w line) p
+      → marker_on (length p.frames.frames) ms ≡ None → line_at w.versions here.version here.place ≡ Some line → BecomesBeneath result ms new (acts w line) p
       → OnOk result (state_of ms new ≡ attempts_on w s (stack_of (map active p.frames.frames) ms))
   done-there result new line here is none found made = subst (λ (x : State). OnOk result (state_of ms new ≡ x)) (does-there line here is none found) made
 

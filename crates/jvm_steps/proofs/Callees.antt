@@ -12,12 +12,11 @@ use Rattle.const_pool.specs.declared.descriptor.Kind.{Kind}
 use Rattle.frame_stack.specs.Widths.{height_of, slots_of_all}
 use Rattle.frame_stack.specs.FrameLists.{PlacedFrame, top_operands}
 use Rattle.jvm_model.specs.declared.state.State.{State}
-use Rattle.jvm_model.specs.Data.{Locals, Operands, Invokes, Turn, World}
+use Rattle.jvm_model.specs.Data.{Locals, Operands, Invokes, Turn}
 use Rattle.jvm_model.specs.Programs.{max_locals_of, max_stack_of, params_of_method}
 use Rattle.jvm_model.specs.Values.{data_of, datum_of, spread}
 use Rattle.jvm_model.specs.Rules.{invokes as invokes_outcome}
 use Rattle.jvm_model.specs.Applies.{still, breaks, begins, live_in, most_live, with_frame, applies}
-use Rattle.jvm_model.specs.Originals.{original}
 use Rattle.jvm_steps.specs.declared.parts.Parts.{Parts}
 use Rattle.jvm_steps.specs.declared.line.Line.{Line}
 use Rattle.jvm_steps.specs.declared.originals.Exception.TheVariants.{StackOverflow}
@@ -29,6 +28,7 @@ use Rattle.jvm_steps.specs.States.{active, frame_in, state_with, state_in}
 use Rattle.jvm_steps.specs.Arguments.{arguments_of, can_begin, fits_with, fits_params, slots_for, with_begun}
 use Rattle.jvm_steps.proofs.NamedLaws.{Takes}
 use Rattle.jvm_steps.proofs.Arguments.{spread-data, length-slots, height-reverse, height-kinds, enough-data, too-many}
+use Rattle.jvm_steps.specs.Versions.{Setup, text_of, current_of, first_of}
 
 pub live-is : (fs : List PlacedFrame) → live_in (map active fs) ≡ length fs
 live-is [] = refl
@@ -45,9 +45,9 @@ same-length (k ∷ ks) (v ∷ vs) ds e = by_first (datum_of k v) (data_of ks vs)
   by_first (Some d) None r e = absurd (none-some ds e)
   by_first (Some d) (Some xs) r e = ap length (sym (same_Some (d ∷ xs) ds e)) ∙ ap suc (r xs refl)
 
-module _ (w : World) (line : Line) (callee : ℕ) (p : Parts) (f : PlacedFrame) (fs : List PlacedFrame) where
+module _ (w : Setup) (line : Line) (callee : ℕ) (p : Parts) (f : PlacedFrame) (fs : List PlacedFrame) where
   abbrev most : ℕ
-  most = max_locals_of w callee
+  most = max_locals_of w.world callee
 
   abbrev taken : ℕ → List Value
   taken count = take count f.operands
@@ -66,12 +66,12 @@ module _ (w : World) (line : Line) (callee : ℕ) (p : Parts) (f : PlacedFrame) 
       (cond few_live
       (with_frame (with_frame (state_with fs p) (record (frame_in f) { operands = drop count f.operands })) (record {
         method = callee;
-        version = callee;
-        place = 0;
+        version = current_of w.versions callee;
+        place = first_of w.versions (current_of w.versions callee);
         locals = locals ++ replicate (most - depth) None;
         operands = [];
         max_locals = most;
-        max_stack = max_stack_of w callee;
+        max_stack = max_stack_of w.world callee;
       }))
       thrown)
       (breaks (state_with fs p) (frame_in f) line.instr.at)
@@ -82,10 +82,10 @@ module _ (w : World) (line : Line) (callee : ℕ) (p : Parts) (f : PlacedFrame) 
       (state_with (f ∷ fs) (ended f.method line.instr.at p))
 
   abbrev begins_here : ℕ → List Datum → Turn
-  begins_here count args = begins w (original w.program) (state_with fs p) (frame_in f) callee args (drop count f.operands)
+  begins_here count args = begins w.world (text_of w.versions) (state_with fs p) (frame_in f) callee args (drop count f.operands)
 
   by_data : (ks : List Kind) (args : Option (List Datum)) → data_of ks (reverse (taken (length ks))) ≡ args
-      → (applies w (original w.program) (placed_line line) (invokes_outcome callee (length ks) args f.operands) (state_with fs p) (frame_in f)).after
+      → (applies w.world (text_of w.versions) (placed_line line) (invokes_outcome callee (length ks) args f.operands) (state_with fs p) (frame_in f)).after
       ≡ begun_by (is_some args && can_begin w callee (length ks) (f ∷ fs)) (length ks)
   by_data ks None e = refl
   by_data ks (Some args) e =
@@ -107,12 +107,12 @@ module _ (w : World) (line : Line) (callee : ℕ) (p : Parts) (f : PlacedFrame) 
 
   -- as a method that was named takes them
   pub calls-is : (here : Here) (args : List Datum) (below : Operands) → here.method ≡ f.method → own_of w here ≡ line.instr.at → Takes f.operands args below
-      → (applies w (original w.program) (placed_line line) (Invokes callee args below) (state_with fs p) (frame_in f)).after
+      → (applies w.world (text_of w.versions) (placed_line line) (Invokes callee args below) (state_with fs p) (frame_in f)).after
       ≡ called w here callee (length args) (f ∷ fs) p (may_begin (f ∷ fs)) (can_begin w callee (length args) (f ∷ fs))
   calls-is here args below method own takes =
       let ks : List Kind = takes.kinds in
       let many : length ks ≡ length args = sym (same-length ks (reverse (taken (length ks))) args takes.are) in
-      ap (λ o. (applies w (original w.program) (placed_line line) (Invokes callee args o) (state_with fs p) (frame_in f)).after)
+      ap (λ o. (applies w.world (text_of w.versions) (placed_line line) (Invokes callee args o) (state_with fs p) (frame_in f)).after)
       (takes.off ∙ ap (λ n. drop n f.operands) (sym many))
       ∙ (by_data ks (Some args) takes.are
       ∙ (ap (λ n. begun_by (can_begin w callee n (f ∷ fs)) n) many
@@ -146,11 +146,11 @@ came-to result new done state same made = on_ok_weaker result (λ (e : new ≡ d
 -- ---- arguments that do not fit
 
 -- more parameters than locals
-pub fits-nowhere : (w : World) (callee : ℕ) (fs : List PlacedFrame) (ks : List Kind) → params_of_method w.program callee ≡ Some ks → max_locals_of w callee < length ks
+pub fits-nowhere : (w : Setup) (callee : ℕ) (fs : List PlacedFrame) (ks : List Kind) → params_of_method w.world.program callee ≡ Some ks → max_locals_of w.world callee < length ks
     → fits_params w callee fs ≡ false
 fits-nowhere w callee fs ks known over =
     ap (fits_with w callee fs) known
-    ∙ (ap (λ b. is_some (data_of ks (arguments_of (length ks) fs)) && b) (too-many (max_locals_of w callee) (length ks) fs over)
+    ∙ (ap (λ b. is_some (data_of ks (arguments_of (length ks) fs)) && b) (too-many (max_locals_of w.world callee) (length ks) fs over)
     ∙ never (is_some (data_of ks (arguments_of (length ks) fs))))
   where
     never : (b : Bool) → (b && false) ≡ false
@@ -158,19 +158,19 @@ fits-nowhere w callee fs ks known over =
     never false = refl
 
 -- the locals that arguments of these kinds take
-pub fits-by : (w : World) (callee : ℕ) (fs : List PlacedFrame) (ks : List Kind) → params_of_method w.program callee ≡ Some ks
-    → is_some (data_of ks (arguments_of (length ks) fs)) ≡ true → fits_params w callee fs ≡ nat_le (slots_for ks) (max_locals_of w callee)
+pub fits-by : (w : Setup) (callee : ℕ) (fs : List PlacedFrame) (ks : List Kind) → params_of_method w.world.program callee ≡ Some ks
+    → is_some (data_of ks (arguments_of (length ks) fs)) ≡ true → fits_params w callee fs ≡ nat_le (slots_for ks) (max_locals_of w.world callee)
 fits-by w callee fs ks known are =
     ap (fits_with w callee fs) known ∙ by (data_of ks (arguments_of (length ks) fs)) refl are
   where
     by : (x : Option (List Datum)) → data_of ks (arguments_of (length ks) fs) ≡ x → is_some x ≡ true
-        → (is_some (data_of ks (arguments_of (length ks) fs)) && can_begin w callee (length ks) fs) ≡ nat_le (slots_for ks) (max_locals_of w callee)
+        → (is_some (data_of ks (arguments_of (length ks) fs)) && can_begin w callee (length ks) fs) ≡ nat_le (slots_for ks) (max_locals_of w.world callee)
     by None e is = absurd cc
     by (Some args) e is =
         ap (λ b. b && can_begin w callee (length ks) fs) (ap is_some e)
-        ∙ (ap (λ b. b && nat_le (height_of (take (length ks) (top_operands fs))) (max_locals_of w callee)) (enough-data ks (top_operands fs) args e)
-        ∙ ap (λ n. nat_le n (max_locals_of w callee)) (sym (height-reverse (take (length ks) (top_operands fs))) ∙ height-kinds ks (arguments_of (length ks) fs) args e))
+        ∙ (ap (λ b. b && nat_le (height_of (take (length ks) (top_operands fs))) (max_locals_of w.world callee)) (enough-data ks (top_operands fs) args e)
+        ∙ ap (λ n. nat_le n (max_locals_of w.world callee)) (sym (height-reverse (take (length ks) (top_operands fs))) ∙ height-kinds ks (arguments_of (length ks) fs) args e))
 
-pub fits-never : (w : World) (callee : ℕ) (fs : List PlacedFrame) (ks : List Kind) → params_of_method w.program callee ≡ Some ks
+pub fits-never : (w : Setup) (callee : ℕ) (fs : List PlacedFrame) (ks : List Kind) → params_of_method w.world.program callee ≡ Some ks
     → is_some (data_of ks (arguments_of (length ks) fs)) ≡ false → fits_params w callee fs ≡ false
 fits-never w callee fs ks known are = ap (fits_with w callee fs) known ∙ ap (λ b. b && can_begin w callee (length ks) fs) are

@@ -1,14 +1,13 @@
 -- What follows from the answer that an instruction which names something gives is what applies by its rule.
 use Rattle.std.proofs.Common.{◌≡◌, ℕ, suc, Bool, true, false, cond, List, [], ◌∷◌, ◌++◌, length, Option, Some, None, nat_le, refl, sym, ap, ◌∙◌}
-use Rattle.std.specs.Option.{option_map_or}
+use Rattle.std.specs.Option.{option_map_or, option_map}
 use Rattle.std.proofs.lemmas.Option.{same_Some, none-some}
 use Rattle.frame_stack.specs.Widths.{height_of}
 use Rattle.frame_stack.specs.FrameLists.{PlacedFrame}
 use Rattle.jvm_basic.specs.Outcomes.{can_hold, with_top}
 use Rattle.jvm_model.specs.declared.state.State.{State}
 use Rattle.jvm_model.specs.Applies.{breaks, with_frame}
-use Rattle.jvm_model.specs.Data.{Locals, Operands, World, Naming, Next, Target, Back, Outcome, GoesOn, Subroutine, Invokes, Returns, Throws, Raises, Initializes, Exits, Breaks, Done, Instruction}
-use Rattle.jvm_model.specs.Originals.{original}
+use Rattle.jvm_model.specs.Data.{Locals, Operands, Naming, Next, Target, Back, Outcome, GoesOn, Subroutine, Invokes, Returns, Throws, Raises, Initializes, Exits, Breaks, Done, Instruction}
 use Rattle.jvm_model.specs.Run.{starts}
 use Rattle.jvm_named.specs.declared.asked.Asked.{Asked}
 use Rattle.jvm_named.specs.declared.asked.Asked.TheVariants as asked
@@ -22,7 +21,6 @@ use Rattle.jvm_steps.specs.declared.parts.Parts.{Parts}
 use Rattle.jvm_steps.specs.Acts.{acts_asked, acts_named, ended, placed_line}
 use Rattle.jvm_steps.specs.Asked.{concluded, done_top, starts_in}
 use Rattle.jvm_steps.specs.Initializing.{begins_class}
-use Rattle.jvm_steps.specs.Lines.{line_at}
 use Rattle.jvm_steps.specs.Markers.{marker_on, state_of, with_markers}
 use Rattle.jvm_steps.specs.Settling.{own_of}
 use Rattle.jvm_steps.specs.States.{frame_in, here_of, state_in, state_with}
@@ -31,7 +29,7 @@ use Rattle.jvm_steps.proofs.Carried.{applies-carried, length-active}
 use Rattle.jvm_steps.proofs.LineActs.{starts-some, stays}
 use Rattle.jvm_steps.proofs.LineSteps.{top-frame}
 use Rattle.jvm_steps.proofs.NamedLaws.{Asks, IsNamed, is-named}
-use Rattle.jvm_steps.proofs.Tied.{Tie, tied-at}
+use Rattle.jvm_steps.specs.Versions.{Setup, text_of, line_at, instruction_in}
 
 -- ---- answers that are given
 
@@ -63,19 +61,12 @@ can-answer (asked.Refused r) = refusals-stop r
 
 -- ---- at the line where the frame stands
 
-own-by : (w : World) (here : Here) (line : Line) (lo : Option Line) (io : Option Instruction) → Tie lo io → lo ≡ Some line
-    → option_map_or (λ (i : Instruction). i.own) io 0 ≡ line.instr.at
-own-by w here line None io tie is = absurd (none-some line is)
-own-by w here line (Some x) None tie is = absurd tie
-own-by w here line (Some x) (Some i) tie is = ap (λ (i : Instruction). i.own) tie.is ∙ ap (λ (l : Line). l.instr.at) (same_Some x line is)
-
-pub own-there : (w : World) (here : Here) (line : Line) → line_at w.program here.version here.place ≡ Some line → own_of w here ≡ line.instr.at
-own-there w here line is =
-    own-by w here line (line_at w.program here.version here.place) ((original w.program).at here.version here.place) (tied-at w.program here.version here.place) is
+pub own-there : (w : Setup) (here : Here) (line : Line) → line_at w.versions here.version here.place ≡ Some line → own_of w here ≡ line.instr.at
+own-there w here line is = ap (λ (o : Option Line). option_map_or (λ (i : Instruction). i.own) (option_map instruction_in o) 0) is
 
 -- ---- the state that applies
 
-module _ (w : World) (line : Line) (here : Here) (own : own_of w here ≡ line.instr.at) (p : Parts) (f : PlacedFrame) (fs : List PlacedFrame)
+module _ (w : Setup) (line : Line) (here : Here) (own : own_of w here ≡ line.instr.at) (p : Parts) (f : PlacedFrame) (fs : List PlacedFrame)
     (method : here.method ≡ f.method) where
   -- by the outcome, where nothing is initialized before
   abbrev asked_there : Outcome → State
@@ -143,11 +134,11 @@ starts-same (Breaks false) f fs can = refl
 -- ---- over the parts of a machine, beneath its markers
 
 -- what a line with these names comes to
-abbrev pub named_beneath : World → Line → Naming → List Marker → Parts → List PlacedFrame → State
+abbrev pub named_beneath : Setup → Line → Naming → List Marker → Parts → List PlacedFrame → State
 named_beneath w line n ms p [] = state_of ms p
 named_beneath w line n ms p (f ∷ fs) = acts_named w line n (with_markers ms (state_with fs p)) (frame_in f)
 
-module _ (w : World) (line : Line) (n : Naming) (ms : List Marker) (here : Here) (p : Parts) (found : line_at w.program here.version here.place ≡ Some line) where
+module _ (w : Setup) (line : Line) (n : Naming) (ms : List Marker) (here : Here) (p : Parts) (found : line_at w.versions here.version here.place ≡ Some line) where
   own : own_of w here ≡ line.instr.at
   own = own-there w here line found
 
@@ -172,7 +163,7 @@ module _ (w : World) (line : Line) (n : Naming) (ms : List Marker) (here : Here)
       let silent : starts d.outcome ≡ None = sym (starts-same d.outcome f fs can) ∙ quiet in
       let law : IsNamed _ f.operands d = is-named _ f.operands w n f.locals in
       ap (with_markers ms) (concludes-there w line here own mid f fs method d.outcome law.asks can silent)
-      ∙ applies-carried ms w (original w.program) (placed_line line) d.outcome (stays-there w line here own mid f fs method d.outcome can silent)
+      ∙ applies-carried ms w (text_of w.versions) (placed_line line) d.outcome (stays-there w line here own mid f fs method d.outcome can silent)
       (state_with fs mid) (frame_in f) (ap (λ k. marker_on (suc k) ms) (length-active fs) ∙ none)
 
   pub begins-by : (c : ℕ) (all : List PlacedFrame) → here_of all ≡ Some here → marker_on (length all) ms ≡ None → CanAnswer (answer_there all)

@@ -26,6 +26,9 @@ use Rattle.jvm_model.specs.Programs.{class_at, place_of_method}
 use Rattle.jvm_named.specs.Names.{naming_view}
 use Rattle.jvm_named.specs.Objects.{HasDimensions}
 use Rattle.jvm_steps.specs.declared.line.Line.{Line}
+use Rattle.jvm_steps.specs.Versions as versions
+use Rattle.jvm_steps.specs.Versions.{HasLines}
+use Rattle.jvm_steps.specs.declared.versions.Versions.{Versions}
 use Rattle.jvm_steps.specs.Lines.{IfNamed, IfNamedBy, action_of, line_at, line_with, named_as}
 
 -- ---- operations
@@ -90,14 +93,14 @@ given : (c : ClassFile) (a : Arg) (number : Option Local) → IfSome (given_oper
 given c a None = constant c a
 given c a (Some i) = tt
 
-by-family : (c : ClassFile) (op : ℕ) (a : Arg) (f : Family) → IfSome (operation_by c op a f) Dimensioned
+pub by-family : (c : ClassFile) (op : ℕ) (a : Arg) (f : Family) → IfSome (operation_by c op a f) Dimensioned
 by-family c op a family.Elsewhere = other c op a
 by-family c op a family.Given = given c a (local_of family.Given a (constant_in c.pool a))
 by-family c op a f = within (local_of f a (constant_in c.pool a))
 
 -- ---- lines
 
-abbrev Fits : Line → Type 0
+abbrev pub Fits : Line → Type 0
 Fits l = IfNamedBy l.action l.next (λ n next. HasDimensions n)
 
 both : (a b : Bool) → (a && b) ≡ true → (a ≡ true) × (b ≡ true)
@@ -141,7 +144,7 @@ fits-operation next (LoadElement k) h = tt
 fits-operation next (StoreElement k) h = tt
 fits-operation next (LdcString units) h = tt
 
-made-with : (c : ClassFile) (i : Instr) (o : Option Operation) → IfSome o Dimensioned → IfSome (option_map (line_with c i) (option_map action_of o)) Fits
+pub made-with : (c : ClassFile) (i : Instr) (o : Option Operation) → IfSome o Dimensioned → IfSome (option_map (line_with c i) (option_map action_of o)) Fits
 made-with c i None h = tt
 made-with c i (Some o) h = fits-operation _ o h
 
@@ -149,7 +152,7 @@ each-then : {A : Type 0} (f : A → Option Line) → ((x : A) → IfSome (f x) F
 each-then f each None = tt
 each-then f each (Some x) = each x
 
-fits-at : (p : Program) (method at : ℕ) → IfSome (line_at p method at) Fits
+pub fits-at : (p : Program) (method at : ℕ) → IfSome (line_at p method at) Fits
 fits-at p method at =
     each-then _
     (λ place. each-then _
@@ -165,9 +168,9 @@ seen : (l : Bor Line) (o : Option Line) → Some l.now ≡ o → IfSome o Fits �
 seen l o found h = subst (λ (x : Option Line). IfSome x Fits) (sym found) h
 
 -- of the line that stands there
-pub line-fits : (p : Program) (method at : ℕ) (l : Bor Line) → Some l.now ≡ line_at p method at
+pub line-fits : (v : Versions) → HasLines v → (version place : ℕ) (l : Bor Line) → Some l.now ≡ versions.line_at v version place
     → IfNamedBy l.now.action l.now.next (λ n next. HasDimensions n)
-line-fits p method at l found = seen l (line_at p method at) found (fits-at p method at)
+line-fits v lines version place l found = seen l (versions.line_at v version place) found (lines.dimensions version place)
 
 -- ---- what holds of the naming of the line that stands there
 

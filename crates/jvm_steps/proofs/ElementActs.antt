@@ -8,7 +8,7 @@ use Rattle.heap_objects.specs.Heaps.{HeapView, has_slot_at}
 use Rattle.const_pool.specs.declared.descriptor.Kind.{Kind}
 use Rattle.frame_stack.specs.FrameLists.{PlacedFrame, top_operands}
 use Rattle.jvm_model.specs.declared.state.Shared.{Shared}
-use Rattle.jvm_model.specs.Data.{Locals, Operands, World, Next, GoesOn}
+use Rattle.jvm_model.specs.Data.{Locals, Operands, Next, GoesOn}
 use Rattle.jvm_model.specs.LocalRules.{replaces}
 use Rattle.jvm_model.specs.ObjectRules.{Access, ToNull, ToAnother, Outside, Inside, access_to, index_in, loads_at, loads_element, place_of, serves_object}
 use Rattle.jvm_model.specs.Values.{as_value}
@@ -17,6 +17,7 @@ use Rattle.jvm_steps.specs.declared.parts.Parts.{Parts}
 use Rattle.jvm_steps.specs.Acts.{acts_asked, acts_load, on_parts, on_top}
 use Rattle.jvm_steps.specs.Elements.{acts_loaded, element_at}
 use Rattle.jvm_steps.specs.States.{frame_in, state_with}
+use Rattle.jvm_steps.specs.Versions.{Setup}
 
 -- ---- where an element is found
 
@@ -66,7 +67,7 @@ loads-at Outside r i d s l o e = absurd (none-some d (sym e))
 no_place : (at : ℕ × ℤ) → Some at ≡ None → ⊥
 no_place at e = cc
 
-module _ (w : World) (line : Line) (k : Kind) (p : Parts) (r : ℕ) (i : ℤ) where
+module _ (w : Setup) (line : Line) (k : Kind) (p : Parts) (r : ℕ) (i : ℤ) where
   load-top : (d : Datum) (fs : List PlacedFrame) → Some (r, i) ≡ place_of (top_operands fs)
       → Some d ≡ element_at (access_to k r i p.shared.heap) r p.shared.heap
       → on_top (acts_loaded line d) p fs ≡ on_top (acts_load w line k) p fs

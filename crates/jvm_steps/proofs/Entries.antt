@@ -1,12 +1,11 @@
 -- Methods that are prepared one by one give what the definitions look up there.
 use Rattle.std.proofs.Common.{◌≡◌, ℕ, ◌≤◌, ◌<◌, List, [], length, Option, Some, None, refl, ap, subst, sym, ◌∙◌}
 use Rattle.std.specs.Prelude.{◌^◌, map, slice_get}
-use Rattle.std.specs.Option.{option_map, option_map_or, option_and_then, option_flatten}
+use Rattle.std.specs.Option.{option_map, option_map_or, option_and_then}
 use Rattle.std.proofs.lemmas.Option.{slice_get-map}
 use Rattle.const_pool.specs.declared.class.ClassFile.{ClassFile}
 use Rattle.const_pool.specs.declared.class.Member.{Member}
 use Rattle.const_pool.specs.declared.class.CodeAttribute.{CodeAttribute}
-use Rattle.code_model.proofs.Readings.{instruction_at-past}
 use Rattle.jvm_model.specs.declared.program.MethodPlace.{MethodPlace}
 use Rattle.jvm_model.specs.declared.program.Program.{Program}
 use Rattle.jvm_model.specs.Methods.{code_of, method_code, method_params, member_shape}
@@ -16,10 +15,11 @@ use Rattle.jvm_named.specs.Numbers.{AreNumbers, Row}
 use Rattle.jvm_steps.specs.declared.originals.Exception.{Exception}
 use Rattle.jvm_steps.specs.declared.originals.Exceptions.{Exceptions}
 use Rattle.jvm_steps.specs.declared.originals.Method.{Method}
-use Rattle.jvm_steps.specs.Lines.{method_line}
-use Rattle.jvm_steps.specs.Prepared.{IsPrepared, exception_in, exception_kind, line_in}
-use Rattle.jvm_steps.specs.Entries.{code_line, entry_of, no_method, entry_in, entry_at, lines_of}
-use Rattle.jvm_steps.proofs.Tabled.{tabled-place}
+use Rattle.jvm_steps.specs.Prepared.{IsPrepared, exception_in, exception_kind}
+use Rattle.jvm_steps.specs.Entries.{entry_of, no_method, entry_in, entry_at, original_versions}
+use Rattle.jvm_steps.specs.Versions.{HasLines}
+use Rattle.jvm_steps.specs.declared.versions.Versions.{Versions}
+use Rattle.jvm_steps.proofs.OriginalVersions.{original-lines}
 
 -- ---- the parameters
 
@@ -69,38 +69,11 @@ locals-place : (p : Program) (place : Option MethodPlace)
 locals-place p None = refl
 locals-place p (Some place) = (limits-class place (class_at p place.class)).locals
 
--- ---- the lines
-
--- no instruction stands past the end, so no line
-code_line-past : (c : ClassFile) (code : List ℕ) (at : ℕ) → length code ≤ at → code_line c code at ≡ None
-code_line-past c code at le = rw (instruction_at-past code at le) refl
-
-line-code : (c : ClassFile) (code : Option CodeAttribute) (at : ℕ)
-    → option_flatten (slice_get (option_map_or (λ k. lines_of c k.code) code []) at) ≡ option_and_then (λ k. code_line c k.code at) code
-line-code c None at = refl
-line-code c (Some code) at = tabled-place (code_line c code.code) (length code.code) at (code_line-past c code.code at)
-
-line-member : (c : ClassFile) (m : Option Member) (at : ℕ)
-    → line_in at (option_map_or (entry_of c) m no_method) ≡ option_and_then (λ k. code_line c k.code at) (option_and_then code_of m)
-line-member c None at = refl
-line-member c (Some m) at = line-code c (code_of m) at
-
-line-class : (place : MethodPlace) (c : Option ClassFile) (at : ℕ)
-    → line_in at (option_map_or (entry_in place) c no_method) ≡ option_and_then (λ k. method_line at k place.position) c
-line-class place None at = refl
-line-class place (Some c) at = line-member c (slice_get c.methods place.position) at
-
-line-place : (p : Program) (place : Option MethodPlace) (at : ℕ)
-    → option_and_then (line_in at) (option_map (entry_at p) place)
-    ≡ option_and_then (λ (x : MethodPlace). option_and_then (λ c. method_line at c x.position) (class_at p x.class)) place
-line-place p None at = refl
-line-place p (Some place) at = line-class place (class_at p place.class) at
-
 -- ---- all of them
 
-pub IsPrepared-entries : (p : Program) (methods : List Method) (x : Exceptions) (numbers : List Row) → length p.classes < 2 ^ 24 → length p.methods < 2 ^ 32 → methods ≡ map (entry_at p) p.methods
-    → ((e : Exception) → exception_in x e ≡ exception_kind p e) → x.string ≡ kind_for p string → AreNumbers p numbers → IsPrepared p methods x numbers
-IsPrepared-entries p methods x rows few numbered is raised text numbers =
+pub IsPrepared-entries : (p : Program) (methods : List Method) (v : Versions) (x : Exceptions) (numbers : List Row) → length p.classes < 2 ^ 24 → length p.methods < 2 ^ 32 → methods ≡ map (entry_at p) p.methods → v ≡ original_versions p
+    → ((e : Exception) → exception_in x e ≡ exception_kind p e) → x.string ≡ kind_for p string → AreNumbers p numbers → IsPrepared p methods v x numbers
+IsPrepared-entries p methods v x rows few numbered is made raised text numbers =
     let entry : (k : ℕ) → slice_get methods k ≡ option_map (entry_at p) (slice_get p.methods k) = λ k. ap (λ ms. slice_get ms k) is ∙ slice_get-map (entry_at p) p.methods k in
     record {
       few = few;
@@ -108,12 +81,12 @@ IsPrepared-entries p methods x rows few numbered is raised text numbers =
       params = λ k. ap (option_and_then (λ (m : Method). m.params)) (entry k) ∙ params-place p (slice_get p.methods k);
       max_stack = λ k. ap (λ (o : Option Method). option_map_or (λ m. m.max_stack) o 0) (entry k) ∙ stack-place p (slice_get p.methods k);
       max_locals = λ k. ap (λ (o : Option Method). option_map_or (λ m. m.max_locals) o 0) (entry k) ∙ locals-place p (slice_get p.methods k);
-      lines = λ k at. ap (option_and_then (line_in at)) (entry k) ∙ line-place p (slice_get p.methods k) at;
+      lines = subst HasLines (sym made) (original-lines p);
       raised = raised;
       string = text;
       numbers = numbers;
     }
 
 -- of the program that a linker has
-pub IsPrepared-same : (p q : Program) (methods : List Method) (x : Exceptions) (rows : List Row) → q ≡ p → IsPrepared p methods x rows → IsPrepared q methods x rows
-IsPrepared-same p q methods x rows same h = subst (λ r. IsPrepared r methods x rows) (sym same) h
+pub IsPrepared-same : (p q : Program) (methods : List Method) (v : Versions) (x : Exceptions) (rows : List Row) → q ≡ p → IsPrepared p methods v x rows → IsPrepared q methods v x rows
+IsPrepared-same p q methods v x rows same h = subst (λ r. IsPrepared r methods v x rows) (sym same) h

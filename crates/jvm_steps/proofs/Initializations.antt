@@ -14,7 +14,7 @@ use Rattle.jvm_model.specs.declared.state.Phase.{Phase}
 use Rattle.jvm_model.specs.declared.state.Phase.TheVariants.{Fresh, Running, Ready, Erroneous}
 use Rattle.jvm_model.specs.declared.state.Shared.{Shared}
 use Rattle.jvm_model.specs.declared.state.State.{State}
-use Rattle.jvm_model.specs.Data.{Began, Change, Unwound, Turn, Text, World}
+use Rattle.jvm_model.specs.Data.{Began, Change, Unwound, Turn, Text}
 use Rattle.jvm_model.specs.Constants.{Setting, sets_constants}
 use Rattle.jvm_model.specs.Lookup.{is_below}
 use Rattle.jvm_model.specs.Programs.{name_at, super_of, initializer_of}
@@ -26,6 +26,7 @@ use Rattle.heap_objects.specs.Heaps.{next_number}
 use Rattle.jvm_model.specs.Applies.{still, with_frame, goes, breaks, new_frame, live_in, most_live}
 use Rattle.jvm_model.specs.Moves.{handler_for, own_at, caught, wrapped, fails, at_part, raises, with_constants, after_super, with_super, runs_initializer, initializes, move, then_turn, settled}
 use Rattle.jvm_model.proofs.Settles.{constants-phases, settled-keeps, settled-stops}
+use Rattle.jvm_steps.specs.Versions.{Setup}
 
 -- ---- phases
 
@@ -41,21 +42,21 @@ set-elsewhere (x ∷ ps) (suc c) zero p other = refl
 set-elsewhere (x ∷ ps) zero (suc d) p other = refl
 set-elsewhere (x ∷ ps) (suc c) (suc d) p other = set-elsewhere ps c d p (λ e. other (ap suc e))
 
-made-phases : (w : World) (s : Shared) (name : List ℕ) (message : Option (List ℕ)) (cause : Datum) → (made_with w s name message cause).shared.phases ≡ s.phases
+made-phases : (w : Setup) (s : Shared) (name : List ℕ) (message : Option (List ℕ)) (cause : Datum) → (made_with w.world s name message cause).shared.phases ≡ s.phases
 made-phases w s name message cause = by (nat_le (s.heap.used + (message_cost message + 3)) s.heap.limit) where
   made : Allocated
   made = record {
-    shared = record s { heap = with_exception w.program name message cause s.heap };
-    reference = next_number (with_message w.program message s.heap);
+    shared = record s { heap = with_exception w.world.program name message cause s.heap };
+    reference = next_number (with_message w.world.program message s.heap);
   }
 
   by : (b : Bool) → (cond b made (record { shared = s; reference = 1 })).shared.phases ≡ s.phases
   by true = refl
   by false = refl
 
-wrapped-phases : (w : World) (s : Shared) (r : ℕ) → (wrapped w s r).shared.phases ≡ s.phases
-wrapped-phases w s r = by (is_below w.program (class_of w.program s r) error) where
-  by : (b : Bool) → (cond b (record { shared = s; reference = r }) (made_with w s in_initializer None (datum.Ref r))).shared.phases ≡ s.phases
+wrapped-phases : (w : Setup) (s : Shared) (r : ℕ) → (wrapped w.world s r).shared.phases ≡ s.phases
+wrapped-phases w s r = by (is_below w.world.program (class_of w.world.program s r) error) where
+  by : (b : Bool) → (cond b (record { shared = s; reference = r }) (made_with w.world s in_initializer None (datum.Ref r))).shared.phases ≡ s.phases
   by true = refl
   by false = made-phases w s in_initializer None (datum.Ref r)
 
@@ -75,7 +76,7 @@ erroneous-ready e = absurd cc
 
 -- ---- the stages
 
-module _ (w : World) (t : Text) (c : ℕ) (f : Frame) (below : List Entry) where
+module _ (w : Setup) (t : Text) (c : ℕ) (f : Frame) (below : List Entry) where
   abbrev pub base : List Entry
   base = Active f ∷ below
 
@@ -106,7 +107,7 @@ module _ (w : World) (t : Text) (c : ℕ) (f : Frame) (below : List Entry) where
     failed : (stack : List Entry) (r : ℕ) (begun : Bool) (output : List ℕ) (shared : Shared) (changes : List Change)
         → phase_of shared c ≡ Some Erroneous → turn ≡ told (state stack (Some r) begun output shared None) changes → Stage turn
     -- it is not ready, and nothing follows
-    stops : (phase_of turn.after.shared c ≡ Some Ready → ⊥) → move w t turn.after ≡ None → Stage turn
+    stops : (phase_of turn.after.shared c ≡ Some Ready → ⊥) → move w.world t turn.after ≡ None → Stage turn
 
   -- of a state that is reached without changes
   abbrev Reached : State → Type 0
@@ -120,34 +121,34 @@ module _ (w : World) (t : Text) (c : ℕ) (f : Frame) (below : List Entry) where
     marked part = waits (Initializing d part ∷ rest) None begun output shared at running refl
 
     raised-at : (part : Part) (name : List ℕ) (message : Option (List ℕ))
-        → Reached (raises w (state (Initializing d part ∷ rest) None begun output shared None) name message)
+        → Reached (raises w.world (state (Initializing d part ∷ rest) None begun output shared None) name message)
     raised-at part name message =
-        let a : Allocated = raised w shared name message in
+        let a : Allocated = raised w.world shared name message in
         waits (Initializing d part ∷ rest) (Some a.reference) begun output a.shared at
         (ap (λ ps. slice_get ps c) (made-phases w shared name message null) ∙ running) refl
 
     after_super-at : (e : ℕ) (p : Option Phase) → phase_of shared e ≡ p
-        → Reached (after_super w (state rest None begun output shared None) d e p)
+        → Reached (after_super w.world (state rest None begun output shared None) d e p)
     after_super-at e (Some Fresh) is =
         let differ : e ≡ c → ⊥ = apart shared.phases c e Running Fresh running-fresh running is in
         waits (Initializing e Constants ∷ Initializing d Initializer ∷ rest) None begun output (with_phase shared e Running)
         (other differ at) (set-elsewhere shared.phases c e Running differ ∙ running) refl
-    after_super-at e (Some Erroneous) is = raised-at Initializer no_class_definition (name_at w.program e)
+    after_super-at e (Some Erroneous) is = raised-at Initializer no_class_definition (name_at w.world.program e)
     after_super-at e (Some Running) is = marked Initializer
     after_super-at e (Some Ready) is = marked Initializer
     after_super-at e None is = marked Initializer
 
-    with_super-at : (o : Option ℕ) → Reached (with_super w (state rest None begun output shared None) d o)
+    with_super-at : (o : Option ℕ) → Reached (with_super w.world (state rest None begun output shared None) d o)
     with_super-at None = marked Initializer
     with_super-at (Some e) = after_super-at e (phase_of shared e) refl
 
-    runs-at : (m : Option ℕ) → Stage (then_turn (told (state (Initializing d Initializer ∷ rest) None begun output shared None) []) (runs_initializer w t (state rest None begun output shared None) d m))
+    runs-at : (m : Option ℕ) → Stage (then_turn (told (state (Initializing d Initializer ∷ rest) None begun output shared None) []) (runs_initializer w.world t (state rest None begun output shared None) d m))
     runs-at None = marked Finish
     runs-at (Some m) = by (nat_lt (live_in rest) most_live) where
       s : State
       s = state (Initializing d Finish ∷ rest) None begun output shared None
 
-      by : (b : Bool) → Stage (then_turn (told (state (Initializing d Initializer ∷ rest) None begun output shared None) []) (cond b (told (with_frame (at_part (state rest None begun output shared None) d Finish) (new_frame w t m [])) (Began m ∷ [])) (still (raises w (at_part (state rest None begun output shared None) d Finish) stack_overflow None))))
+      by : (b : Bool) → Stage (then_turn (told (state (Initializing d Initializer ∷ rest) None begun output shared None) []) (cond b (told (with_frame (at_part (state rest None begun output shared None) d Finish) (new_frame w.world t m [])) (Began m ∷ [])) (still (raises w.world (at_part (state rest None begun output shared None) d Finish) stack_overflow None))))
       by true = stops (λ e. running-ready (sym running ∙ e)) refl
       by false = raised-at Finish stack_overflow None
 
@@ -159,9 +160,9 @@ module _ (w : World) (t : Text) (c : ℕ) (f : Frame) (below : List Entry) where
       | other differ deeper ↦ waits rest None begun output (with_phase shared d Ready) deeper (set-elsewhere shared.phases c d Ready differ ∙ running) refl
     ]
 
-    fails-at : (r : ℕ) → Reached (fails w (state rest (Some r) begun output shared None) d r)
+    fails-at : (r : ℕ) → Reached (fails w.world (state rest (Some r) begun output shared None) d r)
     fails-at r =
-        let a : Allocated = wrapped w shared r in
+        let a : Allocated = wrapped w.world shared r in
         let still_running : phase_of a.shared c ≡ Some Running = ap (λ ps. slice_get ps c) (wrapped-phases w shared r) ∙ running in
         elim at [
           | own same is ↦ failed rest a.reference begun output (with_phase a.shared d Erroneous) []
@@ -176,16 +177,16 @@ module _ (w : World) (t : Text) (c : ℕ) (f : Frame) (below : List Entry) where
     constants-at setting same =
         waits (Initializing d Superclass ∷ rest) setting.thrown begun output setting.shared at (ap (λ ps. slice_get ps c) same ∙ running) refl
 
-    initializes-at : (part : Part) → Stage (then_turn (told (state (Initializing d part ∷ rest) None begun output shared None) []) (initializes w t (state rest None begun output shared None) d part))
-    initializes-at Constants = constants-at (sets_constants w.program d shared) (constants-phases w.program d shared)
-    initializes-at Superclass = with_super-at (super_of w.program d)
-    initializes-at Initializer = runs-at (initializer_of w.program d)
+    initializes-at : (part : Part) → Stage (then_turn (told (state (Initializing d part ∷ rest) None begun output shared None) []) (initializes w.world t (state rest None begun output shared None) d part))
+    initializes-at Constants = constants-at (sets_constants w.world.program d shared) (constants-phases w.world.program d shared)
+    initializes-at Superclass = with_super-at (super_of w.world.program d)
+    initializes-at Initializer = runs-at (initializer_of w.world.program d)
     initializes-at Finish = finishes-at
 
   -- ---- each move keeps a stage
 
   abbrev Next : Turn → Type 0
-  Next turn = IfSome (move w t turn.after) (λ next. Stage (then_turn turn next))
+  Next turn = IfSome (move w.world t turn.after) (λ next. Stage (then_turn turn next))
 
   waits-on : (stack : List Entry) (thrown : Option ℕ) (begun : Bool) (output : List ℕ) (shared : Shared) → AreMarkers stack
       → phase_of shared c ≡ Some Running → Next (told (state stack thrown begun output shared None) [])
@@ -213,7 +214,7 @@ module _ (w : World) (t : Text) (c : ℕ) (f : Frame) (below : List Entry) where
 
   caught-on : (g : Frame) (es : List Entry) (r : ℕ) (begun : Bool) (output : List ℕ) (shared : Shared) (changes : List Change) (h : Option ℕ)
       → phase_of shared c ≡ Some Erroneous
-      → Stage (then_turn (told (state (Active g ∷ es) (Some r) begun output shared None) changes) (caught w t (state es (Some r) begun output shared None) r g h))
+      → Stage (then_turn (told (state (Active g ∷ es) (Some r) begun output shared None) changes) (caught w.world t (state es (Some r) begun output shared None) r g h))
   caught-on g es r begun output shared changes None is = failed es r begun output shared (changes ++ Unwound ∷ []) is refl
   caught-on g es r begun output shared changes (Some target) is = goes-on g es begun output shared (own_at t g) target (Ref r ∷ []) (changes ++ []) is
 
@@ -221,9 +222,9 @@ module _ (w : World) (t : Text) (c : ℕ) (f : Frame) (below : List Entry) where
       → phase_of shared c ≡ Some Erroneous → Next (told (state stack (Some r) begun output shared None) changes)
   failed-on [] r begun output shared changes is = stops (λ e. erroneous-ready (sym is ∙ e)) refl
   failed-on (Active g ∷ es) r begun output shared changes is =
-      caught-on g es r begun output shared changes (handler_for w (class_of w.program shared r) g.place (t.handlers g.version)) is
+      caught-on g es r begun output shared changes (handler_for w.world (class_of w.world.program shared r) g.place (t.handlers g.version)) is
   failed-on (Initializing d part ∷ es) r begun output shared changes is =
-      let a : Allocated = wrapped w shared r in
+      let a : Allocated = wrapped w.world shared r in
       failed es a.reference begun output (with_phase a.shared d Erroneous) (changes ++ [])
       (kept-phase a.shared.phases d (ap (λ ps. slice_get ps c) (wrapped-phases w shared r) ∙ is)) refl
 
@@ -244,7 +245,7 @@ module _ (w : World) (t : Text) (c : ℕ) (f : Frame) (below : List Entry) where
     pub ending : turn.after.ending ≡ None
     pub thrown : turn.after.thrown ≡ None
 
-  some-none : (turn : Turn) → move w t turn.after ≡ None → Stage turn → phase_of turn.after.shared c ≡ Some Ready → IsReadyAgain turn
+  some-none : (turn : Turn) → move w.world t turn.after ≡ None → Stage turn → phase_of turn.after.shared c ≡ Some Ready → IsReadyAgain turn
   some-none turn none stage is = elim stage [
     | waits stack thrown begun output shared at running same ↦
         absurd (running-ready (sym running ∙ (ap (λ (x : Turn). phase_of x.after.shared c) (sym same) ∙ is)))
@@ -261,9 +262,9 @@ module _ (w : World) (t : Text) (c : ℕ) (f : Frame) (below : List Entry) where
 
   -- where the class is ready behind all moves
   pub ready-again : (thrown : Option ℕ) (begun : Bool) (output : List ℕ) (shared : Shared) → phase_of shared c ≡ Some Running
-      → phase_of (settled w t (told (state (Initializing c Constants ∷ base) thrown begun output shared None) [])).after.shared c ≡ Some Ready
-      → IsReadyAgain (settled w t (told (state (Initializing c Constants ∷ base) thrown begun output shared None) []))
+      → phase_of (settled w.world t (told (state (Initializing c Constants ∷ base) thrown begun output shared None) [])).after.shared c ≡ Some Ready
+      → IsReadyAgain (settled w.world t (told (state (Initializing c Constants ∷ base) thrown begun output shared None) []))
   ready-again thrown begun output shared running is =
       let first : Turn = told (state (Initializing c Constants ∷ base) thrown begun output shared None) [] in
-      some-none (settled w t first) (settled-stops w t first)
-      (settled-keeps w t Stage each-keeps first (waits (Initializing c Constants ∷ base) thrown begun output shared (own refl refl) running refl)) is
+      some-none (settled w.world t first) (settled-stops w.world t first)
+      (settled-keeps w.world t Stage each-keeps first (waits (Initializing c Constants ∷ base) thrown begun output shared (own refl refl) running refl)) is

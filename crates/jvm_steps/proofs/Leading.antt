@@ -3,14 +3,13 @@ use Rattle.std.proofs.Common.{◌≡◌, ℕ, zero, suc, ◌+◌, ◌-◌, false
 use Rattle.std.specs.Prelude.{is_some}
 use Rattle.std.proofs.lemmas.Bool.{cases_lt}
 use Rattle.jvm_model.specs.declared.state.State.{State}
-use Rattle.jvm_model.specs.Data.{World}
-use Rattle.jvm_model.specs.Originals.{original}
 use Rattle.jvm_model.specs.Run.{step}
 use Rattle.jvm_steps.specs.Runs.{Leads, steps_from, steps_from-zero, steps_from-suc}
+use Rattle.jvm_steps.specs.Versions.{Setup, text_of}
 
-module _ (w : World) where
+module _ (w : Setup) where
   abbrev next : State → State
-  next s = (step w (original w.program) s).after
+  next s = (step w.world (text_of w.versions) s).after
 
   -- first so many steps, and then so many
   pub steps-parts : (n m : ℕ) (s : State) → steps_from w (n + m) s ≡ steps_from w m (steps_from w n s)

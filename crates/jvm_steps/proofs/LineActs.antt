@@ -18,7 +18,7 @@ use Rattle.jvm_model.specs.declared.state.State.{State}
 use Rattle.jvm_model.specs.Applies.{enters_subroutine, goes, resumes, gives_back, applies}
 use Rattle.jvm_model.specs.ConstantRules.{pushes_string}
 use Rattle.jvm_model.specs.Constants.{can_intern}
-use Rattle.jvm_model.specs.Data.{Locals, Operands, World, Text, Local, Nop, Constant, Load, Store, Arrange, BinaryOfInts, BinaryOfLongs, DivisionOfInts, DivisionOfLongs, ShiftOfLong, UnaryOfInt, UnaryOfLong, Lcmp, Iinc, Branch, Goto, Switch, Jsr, Ret, Return, Naming, New, Getfield, Putfield, Getstatic, Putstatic, Invokevirtual, Invokespecial, Invokestatic, Invokeinterface, Checkcast, Instanceof, Anewarray, Multianewarray, LdcClass, Operation, Within, Named, Athrow, Monitor, Newarray, Arraylength, LoadElement, StoreElement, LdcString, Instruction, Outcome, GoesOn, Subroutine, Invokes, Returns, Throws, Raises, Initializes, Exits, Breaks, Next, Target, Back, Done, Keys}
+use Rattle.jvm_model.specs.Data.{Locals, Operands, Text, Local, Nop, Constant, Load, Store, Arrange, BinaryOfInts, BinaryOfLongs, DivisionOfInts, DivisionOfLongs, ShiftOfLong, UnaryOfInt, UnaryOfLong, Lcmp, Iinc, Branch, Goto, Switch, Jsr, Ret, Return, Naming, New, Getfield, Putfield, Getstatic, Putstatic, Invokevirtual, Invokespecial, Invokestatic, Invokeinterface, Checkcast, Instanceof, Anewarray, Multianewarray, LdcClass, Operation, Within, Named, Athrow, Monitor, Newarray, Arraylength, LoadElement, StoreElement, LdcString, Instruction, Outcome, GoesOn, Subroutine, Invokes, Returns, Throws, Raises, Initializes, Exits, Breaks, Next, Target, Back, Done, Keys}
 use Rattle.jvm_model.specs.Lines.{ends, is_last, targets_of}
 use Rattle.jvm_model.specs.LocalRules.{arithmetic_exception, by_zero, divides_these, goes_if, holds, tests, switches_on, goes_back, replaces, returns, returns_datum, within}
 use Rattle.jvm_model.specs.Lookup.{is_below}
@@ -38,8 +38,10 @@ use Rattle.jvm_steps.specs.declared.line.Action.TheVariants as action
 use Rattle.jvm_steps.specs.declared.line.Line.{Line}
 use Rattle.jvm_steps.specs.Acts.{placed_line, comes_to, acts_alone, acts_asked, acts_done, acts_named, resumes_line, gives_back_line, returns_or_ends, acts_return, acts_by, acts, awaited, named_done, ready_for, with_done}
 use Rattle.jvm_named.specs.Names.{naming_view}
-use Rattle.jvm_steps.specs.Lines.{action_of, local_action, line_at, named_as}
-use Rattle.jvm_steps.proofs.Tied.{instruction_by, IsRuleOf, IsTied, Tie, tied-at}
+use Rattle.jvm_steps.specs.Lines.{action_of, local_action, named_as}
+use Rattle.jvm_steps.specs.Ready.{IsRuleOf, IsTied}
+use Rattle.jvm_steps.specs.declared.versions.Versions.{Versions}
+use Rattle.jvm_steps.specs.Versions.{Setup, text_of, line_at, instruction_by, instruction_in}
 
 -- ---- what an instruction asks for that its frame does by itself
 
@@ -160,7 +162,7 @@ own-starts last (Exits n) h = absurd h
 
 -- ---- it applies as the line's outcome
 
-module _ (w : World) (t : Text) (line : Line) (s : State) (f : Frame) where
+module _ (w : Setup) (t : Text) (line : Line) (s : State) (f : Frame) where
   at-same : (m : Locals) (o : Operands) (place : Option ℕ) → goes s f line.instr.at m o place ≡ comes_to w line s f (goes_at m o place)
   at-same m o None = refl
   at-same m o (Some place) = refl
@@ -170,14 +172,14 @@ module _ (w : World) (t : Text) (line : Line) (s : State) (f : Frame) where
 
   -- with the offset behind it, where it has one
   own-same : (op : Operation) (last : Bool) (q : Outcome) → IsOwn last q
-      → (applies w t (by_next op (cond last None (Some line.next))) q s f).after ≡ comes_to w line s f (placed line.next (targets_of line.instr.arg) f.locals f.operands q)
+      → (applies w.world t (by_next op (cond last None (Some line.next))) q s f).after ≡ comes_to w line s f (placed line.next (targets_of line.instr.arg) f.locals f.operands q)
   own-same op last (GoesOn m o Next) h = ap (λ b. goes s f line.instr.at m o (cond b None (Some line.next))) h
   own-same op last (GoesOn m o (Target k)) h = at-same m o (slice_get (targets_of line.instr.arg) k)
   own-same op last (GoesOn m o (Back place)) h = refl
   own-same op last Subroutine h =
-      ap (λ b. (applies w t (by_next op (cond b None (Some line.next))) Subroutine s f).after) h
+      ap (λ b. (applies w.world t (by_next op (cond b None (Some line.next))) Subroutine s f).after) h
       ∙ at-same f.locals (Addr line.next ∷ f.operands) (slice_get (targets_of line.instr.arg) 0)
-  own-same op last (Raises name message) h = ap (λ q. (applies w t (by_next op (cond last None (Some line.next))) q s f).after) h
+  own-same op last (Raises name message) h = ap (λ q. (applies w.world t (by_next op (cond last None (Some line.next))) q s f).after) h
   own-same op last (Breaks false) h = refl
   own-same op last (Breaks true) h = absurd h
   own-same op last (Invokes m args below) h = absurd h
@@ -188,7 +190,7 @@ module _ (w : World) (t : Text) (line : Line) (s : State) (f : Frame) where
 
   -- by its rule
   pub alone-same : (l : Local) → own_kind l ≡ None → IsRuleOf line l
-      → (applies w t (instruction_by (Within l) line) (within l f.locals f.operands) s f).after ≡ acts_alone w line s f
+      → (applies w.world t (instruction_by (Within l) line) (within l f.locals f.operands) s f).after ≡ acts_alone w line s f
   alone-same l own rule =
       own-same (Within l) (is_last l) (within l f.locals f.operands) (within-own l f.locals f.operands own)
       ∙ ap (comes_to w line s f) (sym (rule f.locals f.operands))
@@ -196,20 +198,14 @@ module _ (w : World) (t : Text) (line : Line) (s : State) (f : Frame) where
 -- ---- returns
 
 -- the caller resumes at its line
-resumes-same : (p : Program) (s : State) (caller : Frame) (d : Option Datum) (lo : Option Line) (io : Option Instruction) → Tie lo io
-    → resumes s caller d io ≡ resumes_line s caller d lo
-resumes-same p s caller d None None tie = refl
-resumes-same p s caller d None (Some i) tie = absurd tie
-resumes-same p s caller d (Some line) None tie = absurd tie
-resumes-same p s caller d (Some line) (Some i) tie =
-    ap (λ x. resumes s caller d (Some x)) tie.is
-    ∙ ap (λ n. goes s caller line.instr.at caller.locals (with_value (option_map as_value d) caller.operands) n) tie.tied.next
+resumes-same : (s : State) (caller : Frame) (d : Option Datum) (lo : Option Line) → resumes s caller d (option_map instruction_in lo) ≡ resumes_line s caller d lo
+resumes-same s caller d None = refl
+resumes-same s caller d (Some line) = refl
 
-gives-same : (p : Program) (s : State) (d : Option Datum) (es : List Entry) → gives_back (original p) s d es ≡ gives_back_line p s d es
-gives-same p s d [] = refl
-gives-same p s d (Initializing c part ∷ below) = refl
-gives-same p s d (Active caller ∷ below) =
-    resumes-same p (record s { stack = below }) caller d (line_at p caller.version caller.place) ((original p).at caller.version caller.place) (tied-at p caller.version caller.place)
+gives-same : (v : Versions) (s : State) (d : Option Datum) (es : List Entry) → gives_back (text_of v) s d es ≡ gives_back_line v s d es
+gives-same v s d [] = refl
+gives-same v s d (Initializing c part ∷ below) = refl
+gives-same v s d (Active caller ∷ below) = resumes-same (record s { stack = below }) caller d (line_at v caller.version caller.place)
 
 -- an outcome of a return
 abbrev IsReturn : Outcome → Type 0
@@ -237,9 +233,9 @@ return-starts (Throws r) h = absurd h
 return-starts (Initializes c) h = absurd h
 return-starts (Exits n) h = absurd h
 
-return-same : (w : World) (line : Line) (op : Operation) (s : State) (f : Frame) (q : Outcome) → IsReturn q
-    → (applies w (original w.program) (instruction_by op line) q s f).after ≡ returns_or_ends w line s f q
-return-same w line op s f (Returns d) h = gives-same w.program s d s.stack
+return-same : (w : Setup) (line : Line) (op : Operation) (s : State) (f : Frame) (q : Outcome) → IsReturn q
+    → (applies w.world (text_of w.versions) (instruction_by op line) q s f).after ≡ returns_or_ends w line s f q
+return-same w line op s f (Returns d) h = gives-same w.versions s d s.stack
 return-same w line op s f (Breaks true) h = refl
 return-same w line op s f (Breaks false) h = absurd h
 return-same w line op s f (GoesOn m o to) h = absurd h
@@ -253,42 +249,42 @@ return-same w line op s f (Exits n) h = absurd h
 -- ---- an attempt, by what it asks for
 
 -- what applies is this state, and nothing is initialized before
-pub record ActsAs (w : World) (i : Instruction) (s : State) (f : Frame) (d : Done) (x : State) : Type 0 where
+pub record ActsAs (w : Setup) (i : Instruction) (s : State) (f : Frame) (d : Done) (x : State) : Type 0 where
   pub starts_none : starts d.outcome ≡ None
-  pub applied : (applies w (original w.program) i d.outcome (record s { shared = d.shared; output = s.output ++ d.wrote }) f).after ≡ x
+  pub applied : (applies w.world (text_of w.versions) i d.outcome (record s { shared = d.shared; output = s.output ++ d.wrote }) f).after ≡ x
 
 -- where nothing shared is changed, and nothing is written
-quiet-acts : (w : World) (i : Instruction) (s : State) (f : Frame) (q : Outcome) (x : State) → starts q ≡ None
-    → (applies w (original w.program) i q s f).after ≡ x → ActsAs w i s f (done s.shared q) x
+quiet-acts : (w : Setup) (i : Instruction) (s : State) (f : Frame) (q : Outcome) (x : State) → starts q ≡ None
+    → (applies w.world (text_of w.versions) i q s f).after ≡ x → ActsAs w i s f (done s.shared q) x
 quiet-acts w i s f q x none is = record {
   starts_none = none;
-  applied = ap (λ out. (applies w (original w.program) i q (record s { output = out }) f).after) (append-nil s.output) ∙ is;
+  applied = ap (λ out. (applies w.world (text_of w.versions) i q (record s { output = out }) f).after) (append-nil s.output) ∙ is;
 }
 
-alone-acts : (w : World) (line : Line) (s : State) (f : Frame) (l : Local) → own_kind l ≡ None → IsRuleOf line l
-    → ActsAs w (instruction_by (Within l) line) s f (does w (Within l) s.shared f.locals f.operands) (acts_alone w line s f)
+alone-acts : (w : Setup) (line : Line) (s : State) (f : Frame) (l : Local) → own_kind l ≡ None → IsRuleOf line l
+    → ActsAs w (instruction_by (Within l) line) s f (does w.world (Within l) s.shared f.locals f.operands) (acts_alone w line s f)
 alone-acts w line s f l own rule =
     quiet-acts w (instruction_by (Within l) line) s f (within l f.locals f.operands) (acts_alone w line s f)
     (own-starts (is_last l) (within l f.locals f.operands) (within-own l f.locals f.operands own))
-    (alone-same w (original w.program) line s f l own rule)
+    (alone-same w (text_of w.versions) line s f l own rule)
 
-return-acts : (w : World) (line : Line) (s : State) (f : Frame) (k : Option Kind)
-    → ActsAs w (instruction_by (Within (Return k)) line) s f (does w (Within (Return k)) s.shared f.locals f.operands) (acts_return w line k s f)
+return-acts : (w : Setup) (line : Line) (s : State) (f : Frame) (k : Option Kind)
+    → ActsAs w (instruction_by (Within (Return k)) line) s f (does w.world (Within (Return k)) s.shared f.locals f.operands) (acts_return w line k s f)
 return-acts w line s f k =
     quiet-acts w (instruction_by (Within (Return k)) line) s f (returns k f.operands) (acts_return w line k s f)
     (return-starts (returns k f.operands) (returns-return k f.operands))
     (return-same w line (Within (Return k)) s f (returns k f.operands) (returns-return k f.operands))
 
-within-acts : (w : World) (line : Line) (s : State) (f : Frame) (l : Local) → IsRuleOf line l
-    → ActsAs w (instruction_by (Within l) line) s f (does w (Within l) s.shared f.locals f.operands) (acts_by w line s f (local_action l))
+within-acts : (w : Setup) (line : Line) (s : State) (f : Frame) (l : Local) → IsRuleOf line l
+    → ActsAs w (instruction_by (Within l) line) s f (does w.world (Within l) s.shared f.locals f.operands) (acts_by w line s f (local_action l))
 within-acts w line s f (Return k) rule = return-acts w line s f k
 within-acts w line s f l rule = alone-acts w line s f l refl rule
 
 -- ---- what the model's rule asks for, at the line's place
 
 -- what applies does not ask which operation it is, where control goes on behind it
-placed-same : (w : World) (line : Line) (op : Operation) (s : State) (f : Frame) (q : Outcome) → ends op ≡ false
-    → (applies w (original w.program) (instruction_by op line) q s f).after ≡ (applies w (original w.program) (placed_line line) q s f).after
+placed-same : (w : Setup) (line : Line) (op : Operation) (s : State) (f : Frame) (q : Outcome) → ends op ≡ false
+    → (applies w.world (text_of w.versions) (instruction_by op line) q s f).after ≡ (applies w.world (text_of w.versions) (placed_line line) q s f).after
 placed-same w line op s f (GoesOn m o Next) behind = ap (λ b. goes s f line.instr.at m o (cond b None (Some line.next))) behind
 placed-same w line op s f (GoesOn m o (Target k)) behind = refl
 placed-same w line op s f (GoesOn m o (Back t)) behind = refl
@@ -302,7 +298,7 @@ placed-same w line op s f (Throws x) behind = refl
 placed-same w line op s f (Initializes c) behind = refl
 placed-same w line op s f (Exits n) behind = refl
 
-asked-acts : (w : World) (line : Line) (op : Operation) (s : State) (f : Frame) (q : Outcome) → ends op ≡ false → starts q ≡ None
+asked-acts : (w : Setup) (line : Line) (op : Operation) (s : State) (f : Frame) (q : Outcome) → ends op ≡ false → starts q ≡ None
     → ActsAs w (instruction_by op line) s f (done s.shared q) (acts_asked w line s f q)
 asked-acts w line op s f q behind starts_none =
     quiet-acts w (instruction_by op line) s f q (acts_asked w line s f q) starts_none (placed-same w line op s f q behind)
@@ -312,12 +308,12 @@ pub record IsSilent (d : Done) : Type 0 where
   pub kept : stays d.outcome ≡ true
   pub wrote : d.wrote ≡ []
 
-done-acts : (w : World) (line : Line) (op : Operation) (s : State) (f : Frame) (d : Done) → ends op ≡ false → IsSilent d
+done-acts : (w : Setup) (line : Line) (op : Operation) (s : State) (f : Frame) (d : Done) → ends op ≡ false → IsSilent d
     → ActsAs w (instruction_by op line) s f d (acts_done w line s f d)
 done-acts w line op s f d behind silent = record {
   starts_none = stays-starts d.outcome silent.kept;
   applied =
-      ap (λ out. (applies w (original w.program) (instruction_by op line) d.outcome (record s { shared = d.shared; output = out }) f).after)
+      ap (λ out. (applies w.world (text_of w.versions) (instruction_by op line) d.outcome (record s { shared = d.shared; output = out }) f).after)
       (ap (λ xs. s.output ++ xs) silent.wrote ∙ append-nil s.output)
       ∙ placed-same w line op (record s { shared = d.shared }) f d.outcome behind;
 }
@@ -372,7 +368,7 @@ string-silent p units s m o =
     chosen-silent (can_intern units s.heap) _ _ (record { kept = refl; wrote = refl }) (record { kept = refl; wrote = refl })
 
 -- athrow goes on nowhere
-module _ (w : World) (line : Line) (s : State) (f : Frame) where
+module _ (w : Setup) (line : Line) (s : State) (f : Frame) where
   abbrev ThrowsAs : Outcome → Type 0
   ThrowsAs q = ActsAs w (instruction_by Athrow line) s f (done s.shared q) (acts_asked w line s f q)
 
@@ -389,33 +385,33 @@ module _ (w : World) (line : Line) (s : State) (f : Frame) where
   unverifiable-as : ThrowsAs (Breaks false)
   unverifiable-as = quiet-acts w (instruction_by Athrow line) s f (Breaks false) _ refl refl
 
-  athrow-acts : (x : Option ℕ) → ThrowsAs (throws w s.shared x)
+  athrow-acts : (x : Option ℕ) → ThrowsAs (throws w.world s.shared x)
   athrow-acts None = unverifiable-as
   athrow-acts (Some r) =
       chosen-throws (r == 0) _ _ (raises-as null_pointer None)
-      (chosen-throws (is_below w.program (class_of w.program s.shared r) throwable) _ _ (throws-as r) unverifiable-as)
+      (chosen-throws (is_below w.world.program (class_of w.world.program s.shared r) throwable) _ _ (throws-as r) unverifiable-as)
 
-pub throws-stays : (w : World) (s : Shared) (x : Option ℕ) → stays (throws w s x) ≡ true
+pub throws-stays : (w : Setup) (s : Shared) (x : Option ℕ) → stays (throws w.world s x) ≡ true
 throws-stays w s None = refl
 throws-stays w s (Some r) =
-    chosen-stays (r == 0) _ _ refl (chosen-stays (is_below w.program (class_of w.program s r) throwable) _ _ refl refl)
+    chosen-stays (r == 0) _ _ refl (chosen-stays (is_below w.world.program (class_of w.world.program s r) throwable) _ _ refl refl)
 
 -- ---- every line
 
 -- by the action that the line has
-acted : (w : World) (line : Line) (s : State) (f : Frame) (op : Operation) (a : Action) → a ≡ line.action
-    → ActsAs w (instruction_by op line) s f (does w op s.shared f.locals f.operands) (acts_by w line s f a)
-    → ActsAs w (instruction_by op line) s f (does w op s.shared f.locals f.operands) (acts w line s f)
+acted : (w : Setup) (line : Line) (s : State) (f : Frame) (op : Operation) (a : Action) → a ≡ line.action
+    → ActsAs w (instruction_by op line) s f (does w.world op s.shared f.locals f.operands) (acts_by w line s f a)
+    → ActsAs w (instruction_by op line) s f (does w.world op s.shared f.locals f.operands) (acts w line s f)
 acted w line s f op a is acts_so =
-    subst (λ x. ActsAs w (instruction_by op line) s f (does w op s.shared f.locals f.operands) (acts_by w line s f x)) is acts_so
+    subst (λ x. ActsAs w (instruction_by op line) s f (does w.world op s.shared f.locals f.operands) (acts_by w line s f x)) is acts_so
 
 -- an instruction that names nothing
 abbrev names : Operation → Bool
 names (Named n) = true
 names op = false
 
-op-acts : (w : World) (line : Line) (s : State) (f : Frame) (op : Operation) → names op ≡ false → IsTied line op
-    → ActsAs w (instruction_by op line) s f (does w op s.shared f.locals f.operands) (acts w line s f)
+op-acts : (w : Setup) (line : Line) (s : State) (f : Frame) (op : Operation) → names op ≡ false → IsTied line op
+    → ActsAs w (instruction_by op line) s f (does w.world op s.shared f.locals f.operands) (acts w line s f)
 op-acts w line s f (Named n) none tied = absurd (false≢true (sym none))
 op-acts w line s f (Within l) none tied = acted w line s f (Within l) (local_action l) tied.action (within-acts w line s f l (tied.alone l refl))
 op-acts w line s f Athrow none tied = acted w line s f Athrow action.Athrow tied.action (athrow-acts w line s f (ref_of f.operands))
@@ -436,18 +432,18 @@ op-acts w line s f (LoadElement k) none tied =
     (stays-starts _ (loads-stays k (place_of f.operands) s.shared f.locals f.operands)))
 op-acts w line s f (StoreElement k) none tied =
     acted w line s f (StoreElement k) (action.StoreElement k) tied.action
-    (done-acts w line (StoreElement k) s f (stores_element w.program k (storing_of k f.operands) s.shared f.locals f.operands) refl
-    (stores-silent w.program k (storing_of k f.operands) s.shared f.locals f.operands))
+    (done-acts w line (StoreElement k) s f (stores_element w.world.program k (storing_of k f.operands) s.shared f.locals f.operands) refl
+    (stores-silent w.world.program k (storing_of k f.operands) s.shared f.locals f.operands))
 op-acts w line s f (LdcString units) none tied =
     acted w line s f (LdcString units) (action.LdcString units) tied.action
-    (done-acts w line (LdcString units) s f (pushes_string w.program units s.shared f.locals f.operands) refl
-    (string-silent w.program units s.shared f.locals f.operands))
+    (done-acts w line (LdcString units) s f (pushes_string w.world.program units s.shared f.locals f.operands) refl
+    (string-silent w.world.program units s.shared f.locals f.operands))
 
-local-awaits : (w : World) (s : State) (f : Frame) (l : Local) → awaited w s f (local_action l) ≡ None
+local-awaits : (w : Setup) (s : State) (f : Frame) (l : Local) → awaited w s f (local_action l) ≡ None
 local-awaits w s f (Return k) = refl
 local-awaits w s f l = refl
 
-op-awaits : (w : World) (s : State) (f : Frame) (op : Operation) → names op ≡ false → awaited w s f (action_of op) ≡ None
+op-awaits : (w : Setup) (s : State) (f : Frame) (op : Operation) → names op ≡ false → awaited w s f (action_of op) ≡ None
 op-awaits w s f (Named n) none = absurd (false≢true (sym none))
 op-awaits w s f (Within l) none = local-awaits w s f l
 op-awaits w s f Athrow none = refl
@@ -483,35 +479,35 @@ with-loaded (c ∷ more) s = refl
 
 -- ---- every operation, over the classes that it loads
 
-module _ (w : World) (line : Line) (op : Operation) (s : State) (f : Frame) where
+module _ (w : Setup) (line : Line) (op : Operation) (s : State) (f : Frame) where
   abbrev pub readied : State
-  readied = with_loaded (loads w op s.shared f.operands) s
+  readied = with_loaded (loads w.world op s.shared f.operands) s
 
   abbrev pub done_there : Done
-  done_there = does w op readied.shared f.locals f.operands
+  done_there = does w.world op readied.shared f.locals f.operands
 
   -- what applies is what the line comes to, and the same class is initialized before
   pub record StepsAs : Type 0 where
     pub starts_same : starts done_there.outcome ≡ awaited w s f line.action
-    pub applied : (applies w (original w.program) (instruction_by op line) done_there.outcome (with_done done_there readied) f).after ≡ acts w line s f
+    pub applied : (applies w.world (text_of w.versions) (instruction_by op line) done_there.outcome (with_done done_there readied) f).after ≡ acts w line s f
 
-named-steps : (w : World) (line : Line) (n : Naming) (s : State) (f : Frame) → IsTied line (Named n) → StepsAs w line (Named n) s f
+named-steps : (w : Setup) (line : Line) (n : Naming) (s : State) (f : Frame) → IsTied line (Named n) → StepsAs w line (Named n) s f
 named-steps w line n s f tied =
     let ready : State = readied w line (Named n) s f in
-    let same : ready ≡ ready_for w n s f = with-loaded (newly_loaded w.program s.shared.loaded n f.operands) s in
-    let there : Done = does_named w n ready.shared f.locals f.operands in
+    let same : ready ≡ ready_for w n s f = with-loaded (newly_loaded w.world.program s.shared.loaded n f.operands) s in
+    let there : Done = does_named w.world n ready.shared f.locals f.operands in
     let kept : naming_view (named_as n) ≡ n = viewed n in
     record {
       starts_same =
-          ap (λ (x : State). starts (does_named w n x.shared f.locals f.operands).outcome) same
+          ap (λ (x : State). starts (does_named w.world n x.shared f.locals f.operands).outcome) same
           ∙ (ap (λ m. starts (named_done w m s f).outcome) (sym kept) ∙ ap (awaited w s f) tied.action);
       applied =
           placed-same w line (Named n) (with_done there ready) f there.outcome refl
-          ∙ (ap (λ (x : State). let d = does_named w n x.shared f.locals f.operands in acts_asked w line (with_done d x) f d.outcome) same
+          ∙ (ap (λ (x : State). let d = does_named w.world n x.shared f.locals f.operands in acts_asked w line (with_done d x) f d.outcome) same
           ∙ (ap (λ m. acts_named w line m s f) (sym kept) ∙ ap (acts_by w line s f) tied.action));
     }
 
-pub steps-as : (w : World) (line : Line) (op : Operation) (s : State) (f : Frame) → IsTied line op → StepsAs w line op s f
+pub steps-as : (w : Setup) (line : Line) (op : Operation) (s : State) (f : Frame) → IsTied line op → StepsAs w line op s f
 steps-as w line (Named n) s f tied = named-steps w line n s f tied
 steps-as w line (Within l) s f tied =
     let acts_so = op-acts w line s f (Within l) refl tied in
@@ -539,7 +535,7 @@ steps-as w line (LdcString units) s f tied =
     record { starts_same = acts_so.starts_none ∙ ap (awaited w s f) tied.action; applied = acts_so.applied }
 
 -- a line that awaits a class names something
-pub awaits-named : (w : World) (line : Line) (op : Operation) (s : State) (f : Frame) (c : ℕ) → IsTied line op → awaited w s f line.action ≡ Some c
+pub awaits-named : (w : Setup) (line : Line) (op : Operation) (s : State) (f : Frame) (c : ℕ) → IsTied line op → awaited w s f line.action ≡ Some c
     → (n : Naming) × (op ≡ Named n)
 awaits-named w line op s f c tied is = by op (ap (awaited w s f) tied.action ∙ is) where
   never : (x : Option ℕ) → x ≡ None → x ≡ Some c → ⊥

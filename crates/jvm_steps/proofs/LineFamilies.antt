@@ -12,19 +12,22 @@ use Rattle.jvm_model.specs.Programs.{class_at, place_of_method}
 use Rattle.jvm_steps.specs.declared.line.Action.{Action}
 use Rattle.jvm_steps.specs.declared.line.Line.{Line}
 use Rattle.jvm_steps.specs.Lines.{line_at, line_with}
+use Rattle.jvm_steps.specs.Versions as versions
+use Rattle.jvm_steps.specs.Versions.{HasLines}
+use Rattle.jvm_steps.specs.declared.versions.Versions.{Versions}
 
-abbrev KeepsFamily : Line → Type 0
+abbrev pub KeepsFamily : Line → Type 0
 KeepsFamily l = l.family ≡ family_of l.instr.op
 
 each-then : {A : Type 0} (f : A → Option Line) → ((x : A) → IfSome (f x) KeepsFamily) → (o : Option A) → IfSome (option_and_then f o) KeepsFamily
 each-then f each None = tt
 each-then f each (Some x) = each x
 
-made-with : (c : ClassFile) (i : Instr) (a : Option Action) → IfSome (option_map (line_with c i) a) KeepsFamily
+pub made-with : (c : ClassFile) (i : Instr) (a : Option Action) → IfSome (option_map (line_with c i) a) KeepsFamily
 made-with c i None = tt
 made-with c i (Some a) = refl
 
-kept-at : (p : Program) (method at : ℕ) → IfSome (line_at p method at) KeepsFamily
+pub kept-at : (p : Program) (method at : ℕ) → IfSome (line_at p method at) KeepsFamily
 kept-at p method at =
     each-then _
     (λ place. each-then _
@@ -40,6 +43,6 @@ seen : (r : Option (Bor Line)) → IfSome (option_copied r) KeepsFamily → IfSo
 seen None h = tt
 seen (Some l) h = h
 
-pub keeps-family : (p : Program) (method at : ℕ) (r : Option (Bor Line)) → option_copied r ≡ line_at p method at
+pub keeps-family : (v : Versions) → HasLines v → (version place : ℕ) (r : Option (Bor Line)) → option_copied r ≡ versions.line_at v version place
     → IfSome r (λ l. l.now.family ≡ family_of l.now.instr.op)
-keeps-family p method at r found = seen r (subst (λ (o : Option Line). IfSome o KeepsFamily) (sym found) (kept-at p method at))
+keeps-family v lines version place r found = seen r (subst (λ (o : Option Line). IfSome o KeepsFamily) (sym found) (lines.families version place))

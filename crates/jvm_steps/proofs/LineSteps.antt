@@ -14,9 +14,8 @@ use Rattle.jvm_model.specs.declared.state.Phase.{Phase}
 use Rattle.jvm_model.specs.declared.state.Phase.TheVariants.{Fresh, Running, Ready, Erroneous}
 use Rattle.jvm_model.specs.declared.state.State.{State}
 use Rattle.jvm_model.specs.Applies.{still, breaks, applies}
-use Rattle.jvm_model.specs.Data.{World, Text, Naming, Instruction, Operation, Named, Initializes, Done, Turn}
+use Rattle.jvm_model.specs.Data.{Text, Naming, Instruction, Operation, Named, Initializes, Done, Turn}
 use Rattle.jvm_model.specs.Moves.{move, moves, left, settles, settled, then_turn}
-use Rattle.jvm_model.specs.Originals.{original}
 use Rattle.jvm_model.specs.Does.{loads}
 use Rattle.jvm_model.specs.Naming.{newly_loaded}
 use Rattle.jvm_model.specs.NamingRules.{does_named}
@@ -29,7 +28,6 @@ use Rattle.jvm_steps.specs.declared.line.Line.{Line}
 use Rattle.jvm_steps.specs.declared.markers.Marker.{Marker}
 use Rattle.jvm_steps.specs.declared.parts.Parts.{Parts}
 use Rattle.jvm_steps.specs.Acts.{acts, acts_asked, acts_by, acts_named, attempts_line, attempts_on, awaited, awaited_by, awaited_in, awaited_on, is_at_rest, goes_on_in, named_done, ready_for, with_done}
-use Rattle.jvm_steps.specs.Lines.{line_at}
 use Rattle.jvm_steps.specs.Markers.{initializing, marker_on, stack_of, state_of}
 use Rattle.jvm_steps.specs.States.{active, frame_in}
 use Rattle.jvm_steps.proofs.Carried.{length-active}
@@ -38,7 +36,9 @@ use Rattle.jvm_steps.proofs.LineActs.{awaits-named, done_there, readied, starts-
 use Rattle.jvm_steps.proofs.MarkedStacks.{stack-empty, stack-frame, stack-on}
 use Rattle.jvm_steps.proofs.MovesLoad.{settled-loaded}
 use Rattle.jvm_steps.proofs.NamedLaws.{Asks, IsNamed, is-named}
-use Rattle.jvm_steps.proofs.Tied.{instruction_by, IsTied, Tie, tied-at}
+use Rattle.jvm_steps.proofs.Tied.{Tie, tied-there}
+use Rattle.jvm_steps.specs.Ready.{CanRun, IsTied}
+use Rattle.jvm_steps.specs.Versions.{Setup, text_of, line_at, instruction_by}
 
 -- ---- the top of a stack
 
@@ -54,33 +54,33 @@ top-frame ms f fs none = stack-frame (active f) (map active fs) ms (ap (λ n. ma
 
 -- ---- the moves do not see the changes before them
 
-module _ (w : World) (t : Text) where
-  settles-after : (n : ℕ) (a b : Turn) → a.after ≡ b.after → (settles w t n a).after ≡ (settles w t n b).after
+module _ (w : Setup) (t : Text) where
+  settles-after : (n : ℕ) (a b : Turn) → a.after ≡ b.after → (settles w.world t n a).after ≡ (settles w.world t n b).after
   settles-after zero a b same = same
   settles-after (suc n) a b same =
-      either (settles-after n) (move w t a.after)
-      ∙ ap (λ (s : State). (option_map_or (λ next. settles w t n (then_turn b next)) (move w t s) b).after) same
+      either (settles-after n) (move w.world t a.after)
+      ∙ ap (λ (s : State). (option_map_or (λ next. settles w.world t n (then_turn b next)) (move w.world t s) b).after) same
     where
-      either : ((x y : Turn) → x.after ≡ y.after → (settles w t n x).after ≡ (settles w t n y).after) → (o : Option Turn)
-          → (option_map_or (λ next. settles w t n (then_turn a next)) o a).after ≡ (option_map_or (λ next. settles w t n (then_turn b next)) o b).after
+      either : ((x y : Turn) → x.after ≡ y.after → (settles w.world t n x).after ≡ (settles w.world t n y).after) → (o : Option Turn)
+          → (option_map_or (λ next. settles w.world t n (then_turn a next)) o a).after ≡ (option_map_or (λ next. settles w.world t n (then_turn b next)) o b).after
       either before None = same
       either before (Some next) = before (then_turn a next) (then_turn b next) refl
 
-  settled-after : (a b : Turn) → a.after ≡ b.after → (settled w t a).after ≡ (settled w t b).after
-  settled-after a b same = ap (λ (s : State). (settles w t (left s) a).after) same ∙ settles-after (left b.after) a b same
+  settled-after : (a b : Turn) → a.after ≡ b.after → (settled w.world t a).after ≡ (settled w.world t b).after
+  settled-after a b same = ap (λ (s : State). (settles w.world t (left s) a).after) same ∙ settles-after (left b.after) a b same
 
-  settled-still : (s : State) → move w t s ≡ None → (settled w t (still s)).after ≡ s
-  settled-still s none = ap (λ (a : Turn). a.after) (stops w t (left s) (still s) none)
+  settled-still : (s : State) → move w.world t s ≡ None → (settled w.world t (still s)).after ≡ s
+  settled-still s none = ap (λ (a : Turn). a.after) (stops w.world t (left s) (still s) none)
 
   -- nothing follows where it is at rest
-  pub rests : (ms : List Marker) (p : Parts) → is_at_rest ms p ≡ true → state_of ms p ≡ (settled w t (still (state_of ms p))).after
+  pub rests : (ms : List Marker) (p : Parts) → is_at_rest ms p ≡ true → state_of ms p ≡ (settled w.world t (still (state_of ms p))).after
   rests ms p is = sym (settled-still (state_of ms p) (by p.ending p.thrown p.frames.frames is)) where
     -- by the top of the stack
-    by_top : (f : PlacedFrame) (fs : List PlacedFrame) → is_none (marker_on (length (f ∷ fs)) ms) ≡ true → moves w t (state_of ms p) None None (stack_of (map active (f ∷ fs)) ms) ≡ None
-    by_top f fs none = ap (moves w t (state_of ms p) None None) (top-frame ms f fs (none-of ms (length (f ∷ fs)) none))
+    by_top : (f : PlacedFrame) (fs : List PlacedFrame) → is_none (marker_on (length (f ∷ fs)) ms) ≡ true → moves w.world t (state_of ms p) None None (stack_of (map active (f ∷ fs)) ms) ≡ None
+    by_top f fs none = ap (moves w.world t (state_of ms p) None None) (top-frame ms f fs (none-of ms (length (f ∷ fs)) none))
 
     by : (ending : Option Ending) (thrown : Option ℕ) (fs : List PlacedFrame) → (is_some ending || (is_none thrown && (has_frame fs && is_none (marker_on (length fs) ms)))) ≡ true
-        → moves w t (state_of ms p) ending thrown (stack_of (map active fs) ms) ≡ None
+        → moves w.world t (state_of ms p) ending thrown (stack_of (map active fs) ms) ≡ None
     by (Some e) thrown fs is = refl
     by None (Some r) fs is = absurd (false≢true is)
     by None None [] is = absurd (false≢true is)
@@ -88,48 +88,48 @@ module _ (w : World) (t : Text) where
 
 -- ---- a step
 
-module _ (w : World) where
+module _ (w : Setup) where
   abbrev t : Text
-  t = original w.program
+  t = text_of w.versions
 
   -- the state after a line, with all that follows
   abbrev pub behind : State → State
-  behind x = (settled w t (still x)).after
+  behind x = (settled w.world t (still x)).after
 
   module _ (s : State) (f : Frame) (line : Line) (op : Operation) (tied : IsTied line op) where
     abbrev first : Turn
-    first = tries w t (instruction_by op line) (readied w line op s f) f (done_there w line op s f)
+    first = tries w.world t (instruction_by op line) (readied w line op s f) f (done_there w line op s f)
 
     first-after : first.after ≡ behind (acts w line s f)
     first-after =
         let there : Done = done_there w line op s f in
-        settled-after w t (applies w t (instruction_by op line) there.outcome (with_done there (readied w line op s f)) f) (still (acts w line s f))
+        settled-after w t (applies w.world t (instruction_by op line) there.outcome (with_done there (readied w line op s f)) f) (still (acts w line s f))
         (steps-as w line op s f tied).applied
 
     -- the classes are loaded, and a class may be initialized before
     steps-by : (o : Option ℕ) → awaited w s f line.action ≡ o
-        → (steps_at w t s f (Some (instruction_by op line))).after ≡ (goes_again w t (instruction_by op line) (readied w line op s f) f o first).after
+        → (steps_at w.world t s f (Some (instruction_by op line))).after ≡ (goes_again w.world t (instruction_by op line) (readied w line op s f) f o first).after
     steps-by o is =
-        loaded-after (loads w op s.shared f.operands) (steps_by w t (instruction_by op line) (readied w line op s f) f (done_there w line op s f))
-        ∙ ap (λ k. (goes_again w t (instruction_by op line) (readied w line op s f) f k first).after) ((steps-as w line op s f tied).starts_same ∙ is)
+        loaded-after (loads w.world op s.shared f.operands) (steps_by w.world t (instruction_by op line) (readied w line op s f) f (done_there w line op s f))
+        ∙ ap (λ k. (goes_again w.world t (instruction_by op line) (readied w line op s f) f k first).after) ((steps-as w line op s f tied).starts_same ∙ is)
 
   line-steps : (s : State) (f : Frame) (lo : Option Line) (io : Option Instruction) → awaited_by w s f lo ≡ None → Tie lo io
-      → (steps_at w t s f io).after ≡ behind (attempts_line w s f lo)
+      → (steps_at w.world t s f io).after ≡ behind (attempts_line w s f lo)
   line-steps s f None None none tie = sym (settled-still w t (breaks s f 0) refl)
   line-steps s f None (Some i) none tie = absurd tie
   line-steps s f (Some line) None none tie = absurd tie
   line-steps s f (Some line) (Some i) none tie =
-      ap (λ x. (steps_at w t s f (Some x)).after) tie.is ∙ (steps-by s f line tie.op tie.tied None none ∙ first-after s f line tie.op tie.tied)
+      ap (λ x. (steps_at w.world t s f (Some x)).after) tie.is ∙ (steps-by s f line tie.op tie.tied None none ∙ first-after s f line tie.op tie.tied)
 
   -- ---- a class is initialized before
 
   -- the instruction behind that
   abbrev again : Turn → Instruction → State → Frame → Turn
-  again turn i s f = then_turn turn (attempt w t i (record turn.after { stack = s.stack }) f)
+  again turn i s f = then_turn turn (attempt w.world t i (record turn.after { stack = s.stack }) f)
 
   -- where the class is not ready then, that is all
   awaits-stays : (i : Instruction) (s : State) (f : Frame) (c : ℕ) (turn : Turn) → is_ready (phase_of turn.after.shared c) ≡ false
-      → goes_again w t i s f (Some c) turn ≡ turn
+      → goes_again w.world t i s f (Some c) turn ≡ turn
   awaits-stays i s f c turn isnt = ap (λ b. cond (is_quiet turn.changes && b && goes_on turn.after.ending turn.after.thrown) (again turn i s f) turn) isnt ∙ by (is_quiet turn.changes) where
     by : (b : Bool) → cond (b && false && goes_on turn.after.ending turn.after.thrown) (again turn i s f) turn ≡ turn
     by true = refl
@@ -137,7 +137,7 @@ module _ (w : World) where
 
   -- and where it is, the instruction is attempted again
   awaits-again : (i : Instruction) (s : State) (f : Frame) (c : ℕ) (turn : Turn) → is_ready (phase_of turn.after.shared c) ≡ true → turn.changes ≡ []
-      → turn.after.ending ≡ None → turn.after.thrown ≡ None → goes_again w t i s f (Some c) turn ≡ again turn i s f
+      → turn.after.ending ≡ None → turn.after.thrown ≡ None → goes_again w.world t i s f (Some c) turn ≡ again turn i s f
   awaits-again i s f c turn is quiet ending thrown =
       ap (λ b. cond (is_quiet turn.changes && b && goes_on turn.after.ending turn.after.thrown) (again turn i s f) turn) is
       ∙ (ap (λ cs. cond (is_quiet cs && true && goes_on turn.after.ending turn.after.thrown) (again turn i s f) turn) quiet
@@ -181,28 +181,28 @@ module _ (w : World) where
     acts-begun = named-action ∙ ap (acts_asked w line (with_done there s) f) asks-for
 
     abbrev turn : Turn
-    turn = settled w t (still begun)
+    turn = settled w.world t (still begun)
 
     first-is : first s f line (Named n) tied ≡ turn
     first-is =
-        ap (λ (x : State). tries w t i x f (does_named w n x.shared f.locals f.operands)) (with-loaded (newly_loaded w.program s.shared.loaded n f.operands) s)
-        ∙ ap (λ q. settled w t (applies w t i q (with_done there s) f)) asks-for
+        ap (λ (x : State). tries w.world t i x f (does_named w.world n x.shared f.locals f.operands)) (with-loaded (newly_loaded w.world.program s.shared.loaded n f.operands) s)
+        ∙ ap (λ q. settled w.world t (applies w.world t i q (with_done there s) f)) asks-for
 
-    awaits-by : (steps_at w t s f (Some i)).after ≡ (goes_again w t i (ready_for w n s f) f (Some c) turn).after
+    awaits-by : (steps_at w.world t s f (Some i)).after ≡ (goes_again w.world t i (ready_for w n s f) f (Some c) turn).after
     awaits-by =
         steps-by s f line (Named n) tied (Some c) is
-        ∙ (ap (λ x. (goes_again w t i (readied w line (Named n) s f) f (Some c) x).after) first-is
-        ∙ ap (λ x. (goes_again w t i x f (Some c) turn).after) (with-loaded (newly_loaded w.program s.shared.loaded n f.operands) s))
+        ∙ (ap (λ x. (goes_again w.world t i (readied w line (Named n) s f) f (Some c) x).after) first-is
+        ∙ ap (λ x. (goes_again w.world t i x f (Some c) turn).after) (with-loaded (newly_loaded w.world.program s.shared.loaded n f.operands) s))
 
     turn-behind : turn.after ≡ behind (acts w line s f)
     turn-behind = ap behind (sym acts-begun)
 
     -- where the class is not ready behind its initialization, nothing else is done
-    pub not-again : is_ready (phase_of turn.after.shared c) ≡ false → turn.after ≡ (steps_at w t s f (Some i)).after
+    pub not-again : is_ready (phase_of turn.after.shared c) ≡ false → turn.after ≡ (steps_at w.world t s f (Some i)).after
     not-again isnt = sym (awaits-by ∙ ap (λ (x : Turn). x.after) (awaits-stays i (ready_for w n s f) f c turn isnt))
 
     -- nothing is loaded behind
-    same-loaded : turn.after.shared.loaded ≡ s.shared.loaded ++ newly_loaded w.program s.shared.loaded n f.operands
+    same-loaded : turn.after.shared.loaded ≡ s.shared.loaded ++ newly_loaded w.world.program s.shared.loaded n f.operands
     same-loaded = settled-loaded w t (still begun) ∙ law.loaded
 
     module _ (ending : s.ending ≡ None) (ready : is_ready (phase_of turn.after.shared c) ≡ true) where
@@ -212,25 +212,25 @@ module _ (w : World) where
       pub restored : IsReadyAgain w t c f s.stack turn
       restored =
           let same : record begun { ending = None } ≡ begun = sym (ap (λ e. record begun { ending = e }) ending) in
-          subst (λ (x : State). IsReadyAgain w t c f s.stack (settled w t (still x))) same
+          subst (λ (x : State). IsReadyAgain w t c f s.stack (settled w.world t (still x))) same
           (ready-again w t c f s.stack s.thrown s.begun (s.output ++ there.wrote) (with_phase there.shared c Running) running
-          (ap (λ (x : State). phase_of (settled w t (still x)).after.shared c) same ∙ ready-of (phase_of turn.after.shared c) ready))
+          (ap (λ (x : State). phase_of (settled w.world t (still x)).after.shared c) same ∙ ready-of (phase_of turn.after.shared c) ready))
 
       abbrev from : State
       from = record turn.after { stack = s.stack }
 
-      loads-none : newly_loaded w.program from.shared.loaded n f.operands ≡ []
-      loads-none = ap (λ l. newly_loaded w.program l n f.operands) same-loaded ∙ newly-again w.program s.shared.loaded n f.operands
+      loads-none : newly_loaded w.world.program from.shared.loaded n f.operands ≡ []
+      loads-none = ap (λ l. newly_loaded w.world.program l n f.operands) same-loaded ∙ newly-again w.world.program s.shared.loaded n f.operands
 
       abbrev tried : State → State
-      tried x = (tries w t i x f (does_named w n x.shared f.locals f.operands)).after
+      tried x = (tries w.world t i x f (does_named w.world n x.shared f.locals f.operands)).after
 
-      second-after : (attempt w t i from f).after ≡ behind (acts w line from f)
+      second-after : (attempt w.world t i from f).after ≡ behind (acts w line from f)
       second-after =
           sym (ap (λ cs. tried (with_loaded cs from)) loads-none) ∙ first-after from f line (Named n) tied
 
       -- its line is attempted in the same step
-      pub attempts-again : behind (acts w line from f) ≡ (steps_at w t s f (Some i)).after
+      pub attempts-again : behind (acts w line from f) ≡ (steps_at w.world t s f (Some i)).after
       attempts-again =
           sym (awaits-by
           ∙ (ap (λ (x : Turn). x.after) (awaits-again i (ready_for w n s f) f c turn ready restored.quiet restored.ending restored.thrown)
@@ -268,9 +268,9 @@ pub record IsGoing (s : State) : Type 0 where
   pub ending : s.ending ≡ None
   pub stack : s.stack ≡ Active frame ∷ rest
 
-module _ (w : World) (s : State) (going : IsGoing s) where
+module _ (w : Setup) (run : CanRun w) (s : State) (going : IsGoing s) where
   abbrev text : Text
-  text = original w.program
+  text = text_of w.versions
 
   -- without the frame
   abbrev pub under : State
@@ -278,10 +278,10 @@ module _ (w : World) (s : State) (going : IsGoing s) where
 
   -- what stands there
   abbrev line_here : Option Line
-  line_here = line_at w.program going.frame.version going.frame.place
+  line_here = line_at w.versions going.frame.version going.frame.place
 
-  step-at : (step w text s).after ≡ (steps_at w text under going.frame (text.at going.frame.version going.frame.place)).after
-  step-at = ap (λ e. (steps_on w text s e s.stack).after) going.ending ∙ ap (λ es. (steps_on w text s None es).after) going.stack
+  step-at : (step w.world text s).after ≡ (steps_at w.world text under going.frame (text.at going.frame.version going.frame.place)).after
+  step-at = ap (λ e. (steps_on w.world text s e s.stack).after) going.ending ∙ ap (λ es. (steps_on w.world text s None es).after) going.stack
 
   awaited-here : (o : Option ℕ) → awaited_in w s ≡ o → awaited_by w under going.frame line_here ≡ o
   awaited-here o is = sym (ap (awaited_on w s) going.stack) ∙ is
@@ -290,23 +290,23 @@ module _ (w : World) (s : State) (going : IsGoing s) where
   attempted-here = ap (attempts_on w s) going.stack
 
   -- where no class is awaited
-  pub step-attempts : awaited_in w s ≡ None → (mid after : State) → mid ≡ attempts_on w s s.stack → after ≡ behind w mid → after ≡ (step w text s).after
+  pub step-attempts : awaited_in w s ≡ None → (mid after : State) → mid ≡ attempts_on w s s.stack → after ≡ behind w mid → after ≡ (step w.world text s).after
   step-attempts none mid after attempted settles =
       settles ∙ (ap (behind w) (attempted ∙ attempted-here)
       ∙ sym (step-at
-      ∙ line-steps w under going.frame line_here (text.at going.frame.version going.frame.place) (awaited-here None none) (tied-at w.program going.frame.version going.frame.place)))
+      ∙ line-steps w under going.frame line_here (text.at going.frame.version going.frame.place) (awaited-here None none) (tied-there w run going.frame.version going.frame.place)))
 
   module _ (c : ℕ) (is : awaited_in w s ≡ Some c) where
     here : IsAwaiting w under going.frame c line_here (text.at going.frame.version going.frame.place)
     here =
         is-awaiting w under going.frame c line_here (text.at going.frame.version going.frame.place)
-        (awaited-here (Some c) is) (tied-at w.program going.frame.version going.frame.place)
+        (awaited-here (Some c) is) (tied-there w run going.frame.version going.frame.place)
 
     abbrev reached : State
     reached = (turn w under going.frame here.line here.named c here.tied here.awaits).after
 
-    step-there : (step w text s).after ≡ (steps_at w text under going.frame (Some (instruction_by (Named here.named) here.line))).after
-    step-there = step-at ∙ ap (λ x. (steps_at w text under going.frame x).after) here.instruction
+    step-there : (step w.world text s).after ≡ (steps_at w.world text under going.frame (Some (instruction_by (Named here.named) here.line))).after
+    step-there = step-at ∙ ap (λ x. (steps_at w.world text under going.frame x).after) here.instruction
 
     module _ (mid behind_it : State) (attempted : mid ≡ attempts_on w s s.stack) (settles : behind_it ≡ behind w mid) where
       comes-there : behind_it ≡ reached
@@ -316,7 +316,7 @@ module _ (w : World) (s : State) (going : IsGoing s) where
           ∙ acts-begun w under going.frame here.line here.named c here.tied here.awaits)))
 
       -- where its class is not ready behind its initialization, nothing else is done
-      pub step-awaits : is_ready (phase_of behind_it.shared c) ≡ false → behind_it ≡ (step w text s).after
+      pub step-awaits : is_ready (phase_of behind_it.shared c) ≡ false → behind_it ≡ (step w.world text s).after
       step-awaits isnt =
           comes-there ∙ (not-again w under going.frame here.line here.named c here.tied here.awaits
           (sym (ap (λ (x : State). is_ready (phase_of x.shared c)) comes-there) ∙ isnt)
@@ -339,7 +339,7 @@ module _ (w : World) (s : State) (going : IsGoing s) where
         }
 
         -- and its line is attempted in the same step
-        pub step-again : (mid_again after : State) → mid_again ≡ attempts_on w behind_it behind_it.stack → after ≡ behind w mid_again → after ≡ (step w text s).after
+        pub step-again : (mid_again after : State) → mid_again ≡ attempts_on w behind_it behind_it.stack → after ≡ behind w mid_again → after ≡ (step w.world text s).after
         step-again mid_again after attempted_again settles_again =
             settles_again
             ∙ (ap (behind w) (attempted_again
@@ -366,21 +366,21 @@ module _ (ms : List Marker) (p : Parts) where
   going-on is = going-by p.ending p.frames.frames is
 
   -- where a marker is on top, or nothing, or the run has ended, a step does nothing
-  stays-by : (w : World) (s : State) (ending : Option Ending) (fs : List PlacedFrame) → (is_none ending && (has_frame fs && is_none (marker_on (length fs) ms))) ≡ false
-      → (steps_on w (original w.program) s ending (stack_of (map active fs) ms)).after ≡ s
+  stays-by : (w : Setup) (s : State) (ending : Option Ending) (fs : List PlacedFrame) → (is_none ending && (has_frame fs && is_none (marker_on (length fs) ms))) ≡ false
+      → (steps_on w.world (text_of w.versions) s ending (stack_of (map active fs) ms)).after ≡ s
   stays-by w s (Some e) fs is = refl
-  stays-by w s None [] is = ap (λ es. (steps_on w (original w.program) s None es).after) (stack-empty ms) ∙ by ms where
-    by : (marks : List Marker) → (steps_on w (original w.program) s None (map initializing marks)).after ≡ s
+  stays-by w s None [] is = ap (λ es. (steps_on w.world (text_of w.versions) s None es).after) (stack-empty ms) ∙ by ms where
+    by : (marks : List Marker) → (steps_on w.world (text_of w.versions) s None (map initializing marks)).after ≡ s
     by [] = refl
     by (m ∷ marks) = refl
   stays-by w s None (f ∷ fs) is = by (marker_on (length (f ∷ fs)) ms) refl is where
-    by : (o : Option Marker) → marker_on (length (f ∷ fs)) ms ≡ o → is_none o ≡ false → (steps_on w (original w.program) s None (stack_of (map active (f ∷ fs)) ms)).after ≡ s
+    by : (o : Option Marker) → marker_on (length (f ∷ fs)) ms ≡ o → is_none o ≡ false → (steps_on w.world (text_of w.versions) s None (stack_of (map active (f ∷ fs)) ms)).after ≡ s
     by None e isnt = absurd (false≢true (sym isnt))
     by (Some m) e isnt =
         let on = stack-on (map active (f ∷ fs)) ms m (ap (λ n. marker_on n ms) (length-active (f ∷ fs)) ∙ e) in
-        ap (λ es. (steps_on w (original w.program) s None es).after) on.1
+        ap (λ es. (steps_on w.world (text_of w.versions) s None es).after) on.1
 
-  pub step-stays : (w : World) → goes_on_in ms p ≡ false → state_of ms p ≡ (step w (original w.program) (state_of ms p)).after
+  pub step-stays : (w : Setup) → goes_on_in ms p ≡ false → state_of ms p ≡ (step w.world (text_of w.versions) (state_of ms p)).after
   step-stays w is = sym (stays-by w (state_of ms p) p.ending p.frames.frames is)
 
   -- a frame that stands on top has no marker on it

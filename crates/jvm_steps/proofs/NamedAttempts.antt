@@ -5,7 +5,7 @@ use Rattle.std.proofs.lemmas.Option.{same_Some, none-some}
 use Rattle.frame_stack.specs.FrameLists.{PlacedFrame, FramesView, top_operands}
 use Rattle.jvm_model.specs.declared.state.Shared.{Shared}
 use Rattle.jvm_model.specs.declared.state.State.{State}
-use Rattle.jvm_model.specs.Data.{World, Naming}
+use Rattle.jvm_model.specs.Data.{Naming}
 use Rattle.jvm_model.specs.Naming.{newly_loaded}
 use Rattle.jvm_named.specs.declared.asked.Asked.{Asked}
 use Rattle.jvm_named.specs.declared.naming.Naming.{Naming as Kept}
@@ -21,17 +21,18 @@ use Rattle.jvm_steps.specs.declared.parts.Parts.{Parts}
 use Rattle.jvm_steps.specs.Acts.{acts, acts_by, attempts_on, awaited, awaited_by, awaited_in, awaited_on, becomes_beneath, is_named, named_in}
 use Rattle.jvm_steps.specs.Asked.{concluded, done_top, starts_in}
 use Rattle.jvm_steps.specs.Initializing.{begins_class}
-use Rattle.jvm_steps.specs.Lines.{IfNamed, IfNamedBy, line_at}
+use Rattle.jvm_steps.specs.Lines.{IfNamed, IfNamedBy}
 use Rattle.jvm_steps.specs.Markers.{marker_on, stack_of, state_of, with_markers}
 use Rattle.jvm_steps.specs.States.{active, frame_in, here_of, state_in, state_with}
 use Rattle.jvm_steps.proofs.ActsLoad.{named-loads}
 use Rattle.jvm_steps.proofs.Beneath.{does-there}
 use Rattle.jvm_steps.proofs.Concluded.{CanAnswer, begins-by, can-answer, concludes-by, named_beneath, starts-same}
 use Rattle.jvm_steps.proofs.LineSteps.{top-frame}
+use Rattle.jvm_steps.specs.Versions.{Setup, line_at}
 
 -- ---- the world stays
 
-pub concluded-in : (w v : World) (here : Here) (a : Asked) (mid after : Parts) → v ≡ w → state_in after ≡ concluded v here (answer_view a) mid
+pub concluded-in : (w v : Setup) (here : Here) (a : Asked) (mid after : Parts) → v ≡ w → state_in after ≡ concluded v here (answer_view a) mid
     → state_in after ≡ concluded w here (answer_view a) mid
 concluded-in w v here a mid after same made = subst (λ u. state_in after ≡ concluded u here (answer_view a) mid) same made
 
@@ -66,16 +67,16 @@ held lo names Holds if_named =
 
 -- ---- the parts where it has answered
 
-module _ (w : World) (ms : List Marker) (here : Here) (p : Parts) (is_named_there : named_in (line_at w.program here.version here.place) ≡ true)
+module _ (w : Setup) (ms : List Marker) (here : Here) (p : Parts) (is_named_there : named_in (line_at w.versions here.version here.place) ≡ true)
     (at : here_of p.frames.frames ≡ Some here) (none : marker_on (length p.frames.frames) ms ≡ None)
     (frames : FramesView) (shared : Shared) (output loaded : List ℕ) (a : Asked)
-    (answers : IfNamed (line_at w.program here.version here.place) (λ n next. answer_view a ≡ answer_by (attempts w n p.shared p.frames) p.frames))
-    (moves : IfNamed (line_at w.program here.version here.place) (λ n next. frames ≡ frames_by (attempts w n p.shared p.frames) next p.frames))
-    (shares : IfNamed (line_at w.program here.version here.place) (λ n next. shared ≡ shared_by (attempts w n p.shared p.frames) p.frames))
-    (writes : IfNamed (line_at w.program here.version here.place) (λ n next. output ≡ p.output ++ wrote_by (attempts w n p.shared p.frames) p.frames))
-    (loads : IfNamed (line_at w.program here.version here.place) (λ n next. loaded ≡ loaded_for w.program n p.shared p.frames)) where
-  names : Names (line_at w.program here.version here.place)
-  names = names-there (line_at w.program here.version here.place) is_named_there
+    (answers : IfNamed (line_at w.versions here.version here.place) (λ n next. answer_view a ≡ answer_by (attempts w.world n p.shared p.frames) p.frames))
+    (moves : IfNamed (line_at w.versions here.version here.place) (λ n next. frames ≡ frames_by (attempts w.world n p.shared p.frames) next p.frames))
+    (shares : IfNamed (line_at w.versions here.version here.place) (λ n next. shared ≡ shared_by (attempts w.world n p.shared p.frames) p.frames))
+    (writes : IfNamed (line_at w.versions here.version here.place) (λ n next. output ≡ p.output ++ wrote_by (attempts w.world n p.shared p.frames) p.frames))
+    (loads : IfNamed (line_at w.versions here.version here.place) (λ n next. loaded ≡ loaded_for w.world.program n p.shared p.frames)) where
+  names : Names (line_at w.versions here.version here.place)
+  names = names-there (line_at w.versions here.version here.place) is_named_there
 
   abbrev n : Naming
   n = naming_view names.kept
@@ -88,26 +89,26 @@ module _ (w : World) (ms : List Marker) (here : Here) (p : Parts) (is_named_ther
   mid = record p { frames = frames; shared = shared; output = output }
 
   answer-is : answer_view a ≡ answer_in (done_top w n p.shared p.frames.frames).outcome p.frames.frames
-  answer-is = held (line_at w.program here.version here.place) names (λ n next. answer_view a ≡ answer_by (attempts w n p.shared p.frames) p.frames) answers
+  answer-is = held (line_at w.versions here.version here.place) names (λ n next. answer_view a ≡ answer_by (attempts w.world n p.shared p.frames) p.frames) answers
 
   can : CanAnswer (answer_in (done_top w n p.shared p.frames.frames).outcome p.frames.frames)
   can = subst CanAnswer answer-is (can-answer a)
 
   abbrev due : Parts
   due = record p {
-    frames = frames_by (attempts w n p.shared p.frames) names.line.next p.frames;
-    shared = shared_by (attempts w n p.shared p.frames) p.frames;
-    output = p.output ++ wrote_by (attempts w n p.shared p.frames) p.frames;
+    frames = frames_by (attempts w.world n p.shared p.frames) names.line.next p.frames;
+    shared = shared_by (attempts w.world n p.shared p.frames) p.frames;
+    output = p.output ++ wrote_by (attempts w.world n p.shared p.frames) p.frames;
   }
 
   mid-is : mid ≡ due
   mid-is =
       ap (λ (x : FramesView). let q : Parts = record p { frames = x; shared = shared; output = output } in q)
-      (held (line_at w.program here.version here.place) names (λ n next. frames ≡ frames_by (attempts w n p.shared p.frames) next p.frames) moves)
+      (held (line_at w.versions here.version here.place) names (λ n next. frames ≡ frames_by (attempts w.world n p.shared p.frames) next p.frames) moves)
       ∙ (ap (λ (x : Shared). let q : Parts = record p { frames = due.frames; shared = x; output = output } in q)
-      (held (line_at w.program here.version here.place) names (λ n next. shared ≡ shared_by (attempts w n p.shared p.frames) p.frames) shares)
+      (held (line_at w.versions here.version here.place) names (λ n next. shared ≡ shared_by (attempts w.world n p.shared p.frames) p.frames) shares)
       ∙ ap (λ (x : List ℕ). let q : Parts = record p { frames = due.frames; shared = due.shared; output = x } in q)
-      (held (line_at w.program here.version here.place) names (λ n next. output ≡ p.output ++ wrote_by (attempts w n p.shared p.frames) p.frames) writes))
+      (held (line_at w.versions here.version here.place) names (λ n next. output ≡ p.output ++ wrote_by (attempts w.world n p.shared p.frames) p.frames) writes))
 
   -- what the line does there
   attempted : named_beneath w names.line n ms p p.frames.frames ≡ attempts_on w s s.stack
@@ -140,7 +141,7 @@ module _ (w : World) (ms : List Marker) (here : Here) (p : Parts) (is_named_ther
       let same : record { version = f.version; method = f.method; place = f.place } ≡ here = same_Some _ here is in
       let under : State = record s { stack = stack_of (map active fs) ms } in
       ap (awaited_on w s) (top-frame ms f fs free)
-      ∙ (ap (λ (h : Here). awaited_by w under (frame_in f) (line_at w.program h.version h.place)) same
+      ∙ (ap (λ (h : Here). awaited_by w under (frame_in f) (line_at w.versions h.version h.place)) same
       ∙ (ap (awaited_by w under (frame_in f)) names.there
       ∙ (ap (awaited w under (frame_in f)) names.named
       ∙ sym (starts-same (done_top w n p.shared (f ∷ fs)).outcome f fs can_there))))
@@ -151,11 +152,11 @@ module _ (w : World) (ms : List Marker) (here : Here) (p : Parts) (is_named_ther
   -- what is loaded then
   pub loads-told : (after : State) → after ≡ attempts_on w s s.stack → loaded ≡ after.shared.loaded
   loads-told after is =
-      held (line_at w.program here.version here.place) names (λ n next. loaded ≡ loaded_for w.program n p.shared p.frames) loads
+      held (line_at w.versions here.version here.place) names (λ n next. loaded ≡ loaded_for w.world.program n p.shared p.frames) loads
       ∙ (by p.frames.frames at
       ∙ ap (λ (x : State). x.shared.loaded) (attempted ∙ sym is))
     where
       by : (fs : List PlacedFrame) → here_of fs ≡ Some here
-          → p.shared.loaded ++ newly_loaded w.program p.shared.loaded n (top_operands fs) ≡ (named_beneath w names.line n ms p fs).shared.loaded
+          → p.shared.loaded ++ newly_loaded w.world.program p.shared.loaded n (top_operands fs) ≡ (named_beneath w names.line n ms p fs).shared.loaded
       by [] is = absurd (none-some here is)
       by (f ∷ fs) is = sym (named-loads w names.line n (with_markers ms (state_with fs p)) (frame_in f))

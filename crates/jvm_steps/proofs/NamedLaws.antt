@@ -24,7 +24,7 @@ use Rattle.jvm_model.specs.declared.program.Program.{Program}
 use Rattle.jvm_model.specs.declared.state.Shared.{Shared}
 use Rattle.jvm_model.specs.ConstantRules.{pushes_object_of}
 use Rattle.jvm_model.specs.CreationRules.{allocates, answers, array_over, casts_to, counts_of, has_no_instances, instantiation_error, is_text_class, lengths_of, makes_arrays, makes_by_counts, makes_instance, makes_object, slots_of_arrays, with_arrays, zero_of}
-use Rattle.jvm_model.specs.Data.{Locals, Operands, Naming, New, Getfield, Putfield, Getstatic, Putstatic, Invokevirtual, Invokespecial, Invokestatic, Invokeinterface, Checkcast, Instanceof, Anewarray, Multianewarray, LdcClass, World, Outcome, GoesOn, Subroutine, Invokes, Returns, Throws, Raises, Initializes, Exits, Breaks, Done}
+use Rattle.jvm_model.specs.Data.{Locals, Operands, Naming, New, Getfield, Putfield, Getstatic, Putstatic, Invokevirtual, Invokespecial, Invokestatic, Invokeinterface, Checkcast, Instanceof, Anewarray, Multianewarray, LdcClass, Outcome, GoesOn, Subroutine, Invokes, Returns, Throws, Raises, Initializes, Exits, Breaks, Done}
 use Rattle.jvm_model.specs.Descriptors.{shape_of}
 use Rattle.jvm_model.specs.FieldRules.{Putting, gets_of, held_of, is_static_field, kind_by, named_field, puts_into, putting_of, sets_static}
 use Rattle.jvm_model.specs.InvocationRules.{Selecting, Virtual, OfInterface, Special, arguments_by, invokes_number, invokes_on, invokes_selected, invokes_with_static, named_method, not_of_class, receiver_in, reference_to, selected_by, with_receiver}
@@ -42,6 +42,7 @@ use Rattle.jvm_model.specs.Rules.{initialized, when_ready}
 use Rattle.jvm_model.specs.Selection.{is_abstract, is_static}
 use Rattle.jvm_model.specs.SharedState.{class_of, class_of_kind, null_pointer, phase_of}
 use Rattle.jvm_model.specs.Values.{arguments, data_of, int_of, ref_of}
+use Rattle.jvm_steps.specs.Versions.{Setup}
 
 -- ---- what is asked for
 
@@ -229,33 +230,33 @@ module _ (s : Shared) (o : Operands) where
   answer-plain answer.Bad l below = refl
 
   -- a native method changes nothing but the heap, what is made once and how much of the input was read
-  run-named : (w : World) (number : ℕ) (args : List Datum) (l : Locals) (below : Operands) → IsNamed s o (runs_number w number args s l below)
+  run-named : (w : Setup) (number : ℕ) (args : List Datum) (l : Locals) (below : Operands) → IsNamed s o (runs_number w.world number args s l below)
   run-named w number args l below = record {
     loaded = refl;
     asks =
-        plain-asks (runs_number w number args s l below).shared o (runs_number w number args s l below).outcome
-        (answer-plain (answer_by number (kinds_in w.program s.loaded) args (seen_by_natives w s)) l below);
+        plain-asks (runs_number w.world number args s l below).shared o (runs_number w.world number args s l below).outcome
+        (answer-plain (answer_by number (kinds_in w.world.program s.loaded) args (seen_by_natives w.world s)) l below);
   }
 
-  native-named : (w : World) (r : Option Reference) (args : List Datum) (l : Locals) (below : Operands) → IsNamed s o (runs_native w r args s l below)
+  native-named : (w : Setup) (r : Option Reference) (args : List Datum) (l : Locals) (below : Operands) → IsNamed s o (runs_native w.world r args s l below)
   native-named w r args l below = by (option_and_then native_number r) where
-    by : (number : Option ℕ) → IsNamed s o (option_map_or (λ number. runs_number w number args s l below) number (done s (Breaks false)))
+    by : (number : Option ℕ) → IsNamed s o (option_map_or (λ number. runs_number w.world number args s l below) number (done s (Breaks false)))
     by None = refuses s o _ refl
     by (Some number) = run-named w number args l below
 
-  number-named : (w : World) (m : MemberPlace) (n : Option ℕ) (args : List Datum) (l : Locals) (below : Operands) → Takes o args below
-      → IsNamed s o (invokes_number w m n args s l below)
+  number-named : (w : Setup) (m : MemberPlace) (n : Option ℕ) (args : List Datum) (l : Locals) (below : Operands) → Takes o args below
+      → IsNamed s o (invokes_number w.world m n args s l below)
   number-named w m (Some n) args l below takes = record { loaded = refl; asks = takes }
   number-named w m None args l below takes =
-      if-named (nat_lt m.class (user_count w.program)) _ (runs_native w (reference_to w.program m) args s l below) (refuses s o _ refl)
-      (native-named w (reference_to w.program m) args l below)
+      if-named (nat_lt m.class (user_count w.world.program)) _ (runs_native w.world (reference_to w.world.program m) args s l below) (refuses s o _ refl)
+      (native-named w (reference_to w.world.program m) args l below)
 
-  selected-named : (w : World) (m : Option MemberPlace) (args : List Datum) (l : Locals) (below : Operands) → Takes o args below
-      → IsNamed s o (invokes_selected w m args s l below)
+  selected-named : (w : Setup) (m : Option MemberPlace) (args : List Datum) (l : Locals) (below : Operands) → Takes o args below
+      → IsNamed s o (invokes_selected w.world m args s l below)
   selected-named w None args l below takes = refuses s o _ refl
   selected-named w (Some m) args l below takes =
-      if-named (is_abstract w.program m) _ (invokes_number w m (number_of_method w.program m.class m.position) args s l below) (refuses s o _ refl)
-      (number-named w m (number_of_method w.program m.class m.position) args l below takes)
+      if-named (is_abstract w.world.program m) _ (invokes_number w.world m (number_of_method w.world.program m.class m.position) args s l below) (refuses s o _ refl)
+      (number-named w m (number_of_method w.world.program m.class m.position) args l below takes)
 
   -- what a descriptor tells
   arguments-take : (instance : Bool) (member : NameAndType) (args : List Datum) → arguments_by instance member o ≡ Some args → Takes o args (drop (length args) o)
@@ -265,9 +266,9 @@ module _ (s : Shared) (o : Operands) where
     by None is = absurd cc
     by (Some shape) is = record { kinds = with_receiver instance shape.params; are = is; off = refl }
 
-  static-named : (w : World) (m : MemberPlace) (member : NameAndType) (l : Locals) → IsNamed s o (invokes_with_static w m (arguments_by false member o) s l o)
+  static-named : (w : Setup) (m : MemberPlace) (member : NameAndType) (l : Locals) → IsNamed s o (invokes_with_static w.world m (arguments_by false member o) s l o)
   static-named w m member l = by (arguments_by false member o) refl where
-    by : (x : Option (List Datum)) → arguments_by false member o ≡ x → IsNamed s o (invokes_with_static w m x s l o)
+    by : (x : Option (List Datum)) → arguments_by false member o ≡ x → IsNamed s o (invokes_with_static w.world m x s l o)
     by None is = refuses s o _ refl
     by (Some args) is = selected-named w (Some m) args l (drop (length args) o) (arguments-take false member args is)
 
@@ -276,13 +277,13 @@ module _ (s : Shared) (o : Operands) where
   otherwise-plain OfInterface = refl
   otherwise-plain (Special caller interface) = refl
 
-  on-named : (w : World) (by : Selecting) (r : Reference) (m : MemberPlace) (l : Locals) → IsNamed s o (invokes_on w by r m (arguments_by true r.member o) s l o)
+  on-named : (w : Setup) (by : Selecting) (r : Reference) (m : MemberPlace) (l : Locals) → IsNamed s o (invokes_on w.world by r m (arguments_by true r.member o) s l o)
   on-named w selecting r m l = by (arguments_by true r.member o) refl where
-    by : (x : Option (List Datum)) → arguments_by true r.member o ≡ x → IsNamed s o (invokes_on w selecting r m x s l o)
+    by : (x : Option (List Datum)) → arguments_by true r.member o ≡ x → IsNamed s o (invokes_on w.world selecting r m x s l o)
     by None is = refuses s o _ refl
     by (Some args) is =
         unless-named _ _ (receiver-plain (receiver_in args) _ (not_of_class selecting) (otherwise-plain selecting))
-        (λ object. selected-named w (selected_by w.program selecting m (class_of w.program s object)) args l (drop (length args) o) (arguments-take true r.member args is))
+        (λ object. selected-named w (selected_by w.world.program selecting m (class_of w.world.program s object)) args l (drop (length args) o) (arguments-take true r.member args is))
 
   -- ---- ldc of a Class
 
@@ -296,28 +297,28 @@ module _ (s : Shared) (o : Operands) where
 
   -- ---- every one
 
-  pub is-named : (w : World) (n : Naming) (l : Locals) → IsNamed s o (does_named w n s l o)
+  pub is-named : (w : Setup) (n : Naming) (l : Locals) → IsNamed s o (does_named w.world n s l o)
   is-named w (New name) l =
-      unless-named _ _ (kind-plain w.program s.loaded name) (λ kind. ready-named w.program (class_of_kind w.program kind) _ (instance-named w.program kind (class_of_kind w.program kind) l))
-  is-named w (Getfield r) l = unless-named _ _ (field-plain w.program s.loaded false r) (λ m. gets-named w.program r m (ref_of o) l)
-  is-named w (Putfield r) l = unless-named _ _ (field-plain w.program s.loaded false r) (λ m. puts-named w.program r m (putting_of (kind_by r) o) l)
+      unless-named _ _ (kind-plain w.world.program s.loaded name) (λ kind. ready-named w.world.program (class_of_kind w.world.program kind) _ (instance-named w.world.program kind (class_of_kind w.world.program kind) l))
+  is-named w (Getfield r) l = unless-named _ _ (field-plain w.world.program s.loaded false r) (λ m. gets-named w.world.program r m (ref_of o) l)
+  is-named w (Putfield r) l = unless-named _ _ (field-plain w.world.program s.loaded false r) (λ m. puts-named w.world.program r m (putting_of (kind_by r) o) l)
   is-named w (Getstatic r) l =
-      unless-named _ _ (field-plain w.program s.loaded true r) (λ m. ready-named w.program m.class _ (refuses s o _ (pushes-plain _ l o)))
+      unless-named _ _ (field-plain w.world.program s.loaded true r) (λ m. ready-named w.world.program m.class _ (refuses s o _ (pushes-plain _ l o)))
   is-named w (Putstatic r) l =
-      unless-named _ _ (field-plain w.program s.loaded true r) (λ m. ready-named w.program m.class _ (sets-named m (held_of (kind_by r) o) l))
-  is-named w (Invokevirtual r) l = unless-named _ _ (method-plain w.program s.loaded false false r) (λ m. on-named w Virtual r m l)
+      unless-named _ _ (field-plain w.world.program s.loaded true r) (λ m. ready-named w.world.program m.class _ (sets-named m (held_of (kind_by r) o) l))
+  is-named w (Invokevirtual r) l = unless-named _ _ (method-plain w.world.program s.loaded false false r) (λ m. on-named w Virtual r m l)
   is-named w (Invokespecial caller r interface) l =
-      unless-named _ _ (method-plain w.program s.loaded interface false r) (λ m. on-named w (Special caller interface) r m l)
+      unless-named _ _ (method-plain w.world.program s.loaded interface false r) (λ m. on-named w (Special caller interface) r m l)
   is-named w (Invokestatic r) l =
-      unless-named _ _ (method-plain w.program s.loaded false true r) (λ m. ready-named w.program m.class _ (static-named w m r.member l))
-  is-named w (Invokeinterface r) l = unless-named _ _ (method-plain w.program s.loaded true false r) (λ m. on-named w OfInterface r m l)
+      unless-named _ _ (method-plain w.world.program s.loaded false true r) (λ m. ready-named w.world.program m.class _ (static-named w m r.member l))
+  is-named w (Invokeinterface r) l = unless-named _ _ (method-plain w.world.program s.loaded true false r) (λ m. on-named w OfInterface r m l)
   is-named w (Checkcast name) l =
-      if-named (is_null o) _ (unless_refused s (resolved_kind w.program s.loaded name) (λ kind. done s (casts_to w.program name (ref_of o) s l o))) (refuses s o _ refl)
-      (unless-named _ _ (kind-plain w.program s.loaded name) (λ kind. refuses s o _ (casts-plain w.program name (ref_of o) l)))
+      if-named (is_null o) _ (unless_refused s (resolved_kind w.world.program s.loaded name) (λ kind. done s (casts_to w.world.program name (ref_of o) s l o))) (refuses s o _ refl)
+      (unless-named _ _ (kind-plain w.world.program s.loaded name) (λ kind. refuses s o _ (casts-plain w.world.program name (ref_of o) l)))
   is-named w (Instanceof name) l =
-      if-named (is_null o) _ (unless_refused s (resolved_kind w.program s.loaded name) (λ kind. done s (answers w.program name (ref_of o) s l o))) (refuses s o _ refl)
-      (unless-named _ _ (kind-plain w.program s.loaded name) (λ kind. refuses s o _ (answers-plain w.program name (ref_of o) l)))
-  is-named w (Anewarray name) l = unless-named _ _ (kind-plain w.program s.loaded name) (λ kind. makes-named (array_over kind) (int_of o) l)
+      if-named (is_null o) _ (unless_refused s (resolved_kind w.world.program s.loaded name) (λ kind. done s (answers w.world.program name (ref_of o) s l o))) (refuses s o _ refl)
+      (unless-named _ _ (kind-plain w.world.program s.loaded name) (λ kind. refuses s o _ (answers-plain w.world.program name (ref_of o) l)))
+  is-named w (Anewarray name) l = unless-named _ _ (kind-plain w.world.program s.loaded name) (λ kind. makes-named (array_over kind) (int_of o) l)
   is-named w (Multianewarray name dimensions) l =
-      unless-named _ _ (kind-plain w.program s.loaded name) (λ kind. counts-named kind dimensions (counts_of dimensions o) l)
-  is-named w (LdcClass name) l = unless-named _ _ (kind-plain w.program s.loaded name) (λ kind. class-named kind l)
+      unless-named _ _ (kind-plain w.world.program s.loaded name) (λ kind. counts-named kind dimensions (counts_of dimensions o) l)
+  is-named w (LdcClass name) l = unless-named _ _ (kind-plain w.world.program s.loaded name) (λ kind. class-named kind l)

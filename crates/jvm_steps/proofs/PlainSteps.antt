@@ -5,8 +5,6 @@ use Rattle.frame_stack.specs.Widths.{height_of}
 use Rattle.frame_stack.specs.FrameLists.{PlacedFrame, FramesView, has_frame}
 use Rattle.jvm_model.specs.declared.ending.Ending.{Ending}
 use Rattle.jvm_model.specs.declared.state.State.{State}
-use Rattle.jvm_model.specs.Data.{World}
-use Rattle.jvm_model.specs.Originals.{original}
 use Rattle.jvm_model.specs.Run.{step}
 use Rattle.jvm_basic.specs.declared.effect.Effect.TheVariants.{Next}
 use Rattle.jvm_basic.specs.Outcomes.{Outcome, GoesOn, Raises, Breaks, Leaves, frames_in, with_top, asked, effect_of, after}
@@ -15,7 +13,6 @@ use Rattle.jvm_steps.specs.declared.line.Line.{Line}
 use Rattle.jvm_steps.specs.declared.markers.Marker.{Marker}
 use Rattle.jvm_steps.specs.declared.parts.Parts.{Parts}
 use Rattle.jvm_steps.specs.Acts.{acts_by, attempts_line, attempts_on, awaited, awaited_by, awaited_on}
-use Rattle.jvm_steps.specs.Lines.{line_at}
 use Rattle.jvm_steps.specs.Markers.{marker_on, state_of, with_markers}
 use Rattle.jvm_steps.specs.Runs.{IsCalm, IsPlainLine, LeadsPlainly}
 use Rattle.jvm_steps.specs.States.{active, frame_in, state_with}
@@ -23,6 +20,8 @@ use Rattle.jvm_steps.proofs.Alone.{goes-next}
 use Rattle.jvm_steps.proofs.Leading.{leads-none, leads-one, leads-on}
 use Rattle.jvm_steps.proofs.Carried.{comes-carried, length-active}
 use Rattle.jvm_steps.proofs.LineSteps.{going-on, rests, step-attempts, top-frame}
+use Rattle.jvm_steps.specs.Versions.{Setup, text_of, line_at}
+use Rattle.jvm_steps.specs.Ready.{CanRun}
 
 -- ---- nothing follows
 
@@ -66,13 +65,13 @@ goes (Some e) b none is = absurd cc
 
 -- ---- a step
 
-plain-at : (w : World) (line : Line) (ms : List Marker) (p : Parts) (fs : List PlacedFrame) (room : Option ℕ) (new : FramesView) → IsCalm (length fs) ms p
+plain-at : (w : Setup) (run : CanRun w) (line : Line) (ms : List Marker) (p : Parts) (fs : List PlacedFrame) (room : Option ℕ) (new : FramesView) → IsCalm (length fs) ms p
     → IsPlainLine w fs line
     → (let old : FramesView = record { frames = fs; room = room } in effect_of (rule_of line.instr line.constant line.next) old ≡ Next)
     → (let old : FramesView = record { frames = fs; room = room } in new ≡ after (rule_of line.instr line.constant line.next) old)
-    → with_markers ms (state_with new.frames p) ≡ (step w (original w.program) (with_markers ms (state_with fs p))).after
-plain-at w line ms p [] room new calm stands e made = absurd stands
-plain-at w line ms p (f ∷ fs) room new calm stands e made =
+    → with_markers ms (state_with new.frames p) ≡ (step w.world (text_of w.versions) (with_markers ms (state_with fs p))).after
+plain-at w run line ms p [] room new calm stands e made = absurd stands
+plain-at w run line ms p (f ∷ fs) room new calm stands e made =
     let old : FramesView = record { frames = f ∷ fs; room = room } in
     let q : Parts = record p { frames = old } in
     let r : Parts = record p { frames = new } in
@@ -82,35 +81,35 @@ plain-at w line ms p (f ∷ fs) room new calm stands e made =
     let free : marker_on (suc (length (map active fs))) ms ≡ None = ap (λ n. marker_on (suc n) ms) (length-active fs) ∙ calm.unmarked in
     let going = going-on ms q (goes p.ending (has_frame (f ∷ fs) && is_none (marker_on (length (f ∷ fs)) ms)) calm.ending (framed (length (f ∷ fs)) ms (f ∷ fs) calm.unmarked refl refl)) in
     let s : State = state_with fs p in
-    let attempted : with_markers ms (state_with new.frames p) ≡ attempts_line w (with_markers ms s) (frame_in f) (line_at w.program f.version f.place) =
+    let attempted : with_markers ms (state_with new.frames p) ≡ attempts_line w (with_markers ms s) (frame_in f) (line_at w.versions f.version f.place) =
     ap (with_markers ms) (goes-next w line q f.method new refl e made)
     ∙ (comes-carried ms w line s (frame_in f) (rule_of line.instr line.constant line.next f.locals f.operands) free
     ∙ sym (ap (attempts_line w (with_markers ms s) (frame_in f)) stands.0 ∙ ap (acts_by w line (with_markers ms s) (frame_in f)) stands.1)) in
-    step-attempts w (state_of ms q) going
+    step-attempts w run (state_of ms q) going
     (ap (awaited_on w (state_of ms q)) (top-frame ms f fs calm.unmarked)
     ∙ (ap (awaited_by w (with_markers ms s) (frame_in f)) stands.0 ∙ ap (awaited w (with_markers ms s) (frame_in f)) stands.1))
     (with_markers ms (state_with new.frames p)) (with_markers ms (state_with new.frames p))
     (attempted ∙ sym (ap (attempts_on w (state_of ms q)) (top-frame ms f fs calm.unmarked)))
-    (rests w (original w.program) ms r
+    (rests w (text_of w.versions) ms r
     (at-rest p.ending p.thrown (has_frame new.frames && is_none (marker_on (length new.frames) ms)) calm.ending calm.thrown (framed (length (f ∷ fs)) ms new.frames calm.unmarked many has)))
 
 goes-on : (n : ℕ) (ms : List Marker) (p : Parts) → IsCalm n ms p → is_some p.ending ≡ false
 goes-on n ms p calm = ap is_some calm.ending
 
-pub plain-one : (w : World) (line : Line) (old new : FramesView) → IsPlainLine w old.frames line
+pub plain-one : (w : Setup) (run : CanRun w) (line : Line) (old new : FramesView) → IsPlainLine w old.frames line
     → effect_of (rule_of line.instr line.constant line.next) old ≡ Next → new ≡ after (rule_of line.instr line.constant line.next) old
     → LeadsPlainly w old.frames 1 new.frames
-plain-one w line old new stands e made = record {
+plain-one w run line old new stands e made = record {
   many = ap (λ (s : FramesView). length s.frames) made ∙ still-many (asked (rule_of line.instr line.constant line.next) old.frames) old.frames;
   leads = λ ms p calm.
       leads-one w (with_markers ms (state_with old.frames p)) (with_markers ms (state_with new.frames p)) (goes-on (length old.frames) ms p calm)
-      (plain-at w line ms p old.frames old.room new calm stands e made);
+      (plain-at w run line ms p old.frames old.room new calm stands e made);
 }
 
-pub plain-none : (w : World) (fs : List PlacedFrame) → LeadsPlainly w fs 0 fs
+pub plain-none : (w : Setup) (fs : List PlacedFrame) → LeadsPlainly w fs 0 fs
 plain-none w fs = record { many = refl; leads = λ ms p calm. leads-none w (with_markers ms (state_with fs p)) }
 
-pub plain-on : (w : World) (old mid new : List PlacedFrame) (n m : ℕ) → LeadsPlainly w old n mid → LeadsPlainly w mid m new
+pub plain-on : (w : Setup) (old mid new : List PlacedFrame) (n m : ℕ) → LeadsPlainly w old n mid → LeadsPlainly w mid m new
     → LeadsPlainly w old (n + m) new
 plain-on w old mid new n m first second = record {
   many = second.many ∙ first.many;

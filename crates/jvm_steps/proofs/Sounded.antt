@@ -9,18 +9,19 @@ use Rattle.jvm_model.specs.declared.state.Entry.TheVariants.{Active}
 use Rattle.jvm_model.specs.declared.state.Frame.{Frame}
 use Rattle.jvm_model.specs.declared.state.Shared.{Shared}
 use Rattle.jvm_model.specs.declared.state.State.{State}
-use Rattle.jvm_model.specs.Data.{World, Naming, Invokespecial, Local, Return, Operation, Within, Named, Athrow, Monitor, Newarray, Arraylength, LoadElement, StoreElement, LdcString, Instruction, Breaks, Done}
+use Rattle.jvm_model.specs.Data.{Naming, Invokespecial, Local, Return, Operation, Within, Named, Athrow, Monitor, Newarray, Arraylength, LoadElement, StoreElement, LdcString, Instruction, Breaks, Done}
 use Rattle.jvm_model.specs.Does.{loads}
-use Rattle.jvm_model.specs.Originals.{original}
 use Rattle.jvm_model.specs.Run.{main_class}
 use Rattle.jvm_model.specs.Sound as sound
-use Rattle.jvm_model.specs.Sound.{CanAttempt, HasClass, IsFit, IsLoaded, IsSound, IsSoundEntry, IsSoundOutcome, IsSoundShared}
+use Rattle.jvm_model.specs.Sound.{CanAttempt, HasClass, IsFit, IsLoaded, IsSoundOutcome, IsSoundShared}
 use Rattle.jvm_model.proofs.SoundAttempts.{sound-does}
 use Rattle.jvm_model.proofs.SoundClasses.{among-front}
 use Rattle.jvm_model.proofs.SoundKinds.{has-root}
-use Rattle.jvm_model.proofs.SoundLines.{can-attempt}
-use Rattle.jvm_model.proofs.SoundRuns.{loads-again, sound-loaded}
-use Rattle.jvm_model.proofs.SoundSteps.{entry-grows, sound-applied}
+use Rattle.jvm_model.proofs.SoundRuns.{loads-again}
+use Rattle.jvm_model.proofs.SoundTextRuns.{sound-loaded}
+use Rattle.jvm_model.proofs.SoundTextSteps.{entry-grows, sound-applied}
+use Rattle.jvm_model.specs.SoundTexts.{IsSound, IsSoundEntry}
+use Rattle.jvm_steps.specs.Ready.{CanRun, IsSoundEntryIn, IsSoundIn, IsTied, RunsIn}
 use Rattle.class_linker.specs.Linkers.{LinkerView}
 use Rattle.jvm_named.specs.Natives.{HasBuiltIn}
 use Rattle.jvm_named.specs.Objects.{AreLoaded, HasLoadedCaller, IsOfLoaded}
@@ -29,12 +30,13 @@ use Rattle.jvm_steps.specs.declared.markers.Marker.{Marker}
 use Rattle.jvm_steps.specs.declared.parts.Here.{Here}
 use Rattle.jvm_steps.specs.declared.parts.Parts.{Parts}
 use Rattle.jvm_steps.specs.Acts.{acts, attempts_line, attempts_on, with_done}
-use Rattle.jvm_steps.specs.Lines.{IfNamed, IfNamedBy, action_of, line_at, local_action}
+use Rattle.jvm_steps.specs.Lines.{IfNamed, IfNamedBy, action_of, local_action}
 use Rattle.jvm_steps.specs.Markers.{marker_on, stack_of, state_of}
 use Rattle.jvm_steps.specs.States.{active, here_of}
 use Rattle.jvm_steps.proofs.LineActs.{readied, done_there, steps-as, viewed, with-loaded}
 use Rattle.jvm_steps.proofs.LineSteps.{IsGoing, top-frame}
-use Rattle.jvm_steps.proofs.Tied.{instruction_by, IsTied, Tie, tied-at}
+use Rattle.jvm_steps.proofs.Tied.{Tie, tied-there}
+use Rattle.jvm_steps.specs.Versions.{Setup, text_of, line_at, instruction_by}
 
 -- ---- what the linker asks for
 
@@ -84,77 +86,73 @@ module _ (p : Program) (fit : IsFit p) (loaded : List ℕ) where
     by (StoreElement k) can = tt
     by (LdcString units) can = tt
 
-  tie-named : (method place : ℕ) (lo : Option Line) (io : Option Instruction) → HasClass p loaded method → (original p).at method place ≡ io → Tie lo io
+  tie-named : (lo : Option Line) (io : Option Instruction) → ((i : Instruction) → io ≡ Some i → CanAttempt p loaded i.operation) → Tie lo io
       → IfNamed lo (λ n next. HasLoadedCaller (linker_of p loaded) n)
-  tie-named method place None io has at tie = tt
-  tie-named method place (Some line) None has at tie = absurd tie
-  tie-named method place (Some line) (Some i) has at tie =
-      named-by line tie.op tie.tied
-      (ap_can tie.op (can-attempt p fit loaded method place i has at) (ap (λ (x : Instruction). x.operation) tie.is))
-    where
-      ap_can : (op : Operation) → CanAttempt p loaded i.operation → i.operation ≡ op → CanAttempt p loaded op
-      ap_can op can same = subst (CanAttempt p loaded) same can
+  tie-named None io can tie = tt
+  tie-named (Some line) None can tie = absurd tie
+  tie-named (Some line) (Some i) can tie =
+      named-by line tie.op tie.tied (subst (CanAttempt p loaded) (ap (λ (x : Instruction). x.operation) tie.is) (can i refl))
 
-  -- the caller of an invokespecial that stands there
-  caller-by : (ms : List Marker) (here : Here) (fs : List PlacedFrame) → here_of fs ≡ Some here → marker_on (length fs) ms ≡ None
-      → AllByRecursion (IsSoundEntry p loaded) (stack_of (map active fs) ms)
-      → IfNamed (line_at p here.version here.place) (λ n next. HasLoadedCaller (linker_of p loaded) n)
-  caller-by ms here [] is none each = absurd (none-some here is)
-  caller-by ms here (f ∷ fs) is none each =
-      let same : record { version = f.version; method = f.method; place = f.place } ≡ here = same_Some _ here is in
-      let top : IsSoundEntry p loaded (active f) = (subst (AllByRecursion (IsSoundEntry p loaded)) (top-frame ms f fs none) each).0 in
-      subst (λ (h : Here). IfNamed (line_at p h.version h.place) (λ n next. HasLoadedCaller (linker_of p loaded) n)) same
-      (tie-named f.version f.place (line_at p f.version f.place) ((original p).at f.version f.place)
-      (subst (HasClass p loaded) (sym top.1) top.0) refl (tied-at p f.version f.place))
+-- the caller of an invokespecial that stands there
+caller-by : (w : Setup) (run : CanRun w) (loaded : List ℕ) (ms : List Marker) (here : Here) (fs : List PlacedFrame) → here_of fs ≡ Some here → marker_on (length fs) ms ≡ None
+    → AllByRecursion (IsSoundEntryIn w loaded) (stack_of (map active fs) ms)
+    → IfNamed (line_at w.versions here.version here.place) (λ n next. HasLoadedCaller (linker_of w.world.program loaded) n)
+caller-by w run loaded ms here [] is none each = absurd (none-some here is)
+caller-by w run loaded ms here (f ∷ fs) is none each =
+    let same : record { version = f.version; method = f.method; place = f.place } ≡ here = same_Some _ here is in
+    let top : IsSoundEntryIn w loaded (active f) = (subst (AllByRecursion (IsSoundEntryIn w loaded)) (top-frame ms f fs none) each).0 in
+    subst (λ (h : Here). IfNamed (line_at w.versions h.version h.place) (λ n next. HasLoadedCaller (linker_of w.world.program loaded) n)) same
+    (tie-named w.world.program run.fit loaded (line_at w.versions f.version f.place) ((text_of w.versions).at f.version f.place)
+    (λ i at. run.text.attempts loaded f.version f.method f.place i top.1 top.0 at)
+    (tied-there w run f.version f.place))
 
-pub caller-linked : (p : Program) (ms : List Marker) (parts : Parts) (loaded : List ℕ) (here : Here) → IsFit p → IsSound p (state_of ms parts) → loaded ≡ parts.shared.loaded
+pub caller-linked : (w : Setup) (ms : List Marker) (parts : Parts) (loaded : List ℕ) (here : Here) → CanRun w → IsSoundIn w (state_of ms parts) → loaded ≡ parts.shared.loaded
     → here_of parts.frames.frames ≡ Some here → marker_on (length parts.frames.frames) ms ≡ None
-    → IfNamed (line_at p here.version here.place) (λ n next. HasLoadedCaller (linker_of p loaded) n)
-caller-linked p ms parts loaded here fit is linked at none =
-    subst (λ l. IfNamed (line_at p here.version here.place) (λ n next. HasLoadedCaller (linker_of p l) n)) (sym linked)
-    (caller-by p fit parts.shared.loaded ms here parts.frames.frames at none is.stack)
+    → IfNamed (line_at w.versions here.version here.place) (λ n next. HasLoadedCaller (linker_of w.world.program loaded) n)
+caller-linked w ms parts loaded here run is linked at none =
+    subst (λ l. IfNamed (line_at w.versions here.version here.place) (λ n next. HasLoadedCaller (linker_of w.world.program l) n)) (sym linked)
+    (caller-by w run parts.shared.loaded ms here parts.frames.frames at none is.stack)
 
 -- ---- an attempt leaves a sound state
 
-module _ (w : World) (fit : IsFit w.program) where
-  acts-sound : (s : State) (f : Frame) (line : Line) (op : Operation) → IsSound w.program s → IsSoundEntry w.program s.shared.loaded (Active f) → IsTied line op
-      → (original w.program).at f.version f.place ≡ Some (instruction_by op line) → IsSound w.program (acts w line s f)
+module _ (w : Setup) (run : CanRun w) where
+  acts-sound : (s : State) (f : Frame) (line : Line) (op : Operation) → IsSoundIn w s → IsSoundEntryIn w s.shared.loaded (Active f) → IsTied line op
+      → (text_of w.versions).at f.version f.place ≡ Some (instruction_by op line) → IsSoundIn w (acts w line s f)
   acts-sound s f line op is entry tied at =
-      let classes : List ℕ = loads w op s.shared f.operands in
+      let classes : List ℕ = loads w.world op s.shared f.operands in
       let ready : State = readied w line op s f in
-      let ready_sound : IsSound w.program ready = sound-loaded w op f.operands s is in
-      let there : IsSoundEntry w.program ready.shared.loaded (Active f) =
-      subst (λ loaded. IsSoundEntry w.program loaded (Active f)) (sym (ap (λ (x : State). x.shared.loaded) (with-loaded classes s)))
-      (entry-grows w.program s.shared.loaded (s.shared.loaded ++ classes) (λ class h. among-front class s.shared.loaded classes h) (Active f) entry) in
-      let can : CanAttempt w.program ready.shared.loaded op =
-      can-attempt w.program fit ready.shared.loaded f.version f.place (instruction_by op line)
-      (subst (HasClass w.program ready.shared.loaded) (sym there.1) there.0) at in
+      let ready_sound : IsSoundIn w ready = sound-loaded (RunsIn w.versions) w.world op f.operands s is in
+      let there : IsSoundEntryIn w ready.shared.loaded (Active f) =
+      subst (λ loaded. IsSoundEntryIn w loaded (Active f)) (sym (ap (λ (x : State). x.shared.loaded) (with-loaded classes s)))
+      (entry-grows (RunsIn w.versions) w.world.program s.shared.loaded (s.shared.loaded ++ classes) (λ class h. among-front class s.shared.loaded classes h) (Active f) entry) in
+      let can : CanAttempt w.world.program ready.shared.loaded op =
+      run.text.attempts ready.shared.loaded f.version f.method f.place (instruction_by op line) there.1 there.0 at in
       let d : Done = done_there w line op s f in
-      let does_so = sound-does w fit ready.shared ready_sound.shared op f.locals f.operands can (loads-again w op s f.operands) in
-      let done_sound : IsSound w.program (with_done d ready) = record {
+      let does_so = sound-does w.world run.fit ready.shared ready_sound.shared op f.locals f.operands can (loads-again w.world op s f.operands) in
+      let done_sound : IsSoundIn w (with_done d ready) = record {
         shared = does_so.shared;
-        stack = subst (λ loaded. AllByRecursion (IsSoundEntry w.program loaded) ready.stack) (sym does_so.loaded_same) ready_sound.stack;
-        main = λ on. subst (λ loaded. IsLoaded loaded (main_class w.program)) (sym does_so.loaded_same) (ready_sound.main on);
+        stack = subst (λ loaded. AllByRecursion (IsSoundEntryIn w loaded) ready.stack) (sym does_so.loaded_same) ready_sound.stack;
+        main = λ on. subst (λ loaded. IsLoaded loaded (main_class w.world.program)) (sym does_so.loaded_same) (ready_sound.main on);
       } in
-      subst (IsSound w.program) (steps-as w line op s f tied).applied
-      (sound-applied w fit (instruction_by op line) d.outcome (with_done d ready) f done_sound
-      (subst (λ loaded. IsSoundEntry w.program loaded (Active f)) (sym does_so.loaded_same) there)
-      (subst (λ loaded. IsSoundOutcome w.program loaded d.outcome) (sym does_so.loaded_same) does_so.outcome))
+      subst (IsSoundIn w) (steps-as w line op s f tied).applied
+      (sound-applied (RunsIn w.versions) w.world run.fit (text_of w.versions) run.text (instruction_by op line) d.outcome (with_done d ready) f done_sound
+      (subst (λ loaded. IsSoundEntryIn w loaded (Active f)) (sym does_so.loaded_same) there)
+      (subst (λ loaded. IsSoundOutcome w.world.program loaded d.outcome) (sym does_so.loaded_same) does_so.outcome))
 
-  line-sound : (s : State) (f : Frame) (lo : Option Line) (io : Option Instruction) → IsSound w.program s → IsSoundEntry w.program s.shared.loaded (Active f)
-      → (original w.program).at f.version f.place ≡ io → Tie lo io → IsSound w.program (attempts_line w s f lo)
+  line-sound : (s : State) (f : Frame) (lo : Option Line) (io : Option Instruction) → IsSoundIn w s → IsSoundEntryIn w s.shared.loaded (Active f)
+      → (text_of w.versions).at f.version f.place ≡ io → Tie lo io → IsSoundIn w (attempts_line w s f lo)
   line-sound s f None io is entry at tie =
-      sound-applied w fit (record { operation = Athrow; own = 0; next = None; targets = [] }) (Breaks false) s f is entry tt
+      sound-applied (RunsIn w.versions) w.world run.fit (text_of w.versions) run.text (record { operation = Athrow; own = 0; next = None; targets = [] }) (Breaks false) s f is entry tt
   line-sound s f (Some line) None is entry at tie = absurd tie
   line-sound s f (Some line) (Some i) is entry at tie =
       acts-sound s f line tie.op is entry tie.tied (at ∙ ap Some tie.is)
 
   -- of the frame that stands on top
-  pub attempted-sound : (s : State) → IsGoing s → IsSound w.program s → IsSound w.program (attempts_on w s s.stack)
+  pub attempted-sound : (s : State) → IsGoing s → IsSoundIn w s → IsSoundIn w (attempts_on w s s.stack)
   attempted-sound s going is =
       let f : Frame = going.frame in
-      let each = subst (AllByRecursion (IsSoundEntry w.program s.shared.loaded)) going.stack is.stack in
+      let each = subst (AllByRecursion (IsSoundEntryIn w s.shared.loaded)) going.stack is.stack in
       let under : State = record s { stack = going.rest } in
-      subst (IsSound w.program) (sym (ap (attempts_on w s) going.stack))
-      (line-sound under f (line_at w.program f.version f.place) ((original w.program).at f.version f.place)
-      (record { shared = is.shared; stack = each.1; main = is.main }) each.0 refl (tied-at w.program f.version f.place))
+      subst (IsSoundIn w) (sym (ap (attempts_on w s) going.stack))
+      (line-sound under f (line_at w.versions f.version f.place) ((text_of w.versions).at f.version f.place)
+      (record { shared = is.shared; stack = each.1; main = is.main }) each.0 refl (tied-there w run f.version f.place))

@@ -8,12 +8,11 @@ use Rattle.heap_objects.specs.Heaps.{HeapView}
 use Rattle.jvm_model.specs.declared.state.Shared.{Shared}
 use Rattle.jvm_model.specs.declared.state.State.{State}
 use Rattle.jvm_model.specs.Applies.{still}
-use Rattle.jvm_model.specs.Data.{World, New, Outcome}
+use Rattle.jvm_model.specs.Data.{New, Outcome}
 use Rattle.jvm_model.specs.KindNumbers.{user_count}
 use Rattle.jvm_model.specs.Load.{Fault, is_among, load_of}
 use Rattle.jvm_model.specs.Moves.{settled}
 use Rattle.jvm_model.specs.Naming.{kind_unless, resolved_kind}
-use Rattle.jvm_model.specs.Originals.{original}
 use Rattle.jvm_model.specs.Run.{arguments_made, before, main_class, main_classes, main_loading, main_loads, opened, start, starts_if, starts_unless, starts_with}
 use Rattle.jvm_model.specs.SharedState.{arguments_cost, arguments_fit, shared_before, with_arguments}
 use Rattle.jvm_model.specs.Sound.{IsFit}
@@ -25,69 +24,70 @@ use Rattle.jvm_steps.specs.Initializing.{begins_class}
 use Rattle.jvm_steps.specs.Prepared.{main_name}
 use Rattle.jvm_steps.proofs.LineActs.{with-loaded}
 use Rattle.jvm_steps.proofs.LineSteps.{behind}
+use Rattle.jvm_steps.specs.Versions.{Setup, text_of}
 
 -- by the fault that stopped the loading, on an empty stack
-fault-begins : (w : World) (fault : Option Fault) (kind : Option ℕ) (s : State) → s.stack ≡ []
-    → begun_by w (main_class w.program) (kind_unless fault kind) s ≡ starts_unless w fault s
+fault-begins : (w : Setup) (fault : Option Fault) (kind : Option ℕ) (s : State) → s.stack ≡ []
+    → begun_by w.world (main_class w.world.program) (kind_unless fault kind) s ≡ starts_unless w.world fault s
 fault-begins w (Some fault) kind s empty = refl
-fault-begins w None None s empty = ap (λ es. begins_class (main_class w.program) (record s { stack = es })) empty ∙ ap (λ es. starts_unless w None (record s { stack = es })) (sym empty)
-fault-begins w None (Some kind) s empty = ap (λ es. begins_class (main_class w.program) (record s { stack = es })) empty ∙ ap (λ es. starts_unless w None (record s { stack = es })) (sym empty)
+fault-begins w None None s empty = ap (λ es. begins_class (main_class w.world.program) (record s { stack = es })) empty ∙ ap (λ es. starts_unless w.world None (record s { stack = es })) (sym empty)
+fault-begins w None (Some kind) s empty = ap (λ es. begins_class (main_class w.world.program) (record s { stack = es })) empty ∙ ap (λ es. starts_unless w.world None (record s { stack = es })) (sym empty)
 
 -- what is shared once the arguments are made and the main class is loaded
-abbrev pub shared_opened : World → Shared → Shared
+abbrev pub shared_opened : Setup → Shared → Shared
 shared_opened w s = record s {
-  heap = with_arguments w.program s.heap;
-  loaded = (load_of w.program s.loaded (main_name w.program)).loaded;
+  heap = with_arguments w.world.program s.heap;
+  loaded = (load_of w.world.program s.loaded (main_name w.world.program)).loaded;
 }
 
-opens : (w : World) → record (before w) { shared = shared_opened w (before w).shared } ≡ opened w
+opens : (w : Setup) → record (before w.world) { shared = shared_opened w (before w.world).shared } ≡ opened w.world
 opens w =
-    ap (λ loaded. record (before w) { shared = record (before w).shared { heap = with_arguments w.program (before w).shared.heap; loaded = loaded } })
-    (sym (newly-loaded w.program (before w).shared.loaded (New (main_name w.program)) [] refl))
-    ∙ sym (with-loaded (main_classes w) (arguments_made w (before w)))
+    ap (λ loaded. record (before w.world) { shared = record (before w.world).shared { heap = with_arguments w.world.program (before w.world).shared.heap; loaded = loaded } })
+    (sym (newly-loaded w.world.program (before w.world).shared.loaded (New (main_name w.world.program)) [] refl))
+    ∙ sym (with-loaded (main_classes w.world) (arguments_made w.world (before w.world)))
 
-pub begins-main : (w : World) (old after : State) (found : Result ℕ Outcome) → old ≡ before w
-    → found ≡ resolved_kind w.program old.shared.loaded (main_name w.program)
-    → after ≡ begun_by w (main_class w.program) found (record old { shared = shared_opened w old.shared }) → after ≡ starts_if w true
+pub begins-main : (w : Setup) (old after : State) (found : Result ℕ Outcome) → old ≡ before w.world
+    → found ≡ resolved_kind w.world.program old.shared.loaded (main_name w.world.program)
+    → after ≡ begun_by w.world (main_class w.world.program) found (record old { shared = shared_opened w old.shared }) → after ≡ starts_if w.world true
 begins-main w old after found is told begins =
     begins
-    ∙ (ap (λ x. begun_by w (main_class w.program) x (record old { shared = shared_opened w old.shared })) told
-    ∙ (ap (λ (s : State). begun_by w (main_class w.program) (resolved_kind w.program s.shared.loaded (main_name w.program)) (record s { shared = shared_opened w s.shared })) is
-    ∙ (fault-begins w (main_loading w).fault _ (record (before w) { shared = shared_opened w (before w).shared }) refl
-    ∙ ap (starts_unless w (main_loading w).fault) (opens w))))
+    ∙ (ap (λ x. begun_by w.world (main_class w.world.program) x (record old { shared = shared_opened w old.shared })) told
+    ∙ (ap (λ (s : State). begun_by w.world (main_class w.world.program) (resolved_kind w.world.program s.shared.loaded (main_name w.world.program)) (record s { shared = shared_opened w s.shared })) is
+    ∙ (fault-begins w (main_loading w.world).fault _ (record (before w.world) { shared = shared_opened w (before w.world).shared }) refl
+    ∙ ap (starts_unless w.world (main_loading w.world).fault) (opens w))))
 
 -- by what the code has found, in the world that stays
-pub begins-all : {A : Type 0} (result : Result A NoMemory) (w v : World) (class : ℕ) (old after : State) (found : Result ℕ Outcome) (heap : HeapView) (linked loaded : List ℕ)
-    → v ≡ w → class ≡ main_class v.program → linked ≡ old.shared.loaded → heap ≡ with_arguments w.program old.shared.heap
-    → loaded ≡ (load_of w.program linked (main_name w.program)).loaded → old ≡ before w → found ≡ resolved_kind w.program linked (main_name w.program)
-    → OnOk result (after ≡ begun_by v class found (record old { shared = record old.shared { heap = heap; loaded = loaded } }))
-    → OnOk result (after ≡ starts_if w true)
+pub begins-all : {A : Type 0} (result : Result A NoMemory) (w v : Setup) (class : ℕ) (old after : State) (found : Result ℕ Outcome) (heap : HeapView) (linked loaded : List ℕ)
+    → v ≡ w → class ≡ main_class v.world.program → linked ≡ old.shared.loaded → heap ≡ with_arguments w.world.program old.shared.heap
+    → loaded ≡ (load_of w.world.program linked (main_name w.world.program)).loaded → old ≡ before w.world → found ≡ resolved_kind w.world.program linked (main_name w.world.program)
+    → OnOk result (after ≡ begun_by v.world class found (record old { shared = record old.shared { heap = heap; loaded = loaded } }))
+    → OnOk result (after ≡ starts_if w.world true)
 begins-all result w v class old after found heap linked loaded same main has arguments loads is told made =
     on_ok_weaker result
-    (λ e. begins-main w old after found is (told ∙ ap (λ l. resolved_kind w.program l (main_name w.program)) has)
-    (e ∙ (ap (λ u. begun_by u class found given) same
-    ∙ (ap (λ k. begun_by w k found given) (main ∙ ap (λ (u : World). main_class u.program) same)
-    ∙ ap (begun_by w (main_class w.program) found)
+    (λ e. begins-main w old after found is (told ∙ ap (λ l. resolved_kind w.world.program l (main_name w.world.program)) has)
+    (e ∙ (ap (λ u. begun_by u.world class found given) same
+    ∙ (ap (λ k. begun_by w.world k found given) (main ∙ ap (λ (u : Setup). main_class u.world.program) same)
+    ∙ ap (begun_by w.world (main_class w.world.program) found)
     (ap (λ h. record old { shared = record old.shared { heap = h; loaded = loaded } }) arguments
-    ∙ ap (λ l. record old { shared = record old.shared { heap = with_arguments w.program old.shared.heap; loaded = l } })
-    (loads ∙ ap (λ l. (load_of w.program l (main_name w.program)).loaded) has))))))
+    ∙ ap (λ l. record old { shared = record old.shared { heap = with_arguments w.world.program old.shared.heap; loaded = l } })
+    (loads ∙ ap (λ l. (load_of w.world.program l (main_name w.world.program)).loaded) has))))))
     made
   where
     given : State
     given = record old { shared = record old.shared { heap = heap; loaded = loaded } }
 
 -- before the start there is room for arguments that fit, in the program's heap
-pub fits-room : (w : World) (s : State) → s ≡ before w → arguments_fit w.program ≡ true → s.shared.heap.used + arguments_cost w.program.args ≤ s.shared.heap.limit
+pub fits-room : (w : Setup) (s : State) → s ≡ before w.world → arguments_fit w.world.program ≡ true → s.shared.heap.used + arguments_cost w.world.program.args ≤ s.shared.heap.limit
 fits-room w s is fits =
-    subst (λ (x : State). x.shared.heap.used + arguments_cost w.program.args ≤ x.shared.heap.limit) (sym is)
-    (leb-true ((before w).shared.heap.used + arguments_cost w.program.args) w.program.heap fits)
+    subst (λ (x : State). x.shared.heap.used + arguments_cost w.world.program.args ≤ x.shared.heap.limit) (sym is)
+    (leb-true ((before w.world).shared.heap.used + arguments_cost w.world.program.args) w.world.program.heap fits)
 
 -- java/lang/Object is loaded before
-pub root-before : (w : World) (s : State) (loaded : List ℕ) → IsFit w.program → s ≡ before w → loaded ≡ s.shared.loaded → is_among (user_count w.program) loaded ≡ true
+pub root-before : (w : Setup) (s : State) (loaded : List ℕ) → IsFit w.world.program → s ≡ before w.world → loaded ≡ s.shared.loaded → is_among (user_count w.world.program) loaded ≡ true
 root-before w s loaded fit is linked =
-    ap (is_among (user_count w.program)) (linked ∙ ap (λ (x : State). x.shared.loaded) is)
-    ∙ has-root w.program fit (shared_before w.program).loaded fit.before
+    ap (is_among (user_count w.world.program)) (linked ∙ ap (λ (x : State). x.shared.loaded) is)
+    ∙ has-root w.world.program fit (shared_before w.world.program).loaded fit.before
 
-pub start-is : (w v : World) (mid after : State) → v ≡ w → mid ≡ starts_with w → after ≡ behind v mid → after ≡ (start w (original w.program)).after
+pub start-is : (w v : Setup) (mid after : State) → v ≡ w → mid ≡ starts_with w.world → after ≡ behind v mid → after ≡ (start w.world (text_of w.versions)).after
 start-is w v mid after same begins settles =
-    settles ∙ (ap (λ u. behind u mid) same ∙ (ap (behind w) begins ∙ sym (loaded-after (main_loads w) (settled w (original w.program) (still (starts_with w))))))
+    settles ∙ (ap (λ u. behind u mid) same ∙ (ap (behind w) begins ∙ sym (loaded-after (main_loads w.world) (settled w.world (text_of w.versions) (still (starts_with w.world))))))

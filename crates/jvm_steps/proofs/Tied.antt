@@ -1,9 +1,9 @@
 -- What stands at an offset of the prepared code is what the text of original code has there.
-use Rattle.std.proofs.Common.{◌≡◌, ℕ, Bool, true, false, cond, List, [], ◌∷◌, Option, Some, None, refl, sym, ap, subst, ◌∙◌}
+use Rattle.std.proofs.Common.{◌≡◌, ℕ, Bool, true, false, cond, List, [], ◌∷◌, Option, Some, None, refl, sym, ap, subst, ◌∙◌, arith}
 use Rattle.std.proofs.lemmas.Bool.{false≢true}
-use Rattle.std.specs.Prelude.{slice_get, ◌==◌, ◌&&◌}
+use Rattle.std.specs.Prelude.{slice_get, unwrap_or, ◌==◌, ◌&&◌}
 use Rattle.std.specs.Int.{is_in_range}
-use Rattle.std.specs.Option.{option_and_then, option_map}
+use Rattle.std.specs.Option.{IfSome, option_and_then, option_map}
 use Rattle.std.proofs.lemmas.Option.{same_Some, none-some}
 use Rattle.heap_objects.specs.declared.datum.Datum.{Datum}
 use Rattle.heap_objects.specs.declared.datum.Datum.TheVariants as datum
@@ -18,7 +18,7 @@ use Rattle.code_model.specs.Instructions.{instruction_at, end_of}
 use Rattle.jvm_model.specs.declared.family.Family.{Family}
 use Rattle.jvm_model.specs.declared.family.Family.TheVariants as family
 use Rattle.jvm_model.specs.declared.program.Program.{Program}
-use Rattle.jvm_model.specs.Data.{Locals, Operands, Local, Nop, Constant, Load, Store, Arrange, BinaryOfInts, BinaryOfLongs, DivisionOfInts, DivisionOfLongs, ShiftOfLong, UnaryOfInt, UnaryOfLong, Lcmp, Iinc, Branch, Goto, Switch, Jsr, Ret, Return, Naming, LdcClass, Operation, Within, Named, Athrow, Monitor, Newarray, Arraylength, LoadElement, StoreElement, LdcString, Instruction}
+use Rattle.jvm_model.specs.Data.{Locals, Operands, Local, Nop, Constant, Load, Store, Arrange, BinaryOfInts, BinaryOfLongs, DivisionOfInts, DivisionOfLongs, ShiftOfLong, UnaryOfInt, UnaryOfLong, Lcmp, Iinc, Branch, Goto, Switch, Jsr, Ret, Return, Naming, New, Getfield, Putfield, Getstatic, Putstatic, Invokevirtual, Invokespecial, Invokestatic, Invokeinterface, Checkcast, Instanceof, Anewarray, Multianewarray, LdcClass, Operation, Within, Named, Athrow, Monitor, Newarray, Arraylength, LoadElement, StoreElement, LdcString, Instruction}
 use Rattle.jvm_model.specs.Families.{family_of}
 use Rattle.jvm_model.specs.Lines.{value_in, slot_in, increment_in, target_in, keys_in, local_of, constant_in, given_operation, has_dimensions, interface_naming, multi_naming, named_by, naming_of, ObjectRow, object_among, object_constant, object_constant_in, object_rows, other_operation, operation_by, is_last, next_of, targets_of, instruction_of}
 use Rattle.jvm_model.specs.LocalRules.{within}
@@ -28,24 +28,13 @@ use Rattle.jvm_model.specs.Programs.{class_at, place_of_method}
 use Rattle.jvm_model.specs.Values.{as_value}
 use Rattle.jvm_basic.specs.Rules.{datum_in, placed, going, needs, rule_by, rule_of}
 use Rattle.jvm_steps.specs.declared.line.Line.{Line}
-use Rattle.jvm_steps.specs.Acts.{is_athrow, is_last_family, next_in}
-use Rattle.jvm_steps.specs.Lines.{local_action, action_of, line_with, line_of, line_at}
+use Rattle.jvm_steps.specs.Ready.{CanRun, HasLocal, IsOwnLine, IsRuleOf, IsTied}
+use Rattle.jvm_steps.specs.Versions.{Setup, instruction_by, instruction_in, is_athrow, is_last_family, next_in, operation_as, operation_in, text_of}
+use Rattle.jvm_steps.specs.Versions as versions
+use Rattle.jvm_named.specs.Names.{naming_view}
+use Rattle.jvm_steps.specs.Lines.{local_action, action_of, line_with, line_of, line_at, named_as}
 
 -- ---- a line and what it does
-
--- the instruction with this operation
-abbrev pub instruction_by : Operation → Line → Instruction
-instruction_by op line = record { operation = op; own = line.instr.at; next = next_of op line.next; targets = targets_of line.instr.arg }
-
--- the rule of jvm_basic is that of the model with the line's places put in
-abbrev pub IsRuleOf : Line → Local → Type 0
-IsRuleOf line l =
-    (m : Locals) (o : Operands) → rule_of line.instr line.constant line.next m o ≡ placed line.next (targets_of line.instr.arg) m o (within l m o)
-
-pub record IsTied (line : Line) (op : Operation) : Type 0 where
-  pub action : action_of op ≡ line.action
-  pub next : next_of op line.next ≡ next_in line
-  pub alone : (l : Local) → op ≡ Within l → IsRuleOf line l
 
 -- with its operation
 pub record Stands (line : Line) (i : Instruction) : Type 0 where
@@ -160,6 +149,10 @@ module _ (c : ClassFile) (i : Instr) where
       ∙ (rule-by-is f apart i.arg constant (end_of i) m o
       ∙ ap (λ x. needs x (λ k. going (within k) (end_of i) (targets_of i.arg)) m o) e))
 
+  local-same : (f : Family) → family_of i.op ≡ f → (l : Local) → local_of f i.arg constant ≡ Some l → HasLocal (line_with c i (local_action l)) l
+  local-same f is l e =
+      ap (λ x. local_of x i.arg (option_and_then datum_in (option_map as_value constant))) is ∙ (ap (local_of f i.arg) (datum-back constant) ∙ e)
+
   within-is : (l k : Local) (P : Local → Type 0) → P l → Within l ≡ Within k → P k
   within-is l k P h e = subst P (ap local e) h where
     local : Operation → Local
@@ -176,6 +169,7 @@ module _ (c : ClassFile) (i : Instr) where
       action = refl;
       next = next-same f is l e;
       alone = λ k same. within-is l k (IsRuleOf (line_with c i (local_action l))) (rule-same f apart is l e) same;
+      within = λ k same. within-is l k (HasLocal (line_with c i (local_action l))) (local-same f is l e) same;
     };
   }
 
@@ -196,17 +190,17 @@ module _ (c : ClassFile) (i : Instr) where
   tied-naming is None = tt
   tied-naming is (Some n) =
       either (has_dimensions n) (Some (Named n)) None
-      (record { op = Named n; is = refl; tied = record { action = refl; next = behind is; alone = λ k same. absurd cc } }) tt
+      (record { op = Named n; is = refl; tied = record { action = refl; next = behind is; alone = λ k same. absurd cc; within = λ k same. absurd cc } }) tt
 
   -- ---- instructions that see objects
 
   tied-object : family_of i.op ≡ family.Elsewhere → (op : Operation) → is_object op ≡ true → TiedOperation (Some op)
-  tied-object is Athrow object = record { op = Athrow; is = refl; tied = record { action = refl; next = refl; alone = λ k same. absurd cc } }
-  tied-object is Monitor object = record { op = Monitor; is = refl; tied = record { action = refl; next = behind is; alone = λ k same. absurd cc } }
-  tied-object is (Newarray code) object = record { op = Newarray code; is = refl; tied = record { action = refl; next = behind is; alone = λ k same. absurd cc } }
-  tied-object is Arraylength object = record { op = Arraylength; is = refl; tied = record { action = refl; next = behind is; alone = λ k same. absurd cc } }
-  tied-object is (LoadElement k) object = record { op = LoadElement k; is = refl; tied = record { action = refl; next = behind is; alone = λ k same. absurd cc } }
-  tied-object is (StoreElement k) object = record { op = StoreElement k; is = refl; tied = record { action = refl; next = behind is; alone = λ k same. absurd cc } }
+  tied-object is Athrow object = record { op = Athrow; is = refl; tied = record { action = refl; next = refl; alone = λ k same. absurd cc; within = λ k same. absurd cc } }
+  tied-object is Monitor object = record { op = Monitor; is = refl; tied = record { action = refl; next = behind is; alone = λ k same. absurd cc; within = λ k same. absurd cc } }
+  tied-object is (Newarray code) object = record { op = Newarray code; is = refl; tied = record { action = refl; next = behind is; alone = λ k same. absurd cc; within = λ k same. absurd cc } }
+  tied-object is Arraylength object = record { op = Arraylength; is = refl; tied = record { action = refl; next = behind is; alone = λ k same. absurd cc; within = λ k same. absurd cc } }
+  tied-object is (LoadElement k) object = record { op = LoadElement k; is = refl; tied = record { action = refl; next = behind is; alone = λ k same. absurd cc; within = λ k same. absurd cc } }
+  tied-object is (StoreElement k) object = record { op = StoreElement k; is = refl; tied = record { action = refl; next = behind is; alone = λ k same. absurd cc; within = λ k same. absurd cc } }
   tied-object is (Within l) object = absurd (false≢true object)
   tied-object is (Named n) object = absurd (false≢true object)
   tied-object is (LdcString units) object = absurd (false≢true object)
@@ -232,11 +226,11 @@ module _ (c : ClassFile) (i : Instr) where
 
   tied-string : family_of i.op ≡ family.Given → (text : Option (List ℕ)) → TiedOperation (option_map LdcString text)
   tied-string is None = tt
-  tied-string is (Some units) = record { op = LdcString units; is = refl; tied = record { action = refl; next = behind-ldc is; alone = λ k same. absurd cc } }
+  tied-string is (Some units) = record { op = LdcString units; is = refl; tied = record { action = refl; next = behind-ldc is; alone = λ k same. absurd cc; within = λ k same. absurd cc } }
 
   tied-class : family_of i.op ≡ family.Given → (text : Option (List ℕ)) → TiedOperation (option_map (λ name. Named (LdcClass name)) text)
   tied-class is None = tt
-  tied-class is (Some name) = record { op = Named (LdcClass name); is = refl; tied = record { action = refl; next = behind-ldc is; alone = λ k same. absurd cc } }
+  tied-class is (Some name) = record { op = Named (LdcClass name); is = refl; tied = record { action = refl; next = behind-ldc is; alone = λ k same. absurd cc; within = λ k same. absurd cc } }
 
   tied-entry : family_of i.op ≡ family.Given → (entry : Const) → TiedOperation (object_constant c.pool entry)
   tied-entry is (const.Text index) = tied-string is (named_text c.pool index)
@@ -262,7 +256,7 @@ module _ (c : ClassFile) (i : Instr) where
   tied-by family.Given is = tied-given is (local_of family.Given i.arg constant) refl
   tied-by f is = tied-local f (λ e. absurd cc) is (local_of f i.arg constant) refl
 
-  tied-instruction : Tie (line_of c i) (instruction_of c i)
+  pub tied-instruction : Tie (line_of c i) (instruction_of c i)
   tied-instruction = tied-by (family_of i.op) refl
 
 -- ---- at an offset
@@ -278,3 +272,71 @@ tied-at p method at =
     (λ c. lifted (method_code c place.position) _ _
     (λ code. lifted (instruction_at code.code at) _ _
     (λ i. tied-instruction c i))))
+
+-- ---- the operation that a line shows
+
+-- the names that a line keeps are those of its instruction
+pub viewed : (n : Naming) → naming_view (named_as n) ≡ n
+viewed (New name) = refl
+viewed (Getfield r) = refl
+viewed (Putfield r) = refl
+viewed (Getstatic r) = refl
+viewed (Putstatic r) = refl
+viewed (Invokevirtual r) = refl
+viewed (Invokespecial caller r interface) = refl
+viewed (Invokestatic r) = refl
+viewed (Invokeinterface r) = refl
+viewed (Checkcast name) = refl
+viewed (Instanceof name) = refl
+viewed (Anewarray name) = refl
+viewed (Multianewarray name dimensions) = refl
+viewed (LdcClass name) = refl
+
+local-shown : (line : Line) (l : Local) → HasLocal line l → operation_as line (local_action l) ≡ Within l
+local-shown line (Return k) e = refl
+local-shown line l e = ap (λ o. Within (unwrap_or o Nop)) e
+
+shown-by : (line : Line) (op : Operation) → ((l : Local) → op ≡ Within l → HasLocal line l) → operation_as line (action_of op) ≡ op
+shown-by line (Within l) within = local-shown line l (within l refl)
+shown-by line (Named n) within = ap Named (viewed n)
+shown-by line Athrow within = refl
+shown-by line Monitor within = refl
+shown-by line (Newarray code) within = ap Newarray (omega arith)
+shown-by line Arraylength within = refl
+shown-by line (LoadElement k) within = refl
+shown-by line (StoreElement k) within = refl
+shown-by line (LdcString units) within = refl
+
+pub operation-is : (line : Line) (op : Operation) → IsTied line op → operation_in line ≡ op
+operation-is line op tied = ap (operation_as line) (sym tied.action) ∙ shown-by line op tied.within
+
+pub tied-own : (line : Line) (op : Operation) → IsTied line op → IsOwnLine line
+tied-own line op tied = subst (IsTied line) (sym (operation-is line op tied)) tied
+
+pub own-tie : (lo : Option Line) (io : Option Instruction) → Tie lo io → IfSome lo IsOwnLine
+own-tie None io tie = tt
+own-tie (Some line) None tie = absurd tie
+own-tie (Some line) (Some i) tie = tied-own line tie.op tie.tied
+
+-- a line shows its instruction
+pub shown : (lo : Option Line) (io : Option Instruction) → Tie lo io → option_map instruction_in lo ≡ io
+shown None None tie = refl
+shown None (Some i) tie = absurd tie
+shown (Some line) None tie = absurd tie
+shown (Some line) (Some i) tie =
+    ap (λ (op : Operation). Some (record { operation = op; own = line.instr.at; next = next_in line; targets = targets_of line.instr.arg })) (operation-is line tie.op tie.tied)
+    ∙ (ap (λ (next : Option ℕ). Some (record { operation = tie.op; own = line.instr.at; next = next; targets = targets_of line.instr.arg })) (sym tie.tied.next)
+    ∙ ap Some (sym tie.is))
+
+-- ---- at a place of a version
+
+stands-by : (lo : Option Line) → IfSome lo IsOwnLine → Tie lo (option_map instruction_in lo)
+stands-by None h = tt
+stands-by (Some line) h = record {
+  op = operation_in line;
+  is = ap (λ (next : Option ℕ). record { operation = operation_in line; own = line.instr.at; next = next; targets = targets_of line.instr.arg }) (sym h.next);
+  tied = h;
+}
+
+pub tied-there : (w : Setup) → CanRun w → (version place : ℕ) → Tie (versions.line_at w.versions version place) ((text_of w.versions).at version place)
+tied-there w run version place = stands-by (versions.line_at w.versions version place) (run.lines version place)

@@ -7,14 +7,13 @@ use Rattle.heap_objects.specs.declared.datum.Datum.{Datum}
 use Rattle.const_pool.specs.declared.descriptor.Kind.{Kind}
 use Rattle.frame_stack.specs.FrameLists.{PlacedFrame, has_frame}
 use Rattle.jvm_model.specs.declared.family.Family.{Family}
-use Rattle.jvm_model.specs.declared.family.Family.TheVariants as family
 use Rattle.jvm_model.specs.declared.ending.Ending.TheVariants.{Unverifiable}
 use Rattle.jvm_model.specs.declared.program.Program.{Program}
 use Rattle.jvm_model.specs.declared.state.Entry.{Entry}
 use Rattle.jvm_model.specs.declared.state.Entry.TheVariants.{Active, Initializing}
 use Rattle.jvm_model.specs.declared.state.Frame.{Frame}
 use Rattle.jvm_model.specs.declared.state.State.{State}
-use Rattle.jvm_model.specs.Data.{World, Naming, Nop, Within, Instruction, Outcome, Returns, Done}
+use Rattle.jvm_model.specs.Data.{Naming, Nop, Within, Instruction, Outcome, Returns, Done}
 use Rattle.jvm_model.specs.Applies.{breaks, goes, throws_at, applies}
 use Rattle.jvm_model.specs.ConstantRules.{pushes_string}
 use Rattle.jvm_model.specs.Families.{family_of}
@@ -23,7 +22,6 @@ use Rattle.jvm_model.specs.LocalRules.{returns, arithmetic_exception, by_zero}
 use Rattle.jvm_model.specs.Naming.{newly_loaded}
 use Rattle.jvm_model.specs.NamingRules.{does_named}
 use Rattle.jvm_model.specs.ObjectRules.{loads_element, makes, measures, place_of, stores_element, storing_of, throws, watches}
-use Rattle.jvm_model.specs.Originals.{original}
 use Rattle.jvm_model.specs.Run.{starts}
 use Rattle.jvm_model.specs.SharedState.{raised}
 use Rattle.jvm_model.specs.Values.{as_value, int_of, ref_of, with_value}
@@ -38,30 +36,13 @@ use Rattle.jvm_steps.specs.declared.line.Line.{Line}
 use Rattle.jvm_steps.specs.declared.markers.Marker.{Marker}
 use Rattle.jvm_steps.specs.declared.originals.Exception.{Exception}
 use Rattle.jvm_steps.specs.declared.parts.Parts.{Parts}
-use Rattle.jvm_steps.specs.Lines.{line_at}
 use Rattle.jvm_steps.specs.Markers.{is_unmarked, state_of, with_markers}
 use Rattle.jvm_steps.specs.Prepared.{exception_name}
 use Rattle.jvm_steps.specs.States.{frame_in, state_with, state_in}
+use Rattle.jvm_steps.specs.Versions.{Setup, is_athrow, is_last_family, next_in, text_of, line_at}
+use Rattle.jvm_steps.specs.declared.versions.Versions.{Versions}
 
--- ---- where a frame goes on behind its line
-
--- control never goes on behind these families (6.5)
-abbrev pub is_last_family : Family → Bool
-is_last_family family.Goto = true
-is_last_family family.Switch = true
-is_last_family family.Ret = true
-is_last_family (family.Return k) = true
-is_last_family _ = false
-
--- nor behind athrow
-abbrev pub is_athrow : Action → Bool
-is_athrow action.Athrow = true
-is_athrow _ = false
-
-abbrev pub next_in : Line → Option ℕ
-next_in line =
-    if is_athrow line.action then None
-    else if is_last_family (family_of line.instr.op) then None else Some line.next
+-- ---- a line in its place
 
 -- the instruction that the line stands for, where control goes on behind it
 abbrev pub placed_line : Line → Instruction
@@ -69,13 +50,13 @@ placed_line line = record { operation = Within Nop; own = line.instr.at; next = 
 
 -- ---- what sees the frame alone
 
-abbrev pub comes_to : World → Line → State → Frame → Comes → State
+abbrev pub comes_to : Setup → Line → State → Frame → Comes → State
 comes_to w line s f (GoesOn l o place) = goes s f line.instr.at l o (Some place)
-comes_to w line s f (Raises class) = throws_at s f (raised w s.shared arithmetic_exception (Some by_zero))
+comes_to w line s f (Raises class) = throws_at s f (raised w.world s.shared arithmetic_exception (Some by_zero))
 comes_to w line s f Breaks = breaks s f line.instr.at
 comes_to w line s f Leaves = breaks s f line.instr.at
 
-abbrev pub acts_alone : World → Line → State → Frame → State
+abbrev pub acts_alone : Setup → Line → State → Frame → State
 acts_alone w line s f = comes_to w line s f (rule_of line.instr line.constant line.next f.locals f.operands)
 
 -- ---- returns
@@ -85,80 +66,80 @@ abbrev pub resumes_line : State → Frame → Option Datum → Option Line → S
 resumes_line s caller d None = breaks s caller 0
 resumes_line s caller d (Some line) = goes s caller line.instr.at caller.locals (with_value (option_map as_value d) caller.operands) (next_in line)
 
-abbrev pub gives_back_line : Program → State → Option Datum → List Entry → State
-gives_back_line p s d [] = s
-gives_back_line p s d (Initializing c part ∷ below) = s
-gives_back_line p s d (Active caller ∷ below) = resumes_line (record s { stack = below }) caller d (line_at p caller.version caller.place)
+abbrev pub gives_back_line : Versions → State → Option Datum → List Entry → State
+gives_back_line v s d [] = s
+gives_back_line v s d (Initializing c part ∷ below) = s
+gives_back_line v s d (Active caller ∷ below) = resumes_line (record s { stack = below }) caller d (line_at v caller.version caller.place)
 
 -- where its operand is missing or of another kind the activation ends with the run
-abbrev pub returns_or_ends : World → Line → State → Frame → Outcome → State
-returns_or_ends w line s f (Returns d) = gives_back_line w.program s d s.stack
+abbrev pub returns_or_ends : Setup → Line → State → Frame → Outcome → State
+returns_or_ends w line s f (Returns d) = gives_back_line w.versions s d s.stack
 returns_or_ends w line s f _ = record s { ending = Some (Unverifiable f.method line.instr.at) }
 
-abbrev pub acts_return : World → Line → Option Kind → State → Frame → State
+abbrev pub acts_return : Setup → Line → Option Kind → State → Frame → State
 acts_return w line k s f = returns_or_ends w line s f (returns k f.operands)
 
 -- ---- by what the model's rule asks for
 
 -- where it changes nothing that is shared
-abbrev pub acts_asked : World → Line → State → Frame → Outcome → State
-acts_asked w line s f q = (applies w (original w.program) (placed_line line) q s f).after
+abbrev pub acts_asked : Setup → Line → State → Frame → Outcome → State
+acts_asked w line s f q = (applies w.world (text_of w.versions) (placed_line line) q s f).after
 
 -- and where it does
-abbrev pub acts_done : World → Line → State → Frame → Done → State
+abbrev pub acts_done : Setup → Line → State → Frame → Done → State
 acts_done w line s f d = acts_asked w line (record s { shared = d.shared }) f d.outcome
 
 -- ---- instructions that name something
 
 -- with the classes that it loads
-abbrev pub ready_for : World → Naming → State → Frame → State
+abbrev pub ready_for : Setup → Naming → State → Frame → State
 ready_for w n s f =
-    record s { shared = record s.shared { loaded = s.shared.loaded ++ newly_loaded w.program s.shared.loaded n f.operands } }
+    record s { shared = record s.shared { loaded = s.shared.loaded ++ newly_loaded w.world.program s.shared.loaded n f.operands } }
 
 -- what its rule says over what is loaded then
-abbrev pub named_done : World → Naming → State → Frame → Done
-named_done w n s f = does_named w n (ready_for w n s f).shared f.locals f.operands
+abbrev pub named_done : Setup → Naming → State → Frame → Done
+named_done w n s f = does_named w.world n (ready_for w n s f).shared f.locals f.operands
 
 -- what a rule leaves and writes
 abbrev pub with_done : Done → State → State
 with_done d s = record s { shared = d.shared; output = s.output ++ d.wrote }
 
-abbrev pub acts_named : World → Line → Naming → State → Frame → State
+abbrev pub acts_named : Setup → Line → Naming → State → Frame → State
 acts_named w line n s f = let d = named_done w n s f in acts_asked w line (with_done d s) f d.outcome
 
 -- ---- instructions that see objects
 
-abbrev pub acts_athrow : World → Line → State → Frame → State
-acts_athrow w line s f = acts_asked w line s f (throws w s.shared (ref_of f.operands))
+abbrev pub acts_athrow : Setup → Line → State → Frame → State
+acts_athrow w line s f = acts_asked w line s f (throws w.world s.shared (ref_of f.operands))
 
-abbrev pub acts_monitor : World → Line → State → Frame → State
+abbrev pub acts_monitor : Setup → Line → State → Frame → State
 acts_monitor w line s f = acts_asked w line s f (watches (ref_of f.operands) f.locals f.operands)
 
-abbrev pub acts_arraylength : World → Line → State → Frame → State
+abbrev pub acts_arraylength : Setup → Line → State → Frame → State
 acts_arraylength w line s f =
     acts_asked w line s f (measures (ref_of f.operands) s.shared f.locals f.operands)
 
-abbrev pub acts_newarray : World → Line → ℕ → State → Frame → State
+abbrev pub acts_newarray : Setup → Line → ℕ → State → Frame → State
 acts_newarray w line kind s f =
     acts_done w line s f (makes kind (int_of f.operands) s.shared f.locals f.operands)
 
-abbrev pub acts_load : World → Line → Kind → State → Frame → State
+abbrev pub acts_load : Setup → Line → Kind → State → Frame → State
 acts_load w line k s f =
     acts_asked w line s f (loads_element k (place_of f.operands) s.shared f.locals f.operands)
 
-abbrev pub acts_store : World → Line → Kind → State → Frame → State
+abbrev pub acts_store : Setup → Line → Kind → State → Frame → State
 acts_store w line k s f =
-    acts_done w line s f (stores_element w.program k (storing_of k f.operands) s.shared f.locals f.operands)
+    acts_done w line s f (stores_element w.world.program k (storing_of k f.operands) s.shared f.locals f.operands)
 
 -- ---- ldc of a String
 
-abbrev pub acts_string : World → Line → List ℕ → State → Frame → State
+abbrev pub acts_string : Setup → Line → List ℕ → State → Frame → State
 acts_string w line units s f =
-    acts_done w line s f (pushes_string w.program units s.shared f.locals f.operands)
+    acts_done w line s f (pushes_string w.world.program units s.shared f.locals f.operands)
 
 -- ---- every line
 
-abbrev pub acts_by : World → Line → State → Frame → Action → State
+abbrev pub acts_by : Setup → Line → State → Frame → Action → State
 acts_by w line s f action.Local = acts_alone w line s f
 acts_by w line s f (action.Return k) = acts_return w line k s f
 acts_by w line s f (action.Named n) = acts_named w line (naming_view n) s f
@@ -170,16 +151,16 @@ acts_by w line s f (action.LoadElement k) = acts_load w line k s f
 acts_by w line s f (action.StoreElement k) = acts_store w line k s f
 acts_by w line s f (action.LdcString units) = acts_string w line units s f
 
-abbrev pub acts : World → Line → State → Frame → State
+abbrev pub acts : Setup → Line → State → Frame → State
 acts w line s f = acts_by w line s f line.action
 
 -- what stands at the frame's place is attempted; where nothing does the run ends
-abbrev pub attempts_line : World → State → Frame → Option Line → State
+abbrev pub attempts_line : Setup → State → Frame → Option Line → State
 attempts_line w s f None = breaks s f 0
 attempts_line w s f (Some line) = acts w line s f
 
-abbrev pub attempts_on : World → State → List Entry → State
-attempts_on w s (Active f ∷ below) = attempts_line w (record s { stack = below }) f (line_at w.program f.version f.place)
+abbrev pub attempts_on : Setup → State → List Entry → State
+attempts_on w s (Active f ∷ below) = attempts_line w (record s { stack = below }) f (line_at w.versions f.version f.place)
 attempts_on w s _ = s
 
 -- ---- the parts of a machine
@@ -213,11 +194,11 @@ ended_unless method own Bad p = ended method own p
 ended_unless method own Other p = ended method own p
 
 -- an exception of the class with this name is thrown, with this message
-abbrev pub raised_in : World → List ℕ → Option (List ℕ) → Parts → Parts
-raised_in w name message p = let a = raised w p.shared name message in record p { shared = a.shared; thrown = Some a.reference }
+abbrev pub raised_in : Setup → List ℕ → Option (List ℕ) → Parts → Parts
+raised_in w name message p = let a = raised w.world p.shared name message in record p { shared = a.shared; thrown = Some a.reference }
 
 -- one that the machine makes
-abbrev pub raising : World → Exception → Option (List ℕ) → Parts → Parts
+abbrev pub raising : Setup → Exception → Option (List ℕ) → Parts → Parts
 raising w e message p = raised_in w (exception_name e) message p
 
 -- nothing follows by itself: the run has ended, or nothing is thrown, and there is a frame with no marker on it
@@ -238,20 +219,20 @@ abbrev pub named_in : Option Line → Bool
 named_in line = option_map_or (λ (l : Line). is_named l.action) line false
 
 -- by a line with this action (5.5)
-abbrev pub awaited : World → State → Frame → Action → Option ℕ
+abbrev pub awaited : Setup → State → Frame → Action → Option ℕ
 awaited w s f (action.Named n) = starts (named_done w (naming_view n) s f).outcome
 awaited w s f _ = None
 
-abbrev pub awaited_by : World → State → Frame → Option Line → Option ℕ
+abbrev pub awaited_by : Setup → State → Frame → Option Line → Option ℕ
 awaited_by w s f None = None
 awaited_by w s f (Some line) = awaited w s f line.action
 
 -- by the line of the current frame
-abbrev pub awaited_on : World → State → List Entry → Option ℕ
-awaited_on w s (Active f ∷ below) = awaited_by w (record s { stack = below }) f (line_at w.program f.version f.place)
+abbrev pub awaited_on : Setup → State → List Entry → Option ℕ
+awaited_on w s (Active f ∷ below) = awaited_by w (record s { stack = below }) f (line_at w.versions f.version f.place)
 awaited_on w s _ = None
 
-abbrev pub awaited_in : World → State → Option ℕ
+abbrev pub awaited_in : Setup → State → Option ℕ
 awaited_in w s = awaited_on w s s.stack
 
 -- a return that no caller sees: the activation of a static initializer ends

@@ -3,33 +3,46 @@ use Rattle.std.specs.Prelude.{ℕ, ◌+◌, Bool, true, false, List, ◌∷◌, 
 use Rattle.heap_objects.specs.declared.Value.{Value}
 use Rattle.const_pool.specs.declared.descriptor.Kind.{Kind}
 use Rattle.const_pool.specs.declared.descriptor.Kind.TheVariants as kind
-use Rattle.frame_stack.specs.FrameLists.{PlacedFrame, top_operands, arguments, without_arguments, can_enter, new_frame}
+use Rattle.frame_stack.specs.FrameLists.{FramesView, PlacedFrame, top_operands, arguments, without_arguments, can_enter, new_frame}
 use Rattle.frame_stack.specs.Widths.{height_of}
-use Rattle.jvm_model.specs.Data.{Operands, World}
+use Rattle.jvm_model.specs.Data.{Operands}
 use Rattle.jvm_model.specs.Programs.{max_stack_of, max_locals_of, params_of_method}
 use Rattle.jvm_model.specs.Values.{data_of}
+use Rattle.jvm_steps.specs.declared.versions.Versions.{Versions}
+use Rattle.jvm_steps.specs.Versions.{Setup, current_of, first_of}
 
 -- so many of the topmost operands, the deepest first
 abbrev pub arguments_of : ℕ → List PlacedFrame → List Value
 arguments_of count fs = reverse (take count (top_operands fs))
 
-abbrev pub can_begin : World → ℕ → ℕ → List PlacedFrame → Bool
-can_begin w method args fs = can_enter (max_locals_of w method) args fs
+abbrev pub can_begin : Setup → ℕ → ℕ → List PlacedFrame → Bool
+can_begin w method args fs = can_enter (max_locals_of w.world method) args fs
 
--- a frame of the method at its first offset, which has taken its arguments from the caller
-abbrev pub begun_frame : World → ℕ → ℕ → List PlacedFrame → PlacedFrame
-begun_frame w method args fs = new_frame method method (max_locals_of w method) (max_stack_of w method) (arguments args fs)
+-- a frame of the method's current version, at its first place
+abbrev pub begun : Versions → ℕ → ℕ → ℕ → List Value → PlacedFrame
+begun v method max_locals max_stack taken =
+    record (new_frame (current_of v method) method max_locals max_stack taken) { place = first_of v (current_of v method) }
 
-abbrev pub with_begun : Bool → World → ℕ → ℕ → List PlacedFrame → List PlacedFrame
+abbrev pub with_version_frame : Versions → ℕ → ℕ → ℕ → ℕ → FramesView → FramesView
+with_version_frame v method max_locals max_stack args s = record {
+  frames = begun v method max_locals max_stack (arguments args s.frames) ∷ without_arguments args s.frames;
+  room = None;
+}
+
+-- one which has taken its arguments from the caller
+abbrev pub begun_frame : Setup → ℕ → ℕ → List PlacedFrame → PlacedFrame
+begun_frame w method args fs = begun w.versions method (max_locals_of w.world method) (max_stack_of w.world method) (arguments args fs)
+
+abbrev pub with_begun : Bool → Setup → ℕ → ℕ → List PlacedFrame → List PlacedFrame
 with_begun b w method args fs = if b then begun_frame w method args fs ∷ without_arguments args fs else fs
 
 -- the operands are the method's arguments, and fit into its locals
-abbrev pub fits_with : World → ℕ → List PlacedFrame → Option (List Kind) → Bool
+abbrev pub fits_with : Setup → ℕ → List PlacedFrame → Option (List Kind) → Bool
 fits_with w method fs None = false
 fits_with w method fs (Some ks) = is_some (data_of ks (arguments_of (length ks) fs)) && can_begin w method (length ks) fs
 
-abbrev pub fits_params : World → ℕ → List PlacedFrame → Bool
-fits_params w method fs = fits_with w method fs (params_of_method w.program method)
+abbrev pub fits_params : Setup → ℕ → List PlacedFrame → Bool
+fits_params w method fs = fits_with w method fs (params_of_method w.world.program method)
 
 -- ---- the locals that arguments take
 

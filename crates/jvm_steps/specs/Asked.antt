@@ -5,7 +5,7 @@ use Rattle.jvm_basic.specs.Outcomes.{top_locals}
 use Rattle.jvm_model.specs.declared.ending.Ending.TheVariants.{Exited}
 use Rattle.jvm_model.specs.declared.state.Shared.{Shared}
 use Rattle.jvm_model.specs.declared.state.State.{State}
-use Rattle.jvm_model.specs.Data.{World, Naming, Outcome, Raises, Throws, Initializes, Exits, Done}
+use Rattle.jvm_model.specs.Data.{Naming, Outcome, Raises, Throws, Initializes, Exits, Done}
 use Rattle.jvm_model.specs.Naming.{newly_loaded}
 use Rattle.jvm_model.specs.NamingRules.{does_named}
 use Rattle.jvm_model.specs.Run.{starts}
@@ -17,6 +17,7 @@ use Rattle.jvm_steps.specs.Arguments.{can_begin}
 use Rattle.jvm_steps.specs.Invoking.{called, may_begin}
 use Rattle.jvm_steps.specs.Settling.{own_of}
 use Rattle.jvm_steps.specs.States.{state_in}
+use Rattle.jvm_steps.specs.Versions.{Setup}
 
 -- the class that is initialized before
 abbrev pub starts_in : Answer → Option ℕ
@@ -24,14 +25,14 @@ starts_in (Stops q) = starts q
 starts_in _ = None
 
 -- in place of going on; an initialization begins behind it
-abbrev pub refused_in : World → Here → Outcome → Parts → State
+abbrev pub refused_in : Setup → Here → Outcome → Parts → State
 refused_in w here (Raises name message) p = state_in (raised_in w name message p)
 refused_in w here (Throws r) p = state_in (record p { thrown = Some r })
 refused_in w here (Initializes c) p = state_in p
 refused_in w here (Exits status) p = state_in (record p { ending = Some (Exited status) })
 refused_in w here _ p = state_in (ended here.method (own_of w here) p)
 
-abbrev pub concluded : World → Here → Answer → Parts → State
+abbrev pub concluded : Setup → Here → Answer → Parts → State
 concluded w here Continues p = state_in p
 concluded w here Exceeds p = state_in (ended here.method (own_of w here) p)
 concluded w here (Calls callee count) p =
@@ -40,10 +41,10 @@ concluded w here (Stops q) p = refused_in w here q p
 
 -- ---- what the rule says of the current frame, over what it loads
 
-abbrev pub done_top : World → Naming → Shared → List PlacedFrame → Done
+abbrev pub done_top : Setup → Naming → Shared → List PlacedFrame → Done
 done_top w n s fs =
-    let ready = record s { loaded = s.loaded ++ newly_loaded w.program s.loaded n (top_operands fs) } in
-    does_named w n ready (top_locals fs) (top_operands fs)
+    let ready = record s { loaded = s.loaded ++ newly_loaded w.world.program s.loaded n (top_operands fs) } in
+    does_named w.world n ready (top_locals fs) (top_operands fs)
 
 -- the parts once it has answered, where a frame that goes on does so at this place
 abbrev pub answered : Done → ℕ → Parts → Parts

@@ -5,7 +5,6 @@ use Rattle.heap_objects.specs.Heaps.{HeapView, slot_at, with_slot_at}
 use Rattle.jvm_model.specs.declared.state.Frame.{Frame}
 use Rattle.jvm_model.specs.declared.state.State.{State}
 use Rattle.jvm_model.specs.Applies.{goes}
-use Rattle.jvm_model.specs.Data.{World}
 use Rattle.jvm_model.specs.ObjectRules.{Access, ToNull, ToAnother, Outside, Inside, Storing, refused}
 use Rattle.jvm_model.specs.Values.{as_value}
 use Rattle.jvm_steps.specs.declared.elements.Led.{Led}
@@ -14,6 +13,7 @@ use Rattle.jvm_steps.specs.declared.elements.Place.{Place}
 use Rattle.jvm_steps.specs.declared.elements.Storing.{Storing as TheStoring}
 use Rattle.jvm_steps.specs.declared.line.Line.{Line}
 use Rattle.jvm_steps.specs.Acts.{acts_asked}
+use Rattle.jvm_steps.specs.Versions.{Setup}
 
 abbrev pub access_of : Led → Access
 access_of led.ToNull = ToNull
@@ -33,7 +33,7 @@ element_at (Inside slot) r h = slot_at r slot h
 element_at _ r h = None
 
 -- it leads to no element
-abbrev pub acts_refused : World → Line → Led → ℤ → State → Frame → State
+abbrev pub acts_refused : Setup → Line → Led → ℤ → State → Frame → State
 acts_refused w line l i s f = acts_asked w line s f (refused (access_of l) i)
 
 -- the element is loaded

@@ -4,21 +4,20 @@ use Rattle.jvm_model.specs.declared.state.Part.{Part}
 use Rattle.jvm_model.specs.declared.state.Part.TheVariants.{Constants}
 use Rattle.jvm_model.specs.declared.state.Phase.TheVariants.{Erroneous, Running}
 use Rattle.jvm_model.specs.declared.state.State.{State}
-use Rattle.jvm_model.specs.Data.{World}
 use Rattle.jvm_model.specs.Moves.{at_part, fails, initializes, wrapped}
-use Rattle.jvm_model.specs.Originals.{original}
 use Rattle.jvm_model.specs.SharedState.{with_phase}
 use Rattle.jvm_steps.specs.declared.parts.Parts.{Parts}
+use Rattle.jvm_steps.specs.Versions.{Setup, text_of}
 
 -- it begins
 abbrev pub begins_class : ℕ → State → State
 begins_class c s = record (at_part s c Constants) { shared = with_phase s.shared c Running }
 
 -- it fails with an object
-abbrev pub failing : World → ℕ → ℕ → Parts → Parts
-failing w c r p = let a = wrapped w p.shared r in record p { shared = with_phase a.shared c Erroneous; thrown = Some a.reference }
+abbrev pub failing : Setup → ℕ → ℕ → Parts → Parts
+failing w c r p = let a = wrapped w.world p.shared r in record p { shared = with_phase a.shared c Erroneous; thrown = Some a.reference }
 
 -- a throw meets it, or it goes on; from the state without its marker
-abbrev pub after_marker : World → State → Option ℕ → ℕ → Part → State
-after_marker w s (Some r) c part = fails w s c r
-after_marker w s None c part = (initializes w (original w.program) s c part).after
+abbrev pub after_marker : Setup → State → Option ℕ → ℕ → Part → State
+after_marker w s (Some r) c part = fails w.world s c r
+after_marker w s None c part = (initializes w.world (text_of w.versions) s c part).after

@@ -1,6 +1,11 @@
 pub mod States
 pub mod Markers
 pub mod Lines
+pub mod Versions
+pub mod Ready
+pub mod VersionTexts
+pub mod Rewritten
+pub mod LaidMethods
 pub mod Linked
 pub mod Prepared
 pub mod Settling
@@ -16,3 +21,4 @@ pub mod Entries
 pub mod Raising
 pub mod Elements
 pub mod Runs
+pub mod OriginalRun

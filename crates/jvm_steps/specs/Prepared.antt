@@ -1,6 +1,6 @@
 -- What is kept of a program's original code: at each number and offset, what the definitions look up there.
 use Rattle.std.specs.Prelude.{◌≡◌, ℕ, ◌<◌, ◌^◌, length, slice_get, unwrap_or, Option, List, [], ◌∷◌, if◌then◌else◌}
-use Rattle.std.specs.Option.{option_and_then, option_flatten, option_map_or}
+use Rattle.std.specs.Option.{option_and_then, option_map_or}
 use Rattle.std.specs.Option.{IfSome}
 use Rattle.std.specs.List.{AllByRecursion}
 use Rattle.const_pool.specs.BuiltIn.{built_in_names}
@@ -19,12 +19,12 @@ use Rattle.jvm_model.specs.Programs.{class_at, has_built_in_name, name_at, name_
 use Rattle.jvm_model.specs.Run.{main_class}
 use Rattle.jvm_model.specs.SharedState.{built_in_from, kind_for, string, array_store, in_initializer, index_outside, negative_array_size, no_class_definition, no_such_field, no_such_method, null_pointer, stack_overflow}
 use Rattle.jvm_named.specs.Numbers.{AreNumbers, Row}
-use Rattle.jvm_steps.specs.declared.line.Line.{Line}
 use Rattle.jvm_steps.specs.declared.originals.Method.{Method}
 use Rattle.jvm_steps.specs.declared.originals.Exception.{Exception}
 use Rattle.jvm_steps.specs.declared.originals.Exception.TheVariants.{AbstractMethod, Arithmetic, ArrayStore, ClassCast, ClassCircularity, IncompatibleClassChange, InInitializer, IndexOutside, Instantiation, NegativeArraySize, NoClassDefinition, NoSuchField, NoSuchMethod, NullPointer, StackOverflow, UnsatisfiedLink}
 use Rattle.jvm_steps.specs.declared.originals.Exceptions.{Exceptions}
-use Rattle.jvm_steps.specs.Lines.{line_at}
+use Rattle.jvm_steps.specs.Versions.{HasLines}
+use Rattle.jvm_steps.specs.declared.versions.Versions.{Versions}
 
 -- ---- programs whose code can be prepared
 
@@ -113,16 +113,13 @@ exception_in x UnsatisfiedLink = x.unsatisfied_link
 
 -- ---- what is kept
 
-abbrev pub line_in : ℕ → Method → Option Line
-line_in place m = option_flatten (slice_get m.lines place)
-
-pub record IsPrepared (p : Program) (methods : List Method) (exceptions : Exceptions) (rows : List Row) : Type 0 where
+pub record IsPrepared (p : Program) (methods : List Method) (versions : Versions) (exceptions : Exceptions) (rows : List Row) : Type 0 where
   pub few : length p.classes < 2 ^ 24
   pub numbered : length p.methods < 2 ^ 32
   pub params : (k : ℕ) → option_and_then (λ m. m.params) (slice_get methods k) ≡ params_of_method p k
   pub max_stack : (k : ℕ) → option_map_or (λ m. m.max_stack) (slice_get methods k) 0 ≡ max_stack_of (world_in p []) k
   pub max_locals : (k : ℕ) → option_map_or (λ m. m.max_locals) (slice_get methods k) 0 ≡ max_locals_of (world_in p []) k
-  pub lines : (k place : ℕ) → option_and_then (line_in place) (slice_get methods k) ≡ line_at p k place
+  pub lines : HasLines versions
   pub raised : (e : Exception) → exception_in exceptions e ≡ exception_kind p e
   pub string : exceptions.string ≡ kind_for p string
   pub numbers : AreNumbers p rows

@@ -4,7 +4,7 @@ use Rattle.heap_objects.specs.declared.datum.Datum.{Datum}
 use Rattle.const_pool.specs.declared.descriptor.Kind.{Kind}
 use Rattle.frame_stack.specs.FrameLists.{top_operands, without_frame}
 use Rattle.jvm_model.specs.Data.{Operands}
-use Rattle.jvm_model.specs.declared.program.Program.{Program}
+use Rattle.jvm_steps.specs.declared.versions.Versions.{Versions}
 use Rattle.jvm_model.specs.declared.state.State.{State}
 use Rattle.jvm_steps.specs.declared.parts.Parts.{Parts}
 use Rattle.jvm_steps.specs.Acts.{ended, gives_back_line}
@@ -16,12 +16,12 @@ abbrev pub left_by : Parts → State
 left_by p = state_in (record p { frames = without_frame p.frames })
 
 -- with this operand, if it has one
-abbrev pub returns_found : Program → ℕ → ℕ → Option Datum → Parts → State
-returns_found p method own None parts = left_by (ended method own parts)
-returns_found p method own (Some d) parts = let s = left_by parts in gives_back_line p s (Some d) s.stack
+abbrev pub returns_found : Versions → ℕ → ℕ → Option Datum → Parts → State
+returns_found v method own None parts = left_by (ended method own parts)
+returns_found v method own (Some d) parts = let s = left_by parts in gives_back_line v s (Some d) s.stack
 
-abbrev pub returns_given : Program → ℕ → ℕ → Kind → Parts → State
-returns_given p method own k parts = returns_found p method own (top_datum k (top_operands parts.frames.frames)) parts
+abbrev pub returns_given : Versions → ℕ → ℕ → Kind → Parts → State
+returns_given v method own k parts = returns_found v method own (top_datum k (top_operands parts.frames.frames)) parts
 
 -- the operand on top is a result of this kind, where there is to be one
 abbrev pub has_result : Option Kind → Operands → Bool

@@ -2,41 +2,40 @@
 use Rattle.std.specs.Prelude.{◌≡◌, ℕ, zero, suc, ◌<◌, false, List, [], ◌∷◌, length, Some, None, is_some, refl}
 use Rattle.frame_stack.specs.FrameLists.{PlacedFrame}
 use Rattle.jvm_model.specs.declared.state.State.{State}
-use Rattle.jvm_model.specs.Data.{World}
 use Rattle.jvm_model.specs.Originals.{original}
 use Rattle.jvm_model.specs.Run.{step}
 use Rattle.jvm_steps.specs.declared.line.Action.TheVariants.{Local}
 use Rattle.jvm_steps.specs.declared.line.Line.{Line}
 use Rattle.jvm_steps.specs.declared.markers.Marker.{Marker}
 use Rattle.jvm_steps.specs.declared.parts.Parts.{Parts}
-use Rattle.jvm_steps.specs.Lines.{line_at}
 use Rattle.jvm_steps.specs.Markers.{marker_on, with_markers}
 use Rattle.jvm_steps.specs.States.{state_with}
+use Rattle.jvm_steps.specs.Versions.{Setup, text_of, line_at}
 
 -- the state after so many steps
-unfoldable pub steps_from : World → ℕ → State → State
+unfoldable pub steps_from : Setup → ℕ → State → State
 steps_from w zero s = s
-steps_from w (suc n) s = (step w (original w.program) (steps_from w n s)).after
+steps_from w (suc n) s = (step w.world (text_of w.versions) (steps_from w n s)).after
 
-pub steps_from-zero : (w : World) (s : State) → steps_from w 0 s ≡ s
+pub steps_from-zero : (w : Setup) (s : State) → steps_from w 0 s ≡ s
 unfolding steps_from
 steps_from-zero w s = refl
 
-pub steps_from-suc : (w : World) (n : ℕ) (s : State) → steps_from w (suc n) s ≡ (step w (original w.program) (steps_from w n s)).after
+pub steps_from-suc : (w : Setup) (n : ℕ) (s : State) → steps_from w (suc n) s ≡ (step w.world (text_of w.versions) (steps_from w n s)).after
 unfolding steps_from
 steps_from-suc w n s = refl
 
 -- So many steps lead from one state to another, none of them behind the end of the run.
-pub record Leads (w : World) (old : State) (n : ℕ) (new : State) : Type 0 where
+pub record Leads (w : Setup) (old : State) (n : ℕ) (new : State) : Type 0 where
   pub made : new ≡ steps_from w n old
   pub before : (k : ℕ) → k < n → is_some (steps_from w k old).ending ≡ false
 
 -- ---- steps that the current frame does by itself
 
 -- it stands at this line, which it does by itself
-abbrev pub IsPlainLine : World → List PlacedFrame → Line → Type 0
+abbrev pub IsPlainLine : Setup → List PlacedFrame → Line → Type 0
 IsPlainLine w [] line = ⊥
-IsPlainLine w (f ∷ fs) line = (line_at w.program f.version f.place ≡ Some line) × (line.action ≡ Local)
+IsPlainLine w (f ∷ fs) line = (line_at w.versions f.version f.place ≡ Some line) × (line.action ≡ Local)
 
 -- the run goes on, nothing is thrown, and no marker stands on so many frames
 pub record IsCalm (n : ℕ) (ms : List Marker) (p : Parts) : Type 0 where
@@ -45,6 +44,6 @@ pub record IsCalm (n : ℕ) (ms : List Marker) (p : Parts) : Type 0 where
   pub unmarked : marker_on n ms ≡ None
 
 -- So many steps change the frames to these, which are as many, whatever else there is.
-pub record LeadsPlainly (w : World) (old : List PlacedFrame) (n : ℕ) (new : List PlacedFrame) : Type 0 where
+pub record LeadsPlainly (w : Setup) (old : List PlacedFrame) (n : ℕ) (new : List PlacedFrame) : Type 0 where
   pub many : length new ≡ length old
   pub leads : (ms : List Marker) (p : Parts) → IsCalm (length old) ms p → Leads w (with_markers ms (state_with old p)) n (with_markers ms (state_with new p))

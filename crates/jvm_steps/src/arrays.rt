@@ -36,7 +36,7 @@ pub fn measure(
 ) -> Result<(), NoMemory>
     requires top { IsTop method parts.old.frames.frames }
     ensures state { Becomes result parts.new
-        (acts_arraylength originals.now.world line.now) parts.old }
+        (acts_arraylength originals.now.setup line.now) parts.old }
 {
     let Some(reference) = ref_of(&parts.frames) else {
         break_off(parts, method, line.instr.at);
@@ -68,7 +68,7 @@ pub fn make_array(
 ) -> Result<(), NoMemory>
     requires top { IsTop method parts.old.frames.frames }
     ensures state { Becomes result parts.new
-        (acts_newarray originals.now.world line.now kind) parts.old }
+        (acts_newarray originals.now.setup line.now kind) parts.old }
 {
     let Some(count) = int_of(&parts.frames) else {
         break_off(parts, method, line.instr.at);

@@ -28,7 +28,7 @@ pub fn raise_named(
     message: Option<Text16>,
 ) -> Result<(), NoMemory>
     ensures { OnOk result (parts.new
-        ≡ raised_in originals.now.world (exception_name exception) message parts.old) }
+        ≡ raised_in originals.now.setup (exception_name exception) message parts.old) }
 {
     let kind = kind_raised(alloc, originals, exception)?;
     match message {
@@ -48,7 +48,7 @@ fn refuse(
 ) -> Result<Option<u32>, NoMemory>
     ensures answer { IfOk result (λ o. o ≡ starts (refusal_view refusal)) }
     ensures state { OnOk result (state_in parts.new
-        ≡ refused_in originals.now.world here (refusal_view refusal) parts.old) }
+        ≡ refused_in originals.now.setup here (refusal_view refusal) parts.old) }
 {
     match refusal {
         Refusal::Raises(exception, message) => {
@@ -81,7 +81,7 @@ pub fn conclude(
 ) -> Result<Option<u32>, NoMemory>
     ensures answer { IfOk result (λ o. o ≡ starts_in (answer_view asked)) }
     ensures state { OnOk result (state_in parts.new
-        ≡ concluded originals.now.world here (answer_view asked) parts.old) }
+        ≡ concluded originals.now.setup here (answer_view asked) parts.old) }
 {
     match asked {
         Asked::Next => Ok(None),

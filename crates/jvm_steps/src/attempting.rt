@@ -3,15 +3,15 @@
 ghost use Rattle.std.specs.Prelude.{◌≡◌, ◌-◌, None, Some, true, false, is_some, length, IfOk, OnOk};
 ghost use Rattle.std.specs.Option.{option_map_or};
 ghost use Rattle.jvm_model.specs.Families.{family_of};
-ghost use Rattle.jvm_model.specs.Sound.{IsFit, IsSound};
 ghost use Rattle.jvm_named.specs.Objects.{AreLoaded};
 ghost use Rattle.jvm_steps.specs.Acts.{IsTop, Becomes, ended};
 ghost use Rattle.jvm_steps.specs.Acts.{acts, acts_alone, attempts_on};
 ghost use Rattle.jvm_steps.specs.Acts.{BecomesBeneath, awaited_in, is_named, named_in};
-ghost use Rattle.jvm_steps.specs.Lines.{line_at};
 ghost use Rattle.jvm_steps.specs.Linked.{linker_in};
+ghost use Rattle.jvm_steps.specs.Ready.{CanRun, IsSoundIn};
 ghost use Rattle.jvm_steps.specs.Markers.{marker_on, state_of};
 ghost use Rattle.jvm_steps.specs.States.{here_of};
+ghost use Rattle.jvm_steps.specs.Versions.{line_at};
 
 use crate::arrays::{make_array, measure};
 use crate::asking::conclude;
@@ -50,7 +50,7 @@ fn act_alone(
 ) -> Result<(), NoMemory>
     requires top { IsTop method parts.old.frames.frames }
     requires family { line.now.family ≡ family_of line.now.instr.op }
-    ensures state { Becomes result parts.new (acts_alone originals.now.world line.now) parts.old }
+    ensures state { Becomes result parts.new (acts_alone originals.now.setup line.now) parts.old }
 {
     let effect = basic_by(
         line.family,
@@ -80,7 +80,7 @@ fn act(
     requires family { line.now.family ≡ family_of line.now.instr.op }
     requires alone { is_named line.now.action ≡ false }
     requires objects { AreLoaded (linker_in originals.now) parts.old.shared.heap }
-    ensures state { Becomes result parts.new (acts originals.now.world line.now) parts.old }
+    ensures state { Becomes result parts.new (acts originals.now.setup line.now) parts.old }
 {
     match &line.action {
         Action::Local => act_alone(originals, parts, method, line),
@@ -118,7 +118,7 @@ fn act_initializer(
     requires unmarked { marker_on (length parts.old.frames.frames) markers.now ≡ None }
     requires beneath { is_some (marker_on (length parts.old.frames.frames - 1) markers.now) ≡ true }
     ensures { BecomesBeneath result markers.now parts.new
-        (acts originals.now.world line.now) parts.old }
+        (acts originals.now.setup line.now) parts.old }
 {
     match line.action {
         Action::Return(kind) => {
@@ -144,7 +144,7 @@ fn act_marked(
     requires objects { AreLoaded (linker_in originals.now) parts.old.shared.heap }
     requires unmarked { marker_on (length parts.old.frames.frames) markers.now ≡ None }
     ensures { BecomesBeneath result markers.now parts.new
-        (acts originals.now.world line.now) parts.old }
+        (acts originals.now.setup line.now) parts.old }
 {
     if marker_on(markers, parts.frames.depth() - 1).is_some() {
         act_initializer(alloc, originals, parts, markers, method, line)
@@ -163,11 +163,11 @@ fn attempt_line(
     here: Here,
 ) -> Result<(), NoMemory>
     requires here { here_of parts.old.frames.frames ≡ Some here }
-    requires alone { named_in (line_at originals.now.world.program here.version here.place)
+    requires alone { named_in (line_at originals.now.setup.versions here.version here.place)
         ≡ false }
     requires objects { AreLoaded (linker_in originals.now) parts.old.shared.heap }
     requires unmarked { marker_on (length parts.old.frames.frames) markers.now ≡ None }
-    ensures { let w = originals.now.world in let s = state_of markers.now parts.old in
+    ensures { let w = originals.now.setup in let s = state_of markers.now parts.old in
         OnOk result (state_of markers.now parts.new ≡ attempts_on w s s.stack) }
 {
     let Some(line) = originals.line(here.version, here.place) else {
@@ -191,7 +191,7 @@ fn is_named(line: &Line) -> bool
 
 /// Whether the line at which a frame stands does.
 fn named_at(originals: &Originals, here: Here) -> bool
-    ensures { result ≡ named_in (line_at originals.now.world.program here.version here.place) }
+    ensures { result ≡ named_in (line_at originals.now.setup.versions here.version here.place) }
 {
     match originals.line(here.version, here.place) {
         Some(line) => is_named(line),
@@ -209,17 +209,17 @@ fn attempt_name(
     here: Here,
 ) -> Result<Option<u32>, NoMemory>
     requires linked { originals.old.loaded ≡ parts.old.shared.loaded }
-    requires fit { IsFit originals.old.world.program }
-    requires sound { IsSound originals.old.world.program (state_of markers.old parts.old) }
+    requires fit { CanRun originals.old.setup }
+    requires sound { IsSoundIn originals.old.setup (state_of markers.old parts.old) }
     requires here { here_of parts.old.frames.frames ≡ Some here }
-    requires named { named_in (line_at originals.old.world.program here.version here.place)
+    requires named { named_in (line_at originals.old.setup.versions here.version here.place)
         ≡ true }
     requires unmarked { marker_on (length parts.old.frames.frames) markers.old ≡ None }
-    ensures world { originals.new.world ≡ originals.old.world }
+    ensures world { originals.new.setup ≡ originals.old.setup }
     ensures linked { OnOk result (originals.new.loaded ≡ parts.new.shared.loaded) }
     ensures answer { IfOk result (λ o.
-        o ≡ awaited_in originals.old.world (state_of markers.old parts.old)) }
-    ensures state { let w = originals.old.world in let s = state_of markers.old parts.old in
+        o ≡ awaited_in originals.old.setup (state_of markers.old parts.old)) }
+    ensures state { let w = originals.old.setup in let s = state_of markers.old parts.old in
         OnOk result (state_of markers.new parts.new ≡ attempts_on w s s.stack) }
 {
     let asked = originals.attempt_named(
@@ -250,14 +250,14 @@ pub fn attempt(
     markers: &mut Stack<Marker>,
 ) -> Result<Option<u32>, NoMemory>
     requires linked { originals.old.loaded ≡ parts.old.shared.loaded }
-    requires fit { IsFit originals.old.world.program }
-    requires sound { IsSound originals.old.world.program (state_of markers.old parts.old) }
+    requires fit { CanRun originals.old.setup }
+    requires sound { IsSoundIn originals.old.setup (state_of markers.old parts.old) }
     requires unmarked { marker_on (length parts.old.frames.frames) markers.old ≡ None }
-    ensures world { originals.new.world ≡ originals.old.world }
+    ensures world { originals.new.setup ≡ originals.old.setup }
     ensures linked { OnOk result (originals.new.loaded ≡ parts.new.shared.loaded) }
     ensures answer { IfOk result (λ o.
-        o ≡ awaited_in originals.old.world (state_of markers.old parts.old)) }
-    ensures state { let w = originals.old.world in let s = state_of markers.old parts.old in
+        o ≡ awaited_in originals.old.setup (state_of markers.old parts.old)) }
+    ensures state { let w = originals.old.setup in let s = state_of markers.old parts.old in
         OnOk result (state_of markers.new parts.new ≡ attempts_on w s s.stack) }
 {
     let Some(here) = where_now(&parts.frames) else {

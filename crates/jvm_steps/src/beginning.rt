@@ -2,7 +2,6 @@
 //! `main` begins.
 
 ghost use Rattle.std.specs.Prelude.{◌≡◌, true, OnOk};
-ghost use Rattle.jvm_model.specs.Originals.{original};
 ghost use Rattle.jvm_model.specs.Run.{main_class, start, starts_if, starts_with};
 ghost use Rattle.jvm_model.specs.SharedState.{arguments_fit};
 ghost use Rattle.jvm_model.specs.Sound.{IsFit};
@@ -11,6 +10,7 @@ ghost use Rattle.jvm_named.specs.Answers.{found_view};
 ghost use Rattle.jvm_steps.specs.Before.{IsAtStart, begun_by, with_first};
 ghost use Rattle.jvm_steps.specs.Markers.{state_of};
 ghost use Rattle.jvm_steps.specs.States.{state_in};
+ghost use Rattle.jvm_steps.specs.Versions.{text_of};
 
 use crate::asking::raise_named;
 use crate::handlers::class_of;
@@ -43,9 +43,9 @@ fn load_first(shared: &mut Shared) -> Result<(), NoMemory>
 /// What comes before `main` where nothing else runs at the start: the arguments are made, for which
 /// there is room, and the main class is loaded, and ready.
 pub fn make_ready(originals: &Originals, parts: &mut Parts) -> Result<(), NoMemory>
-    requires at_start { IsAtStart originals.now.world (state_in parts.old) }
-    requires fits { arguments_fit originals.now.world.program ≡ true }
-    ensures { OnOk result (state_in parts.new ≡ ready_in originals.now.world) }
+    requires at_start { IsAtStart originals.now.setup.world (state_in parts.old) }
+    requires fits { arguments_fit originals.now.setup.world.program ≡ true }
+    ensures { OnOk result (state_in parts.new ≡ ready_in originals.now.setup.world) }
 {
     make_arguments(originals.program(), &mut parts.shared.heap)?;
     load_first(&mut parts.shared)
@@ -53,8 +53,8 @@ pub fn make_ready(originals: &Originals, parts: &mut Parts) -> Result<(), NoMemo
 
 /// There is no room for the arguments: object 1 is thrown, which nothing catches, and the run ends.
 pub fn end_unmade(originals: &Originals, parts: &mut Parts)
-    requires { IsAtStart originals.now.world (state_in parts.old) }
-    ensures { state_in parts.new ≡ (unmade_in originals.now.world).after }
+    requires { IsAtStart originals.now.setup.world (state_in parts.old) }
+    ensures { state_in parts.new ≡ (unmade_in originals.now.setup.world).after }
 {
     parts.thrown = Some(OUT_OF_MEMORY);
     parts.ending = Some(Ending::Uncaught(class_of(
@@ -76,7 +76,7 @@ fn begin_class(
     found: Result<u32, Refusal>,
 ) -> Result<(), NoMemory>
     ensures state { OnOk result (state_of markers.new parts.new
-        ≡ begun_by originals.now.world class (found_view found) (state_of markers.old parts.old)) }
+        ≡ begun_by originals.now.setup.world class (found_view found) (state_of markers.old parts.old)) }
     ensures loaded { OnOk result (parts.new.shared.loaded ≡ parts.old.shared.loaded) }
 {
     match found {
@@ -100,14 +100,14 @@ fn load_main(
     parts: &mut Parts,
     markers: &mut Stack<Marker>,
 ) -> Result<(), NoMemory>
-    requires at_start { IsAtStart originals.old.world (state_of markers.old parts.old) }
-    requires fits { arguments_fit originals.old.world.program ≡ true }
+    requires at_start { IsAtStart originals.old.setup.world (state_of markers.old parts.old) }
+    requires fits { arguments_fit originals.old.setup.world.program ≡ true }
     requires linked { originals.old.loaded ≡ parts.old.shared.loaded }
-    requires fit { IsFit originals.old.world.program }
-    ensures world { originals.new.world ≡ originals.old.world }
+    requires fit { IsFit originals.old.setup.world.program }
+    ensures world { originals.new.setup ≡ originals.old.setup }
     ensures linked { OnOk result (originals.new.loaded ≡ parts.new.shared.loaded) }
     ensures state { OnOk result
-        (state_of markers.new parts.new ≡ starts_if originals.old.world true) }
+        (state_of markers.new parts.new ≡ starts_if originals.old.setup.world true) }
 {
     make_arguments(originals.program(), &mut parts.shared.heap)?;
     let found = originals.load_main(alloc, &mut parts.shared.loaded)?;
@@ -122,13 +122,13 @@ fn begin_start(
     parts: &mut Parts,
     markers: &mut Stack<Marker>,
 ) -> Result<(), NoMemory>
-    requires at_start { IsAtStart originals.old.world (state_of markers.old parts.old) }
+    requires at_start { IsAtStart originals.old.setup.world (state_of markers.old parts.old) }
     requires linked { originals.old.loaded ≡ parts.old.shared.loaded }
-    requires fit { IsFit originals.old.world.program }
-    ensures world { originals.new.world ≡ originals.old.world }
+    requires fit { IsFit originals.old.setup.world.program }
+    ensures world { originals.new.setup ≡ originals.old.setup }
     ensures linked { OnOk result (originals.new.loaded ≡ parts.new.shared.loaded) }
     ensures state { OnOk result
-        (state_of markers.new parts.new ≡ starts_with originals.old.world) }
+        (state_of markers.new parts.new ≡ starts_with originals.old.setup.world) }
 {
     if arguments_fit(originals.program()) {
         return load_main(alloc, originals, parts, markers);
@@ -145,13 +145,13 @@ pub fn start(
     parts: &mut Parts,
     markers: &mut Stack<Marker>,
 ) -> Result<(), NoMemory>
-    requires at_start { IsAtStart originals.old.world (state_of markers.old parts.old) }
+    requires at_start { IsAtStart originals.old.setup.world (state_of markers.old parts.old) }
     requires linked { originals.old.loaded ≡ parts.old.shared.loaded }
-    requires fit { IsFit originals.old.world.program }
-    ensures world { originals.new.world ≡ originals.old.world }
+    requires fit { IsFit originals.old.setup.world.program }
+    ensures world { originals.new.setup ≡ originals.old.setup }
     ensures linked { OnOk result (originals.new.loaded ≡ parts.new.shared.loaded) }
-    ensures state { let w = originals.old.world in OnOk result
-        (state_of markers.new parts.new ≡ (start w (original w.program)).after) }
+    ensures state { let w = originals.old.setup in OnOk result
+        (state_of markers.new parts.new ≡ (start w.world (text_of w.versions)).after) }
 {
     begin_start(alloc, originals, parts, markers)?;
     settle(alloc, originals, parts, markers)

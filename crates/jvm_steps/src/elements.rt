@@ -14,6 +14,7 @@ ghost use Rattle.jvm_named.specs.Objects.{AreLoaded};
 ghost use Rattle.jvm_steps.specs.Elements.{element_at, place_by, storing_by};
 ghost use Rattle.jvm_steps.specs.Linked.{linker_in};
 ghost use Rattle.jvm_steps.specs.States.{state_in};
+ghost use Rattle.jvm_steps.specs.Versions.{text_of};
 
 use crate::going::datum_of;
 use crate::kinds::fits_array;
@@ -145,7 +146,7 @@ fn refuse(
 ) -> Result<(), NoMemory>
     requires top { IsTop method parts.old.frames.frames }
     ensures state { Becomes result parts.new
-        (acts_refused originals.now.world line.now led index) parts.old }
+        (acts_refused originals.now.setup line.now led index) parts.old }
 {
     match led {
         Led::ToNull => raise(originals, parts, Exception::NullPointer),
@@ -231,7 +232,7 @@ pub fn load_element(
 ) -> Result<(), NoMemory>
     requires top { IsTop method parts.old.frames.frames }
     ensures state { Becomes result parts.new
-        (acts_load originals.now.world line.now kind) parts.old }
+        (acts_load originals.now.setup line.now kind) parts.old }
 {
     let Some(place) = place_of(&parts.frames) else {
         break_off(parts, method, line.instr.at);
@@ -270,7 +271,7 @@ pub fn store_element(
     requires top { IsTop method parts.old.frames.frames }
     requires objects { AreLoaded (linker_in originals.now) parts.old.shared.heap }
     ensures state { Becomes result parts.new
-        (acts_store originals.now.world line.now kind) parts.old }
+        (acts_store originals.now.setup line.now kind) parts.old }
 {
     let Some(storing) = storing_of(&parts.frames, kind) else {
         break_off(parts, method, line.instr.at);

@@ -12,7 +12,7 @@ use std::alloc::Global;
 /// The kind of the class of such an exception. What a native method throws is found by its name.
 pub fn kind_raised(alloc: Global, originals: &Originals, raised: Raised) -> Result<u32, NoMemory>
     ensures { IfOk result (λ kind.
-        kind ≡ kind_for originals.now.world.program (exception_name raised)) }
+        kind ≡ kind_for originals.now.setup.world.program (exception_name raised)) }
 {
     match raised {
         Raised::AbstractMethod => Ok(originals.kind_of(Exception::AbstractMethod)),

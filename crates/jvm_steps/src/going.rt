@@ -5,7 +5,7 @@ ghost use Rattle.frame_stack.specs.FrameLists.{top_operands};
 ghost use Rattle.jvm_basic.specs.Outcomes.{GoesOn, effect_of, after};
 ghost use Rattle.jvm_model.specs.Values.{as_value, datum_of};
 ghost use Rattle.jvm_model.specs.Families.{family_of};
-ghost use Rattle.jvm_steps.specs.Acts.{is_athrow, is_last_family, next_in};
+ghost use Rattle.jvm_steps.specs.Versions.{is_athrow, is_last_family, next_in};
 ghost use Rattle.jvm_steps.specs.Going.{takes_result, resume_effect, resume_frames, top_datum};
 
 use crate::line::{Action, Line};

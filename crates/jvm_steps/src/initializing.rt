@@ -6,13 +6,14 @@ ghost use Rattle.jvm_model.specs.Constants.{sets_constants};
 ghost use Rattle.jvm_model.specs.Lookup.{is_below};
 ghost use Rattle.jvm_model.specs.Moves.{after_super, initializes, runs_initializer};
 ghost use Rattle.jvm_model.specs.Moves.{with_constants, with_super, wrapped};
-ghost use Rattle.jvm_model.specs.Originals.{original};
 ghost use Rattle.jvm_model.specs.Programs.{initializer_of, super_of};
 ghost use Rattle.jvm_model.specs.SharedState.{class_of, error, phase_of, with_phase};
 ghost use Rattle.jvm_steps.specs.Initializing.{begins_class, failing};
 ghost use Rattle.jvm_steps.specs.Invoking.{may_begin};
 ghost use Rattle.jvm_steps.specs.Markers.{marker_on, state_of};
+ghost use Rattle.jvm_steps.specs.Versions.{text_of};
 
+use crate::entering::enter;
 use crate::handlers::class_of;
 use crate::invoking::{may_begin, raise_unusable};
 use crate::lookup::{initializer_of, super_of};
@@ -52,7 +53,7 @@ pub fn initialize(
 
 /// Whether an object is an Error.
 fn is_error(originals: &Originals, shared: &Shared, object: u32) -> bool
-    ensures { let p = originals.now.world.program in
+    ensures { let p = originals.now.setup.world.program in
         result ≡ is_below p (class_of p shared.now object) error }
 {
     let class = class_of(originals.program(), &shared.heap, object) as usize;
@@ -63,9 +64,9 @@ fn is_error(originals: &Originals, shared: &Shared, object: u32) -> bool
 /// cause.
 fn wrap(originals: &Originals, shared: &mut Shared, object: u32) -> Result<u32, NoMemory>
     ensures shared { OnOk result
-        (shared.new ≡ (wrapped originals.now.world shared.old object).shared) }
+        (shared.new ≡ (wrapped originals.now.setup.world shared.old object).shared) }
     ensures object { IfOk result
-        (λ r. r ≡ (wrapped originals.now.world shared.old object).reference) }
+        (λ r. r ≡ (wrapped originals.now.setup.world shared.old object).reference) }
 {
     if is_error(originals, shared, object) {
         return Ok(object);
@@ -81,7 +82,7 @@ pub fn fail(
     class: u32,
     object: u32,
 ) -> Result<(), NoMemory>
-    ensures { OnOk result (parts.new ≡ failing originals.now.world class object parts.old) }
+    ensures { OnOk result (parts.new ≡ failing originals.now.setup class object parts.old) }
 {
     let thrown = wrap(originals, &mut parts.shared, object)?;
     set_phase(&mut parts.shared, class, Phase::Erroneous);
@@ -101,7 +102,7 @@ fn initialize_above(
     above: u32,
 ) -> Result<(), NoMemory>
     ensures { OnOk result (state_of markers.new parts.new
-        ≡ after_super originals.now.world (state_of markers.old parts.old) class above
+        ≡ after_super originals.now.setup.world (state_of markers.old parts.old) class above
         (phase_of parts.old.shared above)) }
 {
     mark(parts, markers, class, Part::Initializer)?;
@@ -122,8 +123,8 @@ fn initialize_super(
     class: u32,
 ) -> Result<(), NoMemory>
     ensures { OnOk result (state_of markers.new parts.new
-        ≡ with_super originals.now.world (state_of markers.old parts.old) class
-        (super_of originals.now.world.program class)) }
+        ≡ with_super originals.now.setup.world (state_of markers.old parts.old) class
+        (super_of originals.now.setup.world.program class)) }
 {
     match super_of(originals.program(), class) {
         Some(above) => initialize_above(originals, parts, markers, class, above),
@@ -142,16 +143,21 @@ fn begin_initializer(
 ) -> Result<(), NoMemory>
     requires few { may_begin parts.old.frames.frames ≡ true }
     requires below { marker_on (suc (length parts.old.frames.frames)) markers.now ≡ None }
-    ensures { let w = originals.now.world in OnOk result (state_of markers.now parts.new
+    ensures { let w = originals.now.setup in OnOk result (state_of markers.now parts.new
         ≡ with_frame (state_of markers.now parts.old)
-        (new_frame w (original w.program) method [])) }
+        (new_frame w.world (text_of w.versions) method [])) }
 {
     let max_locals = originals.max_locals(method);
     let max_stack = originals.max_stack(method);
     parts.frames.reserve(max_locals, max_stack)?;
-    parts
-        .frames
-        .enter(method as usize, method, max_locals, max_stack, 0);
+    enter(
+        originals,
+        &mut parts.frames,
+        method,
+        max_locals,
+        max_stack,
+        0,
+    );
     Ok(())
 }
 
@@ -163,9 +169,9 @@ fn run_initializer(
     markers: &mut Stack<Marker>,
     class: u32,
 ) -> Result<(), NoMemory>
-    ensures { let w = originals.now.world in OnOk result (state_of markers.new parts.new
-        ≡ (runs_initializer w (original w.program) (state_of markers.old parts.old) class
-        (initializer_of w.program class)).after) }
+    ensures { let w = originals.now.setup in OnOk result (state_of markers.new parts.new
+        ≡ (runs_initializer w.world (text_of w.versions) (state_of markers.old parts.old) class
+        (initializer_of w.world.program class)).after) }
 {
     mark(parts, markers, class, Part::Finish)?;
     let Some(method) = initializer_of(originals.program(), class) else {
@@ -188,9 +194,9 @@ fn run_constants(
     markers: &mut Stack<Marker>,
     class: u32,
 ) -> Result<(), NoMemory>
-    ensures { let w = originals.now.world in OnOk result (state_of markers.new parts.new
+    ensures { let w = originals.now.setup in OnOk result (state_of markers.new parts.new
         ≡ with_constants (state_of markers.old parts.old) class
-        (sets_constants w.program class parts.old.shared)) }
+        (sets_constants w.world.program class parts.old.shared)) }
 {
     mark(parts, markers, class, Part::Superclass)?;
     let string = originals.string_kind();
@@ -210,8 +216,8 @@ pub fn go_on(
     class: u32,
     part: Part,
 ) -> Result<(), NoMemory>
-    ensures { let w = originals.now.world in OnOk result (state_of markers.new parts.new
-        ≡ (initializes w (original w.program) (state_of markers.old parts.old) class part).after) }
+    ensures { let w = originals.now.setup in OnOk result (state_of markers.new parts.new
+        ≡ (initializes w.world (text_of w.versions) (state_of markers.old parts.old) class part).after) }
 {
     match part {
         Part::Constants => run_constants(alloc, originals, parts, markers, class),

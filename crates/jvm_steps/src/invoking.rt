@@ -12,6 +12,7 @@ ghost use Rattle.jvm_steps.specs.Arguments.{fits_params, is_long_kind, slots_for
 ghost use Rattle.jvm_steps.specs.Invoking.{called, may_begin};
 ghost use Rattle.jvm_steps.specs.States.{state_in};
 
+use crate::entering::enter;
 use crate::going::datum_of;
 use crate::lookup::name_at;
 use crate::originals::{Exception, Originals};
@@ -74,7 +75,7 @@ fn slots_for(params: &[Kind]) -> usize
 
 /// Whether a method's arguments are there and fit into its locals.
 pub fn fits_params(originals: &Originals, frames: &Frames, method: u32) -> bool
-    ensures { result ≡ fits_params originals.now.world method frames.now.frames }
+    ensures { result ≡ fits_params originals.now.setup method frames.now.frames }
 {
     let Some(params) = originals.params(method) else {
         return false;
@@ -108,14 +109,14 @@ fn begin_frame(
 ) -> Result<bool, NoMemory>
     requires { may_begin frames.old.frames ≡ true }
     ensures answer { IfOk result (λ b.
-        b ≡ can_begin originals.now.world method args frames.old.frames) }
+        b ≡ can_begin originals.now.setup method args frames.old.frames) }
     ensures frames { IfOk result (λ b. frames.new.frames ≡
-        with_begun b originals.now.world method args frames.old.frames) }
+        with_begun b originals.now.setup method args frames.old.frames) }
 {
     let max_locals = originals.max_locals(method);
     let max_stack = originals.max_stack(method);
     frames.reserve(max_locals, max_stack)?;
-    Ok(frames.enter(method as usize, method, max_locals, max_stack, args))
+    Ok(enter(originals, frames, method, max_locals, max_stack, args))
 }
 
 // ---- operands that are arguments
@@ -146,7 +147,7 @@ fn taken_slots(frames: &Frames, args: u16) -> Option<u32>
 
 /// Whether so many of the topmost operands are there, and fit into a method's locals.
 fn can_begin(originals: &Originals, frames: &Frames, method: u32, args: u16) -> bool
-    ensures { result ≡ can_begin originals.now.world method args frames.now.frames }
+    ensures { result ≡ can_begin originals.now.setup method args frames.now.frames }
 {
     match taken_slots(frames, args) {
         Some(slots) => slots <= u32::from(originals.max_locals(method)),
@@ -166,8 +167,8 @@ fn begin(
 ) -> Result<(), NoMemory>
     requires few { may_begin parts.old.frames.frames ≡ true }
     ensures { let fs = parts.old.frames.frames in
-        OnOk result (state_in parts.new ≡ called originals.now.world here callee args fs parts.old
-        true (can_begin originals.now.world callee args fs)) }
+        OnOk result (state_in parts.new ≡ called originals.now.setup here callee args fs parts.old
+        true (can_begin originals.now.setup callee args fs)) }
 {
     let begun = begin_frame(originals, &mut parts.frames, callee, args)?;
     if !begun {
@@ -186,8 +187,8 @@ fn overflow(
     args: u16,
 ) -> Result<(), NoMemory>
     ensures { let fs = parts.old.frames.frames in
-        OnOk result (state_in parts.new ≡ called originals.now.world here callee args fs parts.old
-        false (can_begin originals.now.world callee args fs)) }
+        OnOk result (state_in parts.new ≡ called originals.now.setup here callee args fs parts.old
+        false (can_begin originals.now.setup callee args fs)) }
 {
     if can_begin(originals, &parts.frames, callee, args) {
         return raise(originals, parts, Exception::StackOverflow);
@@ -205,8 +206,8 @@ pub fn call(
     args: u16,
 ) -> Result<(), NoMemory>
     ensures { let fs = parts.old.frames.frames in
-        OnOk result (state_in parts.new ≡ called originals.now.world here callee args fs parts.old
-        (may_begin fs) (can_begin originals.now.world callee args fs)) }
+        OnOk result (state_in parts.new ≡ called originals.now.setup here callee args fs parts.old
+        (may_begin fs) (can_begin originals.now.setup callee args fs)) }
 {
     if may_begin(&parts.frames) {
         begin(originals, parts, here, callee, args)
@@ -219,8 +220,8 @@ pub fn call(
 
 /// NoClassDefFoundError, with the name of the class.
 pub fn raise_unusable(originals: &Originals, parts: &mut Parts, class: u32) -> Result<(), NoMemory>
-    ensures { let w = originals.now.world in OnOk result
-        (parts.new ≡ raising w NoClassDefinition (name_at w.program class) parts.old) }
+    ensures { let w = originals.now.setup in OnOk result
+        (parts.new ≡ raising w NoClassDefinition (name_at w.world.program class) parts.old) }
 {
     match name_at(originals.program(), class) {
         Some(name) => raise_with(originals, parts, Exception::NoClassDefinition, name.units()),

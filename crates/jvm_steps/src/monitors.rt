@@ -19,7 +19,7 @@ pub fn watch(
     line: &Line,
 ) -> Result<(), NoMemory>
     requires top { IsTop method parts.old.frames.frames }
-    ensures state { Becomes result parts.new (acts_monitor originals.now.world line.now) parts.old }
+    ensures state { Becomes result parts.new (acts_monitor originals.now.setup line.now) parts.old }
 {
     let Some(reference) = ref_of(&parts.frames) else {
         break_off(parts, method, line.instr.at);

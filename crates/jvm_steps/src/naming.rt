@@ -94,7 +94,7 @@ fn interface_method_in(
 }
 
 /// The name of the class at an index.
-fn class_in(alloc: Global, pool: &Pool, index: u16) -> Result<Option<Text16>, NoMemory>
+pub fn class_in(alloc: Global, pool: &Pool, index: u16) -> Result<Option<Text16>, NoMemory>
     ensures { IfOk result (λ name. name ≡ named_class pool.now index) }
 {
     match pool.class_name(index) {

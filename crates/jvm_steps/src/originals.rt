@@ -1,8 +1,8 @@
 //! The original code of a program, prepared: what stands at each offset is looked up once, and is
 //! found by its offset from then on.
 
-ghost use Rattle.std.specs.Prelude.{◌≡◌, ◌<◌, ◌^◌, ◌++◌, length, slice_get, IfOk, OnOk};
-ghost use Rattle.std.specs.Option.{option_and_then, option_copied, IfSome};
+ghost use Rattle.std.specs.Prelude.{◌≡◌, ◌<◌, ◌^◌, ◌++◌, length, slice_get, IfOk, OnErr, OnOk};
+ghost use Rattle.std.specs.Option.{option_and_then, option_copied, option_map, IfSome};
 ghost use Rattle.class_linker.specs.Linkers.{IsLoaded};
 ghost use Rattle.jvm_model.specs.Families.{family_of};
 ghost use Rattle.jvm_model.specs.KindNumbers.{user_count};
@@ -15,16 +15,21 @@ ghost use Rattle.jvm_named.specs.Attempts.{attempts, loaded_for, world_over};
 ghost use Rattle.jvm_named.specs.Natives.{HasBuiltIn};
 ghost use Rattle.jvm_named.specs.Numbers.{AreNumbers};
 ghost use Rattle.jvm_named.specs.Objects.{AreLoaded, HasDimensions, HasLoadedCaller};
-ghost use Rattle.jvm_steps.specs.Lines.{IfNamed, IfNamedBy, line_at};
+ghost use Rattle.jvm_steps.specs.Lines.{IfNamed, IfNamedBy};
 ghost use Rattle.jvm_steps.specs.Linked.{linker_in};
 ghost use Rattle.jvm_steps.specs.Prepared.{FitsOriginals, built_in_named, exception_kind};
-ghost use Rattle.jvm_steps.specs.Prepared.{line_in, main_name};
+ghost use Rattle.jvm_steps.specs.Prepared.{main_name};
+ghost use Rattle.jvm_steps.specs.Entries.{original_versions};
+ghost use Rattle.jvm_steps.specs.Versions.{HasOwnLines, current_of, first_of, version_at};
+ghost use Rattle.jvm_steps.specs.VersionTexts.{with_version};
+ghost use Rattle.jvm_steps.specs.Versions.{line_at};
 
 use crate::elements::units_of;
 use crate::line::{Action, Line};
 use crate::loading::{link_main, load_built_in, main_name};
 use crate::objects::kind_named;
-use crate::preparing::{exceptions_of, prepare_methods};
+use crate::preparing::{exceptions_of, prepare_methods, prepare_versions};
+use crate::versions::{Catching, Version, Versions, current_of, first_of, line_at, version_at};
 use base_classes::built_in_name;
 use class_linker::Linker;
 use const_pool::Kind;
@@ -35,13 +40,12 @@ use jvm_named::{Asked, MethodNumbers, Refusal, attempt, resolve};
 use std::alloc::Global;
 use std::marker::Model;
 
-/// What is kept of a method: what it takes, its limits, and the line at each offset of its code.
+/// What is kept of a method: what it takes, and its limits.
 #[derive(Drop)]
 pub struct Method {
     pub params: Option<Seq<Kind>>,
     pub max_stack: u16,
     pub max_locals: u16,
-    pub lines: Seq<Option<Line>>,
 }
 
 /// An exception that an instruction raises.
@@ -95,6 +99,7 @@ pub struct Originals {
     numbers: MethodNumbers,
     input: Seq<u8>,
     methods: Seq<Method>,
+    versions: Versions,
     exceptions: Exceptions,
 }
 
@@ -105,19 +110,11 @@ impl Model for Originals {
     ghost Value = { Linked };
 
     ghost view = { λ o. record {
-      world = world_in o.linker.program o.input;
+      setup = record { world = world_in o.linker.program o.input; versions = o.versions };
       loaded = o.linker.loaded;
     } };
 
-    ghost invariant = { λ o. IsPrepared o.linker.program o.methods o.exceptions o.numbers };
-}
-
-/// The line at an offset of a method's code, by two look-ups.
-fn line_in(methods: &Seq<Method>, method: usize, place: u16) -> Option<&Line>
-    ensures { option_copied result
-        ≡ option_and_then (line_in place) (slice_get methods.now method) }
-{
-    methods.get(method)?.lines.get(place as usize)?.as_ref()
+    ghost invariant = { λ o. IsPrepared o.linker.program o.methods o.versions o.exceptions o.numbers };
 }
 
 /// The name of the built-in class at this place of their order; none has an empty one.
@@ -178,11 +175,13 @@ impl Originals {
     /// Prepares a program: each offset of each code is looked up once, and the built-in classes are loaded.
     pub fn new(alloc: Global, program: Program, input: Seq<u8>) -> Result<Originals, NoMemory>
         requires { FitsOriginals program }
-        ensures program { IfOk result (λ o. o.world.program ≡ program) }
-        ensures input { IfOk result (λ o. o.world.input ≡ input) }
+        ensures program { IfOk result (λ o. o.setup.world.program ≡ program) }
+        ensures input { IfOk result (λ o. o.setup.world.input ≡ input) }
+        ensures versions { IfOk result (λ o. o.setup.versions ≡ original_versions program) }
         ensures loaded { IfOk result (λ o. o.loaded ≡ built_in_from 0 program.classes) }
     {
         let methods = prepare_methods(alloc, &program)?;
+        let versions = prepare_versions(alloc, &program)?;
         let exceptions = exceptions_of(&program);
         let numbers = MethodNumbers::new(alloc, &program)?;
         let mut linker = Linker::new(alloc, program)?;
@@ -192,13 +191,14 @@ impl Originals {
             numbers,
             input,
             methods,
+            versions,
             exceptions,
         })
     }
 
     /// The program that it was made of.
     pub fn program(&self) -> &Program
-        ensures program { result.now ≡ self.now.world.program }
+        ensures program { result.now ≡ self.now.setup.world.program }
         ensures few { length result.now.classes < 2 ^ 24 }
         ensures numbered { length result.now.methods < 2 ^ 32 }
     {
@@ -214,22 +214,47 @@ impl Originals {
 
     /// The numbers of its methods.
     pub fn numbers(&self) -> &MethodNumbers
-        ensures { AreNumbers self.now.world.program result.now }
+        ensures { AreNumbers self.now.setup.world.program result.now }
     {
         &self.numbers
     }
 
-    /// The line at an offset of a method's code, by two look-ups.
-    pub fn line(&self, method: usize, place: u16) -> Option<&Line>
-        ensures line { option_copied result ≡ line_at self.now.world.program method place }
+    /// The line at a place of a version, by two look-ups.
+    pub fn line(&self, version: usize, place: u16) -> Option<&Line>
+        ensures line { option_copied result ≡ line_at self.now.setup.versions version place }
         ensures family { IfSome result (λ l. l.now.family ≡ family_of l.now.instr.op) }
     {
-        line_in(&self.methods, method, place)
+        line_at(&self.versions, version, place)
+    }
+
+    /// The version in which a method begins.
+    pub fn current(&self, method: u32) -> usize
+        ensures { result ≡ current_of self.now.setup.versions method }
+    {
+        current_of(&self.versions, method)
+    }
+
+    /// Where a version begins.
+    pub fn first(&self, version: usize) -> u16
+        ensures { result ≡ first_of self.now.setup.versions version }
+    {
+        first_of(&self.versions, version)
+    }
+
+    /// The handlers of a version.
+    pub fn handlers(&self, version: usize) -> Option<&Seq<Catching>>
+        ensures { option_copied result ≡ option_map (λ x. x.handlers)
+            (version_at self.now.setup.versions version) }
+    {
+        match version_at(&self.versions, version) {
+            Some(version) => Some(&version.handlers),
+            None => None,
+        }
     }
 
     /// The greatest depth of a method's operands; 0 where it has no code.
     pub fn max_stack(&self, method: u32) -> u16
-        ensures { result ≡ max_stack_of self.now.world method }
+        ensures { result ≡ max_stack_of self.now.setup.world method }
     {
         match self.methods.get(method as usize) {
             Some(method) => method.max_stack,
@@ -239,7 +264,7 @@ impl Originals {
 
     /// The number of a method's locals; 0 where it has no code.
     pub fn max_locals(&self, method: u32) -> u16
-        ensures { result ≡ max_locals_of self.now.world method }
+        ensures { result ≡ max_locals_of self.now.setup.world method }
     {
         match self.methods.get(method as usize) {
             Some(method) => method.max_locals,
@@ -249,14 +274,14 @@ impl Originals {
 
     /// What a method takes, where it has a method descriptor.
     pub fn params(&self, method: u32) -> Option<&Seq<Kind>>
-        ensures { option_copied result ≡ params_of_method self.now.world.program method }
+        ensures { option_copied result ≡ params_of_method self.now.setup.world.program method }
     {
         self.methods.get(method as usize)?.params.as_ref()
     }
 
     /// The kind of an exception's class.
     pub fn kind_of(&self, exception: Exception) -> u32
-        ensures { result ≡ exception_kind self.now.world.program exception }
+        ensures { result ≡ exception_kind self.now.setup.world.program exception }
     {
         match exception {
             Exception::AbstractMethod => self.exceptions.abstract_method,
@@ -281,7 +306,7 @@ impl Originals {
     /// The kind of the class of this built-in name, by its place; found by the name.
     pub fn built_in_kind(&self, alloc: Global, place: u16) -> Result<u32, NoMemory>
         ensures { let name = built_in_named place in
-            IfOk result (λ kind. kind ≡ kind_for self.now.world.program name) }
+            IfOk result (λ kind. kind ≡ kind_for self.now.setup.world.program name) }
     {
         let name = units_of(alloc, built_in_named(place).as_bytes())?;
         Ok(kind_named(self.linker.index(), name.as_slice()))
@@ -289,9 +314,31 @@ impl Originals {
 
     /// The kind of texts.
     pub fn string_kind(&self) -> u32
-        ensures { result ≡ kind_for self.now.world.program string }
+        ensures { result ≡ kind_for self.now.setup.world.program string }
     {
         self.exceptions.string
+    }
+
+    // ---- versions
+
+    /// Adds a version of a method, which begins in it from then on. After want of memory nothing has changed.
+    pub fn add(&mut self, version: Version) -> Result<(), NoMemory>
+        requires method { version.method < length self.old.setup.versions.current }
+        requires few { length self.old.setup.versions.all < 4294967296 }
+        requires lines { HasOwnLines version }
+        ensures ok { OnOk result
+            (self.new.setup.versions ≡ with_version version self.old.setup.versions) }
+        ensures err { OnErr result (self.new.setup.versions ≡ self.old.setup.versions) }
+        ensures world { self.new.setup.world ≡ self.old.setup.world }
+        ensures loaded { self.new.loaded ≡ self.old.loaded }
+    {
+        let id = self.versions.all.len() as u32;
+        let method = version.method as usize;
+        let Ok(()) = self.versions.all.push(version) else {
+            return Err(NoMemory);
+        };
+        self.versions.current.set(method, id);
+        Ok(())
     }
 
     // ---- loading
@@ -304,13 +351,13 @@ impl Originals {
         loaded: &mut Seq<u32>,
     ) -> Result<Result<u32, Refusal>, NoMemory>
         requires linked { self.old.loaded ≡ loaded.old }
-        requires root { IsLoaded (linker_in self.old) (user_count self.old.world.program) }
-        ensures found { let p = self.old.world.program in IfOk result
+        requires root { IsLoaded (linker_in self.old) (user_count self.old.setup.world.program) }
+        ensures found { let p = self.old.setup.world.program in IfOk result
             (λ r. found_view r ≡ resolved_kind p self.old.loaded (main_name p)) }
-        ensures loaded { let p = self.old.world.program in OnOk result
+        ensures loaded { let p = self.old.setup.world.program in OnOk result
             (loaded.new ≡ (load_of p self.old.loaded (main_name p)).loaded) }
         ensures linked { OnOk result (self.new.loaded ≡ loaded.new) }
-        ensures world { self.new.world ≡ self.old.world }
+        ensures world { self.new.setup ≡ self.old.setup }
     {
         let name = main_name(alloc, self.linker.program())?;
         resolve(&mut self.linker, loaded, &name)
@@ -318,18 +365,18 @@ impl Originals {
 
     /// Loads the main class, where nothing but the linker asks for it.
     pub fn link_main(&mut self, alloc: Global) -> Result<(), NoMemory>
-        ensures loaded { let p = self.old.world.program in OnOk result
+        ensures loaded { let p = self.old.setup.world.program in OnOk result
             (self.new.loaded ≡ (load_of p self.old.loaded (main_name p)).loaded) }
-        ensures world { self.new.world ≡ self.old.world }
+        ensures world { self.new.setup ≡ self.old.setup }
     {
         link_main(alloc, &mut self.linker)
     }
 
-    /// Attempts the line at an offset of a method's code, where it names something. Where it doesn't nothing is done.
+    /// Attempts the line at a place of a version, where it names something. Where it doesn't nothing is done.
     pub fn attempt_named(
         &mut self,
         alloc: Global,
-        method: usize,
+        version: usize,
         place: u16,
         shared: &mut Shared,
         frames: &mut Frames,
@@ -338,25 +385,25 @@ impl Originals {
         requires linked { self.old.loaded ≡ shared.old.loaded }
         requires built_in { HasBuiltIn (linker_in self.old) }
         requires objects { AreLoaded (linker_in self.old) shared.old.heap }
-        requires caller { IfNamed (line_at self.old.world.program method place)
+        requires caller { IfNamed (line_at self.old.setup.versions version place)
             (λ n next. HasLoadedCaller (linker_in self.old) n) }
-        ensures answer { let w = self.old.world in IfNamed (line_at w.program method place)
-            (λ n next. Answers result (attempts w n shared.old frames.old) frames.old) }
-        ensures frames { let w = self.old.world in IfNamed (line_at w.program method place)
-            (λ n next. Moves result frames.new (attempts w n shared.old frames.old) next
+        ensures answer { let w = self.old.setup in IfNamed (line_at w.versions version place)
+            (λ n next. Answers result (attempts w.world n shared.old frames.old) frames.old) }
+        ensures frames { let w = self.old.setup in IfNamed (line_at w.versions version place)
+            (λ n next. Moves result frames.new (attempts w.world n shared.old frames.old) next
             frames.old) }
-        ensures shared { let w = self.old.world in IfNamed (line_at w.program method place)
-            (λ n next. Shares result shared.new (attempts w n shared.old frames.old) frames.old) }
-        ensures output { let w = self.old.world in IfNamed (line_at w.program method place)
+        ensures shared { let w = self.old.setup in IfNamed (line_at w.versions version place)
+            (λ n next. Shares result shared.new (attempts w.world n shared.old frames.old) frames.old) }
+        ensures output { let w = self.old.setup in IfNamed (line_at w.versions version place)
             (λ n next. OnOk result (output.new
-            ≡ output.old ++ wrote_by (attempts w n shared.old frames.old) frames.old)) }
-        ensures loaded { let p = self.old.world.program in IfNamed (line_at p method place)
+            ≡ output.old ++ wrote_by (attempts w.world n shared.old frames.old) frames.old)) }
+        ensures loaded { let p = self.old.setup.world.program in IfNamed (line_at self.old.setup.versions version place)
             (λ n next. OnOk result (self.new.loaded ≡ loaded_for p n shared.old frames.old)) }
         ensures built_in { OnOk result (HasBuiltIn (linker_in self.new)) }
         ensures objects { OnOk result (AreLoaded (linker_in self.new) shared.new.heap) }
-        ensures world { self.new.world ≡ self.old.world }
+        ensures world { self.new.setup ≡ self.old.setup }
     {
-        let Some(line) = line_in(&self.methods, method, place) else {
+        let Some(line) = line_at(&self.versions, version, place) else {
             return Ok(Asked::Refused(Refusal::Breaks));
         };
         attempt_line(

@@ -7,6 +7,7 @@ ghost use Rattle.jvm_basic.specs.declared.effect.Effect.TheVariants.{Next};
 ghost use Rattle.jvm_basic.specs.Outcomes.{effect_of, after};
 ghost use Rattle.jvm_basic.specs.Rules.{rule_of};
 ghost use Rattle.jvm_model.specs.Families.{family_of};
+ghost use Rattle.jvm_steps.specs.Ready.{CanRun};
 ghost use Rattle.jvm_steps.specs.Runs.{IsPlainLine, LeadsPlainly};
 
 use crate::line::{Action, Line};
@@ -17,7 +18,7 @@ use jvm_basic::{Effect, basic_by};
 
 /// The line at which the current frame stands, where the frame does it by itself.
 fn plain_line<'a>(originals: &'a Originals, frames: &Frames) -> Option<&'a Line>
-    ensures line { IfSome result (λ l. IsPlainLine originals.now.world frames.now.frames l.now) }
+    ensures line { IfSome result (λ l. IsPlainLine originals.now.setup frames.now.frames l.now) }
     ensures family { IfSome result (λ l. l.now.family ≡ family_of l.now.instr.op) }
 {
     let here = where_now(frames)?;
@@ -45,8 +46,9 @@ fn pass_line(line: &Line, frames: &mut Frames) -> bool
 
 /// A step, where the current frame does it by itself; else nothing has changed.
 fn plain_step(originals: &Originals, frames: &mut Frames) -> bool
+    requires { CanRun originals.now.setup }
     ensures gone { result ≡ true
-        → LeadsPlainly originals.now.world frames.old.frames 1 frames.new.frames }
+        → LeadsPlainly originals.now.setup frames.old.frames 1 frames.new.frames }
     ensures kept { result ≡ false → frames.new ≡ frames.old }
 {
     match plain_line(originals, frames) {
@@ -57,8 +59,9 @@ fn plain_step(originals: &Originals, frames: &mut Frames) -> bool
 
 /// Steps that the current frame does by itself, at most so many: how many it has made.
 pub fn plain_steps(originals: &Originals, frames: &mut Frames, most: u64) -> u64
+    requires { CanRun originals.now.setup }
     ensures within { result ≤ most }
-    ensures made { LeadsPlainly originals.now.world frames.old.frames result frames.new.frames }
+    ensures made { LeadsPlainly originals.now.setup frames.old.frames result frames.new.frames }
 {
     for made in 0..most {
         if !plain_step(originals, frames) {

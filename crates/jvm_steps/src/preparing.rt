@@ -4,24 +4,29 @@ ghost use Rattle.std.specs.Prelude.{◌≡◌, ◌<◌, ◌^◌, length, map, un
 ghost use Rattle.jvm_model.specs.SharedState.{kind_for, string};
 ghost use Rattle.jvm_steps.specs.declared.originals.Exception.{Exception as TheException};
 ghost use Rattle.jvm_steps.specs.Entries.{code_line, lines_of, params_of};
+ghost use Rattle.std.specs.List.{range_with_len};
 ghost use Rattle.jvm_steps.specs.Entries.{entry_at, entry_of, no_method};
+ghost use Rattle.jvm_steps.specs.Entries.{catching_of, no_version, own_number, original_version, original_versions};
+ghost use Rattle.jvm_steps.specs.Entries.{version_entry, version_of};
 ghost use Rattle.jvm_steps.specs.Prepared.{FitsOriginals, HasShortCode};
 ghost use Rattle.jvm_steps.specs.Prepared.{exception_kind, exception_in};
 
 use crate::descriptor::shape_of;
 use crate::line::Line;
 use crate::members::code_of;
+use crate::naming::class_in;
 use crate::objects::kind_for;
 use crate::originals::{Exceptions, Method};
 use crate::resolving::line_of;
+use crate::versions::{Catching, Version, Versions};
 use code_model::instr_at;
-use const_pool::{ClassFile, Kind, Member};
-use jf_bytes::{NoMemory, Seq};
+use const_pool::{ClassFile, Handler, Kind, Member};
+use jf_bytes::{NoMemory, Seq, Text16};
 use jvm_model::{MethodPlace, Program};
 use std::alloc::Global;
 
 /// The line at an offset of a code.
-fn code_line(
+pub fn code_line(
     alloc: Global,
     class: &ClassFile,
     code: &[u8],
@@ -78,26 +83,23 @@ fn prepare(alloc: Global, class: &ClassFile, member: &Member) -> Result<Method, 
             params,
             max_stack: 0,
             max_locals: 0,
-            lines: Seq::new(alloc),
         });
     };
     Ok(Method {
         params,
         max_stack: code.max_stack,
         max_locals: code.max_locals,
-        lines: lines_of(alloc, class, code.code.as_slice())?,
     })
 }
 
 /// Nothing, where a program has no method.
-fn no_method(alloc: Global) -> Method
+fn no_method() -> Method
     ensures { result ≡ no_method }
 {
     Method {
         params: None,
         max_stack: 0,
         max_locals: 0,
-        lines: Seq::new(alloc),
     }
 }
 
@@ -107,11 +109,11 @@ fn prepare_at(alloc: Global, program: &Program, place: MethodPlace) -> Result<Me
     ensures { IfOk result (λ method. method ≡ entry_at program.now place) }
 {
     let Some(class) = program.classes.get(place.class as usize) else {
-        return Ok(no_method(alloc));
+        return Ok(no_method());
     };
     match class.methods.get(place.position as usize) {
         Some(member) => prepare(alloc, class, member),
-        None => Ok(no_method(alloc)),
+        None => Ok(no_method()),
     }
 }
 
@@ -125,6 +127,147 @@ pub fn prepare_methods(alloc: Global, program: &Program) -> Result<Seq<Method>, 
         methods.push(prepare_at(alloc, program, *place)?)?;
     }
     Ok(methods)
+}
+
+// ---- versions
+
+/// The name of the class that a handler catches.
+fn catches_of(
+    alloc: Global,
+    class: &ClassFile,
+    handler: &Handler,
+) -> Result<Option<Text16>, NoMemory>
+    ensures { IfOk result (λ name. name ≡ (catching_of class.now handler.now).catches) }
+{
+    if handler.catch_class == 0 {
+        return Ok(None);
+    }
+    class_in(alloc, &class.pool, handler.catch_class)
+}
+
+/// A handler of a class's code, with the name of the class that it catches.
+fn catching_of(alloc: Global, class: &ClassFile, handler: &Handler) -> Result<Catching, NoMemory>
+    ensures { IfOk result (λ h. h ≡ catching_of class.now handler.now) }
+{
+    let catches = catches_of(alloc, class, handler)?;
+    Ok(Catching {
+        start: handler.start,
+        end: handler.end,
+        target: handler.handler,
+        catches,
+    })
+}
+
+/// The handlers of a class's code.
+pub fn handlers_of(
+    alloc: Global,
+    class: &ClassFile,
+    handlers: &[Handler],
+) -> Result<Seq<Catching>, NoMemory>
+    ensures { IfOk result (λ hs. hs ≡ map (catching_of class.now) handlers.now) }
+{
+    let mut all = Seq::with_capacity(alloc, handlers.len())?;
+    for handler in handlers {
+        all.push(catching_of(alloc, class, handler)?)?;
+    }
+    Ok(all)
+}
+
+/// No code.
+fn no_version(alloc: Global, method: u32) -> Version
+    ensures { result ≡ no_version method }
+{
+    Version {
+        method,
+        first: 0,
+        lines: Seq::new(alloc),
+        handlers: Seq::new(alloc),
+    }
+}
+
+/// The version that a method's original code is.
+fn version_entry(
+    alloc: Global,
+    method: u32,
+    class: &ClassFile,
+    member: &Member,
+) -> Result<Version, NoMemory>
+    requires { HasShortCode member.now }
+    ensures { IfOk result (λ version. version ≡ version_entry method class.now member.now) }
+{
+    let Some(code) = code_of(member) else {
+        return Ok(no_version(alloc, method));
+    };
+    Ok(Version {
+        method,
+        first: 0,
+        lines: lines_of(alloc, class, code.code.as_slice())?,
+        handlers: handlers_of(alloc, class, code.handlers.as_slice())?,
+    })
+}
+
+/// The same of the method at a place of a program.
+fn version_of(
+    alloc: Global,
+    program: &Program,
+    method: u32,
+    place: MethodPlace,
+) -> Result<Version, NoMemory>
+    requires { FitsOriginals program.now }
+    ensures { IfOk result (λ version. version ≡ version_of program.now method place) }
+{
+    let Some(class) = program.classes.get(place.class as usize) else {
+        return Ok(no_version(alloc, method));
+    };
+    match class.methods.get(place.position as usize) {
+        Some(member) => version_entry(alloc, method, class, member),
+        None => Ok(no_version(alloc, method)),
+    }
+}
+
+/// The same of the method with this number.
+fn original_version(alloc: Global, program: &Program, method: u32) -> Result<Version, NoMemory>
+    requires { FitsOriginals program.now }
+    ensures { IfOk result (λ version. version ≡ original_version program.now method) }
+{
+    match program.methods.get(method as usize) {
+        Some(place) => version_of(alloc, program, method, *place),
+        None => Ok(no_version(alloc, method)),
+    }
+}
+
+/// The version of each method, by its number.
+fn all_versions(alloc: Global, program: &Program) -> Result<Seq<Version>, NoMemory>
+    requires { FitsOriginals program.now }
+    ensures { IfOk result (λ all. all ≡ (original_versions program.now).all) }
+{
+    let mut all = Seq::with_capacity(alloc, program.methods.len())?;
+    for method in 0..program.methods.len() as u32 {
+        let version = original_version(alloc, program, method)?;
+        all.push(version)?;
+    }
+    Ok(all)
+}
+
+/// The numbers of so many methods.
+fn numbers_to(alloc: Global, count: u32) -> Result<Seq<u32>, NoMemory>
+    ensures { IfOk result (λ all. all ≡ map own_number (range_with_len 0 count)) }
+{
+    let mut all = Seq::with_capacity(alloc, count as usize)?;
+    for method in 0..count {
+        all.push(method)?;
+    }
+    Ok(all)
+}
+
+/// Prepares the original code of a program.
+pub fn prepare_versions(alloc: Global, program: &Program) -> Result<Versions, NoMemory>
+    requires { FitsOriginals program.now }
+    ensures { IfOk result (λ versions. versions ≡ original_versions program.now) }
+{
+    let all = all_versions(alloc, program)?;
+    let current = numbers_to(alloc, program.methods.len() as u32)?;
+    Ok(Versions { all, current })
 }
 
 /// The kinds of the exceptions that instructions raise, and of texts.

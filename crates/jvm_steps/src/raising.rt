@@ -37,7 +37,7 @@ pub fn end_unless(parts: &mut Parts, method: u32, own: u16, effect: Effect)
 
 /// The offset of the instruction at which a frame stands; 0 where there is none.
 pub fn own_of(originals: &Originals, here: Here) -> u16
-    ensures { result ≡ own_of originals.now.world here }
+    ensures { result ≡ own_of originals.now.setup here }
 {
     match originals.line(here.version, here.place) {
         Some(line) => line.instr.at,
@@ -47,7 +47,7 @@ pub fn own_of(originals: &Originals, here: Here) -> u16
 
 /// Ends the run at the line at which the current frame stands.
 pub fn break_at(originals: &Originals, parts: &mut Parts, here: Here)
-    ensures { parts.new ≡ ended here.method (own_of originals.now.world here) parts.old }
+    ensures { parts.new ≡ ended here.method (own_of originals.now.setup here) parts.old }
 {
     let own = own_of(originals, here);
     break_off(parts, here.method, own);
@@ -106,7 +106,7 @@ pub fn throw_kind_with(
     kind: u32,
     message: &[u16],
 ) -> Result<(), NoMemory>
-    ensures { let text = kind_for originals.now.world.program string in
+    ensures { let text = kind_for originals.now.setup.world.program string in
         OnOk result (parts.new ≡ throwing_with text kind message.now parts.old) }
 {
     let string = originals.string_kind();
@@ -117,7 +117,7 @@ pub fn throw_kind_with(
 
 /// Throws an exception that the machine makes, without a message.
 pub fn raise(originals: &Originals, parts: &mut Parts, exception: Exception) -> Result<(), NoMemory>
-    ensures { OnOk result (parts.new ≡ raising originals.now.world exception None parts.old) }
+    ensures { OnOk result (parts.new ≡ raising originals.now.setup exception None parts.old) }
 {
     throw_kind(parts, originals.kind_of(exception))
 }
@@ -130,7 +130,7 @@ pub fn raise_with(
     message: &[u16],
 ) -> Result<(), NoMemory>
     ensures { let told = Some message.now in
-        OnOk result (parts.new ≡ raising originals.now.world exception told parts.old) }
+        OnOk result (parts.new ≡ raising originals.now.setup exception told parts.old) }
 {
     throw_kind_with(originals, parts, originals.kind_of(exception), message)
 }

@@ -18,7 +18,7 @@ use heap_objects::Datum;
 /// What is on top goes on behind its line, with the result.
 fn give_back(originals: &Originals, parts: &mut Parts, datum: Option<Datum>)
     ensures state { let s = state_in parts.old in
-        state_in parts.new ≡ gives_back_line originals.now.world.program s datum s.stack }
+        state_in parts.new ≡ gives_back_line originals.now.setup.versions s datum s.stack }
 {
     let Some(caller) = where_now(&parts.frames) else {
         return;
@@ -34,7 +34,7 @@ fn give_back(originals: &Originals, parts: &mut Parts, datum: Option<Datum>)
 /// The current activation ends with this result.
 fn return_with(originals: &Originals, parts: &mut Parts, datum: Option<Datum>)
     ensures state { let s = left_by parts.old in
-        state_in parts.new ≡ gives_back_line originals.now.world.program s datum s.stack }
+        state_in parts.new ≡ gives_back_line originals.now.setup.versions s datum s.stack }
 {
     parts.frames.leave();
     give_back(originals, parts, datum);
@@ -44,7 +44,7 @@ fn return_with(originals: &Originals, parts: &mut Parts, datum: Option<Datum>)
 /// activation ends with the run.
 fn return_value(originals: &Originals, parts: &mut Parts, method: u32, own: u16, kind: Kind)
     ensures state { state_in parts.new
-        ≡ returns_given originals.now.world.program method own kind parts.old }
+        ≡ returns_given originals.now.setup.versions method own kind parts.old }
 {
     match top_datum(&parts.frames, kind) {
         Some(datum) => return_with(originals, parts, Some(datum)),
@@ -65,7 +65,7 @@ pub fn return_by(
 )
     requires top { IsTop method parts.old.frames.frames }
     ensures state { state_in parts.new
-        ≡ on_parts (acts_return originals.now.world line.now kind) parts.old }
+        ≡ on_parts (acts_return originals.now.setup line.now kind) parts.old }
 {
     match kind {
         None => return_with(originals, parts, None),

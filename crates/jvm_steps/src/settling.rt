@@ -5,13 +5,14 @@
 ghost use Rattle.std.specs.Prelude.{◌≡◌, [], false, map, None, Some, is_some, IfOk, OnOk};
 ghost use Rattle.jvm_model.specs.Applies.{has_room, still};
 ghost use Rattle.jvm_model.specs.Moves.{argument_array, main_or_end, move, settled};
-ghost use Rattle.jvm_model.specs.Originals.{original};
 ghost use Rattle.jvm_steps.specs.Initializing.{after_marker};
 ghost use Rattle.jvm_steps.specs.Markers.{state_of};
 ghost use Rattle.jvm_steps.specs.States.{active, here_of, state_in};
 ghost use Rattle.jvm_steps.specs.Settling.{emptied, fits_alone, with_alone};
 ghost use Rattle.jvm_steps.specs.Settling.{after_move, caught_at, caught_top, main_entries};
+ghost use Rattle.jvm_steps.specs.Versions.{text_of};
 
+use crate::entering::enter;
 use crate::handlers::{class_of, handler_for};
 use crate::initializing::{fail, go_on};
 use crate::markers::{Marker, take_marker};
@@ -51,7 +52,7 @@ fn put_alone(frames: &mut Frames, object: u32) -> bool
 fn go_to_handler(originals: &Originals, parts: &mut Parts, object: u32, here: Here, target: u16)
     requires { here_of parts.old.frames.frames ≡ Some here }
     ensures state { state_in parts.new ≡
-        caught_at originals.now.world object target parts.old.frames.frames parts.old }
+        caught_at originals.now.setup object target parts.old.frames.frames parts.old }
 {
     parts.thrown = None;
     if put_alone(&mut parts.frames, object) {
@@ -65,7 +66,7 @@ fn go_to_handler(originals: &Originals, parts: &mut Parts, object: u32, here: He
 fn meet_frame(originals: &Originals, parts: &mut Parts, object: u32, here: Here)
     requires { here_of parts.old.frames.frames ≡ Some here }
     ensures state { state_in parts.new ≡
-        caught_top originals.now.world object parts.old.frames.frames parts.old }
+        caught_top originals.now.setup object parts.old.frames.frames parts.old }
 {
     let class = class_of(originals.program(), &parts.shared.heap, object) as usize;
     match handler_for(originals, here.version, class, here.place) {
@@ -81,7 +82,7 @@ fn meet_frame(originals: &Originals, parts: &mut Parts, object: u32, here: Here)
 fn meet_throw(originals: &Originals, parts: &mut Parts, object: u32)
     requires ending { parts.old.ending ≡ None }
     requires thrown { parts.old.thrown ≡ Some object }
-    ensures state { state_in parts.new ≡ after_move originals.now.world (state_in parts.old) }
+    ensures state { state_in parts.new ≡ after_move originals.now.setup (state_in parts.old) }
 {
     match where_now(&parts.frames) {
         Some(here) => meet_frame(originals, parts, object, here),
@@ -98,10 +99,10 @@ fn meet_throw(originals: &Originals, parts: &mut Parts, object: u32)
 /// The frame of `main`, which has its argument array, if it has a local for it.
 fn begin_frame(originals: &Originals, frames: &mut Frames, main: u32) -> Result<bool, NoMemory>
     requires none { frames.old.frames ≡ [] }
-    requires main { main ≡ originals.now.world.program.main }
-    ensures answer { IfOk result (λ b. b ≡ has_room originals.now.world main argument_array) }
+    requires main { main ≡ originals.now.setup.world.program.main }
+    ensures answer { IfOk result (λ b. b ≡ has_room originals.now.setup.world main argument_array) }
     ensures frames { IfOk result (λ b.
-        map active frames.new.frames ≡ main_entries b originals.now.world) }
+        map active frames.new.frames ≡ main_entries b originals.now.setup) }
 {
     let max_locals = originals.max_locals(main);
     let max_stack = originals.max_stack(main);
@@ -109,7 +110,7 @@ fn begin_frame(originals: &Originals, frames: &mut Frames, main: u32) -> Result<
         return Ok(false);
     }
     frames.reserve(max_locals, max_stack)?;
-    frames.enter(main as usize, main, max_locals, max_stack, 0);
+    enter(originals, frames, main, max_locals, max_stack, 0);
     frames.set_local(0, Value::Ref(ARGUMENTS));
     Ok(true)
 }
@@ -117,8 +118,8 @@ fn begin_frame(originals: &Originals, frames: &mut Frames, main: u32) -> Result<
 /// `main` begins, or the run ends where it has no local for its argument.
 fn begin_main(originals: &Originals, parts: &mut Parts) -> Result<(), NoMemory>
     requires { parts.old.frames.frames ≡ [] }
-    ensures state { let w = originals.now.world in OnOk result (state_in parts.new ≡
-        (main_or_end w (original w.program) (state_in parts.old) false).after) }
+    ensures state { let w = originals.now.setup in OnOk result (state_in parts.new ≡
+        (main_or_end w.world (text_of w.versions) (state_in parts.old) false).after) }
 {
     let main = originals.program().main;
     if begin_frame(originals, &mut parts.frames, main)? {
@@ -132,8 +133,8 @@ fn begin_main(originals: &Originals, parts: &mut Parts) -> Result<(), NoMemory>
 /// With nothing thrown and no frame left the run has returned, or `main` begins.
 fn begin_or_end(originals: &Originals, parts: &mut Parts) -> Result<(), NoMemory>
     requires { parts.old.frames.frames ≡ [] }
-    ensures state { let w = originals.now.world in OnOk result (state_in parts.new ≡
-        (main_or_end w (original w.program) (state_in parts.old) parts.old.begun).after) }
+    ensures state { let w = originals.now.setup in OnOk result (state_in parts.new ≡
+        (main_or_end w.world (text_of w.versions) (state_in parts.old) parts.old.begun).after) }
 {
     if !parts.begun {
         return begin_main(originals, parts);
@@ -147,10 +148,10 @@ fn begin_or_end(originals: &Originals, parts: &mut Parts) -> Result<(), NoMemory
 /// A move of the frames, where no marker stands on the current one. False, with nothing changed,
 /// where none applies.
 fn move_frame(originals: &Originals, parts: &mut Parts) -> Result<bool, NoMemory>
-    ensures answer { let w = originals.now.world in
-        IfOk result (λ b. b ≡ is_some (move w (original w.program) (state_in parts.old))) }
+    ensures answer { let w = originals.now.setup in
+        IfOk result (λ b. b ≡ is_some (move w.world (text_of w.versions) (state_in parts.old))) }
     ensures state { OnOk result
-        (state_in parts.new ≡ after_move originals.now.world (state_in parts.old)) }
+        (state_in parts.new ≡ after_move originals.now.setup (state_in parts.old)) }
 {
     if parts.ending.is_some() {
         return Ok(false);
@@ -175,7 +176,7 @@ fn move_marker(
     marker: Marker,
 ) -> Result<(), NoMemory>
     ensures { OnOk result (state_of markers.new parts.new
-        ≡ after_marker originals.now.world (state_of markers.old parts.old) parts.old.thrown
+        ≡ after_marker originals.now.setup (state_of markers.old parts.old) parts.old.thrown
         marker.class marker.part) }
 {
     match parts.thrown {
@@ -191,10 +192,10 @@ fn make_move(
     parts: &mut Parts,
     markers: &mut Stack<Marker>,
 ) -> Result<bool, NoMemory>
-    ensures answer { let w = originals.now.world in IfOk result (λ b.
-        b ≡ is_some (move w (original w.program) (state_of markers.old parts.old))) }
+    ensures answer { let w = originals.now.setup in IfOk result (λ b.
+        b ≡ is_some (move w.world (text_of w.versions) (state_of markers.old parts.old))) }
     ensures state { OnOk result (state_of markers.new parts.new
-        ≡ after_move originals.now.world (state_of markers.old parts.old)) }
+        ≡ after_move originals.now.setup (state_of markers.old parts.old)) }
 {
     if parts.ending.is_some() {
         return Ok(false);
@@ -213,9 +214,9 @@ pub fn settle(
     parts: &mut Parts,
     markers: &mut Stack<Marker>,
 ) -> Result<(), NoMemory>
-    ensures { let w = originals.now.world in
+    ensures { let w = originals.now.setup in
         let turn = still (state_of markers.old parts.old) in OnOk result
-        (state_of markers.new parts.new ≡ (settled w (original w.program) turn).after) }
+        (state_of markers.new parts.new ≡ (settled w.world (text_of w.versions) turn).after) }
 {
     while make_move(alloc, originals, parts, markers)? {}
     Ok(())

@@ -6,10 +6,11 @@ ghost use Rattle.jvm_model.specs.Moves.{settled};
 ghost use Rattle.jvm_model.specs.Originals.{original};
 ghost use Rattle.jvm_model.specs.Run.{is_ready, step};
 ghost use Rattle.jvm_model.specs.SharedState.{phase_of};
-ghost use Rattle.jvm_model.specs.Sound.{IsFit, IsSound};
 ghost use Rattle.jvm_steps.specs.Acts.{is_at_rest, goes_on_in};
+ghost use Rattle.jvm_steps.specs.Ready.{CanRun, IsSoundIn};
 ghost use Rattle.jvm_steps.specs.Markers.{is_unmarked, state_of};
 ghost use Rattle.jvm_steps.specs.Runs.{Leads};
+ghost use Rattle.jvm_steps.specs.Versions.{text_of};
 
 use crate::attempting::attempt;
 use crate::markers::{Marker, marker_on};
@@ -51,9 +52,9 @@ fn finish(
     parts: &mut Parts,
     markers: &mut Stack<Marker>,
 ) -> Result<(), NoMemory>
-    ensures { let w = originals.now.world in
+    ensures { let w = originals.now.setup in
         let turn = still (state_of markers.old parts.old) in OnOk result
-        (state_of markers.new parts.new ≡ (settled w (original w.program) turn).after) }
+        (state_of markers.new parts.new ≡ (settled w.world (text_of w.versions) turn).after) }
 {
     if is_at_rest(parts, markers) {
         return Ok(());
@@ -82,12 +83,12 @@ pub fn step(
     markers: &mut Stack<Marker>,
 ) -> Result<(), NoMemory>
     requires linked { originals.old.loaded ≡ parts.old.shared.loaded }
-    requires fit { IsFit originals.old.world.program }
-    requires sound { IsSound originals.old.world.program (state_of markers.old parts.old) }
-    ensures world { originals.new.world ≡ originals.old.world }
+    requires fit { CanRun originals.old.setup }
+    requires sound { IsSoundIn originals.old.setup (state_of markers.old parts.old) }
+    ensures world { originals.new.setup ≡ originals.old.setup }
     ensures linked { OnOk result (originals.new.loaded ≡ parts.new.shared.loaded) }
-    ensures state { let w = originals.old.world in let s = state_of markers.old parts.old in
-        OnOk result (state_of markers.new parts.new ≡ (step w (original w.program) s).after) }
+    ensures state { let w = originals.old.setup in let s = state_of markers.old parts.old in
+        OnOk result (state_of markers.new parts.new ≡ (step w.world (text_of w.versions) s).after) }
 {
     if !goes_on(parts, markers) {
         return Ok(());
@@ -106,9 +107,10 @@ pub fn step(
 
 /// Steps that the current frame does by itself, at most so many: how many it has made.
 fn step_plainly(originals: &Originals, parts: &mut Parts, markers: &Stack<Marker>, most: u64) -> u64
-    requires { parts.old.ending ≡ None }
+    requires run { CanRun originals.now.setup }
+    requires ending { parts.old.ending ≡ None }
     ensures within { result ≤ most }
-    ensures made { Leads originals.now.world (state_of markers.now parts.old) result
+    ensures made { Leads originals.now.setup (state_of markers.now parts.old) result
         (state_of markers.now parts.new) }
     ensures ending { parts.new.ending ≡ None }
     ensures shared { parts.new.shared ≡ parts.old.shared }
@@ -130,13 +132,13 @@ fn step_on(
     requires some { 0 < most }
     requires ending { parts.old.ending ≡ None }
     requires linked { originals.old.loaded ≡ parts.old.shared.loaded }
-    requires fit { IsFit originals.old.world.program }
-    requires sound { IsSound originals.old.world.program (state_of markers.old parts.old) }
-    ensures world { originals.new.world ≡ originals.old.world }
+    requires fit { CanRun originals.old.setup }
+    requires sound { IsSoundIn originals.old.setup (state_of markers.old parts.old) }
+    ensures world { originals.new.setup ≡ originals.old.setup }
     ensures linked { OnOk result (originals.new.loaded ≡ parts.new.shared.loaded) }
     ensures some { IfOk result (λ n. 0 < n) }
     ensures within { IfOk result (λ n. n ≤ most) }
-    ensures made { IfOk result (λ n. Leads originals.old.world (state_of markers.old parts.old) n
+    ensures made { IfOk result (λ n. Leads originals.old.setup (state_of markers.old parts.old) n
         (state_of markers.new parts.new)) }
 {
     let plain = step_plainly(originals, parts, markers, most);
@@ -157,12 +159,12 @@ pub fn run(
     most: u64,
 ) -> Result<u64, NoMemory>
     requires linked { originals.old.loaded ≡ parts.old.shared.loaded }
-    requires fit { IsFit originals.old.world.program }
-    requires sound { IsSound originals.old.world.program (state_of markers.old parts.old) }
-    ensures world { originals.new.world ≡ originals.old.world }
+    requires fit { CanRun originals.old.setup }
+    requires sound { IsSoundIn originals.old.setup (state_of markers.old parts.old) }
+    ensures world { originals.new.setup ≡ originals.old.setup }
     ensures linked { OnOk result (originals.new.loaded ≡ parts.new.shared.loaded) }
     ensures within { IfOk result (λ n. n ≤ most) }
-    ensures made { IfOk result (λ n. Leads originals.old.world (state_of markers.old parts.old) n
+    ensures made { IfOk result (λ n. Leads originals.old.setup (state_of markers.old parts.old) n
         (state_of markers.new parts.new)) }
     ensures ended { IfOk result (λ n. n < most → is_some parts.new.ending ≡ true) }
 {

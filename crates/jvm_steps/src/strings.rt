@@ -21,7 +21,7 @@ pub fn push_string(
 ) -> Result<(), NoMemory>
     requires top { IsTop method parts.old.frames.frames }
     ensures state { Becomes result parts.new
-        (acts_string originals.now.world line.now units.now) parts.old }
+        (acts_string originals.now.setup line.now units.now) parts.old }
 {
     let string = originals.string_kind();
     match parts.shared.heap.intern(string, units.units()) {

@@ -17,7 +17,7 @@ use jvm_model::Shared;
 
 /// Whether an object is a Throwable.
 fn is_throwable(originals: &Originals, shared: &Shared, object: u32) -> bool
-    ensures { let p = originals.now.world.program in
+    ensures { let p = originals.now.setup.world.program in
         result ≡ is_below p (class_of p shared.now object) throwable }
 {
     let class = class_of(originals.program(), &shared.heap, object) as usize;
@@ -32,7 +32,7 @@ pub fn throw_object(
     line: &Line,
 ) -> Result<(), NoMemory>
     requires top { IsTop method parts.old.frames.frames }
-    ensures state { Becomes result parts.new (acts_athrow originals.now.world line.now) parts.old }
+    ensures state { Becomes result parts.new (acts_athrow originals.now.setup line.now) parts.old }
 {
     let Some(object) = ref_of(&parts.frames) else {
         break_off(parts, method, line.instr.at);

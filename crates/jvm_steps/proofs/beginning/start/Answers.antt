@@ -7,13 +7,13 @@ use Rattle.jvm_steps.proofs.beginning.start.Goals as goal
 pub returns-clause-linked : goal.returns-clause-linked
 returns-clause-linked c =
     on_ok_weaker c.settle.result
-    (λ e. loaded-behind c.begin_start.new.originals.world (state_of c.begin_start.new.markers c.begin_start.new.parts) (state_of c.settle.new.markers c.settle.new.parts)
+    (λ e. loaded-behind c.begin_start.new.originals.setup (state_of c.begin_start.new.markers c.begin_start.new.parts) (state_of c.settle.new.markers c.settle.new.parts)
     c.begin_start.new.originals.loaded e c.in_ok-begin_start.ensures.linked)
     c.settle.ensures
 
 pub returns-clause-state : goal.returns-clause-state
 returns-clause-state c =
     on_ok_weaker c.settle.result
-    (λ e. start-is c.args.originals.now.world c.begin_start.new.originals.world (state_of c.begin_start.new.markers c.begin_start.new.parts)
+    (λ e. start-is c.args.originals.now.setup c.begin_start.new.originals.setup (state_of c.begin_start.new.markers c.begin_start.new.parts)
     (state_of c.settle.new.markers c.settle.new.parts) c.in_ok-begin_start.ensures.world c.in_ok-begin_start.ensures.state e)
     c.settle.ensures

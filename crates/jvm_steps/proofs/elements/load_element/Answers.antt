@@ -8,6 +8,6 @@ pub returns : goal.returns
 returns c = record {
   state =
       c.load.ensures.state
-      ∙ is-loaded c.args.originals.now.world c.args.line.now c.args.kind c.args.parts.now c.in-Some.place.array c.in-Some.place.index c.in-Some-element_at.datum
+      ∙ is-loaded c.args.originals.now.setup c.args.line.now c.args.kind c.args.parts.now c.in-Some.place.array c.in-Some.place.index c.in-Some-element_at.datum
       (sym (ap (option_map place_by) c.in-Some.is) ∙ c.place_of.ensures) (sym c.in-Some-element_at.is ∙ c.element_at.ensures);
 }

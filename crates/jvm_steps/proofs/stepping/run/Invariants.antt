@@ -6,9 +6,9 @@ use Rattle.jvm_steps.proofs.stepping.run.Given as goal
 
 pub record Loops (l : goal.Live-loop-made) : Type 0 where
   pub within : l.made ≤ l.most
-  pub world : l.originals.world ≡ l.fn.originals.world
+  pub world : l.originals.setup ≡ l.fn.originals.setup
   pub linked : l.originals.loaded ≡ l.parts.shared.loaded
-  pub leads : Leads l.fn.originals.world (state_of l.fn.markers l.fn.parts) l.made (state_of l.markers l.parts)
+  pub leads : Leads l.fn.originals.setup (state_of l.fn.markers l.fn.parts) l.made (state_of l.markers l.parts)
 
 abbrev pub invariant-loop-made : goal.invariant-loop-made
 invariant-loop-made l = Loops l

@@ -7,12 +7,12 @@ use Rattle.jvm_steps.proofs.stepping.step_on.Goals as goal
 
 pub step-requires-clause-sound : goal.step-requires-clause-sound
 step-requires-clause-sound c =
-    leads-sound c.args.originals.now.world c.requires.fit (state_of c.args.markers.now c.args.parts.now) c.step_plainly-plain.result
+    leads-sound c.args.originals.now.setup c.requires.fit (state_of c.args.markers.now c.args.parts.now) c.step_plainly-plain.result
     (state_of c.args.markers.now c.step_plainly-plain.new.parts) c.step_plainly-plain.ensures.made c.requires.sound
 
 pub returns-clause-made : goal.returns-clause-made
 returns-clause-made c =
-    let w = c.args.originals.now.world in
+    let w = c.args.originals.now.setup in
     let mid = state_of c.args.markers.now c.step_plainly-plain.new.parts in
     let new = state_of c.step.new.markers c.step.new.parts in
     leads-on w (state_of c.args.markers.now c.args.parts.now) mid new c.step_plainly-plain.result 1 c.step_plainly-plain.ensures.made

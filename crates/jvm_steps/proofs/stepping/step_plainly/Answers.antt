@@ -7,13 +7,13 @@ use Rattle.jvm_steps.proofs.stepping.step_plainly.Goals as goal
 use Rattle.std.proofs.Common.{length}
 
 pub returns-then-is_some-clause-made : goal.returns-then-is_some-clause-made
-returns-then-is_some-clause-made c = leads-none c.args.originals.now.world (state_of c.args.markers.now c.args.parts.now)
+returns-then-is_some-clause-made c = leads-none c.args.originals.now.setup (state_of c.args.markers.now c.args.parts.now)
 
 pub returns-clause-made : goal.returns-clause-made
 returns-clause-made c =
     let p = c.args.parts.now in
     c.plain_steps.ensures.made.leads c.args.markers.now p (record {
-      ending = c.requires;
+      ending = c.requires.ending;
       thrown = not-some p.thrown (sym c.is_some.ensures ∙ c.if-is_some.false);
       unmarked = none-of c.args.markers.now (length p.frames.frames) (sym c.is_unmarked.ensures ∙ c.if-not-is_unmarked.false);
     })

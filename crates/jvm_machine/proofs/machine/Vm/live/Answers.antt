@@ -12,6 +12,6 @@ returns c = λ whole.
     let few : c.depth.result ≡ min (length c.self.inside.parts.frames.frames) (2 ^ 32 - 1) = omega arith in
     few
     ∙ (ap (λ n. min n (2 ^ 32 - 1)) (sym (live-of c.self.inside.markers c.self.inside.parts))
-    ∙ (ap (λ (x : Shown). min x.live (2 ^ 32 - 1)) (shown-in c.self.inside.originals.world c.self.inside.versions (state_of c.self.inside.markers c.self.inside.parts) c.self.inside.told c.self.inside.loads_told
+    ∙ (ap (λ (x : Shown). min x.live (2 ^ 32 - 1)) (shown-in c.self.inside.originals.setup.world c.self.inside.versions (state_of c.self.inside.markers c.self.inside.parts) c.self.inside.told c.self.inside.loads_told
     c.self.inside.started c.self.inside.broken c.self.inside.clock c.self.invariant.1 unbroken)
     ∙ ap live_of c.self.view_is))

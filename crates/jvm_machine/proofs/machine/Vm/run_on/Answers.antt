@@ -1,41 +1,44 @@
-use Rattle.std.proofs.Common.{◌+◌}
+use Rattle.std.proofs.Common.{◌+◌, ap, subst}
 use Rattle.jvm_steps.specs.Markers.{state_of}
-use Rattle.jvm_machine.proofs.Onward.{can-run, goes_onward, linked-onward, plain-original}
+use Rattle.jvm_steps.specs.Runs.{Leads}
+use Rattle.jvm_steps.specs.Versions.{Setup}
+use Rattle.jvm_machine.proofs.Onward.{can-run, goes_onward, linked-onward, plain-original, same-setup}
 use Rattle.jvm_machine.proofs.machine.Vm.run_on.Goals as goal
 
 pub run-requires-clause-fit : goal.run-requires-clause-fit
 run-requires-clause-fit c =
     (can-run c.args.self.now c.self.inside.originals c.self.inside.versions (state_of c.self.inside.markers c.self.inside.parts) c.self.inside.told c.self.inside.loads_told
-    c.self.inside.started c.self.inside.broken c.self.inside.clock c.self.view_is c.self.invariant.1 c.self.invariant.2 c.requires.original c.requires.started c.requires.whole).0
+    c.self.inside.started c.self.inside.broken c.self.inside.clock c.self.view_is c.self.invariant.1 c.self.invariant.2 c.requires.original c.requires.started c.requires.whole c.self.invariant.3).0
 
 pub run-requires-clause-sound : goal.run-requires-clause-sound
 run-requires-clause-sound c =
     (can-run c.args.self.now c.self.inside.originals c.self.inside.versions (state_of c.self.inside.markers c.self.inside.parts) c.self.inside.told c.self.inside.loads_told
-    c.self.inside.started c.self.inside.broken c.self.inside.clock c.self.view_is c.self.invariant.1 c.self.invariant.2 c.requires.original c.requires.started c.requires.whole).1
+    c.self.inside.started c.self.inside.broken c.self.inside.clock c.self.view_is c.self.invariant.1 c.self.invariant.2 c.requires.original c.requires.started c.requires.whole c.self.invariant.3).1
 
 pub run-requires-clause-linked : goal.run-requires-clause-linked
 run-requires-clause-linked c =
     (can-run c.args.self.now c.self.inside.originals c.self.inside.versions (state_of c.self.inside.markers c.self.inside.parts) c.self.inside.told c.self.inside.loads_told
-    c.self.inside.started c.self.inside.broken c.self.inside.clock c.self.view_is c.self.invariant.1 c.self.invariant.2 c.requires.original c.requires.started c.requires.whole).2
+    c.self.inside.started c.self.inside.broken c.self.inside.clock c.self.view_is c.self.invariant.1 c.self.invariant.2 c.requires.original c.requires.started c.requires.whole c.self.invariant.3).2
 
 pub invariant_of-self-2 : goal.invariant_of-self-2
 invariant_of-self-2 c =
     let before = state_of c.self.inside.markers c.self.inside.parts in
     let after = state_of c.run.new.markers c.run.new.parts in
-    let onward = goes_onward c.args.self.now c.self.inside.originals.world c.run.new.originals.world c.self.inside.versions before after c.self.inside.told c.self.inside.loads_told
-    c.self.inside.started c.self.inside.broken c.self.inside.clock c.in_ok-made.made c.args.most c.run.ensures.world c.self.view_is c.self.invariant.1 c.requires.original
-    c.requires.started c.requires.whole c.requires.resting c.in_ok-made.ensures.within c.in_ok-made.ensures.made c.in_ok-made.ensures.ended in (
-      λ whole. plain-original c.args.self.now c.self.inside.originals.world c.self.inside.versions c.run.new.markers before c.self.inside.told
+    let onward = goes_onward c.args.self.now c.self.inside.originals.setup.world c.run.new.originals.setup.world c.self.inside.versions before after c.self.inside.told c.self.inside.loads_told
+    c.self.inside.started c.self.inside.broken c.self.inside.clock c.in_ok-made.made c.args.most (ap (λ (w : Setup). w.world) c.run.ensures.world) c.self.view_is c.self.invariant.1 c.requires.original
+    c.requires.started c.requires.whole c.requires.resting c.in_ok-made.ensures.within (subst (λ (w : Setup). Leads w (state_of c.self.inside.markers c.self.inside.parts) c.in_ok-made.made (state_of c.run.new.markers c.run.new.parts)) c.self.invariant.3 c.in_ok-made.ensures.made) c.in_ok-made.ensures.ended in (
+      λ whole. plain-original c.args.self.now c.self.inside.originals.setup.world c.self.inside.versions c.run.new.markers before c.self.inside.told
           c.self.inside.loads_told c.self.inside.started c.self.inside.broken c.self.inside.clock c.self.view_is c.requires.original,
       onward.running,
-      linked-onward c.args.self.now c.self.inside.originals.world c.run.new.originals.world c.self.inside.versions before after
+      linked-onward c.args.self.now c.self.inside.originals.setup.world c.run.new.originals.setup.world c.self.inside.versions before after
           c.self.inside.told c.self.inside.loads_told c.self.inside.started c.self.inside.broken c.self.inside.clock (c.self.inside.clock + c.in_ok-made.made) c.run.new.originals.loaded
           c.self.view_is c.requires.original onward.running c.in_ok-made.ensures.linked,
+      same-setup c.self.inside.originals.setup c.run.new.originals.setup c.run.ensures.world c.self.invariant.3,
     )
 
 pub returns-clause-ok : goal.returns-clause-ok
 returns-clause-ok c =
-    (goes_onward c.args.self.now c.self.inside.originals.world c.run.new.originals.world c.self.inside.versions (state_of c.self.inside.markers c.self.inside.parts)
+    (goes_onward c.args.self.now c.self.inside.originals.setup.world c.run.new.originals.setup.world c.self.inside.versions (state_of c.self.inside.markers c.self.inside.parts)
     (state_of c.run.new.markers c.run.new.parts) c.self.inside.told c.self.inside.loads_told
-    c.self.inside.started c.self.inside.broken c.self.inside.clock c.in_ok-made.made c.args.most c.run.ensures.world c.self.view_is c.self.invariant.1 c.requires.original
-    c.requires.started c.requires.whole c.requires.resting c.in_ok-made.ensures.within c.in_ok-made.ensures.made c.in_ok-made.ensures.ended).runs
+    c.self.inside.started c.self.inside.broken c.self.inside.clock c.in_ok-made.made c.args.most (ap (λ (w : Setup). w.world) c.run.ensures.world) c.self.view_is c.self.invariant.1 c.requires.original
+    c.requires.started c.requires.whole c.requires.resting c.in_ok-made.ensures.within (subst (λ (w : Setup). Leads w (state_of c.self.inside.markers c.self.inside.parts) c.in_ok-made.made (state_of c.run.new.markers c.run.new.parts)) c.self.invariant.3 c.in_ok-made.ensures.made) c.in_ok-made.ensures.ended).runs

@@ -1,0 +1,56 @@
+-- All of it together: the original code of a program whose codes are closed, a version of a method more, and a step: the machine stands for the run.
+use Rattle.std.proofs.Common.{◌≡◌, ◌≤◌, ◌<◌, ℕ, List, length, refl, subst}
+use Rattle.std.specs.List.{AllByRecursion}
+use Rattle.jvm_model.specs.declared.program.Program.{Program}
+use Rattle.jvm_model.specs.declared.state.State.{State}
+use Rattle.jvm_model.specs.Closed.{norm_of}
+use Rattle.jvm_model.specs.Data.{World}
+use Rattle.jvm_model.specs.Originals.{original}
+use Rattle.jvm_model.specs.Run.{start, step}
+use Rattle.jvm_model.specs.StandsForRun.{StandsFor}
+use Rattle.jvm_model.proofs.StandsForRun.{start-stands_for}
+use Rattle.jvm_steps.specs.declared.versions.Version.{Version}
+use Rattle.jvm_steps.specs.declared.versions.Versions.{Versions}
+use Rattle.jvm_steps.specs.Entries.{original_versions}
+use Rattle.jvm_model.specs.ProgramPlaces.{HasClosedCodes, is_place_in}
+use Rattle.jvm_steps.specs.Ready.{RunsIn}
+use Rattle.jvm_model.specs.SoundTexts.{IsSoundEntry}
+use Rattle.jvm_steps.specs.Versions.{current_of, method_of, text_of}
+use Rattle.jvm_steps.specs.VersionTexts.{AreVersions, IsVersionOf, with_home, with_version}
+use Rattle.jvm_model.proofs.ClosedPrograms.{program-agrees}
+use Rattle.jvm_steps.proofs.OriginalTexts.{original-are}
+use Rattle.jvm_steps.proofs.VersionsAgree.{versions-agree}
+use Rattle.jvm_steps.proofs.VersionsRun.{more-stands, more-versions, step-stands}
+
+module _ (w : World) (closed : HasClosedCodes w.program) where
+  abbrev p : Program
+  p = w.program
+
+  abbrev norm : ℕ → ℕ → ℕ
+  norm = norm_of (is_place_in p)
+
+  abbrev still : ℕ → ℕ → ℕ
+  still = λ k at. at
+
+  pub at-first : length p.methods ≤ 4294967296 → AreVersions p norm still (original_versions p)
+  at-first few = original-are p norm few (program-agrees p closed).bounds
+
+  -- the start over original code as versions
+  pub starts : (few : length p.methods ≤ 4294967296)
+      → StandsFor norm (method_of (original_versions p)) still (start w (text_of (original_versions p))).after (start w (original p)).after
+  starts few =
+      let v : Versions = original_versions p in
+      start-stands_for norm w (original p) (program-agrees p closed) (method_of v) (current_of v) still (text_of v) (versions-agree p norm still v (at-first few))
+
+  module _ (homes : ℕ → ℕ → ℕ) (v : Versions) (are : AreVersions p norm homes v) (versioned from_original : State) (stands : StandsFor norm (method_of v) homes versioned from_original) where
+    -- a step
+    pub steps : (after : State) → after ≡ (step w (text_of v) versioned).after → StandsFor norm (method_of v) homes after (step w (original p) from_original).after
+    steps after made = step-stands p norm homes v are w refl (program-agrees p closed) versioned from_original after stands made
+
+    -- a version more, and a step
+    pub adds : (x : Version) (home : ℕ → ℕ) → length v.all < 4294967296 → IsVersionOf p norm x home → x.method < length p.methods
+        → AllByRecursion (IsSoundEntry (RunsIn v) p versioned.shared.loaded) versioned.stack → (after : State) → after ≡ (step w (text_of (with_version x v)) versioned).after
+        → StandsFor norm (method_of (with_version x v)) (with_home (length v.all) home homes) after (step w (original p) from_original).after
+    adds x home room is own each after made =
+        step-stands p norm (with_home (length v.all) home homes) (with_version x v) (more-versions p norm homes v are x home room is own) w refl (program-agrees p closed)
+        versioned from_original after (more-stands p norm homes v are x home room versioned from_original stands each) made

@@ -1,0 +1,7 @@
+use Rattle.jvm_steps.specs.Entries.{original_version}
+use Rattle.jvm_steps.proofs.Tabled.{tabled-more}
+use Rattle.jvm_steps.proofs.preparing.all_versions.Goals as goal
+
+pub loop-method-preserved : goal.loop-method-preserved
+loop-method-preserved c =
+    rw c.in_ok-push.ensures.items (tabled-more (original_version c.args.program.now) c.loop-method.method c.loop-method.all c.in_ok-version.version c.loop-method.invariant c.in_ok-version.ensures)

@@ -1,0 +1,49 @@
+-- Versions as texts: each has the code of its method by homes.
+use Rattle.std.specs.Prelude.{◌≡◌, ◌≤◌, ◌<◌, ℕ, List, [], ◌++◌, ◌∷◌, length, map, slice_set, Option, Some, None, ◌==◌, if◌then◌else◌}
+use Rattle.std.specs.Option.{option_map}
+use Rattle.jvm_model.specs.declared.program.Program.{Program}
+use Rattle.jvm_model.specs.Data.{Instruction, Operation}
+use Rattle.jvm_model.specs.Moved.{HaveBounds, IsPlace, moved_catcher, moved_instruction}
+use Rattle.jvm_model.specs.Originals.{original}
+use Rattle.jvm_steps.specs.declared.versions.Version.{Version}
+use Rattle.jvm_steps.specs.declared.versions.Versions.{Versions}
+use Rattle.jvm_steps.specs.Versions.{catcher_in, current_of, instruction_in, line_in, version_at}
+
+-- an instruction of the method does this
+pub record HasOperation (p : Program) (method : ℕ) (op : Operation) : Type 0 where
+  pub place : ℕ
+  pub instruction : Instruction
+  pub there : (original p).at method place ≡ Some instruction
+  pub does : instruction.operation ≡ op
+
+-- `norm` tells the places of original code by method; `home` where each of them stands in the version.
+pub record IsVersionOf (p : Program) (norm : ℕ → ℕ → ℕ) (x : Version) (home : ℕ → ℕ) : Type 0 where
+  pub first : x.first ≡ home 0
+  pub lines : (at : ℕ) → IsPlace norm x.method at → option_map instruction_in (line_in (home at) x) ≡ option_map (moved_instruction home) ((original p).at x.method at)
+  pub only : (k : ℕ) (i : Instruction) → option_map instruction_in (line_in k x) ≡ Some i → HasOperation p x.method i.operation
+  pub handlers : map catcher_in x.handlers ≡ map (moved_catcher home) ((original p).handlers x.method)
+  pub rises : (a b : ℕ) → ((original p).handlers x.method ≡ [] → ⊥) → IsPlace norm x.method a → IsPlace norm x.method b → a < b → home a < home b
+
+-- a method of the program begins in a version of its own
+pub record HasCurrent (v : Versions) (method : ℕ) : Type 0 where
+  pub version : Version
+  pub held : version_at v (current_of v method) ≡ Some version
+  pub own : version.method ≡ method
+
+-- the versions of a program, with their homes by their numbers
+pub record AreVersions (p : Program) (norm : ℕ → ℕ → ℕ) (homes : ℕ → ℕ → ℕ) (v : Versions) : Type 0 where
+  pub each : (k : ℕ) (x : Version) → version_at v k ≡ Some x → IsVersionOf p norm x (homes k)
+  pub unheld : (k : ℕ) → version_at v k ≡ None → homes k ≡ (λ at. at)
+  pub current : (k : ℕ) → k < length p.methods → HasCurrent v k
+  pub count : length v.current ≡ length p.methods
+  pub few : length v.all ≤ 4294967296
+  pub bounds : (k : ℕ) → HaveBounds norm k ((original p).handlers k)
+
+-- ---- one more
+
+-- it becomes current
+abbrev pub with_version : Version → Versions → Versions
+with_version x v = record { all = v.all ++ x ∷ []; current = slice_set v.current x.method (length v.all) }
+
+abbrev pub with_home : ℕ → (ℕ → ℕ) → (ℕ → ℕ → ℕ) → ℕ → ℕ → ℕ
+with_home version home homes k = if k == version then home else homes k
