@@ -51,6 +51,7 @@ pub use objects::arguments_fit;
 pub use originals::{Exception, Originals};
 pub use parts::{Here, Parts, where_now};
 pub use raising::raise;
+pub use rewritten::rewritten_version;
 pub use starting::parts_before;
 pub use stepping::{run, step};
 pub use versions::{Catching, Version, Versions};
