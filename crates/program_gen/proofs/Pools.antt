@@ -1,7 +1,7 @@
 -- A pool of a gap and entries that take one index each.
 use Rattle.std.proofs.Common.{◌≡◌, ℕ, zero, suc, ◌+◌, ◌<◌, ◌≤◌, ◌*◌, ◌^◌, Bool, true, false, List, [], ◌∷◌, ◌++◌, length, Option, Some, None, slice_get, refl, ap, sym, ◌∙◌, subst, length-append, arith}
 use Rattle.std.specs.Option.{option_map_or}
-use Rattle.std.specs.List.{AllByRecursion, flat_map}
+use Rattle.std.specs.List.{AllByRecursion, AllZip, flat_map}
 use Rattle.const_pool.specs.declared.pool.Const.{Const}
 use Rattle.const_pool.specs.declared.pool.Const.TheVariants.{Gap, Utf8, Integer, Float, Long, Double, Class, Text, Field, Method, InterfaceMethod, NameType}
 use Rattle.const_pool.specs.Pool.{IsPool, IsEntry, AreEntries, Names, has_gaps, gaps_due, is_wide, entry_bytes, pool_bytes}
@@ -26,6 +26,24 @@ each-append P (y ∷ xs) ys h p = (h.0, each-append P xs ys h.1 p)
 pub each-by : {A : Type 0} (P Q : A → Type 0) → ((x : A) → P x → Q x) → (xs : List A) → AllByRecursion P xs → AllByRecursion Q xs
 each-by P Q f [] h = tt
 each-by P Q f (x ∷ xs) h = (f x h.0, each-by P Q f xs h.1)
+
+pub zip-push : {A B : Type 0} (R : A → B → Type 0) (xs : List A) (ys : List B) (x : A) (y : B) → AllZip R xs ys → R x y → AllZip R (xs ++ x ∷ []) (ys ++ y ∷ [])
+zip-push R [] [] x y h r = (r, tt)
+zip-push R [] (b ∷ ys) x y h r = absurd h
+zip-push R (a ∷ xs) [] x y h r = absurd h
+zip-push R (a ∷ xs) (b ∷ ys) x y h r = (h.0, zip-push R xs ys x y h.1 r)
+
+pub zip-by : {A B : Type 0} (R S : A → B → Type 0) → ((x : A) (y : B) → R x y → S x y) → (xs : List A) (ys : List B) → AllZip R xs ys → AllZip S xs ys
+zip-by R S f [] [] h = tt
+zip-by R S f [] (b ∷ ys) h = absurd h
+zip-by R S f (a ∷ xs) [] h = absurd h
+zip-by R S f (a ∷ xs) (b ∷ ys) h = (f a b h.0, zip-by R S f xs ys h.1)
+
+pub zip-each : {A B : Type 0} (R : A → B → Type 0) (Q : B → Type 0) → ((x : A) (y : B) → R x y → Q y) → (xs : List A) (ys : List B) → AllZip R xs ys → AllByRecursion Q ys
+zip-each R Q f [] [] h = tt
+zip-each R Q f [] (b ∷ ys) h = absurd h
+zip-each R Q f (a ∷ xs) [] h = absurd h
+zip-each R Q f (a ∷ xs) (b ∷ ys) h = (f a b h.0, zip-each R Q f xs ys h.1)
 
 -- ---- what an index names, in a longer pool
 

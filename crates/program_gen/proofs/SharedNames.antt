@@ -132,12 +132,14 @@ class-added n pool name g h fits =
       added = record { grows = then-grows n 1 1 _ _ _ t.grows c.grows; at = c.at; small = c.small };
     }
 
-pub record HasNameType (n : ℕ) (pool : List Const) (s : Shared) : Type 0 where
+pub record HasNameType (n : ℕ) (pool : List Const) (member : MemberName) (s : Shared) : Type 0 where
   pub name : ℕ
+  pub named : slice_get s.pool name ≡ Some (Utf8 (member_text member))
   pub descriptor : ℕ
+  pub described : slice_get s.pool descriptor ≡ Some (Utf8 (member_descriptor member))
   pub added : HasAdded n 3 pool (NameType name descriptor) s
 
-name_type-added : (n : ℕ) (pool : List Const) (member : MemberName) → IsGood n pool → n < 65000 → HasNameType n pool (name_type_shared pool member)
+name_type-added : (n : ℕ) (pool : List Const) (member : MemberName) → IsGood n pool → n < 65000 → HasNameType n pool member (name_type_shared pool member)
 unfolding name_type_shared
 name_type-added n pool member g h =
     let a = text-added n pool (member_text member) g (omega arith) (member_text-fit member) in
@@ -150,7 +152,9 @@ name_type-added n pool member g h =
     (record { entry = (a.small, b.small, names-at is_utf8 descriptor.pool name.index _ name_at refl, names-at is_utf8 descriptor.pool descriptor.index _ b.at refl); narrow = refl; few = omega arith }) in
     record {
       name = name.index;
+      named = at-grown (n + 2) 1 _ _ name.index _ c.grows name_at;
       descriptor = descriptor.index;
+      described = at-grown (n + 2) 1 _ _ descriptor.index _ c.grows b.at;
       added = record { grows = then-grows n 2 1 _ _ _ both c.grows; at = c.at; small = c.small };
     }
 
@@ -162,12 +166,27 @@ member-narrow pool op class member h = by (op == 178)
     by true = record { entry = h; narrow = refl; few = omega arith }
     by false = record { entry = h; narrow = refl; few = omega arith }
 
-pub record HasMember (n : ℕ) (pool : List Const) (s : Shared) : Type 0 where
+-- the entry of a member at this index, with all that it stands on
+pub record StandsMember (pool : List Const) (op : ℕ) (class : ClassName) (member : MemberName) (index : ℕ) : Type 0 where
+  pub class_index : ℕ
+  pub class_name : ℕ
+  pub name_type : ℕ
+  pub name : ℕ
+  pub descriptor : ℕ
+  pub at : slice_get pool index ≡ Some (member_entry op class_index name_type)
+  pub class_at : slice_get pool class_index ≡ Some (Class class_name)
+  pub class_named : slice_get pool class_name ≡ Some (Utf8 (class_text class))
+  pub name_type_at : slice_get pool name_type ≡ Some (NameType name descriptor)
+  pub named : slice_get pool name ≡ Some (Utf8 (member_text member))
+  pub described : slice_get pool descriptor ≡ Some (Utf8 (member_descriptor member))
+
+pub record HasMember (n : ℕ) (pool : List Const) (op : ℕ) (class : ClassName) (member : MemberName) (s : Shared) : Type 0 where
   pub entry : Const
   pub added : HasAdded n 6 pool entry s
+  pub stands : StandsMember s.pool op class member s.index
 
 pub member-added : (n : ℕ) (pool : List Const) (op : ℕ) (class : ClassName) (member : MemberName) → IsGood n pool → n < 64000 → FitsName class
-    → HasMember n pool (member_shared pool op class member)
+    → HasMember n pool op class member (member_shared pool op class member)
 unfolding member_shared
 member-added n pool op class member g h fits =
     let a = class-added n pool class g (omega arith) fits in
@@ -182,4 +201,17 @@ member-added n pool op class member g h fits =
     record {
       entry = member_entry op c.index m.index;
       added = record { grows = then-grows n 5 1 _ _ _ both d.grows; at = d.at; small = d.small };
+      stands = record {
+        class_index = c.index;
+        class_name = a.name;
+        name_type = m.index;
+        name = b.name;
+        descriptor = b.descriptor;
+        at = d.at;
+        class_at = at-grown (n + 5) 1 _ _ c.index _ d.grows class_at;
+        class_named = at-grown (n + 5) 1 _ _ a.name _ d.grows (at-grown (n + 2) 3 _ _ a.name _ b.added.grows a.named);
+        name_type_at = at-grown (n + 5) 1 _ _ m.index _ d.grows b.added.at;
+        named = at-grown (n + 5) 1 _ _ b.name _ d.grows b.named;
+        described = at-grown (n + 5) 1 _ _ b.descriptor _ d.grows b.described;
+      };
     }
