@@ -11,7 +11,7 @@ use Rattle.program_gen.specs.declared.rows.ClassRow.{ClassRow}
 use Rattle.program_gen.specs.declared.rows.Choices.{Choices}
 use Rattle.program_gen.specs.Draws.{draw_at, superclass_of, choices_of}
 use Rattle.program_gen.specs.Fits.{FitsName, FitsMethod, FitsClass}
-use Rattle.program_gen.specs.Generated.{AreNamed, IsShortFile, generated}
+use Rattle.program_gen.specs.Generated.{AreNamed, HasOwnPool, IsShortFile, generated}
 use Rattle.program_gen.specs.Making.{class_file_of}
 use Rattle.program_gen.specs.Members.{HaveCodes, HaveMembers}
 use Rattle.program_gen.specs.Programs.{constructor, run_method, main_row, numbered_row, rows_below, program_rows}
@@ -79,7 +79,7 @@ below-fit seed size zero some most le = tt
 below-fit seed size (suc n) some most le =
     each-push FitsClass (rows_below seed size n) (numbered_row n (choices_of seed size n)) (below-fit seed size n some most (omega arith)) (numbered-fits seed size n some most (omega arith))
 
-rows-fit : (seed size : ℕ) → 1 ≤ size → size ≤ 200 → AllByRecursion FitsClass (program_rows seed size)
+pub rows-fit : (seed size : ℕ) → 1 ≤ size → size ≤ 200 → AllByRecursion FitsClass (program_rows seed size)
 rows-fit seed size some most = (main-fits, below-fit seed size size some most (omega arith))
 
 -- ---- so what is made of them
@@ -113,6 +113,10 @@ code-classes : (rows : List ClassRow) → AllByRecursion FitsClass rows → Have
 code-classes [] fits = tt
 code-classes (row ∷ rows) fits = ((class-holds row fits.0).codes, code-classes rows fits.1)
 
+pool-classes : (rows : List ClassRow) → AllByRecursion FitsClass rows → AllByRecursion HasOwnPool (map class_file_of rows)
+pool-classes [] fits = tt
+pool-classes (row ∷ rows) fits = ((class-holds row fits.0).own_pool, pool-classes rows fits.1)
+
 pub generated-short : (seed size : ℕ) → 1 ≤ size → size ≤ 200 → AllByRecursion IsShortFile (generated seed size)
 generated-short seed size some most = short-classes (program_rows seed size) (rows-fit seed size some most)
 
@@ -124,6 +128,9 @@ generated-members seed size some most = member-classes (program_rows seed size) 
 
 pub generated-codes : (seed size : ℕ) → 1 ≤ size → size ≤ 200 → HaveCodes (program_rows seed size) (generated seed size)
 generated-codes seed size some most = code-classes (program_rows seed size) (rows-fit seed size some most)
+
+pub generated-pools : (seed size : ℕ) → 1 ≤ size → size ≤ 200 → AllByRecursion HasOwnPool (generated seed size)
+generated-pools seed size some most = pool-classes (program_rows seed size) (rows-fit seed size some most)
 
 -- what holds of the generated classes holds of an answer that is those
 pub all-of : {V : Type 0} (items : V → List ClassFile) (P : List ClassFile → Type 0) (seed size : ℕ) → P (generated seed size) → (r : Result V NoMemory)

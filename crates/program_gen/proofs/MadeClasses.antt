@@ -11,11 +11,11 @@ use Rattle.const_pool.specs.ClassFile.{IsMember, IsMethodAttribute, IsClassFile,
 use Rattle.program_gen.specs.declared.rows.ClassRow.{ClassRow}
 use Rattle.program_gen.specs.declared.rows.MethodRow.{MethodRow}
 use Rattle.program_gen.specs.Making.{MethodsMade, class_shared, methods_from, class_file_of}
-use Rattle.program_gen.specs.Generated.{IsShortFile, IsNamedBy}
+use Rattle.program_gen.specs.Generated.{IsShortFile, IsNamedBy, HasOwnPool}
 use Rattle.program_gen.specs.Members.{HasCodeOf, HasCodesOf, HasMembersOf, IsMethodOf}
 use Rattle.program_gen.specs.Names.{class_text}
 use Rattle.program_gen.specs.Fits.{FitsClass}
-use Rattle.program_gen.proofs.Pools.{zip-by, zip-each, names-at, good-bytes, good-gaps, good-pool, good-start}
+use Rattle.program_gen.proofs.Pools.{zip-by, zip-each, names-at, good-bytes, good-gaps, good-pool, good-own, good-start}
 use Rattle.program_gen.proofs.SharedNames.{then-grows, at-grown, class-added}
 use Rattle.program_gen.proofs.SpelledCode.{class-named}
 use Rattle.program_gen.proofs.MadeMethods.{IsMade, is-member, members-bytes, methods-grow, length-methods_from, has-method, has-code}
@@ -43,6 +43,7 @@ pub record IsWell (row : ClassRow) : Type 0 where
   pub named : IsNamedBy row (class_file_of row)
   pub members : HasMembersOf row (class_file_of row)
   pub codes : HasCodesOf row (class_file_of row)
+  pub own_pool : HasOwnPool (class_file_of row)
 
 -- a class with this pool and these methods has few bytes
 short-file : (rows : List MethodRow) (made : MethodsMade) → length rows ≤ 2 → length (pool_bytes made.pool) ≤ 2 + 258 * (((1 + 2) + 2) + 159 * length rows)
@@ -107,6 +108,7 @@ class-holds row fits =
         attributes = refl;
       };
       codes = zip-by (IsMade made.pool) (HasCodeOf made.pool) (has-code made.pool) row.methods made.members m.each;
+      own_pool = record { few = omega (arith, few, count); own = good-own total made.pool good };
     }
 
 pub result-formed : (r : Result ClassFile NoMemory) (row : ClassRow) → IfOk r (λ c. c ≡ class_file_of row) → IsWell row → IfOk r IsClassFile

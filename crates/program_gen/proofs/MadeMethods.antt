@@ -16,10 +16,10 @@ use Rattle.program_gen.specs.Names.{member_text, member_descriptor}
 use Rattle.program_gen.specs.Making.{shared, code_from, MethodMade, method_added, MethodsMade, methods_from}
 use Rattle.program_gen.specs.Fits.{FitsMethod}
 use Rattle.program_gen.specs.Members.{HasCodeOf, IsMethodOf}
-use Rattle.program_gen.proofs.Pools.{zip-push, zip-by, names-at, IsGood}
+use Rattle.program_gen.proofs.Pools.{zip-push, zip-by, names-at, text-named, IsGood}
 use Rattle.program_gen.proofs.SharedNames.{Grows, then-grows, at-grown, text-added, member_text-fit, member_descriptor-fit, code-fit}
 use Rattle.program_gen.proofs.MadeCode.{grows-none, grows-wider, code-grows}
-use Rattle.program_gen.proofs.SpelledCode.{IsPart, code-parts, parts-more, parts-spelled, text-named}
+use Rattle.program_gen.proofs.SpelledCode.{IsPart, code-parts, parts-more, parts-spelled}
 
 -- the code of a method as it is made
 abbrev code_of : ℕ → ℕ → List ℕ → CodeAttribute

@@ -1,5 +1,5 @@
 -- The entries of texts, classes and members.
-use Rattle.std.proofs.Common.{◌≡◌, ℕ, zero, suc, ◌+◌, ◌<◌, ◌^◌, Bool, true, false, List, [], ◌∷◌, ◌++◌, length, Some, slice_get, refl, ap, sym, ◌∙◌, subst, append_assoc, arith}
+use Rattle.std.proofs.Common.{◌≡◌, ◌≢◌, get_or, ℕ, zero, suc, ◌+◌, ◌<◌, ◌^◌, Bool, true, false, List, [], ◌∷◌, ◌++◌, length, Some, slice_get, refl, ap, sym, ◌∙◌, subst, append_assoc, arith}
 use Rattle.std.specs.Prelude.{◌&&◌, ◌==◌, nat_lt, codes, if◌then◌else◌}
 use Rattle.std.specs.Fmt.{decimal, digits}
 use Rattle.std.specs.List.{list_all, AllByRecursion}
@@ -7,6 +7,7 @@ use Rattle.std.proofs.lemmas.Bool.{and_parts, ltb-true, ltb-false}
 use Rattle.jf_bytes.specs.ModifiedUtf8.{modified_utf8}
 use Rattle.const_pool.specs.declared.pool.Const.{Const}
 use Rattle.const_pool.specs.declared.pool.Const.TheVariants.{Utf8, Class, Field, Method, NameType}
+use Rattle.const_pool.specs.BuiltIn.{probe_class}
 use Rattle.const_pool.specs.Pool.{Names, is_utf8, is_class, is_name_type}
 use Rattle.program_gen.specs.declared.rows.ClassName.{ClassName}
 use Rattle.program_gen.specs.declared.rows.ClassName.TheVariants.{Object, System, PrintStream, Main, Numbered}
@@ -31,7 +32,7 @@ pub text-narrow : (pool : List Const) (text : List ℕ) → is_fit text ≡ true
 text-narrow pool text h =
     let parts = and_parts (list_all (λ unit. nat_lt unit 65536) text) (nat_lt (length (modified_utf8 text)) 256) h in
     let short = ltb-true (length (modified_utf8 text)) 256 parts.1 in
-    record { entry = (units-fit text parts.0, omega (arith, short)); narrow = refl; few = omega (arith, short) }
+    record { entry = (units-fit text parts.0, omega (arith, short)); narrow = refl; few = omega (arith, short); other = tt }
 
 -- all names with a number below this one are fit
 abbrev are_fit : ℕ → Bool
@@ -113,6 +114,14 @@ entry-added n pool entry g h plain =
 pub text-added : (n : ℕ) (pool : List Const) (text : List ℕ) → IsGood n pool → n < 65535 → is_fit text ≡ true → HasAdded n 1 pool (Utf8 text) (shared pool (Utf8 text))
 text-added n pool text g h fit = entry-added n pool (Utf8 text) g h (text-narrow pool text fit)
 
+-- no class is that of the probes, which has another letter after the first
+class_text-other : (name : ClassName) → class_text name ≢ probe_class
+class_text-other Object e = let same : ◌≡◌ {A = ℕ} 97 102 = ap (λ (x : List ℕ). get_or x 1 0) e in omega arith
+class_text-other System e = let same : ◌≡◌ {A = ℕ} 97 102 = ap (λ (x : List ℕ). get_or x 1 0) e in omega arith
+class_text-other PrintStream e = let same : ◌≡◌ {A = ℕ} 97 102 = ap (λ (x : List ℕ). get_or x 1 0) e in omega arith
+class_text-other Main e = let same : ◌≡◌ {A = ℕ} 101 102 = ap (λ (x : List ℕ). get_or x 1 0) e in omega arith
+class_text-other (Numbered number) e = let same : ◌≡◌ {A = ℕ} 101 102 = ap (λ (x : List ℕ). get_or x 1 0) e in omega arith
+
 -- a class has its text's index
 pub record HasClass (n : ℕ) (pool : List Const) (text : List ℕ) (s : Shared) : Type 0 where
   pub name : ℕ
@@ -125,7 +134,12 @@ class-added n pool name g h fits =
     let t = text-added n pool (class_text name) g (omega arith) (class_text-fit name fits) in
     let text = shared pool (Utf8 (class_text name)) in
     let c = entry-added (n + 1) text.pool (Class text.index) t.grows.good (omega arith)
-    (record { entry = (t.small, names-at is_utf8 text.pool text.index _ t.at refl); narrow = refl; few = omega arith }) in
+    (record {
+      entry = (t.small, names-at is_utf8 text.pool text.index _ t.at refl);
+      narrow = refl;
+      few = omega arith;
+      other = record { text = class_text name; at = t.at; other = class_text-other name };
+    }) in
     record {
       name = text.index;
       named = at-grown (n + 1) 1 _ _ text.index _ c.grows t.at;
@@ -149,7 +163,7 @@ name_type-added n pool member g h =
     let both = then-grows n 1 1 _ _ _ a.grows b.grows in
     let name_at = at-grown (n + 1) 1 _ _ name.index _ b.grows a.at in
     let c = entry-added (n + 2) descriptor.pool (NameType name.index descriptor.index) both.good (omega arith)
-    (record { entry = (a.small, b.small, names-at is_utf8 descriptor.pool name.index _ name_at refl, names-at is_utf8 descriptor.pool descriptor.index _ b.at refl); narrow = refl; few = omega arith }) in
+    (record { entry = (a.small, b.small, names-at is_utf8 descriptor.pool name.index _ name_at refl, names-at is_utf8 descriptor.pool descriptor.index _ b.at refl); narrow = refl; few = omega arith; other = tt }) in
     record {
       name = name.index;
       named = at-grown (n + 2) 1 _ _ name.index _ c.grows name_at;
@@ -163,8 +177,8 @@ member-narrow : (pool : List Const) (op class member : ℕ) → (class < 2 ^ 16)
 member-narrow pool op class member h = by (op == 178)
   where
     by : (b : Bool) → IsNarrow pool (if b then Field class member else Method class member)
-    by true = record { entry = h; narrow = refl; few = omega arith }
-    by false = record { entry = h; narrow = refl; few = omega arith }
+    by true = record { entry = h; narrow = refl; few = omega arith; other = tt }
+    by false = record { entry = h; narrow = refl; few = omega arith; other = tt }
 
 -- the entry of a member at this index, with all that it stands on
 pub record StandsMember (pool : List Const) (op : ℕ) (class : ClassName) (member : MemberName) (index : ℕ) : Type 0 where

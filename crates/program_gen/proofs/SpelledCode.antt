@@ -11,7 +11,7 @@ use Rattle.const_pool.specs.declared.pool.Const.TheVariants.{Utf8, Class, Field,
 use Rattle.const_pool.specs.declared.pool.PoolError.TheVariants.{BadIndex}
 use Rattle.const_pool.specs.Pool.{entry_of}
 use Rattle.const_pool.specs.ClassFile.{IsByte}
-use Rattle.const_pool.specs.References.{◌>>=◌, class_entry, text_entry, named_class, named_text}
+use Rattle.const_pool.specs.References.{◌>>=◌, class_entry, text_entry, named_class}
 use Rattle.program_gen.specs.declared.rows.ClassName.{ClassName}
 use Rattle.program_gen.specs.declared.rows.MemberName.{MemberName}
 use Rattle.program_gen.specs.declared.rows.Instruction.{Instruction}
@@ -83,9 +83,6 @@ part-more n a p q g (OfMember op class member) bytes h = record {
 }
 
 -- ---- what its index names
-
-pub text-named : (pool : List Const) (i : ℕ) (t : List ℕ) → slice_get pool i ≡ Some (Utf8 t) → named_text pool i ≡ Some t
-text-named pool i t h = ap (λ (o : Option Const). result_ok (ok_or (option_and_then entry_of o) BadIndex >>= text_entry)) h
 
 pub class-named : (pool : List Const) (i name : ℕ) (text : List ℕ) → slice_get pool i ≡ Some (Class name) → slice_get pool name ≡ Some (Utf8 text) → named_class pool i ≡ Some text
 class-named pool i name text at there =
