@@ -11,8 +11,9 @@ use Rattle.program_gen.specs.declared.rows.ClassRow.{ClassRow}
 use Rattle.program_gen.specs.declared.rows.Choices.{Choices}
 use Rattle.program_gen.specs.Draws.{draw_at, superclass_of, choices_of}
 use Rattle.program_gen.specs.Fits.{FitsName, FitsMethod, FitsClass}
-use Rattle.program_gen.specs.Generated.{AreNamed, IsShortFile, generated}
+use Rattle.program_gen.specs.Generated.{AreNamed, HasOwnPool, IsShortFile, generated}
 use Rattle.program_gen.specs.Making.{class_file_of}
+use Rattle.program_gen.specs.Members.{HaveCodes, HaveMembers}
 use Rattle.program_gen.specs.Programs.{constructor, run_method, main_row, numbered_row, rows_below, program_rows}
 use Rattle.program_gen.proofs.Pools.{each-push}
 use Rattle.program_gen.proofs.MadeClasses.{class-holds}
@@ -78,7 +79,7 @@ below-fit seed size zero some most le = tt
 below-fit seed size (suc n) some most le =
     each-push FitsClass (rows_below seed size n) (numbered_row n (choices_of seed size n)) (below-fit seed size n some most (omega arith)) (numbered-fits seed size n some most (omega arith))
 
-rows-fit : (seed size : ℕ) → 1 ≤ size → size ≤ 200 → AllByRecursion FitsClass (program_rows seed size)
+pub rows-fit : (seed size : ℕ) → 1 ≤ size → size ≤ 200 → AllByRecursion FitsClass (program_rows seed size)
 rows-fit seed size some most = (main-fits, below-fit seed size size some most (omega arith))
 
 -- ---- so what is made of them
@@ -104,11 +105,32 @@ named-classes : (rows : List ClassRow) → AllByRecursion FitsClass rows → Are
 named-classes [] fits = tt
 named-classes (row ∷ rows) fits = ((class-holds row fits.0).named, named-classes rows fits.1)
 
+member-classes : (rows : List ClassRow) → AllByRecursion FitsClass rows → HaveMembers rows (map class_file_of rows)
+member-classes [] fits = tt
+member-classes (row ∷ rows) fits = ((class-holds row fits.0).members, member-classes rows fits.1)
+
+code-classes : (rows : List ClassRow) → AllByRecursion FitsClass rows → HaveCodes rows (map class_file_of rows)
+code-classes [] fits = tt
+code-classes (row ∷ rows) fits = ((class-holds row fits.0).codes, code-classes rows fits.1)
+
+pool-classes : (rows : List ClassRow) → AllByRecursion FitsClass rows → AllByRecursion HasOwnPool (map class_file_of rows)
+pool-classes [] fits = tt
+pool-classes (row ∷ rows) fits = ((class-holds row fits.0).own_pool, pool-classes rows fits.1)
+
 pub generated-short : (seed size : ℕ) → 1 ≤ size → size ≤ 200 → AllByRecursion IsShortFile (generated seed size)
 generated-short seed size some most = short-classes (program_rows seed size) (rows-fit seed size some most)
 
 pub generated-named : (seed size : ℕ) → 1 ≤ size → size ≤ 200 → AreNamed (program_rows seed size) (generated seed size)
 generated-named seed size some most = named-classes (program_rows seed size) (rows-fit seed size some most)
+
+pub generated-members : (seed size : ℕ) → 1 ≤ size → size ≤ 200 → HaveMembers (program_rows seed size) (generated seed size)
+generated-members seed size some most = member-classes (program_rows seed size) (rows-fit seed size some most)
+
+pub generated-codes : (seed size : ℕ) → 1 ≤ size → size ≤ 200 → HaveCodes (program_rows seed size) (generated seed size)
+generated-codes seed size some most = code-classes (program_rows seed size) (rows-fit seed size some most)
+
+pub generated-pools : (seed size : ℕ) → 1 ≤ size → size ≤ 200 → AllByRecursion HasOwnPool (generated seed size)
+generated-pools seed size some most = pool-classes (program_rows seed size) (rows-fit seed size some most)
 
 -- what holds of the generated classes holds of an answer that is those
 pub all-of : {V : Type 0} (items : V → List ClassFile) (P : List ClassFile → Type 0) (seed size : ℕ) → P (generated seed size) → (r : Result V NoMemory)

@@ -2,6 +2,7 @@ pub mod Pools
 pub mod SharedEntries
 pub mod SharedNames
 pub mod MadeCode
+pub mod SpelledCode
 pub mod MadeMethods
 pub mod MadeClasses
 pub mod DrawnChoices

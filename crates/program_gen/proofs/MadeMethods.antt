@@ -1,71 +1,70 @@
 -- The methods of a class, and the pool behind them.
-use Rattle.std.proofs.Common.{◌≡◌, ℕ, ◌+◌, ◌*◌, ◌<◌, ◌≤◌, ◌^◌, List, [], ◌∷◌, ◌++◌, length, Option, Some, slice_get, refl, ap, sym, subst, length-append, arith, lit<}
+use Rattle.std.proofs.Common.{◌≡◌, ℕ, ◌+◌, ◌*◌, ◌<◌, ◌≤◌, ◌^◌, List, [], ◌∷◌, ◌++◌, length, Some, slice_get, refl, sym, subst, length-append, append_assoc, arith, lit<}
 use Rattle.std.specs.Prelude.{codes}
-use Rattle.std.specs.Option.{option_and_then, ok_or}
-use Rattle.std.specs.Result.{result_ok}
-use Rattle.std.specs.List.{AllByRecursion, flat_map}
+use Rattle.std.specs.List.{AllByRecursion, AllZip, flat_map}
+use Rattle.std.proofs.lemmas.List.{append-nil}
 use Rattle.const_pool.specs.declared.pool.Const.{Const}
 use Rattle.const_pool.specs.declared.pool.Const.TheVariants.{Utf8}
-use Rattle.const_pool.specs.declared.pool.PoolError.TheVariants.{BadIndex}
 use Rattle.const_pool.specs.declared.class.Member.{Member}
 use Rattle.const_pool.specs.declared.class.CodeAttribute.{CodeAttribute}
 use Rattle.const_pool.specs.declared.class.Attribute.{Attribute}
 use Rattle.const_pool.specs.declared.class.Attribute.TheVariants.{Code}
-use Rattle.const_pool.specs.Pool.{is_utf8, entry_of}
-use Rattle.const_pool.specs.References.{named_text, text_entry, ◌>>=◌}
+use Rattle.const_pool.specs.Pool.{is_utf8}
 use Rattle.const_pool.specs.ClassFile.{IsByte, IsCode, IsMember, IsMethodAttribute, code_bytes, code_name, member_bytes}
 use Rattle.program_gen.specs.declared.rows.MethodRow.{MethodRow}
 use Rattle.program_gen.specs.Names.{member_text, member_descriptor}
 use Rattle.program_gen.specs.Making.{shared, code_from, MethodMade, method_added, MethodsMade, methods_from}
 use Rattle.program_gen.specs.Fits.{FitsMethod}
-use Rattle.program_gen.proofs.Pools.{each-push, each-by, names-at, IsGood}
+use Rattle.program_gen.specs.Members.{HasCodeOf, IsMethodOf}
+use Rattle.program_gen.proofs.Pools.{zip-push, zip-by, names-at, text-named, IsGood}
 use Rattle.program_gen.proofs.SharedNames.{Grows, then-grows, at-grown, text-added, member_text-fit, member_descriptor-fit, code-fit}
 use Rattle.program_gen.proofs.MadeCode.{grows-none, grows-wider, code-grows}
+use Rattle.program_gen.proofs.SpelledCode.{IsPart, code-parts, parts-more, parts-spelled}
 
 -- the code of a method as it is made
 abbrev code_of : ℕ → ℕ → List ℕ → CodeAttribute
 code_of stack locals bytes = record { max_stack = stack; max_locals = locals; code = bytes; handlers = []; attributes = [] }
 
--- a method whose indices name its texts, with one code
-pub record IsMade (pool : List Const) (m : Member) : Type 0 where
+-- a method whose indices name the texts of its row, with one code, which is the row's instructions
+pub record IsMade (pool : List Const) (row : MethodRow) (m : Member) : Type 0 where
+  pub access : m.access ≡ row.access
   pub access_fits : m.access < 2 ^ 16
-  pub text : List ℕ
-  pub named : slice_get pool m.name ≡ Some (Utf8 text)
+  pub named : slice_get pool m.name ≡ Some (Utf8 (member_text row.name))
   pub name_small : m.name < 2 ^ 16
-  pub form : List ℕ
-  pub described : slice_get pool m.descriptor ≡ Some (Utf8 form)
+  pub described : slice_get pool m.descriptor ≡ Some (Utf8 (member_descriptor row.name))
   pub descriptor_small : m.descriptor < 2 ^ 16
   pub attribute : ℕ
   pub attribute_small : attribute < 2 ^ 16
   pub attribute_at : slice_get pool attribute ≡ Some (Utf8 code_name)
-  pub stack : ℕ
-  pub locals : ℕ
   pub bytes : List ℕ
-  pub is : m.attributes ≡ Code attribute (code_of stack locals bytes) ∷ []
-  pub stack_small : stack < 2 ^ 16
-  pub locals_small : locals < 2 ^ 16
+  pub is : m.attributes ≡ Code attribute (code_of row.max_stack row.max_locals bytes) ∷ []
+  pub stack_small : row.max_stack < 2 ^ 16
+  pub locals_small : row.max_locals < 2 ^ 16
+  pub parts : List (List ℕ)
+  pub spelled : AllZip (IsPart pool) row.code parts
+  pub joined : bytes ≡ flat_map (λ part. part) parts
   pub each : AllByRecursion IsByte bytes
   pub some : 0 < length bytes
   pub few : length bytes ≤ 78
 
-made-more : (n a : ℕ) (p q : List Const) → Grows n a p q → (m : Member) → IsMade p m → IsMade q m
-made-more n a p q g m h = record {
+made-more : (n a : ℕ) (p q : List Const) → Grows n a p q → (row : MethodRow) (m : Member) → IsMade p row m → IsMade q row m
+made-more n a p q g row m h = record {
+  access = h.access;
   access_fits = h.access_fits;
-  text = h.text;
   named = at-grown n a p q m.name _ g h.named;
   name_small = h.name_small;
-  form = h.form;
   described = at-grown n a p q m.descriptor _ g h.described;
   descriptor_small = h.descriptor_small;
   attribute = h.attribute;
   attribute_small = h.attribute_small;
   attribute_at = at-grown n a p q h.attribute _ g h.attribute_at;
-  stack = h.stack;
-  locals = h.locals;
   bytes = h.bytes;
   is = h.is;
   stack_small = h.stack_small;
   locals_small = h.locals_small;
+  parts = h.parts;
+  spelled = parts-more n a p q g row.code h.parts h.spelled;
+  joined = h.joined;
   each = h.each;
   some = h.some;
   few = h.few;
@@ -93,27 +92,24 @@ is-code pool stack locals bytes s l each some few =
       whole = omega (arith, whole, few);
     }
 
-named-text : (pool : List Const) (i : ℕ) (t : List ℕ) → slice_get pool i ≡ Some (Utf8 t) → named_text pool i ≡ Some t
-named-text pool i t h = ap (λ (o : Option Const). result_ok (ok_or (option_and_then entry_of o) BadIndex >>= text_entry)) h
-
-pub is-member : (pool : List Const) (m : Member) → IsMade pool m → IsMember IsMethodAttribute pool m
-is-member pool m h = record {
+pub is-member : (pool : List Const) (row : MethodRow) (m : Member) → IsMade pool row m → IsMember IsMethodAttribute pool m
+is-member pool row m h = record {
   access = h.access_fits;
   name = h.name_small;
   named = names-at is_utf8 pool m.name _ h.named refl;
   descriptor = h.descriptor_small;
   described = names-at is_utf8 pool m.descriptor _ h.described refl;
   count = rw h.is (lit< tt);
-  attributes = rw h.is ((h.attribute_small, named-text pool h.attribute code_name h.attribute_at, is-code pool h.stack h.locals h.bytes h.stack_small h.locals_small h.each h.some h.few), tt);
+  attributes = rw h.is ((h.attribute_small, text-named pool h.attribute code_name h.attribute_at, is-code pool row.max_stack row.max_locals h.bytes h.stack_small h.locals_small h.each h.some h.few), tt);
 }
 
 -- ---- making it
 
-pub record MethodGrows (n : ℕ) (pool : List Const) (made : MethodMade) : Type 0 where
+pub record MethodGrows (n : ℕ) (pool : List Const) (row : MethodRow) (made : MethodMade) : Type 0 where
   pub grows : Grows n 159 pool made.pool
-  pub is : IsMade made.pool made.member
+  pub is : IsMade made.pool row made.member
 
-pub method-grows : (n : ℕ) (pool : List Const) (row : MethodRow) → IsGood n pool → n < 60000 → FitsMethod row → MethodGrows n pool (method_added pool row)
+pub method-grows : (n : ℕ) (pool : List Const) (row : MethodRow) → IsGood n pool → n < 60000 → FitsMethod row → MethodGrows n pool row (method_added pool row)
 unfolding method_added
 method-grows n pool row g h fits =
     let few = fits.few in
@@ -124,6 +120,7 @@ method-grows n pool row g h fits =
     let c = text-added ((n + 1) + 1) descriptor.pool (codes "Code") b.grows.good (omega arith) code-fit in
     let attribute = shared descriptor.pool (Utf8 (codes "Code")) in
     let d = code-grows row.code (((n + 1) + 1) + 1) attribute.pool [] c.grows.good (omega (arith, few)) tt fits.each in
+    let whole = code-parts row.code (((n + 1) + 1) + 1) attribute.pool [] c.grows.good (omega (arith, few)) tt fits.each in
     let size = 6 * length row.code in
     let made = code_from attribute.pool [] row.code in
     let last_two = then-grows ((n + 1) + 1) 1 size _ _ _ c.grows d.grows in
@@ -135,45 +132,47 @@ method-grows n pool row g h fits =
     record {
       grows = grows-wider n (1 + (1 + (1 + size))) 159 pool made.pool (omega (arith, few)) all;
       is = record {
+        access = refl;
         access_fits = fits.access_fits;
-        text = member_text row.name;
         named = at-grown (n + 1) (1 + (1 + size)) _ _ name.index _ last_three a.at;
         name_small = a.small;
-        form = member_descriptor row.name;
         described = at-grown ((n + 1) + 1) (1 + size) _ _ descriptor.index _ last_two b.at;
         descriptor_small = b.small;
         attribute = attribute.index;
         attribute_small = c.small;
         attribute_at = at-grown (((n + 1) + 1) + 1) size _ _ attribute.index _ d.grows c.at;
-        stack = row.max_stack;
-        locals = row.max_locals;
         bytes = made.bytes;
         is = refl;
         stack_small = fits.stack;
         locals_small = fits.locals;
+        parts = whole.parts;
+        spelled = whole.each;
+        joined = whole.joined;
         each = d.each;
         some = omega (arith, some, longer);
         few = omega (arith, few, shorter);
       };
     }
 
-pub record MethodsGrow (n added : ℕ) (pool : List Const) (made : MethodsMade) : Type 0 where
+pub record MethodsGrow (n added : ℕ) (pool : List Const) (rows : List MethodRow) (made : MethodsMade) : Type 0 where
   pub grows : Grows n added pool made.pool
-  pub each : AllByRecursion (IsMade made.pool) made.members
+  pub each : AllZip (IsMade made.pool) rows made.members
 
-pub methods-grow : (rows : List MethodRow) (n : ℕ) (pool : List Const) (done : List Member) → IsGood n pool → n + 159 * length rows < 60000
-    → AllByRecursion (IsMade pool) done → AllByRecursion FitsMethod rows → MethodsGrow n (159 * length rows) pool (methods_from pool done rows)
+pub methods-grow : (rows before : List MethodRow) (n : ℕ) (pool : List Const) (done : List Member) → IsGood n pool → n + 159 * length rows < 60000
+    → AllZip (IsMade pool) before done → AllByRecursion FitsMethod rows → MethodsGrow n (159 * length rows) pool (before ++ rows) (methods_from pool done rows)
 unfolding methods_from
-methods-grow [] n pool done g h each fits = record { grows = grows-none n pool g; each = each }
-methods-grow (row ∷ rest) n pool done g h each fits =
+methods-grow [] before n pool done g h each fits =
+    record { grows = grows-none n pool g; each = subst (λ (all : List MethodRow). AllZip (IsMade pool) all done) (sym (append-nil before)) each }
+methods-grow (row ∷ rest) before n pool done g h each fits =
     let first = method-grows n pool row g (omega arith) fits.0 in
     let made = method_added pool row in
-    let so_far = each-push (IsMade made.pool) done made.member (each-by (IsMade pool) (IsMade made.pool) (made-more n 159 pool made.pool first.grows) done each) first.is in
-    let later = methods-grow rest (n + 159) made.pool (done ++ made.member ∷ []) first.grows.good (omega arith) so_far fits.1 in
+    let so_far = zip-push (IsMade made.pool) before done row made.member (zip-by (IsMade pool) (IsMade made.pool) (made-more n 159 pool made.pool first.grows) before done each) first.is in
+    let later = methods-grow rest (before ++ row ∷ []) (n + 159) made.pool (done ++ made.member ∷ []) first.grows.good (omega arith) so_far fits.1 in
     let all : 159 + 159 * length rest ≡ 159 * length (row ∷ rest) = omega arith in
     record {
       grows = subst (λ k. Grows n k pool (methods_from made.pool (done ++ made.member ∷ []) rest).pool) all (then-grows n 159 (159 * length rest) _ _ _ first.grows later.grows);
-      each = later.each;
+      each = subst (λ (rows : List MethodRow). AllZip (IsMade (methods_from made.pool (done ++ made.member ∷ []) rest).pool) rows (methods_from made.pool (done ++ made.member ∷ []) rest).members)
+          (append_assoc before (row ∷ []) rest) later.each;
     }
 
 -- how many there are
@@ -188,18 +187,38 @@ length-methods_from (row ∷ rest) pool done =
 
 -- ---- how many bytes they have
 
-member-bytes : (pool : List Const) (m : Member) → IsMade pool m → length (member_bytes m) ≤ 104
-member-bytes pool m h = subst (λ (list : List Attribute). length (member_bytes (record m { attributes = list })) ≤ 104) (sym h.is) (
-    let whole = length-code_bytes h.stack h.locals h.bytes in
-    let code = code_bytes (code_of h.stack h.locals h.bytes) in
+member-bytes : (pool : List Const) (row : MethodRow) (m : Member) → IsMade pool row m → length (member_bytes m) ≤ 104
+member-bytes pool row m h = subst (λ (list : List Attribute). length (member_bytes (record m { attributes = list })) ≤ 104) (sym h.is) (
+    let whole = length-code_bytes row.max_stack row.max_locals h.bytes in
+    let code = code_bytes (code_of row.max_stack row.max_locals h.bytes) in
     let more = length-append code [] in
     let few = h.few in
     omega (arith, whole, more, few))
 
-pub members-bytes : (pool : List Const) (ms : List Member) → AllByRecursion (IsMade pool) ms → length (flat_map member_bytes ms) ≤ 104 * length ms
-members-bytes pool [] h = omega arith
-members-bytes pool (m ∷ ms) h =
-    let here = member-bytes pool m h.0 in
-    let rest = members-bytes pool ms h.1 in
+pub members-bytes : (pool : List Const) (rows : List MethodRow) (ms : List Member) → AllZip (IsMade pool) rows ms → length (flat_map member_bytes ms) ≤ 104 * length ms
+members-bytes pool [] [] h = omega arith
+members-bytes pool [] (m ∷ ms) h = absurd h
+members-bytes pool (row ∷ rows) [] h = absurd h
+members-bytes pool (row ∷ rows) (m ∷ ms) h =
+    let here = member-bytes pool row m h.0 in
+    let rest = members-bytes pool rows ms h.1 in
     let both = length-append (member_bytes m) (flat_map member_bytes ms) in
     omega (arith, both)
+
+-- ---- what the row says of them
+
+pub has-method : (pool : List Const) (row : MethodRow) (m : Member) → IsMade pool row m → IsMethodOf pool row m
+has-method pool row m h = record {
+  access = h.access;
+  name = text-named pool m.name (member_text row.name) h.named;
+  descriptor = text-named pool m.descriptor (member_descriptor row.name) h.described;
+}
+
+pub has-code : (pool : List Const) (row : MethodRow) (m : Member) → IsMade pool row m → HasCodeOf pool row m
+has-code pool row m h = record {
+  name = h.attribute;
+  named = text-named pool h.attribute code_name h.attribute_at;
+  bytes = h.bytes;
+  is = h.is;
+  code = parts-spelled pool row.code h.parts h.bytes h.spelled h.joined;
+}

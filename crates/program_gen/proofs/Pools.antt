@@ -1,10 +1,15 @@
 -- A pool of a gap and entries that take one index each.
-use Rattle.std.proofs.Common.{◌≡◌, ℕ, zero, suc, ◌+◌, ◌<◌, ◌≤◌, ◌*◌, ◌^◌, Bool, true, false, List, [], ◌∷◌, ◌++◌, length, Option, Some, None, slice_get, refl, ap, sym, ◌∙◌, subst, length-append, arith}
-use Rattle.std.specs.Option.{option_map_or}
-use Rattle.std.specs.List.{AllByRecursion, flat_map}
+use Rattle.std.proofs.Common.{◌≡◌, ◌≢◌, ℕ, zero, suc, ◌+◌, ◌<◌, ◌≤◌, ◌*◌, ◌^◌, Bool, true, false, List, [], ◌∷◌, ◌++◌, length, Option, Some, None, slice_get, refl, ap, sym, ◌∙◌, subst, length-append, arith}
+use Rattle.std.specs.Option.{option_and_then, option_map_or, ok_or}
+use Rattle.std.specs.Result.{result_ok}
+use Rattle.std.specs.List.{AllByRecursion, AllZip, flat_map}
 use Rattle.const_pool.specs.declared.pool.Const.{Const}
 use Rattle.const_pool.specs.declared.pool.Const.TheVariants.{Gap, Utf8, Integer, Float, Long, Double, Class, Text, Field, Method, InterfaceMethod, NameType}
-use Rattle.const_pool.specs.Pool.{IsPool, IsEntry, AreEntries, Names, has_gaps, gaps_due, is_wide, entry_bytes, pool_bytes}
+use Rattle.const_pool.specs.declared.pool.PoolError.TheVariants.{BadIndex}
+use Rattle.const_pool.specs.BuiltIn.{probe_class}
+use Rattle.const_pool.specs.References.{◌>>=◌, named_text, text_entry}
+use Rattle.const_pool.specs.Pool.{entry_of, IsPool, IsEntry, AreEntries, Names, has_gaps, gaps_due, is_wide, entry_bytes, pool_bytes}
+use Rattle.program_gen.specs.Generated.{IsNoProbe}
 
 pub front : {A : Type 0} (xs ys : List A) (k : ℕ) (x : A) → slice_get xs k ≡ Some x → slice_get (xs ++ ys) k ≡ Some x
 front [] ys k x h = absurd cc
@@ -26,6 +31,24 @@ each-append P (y ∷ xs) ys h p = (h.0, each-append P xs ys h.1 p)
 pub each-by : {A : Type 0} (P Q : A → Type 0) → ((x : A) → P x → Q x) → (xs : List A) → AllByRecursion P xs → AllByRecursion Q xs
 each-by P Q f [] h = tt
 each-by P Q f (x ∷ xs) h = (f x h.0, each-by P Q f xs h.1)
+
+pub zip-push : {A B : Type 0} (R : A → B → Type 0) (xs : List A) (ys : List B) (x : A) (y : B) → AllZip R xs ys → R x y → AllZip R (xs ++ x ∷ []) (ys ++ y ∷ [])
+zip-push R [] [] x y h r = (r, tt)
+zip-push R [] (b ∷ ys) x y h r = absurd h
+zip-push R (a ∷ xs) [] x y h r = absurd h
+zip-push R (a ∷ xs) (b ∷ ys) x y h r = (h.0, zip-push R xs ys x y h.1 r)
+
+pub zip-by : {A B : Type 0} (R S : A → B → Type 0) → ((x : A) (y : B) → R x y → S x y) → (xs : List A) (ys : List B) → AllZip R xs ys → AllZip S xs ys
+zip-by R S f [] [] h = tt
+zip-by R S f [] (b ∷ ys) h = absurd h
+zip-by R S f (a ∷ xs) [] h = absurd h
+zip-by R S f (a ∷ xs) (b ∷ ys) h = (f a b h.0, zip-by R S f xs ys h.1)
+
+pub zip-each : {A B : Type 0} (R : A → B → Type 0) (Q : B → Type 0) → ((x : A) (y : B) → R x y → Q y) → (xs : List A) (ys : List B) → AllZip R xs ys → AllByRecursion Q ys
+zip-each R Q f [] [] h = tt
+zip-each R Q f [] (b ∷ ys) h = absurd h
+zip-each R Q f (a ∷ xs) [] h = absurd h
+zip-each R Q f (a ∷ xs) (b ∷ ys) h = (f a b h.0, zip-each R Q f xs ys h.1)
 
 -- ---- what an index names, in a longer pool
 
@@ -55,10 +78,35 @@ entry-more pool more (NameType n d) h = (h.0, h.1, names-more _ pool more n h.2,
 
 -- ---- the pools that are made here
 
+-- a class that is not that of the probes
+pub record IsOtherClass (pool : List Const) (i : ℕ) : Type 0 where
+  pub text : List ℕ
+  pub at : slice_get pool i ≡ Some (Utf8 text)
+  pub other : text ≢ probe_class
+
+abbrev pub IsOther : List Const → Const → Type 0
+IsOther pool (Class i) = IsOtherClass pool i
+IsOther pool _ = Unit {0}
+
+other-more : (pool more : List Const) (c : Const) → IsOther pool c → IsOther (pool ++ more) c
+other-more pool more Gap h = tt
+other-more pool more (Utf8 t) h = tt
+other-more pool more (Integer n) h = tt
+other-more pool more (Float n) h = tt
+other-more pool more (Long n) h = tt
+other-more pool more (Double n) h = tt
+other-more pool more (Class i) h = record { text = h.text; at = front pool more i _ h.at; other = h.other }
+other-more pool more (Text i) h = tt
+other-more pool more (Field c n) h = tt
+other-more pool more (Method c n) h = tt
+other-more pool more (InterfaceMethod c n) h = tt
+other-more pool more (NameType n d) h = tt
+
 pub record IsNarrow (pool : List Const) (c : Const) : Type 0 where
   pub entry : IsEntry pool c
   pub narrow : is_wide c ≡ false
   pub few : length (entry_bytes c) ≤ 258
+  pub other : IsOther pool c
 
 pub record IsGood (n : ℕ) (pool : List Const) : Type 0 where
   pub entries : List Const
@@ -67,7 +115,7 @@ pub record IsGood (n : ℕ) (pool : List Const) : Type 0 where
   pub count : length pool ≤ n
 
 narrow-more : (pool more : List Const) (c : Const) → IsNarrow pool c → IsNarrow (pool ++ more) c
-narrow-more pool more c h = record { entry = entry-more pool more c h.entry; narrow = h.narrow; few = h.few }
+narrow-more pool more c h = record { entry = entry-more pool more c h.entry; narrow = h.narrow; few = h.few; other = other-more pool more c h.other }
 
 pub good-push : (n : ℕ) (pool : List Const) (c : Const) → IsGood n pool → IsNarrow pool c → IsGood (suc n) (pool ++ c ∷ [])
 good-push n pool c g h =
@@ -133,6 +181,31 @@ good-pool n pool h g = record {
   where
     tail-is : (xs ys : List Const) → Gap ∷ xs ≡ Gap ∷ ys → xs ≡ ys
     tail-is xs ys e = cc
+
+-- ---- none names the class of the probes
+
+pub text-named : (pool : List Const) (i : ℕ) (t : List ℕ) → slice_get pool i ≡ Some (Utf8 t) → named_text pool i ≡ Some t
+text-named pool i t h = ap (λ (o : Option Const). result_ok (ok_or (option_and_then entry_of o) BadIndex >>= text_entry)) h
+
+some-is : (x y : List ℕ) → Some x ≡ Some y → x ≡ y
+some-is x y e = cc
+
+narrow-own : (pool : List Const) (c : Const) → IsNarrow pool c → IsNoProbe pool c
+narrow-own pool Gap h = tt
+narrow-own pool (Utf8 t) h = tt
+narrow-own pool (Integer n) h = tt
+narrow-own pool (Float n) h = tt
+narrow-own pool (Long n) h = tt
+narrow-own pool (Double n) h = tt
+narrow-own pool (Class i) h = λ e. h.other.other (some-is _ _ (sym (text-named pool i h.other.text h.other.at) ∙ e))
+narrow-own pool (Text i) h = tt
+narrow-own pool (Field c n) h = tt
+narrow-own pool (Method c n) h = tt
+narrow-own pool (InterfaceMethod c n) h = tt
+narrow-own pool (NameType n d) h = tt
+
+pub good-own : (n : ℕ) (pool : List Const) → IsGood n pool → AllByRecursion (IsNoProbe pool) pool
+good-own n pool g = subst (AllByRecursion (IsNoProbe pool)) (sym g.is) (tt, each-by (IsNarrow pool) (IsNoProbe pool) (narrow-own pool) g.entries g.each)
 
 pub good-start : IsGood 1 (Gap ∷ [])
 good-start = record { entries = []; is = refl; each = tt; count = omega arith }

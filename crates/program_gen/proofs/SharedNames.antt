@@ -1,5 +1,5 @@
 -- The entries of texts, classes and members.
-use Rattle.std.proofs.Common.{◌≡◌, ℕ, zero, suc, ◌+◌, ◌<◌, ◌^◌, Bool, true, false, List, [], ◌∷◌, ◌++◌, length, Some, slice_get, refl, ap, sym, ◌∙◌, subst, append_assoc, arith}
+use Rattle.std.proofs.Common.{◌≡◌, ◌≢◌, get_or, ℕ, zero, suc, ◌+◌, ◌<◌, ◌^◌, Bool, true, false, List, [], ◌∷◌, ◌++◌, length, Some, slice_get, refl, ap, sym, ◌∙◌, subst, append_assoc, arith}
 use Rattle.std.specs.Prelude.{◌&&◌, ◌==◌, nat_lt, codes, if◌then◌else◌}
 use Rattle.std.specs.Fmt.{decimal, digits}
 use Rattle.std.specs.List.{list_all, AllByRecursion}
@@ -7,6 +7,7 @@ use Rattle.std.proofs.lemmas.Bool.{and_parts, ltb-true, ltb-false}
 use Rattle.jf_bytes.specs.ModifiedUtf8.{modified_utf8}
 use Rattle.const_pool.specs.declared.pool.Const.{Const}
 use Rattle.const_pool.specs.declared.pool.Const.TheVariants.{Utf8, Class, Field, Method, NameType}
+use Rattle.const_pool.specs.BuiltIn.{probe_class}
 use Rattle.const_pool.specs.Pool.{Names, is_utf8, is_class, is_name_type}
 use Rattle.program_gen.specs.declared.rows.ClassName.{ClassName}
 use Rattle.program_gen.specs.declared.rows.ClassName.TheVariants.{Object, System, PrintStream, Main, Numbered}
@@ -31,7 +32,7 @@ pub text-narrow : (pool : List Const) (text : List ℕ) → is_fit text ≡ true
 text-narrow pool text h =
     let parts = and_parts (list_all (λ unit. nat_lt unit 65536) text) (nat_lt (length (modified_utf8 text)) 256) h in
     let short = ltb-true (length (modified_utf8 text)) 256 parts.1 in
-    record { entry = (units-fit text parts.0, omega (arith, short)); narrow = refl; few = omega (arith, short) }
+    record { entry = (units-fit text parts.0, omega (arith, short)); narrow = refl; few = omega (arith, short); other = tt }
 
 -- all names with a number below this one are fit
 abbrev are_fit : ℕ → Bool
@@ -113,6 +114,14 @@ entry-added n pool entry g h plain =
 pub text-added : (n : ℕ) (pool : List Const) (text : List ℕ) → IsGood n pool → n < 65535 → is_fit text ≡ true → HasAdded n 1 pool (Utf8 text) (shared pool (Utf8 text))
 text-added n pool text g h fit = entry-added n pool (Utf8 text) g h (text-narrow pool text fit)
 
+-- no class is that of the probes, which has another letter after the first
+class_text-other : (name : ClassName) → class_text name ≢ probe_class
+class_text-other Object e = let same : ◌≡◌ {A = ℕ} 97 102 = ap (λ (x : List ℕ). get_or x 1 0) e in omega arith
+class_text-other System e = let same : ◌≡◌ {A = ℕ} 97 102 = ap (λ (x : List ℕ). get_or x 1 0) e in omega arith
+class_text-other PrintStream e = let same : ◌≡◌ {A = ℕ} 97 102 = ap (λ (x : List ℕ). get_or x 1 0) e in omega arith
+class_text-other Main e = let same : ◌≡◌ {A = ℕ} 101 102 = ap (λ (x : List ℕ). get_or x 1 0) e in omega arith
+class_text-other (Numbered number) e = let same : ◌≡◌ {A = ℕ} 101 102 = ap (λ (x : List ℕ). get_or x 1 0) e in omega arith
+
 -- a class has its text's index
 pub record HasClass (n : ℕ) (pool : List Const) (text : List ℕ) (s : Shared) : Type 0 where
   pub name : ℕ
@@ -125,19 +134,26 @@ class-added n pool name g h fits =
     let t = text-added n pool (class_text name) g (omega arith) (class_text-fit name fits) in
     let text = shared pool (Utf8 (class_text name)) in
     let c = entry-added (n + 1) text.pool (Class text.index) t.grows.good (omega arith)
-    (record { entry = (t.small, names-at is_utf8 text.pool text.index _ t.at refl); narrow = refl; few = omega arith }) in
+    (record {
+      entry = (t.small, names-at is_utf8 text.pool text.index _ t.at refl);
+      narrow = refl;
+      few = omega arith;
+      other = record { text = class_text name; at = t.at; other = class_text-other name };
+    }) in
     record {
       name = text.index;
       named = at-grown (n + 1) 1 _ _ text.index _ c.grows t.at;
       added = record { grows = then-grows n 1 1 _ _ _ t.grows c.grows; at = c.at; small = c.small };
     }
 
-pub record HasNameType (n : ℕ) (pool : List Const) (s : Shared) : Type 0 where
+pub record HasNameType (n : ℕ) (pool : List Const) (member : MemberName) (s : Shared) : Type 0 where
   pub name : ℕ
+  pub named : slice_get s.pool name ≡ Some (Utf8 (member_text member))
   pub descriptor : ℕ
+  pub described : slice_get s.pool descriptor ≡ Some (Utf8 (member_descriptor member))
   pub added : HasAdded n 3 pool (NameType name descriptor) s
 
-name_type-added : (n : ℕ) (pool : List Const) (member : MemberName) → IsGood n pool → n < 65000 → HasNameType n pool (name_type_shared pool member)
+name_type-added : (n : ℕ) (pool : List Const) (member : MemberName) → IsGood n pool → n < 65000 → HasNameType n pool member (name_type_shared pool member)
 unfolding name_type_shared
 name_type-added n pool member g h =
     let a = text-added n pool (member_text member) g (omega arith) (member_text-fit member) in
@@ -147,10 +163,12 @@ name_type-added n pool member g h =
     let both = then-grows n 1 1 _ _ _ a.grows b.grows in
     let name_at = at-grown (n + 1) 1 _ _ name.index _ b.grows a.at in
     let c = entry-added (n + 2) descriptor.pool (NameType name.index descriptor.index) both.good (omega arith)
-    (record { entry = (a.small, b.small, names-at is_utf8 descriptor.pool name.index _ name_at refl, names-at is_utf8 descriptor.pool descriptor.index _ b.at refl); narrow = refl; few = omega arith }) in
+    (record { entry = (a.small, b.small, names-at is_utf8 descriptor.pool name.index _ name_at refl, names-at is_utf8 descriptor.pool descriptor.index _ b.at refl); narrow = refl; few = omega arith; other = tt }) in
     record {
       name = name.index;
+      named = at-grown (n + 2) 1 _ _ name.index _ c.grows name_at;
       descriptor = descriptor.index;
+      described = at-grown (n + 2) 1 _ _ descriptor.index _ c.grows b.at;
       added = record { grows = then-grows n 2 1 _ _ _ both c.grows; at = c.at; small = c.small };
     }
 
@@ -159,15 +177,30 @@ member-narrow : (pool : List Const) (op class member : ℕ) → (class < 2 ^ 16)
 member-narrow pool op class member h = by (op == 178)
   where
     by : (b : Bool) → IsNarrow pool (if b then Field class member else Method class member)
-    by true = record { entry = h; narrow = refl; few = omega arith }
-    by false = record { entry = h; narrow = refl; few = omega arith }
+    by true = record { entry = h; narrow = refl; few = omega arith; other = tt }
+    by false = record { entry = h; narrow = refl; few = omega arith; other = tt }
 
-pub record HasMember (n : ℕ) (pool : List Const) (s : Shared) : Type 0 where
+-- the entry of a member at this index, with all that it stands on
+pub record StandsMember (pool : List Const) (op : ℕ) (class : ClassName) (member : MemberName) (index : ℕ) : Type 0 where
+  pub class_index : ℕ
+  pub class_name : ℕ
+  pub name_type : ℕ
+  pub name : ℕ
+  pub descriptor : ℕ
+  pub at : slice_get pool index ≡ Some (member_entry op class_index name_type)
+  pub class_at : slice_get pool class_index ≡ Some (Class class_name)
+  pub class_named : slice_get pool class_name ≡ Some (Utf8 (class_text class))
+  pub name_type_at : slice_get pool name_type ≡ Some (NameType name descriptor)
+  pub named : slice_get pool name ≡ Some (Utf8 (member_text member))
+  pub described : slice_get pool descriptor ≡ Some (Utf8 (member_descriptor member))
+
+pub record HasMember (n : ℕ) (pool : List Const) (op : ℕ) (class : ClassName) (member : MemberName) (s : Shared) : Type 0 where
   pub entry : Const
   pub added : HasAdded n 6 pool entry s
+  pub stands : StandsMember s.pool op class member s.index
 
 pub member-added : (n : ℕ) (pool : List Const) (op : ℕ) (class : ClassName) (member : MemberName) → IsGood n pool → n < 64000 → FitsName class
-    → HasMember n pool (member_shared pool op class member)
+    → HasMember n pool op class member (member_shared pool op class member)
 unfolding member_shared
 member-added n pool op class member g h fits =
     let a = class-added n pool class g (omega arith) fits in
@@ -182,4 +215,17 @@ member-added n pool op class member g h fits =
     record {
       entry = member_entry op c.index m.index;
       added = record { grows = then-grows n 5 1 _ _ _ both d.grows; at = d.at; small = d.small };
+      stands = record {
+        class_index = c.index;
+        class_name = a.name;
+        name_type = m.index;
+        name = b.name;
+        descriptor = b.descriptor;
+        at = d.at;
+        class_at = at-grown (n + 5) 1 _ _ c.index _ d.grows class_at;
+        class_named = at-grown (n + 5) 1 _ _ a.name _ d.grows (at-grown (n + 2) 3 _ _ a.name _ b.added.grows a.named);
+        name_type_at = at-grown (n + 5) 1 _ _ m.index _ d.grows b.added.at;
+        named = at-grown (n + 5) 1 _ _ b.name _ d.grows b.named;
+        described = at-grown (n + 5) 1 _ _ b.descriptor _ d.grows b.described;
+      };
     }

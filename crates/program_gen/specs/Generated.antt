@@ -1,9 +1,11 @@
 -- The class files of a generated program, and what a reader and admission ask of them.
 use Rattle.std.specs.Prelude.{◌≡◌, ◌≢◌, ◌≤◌, ℕ, List, [], ◌∷◌, length, map, Some}
 use Rattle.std.specs.List.{AllByRecursion, AllZip}
+use Rattle.const_pool.specs.declared.pool.Const.{Const}
+use Rattle.const_pool.specs.declared.pool.Const.TheVariants.{Class}
 use Rattle.const_pool.specs.declared.class.ClassFile.{ClassFile}
 use Rattle.const_pool.specs.ClassFile.{class_bytes}
-use Rattle.const_pool.specs.References.{named_class}
+use Rattle.const_pool.specs.References.{named_class, named_text}
 use Rattle.const_pool.specs.BuiltIn.{probe_class, built_in_names}
 use Rattle.program_gen.specs.declared.rows.ClassRow.{ClassRow}
 use Rattle.program_gen.specs.Names.{class_text}
@@ -19,6 +21,20 @@ most_bytes = 4194304
 
 abbrev pub IsShortFile : ClassFile → Type 0
 IsShortFile c = length (class_bytes c) ≤ most_bytes
+
+-- the most entries of a class's pool
+abbrev pub most_entries : ℕ
+most_entries = 400
+
+-- it does not name the class of the probes
+abbrev pub IsNoProbe : List Const → Const → Type 0
+IsNoProbe pool (Class name) = named_text pool name ≢ Some probe_class
+IsNoProbe pool _ = Unit {0}
+
+-- There is room for more entries, and no entry names the class of the probes.
+pub record HasOwnPool (c : ClassFile) : Type 0 where
+  pub few : length c.pool ≤ most_entries
+  pub own : AllByRecursion (IsNoProbe c.pool) c.pool
 
 -- the class and its superclass have the names of the row
 pub record IsNamedBy (row : ClassRow) (c : ClassFile) : Type 0 where

@@ -4,4 +4,5 @@ pub mod Programs
 pub mod Chains
 pub mod Making
 pub mod Fits
+pub mod Members
 pub mod Generated

@@ -3,7 +3,9 @@
 ghost use Rattle.std.specs.Prelude.{◌≡◌, ◌<◌, ◌≤◌, ◌+◌, length, IfOk};
 ghost use Rattle.std.specs.List.{AllByRecursion};
 ghost use Rattle.const_pool.specs.ClassFile.{IsClassFile};
-ghost use Rattle.program_gen.specs.Generated.{AreNamed, HaveOwnNames, IsShortFile, generated};
+ghost use Rattle.program_gen.specs.Fits.{FitsClass};
+ghost use Rattle.program_gen.specs.Generated.{AreNamed, HasOwnPool, HaveOwnNames, IsShortFile, generated};
+ghost use Rattle.program_gen.specs.Members.{HaveCodes, HaveMembers};
 ghost use Rattle.program_gen.specs.Programs.{program_rows};
 
 use crate::draws::draw_choices;
@@ -41,6 +43,10 @@ pub fn generate(alloc: Global, seed: u32, size: u32) -> Result<Vec<ClassFile>, N
     ensures count { IfOk result (λ classes. length classes.items ≡ size + 1) }
     ensures short { IfOk result (λ classes. AllByRecursion IsShortFile classes.items) }
     ensures names { IfOk result (λ classes. AreNamed (program_rows seed size) classes.items) }
+    ensures members { IfOk result (λ classes. HaveMembers (program_rows seed size) classes.items) }
+    ensures codes { IfOk result (λ classes. HaveCodes (program_rows seed size) classes.items) }
+    ensures own_pools { IfOk result (λ classes. AllByRecursion HasOwnPool classes.items) }
+    ensures fits { AllByRecursion FitsClass (program_rows seed size) }
     ensures own_names { HaveOwnNames (program_rows seed size) }
 {
     classes_of(alloc, seed, size)
