@@ -1,7 +1,10 @@
-use Rattle.std.proofs.Common.{◌≡◌, List, true, sym, subst, ◌∙◌}
+use Rattle.std.proofs.Common.{◌≡◌, List, length, take, true, refl, sym, ap, subst, ◌∙◌}
 use Rattle.std.specs.Prelude.{IfOk}
+use Rattle.std.proofs.lemmas.List.{take_at}
 use Rattle.std.proofs.lemmas.Result.{IfOk-weaker, IfErr-weaker}
 use Rattle.const_pool.specs.declared.class.ClassFile.{ClassFile}
+use Rattle.base_classes.specs.BuiltInFiles.{built_in_files}
+use Rattle.jvm_model.specs.declared.program.Program.{Program}
 use Rattle.small_program.specs.Admission.{AreRoots, is_built_plan, IsRefusedFor}
 use Rattle.small_program.proofs.Answered.{refuses, runs-as, foreign-as, runnable-as}
 use Rattle.small_program.proofs.Sound.{classes-runnable}
@@ -15,6 +18,12 @@ decided c = subst (λ (cs : List ClassFile). AreRoots cs c.in_ok-roots.roots) c.
 -- the plan is built where the program runs
 planned : (c : After-run_as) → IfOk c.run_as.result (λ a. is_built_plan c.args.plan.now ≡ true)
 planned c = IfOk-weaker c.run_as.result _ _ (λ a e. sym c.is_built.ensures ∙ e) c.run_as.ensures.planned
+
+pub returns-in-Ok-clause-same : goal.returns-in-Ok-clause-same
+returns-in-Ok-clause-same c =
+    let front : take (length c.args.classes) c.in-Ok.program.classes ≡ c.args.classes =
+    ap (take (length c.args.classes)) c.in-Ok.ensures.sound.sound.classes_are ∙ take_at c.args.classes built_in_files (length c.args.classes) refl in
+    IfOk-weaker c.run_as.result _ _ (λ a e. subst (λ (p : Program). take (length c.args.classes) p.classes ≡ c.args.classes) (sym e) front) c.run_as.ensures.program
 
 pub returns-in-Ok-clause-runnable : goal.returns-in-Ok-clause-runnable
 returns-in-Ok-clause-runnable c =
