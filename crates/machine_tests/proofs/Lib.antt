@@ -1,5 +1,4 @@
 pub mod WorkedClass
 mod WorkedVersion
-mod BuiltInCodes
 mod WorkedLoads
 pub mod Lists
