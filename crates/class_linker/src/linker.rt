@@ -1,6 +1,6 @@
 //! The linker.
 
-ghost use Rattle.std.specs.Prelude.{◌≡◌, ◌↔◌, None, flat_map, length, replicate, true, IfOk, IsTrue};
+ghost use Rattle.std.specs.Prelude.{◌≡◌, ◌↔◌, ℕ, None, flat_map, length, replicate, true, IfOk, IsTrue};
 ghost use Rattle.std.specs.Option.{option_map};
 ghost use Rattle.const_pool.specs.References.{name_type_of};
 ghost use Rattle.jvm_model.specs.Kinds.{is_subkind};
@@ -25,7 +25,7 @@ use crate::rows::Row;
 use crate::selecting::selected;
 use crate::super_calls::invoked_special;
 use crate::telling::answer;
-use crate::walks::{is_subtype, is_superclass, layout_of, slots_above};
+use crate::walks::{each_supertype, is_subtype, is_superclass, layout_of, slots_above};
 use class_index::{Index, Order, Wanted};
 use const_pool::Kind;
 use jf_bytes::{NoMemory, Seq, Text16};
@@ -147,6 +147,15 @@ impl Linker {
         ensures { result ≡ is_subtype self.now.program lower upper }
     {
         is_subtype(&self.index, self.state.rows.as_slice(), lower, upper)
+    }
+
+    /// The class and all that it inherits from or implements, each once.
+    pub fn supertypes(&self, class: u32) -> &[u32]
+        requires { IsLoaded self.now class }
+        ensures { (upper : ℕ) →
+            is_among upper result.now ≡ is_subtype self.now.program class upper }
+    {
+        each_supertype(&self.index, self.state.rows.as_slice(), class)
     }
 
     /// The field that a reference stands for (5.4.3.2).

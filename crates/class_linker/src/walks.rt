@@ -1,6 +1,6 @@
 //! The walks over the supertypes of classes that were loaded.
 
-ghost use Rattle.std.specs.Prelude.{◌≡◌, IfSome, flat_map, length, true};
+ghost use Rattle.std.specs.Prelude.{◌≡◌, ℕ, IfSome, flat_map, length, true};
 ghost use Rattle.jvm_model.specs.Layouts.{layout};
 ghost use Rattle.jvm_model.specs.Load.{is_among};
 ghost use Rattle.jvm_model.specs.Lookup.{is_subtype, superclass_of, superclasses};
@@ -62,6 +62,15 @@ pub fn supertypes_of<'a>(index: &Index, rows: &'a [Option<Row>], class: u32) -> 
     requires has { has_row rows.now class ≡ true }
     ensures searched { IsSearchedAs result.now (supertypes index.now class) }
     ensures rows { all_rows rows.now result.now ≡ true }
+{
+    supertypes_in(rows, class)
+}
+
+/// A class and all that it inherits from or implements, each once.
+pub fn each_supertype<'a>(index: &Index, rows: &'a [Option<Row>], class: u32) -> &'a [u32]
+    requires rows { AreRows index.now rows.now }
+    requires has { has_row rows.now class ≡ true }
+    ensures { (upper : ℕ) → is_among upper result.now ≡ is_subtype index.now class upper }
 {
     supertypes_in(rows, class)
 }

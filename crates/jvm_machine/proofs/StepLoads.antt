@@ -21,10 +21,12 @@ use Rattle.jvm_model.specs.Originals.{original}
 use Rattle.jvm_model.specs.Applies.{still}
 use Rattle.jvm_model.specs.Run.{arguments_made, before, loaded_turn, loads_if, main_classes, main_loading, main_loads, opened, run, start, starts_if, starts_unless, starts_with, step, steps_at, steps_by, steps_on, turn_in-zero, turn_in-suc, turn_in-more, with_loaded}
 use Rattle.jvm_model.specs.SharedState.{Allocated, arguments_fit, message_cost, null, raised, with_exception, with_message}
-use Rattle.jvm_model.specs.Sound.{IsFit, IsSound, IsSoundEntry}
+use Rattle.jvm_model.specs.Sound.{IsFit}
+use Rattle.jvm_model.specs.SoundTexts.{IsSound, IsSoundEntry, RunsOriginal}
 use Rattle.jvm_model.proofs.Attempts.{loaded-after, with_loaded-shared}
 use Rattle.jvm_model.proofs.Order.{by-begins, run-stops, started-begins, stopped-calm}
-use Rattle.jvm_model.proofs.SoundRuns.{at-goes, sound-start, sound-step, with-loaded-is}
+use Rattle.jvm_model.proofs.SoundRuns.{with-loaded-is}
+use Rattle.jvm_model.proofs.SoundTextRuns.{original-sound, at-goes, sound-start, sound-step}
 use Rattle.jvm_steps.specs.OriginalRun.{original_setup}
 use Rattle.jvm_steps.proofs.MovesLoad.{settled-loaded}
 use Rattle.jvm_machine.specs.Loads.{loads_in, loads_of_step}
@@ -87,7 +89,7 @@ start-told w =
 -- ---- a step
 
 module _ (w : World) (fit : IsFit w.program) where
-  at-told : (s : State) (f : Frame) (found : Option Instruction) → IsSound w.program s → IsSoundEntry w.program s.shared.loaded (Active f)
+  at-told : (s : State) (f : Frame) (found : Option Instruction) → IsSound RunsOriginal w.program s → IsSoundEntry RunsOriginal w.program s.shared.loaded (Active f)
       → s.ending ≡ None → s.thrown ≡ None → (original w.program).at f.version f.place ≡ found → IsTold s (steps_at w (original w.program) s f found)
   at-told s f None is entry on calm e = drop-length s.shared.loaded
   at-told s f (Some i) is entry on calm e =
@@ -96,9 +98,9 @@ module _ (w : World) (fit : IsFit w.program) where
       let same = with_loaded-shared classes s in
       told-by s classes (steps_by w (original w.program) i ready f (does w i.operation ready.shared f.locals f.operands))
       (by-begins w (original w.program) i ready f (ap (λ (x : State). x.ending) same ∙ on) (ap (λ (x : State). x.thrown) same ∙ calm))
-      ((at-goes w fit s f i is entry e).same ∙ with-loaded-is classes s)
+      ((at-goes RunsOriginal w fit (original w.program) (original-sound w.program fit) s f i is entry e).same ∙ with-loaded-is classes s)
 
-  on-told : (s : State) (ending : Option Ending) (stack : List Entry) → IsSound w.program s → s.ending ≡ ending → AllByRecursion (IsSoundEntry w.program s.shared.loaded) stack
+  on-told : (s : State) (ending : Option Ending) (stack : List Entry) → IsSound RunsOriginal w.program s → s.ending ≡ ending → AllByRecursion (IsSoundEntry RunsOriginal w.program s.shared.loaded) stack
       → moves w (original w.program) s ending s.thrown stack ≡ None → IsTold s (steps_on w (original w.program) s ending stack)
   on-told s (Some e) [] is on each stops = drop-length s.shared.loaded
   on-told s (Some e) (f ∷ below) is on each stops = drop-length s.shared.loaded
@@ -108,14 +110,14 @@ module _ (w : World) (fit : IsFit w.program) where
       at-told (record s { stack = below }) f ((original w.program).at f.version f.place) (record { shared = is.shared; stack = each.1; main = is.main }) each.0 on
       (stopped-calm w (original w.program) s s.thrown f below stops) refl
 
-  pub step-told : (s : State) → IsSound w.program s → move w (original w.program) s ≡ None → IsTold s (step w (original w.program) s)
+  pub step-told : (s : State) → IsSound RunsOriginal w.program s → move w (original w.program) s ≡ None → IsTold s (step w (original w.program) s)
   step-told s is stops = on-told s s.ending s.stack is refl is.stack stops
 
   -- ---- the run
 
-  pub run-sound : (n : ℕ) → IsSound w.program (run w n)
-  run-sound zero = subst (λ (a : Turn). IsSound w.program a.after) (sym (turn_in-zero w (original w.program))) (sound-start w fit)
-  run-sound (suc n) = subst (λ (a : Turn). IsSound w.program a.after) (sym (turn_in-suc w (original w.program) n)) (sound-step w fit (run w n) (run-sound n))
+  pub run-sound : (n : ℕ) → IsSound RunsOriginal w.program (run w n)
+  run-sound zero = subst (λ (a : Turn). IsSound RunsOriginal w.program a.after) (sym (turn_in-zero w (original w.program))) (sound-start RunsOriginal w fit (original w.program) (original-sound w.program fit))
+  run-sound (suc n) = subst (λ (a : Turn). IsSound RunsOriginal w.program a.after) (sym (turn_in-suc w (original w.program) n)) (sound-step RunsOriginal w fit (original w.program) (original-sound w.program fit) (run w n) (run-sound n))
 
   -- the classes of the step after so many
   pub run-told : (n : ℕ) → new_classes (run w n) (step w (original w.program) (run w n)).after ≡ loads_of_step w (n + 1)

@@ -20,7 +20,8 @@ use Rattle.jvm_model.specs.Originals.{original}
 use Rattle.jvm_model.specs.Programs.{initializer_of, place_of_method, super_of}
 use Rattle.jvm_model.specs.Run.{arguments_made, attempt, before, is_quiet, loaded_turn, loads_if, main_class, main_classes, main_loading, main_loads, opened, run, start, starts, starts_if, starts_unless, starts_with, step, steps_at, steps_by, steps_on, turn, turn_in-zero, turn_in-suc, with_loaded}
 use Rattle.jvm_model.specs.SharedState.{arguments_fit, class_of, null, phase_of}
-use Rattle.jvm_model.specs.Sound.{CanAttempt, HasClass, HasSupertypes, IsFit, IsLoaded, IsSound, IsSoundEntry, IsSoundOutcome}
+use Rattle.jvm_model.specs.Sound.{CanAttempt, HasClass, HasSupertypes, IsFit, IsLoaded, IsSoundOutcome}
+use Rattle.jvm_model.specs.SoundTexts.{IsSound, IsSoundEntry, RunsOriginal}
 use Rattle.jvm_model.proofs.Attempts.{again-by, loaded-after, with_loaded-shared}
 use Rattle.jvm_model.proofs.Order.{run-ordered, started-begins}
 use Rattle.jvm_model.proofs.Settles.{settled-keeps}
@@ -28,8 +29,9 @@ use Rattle.jvm_model.proofs.SoundAttempts.{sound-does}
 use Rattle.jvm_model.proofs.SoundClasses.{among-front, supertypes-loaded}
 use Rattle.jvm_model.proofs.SoundLines.{can-attempt}
 use Rattle.jvm_model.proofs.SoundObjects.{KeepsShared}
-use Rattle.jvm_model.proofs.SoundRuns.{at-goes, loads-again, sound-loaded, sound-start, sound-step, with-loaded-is}
-use Rattle.jvm_model.proofs.SoundSteps.{GoesTo, applied-goes, entry-grows, moves-go}
+use Rattle.jvm_model.proofs.SoundRuns.{loads-again, with-loaded-is}
+use Rattle.jvm_model.proofs.SoundTextRuns.{original-sound, at-goes, sound-loaded, sound-start, sound-step}
+use Rattle.jvm_model.proofs.SoundTextSteps.{GoesTo, applied-goes, entry-grows, moves-go}
 use Rattle.jvm_model.proofs.Callees.{does-due, initializer-place}
 use Rattle.jvm_model.proofs.LoadedMoves.{made-loaded, settled-loaded}
 use Rattle.jvm_model.proofs.Growing.{targets-grow}
@@ -57,34 +59,34 @@ module _ (w : World) (fit : IsFit w.program) (bare : HasBareObject w.program) (c
   -- ---- an attempt
 
   abbrev Goes : List ℕ → List ℕ → Turn → Type 0
-  Goes loaded ms a = GoesTo p loaded a.after × CallsOn w code loaded ms a
+  Goes loaded ms a = GoesTo RunsOriginal p loaded a.after × CallsOn w code loaded ms a
 
   settled-both : (loaded ms : List ℕ) → Climbs p loaded → (a : Turn) → Goes loaded ms a → Goes loaded ms (settled w t a)
   settled-both loaded ms climbs a is = settled-keeps w t (Goes loaded ms) one a is
     where
       one : (b : Turn) → Goes loaded ms b → IfSome (move w t b.after) (λ next. Goes loaded ms (then_turn b next))
       one b both =
-          let goes = moves-go w fit b.after both.0.sound b.after.ending b.after.thrown b.after.stack refl both.0.sound.stack in
-          let each : AllByRecursion (IsSoundEntry p loaded) b.after.stack = subst (λ l. AllByRecursion (IsSoundEntry p l) b.after.stack) both.0.same both.0.sound.stack in
+          let goes = moves-go RunsOriginal w fit (original w.program) (original-sound w.program fit) b.after both.0.sound b.after.ending b.after.thrown b.after.stack refl both.0.sound.stack in
+          let each : AllByRecursion (IsSoundEntry RunsOriginal p loaded) b.after.stack = subst (λ l. AllByRecursion (IsSoundEntry RunsOriginal p l) b.after.stack) both.0.same both.0.sound.stack in
           let calls = moves-call w code main_is loaded climbs b.after b.after.ending b.after.thrown b.after.stack refl each both.1.due in
           IfSome_then (move w t b.after)
-          {P = λ next. GoesTo p b.after.shared.loaded next.after × CallsOn w code loaded (methods b.after.stack) next}
+          {P = λ next. GoesTo RunsOriginal p b.after.shared.loaded next.after × CallsOn w code loaded (methods b.after.stack) next}
           {Q = λ next. Goes loaded ms (then_turn b next)}
-          (if-both (move w t b.after) (λ next. GoesTo p b.after.shared.loaded next.after) (λ next. CallsOn w code loaded (methods b.after.stack) next) goes calls)
-          (λ next two. (subst (λ l. GoesTo p l next.after) both.0.same two.0, then-calls w code loaded ms b next both.1 two.1))
+          (if-both (move w t b.after) (λ next. GoesTo RunsOriginal p b.after.shared.loaded next.after) (λ next. CallsOn w code loaded (methods b.after.stack) next) goes calls)
+          (λ next two. (subst (λ l. GoesTo RunsOriginal p l next.after) both.0.same two.0, then-calls w code loaded ms b next both.1 two.1))
 
   -- what the rule gives, before it is applied
-  done-goes : (s : State) (d : Done) → IsSound p s → KeepsShared p s.shared d.shared → GoesTo p s.shared.loaded (record s { shared = d.shared; output = s.output ++ d.wrote })
+  done-goes : (s : State) (d : Done) → IsSound RunsOriginal p s → KeepsShared p s.shared d.shared → GoesTo RunsOriginal p s.shared.loaded (record s { shared = d.shared; output = s.output ++ d.wrote })
   done-goes s d is kept = record {
     sound = record {
       shared = kept.shared;
-      stack = subst (λ loaded. AllByRecursion (IsSoundEntry p loaded) s.stack) (sym kept.loaded) is.stack;
+      stack = subst (λ loaded. AllByRecursion (IsSoundEntry RunsOriginal p loaded) s.stack) (sym kept.loaded) is.stack;
       main = λ on. subst (λ loaded. IsLoaded loaded (main_class p)) (sym kept.loaded) (is.main on);
     };
     same = kept.loaded;
   }
 
-  attempt-both : (i : Instruction) (s : State) (f : Frame) → IsSound p s → IsSoundEntry p s.shared.loaded (Active f) → CanAttempt p s.shared.loaded i.operation
+  attempt-both : (i : Instruction) (s : State) (f : Frame) → IsSound RunsOriginal p s → IsSoundEntry RunsOriginal p s.shared.loaded (Active f) → CanAttempt p s.shared.loaded i.operation
       → loads w i.operation s.shared f.operands ≡ [] → Climbs p s.shared.loaded → AreDue w code s.shared.loaded s.stack → Has (code f.method) i.operation
       → Goes s.shared.loaded (f.method ∷ methods s.stack) (attempt w t i s f)
   attempt-both i s f is entry can nothing climbs due has =
@@ -92,9 +94,9 @@ module _ (w : World) (fit : IsFit w.program) (bare : HasBareObject w.program) (c
       let after : State = record s { shared = d.shared; output = s.output ++ d.wrote } in
       let does_so = sound-does w fit s.shared is.shared i.operation f.locals f.operands can nothing in
       let goes = done-goes s d is (record { loaded = does_so.loaded_same; shared = does_so.shared }) in
-      let applied : GoesTo p s.shared.loaded (applies w t i d.outcome after f).after =
-      subst (λ l. GoesTo p l (applies w t i d.outcome after f).after) goes.same
-      (applied-goes w fit i d.outcome after f goes.sound (subst (λ loaded. IsSoundEntry p loaded (Active f)) (sym goes.same) entry)
+      let applied : GoesTo RunsOriginal p s.shared.loaded (applies w t i d.outcome after f).after =
+      subst (λ l. GoesTo RunsOriginal p l (applies w t i d.outcome after f).after) goes.same
+      (applied-goes RunsOriginal w fit (original w.program) (original-sound w.program fit) i d.outcome after f goes.sound (subst (λ loaded. IsSoundEntry RunsOriginal p loaded (Active f)) (sym goes.same) entry)
       (subst (λ loaded. IsSoundOutcome p loaded d.outcome) (sym goes.same) does_so.outcome)) in
       let begins : Begins p s.shared.loaded (targets_in p s.shared.loaded (code f.method)) d.outcome =
       begins-more p s.shared.loaded (begun_by_operation p s.shared.loaded i.operation) (targets_in p s.shared.loaded (code f.method))
@@ -120,7 +122,7 @@ module _ (w : World) (fit : IsFit w.program) (bare : HasBareObject w.program) (c
   quiet-same ms [] e = refl
   quiet-same ms (c ∷ more) e = absurd (false_true e)
 
-  by-both : (i : Instruction) (s : State) (f : Frame) → IsSound p s → IsSoundEntry p s.shared.loaded (Active f) → CanAttempt p s.shared.loaded i.operation
+  by-both : (i : Instruction) (s : State) (f : Frame) → IsSound RunsOriginal p s → IsSoundEntry RunsOriginal p s.shared.loaded (Active f) → CanAttempt p s.shared.loaded i.operation
       → loads w i.operation s.shared f.operands ≡ [] → Climbs p s.shared.loaded → AreDue w code s.shared.loaded s.stack → Has (code f.method) i.operation
       → Goes s.shared.loaded (f.method ∷ methods s.stack) (steps_by w t i s f (does w i.operation s.shared f.locals f.operands))
   by-both i s f is entry can nothing climbs due has =
@@ -134,10 +136,10 @@ module _ (w : World) (fit : IsFit w.program) (bare : HasBareObject w.program) (c
       (attempt-both i again f
       (record {
         shared = first.0.sound.shared;
-        stack = subst (λ loaded. AllByRecursion (IsSoundEntry p loaded) s.stack) (sym first.0.same) is.stack;
+        stack = subst (λ loaded. AllByRecursion (IsSoundEntry RunsOriginal p loaded) s.stack) (sym first.0.same) is.stack;
         main = first.0.sound.main;
       })
-      (subst (λ loaded. IsSoundEntry p loaded (Active f)) (sym first.0.same) entry)
+      (subst (λ loaded. IsSoundEntry RunsOriginal p loaded (Active f)) (sym first.0.same) entry)
       (subst (λ loaded. CanAttempt p loaded i.operation) (sym first.0.same) can)
       (loads-same i.operation a.after.shared s.shared f.operands first.0.same ∙ nothing)
       (subst (Climbs p) (sym first.0.same) climbs)
@@ -157,7 +159,7 @@ module _ (w : World) (fit : IsFit w.program) (bare : HasBareObject w.program) (c
       λ d m d_there sub e. targets-grow p loaded more (code caller) m
       (due d m (all-at (IsLoaded loaded) (supertypes p c) d (supertypes-loaded p loaded above c there) sub) sub e)
 
-  all-grow : (loaded more : List ℕ) → HasSupertypes p loaded → (stack : List Entry) → AllByRecursion (IsSoundEntry p loaded) stack → AreDue w code loaded stack
+  all-grow : (loaded more : List ℕ) → HasSupertypes p loaded → (stack : List Entry) → AllByRecursion (IsSoundEntry RunsOriginal p loaded) stack → AreDue w code loaded stack
       → AreDue w code (loaded ++ more) stack
   all-grow loaded more above [] each due = tt
   all-grow loaded more above (Active f ∷ below) each due = all-grow loaded more above below each.1 due
@@ -201,7 +203,7 @@ module _ (w : World) (fit : IsFit w.program) (bare : HasBareObject w.program) (c
     placed = calls.placed;
   }
 
-  at-step : (s : State) (f : Frame) (found : Option Instruction) → IsSound p s → IsSoundEntry p s.shared.loaded (Active f) → t.at f.version f.place ≡ found → IsAt f
+  at-step : (s : State) (f : Frame) (found : Option Instruction) → IsSound RunsOriginal p s → IsSoundEntry RunsOriginal p s.shared.loaded (Active f) → t.at f.version f.place ≡ found → IsAt f
       → AreDue w code s.shared.loaded s.stack → Climbs p (steps_at w t s f found).after.shared.loaded → StepCalls s.shared.loaded (f.method ∷ methods s.stack) (steps_at w t s f found)
   at-step s f None is entry e at due climbs = still-step s (breaks s f 0) refl due (f.method ∷ methods s.stack)
   at-step s f (Some i) is entry e at due climbs =
@@ -210,22 +212,22 @@ module _ (w : World) (fit : IsFit w.program) (bare : HasBareObject w.program) (c
       let turn : Turn = steps_by w t i ready f (does w i.operation ready.shared f.locals f.operands) in
       let whole : ready.shared.loaded ≡ s.shared.loaded ++ classes = with-loaded-is classes s in
       let stack_same : ready.stack ≡ s.stack = ap (λ (x : State). x.stack) (with_loaded-shared classes s) in
-      let there : IsSoundEntry p ready.shared.loaded (Active f) =
-      subst (λ loaded. IsSoundEntry p loaded (Active f)) (sym whole)
-      (entry-grows p s.shared.loaded (s.shared.loaded ++ classes) (λ class h. among-front class s.shared.loaded classes h) (Active f) entry) in
+      let there : IsSoundEntry RunsOriginal p ready.shared.loaded (Active f) =
+      subst (λ loaded. IsSoundEntry RunsOriginal p loaded (Active f)) (sym whole)
+      (entry-grows RunsOriginal p s.shared.loaded (s.shared.loaded ++ classes) (λ class h. among-front class s.shared.loaded classes h) (Active f) entry) in
       let can : CanAttempt p ready.shared.loaded i.operation =
       can-attempt p fit ready.shared.loaded f.version f.place i (subst (λ m. HasClass p ready.shared.loaded m) (sym there.1) there.0) e in
-      let goes = at-goes w fit s f i is entry e in
+      let goes = at-goes RunsOriginal w fit (original w.program) (original-sound w.program fit) s f i is entry e in
       let climbs_ready : Climbs p ready.shared.loaded = subst (Climbs p) (ap (λ (x : State). x.shared.loaded) (loaded-after classes turn) ∙ goes.same) climbs in
       let due_ready : AreDue w code ready.shared.loaded ready.stack =
       subst (λ l. AreDue w code l ready.stack) (sym whole)
       (subst (AreDue w code (s.shared.loaded ++ classes)) (sym stack_same) (all-grow s.shared.loaded classes is.shared.above s.stack is.stack due)) in
-      let both = by-both i ready f (sound-loaded w i.operation f.operands s is) there can (loads-again w i.operation s f.operands) climbs_ready due_ready (at i e) in
+      let both = by-both i ready f (sound-loaded RunsOriginal w i.operation f.operands s is) there can (loads-again w i.operation s f.operands) climbs_ready due_ready (at i e) in
       loaded-step s.shared.loaded classes (f.method ∷ methods s.stack) turn (both.0.same ∙ whole)
       (subst (λ l. CallsOn w code l (f.method ∷ methods s.stack) turn) whole
       (subst (λ stack. CallsOn w code ready.shared.loaded (f.method ∷ methods stack) turn) stack_same both.1))
 
-  on-step : (s : State) (ending : Option Ending) (stack : List Entry) → IsSound p s → s.ending ≡ ending → s.stack ≡ stack → AllByRecursion (IsSoundEntry p s.shared.loaded) stack
+  on-step : (s : State) (ending : Option Ending) (stack : List Entry) → IsSound RunsOriginal p s → s.ending ≡ ending → s.stack ≡ stack → AllByRecursion (IsSoundEntry RunsOriginal p s.shared.loaded) stack
       → StandsAt stack → AreDue w code s.shared.loaded stack → AreDue w code s.shared.loaded s.stack
       → Climbs p (steps_on w t s ending stack).after.shared.loaded → StepCalls s.shared.loaded (methods stack) (steps_on w t s ending stack)
   on-step s (Some e) [] is on same each at due own climbs = still-step s s refl own []
@@ -235,7 +237,7 @@ module _ (w : World) (fit : IsFit w.program) (bare : HasBareObject w.program) (c
   on-step s None (Active f ∷ below) is on same each at due own climbs =
       at-step (record s { stack = below }) f (t.at f.version f.place) (record { shared = is.shared; stack = each.1; main = is.main }) each.0 refl at due climbs
 
-  step-calls : (s : State) → IsSound p s → StandsAt s.stack → AreDue w code s.shared.loaded s.stack → Climbs p (step w t s).after.shared.loaded
+  step-calls : (s : State) → IsSound RunsOriginal p s → StandsAt s.stack → AreDue w code s.shared.loaded s.stack → Climbs p (step w t s).after.shared.loaded
       → StepCalls s.shared.loaded (methods s.stack) (step w t s)
   step-calls s is at due climbs = on-step s s.ending s.stack is refl refl is.stack at due due climbs
 
@@ -382,15 +384,15 @@ module _ (w : World) (fit : IsFit w.program) (bare : HasBareObject w.program) (c
 
   -- ---- the run
 
-  pub run-sound : (n : ℕ) → IsSound p (run w n)
-  run-sound zero = subst (λ (a : Turn). IsSound p a.after) (sym (turn_in-zero w t)) (sound-start w fit)
-  run-sound (suc n) = subst (λ (a : Turn). IsSound p a.after) (sym (turn_in-suc w t n)) (sound-step w fit (run w n) (run-sound n))
+  pub run-sound : (n : ℕ) → IsSound RunsOriginal p (run w n)
+  run-sound zero = subst (λ (a : Turn). IsSound RunsOriginal p a.after) (sym (turn_in-zero w t)) (sound-start RunsOriginal w fit (original w.program) (original-sound w.program fit))
+  run-sound (suc n) = subst (λ (a : Turn). IsSound RunsOriginal p a.after) (sym (turn_in-suc w t n)) (sound-step RunsOriginal w fit (original w.program) (original-sound w.program fit) (run w n) (run-sound n))
 
   -- the methods of sound frames are of loaded classes
   abbrev Have : List ℕ → List ℕ → Type 0
   Have loaded ms = AllByRecursion (HasClass p loaded) ms
 
-  frames-have : (loaded : List ℕ) (stack : List Entry) → AllByRecursion (IsSoundEntry p loaded) stack → Have loaded (methods stack)
+  frames-have : (loaded : List ℕ) (stack : List Entry) → AllByRecursion (IsSoundEntry RunsOriginal p loaded) stack → Have loaded (methods stack)
   frames-have loaded [] each = tt
   frames-have loaded (Active f ∷ below) each = (each.0.0, frames-have loaded below each.1)
   frames-have loaded (Initializing c part ∷ below) each = frames-have loaded below each.1

@@ -14,7 +14,8 @@ use Rattle.jvm_model.specs.Moves.{after_super, argument_array, at_part, caught, 
 use Rattle.jvm_model.specs.Originals.{original}
 use Rattle.jvm_model.specs.Programs.{initializer_of, place_of_method, super_of}
 use Rattle.jvm_model.specs.SharedState.{class_of, phase_of}
-use Rattle.jvm_model.specs.Sound.{IsLoaded, IsSoundEntry}
+use Rattle.jvm_model.specs.Sound.{IsLoaded}
+use Rattle.jvm_model.specs.SoundTexts.{IsSoundEntry, RunsOriginal}
 use Rattle.jvm_model.specs.Values.{as_value, with_value}
 use Rattle.jvm_model.proofs.Callees.{among-first, among-second, due-above, initializer-place}
 use Rattle.jvm_model.proofs.Methods.{Tells, applies-tells, moves-tell, then-tells}
@@ -251,11 +252,11 @@ module _ (w : World) (code : ℕ → List Operation) where
     initializes-calls s c Initializer there tells own due = runs-calls s c (initializer_of p c) there refl own due
     initializes-calls s c Finish there tells own due = record { tells = tells; due = due; targets = tt; placed = tt; loads = refl }
 
-    pub moves-call : (s : State) (ending : Option Ending) (thrown : Option ℕ) (stack : List Entry) → s.stack ≡ stack → AllByRecursion (IsSoundEntry p loaded) stack
+    pub moves-call : (s : State) (ending : Option Ending) (thrown : Option ℕ) (stack : List Entry) → s.stack ≡ stack → AllByRecursion (IsSoundEntry RunsOriginal p loaded) stack
         → AreDue loaded stack → IfSome (moves w t s ending thrown stack) (CallsOn loaded (methods stack))
     moves-call s ending thrown stack same each due = by ending thrown stack same each due (moves-tell w t s ending thrown stack same)
       where
-        by : (ending : Option Ending) (thrown : Option ℕ) (stack : List Entry) → s.stack ≡ stack → AllByRecursion (IsSoundEntry p loaded) stack
+        by : (ending : Option Ending) (thrown : Option ℕ) (stack : List Entry) → s.stack ≡ stack → AllByRecursion (IsSoundEntry RunsOriginal p loaded) stack
             → AreDue loaded stack → IfSome (moves w t s ending thrown stack) (Tells (methods stack)) → IfSome (moves w t s ending thrown stack) (CallsOn loaded (methods stack))
         by (Some e) thrown stack same each due tells = tt
         by None (Some r) [] same each due tells = record { tells = tells; due = subst (AreDue loaded) (sym same) tt; targets = tt; placed = tt; loads = refl }

@@ -63,6 +63,8 @@ pub mod LoadsAgain
 pub mod ToldTraces
 pub mod Rests
 pub mod Pausing
+pub mod ChangesBetween
+pub mod AttemptPauses
 pub mod LoopOfPauses
 pub mod StepPausing
 pub mod PausesMove
@@ -93,7 +95,6 @@ pub mod SoundKinds
 pub mod SoundObjects
 pub mod SoundRules
 pub mod SoundAttempts
-pub mod SoundSteps
 pub mod SoundLines
 pub mod SoundRuns
 pub mod SoundTextSteps

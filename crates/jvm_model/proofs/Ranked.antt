@@ -18,11 +18,13 @@ use Rattle.jvm_model.specs.Originals.{original}
 use Rattle.jvm_model.specs.Programs.{class_at, class_named, has_name, name_at, super_of}
 use Rattle.jvm_model.specs.Run.{before, loads_if, main_class, main_loads, run, start, steps_at, steps_by, steps_on, turn_in-zero, turn_in-suc, with_loaded}
 use Rattle.jvm_model.specs.SharedState.{arguments_fit}
-use Rattle.jvm_model.specs.Sound.{IsFit, IsLoaded, IsSound, IsSoundEntry}
+use Rattle.jvm_model.specs.Sound.{IsFit, IsLoaded}
+use Rattle.jvm_model.specs.SoundTexts.{IsSound, IsSoundEntry, RunsOriginal}
 use Rattle.jvm_model.proofs.Attempts.{loaded-after}
 use Rattle.jvm_model.proofs.LoadsAgain.{newly-loaded}
 use Rattle.jvm_model.proofs.SoundKinds.{named-class}
-use Rattle.jvm_model.proofs.SoundRuns.{at-goes, with-loaded-is}
+use Rattle.jvm_model.proofs.SoundRuns.{with-loaded-is}
+use Rattle.jvm_model.proofs.SoundTextRuns.{original-sound, at-goes}
 use Rattle.jvm_model.proofs.SoundClasses.{HasLoaded, among-either, directs, named-load}
 use Rattle.jvm_model.specs.Climbing.{Climbs}
 
@@ -404,7 +406,7 @@ module _ (w : World) (fit : IsFit w.program) (P : List ℕ → Type 0)
       by (operation.StoreElement k) = same
       by (operation.LdcString units) = same
 
-  at-keeps : (s : State) (f : Frame) (found : Option Instruction) → IsSound w.program s → IsSoundEntry w.program s.shared.loaded (Active f)
+  at-keeps : (s : State) (f : Frame) (found : Option Instruction) → IsSound RunsOriginal w.program s → IsSoundEntry RunsOriginal w.program s.shared.loaded (Active f)
       → (original w.program).at f.version f.place ≡ found → P s.shared.loaded → P (steps_at w (original w.program) s f found).after.shared.loaded
   at-keeps s f None is entry e h = h
   at-keeps s f (Some i) is entry e h =
@@ -412,10 +414,10 @@ module _ (w : World) (fit : IsFit w.program) (P : List ℕ → Type 0)
       let ready : State = with_loaded classes s in
       let turn : Turn = steps_by w (original w.program) i ready f (does w i.operation ready.shared f.locals f.operands) in
       subst P
-      (sym (ap (λ (x : State). x.shared.loaded) (loaded-after classes turn) ∙ ((at-goes w fit s f i is entry e).same ∙ with-loaded-is classes s)))
+      (sym (ap (λ (x : State). x.shared.loaded) (loaded-after classes turn) ∙ ((at-goes RunsOriginal w fit (original w.program) (original-sound w.program fit) s f i is entry e).same ∙ with-loaded-is classes s)))
       (loads-keep i.operation s.shared f.operands h)
 
-  on-keeps : (s : State) (ending : Option Ending) (stack : List Entry) → IsSound w.program s → AllByRecursion (IsSoundEntry w.program s.shared.loaded) stack
+  on-keeps : (s : State) (ending : Option Ending) (stack : List Entry) → IsSound RunsOriginal w.program s → AllByRecursion (IsSoundEntry RunsOriginal w.program s.shared.loaded) stack
       → P s.shared.loaded → P (steps_on w (original w.program) s ending stack).after.shared.loaded
   on-keeps s (Some e) [] is each h = h
   on-keeps s (Some e) (f ∷ below) is each h = h
@@ -432,7 +434,7 @@ module _ (w : World) (fit : IsFit w.program) (P : List ℕ → Type 0)
 
   module _ (first : P (before w).shared.loaded) where
     pub run-keeps : (start_is : (start w (original w.program)).after.shared.loaded ≡ (before w).shared.loaded ++ main_loads w)
-        → ((n : ℕ) → IsSound w.program (run w n)) → (n : ℕ) → P (run w n).shared.loaded
+        → ((n : ℕ) → IsSound RunsOriginal w.program (run w n)) → (n : ℕ) → P (run w n).shared.loaded
     run-keeps start_is sound zero =
         subst (λ (a : Turn). P a.after.shared.loaded) (sym (turn_in-zero w (original w.program)))
         (subst P (sym start_is) (main-keeps (arguments_fit w.program) first))
@@ -442,5 +444,5 @@ module _ (w : World) (fit : IsFit w.program) (P : List ℕ → Type 0)
 
 pub run-ranked : (w : World) → IsFit w.program → IsRanked w.program (before w).shared.loaded
     → (start w (original w.program)).after.shared.loaded ≡ (before w).shared.loaded ++ main_loads w
-    → ((n : ℕ) → IsSound w.program (run w n)) → (n : ℕ) → IsRanked w.program (run w n).shared.loaded
+    → ((n : ℕ) → IsSound RunsOriginal w.program (run w n)) → (n : ℕ) → IsRanked w.program (run w n).shared.loaded
 run-ranked w fit = run-keeps w fit (IsRanked w.program) (load-ranked w.program)

@@ -19,7 +19,8 @@ use Rattle.jvm_model.specs.Run.{run}
 use Rattle.jvm_model.proofs.ClosedCode.{closed-placed}
 use Rattle.jvm_model.specs.Places.{is_place, is_start_in, method_reading, read_from}
 use Rattle.jvm_model.specs.Programs.{class_at, place_of_method}
-use Rattle.jvm_model.specs.Sound.{IsFit, IsSoundEntry}
+use Rattle.jvm_model.specs.Sound.{IsFit}
+use Rattle.jvm_model.specs.SoundTexts.{IsSoundEntry, RunsOriginal}
 use Rattle.jvm_model.specs.Climbing.{HasBareObject}
 use Rattle.jvm_model.proofs.CalledSteps.{Has}
 use Rattle.jvm_model.proofs.CalledRuns.{IsAt, StandsAt}
@@ -146,7 +147,7 @@ module _ (w : World) (fit : IsFit w.program) (bare : HasBareObject w.program) (m
       by None start e = absurd (none-some i e)
       by (Some place) start e = of (class_at w.program place.class) place start e
 
-  pub places-stand : (loaded : List ℕ) (stack : List Entry) → AllByRecursion (IsSoundEntry w.program loaded) stack → StandsAtPlace w.program stack
+  pub places-stand : (loaded : List ℕ) (stack : List Entry) → AllByRecursion (IsSoundEntry RunsOriginal w.program loaded) stack → StandsAtPlace w.program stack
       → StandsAt w fit bare (operations_of w.program) main_is stack
   places-stand loaded [] each stands = tt
   places-stand loaded (Active f ∷ below) each stands = frame-at f each.0.1 stands

@@ -74,4 +74,5 @@ pub mod Calls
 pub mod Climbing
 pub mod Revelation
 pub mod Whole
+pub mod Between
 pub mod SoundPrograms

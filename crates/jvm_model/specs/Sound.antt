@@ -1,5 +1,4 @@
--- States in which all that is there is of classes that are loaded (JVM Specification 5.3, 5.4, 5.5): those of a run are such, and an
--- instruction that names something is attempted in such alone.
+-- What is there is of classes that are loaded (JVM Specification 5.3, 5.4, 5.5): an instruction that names something is attempted in such states alone.
 use Rattle.std.specs.Prelude.{◌≡◌, ◌≤◌, ◌<◌, ◌%◌, ℕ, true, false, List, length, Some, None}
 use Rattle.std.specs.List.{AllByRecursion, list_any}
 use Rattle.const_pool.specs.BuiltIn.{built_in_names}
@@ -53,19 +52,6 @@ pub record IsSoundShared (p : Program) (s : Shared) : Type 0 where
 -- the class of the method with this number
 abbrev pub HasClass : Program → List ℕ → ℕ → Type 0
 HasClass p loaded method = (place : MethodPlace) → place_of_method p method ≡ Some place → IsLoaded loaded place.class
-
--- in original code the version of a method is the method
-abbrev pub IsSoundEntry : Program → List ℕ → Entry → Type 0
-IsSoundEntry p loaded (Active f) = HasClass p loaded f.method × (f.version ≡ f.method)
-IsSoundEntry p loaded (Initializing class part) = IsLoaded loaded class
-
--- ---- states
-
--- Where loading the main class was refused the run has ended.
-pub record IsSound (p : Program) (s : State) : Type 0 where
-  pub shared : IsSoundShared p s.shared
-  pub stack : AllByRecursion (IsSoundEntry p s.shared.loaded) s.stack
-  pub main : s.ending ≡ None → IsLoaded s.shared.loaded (main_class p)
 
 -- ---- instructions
 

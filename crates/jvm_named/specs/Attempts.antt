@@ -1,5 +1,5 @@
 -- An attempt of an instruction that names a class or a member: what it names is loaded before (JVM Specification 5.3, 5.4.3).
-use Rattle.std.specs.Prelude.{◌≡◌, ℕ, true, false, List, ◌++◌, Option, Some, None, Result, Ok, Err}
+use Rattle.std.specs.Prelude.{◌≡◌, ℕ, Bool, true, false, List, ◌++◌, length, Option, Some, None, Result, Ok, Err, ◌==◌}
 use Rattle.frame_stack.specs.FrameLists.{FramesView, top_operands}
 use Rattle.jvm_model.specs.declared.program.Program.{Program}
 use Rattle.jvm_model.specs.declared.state.Shared.{Shared}
@@ -27,6 +27,13 @@ linker_loaded n s l f = linker_with l (loaded_for l.program n s f)
 -- the linker's program on an input
 abbrev pub world_over : LinkerView → List ℕ → World
 world_over l input = record { program = l.program; input = input }
+
+-- it loads no class
+abbrev pub loads_nothing : Program → List ℕ → Naming → Operands → Bool
+loads_nothing p loaded n o = length (newly_loaded p loaded n o) == 0
+
+abbrev pub is_loaded : World → Naming → Shared → FramesView → Bool
+is_loaded w n s f = loads_nothing w.program s.loaded n (top_operands f.frames)
 
 -- the rule of the instruction, over what is loaded then
 abbrev pub attempts : World → Naming → Shared → FramesView → Rule

@@ -1,15 +1,15 @@
 //! An attempt of an instruction that names a class or a member.
 
-ghost use Rattle.std.specs.Prelude.{◌≡◌, ◌++◌, IfOk, OnOk};
+ghost use Rattle.std.specs.Prelude.{◌≡◌, ◌++◌, is_some, IfOk, IfSome, IfNone, OnOk};
 ghost use Rattle.class_linker.specs.Linkers.{IsLoaded};
 ghost use Rattle.frame_stack.specs.FrameLists.{top_operands};
 ghost use Rattle.jvm_model.specs.KindNumbers.{user_count};
 ghost use Rattle.jvm_model.specs.Naming.{is_null, newly_loaded, resolved_name, resolves};
 ghost use Rattle.jvm_model.specs.NamingRules.{does_named};
 ghost use Rattle.jvm_named.specs.Answers.{Answers, Moves, Shares, answer_of, answer_view};
-ghost use Rattle.jvm_named.specs.Answers.{frames_of, wrote_by};
+ghost use Rattle.jvm_named.specs.Answers.{answer_by, frames_by, frames_of, shared_by, wrote_by};
 ghost use Rattle.jvm_named.specs.Attempts.{IsFound, attempts, linker_loaded, linker_with};
-ghost use Rattle.jvm_named.specs.Attempts.{world_over};
+ghost use Rattle.jvm_named.specs.Attempts.{is_loaded, loads_nothing, shared_loaded, world_over};
 ghost use Rattle.jvm_named.specs.Names.{naming_view};
 ghost use Rattle.jvm_named.specs.Natives.{HasBuiltIn};
 ghost use Rattle.jvm_named.specs.Numbers.{AreNumbers};
@@ -95,6 +95,32 @@ fn find(
         return Ok(None);
     }
     let found = resolve(linker, loaded, resolved_name(naming))?;
+    Ok(Some(found))
+}
+
+/// The same, and None where that has loaded classes.
+fn find_loaded(
+    linker: &mut Linker,
+    loaded: &mut Seq<u32>,
+    frames: &Frames,
+    naming: &Naming,
+) -> Result<Option<Option<Result<u32, Refusal>>>, NoMemory>
+    requires linked { linker.old.loaded ≡ loaded.old }
+    requires root { IsLoaded linker.old (user_count linker.old.program) }
+    ensures some { IfOk result (λ o. is_some o ≡ loads_nothing linker.old.program loaded.old
+        (naming_view naming.now) (top_operands frames.now.frames)) }
+    ensures found { IfOk result (λ o. IfSome o (λ found. IsFound linker.new (naming_view naming.now)
+        (top_operands frames.now.frames) found)) }
+    ensures loaded { OnOk result (loaded.new ≡ loaded.old ++ newly_loaded linker.old.program
+        loaded.old (naming_view naming.now) (top_operands frames.now.frames)) }
+    ensures linker { OnOk result (linker.new ≡ linker_with linker.old loaded.new) }
+    ensures program { linker.new.program ≡ linker.old.program }
+{
+    let count = loaded.len();
+    let found = find(linker, loaded, frames, naming)?;
+    if loaded.len() != count {
+        return Ok(None);
+    }
     Ok(Some(found))
 }
 
@@ -190,4 +216,56 @@ pub fn attempt(
     do_found(
         alloc, linker, numbers, shared, frames, input, output, naming, found, next,
     )
+}
+
+/// The same in two parts. Where the instruction loads classes, they are loaded, None is the answer, and nothing else is done: it
+/// is to be attempted again, and loads nothing then. Where it loads none it is attempted.
+pub fn attempt_loaded(
+    alloc: Global,
+    linker: &mut Linker,
+    numbers: &MethodNumbers,
+    shared: &mut Shared,
+    frames: &mut Frames,
+    input: &[u8],
+    output: &mut Seq<u8>,
+    naming: &Naming,
+    next: u16,
+) -> Result<Option<Asked>, NoMemory>
+    requires linked { linker.old.loaded ≡ shared.old.loaded }
+    requires numbers { AreNumbers linker.old.program numbers.now }
+    requires built_in { HasBuiltIn linker.old }
+    requires objects { AreLoaded linker.old shared.old.heap }
+    requires caller { HasLoadedCaller linker.old (naming_view naming.now) }
+    requires dimensions { HasDimensions (naming_view naming.now) }
+    ensures some { let w = world_over linker.old input.now in IfOk result
+        (λ a. is_some a ≡ is_loaded w (naming_view naming.now) shared.old frames.old) }
+    ensures answer { let w = world_over linker.old input.now in
+        let rule = attempts w (naming_view naming.now) shared.old frames.old in
+        IfOk result (λ a. IfSome a (λ a. answer_view a ≡ answer_by rule frames.old)) }
+    ensures frames { let w = world_over linker.old input.now in
+        let rule = attempts w (naming_view naming.now) shared.old frames.old in
+        IfOk result (λ a. IfSome a (λ _. frames.new ≡ frames_by rule next frames.old)) }
+    ensures shared { let w = world_over linker.old input.now in
+        let rule = attempts w (naming_view naming.now) shared.old frames.old in
+        IfOk result (λ a. IfSome a (λ _. shared.new ≡ shared_by rule frames.old)) }
+    ensures output { let w = world_over linker.old input.now in
+        let rule = attempts w (naming_view naming.now) shared.old frames.old in
+        IfOk result (λ a. IfSome a (λ _. output.new ≡ output.old ++ wrote_by rule frames.old)) }
+    ensures same_frames { IfOk result (λ a. IfNone a (frames.new ≡ frames.old)) }
+    ensures same_output { IfOk result (λ a. IfNone a (output.new ≡ output.old)) }
+    ensures loads { let n = naming_view naming.now in let p = linker.old.program in
+        IfOk result (λ a. IfNone a (shared.new ≡ shared_loaded p n shared.old frames.old)) }
+    ensures linker { OnOk result (linker.new
+        ≡ linker_loaded (naming_view naming.now) shared.old linker.old frames.old) }
+    ensures program { linker.new.program ≡ linker.old.program }
+    ensures built_in { OnOk result (HasBuiltIn linker.new) }
+    ensures objects { OnOk result (AreLoaded linker.new shared.new.heap) }
+{
+    let Some(found) = find_loaded(linker, &mut shared.loaded, frames, naming)? else {
+        return Ok(None);
+    };
+    let asked = do_found(
+        alloc, linker, numbers, shared, frames, input, output, naming, found, next,
+    )?;
+    Ok(Some(asked))
 }

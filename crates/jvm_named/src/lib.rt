@@ -31,9 +31,9 @@ mod targets;
 mod values;
 
 pub use asked::{Asked, Exception, Refusal};
-pub use attempting::attempt;
+pub use attempting::{attempt, attempt_loaded};
 pub use constants::set_constants;
-pub use instances::is_instance;
+pub use instances::{is_instance, user_count};
 pub use naming::{MemberName, MethodName, Naming};
 pub use numbers::MethodNumbers;
 pub use resolution::resolve;

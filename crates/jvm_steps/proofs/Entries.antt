@@ -15,7 +15,7 @@ use Rattle.jvm_named.specs.Numbers.{AreNumbers, Row}
 use Rattle.jvm_steps.specs.declared.originals.Exception.{Exception}
 use Rattle.jvm_steps.specs.declared.originals.Exceptions.{Exceptions}
 use Rattle.jvm_steps.specs.declared.originals.Method.{Method}
-use Rattle.jvm_steps.specs.Prepared.{IsPrepared, exception_in, exception_kind}
+use Rattle.jvm_steps.specs.Prepared.{FitsOriginals, IsPrepared, exception_in, exception_kind}
 use Rattle.jvm_steps.specs.Entries.{entry_of, no_method, entry_in, entry_at, original_versions}
 use Rattle.jvm_steps.specs.Versions.{HasLines}
 use Rattle.jvm_steps.specs.declared.versions.Versions.{Versions}
@@ -71,11 +71,12 @@ locals-place p (Some place) = (limits-class place (class_at p place.class)).loca
 
 -- ---- all of them
 
-pub IsPrepared-entries : (p : Program) (methods : List Method) (v : Versions) (x : Exceptions) (numbers : List Row) → length p.classes < 2 ^ 24 → length p.methods < 2 ^ 32 → methods ≡ map (entry_at p) p.methods → v ≡ original_versions p
+pub IsPrepared-entries : (p : Program) (methods : List Method) (v : Versions) (x : Exceptions) (numbers : List Row) → FitsOriginals p → length p.classes < 2 ^ 24 → length p.methods < 2 ^ 32 → methods ≡ map (entry_at p) p.methods → v ≡ original_versions p
     → ((e : Exception) → exception_in x e ≡ exception_kind p e) → x.string ≡ kind_for p string → AreNumbers p numbers → IsPrepared p methods v x numbers
-IsPrepared-entries p methods v x rows few numbered is made raised text numbers =
+IsPrepared-entries p methods v x rows fits few numbered is made raised text numbers =
     let entry : (k : ℕ) → slice_get methods k ≡ option_map (entry_at p) (slice_get p.methods k) = λ k. ap (λ ms. slice_get ms k) is ∙ slice_get-map (entry_at p) p.methods k in
     record {
+      fits = fits;
       few = few;
       numbered = numbered;
       params = λ k. ap (option_and_then (λ (m : Method). m.params)) (entry k) ∙ params-place p (slice_get p.methods k);

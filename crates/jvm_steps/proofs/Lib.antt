@@ -25,6 +25,9 @@ pub mod RewrittenLines
 pub mod OriginalTexts
 pub mod ImageVersions
 pub mod RunsOfOriginal
+pub mod ClassVersionLaws
+pub mod StandingSteps
+mod WorkedVersions
 pub mod Assembled
 pub mod MethodImages
 pub mod Positions

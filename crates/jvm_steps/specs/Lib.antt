@@ -22,3 +22,5 @@ pub mod Raising
 pub mod Elements
 pub mod Runs
 pub mod OriginalRun
+pub mod ClassVersions
+pub mod Standing

@@ -114,6 +114,7 @@ exception_in x UnsatisfiedLink = x.unsatisfied_link
 -- ---- what is kept
 
 pub record IsPrepared (p : Program) (methods : List Method) (versions : Versions) (exceptions : Exceptions) (rows : List Row) : Type 0 where
+  pub fits : FitsOriginals p
   pub few : length p.classes < 2 ^ 24
   pub numbered : length p.methods < 2 ^ 32
   pub params : (k : ℕ) → option_and_then (λ m. m.params) (slice_get methods k) ≡ params_of_method p k

@@ -9,6 +9,7 @@ ghost use Rattle.jvm_model.specs.Starting.{ready_in, unmade_in};
 ghost use Rattle.jvm_named.specs.Answers.{found_view};
 ghost use Rattle.jvm_steps.specs.Before.{IsAtStart, begun_by, with_first};
 ghost use Rattle.jvm_steps.specs.Markers.{state_of};
+ghost use Rattle.jvm_steps.specs.Standing.{IsRunOf, IsSetUp};
 ghost use Rattle.jvm_steps.specs.States.{state_in};
 ghost use Rattle.jvm_steps.specs.Versions.{text_of};
 
@@ -152,6 +153,8 @@ pub fn start(
     ensures linked { OnOk result (originals.new.loaded ≡ parts.new.shared.loaded) }
     ensures state { let w = originals.old.setup in OnOk result
         (state_of markers.new parts.new ≡ (start w.world (text_of w.versions)).after) }
+    ensures stands { let w = originals.old.setup in
+        IsSetUp w → OnOk result (IsRunOf w 0 (state_of markers.new parts.new)) }
 {
     begin_start(alloc, originals, parts, markers)?;
     settle(alloc, originals, parts, markers)

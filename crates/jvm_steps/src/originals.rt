@@ -1,7 +1,7 @@
 //! The original code of a program, prepared: what stands at each offset is looked up once, and is
 //! found by its offset from then on.
 
-ghost use Rattle.std.specs.Prelude.{◌≡◌, ◌<◌, ◌^◌, ◌++◌, length, slice_get, IfOk, OnErr, OnOk};
+ghost use Rattle.std.specs.Prelude.{ℕ, ◌≡◌, ◌<◌, ◌^◌, ◌++◌, length, slice_get, IfOk, OnErr, OnOk};
 ghost use Rattle.std.specs.Option.{option_and_then, option_copied, option_map, IfSome};
 ghost use Rattle.class_linker.specs.Linkers.{IsLoaded};
 ghost use Rattle.jvm_model.specs.Families.{family_of};
@@ -22,8 +22,14 @@ ghost use Rattle.jvm_steps.specs.Prepared.{main_name};
 ghost use Rattle.jvm_steps.specs.Entries.{original_versions};
 ghost use Rattle.jvm_steps.specs.Versions.{HasOwnLines, current_of, first_of, version_at};
 ghost use Rattle.jvm_steps.specs.VersionTexts.{with_version};
+ghost use Rattle.jvm_model.specs.declared.state.State.{State};
+ghost use Rattle.jvm_model.specs.Sound.{IsFit};
+ghost use Rattle.jvm_steps.specs.ClassVersions.{FitsImage, class_versions, with_versions};
+ghost use Rattle.jvm_model.specs.ProgramPlaces.{HasClosedCodes};
+ghost use Rattle.jvm_steps.specs.Standing.{AreMethodImages, IsRunOf, IsSetUp};
 ghost use Rattle.jvm_steps.specs.Versions.{line_at};
 
+use crate::class_versions::{add_all, class_versions};
 use crate::elements::units_of;
 use crate::line::{Action, Line};
 use crate::loading::{link_main, load_built_in, main_name};
@@ -32,7 +38,8 @@ use crate::preparing::{exceptions_of, prepare_methods, prepare_versions};
 use crate::versions::{Catching, Version, Versions, current_of, first_of, line_at, version_at};
 use base_classes::built_in_name;
 use class_linker::Linker;
-use const_pool::Kind;
+use code_model::Homes;
+use const_pool::{ClassFile, Kind};
 use frame_stack::Frames;
 use jf_bytes::{NoMemory, Seq};
 use jvm_model::{Program, Shared};
@@ -178,6 +185,7 @@ impl Originals {
         ensures program { IfOk result (λ o. o.setup.world.program ≡ program) }
         ensures input { IfOk result (λ o. o.setup.world.input ≡ input) }
         ensures versions { IfOk result (λ o. o.setup.versions ≡ original_versions program) }
+        ensures set_up { IfOk result (λ o. IsFit program → HasClosedCodes program → IsSetUp o.setup) }
         ensures loaded { IfOk result (λ o. o.loaded ≡ built_in_from 0 program.classes) }
     {
         let methods = prepare_methods(alloc, &program)?;
@@ -339,6 +347,33 @@ impl Originals {
         };
         self.versions.current.set(method, id);
         Ok(())
+    }
+
+    /// Adds the versions of a class's methods for an image of the class, in which they begin from then on: where homes tell of
+    /// a method the version that it has in the image, else its original code. After want of memory nothing has changed.
+    pub fn install(
+        &mut self,
+        alloc: Global,
+        class: u32,
+        image: &ClassFile,
+        homes: &[Option<Homes>],
+    ) -> Result<(), NoMemory>
+        requires { FitsImage image.now homes.now }
+        ensures ok { let w = self.old.setup in OnOk result (self.new.setup.versions ≡ with_versions
+            (class_versions w.world.program class image.now homes.now) w.versions) }
+        ensures err { OnErr result (self.new.setup.versions ≡ self.old.setup.versions) }
+        ensures world { self.new.setup.world ≡ self.old.setup.world }
+        ensures loaded { self.new.loaded ≡ self.old.loaded }
+        // The versions are of the program, and what stood for the run stands for it.
+        ensures set_up { let w = self.old.setup in OnOk result (AreMethodImages w.world.program
+            class image.now homes.now → IsSetUp w → IsSetUp self.new.setup) }
+        ensures stands { let w = self.old.setup in OnOk result (AreMethodImages w.world.program
+            class image.now homes.now → (clock : ℕ) (s : State) → IsRunOf w clock s
+            → IsRunOf self.new.setup clock s) }
+    {
+        let program = self.linker.program();
+        let more = class_versions(alloc, program, &self.numbers, class, image, homes)?;
+        add_all(alloc, &mut self.versions, more)
     }
 
     // ---- loading

@@ -226,7 +226,7 @@ fn version_of(
 }
 
 /// The same of the method with this number.
-fn original_version(alloc: Global, program: &Program, method: u32) -> Result<Version, NoMemory>
+pub fn original_version(alloc: Global, program: &Program, method: u32) -> Result<Version, NoMemory>
     requires { FitsOriginals program.now }
     ensures { IfOk result (λ version. version ≡ original_version program.now method) }
 {

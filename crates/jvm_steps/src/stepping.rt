@@ -1,15 +1,15 @@
 //! One step: the current frame's instruction, and all that follows from it.
 
-ghost use Rattle.std.specs.Prelude.{◌≡◌, ◌≤◌, ◌<◌, true, None, is_some, IfOk, OnOk};
+ghost use Rattle.std.specs.Prelude.{ℕ, ◌+◌, ◌≡◌, ◌≤◌, ◌<◌, true, None, is_some, IfOk, OnOk};
 ghost use Rattle.jvm_model.specs.Applies.{still};
 ghost use Rattle.jvm_model.specs.Moves.{settled};
-ghost use Rattle.jvm_model.specs.Originals.{original};
 ghost use Rattle.jvm_model.specs.Run.{is_ready, step};
 ghost use Rattle.jvm_model.specs.SharedState.{phase_of};
 ghost use Rattle.jvm_steps.specs.Acts.{is_at_rest, goes_on_in};
 ghost use Rattle.jvm_steps.specs.Ready.{CanRun, IsSoundIn};
 ghost use Rattle.jvm_steps.specs.Markers.{is_unmarked, state_of};
 ghost use Rattle.jvm_steps.specs.Runs.{Leads};
+ghost use Rattle.jvm_steps.specs.Standing.{IsRunOf};
 ghost use Rattle.jvm_steps.specs.Versions.{text_of};
 
 use crate::attempting::attempt;
@@ -73,10 +73,10 @@ fn is_ready(shared: &Shared, class: u32) -> bool
     }
 }
 
-/// One step of the run of original code: an attempt of the current frame's instruction, with all
-/// that follows. Where a class was initialized before and is ready then, no code of its own has run,
-/// and the instruction is attempted again in the same step.
-pub fn step(
+/// One step of what is set up: an attempt of the current frame's instruction, with all that follows.
+/// Where a class was initialized before and is ready then, no code of its own has run, and the
+/// instruction is attempted again in the same step.
+fn step_once(
     alloc: Global,
     originals: &mut Originals,
     parts: &mut Parts,
@@ -103,6 +103,27 @@ pub fn step(
     }
     attempt(alloc, originals, parts, markers)?;
     finish(alloc, originals, parts, markers)
+}
+
+/// The same, behind which the state stands for the run of original code where it has stood for it.
+pub fn step(
+    alloc: Global,
+    originals: &mut Originals,
+    parts: &mut Parts,
+    markers: &mut Stack<Marker>,
+) -> Result<(), NoMemory>
+    requires linked { originals.old.loaded ≡ parts.old.shared.loaded }
+    requires fit { CanRun originals.old.setup }
+    requires sound { IsSoundIn originals.old.setup (state_of markers.old parts.old) }
+    ensures world { originals.new.setup ≡ originals.old.setup }
+    ensures linked { OnOk result (originals.new.loaded ≡ parts.new.shared.loaded) }
+    ensures state { let w = originals.old.setup in let s = state_of markers.old parts.old in
+        OnOk result (state_of markers.new parts.new ≡ (step w.world (text_of w.versions) s).after) }
+    ensures stands { let w = originals.old.setup in
+        (clock : ℕ) → IsRunOf w clock (state_of markers.old parts.old)
+        → OnOk result (IsRunOf w (clock + 1) (state_of markers.new parts.new)) }
+{
+    step_once(alloc, originals, parts, markers)
 }
 
 /// Steps that the current frame does by itself, at most so many: how many it has made.
@@ -149,8 +170,7 @@ fn step_on(
     Ok(plain + 1)
 }
 
-/// Steps of the run of original code, at most so many, and none behind its end: how many it has
-/// made.
+/// Steps of what is set up, at most so many, and none behind the end of the run: how many it has made.
 pub fn run(
     alloc: Global,
     originals: &mut Originals,
@@ -167,6 +187,9 @@ pub fn run(
     ensures made { IfOk result (λ n. Leads originals.old.setup (state_of markers.old parts.old) n
         (state_of markers.new parts.new)) }
     ensures ended { IfOk result (λ n. n < most → is_some parts.new.ending ≡ true) }
+    ensures stands { let w = originals.old.setup in IfOk result (λ n. (clock : ℕ)
+        → IsRunOf w clock (state_of markers.old parts.old)
+        → IsRunOf w (clock + n) (state_of markers.new parts.new)) }
 {
     let mut made = 0;
     while made < most && parts.ending.is_none() {

@@ -1,6 +1,7 @@
 use Rattle.std.proofs.lemmas.Result.{on_ok_weaker}
 use Rattle.jvm_steps.specs.Markers.{state_of}
 use Rattle.jvm_steps.proofs.Behind.{loaded-behind}
+use Rattle.jvm_steps.proofs.StandingSteps.{run-of-starts}
 use Rattle.jvm_steps.proofs.Starts.{start-is}
 use Rattle.jvm_steps.proofs.beginning.start.Goals as goal
 
@@ -16,4 +17,12 @@ returns-clause-state c =
     on_ok_weaker c.settle.result
     (λ e. start-is c.args.originals.now.setup c.begin_start.new.originals.setup (state_of c.begin_start.new.markers c.begin_start.new.parts)
     (state_of c.settle.new.markers c.settle.new.parts) c.in_ok-begin_start.ensures.world c.in_ok-begin_start.ensures.state e)
+    c.settle.ensures
+
+pub returns-clause-stands : goal.returns-clause-stands
+returns-clause-stands c = λ set.
+    on_ok_weaker c.settle.result
+    (λ e. run-of-starts c.args.originals.now.setup set (state_of c.settle.new.markers c.settle.new.parts)
+    (start-is c.args.originals.now.setup c.begin_start.new.originals.setup (state_of c.begin_start.new.markers c.begin_start.new.parts)
+    (state_of c.settle.new.markers c.settle.new.parts) c.in_ok-begin_start.ensures.world c.in_ok-begin_start.ensures.state e))
     c.settle.ensures

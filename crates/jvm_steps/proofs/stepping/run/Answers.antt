@@ -1,9 +1,11 @@
-use Rattle.std.proofs.Common.{sym, subst, refl, ◌∙◌, arith}
+use Rattle.std.proofs.Common.{sym, subst, refl, ◌+◌, ◌∙◌, arith}
 use Rattle.jvm_steps.specs.Ready.{CanRun, IsSoundIn}
 use Rattle.jvm_steps.specs.Markers.{state_of}
 use Rattle.jvm_steps.specs.Runs.{Leads}
+use Rattle.jvm_steps.specs.Standing.{IsRunOf}
 use Rattle.jvm_steps.proofs.Behind.{leads-sound}
 use Rattle.jvm_steps.proofs.Leading.{leads-none, leads-on}
+use Rattle.jvm_steps.proofs.StandingSteps.{run-of-more}
 use Rattle.jvm_steps.proofs.stepping.run.Goals as goal
 
 pub loop-made-init : goal.loop-made-init
@@ -33,3 +35,8 @@ loop-made-preserved c = record {
       (subst (λ w. Leads w (state_of c.loop-made.markers c.loop-made.parts) c.in_ok-made.field-0 (state_of c.step_on.new.markers c.step_on.new.parts))
       c.loop-made.invariant.world c.in_ok-made.ensures.made);
 }
+
+pub returns-clause-stands : goal.returns-clause-stands
+returns-clause-stands c = λ clock is.
+    subst (IsRunOf c.args.originals.now.setup (clock + c.loop-made.made)) (sym c.loop-made.invariant.leads.made)
+    (run-of-more c.args.originals.now.setup clock c.loop-made.made (state_of c.args.markers.now c.args.parts.now) is)

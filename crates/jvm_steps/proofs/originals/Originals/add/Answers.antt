@@ -10,6 +10,7 @@ invariant_of-self-2 c =
     let was = c.self.invariant in
     let more = has-lines-added c.self.inside.versions c.args.version was.lines c.requires.lines in
     record {
+      fits = was.fits;
       few = was.few;
       numbered = was.numbered;
       params = was.params;
