@@ -1,1 +1,3 @@
-pub mod Currents
+pub mod Slots
+pub mod Adding
+pub mod Releasing

@@ -1,11 +1,12 @@
 //! The table of versions.
 
-ghost use Rattle.std.specs.Prelude.{◌≡◌, ◌<◌, ◌+◌, ◌-◌, ◌≤◌, ◌&&◌, not, if◌then◌else◌, [], ℕ, None, Some, length, replicate, slice_set, IfOk, OnOk, option_copied};
-ghost use Rattle.slab.specs.Slab.{get, slab_len};
-ghost use Rattle.method_versions.specs.Tables.{current_of, held_at, method_of, begins_in, is_number};
-ghost use Rattle.method_versions.specs.Tables.{is_superseded, AreCurrent};
-ghost use Rattle.method_versions.specs.Tables.{held_with, held_without};
+ghost use Rattle.std.specs.Prelude.{◌≡◌, ◌<◌, ◌+◌, ◌-◌, ◌≤◌, ◌++◌, ℕ, None, length, slice_set, if◌then◌else◌, ◌==◌, ◌&&◌, filter, not, vec_capacity, vec_len, OnOk, option_copied};
+ghost use Rattle.frame_stack.specs.FrameLists.{pins_of};
+ghost use Rattle.slab.specs.Slab.{slab_len};
+ghost use Rattle.method_versions.specs.Tables.{IsFirst, current_of, held_at, held_in, held_for};
+ghost use Rattle.method_versions.specs.Tables.{held_but, held_with};
 
+use frame_stack::Frames;
 use jf_bytes::NoMemory;
 use slab::Slab;
 use std::alloc::Global;
@@ -19,145 +20,181 @@ pub struct Held<T> {
 }
 
 /// Versions by their numbers, and for each method the one that it begins in. A version stays while its method begins in it or
-/// a frame runs it: `add` drops the former one where the caller says that no frame runs it, and `release` is for the last
-/// frame's end. The number of a dropped version may be given again. Only `new` and `reserve` take memory.
+/// a frame runs it: `add` drops the former one where no frame runs it, and `release` is for frames that have ended. The number
+/// of a dropped version may be given again. Only `reserve` takes memory.
 #[derive(Drop)]
 pub struct Versions<T> {
-    held: Slab<Held<T>>,
-    current: Vec<Option<usize>>,
+    // those that the table was made with, by their numbers; the numbers of the others follow
+    first: Vec<Option<Held<T>>>,
+    later: Slab<Held<T>>,
+    current: Vec<usize>,
+    // each superseded one that is held
+    superseded: Vec<usize>,
 }
 
 impl<T> Model for Versions<T> {
-    ghost use Rattle.std.specs.Prelude.{◌-◌};
+    ghost use Rattle.std.specs.Prelude.{◌++◌, ◌+◌, ◌-◌, length, min, vec_capacity};
     ghost use Rattle.slab.specs.Slab.{slab_len};
-    ghost use Rattle.method_versions.specs.Tables.{Table, table_code, AreCurrent};
+    ghost use Rattle.method_versions.specs.Tables.{Table, table_code, spare_of, IsTable};
 
     ghost Value = { Table T };
 
     ghost coded = { table_code T.code };
 
     ghost view = { λ v. record {
-      slots = v.held.slots;
+      slots = v.first.items ++ v.later.slots;
       current = v.current.items;
-      spare = v.held.capacity - slab_len v.held;
+      spare = spare_of (length v.first.items + v.later.capacity)
+        (min (v.later.capacity - slab_len v.later) (vec_capacity v.superseded - length v.superseded.items));
     } };
 
-    ghost invariant = { λ v. AreCurrent v.held.slots v.current.items };
+    ghost invariant = { λ v. IsTable v.first.items v.later.slots v.current.items v.superseded.items };
 }
 
 impl<T> Versions<T> {
-    /// A table for so many methods, with no version.
-    pub fn new(alloc: Global, methods: u32) -> Result<Versions<T>, NoMemory>
-        ensures slots { IfOk result (λ v. v.slots ≡ []) }
-        ensures current { IfOk result (λ v. v.current ≡ replicate methods None) }
+    /// A table of these versions, by their numbers. Each method begins in its own.
+    pub fn of(alloc: Global, first: Vec<Option<Held<T>>>, current: Vec<usize>) -> Versions<T>
+        requires { IsFirst first.items current.items }
+        ensures slots { result.slots ≡ first.items }
+        ensures current { result.current ≡ current.items }
     {
-        let mut current: Vec<Option<usize>> = Vec::new(alloc);
-        current.resize(methods as usize, None)?;
-        Ok(Versions {
-            held: Slab::new(alloc),
+        Versions {
+            first,
+            later: Slab::new(alloc),
             current,
-        })
+            superseded: Vec::new(alloc),
+        }
     }
 
     /// Makes room for so many more versions. An Err says that memory ran out.
     pub fn reserve(&mut self, more: usize) -> Result<(), NoMemory>
         ensures room { OnOk result (more ≤ self.new.spare) }
-        ensures more { self.old.spare ≤ self.new.spare }
-        ensures others { self.new ≡ record self.old { spare = self.new.spare } }
+        ensures slots { self.new.slots ≡ self.old.slots }
+        ensures current { self.new.current ≡ self.old.current }
     {
-        match self.held.reserve(more) {
-            Ok(()) => Ok(()),
-            Err(_) => Err(NoMemory),
+        if self.later.reserve(more).is_err() || self.superseded.reserve(more).is_err() {
+            return Err(NoMemory);
         }
+        if self.first.len() > 4294967296 || self.later.capacity() > 4294967296 - self.first.len() {
+            return Err(NoMemory);
+        }
+        Ok(())
     }
 
     /// The version with this number, or None where there is none.
     pub fn get(&self, number: usize) -> Option<&Held<T>>
         ensures { option_copied result ≡ held_at self.now number }
     {
-        self.held.get(number)
+        match self.first.get(number) {
+            Some(held) => held.as_ref(),
+            None => self.later.get(number - self.first.len()),
+        }
     }
 
-    /// The number of the version that a method begins in, or None where none was added.
+    /// The number of the version that a method begins in, or None where there is no such method.
     pub fn current(&self, method: u32) -> Option<usize>
-        ensures found { result ≡ current_of self.now method }
-        ensures own { AreCurrent self.now.slots self.now.current }
+        ensures { result ≡ current_of self.now method }
     {
-        match self.current.get(method as usize) {
-            Some(number) => *number,
-            None => None,
-        }
+        Some(*self.current.get(method as usize)?)
     }
+}
 
-    /// The method of the version with this number, or None where there is no such version.
-    pub fn method_of(&self, number: usize) -> Option<u32>
-        ensures { result ≡ method_of self.now number }
-    {
-        match self.held.get(number) {
-            Some(held) => Some(held.method),
-            None => None,
-        }
+/// Drops the version with a number, where there is one.
+fn drop_at<T: Drop>(first: &mut Vec<Option<Held<T>>>, later: &mut Slab<Held<T>>, number: usize)
+    ensures held { (other : ℕ) → held_in (first.new.items ++ later.new.slots) other
+        ≡ (if other == number then None else held_in (first.old.items ++ later.old.slots) other) }
+    ensures first { length first.new.items ≡ length first.old.items }
+    ensures later { length later.new.slots ≡ length later.old.slots }
+    ensures capacity { later.new.capacity ≡ later.old.capacity }
+    ensures fewer { slab_len later.new ≤ slab_len later.old }
+{
+    if number < first.len() {
+        first[number] = None;
+    } else {
+        later.try_remove(number - first.len());
     }
+}
 
-    /// Whether a method begins in the version with this number.
-    pub fn begins_in(&self, number: usize, method: u32) -> bool
-        ensures { result ≡ begins_in self.now number method }
-    {
-        match self.current(method) {
-            Some(now) => now == number,
-            None => false,
-        }
+/// Drops the version with a number, where there is one and no frame runs it.
+fn drop_free<T: Drop>(
+    first: &mut Vec<Option<Held<T>>>,
+    later: &mut Slab<Held<T>>,
+    number: usize,
+    frames: &Frames,
+)
+    ensures held { let fs = frames.now.frames in (other : ℕ) →
+        held_in (first.new.items ++ later.new.slots) other ≡ (if other == number && pins_of number fs == 0
+        then None else held_in (first.old.items ++ later.old.slots) other) }
+    ensures first { length first.new.items ≡ length first.old.items }
+    ensures later { length later.new.slots ≡ length later.old.slots }
+    ensures capacity { later.new.capacity ≡ later.old.capacity }
+    ensures fewer { slab_len later.new ≤ slab_len later.old }
+{
+    if frames.pins(number) == 0 {
+        drop_at(first, later, number);
     }
+}
+
+/// Drops those of these versions that no frame runs.
+fn drop_unpinned<T: Drop>(
+    first: &mut Vec<Option<Held<T>>>,
+    later: &mut Slab<Held<T>>,
+    numbers: &[usize],
+    frames: &Frames,
+)
+    ensures held { (number : ℕ) → held_in (first.new.items ++ later.new.slots) number
+        ≡ held_but numbers.now frames.now.frames (first.old.items ++ later.old.slots) number }
+    ensures first { length first.new.items ≡ length first.old.items }
+    ensures later { length later.new.slots ≡ length later.old.slots }
+    ensures capacity { later.new.capacity ≡ later.old.capacity }
+    ensures fewer { slab_len later.new ≤ slab_len later.old }
+{
+    for number in numbers.iter() {
+        drop_free(first, later, *number, frames);
+    }
+}
+
+/// Keeps the numbers of versions that frames run.
+fn keep_pinned(numbers: &mut Vec<usize>, frames: &Frames)
+    ensures kept { numbers.new.items ≡ filter (λ n. not (pins_of n frames.now.frames == 0)) numbers.old.items }
+    ensures bound { vec_len numbers.new ≤ vec_len numbers.old }
+    ensures capacity { vec_capacity numbers.new ≡ vec_capacity numbers.old }
+{
+    numbers.retain(|number| frames.pins(*number) != 0);
 }
 
 impl<T: Drop> Versions<T> {
-    /// Adds a version of a method, which begins in it from then on. Its former version is dropped where it is not pinned. Gives
+    /// Adds a version of a method, which begins in it from then on. Its former version is dropped where no frame runs it. Gives
     /// the number of the new one, which no version had.
-    pub fn add(&mut self, method: u32, prepared: T, is_pinned: bool) -> usize
+    pub fn add(&mut self, method: u32, prepared: T, frames: &Frames) -> usize
         requires room { 0 < self.old.spare }
         requires method { method < length self.old.current }
         ensures vacant { held_at self.old result ≡ None }
-        ensures held { (number : ℕ) → held_at self.new number
-            ≡ held_with result (record { method = method; prepared = prepared }) is_pinned self.old number }
-        ensures current { self.new.current ≡ slice_set self.old.current method (Some result) }
+        ensures small { result < 4294967296 }
+        ensures held { (number : ℕ) → held_at self.new number ≡ held_with result
+            (record { method = method; prepared = prepared }) frames.now.frames self.old number }
+        ensures current { self.new.current ≡ slice_set self.old.current method result }
         ensures spare { self.old.spare ≤ self.new.spare + 1 }
     {
-        let former = self.current(method);
-        let number = self.held.insert_reserved(Held { method, prepared });
-        self.current[method as usize] = Some(number);
-        drop_former(&mut self.held, former, is_pinned);
+        let former = self.current[method as usize];
+        let number = self.first.len() + self.later.insert_reserved(Held { method, prepared });
+        self.current[method as usize] = number;
+        if frames.pins(former) == 0 {
+            drop_at(&mut self.first, &mut self.later, former);
+        } else {
+            self.superseded.push_reserved(former);
+        }
         number
     }
 
-    /// Drops a version that is superseded, and answers whether there was such a one: false, with nothing changed, where there
-    /// is no version with this number, and where its method begins in it. It is for versions that no frame runs.
-    pub fn release(&mut self, number: usize) -> bool
-        ensures answer { result ≡ is_superseded self.old number }
-        ensures held { (other : ℕ) → held_at self.new other ≡ held_without number self.old other }
+    /// Drops each superseded version that no frame runs.
+    pub fn release(&mut self, frames: &Frames)
+        ensures held { (number : ℕ) → held_at self.new number ≡ held_for frames.now.frames self.old number }
         ensures current { self.new.current ≡ self.old.current }
+        ensures count { length self.new.slots ≡ length self.old.slots }
         ensures spare { self.old.spare ≤ self.new.spare }
     {
-        let Some(method) = self.method_of(number) else {
-            return false;
-        };
-        if self.begins_in(number, method) {
-            return false;
-        }
-        self.held.try_remove(number);
-        true
-    }
-}
-
-/// Drops a former version, where there is one and it is not pinned.
-fn drop_former<T: Drop>(held: &mut Slab<Held<T>>, former: Option<usize>, is_pinned: bool)
-    ensures held { (number : ℕ) → get held.new number
-        ≡ (if not is_pinned && is_number number former then None else get held.old number) }
-    ensures spare { held.old.capacity - slab_len held.old ≤ held.new.capacity - slab_len held.new }
-{
-    if is_pinned {
-        return;
-    }
-    if let Some(number) = former {
-        held.try_remove(number);
+        drop_unpinned(&mut self.first, &mut self.later, self.superseded.as_slice(), frames);
+        keep_pinned(&mut self.superseded, frames);
     }
 }
