@@ -9,18 +9,19 @@ use Rattle.jvm_model.specs.Originals.{original}
 use Rattle.jvm_model.specs.Run.{start, step}
 use Rattle.jvm_model.specs.StandsForRun.{StandsFor}
 use Rattle.jvm_model.proofs.StandsForRun.{start-stands_for}
-use Rattle.jvm_steps.specs.declared.versions.Version.{Version}
-use Rattle.jvm_steps.specs.declared.versions.Versions.{Versions}
+use Rattle.jvm_steps.specs.Tables.{IsAdded, Version, Versions}
 use Rattle.jvm_steps.specs.Entries.{original_versions}
 use Rattle.jvm_model.specs.ProgramPlaces.{HasClosedCodes, is_place_in}
 use Rattle.jvm_steps.specs.Ready.{RunsIn}
 use Rattle.jvm_model.specs.SoundTexts.{IsSoundEntry}
 use Rattle.jvm_steps.specs.Versions.{current_of, method_of, text_of}
-use Rattle.jvm_steps.specs.VersionTexts.{AreVersions, IsVersionOf, with_home, with_version}
+use Rattle.frame_stack.specs.FrameLists.{PlacedFrame}
+use Rattle.jvm_steps.specs.Standing.{IsPinned}
+use Rattle.jvm_steps.specs.VersionTexts.{AreVersions, IsVersionOf, homes_with}
 use Rattle.jvm_model.proofs.ClosedPrograms.{program-agrees}
 use Rattle.jvm_steps.proofs.OriginalTexts.{original-are}
 use Rattle.jvm_steps.proofs.VersionsAgree.{versions-agree}
-use Rattle.jvm_steps.proofs.VersionsRun.{more-stands, more-versions, step-stands}
+use Rattle.jvm_steps.proofs.VersionsRun.{added-versions, count-added, kept-stands, same-added, step-stands}
 
 module _ (w : World) (closed : HasClosedCodes w.program) where
   abbrev p : Program
@@ -48,9 +49,12 @@ module _ (w : World) (closed : HasClosedCodes w.program) where
     steps after made = step-stands p norm homes v are w refl (program-agrees p closed) versioned from_original after stands made
 
     -- a version more, and a step
-    pub adds : (x : Version) (home : ℕ → ℕ) → length v.all < 4294967296 → IsVersionOf p norm x home → x.method < length p.methods
-        → AllByRecursion (IsSoundEntry (RunsIn v) p versioned.shared.loaded) versioned.stack → (after : State) → after ≡ (step w (text_of (with_version x v)) versioned).after
-        → StandsFor norm (method_of (with_version x v)) (with_home (length v.all) home homes) after (step w (original p) from_original).after
-    adds x home room is own each after made =
-        step-stands p norm (with_home (length v.all) home homes) (with_version x v) (more-versions p norm homes v are x home room is own) w refl (program-agrees p closed)
-        versioned from_original after (more-stands p norm homes v are x home room versioned from_original stands each) made
+    pub adds : (fs : List PlacedFrame) (number : ℕ) (x : Version) (home : ℕ → ℕ) (more : Versions) → IsAdded fs number x v more → IsVersionOf p norm x home → x.method < length p.methods
+        → AllByRecursion (IsSoundEntry (RunsIn v) p versioned.shared.loaded) versioned.stack → IsPinned fs versioned.stack → (after : State) → after ≡ (step w (text_of more) versioned).after
+        → StandsFor norm (method_of more) (homes_with more number home homes) after (step w (original p) from_original).after
+    adds fs number x home more added is own each pinned after made =
+        let news : ℕ → ℕ → ℕ = homes_with more number home homes in
+        step-stands p norm news more (added-versions p norm homes v are fs number x home more added is own) w refl (program-agrees p closed) versioned from_original after
+        (kept-stands p norm homes v are fs more news (count-added p norm homes v are fs number x home more added) (same-added p norm homes v are fs number x home more added)
+        versioned from_original stands each pinned)
+        made

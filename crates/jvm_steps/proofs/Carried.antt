@@ -37,7 +37,7 @@ use Rattle.jvm_steps.specs.Settling.{after_move}
 use Rattle.jvm_steps.specs.States.{active, frame_in, state_in}
 use Rattle.jvm_steps.proofs.LineActs.{stays, throws-stays, watches-stays, measures-stays, loads-stays, makes-silent, stores-silent, string-silent}
 use Rattle.jvm_steps.proofs.MarkedStacks.{none-more, none-left, stack-empty, stack-plain, stack-frame, live-stack}
-use Rattle.jvm_steps.specs.declared.versions.Versions.{Versions}
+use Rattle.jvm_steps.specs.Tables.{Versions}
 use Rattle.jvm_steps.specs.Versions.{Setup, text_of, line_at, next_in}
 
 pub length-active : (fs : List PlacedFrame) → length (map active fs) ≡ length fs

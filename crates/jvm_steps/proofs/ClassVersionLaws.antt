@@ -16,15 +16,13 @@ use Rattle.jvm_model.specs.declared.program.MethodPlace.{MethodPlace}
 use Rattle.jvm_model.specs.declared.program.Program.{Program}
 use Rattle.jvm_model.specs.Methods.{code_of, method_code}
 use Rattle.jvm_model.specs.Programs.{class_at, number_from, number_of_method, place_of_method, same_place}
-use Rattle.jvm_steps.specs.declared.versions.Version.{Version}
-use Rattle.jvm_steps.specs.declared.versions.Versions.{Versions}
-use Rattle.jvm_steps.specs.ClassVersions.{alone, class_version, class_versions, currents, homes_at, member_version, version_by, versions_from, with_versions}
+use Rattle.jvm_steps.specs.Tables.{Version, Versions}
+use Rattle.jvm_steps.specs.ClassVersions.{alone, class_version, class_versions, homes_at, member_version, version_by, versions_from}
 use Rattle.jvm_steps.specs.Entries.{no_version, original_version, version_of}
 use Rattle.jvm_model.specs.ProgramPlaces.{HasClosedCodes}
 use Rattle.jvm_steps.specs.Ready.{IsOwnLine}
 use Rattle.jvm_steps.specs.Standing.{AreMethodImages, IsMethodImage, IsOfProgram, places_of}
 use Rattle.jvm_steps.specs.Versions.{HasOwnLines, line_in}
-use Rattle.jvm_steps.specs.VersionTexts.{with_version}
 use Rattle.jvm_steps.proofs.Dimensions.{Fits}
 use Rattle.jvm_steps.proofs.LineFamilies.{KeepsFamily}
 use Rattle.jvm_steps.proofs.MethodImages.{code-is, method-image}
@@ -173,26 +171,3 @@ versions-of p closed class image homes are = by (class_at p class) refl where
   by : (o : Option ClassFile) → class_at p class ≡ o → AllByRecursion (IsOfProgram p) (option_map_or (λ (c : ClassFile). versions_from p class image homes 0 c.methods) o [])
   by None there = tt
   by (Some c) there = from c there 0 c.methods (λ k m found. let same : 0 + k ≡ k = omega arith in ap (slice_get c.methods) same ∙ found)
-
--- ---- added one behind the other
-
-pub set-past : (xs : List ℕ) (i x : ℕ) → length xs ≤ i → slice_set xs i x ≡ xs
-set-past [] i x le = refl
-set-past (y ∷ xs) zero x le = absurd (omega arith)
-set-past (y ∷ xs) (suc i) x le = ap (λ (ys : List ℕ). y ∷ ys) (set-past xs i x (omega arith))
-
-pub with_versions-is : (xs : List Version) (v : Versions) → with_versions xs v ≡ record { all = v.all ++ xs; current = currents (length v.all) xs v.current }
-with_versions-is [] v = ap (λ (all : List Version). let w : Versions = record { all = all; current = v.current } in w) (sym (append-nil v.all))
-with_versions-is (x ∷ xs) v =
-    with_versions-is xs (with_version x v)
-    ∙ (ap (λ (all : List Version). let w : Versions = record { all = all; current = currents (length (v.all ++ x ∷ [])) xs (slice_set v.current x.method (length v.all)) } in w) (append_assoc v.all (x ∷ []) xs)
-    ∙ ap (λ n. let w : Versions = record { all = v.all ++ x ∷ xs; current = currents n xs (slice_set v.current x.method (length v.all)) } in w) (length-append v.all (x ∷ [])))
-
-pub added-all : (v : Versions) (more all added : List Version) (current : List ℕ) (before : ℕ) → before ≡ length v.all → all ≡ v.all ++ more → added ≡ drop before all
-    → current ≡ currents before added v.current → record { all = all; current = current } ≡ with_versions more v
-added-all v more all added current before many joined behind begun =
-    let same : added ≡ more = behind ∙ (ap (drop before) joined ∙ (ap (λ k. drop k (v.all ++ more)) many ∙ drop-append_seam v.all more)) in
-    ap (λ (xs : List Version). let w : Versions = record { all = xs; current = current } in w) joined
-    ∙ (ap (λ (ks : List ℕ). let w : Versions = record { all = v.all ++ more; current = ks } in w)
-    (begun ∙ (ap (λ k. currents k added v.current) many ∙ ap (λ (xs : List Version). currents (length v.all) xs v.current) same))
-    ∙ sym (with_versions-is more v))

@@ -28,7 +28,7 @@ use Rattle.jvm_named.specs.Objects.{HasDimensions}
 use Rattle.jvm_steps.specs.declared.line.Line.{Line}
 use Rattle.jvm_steps.specs.Versions as versions
 use Rattle.jvm_steps.specs.Versions.{HasLines}
-use Rattle.jvm_steps.specs.declared.versions.Versions.{Versions}
+use Rattle.jvm_steps.specs.Tables.{Versions}
 use Rattle.jvm_steps.specs.Lines.{IfNamed, IfNamedBy, action_of, line_at, line_with, named_as}
 
 -- ---- operations

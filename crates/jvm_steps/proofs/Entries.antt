@@ -18,7 +18,7 @@ use Rattle.jvm_steps.specs.declared.originals.Method.{Method}
 use Rattle.jvm_steps.specs.Prepared.{FitsOriginals, IsPrepared, exception_in, exception_kind}
 use Rattle.jvm_steps.specs.Entries.{entry_of, no_method, entry_in, entry_at, original_versions}
 use Rattle.jvm_steps.specs.Versions.{HasLines}
-use Rattle.jvm_steps.specs.declared.versions.Versions.{Versions}
+use Rattle.jvm_steps.specs.Tables.{Versions}
 use Rattle.jvm_steps.proofs.OriginalVersions.{original-lines}
 
 -- ---- the parameters

@@ -20,7 +20,6 @@ pub mod Halves
 pub mod RewrittenVersions
 pub mod VersionsRun
 pub mod LaidRewritten
-pub mod Added
 pub mod RewrittenLines
 pub mod OriginalTexts
 pub mod ImageVersions

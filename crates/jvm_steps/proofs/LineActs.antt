@@ -40,7 +40,7 @@ use Rattle.jvm_steps.specs.Acts.{placed_line, comes_to, acts_alone, acts_asked, 
 use Rattle.jvm_named.specs.Names.{naming_view}
 use Rattle.jvm_steps.specs.Lines.{action_of, local_action, named_as}
 use Rattle.jvm_steps.specs.Ready.{IsRuleOf, IsTied}
-use Rattle.jvm_steps.specs.declared.versions.Versions.{Versions}
+use Rattle.jvm_steps.specs.Tables.{Versions}
 use Rattle.jvm_steps.specs.Versions.{Setup, text_of, line_at, instruction_by, instruction_in}
 
 -- ---- what an instruction asks for that its frame does by itself

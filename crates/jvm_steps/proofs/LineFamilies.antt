@@ -14,7 +14,7 @@ use Rattle.jvm_steps.specs.declared.line.Line.{Line}
 use Rattle.jvm_steps.specs.Lines.{line_at, line_with}
 use Rattle.jvm_steps.specs.Versions as versions
 use Rattle.jvm_steps.specs.Versions.{HasLines}
-use Rattle.jvm_steps.specs.declared.versions.Versions.{Versions}
+use Rattle.jvm_steps.specs.Tables.{Versions}
 
 abbrev pub KeepsFamily : Line → Type 0
 KeepsFamily l = l.family ≡ family_of l.instr.op

@@ -1,5 +1,5 @@
 -- Original code is a table of versions, each at its own places.
-use Rattle.std.proofs.Common.{◌≡◌, ℕ, ◌<◌, ◌≤◌, ◌+◌, List, [], ◌∷◌, map, length, Option, Some, None, refl, ap, subst, sym, ◌∙◌, ⊎_elim}
+use Rattle.std.proofs.Common.{◌≡◌, ℕ, ◌<◌, ◌≤◌, ◌+◌, List, [], ◌∷◌, map, length, Option, Some, None, refl, ap, subst, sym, ◌∙◌, ⊎_elim, arith}
 use Rattle.std.specs.Prelude.{slice_get, unwrap_or}
 use Rattle.std.specs.List.{range_with_len}
 use Rattle.std.specs.Option.{option_and_then, option_map, option_map_or}
@@ -18,10 +18,9 @@ use Rattle.jvm_model.specs.Methods.{code_of}
 use Rattle.jvm_model.specs.Moved.{HaveBounds, moved_catcher, moved_instruction}
 use Rattle.jvm_model.specs.Originals.{catcher_of, method_handlers, original}
 use Rattle.jvm_model.specs.Programs.{class_at}
-use Rattle.jvm_steps.specs.declared.versions.Version.{Version}
-use Rattle.jvm_steps.specs.declared.versions.Versions.{Versions}
+use Rattle.jvm_steps.specs.Tables.{Version, Versions, version_at}
 use Rattle.jvm_steps.specs.Entries.{catching_of, no_version, original_version, original_versions, own_number, version_entry, version_in, version_of}
-use Rattle.jvm_steps.specs.Versions.{catcher_in, current_of, instruction_in, line_in, text_of, version_at}
+use Rattle.jvm_steps.specs.Versions.{catcher_in, current_of, instruction_in, line_in, text_of}
 use Rattle.jvm_steps.specs.VersionTexts.{AreVersions, HasCurrent, HasOperation, IsVersionOf}
 use Rattle.jvm_steps.proofs.OriginalVersions.{original-at}
 use Rattle.jvm_steps.proofs.OriginalsRun.{of-place, past, there}
@@ -35,8 +34,8 @@ same-catchers c (h ∷ hs) = ap (λ (cs : List Catcher). catcher_of c h ∷ cs) 
 
 -- what a version has of each
 record Has (x : Version) (handlers : List Catcher) : Type 0 where
-  first : x.first ≡ 0
-  catches : map catcher_in x.handlers ≡ handlers
+  first : x.prepared.first ≡ 0
+  catches : map catcher_in x.prepared.handlers ≡ handlers
 
 has-code : (k : ℕ) (c : ClassFile) (m : Member) (code : Option CodeAttribute) → code_of m ≡ code
     → Has (version_entry k c m) (unwrap_or (option_map (λ (x : CodeAttribute). map (catcher_of c) x.handlers) code) [])
@@ -120,6 +119,6 @@ module _ (p : Program) (norm : ℕ → ℕ → ℕ) where
     unheld = λ k none. refl;
     current = begins;
     count = length-map-range_with_len own_number 0 n;
-    few = subst (λ m. m ≤ 4294967296) (sym (length-map-range_with_len (original_version p) 0 n)) few;
+    far = λ k le. past p k (omega (arith, few, le));
     bounds = bounds;
   }

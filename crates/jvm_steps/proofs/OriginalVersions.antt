@@ -16,15 +16,15 @@ use Rattle.jvm_model.specs.Methods.{code_of, method_code}
 use Rattle.jvm_model.specs.Originals.{original}
 use Rattle.jvm_model.specs.Programs.{class_at}
 use Rattle.jvm_steps.specs.declared.line.Line.{Line}
-use Rattle.jvm_steps.specs.declared.versions.Version.{Version}
-use Rattle.jvm_steps.specs.Entries.{code_line, lines_of, no_version, original_version, original_versions, version_entry, version_in, version_of}
+use Rattle.jvm_steps.specs.Tables.{Version}
+use Rattle.jvm_steps.specs.Entries.{code_line, lines_of, no_version, original_slot, original_version, original_versions, version_entry, version_in, version_of}
 use Rattle.jvm_steps.specs.Lines.{method_line}
 use Rattle.jvm_steps.specs.Lines as originals
 use Rattle.jvm_steps.specs.Ready.{IsOwnLine}
 use Rattle.jvm_steps.specs.Versions.{HasLines, line_at, line_in, text_of}
 use Rattle.jvm_steps.proofs.Dimensions.{Fits, fits-at}
 use Rattle.jvm_steps.proofs.LineFamilies.{KeepsFamily, kept-at}
-use Rattle.jvm_steps.proofs.Tabled.{tabled-at, tabled-past, tabled-place}
+use Rattle.jvm_steps.proofs.Tabled.{slotted-at, slotted-past, tabled-place}
 use Rattle.jvm_steps.proofs.Tied.{Tie, own-tie, shown, tied-at}
 
 -- ---- the lines
@@ -62,8 +62,8 @@ none-past p k at le =
 pub original-line : (p : Program) (k at : ℕ) → line_at (original_versions p) k at ≡ originals.line_at p k at
 original-line p k at =
     ⊎_elim
-    (λ (lt : k < length p.methods). ap (option_and_then (line_in at)) (tabled-at (original_version p) (length p.methods) k lt) ∙ line-place p (slice_get p.methods k) k at)
-    (λ (le : length p.methods ≤ k). ap (option_and_then (line_in at)) (tabled-past (original_version p) (length p.methods) k le) ∙ sym (none-past p k at le))
+    (λ (lt : k < length p.methods). ap (option_and_then (line_in at)) (slotted-at (original_slot p) (length p.methods) k lt) ∙ line-place p (slice_get p.methods k) k at)
+    (λ (le : length p.methods ≤ k). ap (option_and_then (line_in at)) (slotted-past (original_slot p) (length p.methods) k le) ∙ sym (none-past p k at le))
     (cases_lt k (length p.methods))
 
 pub original-lines : (p : Program) → HasLines (original_versions p)

@@ -1,9 +1,9 @@
 -- The versions that original code is can be run.
 use Rattle.std.proofs.Common.{◌≡◌, ℕ, ◌<◌, ◌≤◌, ◌+◌, ◌-◌, List, length, Option, Some, None, refl, ap, subst, sym, ◌∙◌, ⊎_elim, inl, inr, arith}
-use Rattle.std.specs.Prelude.{◌^◌, map, max, slice_get, unwrap_or}
+use Rattle.std.specs.Prelude.{◌^◌, is_some, map, max, not, slice_get, unwrap_or}
 use Rattle.std.specs.List.{range_with_len}
-use Rattle.std.specs.Option.{option_and_then, option_map, option_map_or}
-use Rattle.std.proofs.lemmas.Bool.{cases_lt}
+use Rattle.std.specs.Option.{IfSome, option_and_then, option_map, option_map_or}
+use Rattle.std.proofs.lemmas.Bool.{cases_lt, eq-eqb}
 use Rattle.std.proofs.lemmas.List.FromFn.{length-map-range_with_len}
 use Rattle.std.proofs.lemmas.Option.{none-some}
 use Rattle.const_pool.specs.declared.class.ClassFile.{ClassFile}
@@ -15,14 +15,14 @@ use Rattle.jvm_model.specs.Originals.{original}
 use Rattle.jvm_model.specs.Programs.{class_at}
 use Rattle.jvm_model.specs.Sound.{CanAttempt, HasClass, IsFit}
 use Rattle.jvm_model.proofs.SoundLines.{can-attempt}
-use Rattle.jvm_steps.specs.declared.versions.Version.{Version}
-use Rattle.jvm_steps.specs.declared.versions.Versions.{Versions}
-use Rattle.jvm_steps.specs.Entries.{no_version, original_version, original_versions, own_number, version_entry, version_in, version_of}
+use Rattle.method_versions.specs.Tables.{AreCurrent, IsFirst, is_number, is_old, method_in}
+use Rattle.jvm_steps.specs.Tables.{AreAllCurrent, Version, Versions, version_at}
+use Rattle.jvm_steps.specs.Entries.{no_version, original_slot, original_version, original_versions, own_number, version_entry, version_in, version_of}
 use Rattle.jvm_steps.specs.Prepared.{world_in}
 use Rattle.jvm_steps.specs.Ready.{CanRun, RunsIn}
-use Rattle.jvm_steps.specs.Versions.{Setup, current_of, instruction_in, line_in, method_of, text_of, version_at}
+use Rattle.jvm_steps.specs.Versions.{Setup, current_of, instruction_in, line_in, method_of, text_of}
 use Rattle.jvm_steps.proofs.OriginalVersions.{original-at, original-own}
-use Rattle.jvm_steps.proofs.Tabled.{tabled-at, tabled-past}
+use Rattle.jvm_steps.proofs.Tabled.{slotted-at, slotted-past, tabled-at, tabled-past}
 
 -- each is of the method with its number
 of-member : (k : ℕ) (c : ClassFile) (m : Option Member) → (option_map_or (version_entry k c) m (no_version k)).method ≡ k
@@ -45,10 +45,10 @@ module _ (p : Program) where
   n = length p.methods
 
   pub there : (k : ℕ) → k < n → version_at v k ≡ Some (original_version p k)
-  there k lt = tabled-at (original_version p) n k lt
+  there k lt = slotted-at (original_slot p) n k lt
 
   pub past : (k : ℕ) → n ≤ k → version_at v k ≡ None
-  past k le = tabled-past (original_version p) n k le
+  past k le = slotted-past (original_slot p) n k le
 
   own-method : (k : ℕ) → k < n → method_of v k ≡ k
   own-method k lt = ap (λ (o : Option Version). option_map_or (λ x. x.method) o (max (k - 4294967296) (length v.current))) (there k lt) ∙ of-place p k (slice_get p.methods k)
@@ -75,13 +75,10 @@ module _ (p : Program) where
       (λ (le : n ≤ version). absurd (nothing-past version place i le e))
       (cases_lt version n)
 
-  many : length v.all ≡ n
-  many = length-map-range_with_len (original_version p) 0 n
-
   runs-there : (k : ℕ) → k < n → RunsIn v (current_of v k) k
   runs-there k lt =
       let here : current_of v k ≡ k = ap (λ (o : Option ℕ). unwrap_or o (4294967296 + k)) (tabled-at own_number n k lt) in
-      (begins-there k lt, inl (omega (arith, here, many)))
+      (begins-there k lt, inl (ap is_some (ap (version_at v) here ∙ there k lt)))
 
   runs-past : (k : ℕ) → n ≤ 4294967296 → n ≤ k → RunsIn v (current_of v k) k
   runs-past k few le =
@@ -97,3 +94,31 @@ module _ (p : Program) where
       attempts = attempts-there fit;
     };
   }
+
+  -- ---- none is superseded
+
+  pub original-current : AreAllCurrent v
+  original-current k =
+      ⊎_elim
+      (λ (lt : k < n).
+      ap (λ (o : Option Version). is_old v.current k (option_map (λ x. x.method) o)) (there k lt)
+      ∙ (ap (λ m. not (is_number k (slice_get v.current m))) (of-place p k (slice_get p.methods k))
+      ∙ (ap (λ o. not (is_number k o)) (tabled-at own_number n k lt) ∙ ap not (eq-eqb k k refl))))
+      (λ (le : n ≤ k). ap (λ (o : Option Version). is_old v.current k (option_map (λ x. x.method) o)) (past k le))
+      (cases_lt k n)
+
+  pub original-first : n ≤ 4294967296 → IsFirst v.slots v.current
+  original-first few = record {
+    own = owned;
+    methods = length-map-range_with_len (original_slot p) 0 n ∙ sym (length-map-range_with_len own_number 0 n);
+    few = subst (λ m. m ≤ 4294967296) (sym (length-map-range_with_len (original_slot p) 0 n)) few;
+    alone = original-current;
+  } where
+    owned : AreCurrent v.slots v.current
+    owned k =
+        ⊎_elim
+        (λ (lt : k < n).
+        subst (λ (o : Option ℕ). IfSome o (λ m. method_in v.slots m ≡ Some k)) (sym (tabled-at own_number n k lt))
+        (ap (option_map (λ (x : Version). x.method)) (there k lt) ∙ ap Some (of-place p k (slice_get p.methods k))))
+        (λ (le : n ≤ k). subst (λ (o : Option ℕ). IfSome o (λ m. method_in v.slots m ≡ Some k)) (sym (tabled-past own_number n k le)) tt)
+        (cases_lt k n)

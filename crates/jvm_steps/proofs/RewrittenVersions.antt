@@ -22,7 +22,7 @@ use Rattle.jvm_model.specs.Originals.{catcher_of, original}
 use Rattle.jvm_model.specs.Versions.{moved_handler}
 use Rattle.jvm_steps.specs.declared.line.Line.{Line}
 use Rattle.jvm_steps.specs.declared.versions.Catching.{Catching}
-use Rattle.jvm_steps.specs.declared.versions.Version.{Version}
+use Rattle.jvm_steps.specs.Tables.{Version}
 use Rattle.jvm_steps.specs.Entries.{catching_of, code_line}
 use Rattle.jvm_model.specs.ProgramPlaces.{IsStartOrEnd}
 use Rattle.jvm_model.specs.Homed.{IsHomed, homed_instruction, instruction_for, start_in, with_own}

@@ -12,7 +12,7 @@ use Rattle.jvm_model.specs.Sound.{IsFit}
 use Rattle.jvm_model.specs.StandsForRun.{StandsFor, at_homes, forgotten}
 use Rattle.jvm_model.proofs.AppliesMoves.{live-moves}
 use Rattle.jvm_model.proofs.StandsForRun.{start-stands_for, stands_for-same}
-use Rattle.jvm_steps.specs.declared.versions.Versions.{Versions}
+use Rattle.jvm_steps.specs.Tables.{Versions}
 use Rattle.jvm_steps.specs.Entries.{original_versions}
 use Rattle.jvm_steps.specs.OriginalRun.{IsRunOfOriginal, StandsForOriginal, original_setup, unmoved}
 use Rattle.jvm_steps.specs.Ready.{CanRun, IsSoundIn, RunsIn}

@@ -1,8 +1,11 @@
 -- What stands for the run of original code stands for it behind the start, behind a step, and with versions more.
-use Rattle.std.proofs.Common.{◌≡◌, ℕ, zero, suc, ◌+◌, ◌<◌, ◌≤◌, ◌⊎◌, inl, inr, List, [], ◌∷◌, ◌++◌, length, Option, Some, None, refl, sym, ap, subst, ◌∙◌, arith}
+use Rattle.std.proofs.Common.{◌≡◌, ℕ, zero, suc, ◌+◌, ◌<◌, ◌≤◌, Bool, true, false, List, [], ◌∷◌, ◌++◌, length, map, Option, Some, None, refl, sym, ap, subst, ◌∙◌, arith}
+use Rattle.std.specs.Prelude.{◌==◌, if◌then◌else◌}
 use Rattle.std.specs.List.{AllByRecursion}
 use Rattle.std.specs.Option.{IfSome}
-use Rattle.std.proofs.lemmas.List.{length-append}
+use Rattle.std.proofs.lemmas.Bool.{eq-eqb, ne_eqb}
+use Rattle.std.proofs.lemmas.List.{append_assoc, append-nil}
+use Rattle.frame_stack.specs.FrameLists.{PlacedFrame, pins_of}
 use Rattle.jvm_model.specs.declared.program.Program.{Program}
 use Rattle.jvm_model.specs.declared.state.Entry.{Entry}
 use Rattle.jvm_model.specs.declared.state.Entry.TheVariants.{Active, Initializing}
@@ -13,28 +16,29 @@ use Rattle.jvm_model.specs.Run.{run, start, step, turn_in-zero, turn_in-suc}
 use Rattle.jvm_model.specs.Sound.{IsFit}
 use Rattle.jvm_model.specs.StandsForRun.{StandsFor}
 use Rattle.jvm_model.proofs.StandsForRun.{start-stands_for}
-use Rattle.jvm_steps.specs.declared.versions.Version.{Version}
-use Rattle.jvm_steps.specs.declared.versions.Versions.{Versions}
+use Rattle.jvm_steps.specs.Tables.{Adds, IsAdded, Releases, Version, Versions}
 use Rattle.const_pool.specs.declared.class.ClassFile.{ClassFile}
 use Rattle.code_model.specs.declared.laying.Homes.{Homes}
-use Rattle.jvm_steps.specs.ClassVersions.{class_versions, with_versions}
+use Rattle.jvm_steps.specs.ClassVersions.{class_versions}
 use Rattle.jvm_steps.specs.Entries.{original_versions}
 use Rattle.jvm_steps.specs.OriginalRun.{original_setup}
 use Rattle.jvm_model.specs.ProgramPlaces.{HasClosedCodes}
-use Rattle.jvm_steps.specs.Ready.{CanRun, IsKept, IsOwnLine, IsSoundIn, RunsIn}
+use Rattle.jvm_steps.specs.Ready.{CanRun, IsOwnLine, IsSoundIn, RunsIn}
+use Rattle.jvm_steps.specs.declared.markers.Marker.{Marker}
+use Rattle.jvm_steps.specs.declared.parts.Parts.{Parts}
+use Rattle.jvm_steps.specs.Markers.{above, beneath, initializing, stack_of, state_of}
+use Rattle.jvm_steps.specs.States.{active}
 use Rattle.jvm_steps.specs.Runs.{steps_from, steps_from-zero, steps_from-suc}
-use Rattle.jvm_model.specs.SoundTexts.{IsSoundEntry}
-use Rattle.jvm_steps.specs.Standing.{AreMethodImages, HasVersions, IsOfProgram, IsRunOf, IsSetUp, places_of}
+use Rattle.jvm_steps.specs.Standing.{AreMethodImages, HasVersions, IsPinned, IsOfProgram, IsRunOf, IsSetUp, places_of}
 use Rattle.jvm_steps.specs.Versions.{Setup, current_of, method_of, text_of}
-use Rattle.jvm_steps.specs.VersionTexts.{with_home, with_version}
-use Rattle.jvm_steps.proofs.Added.{lines-added}
+use Rattle.jvm_steps.specs.VersionTexts.{homes_left, homes_with}
 use Rattle.jvm_steps.proofs.Assembled.{at-first}
 use Rattle.jvm_model.proofs.ClosedPrograms.{program-agrees}
 use Rattle.jvm_steps.proofs.ClassVersionLaws.{versions-of}
 use Rattle.jvm_steps.proofs.OriginalVersions.{original-own}
 use Rattle.jvm_model.proofs.SoundTextRuns.{sound-start, sound-step}
 use Rattle.jvm_steps.proofs.VersionsAgree.{versions-agree}
-use Rattle.jvm_steps.proofs.VersionsRun.{kept-one, longer, more-stands, more-versions, step-stands, versions-can-run}
+use Rattle.jvm_steps.proofs.VersionsRun.{added-lines, added-versions, count-added, kept-entries, kept-stands, left-lines, left-versions, same-added, same-left, step-stands, versions-can-run}
 
 -- ---- original code is set up so
 
@@ -85,70 +89,128 @@ run-of-more w clock (suc n) s is =
     subst (λ k. IsRunOf w k (steps_from w (suc n) s)) same
     (run-of-steps w (clock + n) (steps_from w n s) (steps_from w (suc n) s) (run-of-more w clock n s is) (steps_from-suc w n s))
 
--- ---- a version more
+-- ---- another table
 
-abbrev pub with_one : Version → Setup → Setup
-with_one x w = record w { versions = with_version x w.versions }
+-- with these versions
+abbrev pub with_table : Versions → Setup → Setup
+with_table v w = record w { versions = v }
 
-module _ (w : Setup) (x : Version) (of : IsOfProgram w.world.program x) (room : length w.versions.all < 4294967296) where
+module _ (w : Setup) (fs : List PlacedFrame) (after : Versions) where
   abbrev p : Program
   p = w.world.program
 
   abbrev v : Versions
   v = w.versions
 
-  pub has-one : (homes : ℕ → ℕ → ℕ) → HasVersions w homes → HasVersions (with_one x w) (with_home (length v.all) of.home homes)
-  has-one homes has = record {
-    fit = has.fit;
-    closed = has.closed;
-    are = more-versions p (places_of p) homes v has.are x of.home room of.version of.own;
-    lines = lines-added IsOwnLine v x has.lines of.lines;
-  }
+  -- superseded versions are dropped
+  module _ (released : Releases fs v after) where
+    pub has-left : (homes : ℕ → ℕ → ℕ) → HasVersions w homes → HasVersions (with_table after w) (homes_left after homes)
+    has-left homes has = record {
+      fit = has.fit;
+      closed = has.closed;
+      are = left-versions p (places_of p) homes v has.are fs after released;
+      lines = left-lines p (places_of p) homes v has.are fs after released IsOwnLine has.lines;
+    }
 
-  kept : (version : ℕ) → IsKept v version → IsKept (with_version x v) version
-  kept version (inl held) = let more : length (v.all ++ x ∷ []) ≡ length v.all + 1 = length-append v.all (x ∷ []) in inl (omega (arith, more))
-  kept version (inr far) = inr far
+    pub run-of-left : (clock : ℕ) (s : State) → IsPinned fs s.stack → IsRunOf w clock s → IsRunOf (with_table after w) clock s
+    run-of-left clock s pinned is =
+        let count : length after.current ≡ length v.current = ap length released.current in
+        let same = same-left p (places_of p) is.homes v is.has.are fs after released in
+        record {
+          homes = homes_left after is.homes;
+          has = has-left is.homes is.has;
+          stands = kept-stands p (places_of p) is.homes v is.has.are fs after (homes_left after is.homes) count same s (run w.world clock) is.stands is.sound.stack pinned;
+          sound = record {
+            shared = is.sound.shared;
+            stack = kept-entries p (places_of p) is.homes v is.has.are fs after (homes_left after is.homes) count same s.shared.loaded s.stack is.sound.stack pinned;
+            main = is.sound.main;
+          };
+        }
 
-  module _ (homes : ℕ → ℕ → ℕ) (has : HasVersions w homes) where
-    runs : (version method : ℕ) → RunsIn v version method → RunsIn (with_version x v) version method
-    runs version method is = ((kept-one p (places_of p) homes v has.are x of.home room version is.1).0 ∙ is.0, kept version is.1)
+  -- a version more
+  module _ (number : ℕ) (x : Version) (of : IsOfProgram p x) (added : IsAdded fs number x v after) where
+    pub has-one : (homes : ℕ → ℕ → ℕ) → HasVersions w homes → HasVersions (with_table after w) (homes_with after number of.home homes)
+    has-one homes has = record {
+      fit = has.fit;
+      closed = has.closed;
+      are = added-versions p (places_of p) homes v has.are fs number x of.home after added of.version of.own;
+      lines = added-lines p (places_of p) homes v has.are fs number x of.home after added IsOwnLine of.lines has.lines;
+    }
 
-    entry : (loaded : List ℕ) (e : Entry) → IsSoundEntry (RunsIn v) p loaded e → IsSoundEntry (RunsIn (with_version x v)) p loaded e
-    entry loaded (Active f) is = (is.0, runs f.version f.method is.1)
-    entry loaded (Initializing class part) is = is
+    pub set-up-one : IsSetUp w → IsSetUp (with_table after w)
+    set-up-one set = record { homes = homes_with after number of.home set.homes; has = has-one set.homes set.has }
 
-    entries : (loaded : List ℕ) (stack : List Entry) → AllByRecursion (IsSoundEntry (RunsIn v) p loaded) stack → AllByRecursion (IsSoundEntry (RunsIn (with_version x v)) p loaded) stack
-    entries loaded [] each = tt
-    entries loaded (e ∷ below) each = (entry loaded e each.0, entries loaded below each.1)
-
-  pub set-up-one : IsSetUp w → IsSetUp (with_one x w)
-  set-up-one set = record { homes = with_home (length v.all) of.home set.homes; has = has-one set.homes set.has }
-
-  pub run-of-one : (clock : ℕ) (s : State) → IsRunOf w clock s → IsRunOf (with_one x w) clock s
-  run-of-one clock s is = record {
-    homes = with_home (length v.all) of.home is.homes;
-    has = has-one is.homes is.has;
-    stands = more-stands p (places_of p) is.homes v is.has.are x of.home room s (run w.world clock) is.stands is.sound.stack;
-    sound = record { shared = is.sound.shared; stack = entries is.homes is.has s.shared.loaded s.stack is.sound.stack; main = is.sound.main };
-  }
+    pub run-of-one : (clock : ℕ) (s : State) → IsPinned fs s.stack → IsRunOf w clock s → IsRunOf (with_table after w) clock s
+    run-of-one clock s pinned is =
+        let news : ℕ → ℕ → ℕ = homes_with after number of.home is.homes in
+        let count = count-added p (places_of p) is.homes v is.has.are fs number x of.home after added in
+        let same = same-added p (places_of p) is.homes v is.has.are fs number x of.home after added in
+        record {
+          homes = news;
+          has = has-one is.homes is.has;
+          stands = kept-stands p (places_of p) is.homes v is.has.are fs after news count same s (run w.world clock) is.stands is.sound.stack pinned;
+          sound = record {
+            shared = is.sound.shared;
+            stack = kept-entries p (places_of p) is.homes v is.has.are fs after news count same s.shared.loaded s.stack is.sound.stack pinned;
+            main = is.sound.main;
+          };
+        }
 
 -- ---- versions more
 
-abbrev pub with_all : List Version → Setup → Setup
-with_all xs w = record w { versions = with_versions xs w.versions }
+pub set-up-all : (fs : List PlacedFrame) (xs : List Version) (w : Setup) (after : Versions) → AllByRecursion (IsOfProgram w.world.program) xs → Adds fs xs w.versions after
+    → IsSetUp w → IsSetUp (with_table after w)
+set-up-all fs [] w after of adds set = subst (λ (v : Versions). IsSetUp (with_table v w)) (sym adds) set
+set-up-all fs (x ∷ xs) w after of adds set =
+    set-up-all fs xs (with_table adds.1 w) after of.1 adds.3 (set-up-one w fs adds.1 adds.0 x of.0 adds.2 set)
 
-pub set-up-all : (xs : List Version) (w : Setup) → AllByRecursion (IsOfProgram w.world.program) xs → length w.versions.all + length xs ≤ 4294967296 → IsSetUp w → IsSetUp (with_all xs w)
-set-up-all [] w of room set = set
-set-up-all (x ∷ xs) w of room set =
-    let more : length (w.versions.all ++ x ∷ []) ≡ length w.versions.all + 1 = length-append w.versions.all (x ∷ []) in
-    set-up-all xs (with_one x w) of.1 (omega (arith, room, more)) (set-up-one w x of.0 (omega (arith, room)) set)
+pub run-of-all : (fs : List PlacedFrame) (xs : List Version) (w : Setup) (after : Versions) (clock : ℕ) (s : State) → AllByRecursion (IsOfProgram w.world.program) xs
+    → Adds fs xs w.versions after → IsPinned fs s.stack → IsRunOf w clock s → IsRunOf (with_table after w) clock s
+run-of-all fs [] w after clock s of adds pinned is = subst (λ (v : Versions). IsRunOf (with_table v w) clock s) (sym adds) is
+run-of-all fs (x ∷ xs) w after clock s of adds pinned is =
+    run-of-all fs xs (with_table adds.1 w) after clock s of.1 adds.3 pinned (run-of-one w fs adds.1 adds.0 x of.0 adds.2 clock s pinned is)
 
-pub run-of-all : (xs : List Version) (w : Setup) (clock : ℕ) (s : State) → AllByRecursion (IsOfProgram w.world.program) xs → length w.versions.all + length xs ≤ 4294967296 → IsRunOf w clock s
-    → IsRunOf (with_all xs w) clock s
-run-of-all [] w clock s of room is = is
-run-of-all (x ∷ xs) w clock s of room is =
-    let more : length (w.versions.all ++ x ∷ []) ≡ length w.versions.all + 1 = length-append w.versions.all (x ∷ []) in
-    run-of-all xs (with_one x w) clock s of.1 (omega (arith, room, more)) (run-of-one w x of.0 (omega (arith, room)) clock s is)
+-- ---- the frames of parts are theirs
+
+more-pins : (version : ℕ) (front fs : List PlacedFrame) → pins_of version fs ≤ pins_of version (front ++ fs)
+more-pins version [] fs = omega arith
+more-pins version (f ∷ front) fs = by (f.version == version) refl (more-pins version front fs) where
+  counted : Bool → ℕ → ℕ
+  counted b n = if b then suc n else n
+
+  by : (b : Bool) → (f.version == version) ≡ b → pins_of version fs ≤ pins_of version (front ++ fs) → pins_of version fs ≤ counted (f.version == version) (pins_of version (front ++ fs))
+  by true e more = let on : counted (f.version == version) (pins_of version (front ++ fs)) ≡ suc (pins_of version (front ++ fs)) = ap (λ b. counted b (pins_of version (front ++ fs))) e in omega (arith, on, more)
+  by false e more = let on : counted (f.version == version) (pins_of version (front ++ fs)) ≡ pins_of version (front ++ fs) = ap (λ b. counted b (pins_of version (front ++ fs))) e in omega (arith, on, more)
+
+own-pin : (front : List PlacedFrame) (f : PlacedFrame) (below : List PlacedFrame) → (pins_of f.version (front ++ f ∷ below) == 0) ≡ false
+own-pin front f below =
+    let here : pins_of f.version (f ∷ below) ≡ suc (pins_of f.version below) = ap (λ b. if b then suc (pins_of f.version below) else pins_of f.version below) (eq-eqb f.version f.version refl) in
+    let more = more-pins f.version front (f ∷ below) in
+    ne_eqb (pins_of f.version (front ++ f ∷ below)) 0 (λ none. absurd (omega (arith, none, here, more)))
+
+module _ (all : List PlacedFrame) where
+  behind-markers : (ms : List Marker) (stack : List Entry) → IsPinned all stack → IsPinned all (map initializing ms ++ stack)
+  behind-markers [] stack pinned = pinned
+  behind-markers (m ∷ ms) stack pinned = (tt, behind-markers ms stack pinned)
+
+  pub pinned-stack : (front fs : List PlacedFrame) (ms : List Marker) → all ≡ front ++ fs → IsPinned all (stack_of (map active fs) ms)
+  unfolding stack_of above beneath
+  pinned-stack front [] ms whole = subst (IsPinned all) (append-nil (map initializing ms)) (behind-markers ms [] tt)
+  pinned-stack front (f ∷ below) ms whole =
+      behind-markers (above (suc (length (map active below))) ms) (active f ∷ stack_of (map active below) (beneath (suc (length (map active below))) ms))
+      (subst (λ fs. (pins_of f.version fs == 0) ≡ false) (sym whole) (own-pin front f below),
+      pinned-stack (front ++ f ∷ []) below (beneath (suc (length (map active below))) ms) (whole ∙ sym (append_assoc front (f ∷ []) below)))
+
+pub parts-pinned : (ms : List Marker) (parts : Parts) → IsPinned parts.frames.frames (state_of ms parts).stack
+parts-pinned ms parts = pinned-stack parts.frames.frames [] parts.frames.frames ms refl
+
+-- what stands for the run stands for it when superseded versions are dropped
+pub run-of-released : (old new : Setup) (ms : List Marker) (parts : Parts) (clock : ℕ) → new.world ≡ old.world → Releases parts.frames.frames old.versions new.versions
+    → IsRunOf old clock (state_of ms parts) → IsRunOf new clock (state_of ms parts)
+run-of-released old new ms parts clock same released is =
+    let whole : with_table new.versions old ≡ new = ap (λ (x : World). let u : Setup = record { world = x; versions = new.versions } in u) (sym same) in
+    subst (λ (u : Setup). IsRunOf u clock (state_of ms parts)) whole
+    (run-of-left old parts.frames.frames new.versions released clock (state_of ms parts) (parts-pinned ms parts) is)
 
 -- ---- what is made, and what is installed
 
@@ -158,13 +220,18 @@ made-set_up w p same made few fit closed =
     subst IsSetUp (sym whole)
     (original-set_up w.world (subst IsFit (sym same) fit) (subst HasClosedCodes (sym same) closed) (subst (λ (q : Program). length q.methods ≤ 4294967296) (sym same) few))
 
-module _ (w : Setup) (class : ℕ) (image : ClassFile) (homes : List (Option Homes)) (are : AreMethodImages w.world.program class image homes) (more : List Version)
-    (made : more ≡ class_versions w.world.program class image homes) (room : length w.versions.all + length more ≤ 4294967296) (after : Setup) (added : after ≡ with_all more w) where
-  each-of : HasClosedCodes w.world.program → AllByRecursion (IsOfProgram w.world.program) more
-  each-of closed = subst (AllByRecursion (IsOfProgram w.world.program)) (sym made) (versions-of w.world.program closed class image homes are)
+module _ (w : Setup) (class : ℕ) (image : ClassFile) (homes : List (Option Homes)) (are : AreMethodImages w.world.program class image homes) (fs : List PlacedFrame)
+    (after : Setup) (same : after.world ≡ w.world) (adds : Adds fs (class_versions w.world.program class image homes) w.versions after.versions) where
+  each-of : HasClosedCodes w.world.program → AllByRecursion (IsOfProgram w.world.program) (class_versions w.world.program class image homes)
+  each-of closed = versions-of w.world.program closed class image homes are
+
+  whole : with_table after.versions w ≡ after
+  whole = ap (λ (x : World). let u : Setup = record { world = x; versions = after.versions } in u) (sym same)
 
   pub installed-set_up : IsSetUp w → IsSetUp after
-  installed-set_up set = subst IsSetUp (sym added) (set-up-all more w (each-of set.has.closed) room set)
+  installed-set_up set = subst IsSetUp whole (set-up-all fs (class_versions w.world.program class image homes) w after.versions (each-of set.has.closed) adds set)
 
-  pub installed-stands : (clock : ℕ) (s : State) → IsRunOf w clock s → IsRunOf after clock s
-  installed-stands clock s is = subst (λ (u : Setup). IsRunOf u clock s) (sym added) (run-of-all more w clock s (each-of is.has.closed) room is)
+  pub installed-stands : (clock : ℕ) (s : State) → IsPinned fs s.stack → IsRunOf w clock s → IsRunOf after clock s
+  installed-stands clock s pinned is =
+      subst (λ (u : Setup). IsRunOf u clock s) whole
+      (run-of-all fs (class_versions w.world.program class image homes) w after.versions clock s (each-of is.has.closed) adds pinned is)

@@ -1,9 +1,10 @@
 -- Tables that have at each number what a function gives there.
 use Rattle.std.proofs.Common.{◌≡◌, ℕ, ◌+◌, ◌<◌, ◌≤◌, List, [], ◌∷◌, ◌++◌, Option, Some, None, sym, ap, ◌∙◌, ⊎_elim, zero-add}
-use Rattle.std.specs.Prelude.{map, slice_get}
+use Rattle.std.specs.Prelude.{map, slice_get, slice_index_or}
 use Rattle.std.specs.Option.{option_flatten}
 use Rattle.std.specs.List.{range_with_len}
 use Rattle.std.proofs.lemmas.Bool.{cases_lt}
+use Rattle.std.proofs.lemmas.List.{get_or_past}
 use Rattle.std.proofs.lemmas.List.FromFn.{length-map-range_with_len, get_or-map-range_with_len, map-range_with_len_more}
 use Rattle.std.proofs.lemmas.Option.{slice_get-get_or, slice_get_past}
 
@@ -30,3 +31,10 @@ tabled-place f n place past =
     (λ (lt : place < n). ap option_flatten (tabled-at f n place lt))
     (λ (le : n ≤ place). ap option_flatten (tabled-past f n place le) ∙ sym (past le))
     (cases_lt place n)
+
+-- the same of slots
+pub slotted-at : {X : Type 0} (f : ℕ → Option X) (n k : ℕ) → k < n → slice_index_or (map f (range_with_len 0 n)) k None ≡ f k
+slotted-at f n k lt = get_or-map-range_with_len f 0 n k k None lt (zero-add k)
+
+pub slotted-past : {X : Type 0} (f : ℕ → Option X) (n k : ℕ) → n ≤ k → slice_index_or (map f (range_with_len 0 n)) k None ≡ None
+slotted-past f n k le = get_or_past (map f (range_with_len 0 n)) k None (rw (length-map-range_with_len f 0 n) le)

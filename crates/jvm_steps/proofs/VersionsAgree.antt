@@ -12,9 +12,8 @@ use Rattle.jvm_model.specs.Moved.{Agrees, IsPlace, moved_catcher, moved_instruct
 use Rattle.jvm_model.specs.Originals.{method_handlers, original}
 use Rattle.jvm_model.specs.Programs.{class_at}
 use Rattle.jvm_model.specs.StandsForRun.{IsOfVersions, at_homes, named, norm_by}
-use Rattle.jvm_steps.specs.declared.versions.Version.{Version}
-use Rattle.jvm_steps.specs.declared.versions.Versions.{Versions}
-use Rattle.jvm_steps.specs.Versions.{catcher_in, current_of, first_of, handlers_in, instruction_in, line_in, method_of, text_of, version_at}
+use Rattle.jvm_steps.specs.Tables.{Version, Versions, version_at}
+use Rattle.jvm_steps.specs.Versions.{catcher_in, current_of, first_of, handlers_in, instruction_in, line_in, method_of, text_of}
 use Rattle.jvm_steps.specs.VersionTexts.{AreVersions, IsVersionOf}
 
 -- past the methods there is no code
@@ -44,14 +43,14 @@ module _ (p : Program) (norm : ℕ → ℕ → ℕ) (homes : ℕ → ℕ → ℕ
       (λ (lt : k < length p.methods). let own = are.current k lt in sym (method-held (current_of v k) own.version own.held ∙ own.own))
       (λ (le : length p.methods ≤ k).
       let here : current_of v k ≡ 4294967296 + k = ap (λ o. unwrap_or o (4294967296 + k)) (slice_get_past v.current k (omega (arith, are.count))) in
-      let past : version_at v (4294967296 + k) ≡ None = slice_get_past v.all (4294967296 + k) (omega (arith, are.few)) in
+      let past : version_at v (4294967296 + k) ≡ None = are.far (4294967296 + k) (omega arith) in
       sym (ap (method_of v) here
       ∙ (ap (λ (o : Option Version). option_map_or (λ y. y.method) o (max (4294967296 + k - 4294967296) (length v.current))) past ∙ omega (arith, are.count))))
       (cases_lt k (length p.methods))
 
   first-by : (k : ℕ) (o : Option Version) → version_at v k ≡ o → first_of v k ≡ homes k 0
-  first-by k None is = ap (λ (o : Option Version). option_map_or (λ y. y.first) o 0) is ∙ sym (ap (λ (h : ℕ → ℕ). h 0) (are.unheld k is))
-  first-by k (Some x) is = ap (λ (o : Option Version). option_map_or (λ y. y.first) o 0) is ∙ (are.each k x is).first
+  first-by k None is = ap (λ (o : Option Version). option_map_or (λ y. y.prepared.first) o 0) is ∙ sym (ap (λ (h : ℕ → ℕ). h 0) (are.unheld k is))
+  first-by k (Some x) is = ap (λ (o : Option Version). option_map_or (λ y. y.prepared.first) o 0) is ∙ (are.each k x is).first
 
   lines-by : (k at : ℕ) (o : Option Version) → version_at v k ≡ o → IsPlace norm (method_of v k) at
       → (text_of v).at k (homes k at) ≡ option_map (moved_instruction (homes k)) ((original p).at (method_of v k) at)
@@ -66,10 +65,10 @@ module _ (p : Program) (norm : ℕ → ℕ → ℕ) (homes : ℕ → ℕ → ℕ
 
   handlers-by : (k : ℕ) (o : Option Version) → version_at v k ≡ o → handlers_in v k ≡ map (moved_catcher (homes k)) ((original p).handlers (method_of v k))
   handlers-by k None is =
-      ap (λ (o : Option Version). option_map_or (λ y. map catcher_in y.handlers) o []) is
+      ap (λ (o : Option Version). option_map_or (λ y. map catcher_in y.prepared.handlers) o []) is
       ∙ sym (ap (map (moved_catcher (homes k))) (none-handled p (method_of v k) (method-unheld k is)))
   handlers-by k (Some x) is =
-      ap (λ (o : Option Version). option_map_or (λ y. map catcher_in y.handlers) o []) is
+      ap (λ (o : Option Version). option_map_or (λ y. map catcher_in y.prepared.handlers) o []) is
       ∙ ((are.each k x is).handlers ∙ sym (ap (λ m. map (moved_catcher (homes k)) ((original p).handlers m)) (method-held k x is)))
 
   rises-by : (k a b : ℕ) (o : Option Version) → version_at v k ≡ o → ((original p).handlers (method_of v k) ≡ [] → ⊥) → IsPlace norm (method_of v k) a → IsPlace norm (method_of v k) b

@@ -25,7 +25,7 @@ use Rattle.jvm_model.specs.Families.{rows, family_of}
 use Rattle.jvm_model.specs.Programs.{numbered}
 use Rattle.jvm_model.specs.Run.{step}
 use Rattle.jvm_model.specs.SharedState.{shared_before}
-use Rattle.jvm_steps.specs.declared.versions.Versions.{Versions}
+use Rattle.jvm_steps.specs.Tables.{Versions}
 use Rattle.jvm_steps.specs.Entries.{original_version}
 use Rattle.jvm_steps.specs.Rewritten.{rewritten_version}
 use Rattle.jvm_steps.specs.Versions.{text_of}
@@ -61,7 +61,7 @@ world_of code = record {
 -- its original code, and rewritten code with its homes
 abbrev both : CodeAttribute → CodeAttribute → Homes → Versions
 both old new homes = record {
-  all = original_version (world_of old).program 0 ∷ rewritten_version 0 (class_with new) new homes (length old.code) ∷ [];
+  slots = Some (original_version (world_of old).program 0) ∷ Some (rewritten_version 0 (class_with new) new homes (length old.code)) ∷ [];
   current = 1 ∷ [];
 }
 

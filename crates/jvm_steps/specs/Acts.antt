@@ -40,7 +40,7 @@ use Rattle.jvm_steps.specs.Markers.{is_unmarked, state_of, with_markers}
 use Rattle.jvm_steps.specs.Prepared.{exception_name}
 use Rattle.jvm_steps.specs.States.{frame_in, state_with, state_in}
 use Rattle.jvm_steps.specs.Versions.{Setup, is_athrow, is_last_family, next_in, text_of, line_at}
-use Rattle.jvm_steps.specs.declared.versions.Versions.{Versions}
+use Rattle.jvm_steps.specs.Tables.{Versions}
 
 -- ---- a line in its place
 

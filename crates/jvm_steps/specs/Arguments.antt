@@ -8,7 +8,7 @@ use Rattle.frame_stack.specs.Widths.{height_of}
 use Rattle.jvm_model.specs.Data.{Operands}
 use Rattle.jvm_model.specs.Programs.{max_stack_of, max_locals_of, params_of_method}
 use Rattle.jvm_model.specs.Values.{data_of}
-use Rattle.jvm_steps.specs.declared.versions.Versions.{Versions}
+use Rattle.jvm_steps.specs.Tables.{Versions}
 use Rattle.jvm_steps.specs.Versions.{Setup, current_of, first_of}
 
 -- so many of the topmost operands, the deepest first

@@ -10,12 +10,10 @@ use Rattle.code_model.specs.declared.laying.Homes.{Homes}
 use Rattle.jvm_model.specs.declared.program.Program.{Program}
 use Rattle.jvm_model.specs.Methods.{code_of, method_code}
 use Rattle.jvm_model.specs.Programs.{class_at, number_of_method}
-use Rattle.jvm_steps.specs.declared.versions.Version.{Version}
-use Rattle.jvm_steps.specs.declared.versions.Versions.{Versions}
+use Rattle.jvm_steps.specs.Tables.{Version, Versions}
 use Rattle.jvm_steps.specs.Entries.{original_version}
 use Rattle.jvm_steps.specs.Prepared.{HasShortCodes}
 use Rattle.jvm_steps.specs.Rewritten.{rewritten_version}
-use Rattle.jvm_steps.specs.VersionTexts.{with_version}
 
 -- ---- one method
 
@@ -47,17 +45,6 @@ versions_from p class image homes at (m ∷ rest) = alone (member_version p clas
 
 abbrev pub class_versions : Program → ℕ → ClassFile → List (Option Homes) → List Version
 class_versions p class image homes = option_map_or (λ (c : ClassFile). versions_from p class image homes 0 c.methods) (class_at p class) []
-
--- ---- they are added, one behind the other
-
-abbrev pub with_versions : List Version → Versions → Versions
-with_versions [] v = v
-with_versions (x ∷ xs) v = with_versions xs (with_version x v)
-
--- the versions that methods begin in, with these behind so many others
-abbrev pub currents : ℕ → List Version → List ℕ → List ℕ
-currents id [] current = current
-currents id (x ∷ xs) current = currents (id + 1) xs (slice_set current x.method id)
 
 -- ---- what that needs
 

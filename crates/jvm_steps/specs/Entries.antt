@@ -1,5 +1,5 @@
 -- What is kept of one method of a program.
-use Rattle.std.specs.Prelude.{ℕ, List, [], length, map, slice_get, Option, None, ◌==◌, if◌then◌else◌}
+use Rattle.std.specs.Prelude.{ℕ, List, [], length, map, slice_get, Option, Some, None, ◌==◌, if◌then◌else◌}
 use Rattle.std.specs.List.{range_with_len}
 use Rattle.std.specs.Option.{option_and_then, option_map, option_map_or}
 use Rattle.const_pool.specs.declared.class.ClassFile.{ClassFile}
@@ -15,8 +15,7 @@ use Rattle.jvm_model.specs.Programs.{class_at}
 use Rattle.jvm_steps.specs.declared.line.Line.{Line}
 use Rattle.jvm_steps.specs.declared.originals.Method.{Method}
 use Rattle.jvm_steps.specs.declared.versions.Catching.{Catching}
-use Rattle.jvm_steps.specs.declared.versions.Version.{Version}
-use Rattle.jvm_steps.specs.declared.versions.Versions.{Versions}
+use Rattle.jvm_steps.specs.Tables.{Version, Versions}
 use Rattle.jvm_steps.specs.Lines.{line_of}
 
 -- ---- of a method of a class
@@ -59,13 +58,15 @@ catching_of c h = record { start = h.start; end = h.end; target = h.handler; cat
 abbrev pub version_entry : ℕ → ClassFile → Member → Version
 version_entry k c m = record {
   method = k;
-  first = 0;
-  lines = option_map_or (λ code. lines_of c code.code) (code_of m) [];
-  handlers = option_map_or (λ code. map (catching_of c) code.handlers) (code_of m) [];
+  prepared = record {
+    first = 0;
+    lines = option_map_or (λ code. lines_of c code.code) (code_of m) [];
+    handlers = option_map_or (λ code. map (catching_of c) code.handlers) (code_of m) [];
+  };
 }
 
 abbrev pub no_version : ℕ → Version
-no_version k = record { method = k; first = 0; lines = []; handlers = [] }
+no_version k = record { method = k; prepared = record { first = 0; lines = []; handlers = [] } }
 
 abbrev pub version_in : ℕ → MethodPlace → ClassFile → Version
 version_in k place c = option_map_or (version_entry k c) (slice_get c.methods place.position) (no_version k)
@@ -77,12 +78,15 @@ version_of p k place = option_map_or (version_in k place) (class_at p place.clas
 abbrev pub original_version : Program → ℕ → Version
 original_version p k = option_map_or (version_of p k) (slice_get p.methods k) (no_version k)
 
+abbrev pub original_slot : Program → ℕ → Option Version
+original_slot p k = Some (original_version p k)
+
 abbrev pub own_number : ℕ → ℕ
 own_number k = k
 
 -- original code: each method is in its one version, which has its number
 abbrev pub original_versions : Program → Versions
 original_versions p = record {
-  all = map (original_version p) (range_with_len 0 (length p.methods));
+  slots = map (original_slot p) (range_with_len 0 (length p.methods));
   current = map own_number (range_with_len 0 (length p.methods));
 }

@@ -1,6 +1,7 @@
 pub mod States
 pub mod Markers
 pub mod Lines
+pub mod Tables
 pub mod Versions
 pub mod Ready
 pub mod VersionTexts

@@ -24,7 +24,7 @@ use Rattle.jvm_steps.specs.declared.originals.Exception.{Exception}
 use Rattle.jvm_steps.specs.declared.originals.Exception.TheVariants.{AbstractMethod, Arithmetic, ArrayStore, ClassCast, ClassCircularity, IncompatibleClassChange, InInitializer, IndexOutside, Instantiation, NegativeArraySize, NoClassDefinition, NoSuchField, NoSuchMethod, NullPointer, StackOverflow, UnsatisfiedLink}
 use Rattle.jvm_steps.specs.declared.originals.Exceptions.{Exceptions}
 use Rattle.jvm_steps.specs.Versions.{HasLines}
-use Rattle.jvm_steps.specs.declared.versions.Versions.{Versions}
+use Rattle.jvm_steps.specs.Tables.{Versions}
 
 -- ---- programs whose code can be prepared
 

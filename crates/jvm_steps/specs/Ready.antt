@@ -1,6 +1,6 @@
 -- What steps ask of the code that is run.
-use Rattle.std.specs.Prelude.{◌≡◌, ◌<◌, ◌≤◌, ◌⊎◌, ℕ, List, length, Some}
-use Rattle.jvm_steps.specs.declared.versions.Versions.{Versions}
+use Rattle.std.specs.Prelude.{◌≡◌, ◌<◌, ◌≤◌, ◌⊎◌, ℕ, true, List, length, is_some, Some}
+use Rattle.jvm_steps.specs.Tables.{Versions, version_at}
 use Rattle.std.specs.Option.{IfSome, option_and_then}
 use Rattle.jvm_model.specs.Data.{Locals, Operands, Local, Operation, Within}
 use Rattle.jvm_model.specs.Families.{family_of}
@@ -36,7 +36,7 @@ IsOwnLine line = IsTied line (operation_in line)
 
 -- a version that is held, or none that will ever be
 abbrev pub IsKept : Versions → ℕ → Type 0
-IsKept v version = (version < length v.all) ⊎ (4294967296 ≤ version)
+IsKept v version = (is_some (version_at v version) ≡ true) ⊎ (4294967296 ≤ version)
 
 -- a frame of a method can be in this version
 abbrev pub RunsIn : Versions → ℕ → ℕ → Type 0

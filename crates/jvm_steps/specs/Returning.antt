@@ -4,7 +4,7 @@ use Rattle.heap_objects.specs.declared.datum.Datum.{Datum}
 use Rattle.const_pool.specs.declared.descriptor.Kind.{Kind}
 use Rattle.frame_stack.specs.FrameLists.{top_operands, without_frame}
 use Rattle.jvm_model.specs.Data.{Operands}
-use Rattle.jvm_steps.specs.declared.versions.Versions.{Versions}
+use Rattle.jvm_steps.specs.Tables.{Versions}
 use Rattle.jvm_model.specs.declared.state.State.{State}
 use Rattle.jvm_steps.specs.declared.parts.Parts.{Parts}
 use Rattle.jvm_steps.specs.Acts.{ended, gives_back_line}

@@ -8,7 +8,7 @@ use Rattle.code_model.specs.declared.laying.Homes.{Homes}
 use Rattle.code_model.specs.Layout.{home_of, place_in}
 use Rattle.jvm_steps.specs.declared.line.Line.{Line}
 use Rattle.jvm_steps.specs.declared.versions.Catching.{Catching}
-use Rattle.jvm_steps.specs.declared.versions.Version.{Version}
+use Rattle.jvm_steps.specs.Tables.{Version}
 use Rattle.jvm_steps.specs.Entries.{catching_of, code_line}
 use Rattle.jvm_model.specs.Homed.{start_in}
 
@@ -40,7 +40,9 @@ own_handlers hs = take (length hs - 1) hs
 abbrev pub rewritten_version : ℕ → ClassFile → CodeAttribute → Homes → ℕ → Version
 rewritten_version method image code homes len = record {
   method = method;
-  first = home_of homes 0;
-  lines = homed_lines image code.code homes len;
-  handlers = own_handlers (map (catching_of image) code.handlers);
+  prepared = record {
+    first = home_of homes 0;
+    lines = homed_lines image code.code homes len;
+    handlers = own_handlers (map (catching_of image) code.handlers);
+  };
 }

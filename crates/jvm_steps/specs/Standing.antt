@@ -1,5 +1,8 @@
 -- That what is set up stands for original code: the versions are of the program, whose codes lead to their own places alone, and a state of them stands for the run's.
-use Rattle.std.specs.Prelude.{◌≡◌, ◌<◌, ℕ, List, length, Option, Some}
+use Rattle.std.specs.Prelude.{◌≡◌, ◌<◌, ℕ, false, List, length, Option, Some, ◌==◌}
+use Rattle.frame_stack.specs.FrameLists.{PlacedFrame, pins_of}
+use Rattle.jvm_model.specs.declared.state.Entry.{Entry}
+use Rattle.jvm_model.specs.declared.state.Entry.TheVariants.{Active, Initializing}
 use Rattle.std.specs.List.{AllByRecursion}
 use Rattle.std.specs.Option.{IfSome}
 use Rattle.const_pool.specs.declared.class.ClassFile.{ClassFile}
@@ -15,7 +18,7 @@ use Rattle.jvm_model.specs.Run.{run}
 use Rattle.jvm_model.specs.Sound.{IsFit}
 use Rattle.jvm_model.specs.StandsForRun.{StandsFor}
 use Rattle.jvm_model.specs.Versions.{IsVersion}
-use Rattle.jvm_steps.specs.declared.versions.Version.{Version}
+use Rattle.jvm_steps.specs.Tables.{Version}
 use Rattle.jvm_steps.specs.ClassVersions.{homes_at}
 use Rattle.jvm_steps.specs.LaidMethods.{CanBeLaid, NamesClass}
 use Rattle.jvm_model.specs.ProgramPlaces.{HasClosedCodes, is_place_in}
@@ -44,6 +47,14 @@ pub record IsRunOf (w : Setup) (clock : ℕ) (s : State) : Type 0 where
   pub has : HasVersions w homes
   pub stands : StandsFor (places_of w.world.program) (method_of w.versions) homes s (run w.world clock)
   pub sound : IsSoundIn w s
+
+-- a frame's version is one that these frames run
+abbrev pub IsPinnedEntry : List PlacedFrame → Entry → Type 0
+IsPinnedEntry fs (Active f) = (pins_of f.version fs == 0) ≡ false
+IsPinnedEntry fs (Initializing class part) = Unit {0}
+
+abbrev pub IsPinned : List PlacedFrame → List Entry → Type 0
+IsPinned fs stack = AllByRecursion (IsPinnedEntry fs) stack
 
 -- ---- what is added
 

@@ -5,9 +5,8 @@ use Rattle.jvm_model.specs.declared.program.Program.{Program}
 use Rattle.jvm_model.specs.Data.{Instruction, Operation}
 use Rattle.jvm_model.specs.Moved.{HaveBounds, IsPlace, moved_catcher, moved_instruction}
 use Rattle.jvm_model.specs.Originals.{original}
-use Rattle.jvm_steps.specs.declared.versions.Version.{Version}
-use Rattle.jvm_steps.specs.declared.versions.Versions.{Versions}
-use Rattle.jvm_steps.specs.Versions.{catcher_in, current_of, instruction_in, line_in, version_at}
+use Rattle.jvm_steps.specs.Tables.{Version, Versions, version_at}
+use Rattle.jvm_steps.specs.Versions.{catcher_in, current_of, instruction_in, line_in}
 
 -- an instruction of the method does this
 pub record HasOperation (p : Program) (method : ℕ) (op : Operation) : Type 0 where
@@ -18,10 +17,10 @@ pub record HasOperation (p : Program) (method : ℕ) (op : Operation) : Type 0 w
 
 -- `norm` tells the places of original code by method; `home` where each of them stands in the version.
 pub record IsVersionOf (p : Program) (norm : ℕ → ℕ → ℕ) (x : Version) (home : ℕ → ℕ) : Type 0 where
-  pub first : x.first ≡ home 0
+  pub first : x.prepared.first ≡ home 0
   pub lines : (at : ℕ) → IsPlace norm x.method at → option_map instruction_in (line_in (home at) x) ≡ option_map (moved_instruction home) ((original p).at x.method at)
   pub only : (k : ℕ) (i : Instruction) → option_map instruction_in (line_in k x) ≡ Some i → HasOperation p x.method i.operation
-  pub handlers : map catcher_in x.handlers ≡ map (moved_catcher home) ((original p).handlers x.method)
+  pub handlers : map catcher_in x.prepared.handlers ≡ map (moved_catcher home) ((original p).handlers x.method)
   pub rises : (a b : ℕ) → ((original p).handlers x.method ≡ [] → ⊥) → IsPlace norm x.method a → IsPlace norm x.method b → a < b → home a < home b
 
 -- a method of the program begins in a version of its own
@@ -36,14 +35,20 @@ pub record AreVersions (p : Program) (norm : ℕ → ℕ → ℕ) (homes : ℕ �
   pub unheld : (k : ℕ) → version_at v k ≡ None → homes k ≡ (λ at. at)
   pub current : (k : ℕ) → k < length p.methods → HasCurrent v k
   pub count : length v.current ≡ length p.methods
-  pub few : length v.all ≤ 4294967296
+  pub far : (k : ℕ) → 4294967296 ≤ k → version_at v k ≡ None
   pub bounds : (k : ℕ) → HaveBounds norm k ((original p).handlers k)
 
--- ---- one more
+-- ---- another table
 
--- it becomes current
-abbrev pub with_version : Version → Versions → Versions
-with_version x v = record { all = v.all ++ x ∷ []; current = slice_set v.current x.method (length v.all) }
+-- the homes of the versions that are held; elsewhere each place is at home
+abbrev pub homes_where : Option Version → (ℕ → ℕ) → ℕ → ℕ
+homes_where None home = λ at. at
+homes_where (Some x) home = home
 
-abbrev pub with_home : ℕ → (ℕ → ℕ) → (ℕ → ℕ → ℕ) → ℕ → ℕ → ℕ
-with_home version home homes k = if k == version then home else homes k
+-- of a table that may hold fewer versions
+abbrev pub homes_left : Versions → (ℕ → ℕ → ℕ) → ℕ → ℕ → ℕ
+homes_left v homes k = homes_where (version_at v k) (homes k)
+
+-- of one that has a version more
+abbrev pub homes_with : Versions → ℕ → (ℕ → ℕ) → (ℕ → ℕ → ℕ) → ℕ → ℕ → ℕ
+homes_with v number home homes k = if k == number then home else homes_left v homes k

@@ -2,6 +2,7 @@
 -- Original code is the case in which a method has one version, and its places are its offsets.
 use Rattle.std.specs.Prelude.{◌≡◌, ◌≤◌, ℕ, ◌^◌, ◌-◌, ◌+◌, List, [], length, map, max, slice_get, unwrap_or, Bool, true, false, Option, Some, None, if◌then◌else◌}
 use Rattle.std.specs.Option.{IfSome, option_and_then, option_flatten, option_map, option_map_or}
+use Rattle.method_versions.specs.Tables.{current_in}
 use Rattle.jvm_model.specs.Data.{Catcher, Instruction, Local, Nop, Return, Operation, Within, Named, Athrow, Monitor, Newarray, Arraylength, LoadElement, StoreElement, LdcString, Text, World}
 use Rattle.jvm_model.specs.Families.{family_of}
 use Rattle.jvm_model.specs.Lines.{local_of, next_of, targets_of}
@@ -15,8 +16,7 @@ use Rattle.jvm_steps.specs.declared.line.Action.{Action}
 use Rattle.jvm_steps.specs.declared.line.Action.TheVariants as action
 use Rattle.jvm_steps.specs.declared.line.Line.{Line}
 use Rattle.jvm_steps.specs.declared.versions.Catching.{Catching}
-use Rattle.jvm_steps.specs.declared.versions.Version.{Version}
-use Rattle.jvm_steps.specs.declared.versions.Versions.{Versions}
+use Rattle.jvm_steps.specs.Tables.{Version, Versions, version_at}
 
 -- ---- what is run
 
@@ -27,11 +27,8 @@ pub record Setup : Type 0 where
 
 -- ---- look-ups
 
-abbrev pub version_at : Versions → ℕ → Option Version
-version_at v version = slice_get v.all version
-
 abbrev pub line_in : ℕ → Version → Option Line
-line_in place x = option_flatten (slice_get x.lines place)
+line_in place x = option_flatten (slice_get x.prepared.lines place)
 
 -- at a place of a version
 abbrev pub line_at : Versions → ℕ → ℕ → Option Line
@@ -49,7 +46,7 @@ pub record HasOwnLines (x : Version) : Type 0 where
 
 -- The version in which a method begins. One that is none of the program's begins in a version that none is.
 abbrev pub current_of : Versions → ℕ → ℕ
-current_of v method = unwrap_or (slice_get v.current method) (4294967296 + method)
+current_of v method = unwrap_or (current_in v.current method) (4294967296 + method)
 
 -- The method that a version is of. One that is not held is of none of the program's, and each of these has its own.
 abbrev pub method_of : Versions → ℕ → ℕ
@@ -57,7 +54,7 @@ method_of v version = option_map_or (λ (x : Version). x.method) (version_at v v
 
 -- where a version begins
 abbrev pub first_of : Versions → ℕ → ℕ
-first_of v version = option_map_or (λ (x : Version). x.first) (version_at v version) 0
+first_of v version = option_map_or (λ (x : Version). x.prepared.first) (version_at v version) 0
 
 -- ---- where a frame goes on behind its line
 
@@ -112,7 +109,7 @@ abbrev pub catcher_in : Catching → Catcher
 catcher_in h = record { start = h.start; finish = h.end; target = h.target; catches = h.catches }
 
 abbrev pub handlers_in : Versions → ℕ → List Catcher
-handlers_in v version = option_map_or (λ (x : Version). map catcher_in x.handlers) (version_at v version) []
+handlers_in v version = option_map_or (λ (x : Version). map catcher_in x.prepared.handlers) (version_at v version) []
 
 abbrev pub text_of : Versions → Text
 text_of v = record {

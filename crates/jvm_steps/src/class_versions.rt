@@ -1,25 +1,24 @@
 //! The versions of a class's methods for an image of the class.
 
-ghost use Rattle.std.specs.Prelude.{◌≡◌, ◌<◌, ◌≤◌, ◌^◌, ◌+◌, ◌++◌, drop, length, slice_get, slice_set, IfOk, OnErr, OnOk};
+ghost use Rattle.std.specs.Prelude.{◌≡◌, ◌<◌, ◌^◌, ◌++◌, length, slice_get, IfOk, OnOk};
 ghost use Rattle.std.specs.Option.{option_and_then, option_copied, option_flatten, IfSome};
 ghost use Rattle.jvm_model.specs.Methods.{code_of, method_code};
 ghost use Rattle.jvm_named.specs.Numbers.{AreNumbers};
 ghost use Rattle.jvm_steps.specs.ClassVersions.{AreRising, FitsImage, class_version, class_versions};
-ghost use Rattle.jvm_steps.specs.ClassVersions.{alone, currents, homes_at, member_version};
-ghost use Rattle.jvm_steps.specs.ClassVersions.{versions_from, with_versions};
+ghost use Rattle.jvm_steps.specs.ClassVersions.{alone, homes_at, member_version};
+ghost use Rattle.jvm_steps.specs.ClassVersions.{versions_from};
 ghost use Rattle.jvm_steps.specs.Prepared.{FitsOriginals, HasShortCodes};
 
 use crate::members::code_of;
 use crate::preparing::original_version;
 use crate::rewritten::rewritten_version;
-use crate::versions::{Version, Versions};
+use crate::versions::Version;
 use code_model::Homes;
 use const_pool::{ClassFile, CodeAttribute, Member};
 use jf_bytes::{NoMemory, Seq};
 use jvm_model::Program;
 use jvm_named::MethodNumbers;
 use std::alloc::Global;
-use std::mem;
 
 // ---- one method
 
@@ -149,63 +148,4 @@ pub fn class_versions(
         return Ok(Seq::new(alloc));
     };
     versions_of(alloc, program, numbers, class, file, image, homes)
-}
-
-// ---- they are added
-
-/// Puts versions behind others. An `Err` changes nothing.
-fn append(alloc: Global, all: &mut Seq<Version>, more: Seq<Version>) -> Result<(), NoMemory>
-    ensures ok { OnOk result (all.new ≡ all.old ++ more) }
-    ensures err { OnErr result (all.new ≡ all.old) }
-{
-    let mut joined = mem::replace(all, Seq::new(alloc)).into_vec();
-    let mut more = more.into_vec();
-    let appended = joined.append(&mut more);
-    *all = Seq::from_vec(joined);
-    match appended {
-        Ok(()) => Ok(()),
-        Err(_) => Err(NoMemory),
-    }
-}
-
-/// A method begins in a version from then on; one that is none changes nothing.
-fn begin_in(current: &mut Seq<u32>, method: u32, version: u32)
-    ensures { current.new ≡ slice_set current.old method version }
-{
-    if (method as usize) < current.len() {
-        current.set(method as usize, version);
-    }
-}
-
-/// Methods begin in these versions, which have numbers from this one on.
-fn begin_in_each(current: &mut Seq<u32>, versions: &[Version], first: usize)
-    requires { first + length versions.now ≤ 4294967296 }
-    ensures { current.new ≡ currents first versions.now current.old }
-{
-    for (at, version) in versions.iter().enumerate() {
-        begin_in(current, version.method, (first + at) as u32);
-    }
-}
-
-/// The versions behind so many others.
-fn behind(versions: &[Version], before: usize) -> &[Version]
-    ensures { result.now ≡ drop before versions.now }
-{
-    versions.get(before..).unwrap_or(&[])
-}
-
-/// Adds versions, in which their methods begin from then on. An `Err` changes nothing.
-pub fn add_all(alloc: Global, versions: &mut Versions, more: Seq<Version>) -> Result<(), NoMemory>
-    ensures ok { OnOk result (versions.new ≡ with_versions more versions.old) }
-    ensures room { OnOk result (length versions.old.all + length more ≤ 4294967296) }
-    ensures err { OnErr result (versions.new ≡ versions.old) }
-{
-    let before = versions.all.len();
-    if more.len() > 4294967296 || before > 4294967296 - more.len() {
-        return Err(NoMemory);
-    }
-    append(alloc, &mut versions.all, more)?;
-    let added = behind(versions.all.as_slice(), before);
-    begin_in_each(&mut versions.current, added, before);
-    Ok(())
 }

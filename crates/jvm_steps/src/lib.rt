@@ -54,4 +54,4 @@ pub use parts::{Here, Parts, where_now};
 pub use raising::raise;
 pub use starting::parts_before;
 pub use stepping::{run, step};
-pub use versions::{Catching, Version, Versions};
+pub use versions::{Catching, PreparedCode, Version, Versions};

@@ -15,21 +15,21 @@ ghost use Rattle.jvm_named.specs.Attempts.{attempts, loaded_for, world_over};
 ghost use Rattle.jvm_named.specs.Natives.{HasBuiltIn};
 ghost use Rattle.jvm_named.specs.Numbers.{AreNumbers};
 ghost use Rattle.jvm_named.specs.Objects.{AreLoaded, HasDimensions, HasLoadedCaller};
+ghost use Rattle.jvm_steps.specs.Tables.{Adds, AreAllCurrent, Releases, version_at};
 ghost use Rattle.jvm_steps.specs.Lines.{IfNamed, IfNamedBy};
 ghost use Rattle.jvm_steps.specs.Linked.{linker_in};
 ghost use Rattle.jvm_steps.specs.Prepared.{FitsOriginals, built_in_named, exception_kind};
 ghost use Rattle.jvm_steps.specs.Prepared.{main_name};
 ghost use Rattle.jvm_steps.specs.Entries.{original_versions};
-ghost use Rattle.jvm_steps.specs.Versions.{HasOwnLines, current_of, first_of, version_at};
-ghost use Rattle.jvm_steps.specs.VersionTexts.{with_version};
+ghost use Rattle.jvm_steps.specs.Versions.{current_of, first_of};
 ghost use Rattle.jvm_model.specs.declared.state.State.{State};
 ghost use Rattle.jvm_model.specs.Sound.{IsFit};
-ghost use Rattle.jvm_steps.specs.ClassVersions.{FitsImage, class_versions, with_versions};
+ghost use Rattle.jvm_steps.specs.ClassVersions.{FitsImage, class_versions};
 ghost use Rattle.jvm_model.specs.ProgramPlaces.{HasClosedCodes};
-ghost use Rattle.jvm_steps.specs.Standing.{AreMethodImages, IsRunOf, IsSetUp};
+ghost use Rattle.jvm_steps.specs.Standing.{AreMethodImages, IsPinned, IsRunOf, IsSetUp};
 ghost use Rattle.jvm_steps.specs.Versions.{line_at};
 
-use crate::class_versions::{add_all, class_versions};
+use crate::class_versions::class_versions;
 use crate::elements::units_of;
 use crate::line::{Action, Line};
 use crate::loading::{link_main, load_built_in, main_name};
@@ -251,11 +251,11 @@ impl Originals {
 
     /// The handlers of a version.
     pub fn handlers(&self, version: usize) -> Option<&Seq<Catching>>
-        ensures { option_copied result ≡ option_map (λ x. x.handlers)
+        ensures { option_copied result ≡ option_map (λ x. x.prepared.handlers)
             (version_at self.now.setup.versions version) }
     {
         match version_at(&self.versions, version) {
-            Some(version) => Some(&version.handlers),
+            Some(version) => Some(&version.prepared.handlers),
             None => None,
         }
     }
@@ -329,38 +329,20 @@ impl Originals {
 
     // ---- versions
 
-    /// Adds a version of a method, which begins in it from then on. After want of memory nothing has changed.
-    pub fn add(&mut self, version: Version) -> Result<(), NoMemory>
-        requires method { version.method < length self.old.setup.versions.current }
-        requires few { length self.old.setup.versions.all < 4294967296 }
-        requires lines { HasOwnLines version }
-        ensures ok { OnOk result
-            (self.new.setup.versions ≡ with_version version self.old.setup.versions) }
-        ensures err { OnErr result (self.new.setup.versions ≡ self.old.setup.versions) }
-        ensures world { self.new.setup.world ≡ self.old.setup.world }
-        ensures loaded { self.new.loaded ≡ self.old.loaded }
-    {
-        let id = self.versions.all.len() as u32;
-        let method = version.method as usize;
-        let Ok(()) = self.versions.all.push(version) else {
-            return Err(NoMemory);
-        };
-        self.versions.current.set(method, id);
-        Ok(())
-    }
-
     /// Adds the versions of a class's methods for an image of the class, in which they begin from then on: where homes tell of
-    /// a method the version that it has in the image, else its original code. After want of memory nothing has changed.
+    /// a method the version that it has in the image, else its original code. Frames keep the versions that they run; a former
+    /// version that none runs is dropped. After want of memory nothing has changed.
     pub fn install(
         &mut self,
         alloc: Global,
         class: u32,
         image: &ClassFile,
         homes: &[Option<Homes>],
+        frames: &Frames,
     ) -> Result<(), NoMemory>
         requires { FitsImage image.now homes.now }
-        ensures ok { let w = self.old.setup in OnOk result (self.new.setup.versions ≡ with_versions
-            (class_versions w.world.program class image.now homes.now) w.versions) }
+        ensures ok { let w = self.old.setup in OnOk result (Adds frames.now.frames
+            (class_versions w.world.program class image.now homes.now) w.versions self.new.setup.versions) }
         ensures err { OnErr result (self.new.setup.versions ≡ self.old.setup.versions) }
         ensures world { self.new.setup.world ≡ self.old.setup.world }
         ensures loaded { self.new.loaded ≡ self.old.loaded }
@@ -368,12 +350,22 @@ impl Originals {
         ensures set_up { let w = self.old.setup in OnOk result (AreMethodImages w.world.program
             class image.now homes.now → IsSetUp w → IsSetUp self.new.setup) }
         ensures stands { let w = self.old.setup in OnOk result (AreMethodImages w.world.program
-            class image.now homes.now → (clock : ℕ) (s : State) → IsRunOf w clock s
-            → IsRunOf self.new.setup clock s) }
+            class image.now homes.now → (clock : ℕ) (s : State) → IsPinned frames.now.frames s.stack
+            → IsRunOf w clock s → IsRunOf self.new.setup clock s) }
     {
         let program = self.linker.program();
         let more = class_versions(alloc, program, &self.numbers, class, image, homes)?;
-        add_all(alloc, &mut self.versions, more)
+        self.versions.add_all(more, frames)
+    }
+
+    /// Drops each superseded version that no frame runs.
+    pub fn release(&mut self, frames: &Frames)
+        ensures released { Releases frames.now.frames self.old.setup.versions self.new.setup.versions }
+        ensures same { AreAllCurrent self.old.setup.versions → self.new.setup ≡ self.old.setup }
+        ensures world { self.new.setup.world ≡ self.old.setup.world }
+        ensures loaded { self.new.loaded ≡ self.old.loaded }
+    {
+        self.versions.release(frames);
     }
 
     // ---- loading

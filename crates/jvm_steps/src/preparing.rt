@@ -18,10 +18,11 @@ use crate::naming::class_in;
 use crate::objects::kind_for;
 use crate::originals::{Exceptions, Method};
 use crate::resolving::line_of;
-use crate::versions::{Catching, Version, Versions};
+use crate::versions::{Catching, PreparedCode, Version, Versions};
 use code_model::instr_at;
 use const_pool::{ClassFile, Handler, Kind, Member};
 use jf_bytes::{NoMemory, Seq, Text16};
+use method_versions::Held;
 use jvm_model::{MethodPlace, Program};
 use std::alloc::Global;
 
@@ -177,11 +178,13 @@ pub fn handlers_of(
 fn no_version(alloc: Global, method: u32) -> Version
     ensures { result ≡ no_version method }
 {
-    Version {
+    Held {
         method,
-        first: 0,
-        lines: Seq::new(alloc),
-        handlers: Seq::new(alloc),
+        prepared: PreparedCode {
+            first: 0,
+            lines: Seq::new(alloc),
+            handlers: Seq::new(alloc),
+        },
     }
 }
 
@@ -198,11 +201,15 @@ fn version_entry(
     let Some(code) = code_of(member) else {
         return Ok(no_version(alloc, method));
     };
-    Ok(Version {
+    let lines = lines_of(alloc, class, code.code.as_slice())?;
+    let handlers = handlers_of(alloc, class, code.handlers.as_slice())?;
+    Ok(Held {
         method,
-        first: 0,
-        lines: lines_of(alloc, class, code.code.as_slice())?,
-        handlers: handlers_of(alloc, class, code.handlers.as_slice())?,
+        prepared: PreparedCode {
+            first: 0,
+            lines,
+            handlers,
+        },
     })
 }
 
@@ -237,25 +244,25 @@ pub fn original_version(alloc: Global, program: &Program, method: u32) -> Result
 }
 
 /// The version of each method, by its number.
-fn all_versions(alloc: Global, program: &Program) -> Result<Seq<Version>, NoMemory>
+fn all_versions(alloc: Global, program: &Program) -> Result<Seq<Option<Version>>, NoMemory>
     requires { FitsOriginals program.now }
-    ensures { IfOk result (λ all. all ≡ (original_versions program.now).all) }
+    ensures { IfOk result (λ all. all ≡ (original_versions program.now).slots) }
 {
     let mut all = Seq::with_capacity(alloc, program.methods.len())?;
     for method in 0..program.methods.len() as u32 {
         let version = original_version(alloc, program, method)?;
-        all.push(version)?;
+        all.push(Some(version))?;
     }
     Ok(all)
 }
 
 /// The numbers of so many methods.
-fn numbers_to(alloc: Global, count: u32) -> Result<Seq<u32>, NoMemory>
+fn numbers_to(alloc: Global, count: u32) -> Result<Seq<usize>, NoMemory>
     ensures { IfOk result (λ all. all ≡ map own_number (range_with_len 0 count)) }
 {
     let mut all = Seq::with_capacity(alloc, count as usize)?;
     for method in 0..count {
-        all.push(method)?;
+        all.push(method as usize)?;
     }
     Ok(all)
 }
@@ -267,7 +274,7 @@ pub fn prepare_versions(alloc: Global, program: &Program) -> Result<Versions, No
 {
     let all = all_versions(alloc, program)?;
     let current = numbers_to(alloc, program.methods.len() as u32)?;
-    Ok(Versions { all, current })
+    Ok(Versions::of(alloc, all, current))
 }
 
 /// The kinds of the exceptions that instructions raise, and of texts.

@@ -9,10 +9,11 @@ ghost use Rattle.jvm_steps.specs.Rewritten.{rewritten_version};
 
 use crate::line::Line;
 use crate::preparing::{code_line, handlers_of};
-use crate::versions::{Catching, Version};
+use crate::versions::{Catching, PreparedCode, Version};
 use code_model::Homes;
 use const_pool::{ClassFile, CodeAttribute};
 use jf_bytes::{NoMemory, Seq};
+use method_versions::Held;
 use std::alloc::Global;
 
 /// What stands beside a number among numbers that rise; it is found by halves.
@@ -142,10 +143,13 @@ pub fn rewritten_version(
     ensures { IfOk result (λ version. version ≡ rewritten_version method image.now code.now homes.now len) }
 {
     let handlers = handlers_of(alloc, image, code.handlers.as_slice())?;
-    Ok(Version {
+    let lines = homed_lines(alloc, image, code.code.as_slice(), homes, len)?;
+    Ok(Held {
         method,
-        first: homes.home_of(0),
-        lines: homed_lines(alloc, image, code.code.as_slice(), homes, len)?,
-        handlers: own_handlers(handlers),
+        prepared: PreparedCode {
+            first: homes.home_of(0),
+            lines,
+            handlers: own_handlers(handlers),
+        },
     })
 }

@@ -10,6 +10,7 @@ ghost use Rattle.jvm_steps.specs.Ready.{CanRun, IsSoundIn};
 ghost use Rattle.jvm_steps.specs.Markers.{is_unmarked, state_of};
 ghost use Rattle.jvm_steps.specs.Runs.{Leads};
 ghost use Rattle.jvm_steps.specs.Standing.{IsRunOf};
+ghost use Rattle.jvm_steps.specs.Tables.{AreAllCurrent, Releases};
 ghost use Rattle.jvm_steps.specs.Versions.{text_of};
 
 use crate::attempting::attempt;
@@ -105,7 +106,8 @@ fn step_once(
     finish(alloc, originals, parts, markers)
 }
 
-/// The same, behind which the state stands for the run of original code where it has stood for it.
+/// The same, behind which the state stands for the run of original code where it has stood for it. A superseded version that
+/// no frame runs then is dropped.
 pub fn step(
     alloc: Global,
     originals: &mut Originals,
@@ -115,15 +117,21 @@ pub fn step(
     requires linked { originals.old.loaded ≡ parts.old.shared.loaded }
     requires fit { CanRun originals.old.setup }
     requires sound { IsSoundIn originals.old.setup (state_of markers.old parts.old) }
-    ensures world { originals.new.setup ≡ originals.old.setup }
+    ensures world { originals.new.setup.world ≡ originals.old.setup.world }
+    ensures released { OnOk result (Releases parts.new.frames.frames originals.old.setup.versions
+        originals.new.setup.versions) }
+    ensures same { AreAllCurrent originals.old.setup.versions
+        → originals.new.setup ≡ originals.old.setup }
     ensures linked { OnOk result (originals.new.loaded ≡ parts.new.shared.loaded) }
     ensures state { let w = originals.old.setup in let s = state_of markers.old parts.old in
         OnOk result (state_of markers.new parts.new ≡ (step w.world (text_of w.versions) s).after) }
     ensures stands { let w = originals.old.setup in
         (clock : ℕ) → IsRunOf w clock (state_of markers.old parts.old)
-        → OnOk result (IsRunOf w (clock + 1) (state_of markers.new parts.new)) }
+        → OnOk result (IsRunOf originals.new.setup (clock + 1) (state_of markers.new parts.new)) }
 {
-    step_once(alloc, originals, parts, markers)
+    step_once(alloc, originals, parts, markers)?;
+    originals.release(&parts.frames);
+    Ok(())
 }
 
 /// Steps that the current frame does by itself, at most so many: how many it has made.
@@ -166,12 +174,12 @@ fn step_on(
     if plain == most {
         return Ok(plain);
     }
-    step(alloc, originals, parts, markers)?;
+    step_once(alloc, originals, parts, markers)?;
     Ok(plain + 1)
 }
 
 /// Steps of what is set up, at most so many, and none behind the end of the run: how many it has made.
-pub fn run(
+fn steps_on(
     alloc: Global,
     originals: &mut Originals,
     parts: &mut Parts,
@@ -187,13 +195,41 @@ pub fn run(
     ensures made { IfOk result (λ n. Leads originals.old.setup (state_of markers.old parts.old) n
         (state_of markers.new parts.new)) }
     ensures ended { IfOk result (λ n. n < most → is_some parts.new.ending ≡ true) }
-    ensures stands { let w = originals.old.setup in IfOk result (λ n. (clock : ℕ)
-        → IsRunOf w clock (state_of markers.old parts.old)
-        → IsRunOf w (clock + n) (state_of markers.new parts.new)) }
 {
     let mut made = 0;
     while made < most && parts.ending.is_none() {
         made += step_on(alloc, originals, parts, markers, most - made)?;
     }
+    Ok(made)
+}
+
+/// The same, behind which the state stands for the run of original code where it has stood for it. A superseded version that
+/// no frame runs then is dropped.
+pub fn run(
+    alloc: Global,
+    originals: &mut Originals,
+    parts: &mut Parts,
+    markers: &mut Stack<Marker>,
+    most: u64,
+) -> Result<u64, NoMemory>
+    requires linked { originals.old.loaded ≡ parts.old.shared.loaded }
+    requires fit { CanRun originals.old.setup }
+    requires sound { IsSoundIn originals.old.setup (state_of markers.old parts.old) }
+    ensures world { originals.new.setup.world ≡ originals.old.setup.world }
+    ensures released { OnOk result (Releases parts.new.frames.frames originals.old.setup.versions
+        originals.new.setup.versions) }
+    ensures same { AreAllCurrent originals.old.setup.versions
+        → originals.new.setup ≡ originals.old.setup }
+    ensures linked { OnOk result (originals.new.loaded ≡ parts.new.shared.loaded) }
+    ensures within { IfOk result (λ n. n ≤ most) }
+    ensures made { IfOk result (λ n. Leads originals.old.setup (state_of markers.old parts.old) n
+        (state_of markers.new parts.new)) }
+    ensures ended { IfOk result (λ n. n < most → is_some parts.new.ending ≡ true) }
+    ensures stands { let w = originals.old.setup in IfOk result (λ n. (clock : ℕ)
+        → IsRunOf w clock (state_of markers.old parts.old)
+        → IsRunOf originals.new.setup (clock + n) (state_of markers.new parts.new)) }
+{
+    let made = steps_on(alloc, originals, parts, markers, most)?;
+    originals.release(&parts.frames);
     Ok(made)
 }

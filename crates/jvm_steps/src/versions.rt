@@ -1,12 +1,18 @@
 //! The code that is run, prepared: versions of methods, each with what stands at its places, and the version that each method
 //! begins in.
 
-ghost use Rattle.std.specs.Prelude.{◌≡◌, ◌<◌, ◌^◌, length, slice_get};
-ghost use Rattle.std.specs.Option.{option_and_then, option_copied};
-ghost use Rattle.jvm_steps.specs.Versions.{current_of, first_of, line_at, line_in, version_at};
+ghost use Rattle.std.specs.Prelude.{◌≡◌, ◌≤◌, ℕ, length, IfSome, OnErr, OnOk};
+ghost use Rattle.std.specs.Option.{option_copied};
+ghost use Rattle.method_versions.specs.Tables.{IsFirst};
+ghost use Rattle.jvm_steps.specs.Tables.{Adds, AreAllCurrent, AreOfMethods, Releases, seen, version_at};
+ghost use Rattle.jvm_steps.specs.Versions.{current_of, first_of, line_at};
 
 use crate::line::Line;
-use jf_bytes::{Seq, Text16};
+use frame_stack::Frames;
+use jf_bytes::{NoMemory, Seq, Text16};
+use method_versions::{Held, Versions as Table};
+use std::alloc::Global;
+use std::marker::Model;
 
 /// An entry of an exception table (JVM Specification 2.10, 4.7.3), by places, with the name of the class that it catches.
 #[derive(Drop)]
@@ -17,47 +23,98 @@ pub struct Catching {
     pub catches: Option<Text16>,
 }
 
-/// A version of a method: where it begins, the line at each of its places, and its handlers.
+/// The code of a version: where it begins, the line at each of its places, and its handlers.
 #[derive(Drop)]
-pub struct Version {
-    pub method: u32,
+pub struct PreparedCode {
     pub first: u16,
     pub lines: Seq<Option<Line>>,
     pub handlers: Seq<Catching>,
 }
 
+/// A version of a method.
+pub type Version = Held<PreparedCode>;
+
 /// The versions of a program's methods by their numbers, and for each method the one that it begins in.
 #[derive(Drop)]
 pub struct Versions {
-    pub all: Seq<Version>,
-    pub current: Seq<u32>,
+    table: Table<PreparedCode>,
+}
+
+impl Model for Versions {
+    ghost use Rattle.jvm_steps.specs.Tables as tables;
+    ghost use Rattle.jvm_steps.specs.Tables.{seen};
+
+    ghost Value = { tables.Versions };
+
+    ghost view = { λ v. seen v.table };
+}
+
+impl Versions {
+    /// A table of these versions, by their numbers. Each method begins in its own.
+    pub fn of(alloc: Global, first: Seq<Option<Version>>, current: Seq<usize>) -> Versions
+        requires { IsFirst first current }
+        ensures slots { result.slots ≡ first }
+        ensures current { result.current ≡ current }
+    {
+        Versions {
+            table: Table::of(alloc, first.into_vec(), current.into_vec()),
+        }
+    }
+
+    /// Adds versions, in which their methods begin from then on. The former ones are dropped where no frame runs them. An `Err`
+    /// changes nothing.
+    pub fn add_all(&mut self, more: Seq<Version>, frames: &Frames) -> Result<(), NoMemory>
+        requires { AreOfMethods (length self.old.current) more }
+        ensures ok { OnOk result (Adds frames.now.frames more self.old self.new) }
+        ensures err { OnErr result (self.new ≡ self.old) }
+    {
+        self.table.reserve(more.len())?;
+        add_each(&mut self.table, more, frames);
+        Ok(())
+    }
+
+    /// Drops each superseded version that no frame runs.
+    pub fn release(&mut self, frames: &Frames)
+        ensures released { Releases frames.now.frames self.old self.new }
+        ensures same { AreAllCurrent self.old → self.new ≡ self.old }
+    {
+        self.table.release(frames);
+    }
+}
+
+/// Adds versions, for which there is room.
+fn add_each(table: &mut Table<PreparedCode>, more: Seq<Version>, frames: &Frames)
+    requires room { length more ≤ table.old.spare }
+    requires methods { AreOfMethods (length table.old.current) more }
+    ensures { Adds frames.now.frames more (seen table.old) (seen table.new) }
+{
+    for version in more.into_vec() {
+        let Held { method, prepared } = version;
+        table.add(method, prepared, frames);
+    }
 }
 
 /// The version with this number.
 pub fn version_at(versions: &Versions, version: usize) -> Option<&Version>
     ensures { option_copied result ≡ version_at versions.now version }
 {
-    versions.all.get(version)
+    versions.table.get(version)
 }
 
-/// The line at a place of a version, by two look-ups.
+/// The line at a place of a version.
 pub fn line_at(versions: &Versions, version: usize, place: u16) -> Option<&Line>
     ensures { option_copied result ≡ line_at versions.now version place }
 {
-    versions
-        .all
-        .get(version)?
-        .lines
-        .get(place as usize)?
-        .as_ref()
+    let held = versions.table.get(version)?;
+    held.prepared.lines.get(place as usize)?.as_ref()
 }
 
 /// The version in which a method begins.
 pub fn current_of(versions: &Versions, method: u32) -> usize
     ensures { result ≡ current_of versions.now method }
 {
-    match versions.current.get(method as usize) {
-        Some(version) => *version as usize,
+    match versions.table.current(method) {
+        Some(version) => version,
         None => 4294967296 + method as usize,
     }
 }
@@ -66,8 +123,8 @@ pub fn current_of(versions: &Versions, method: u32) -> usize
 pub fn first_of(versions: &Versions, version: usize) -> u16
     ensures { result ≡ first_of versions.now version }
 {
-    match versions.all.get(version) {
-        Some(version) => version.first,
+    match versions.table.get(version) {
+        Some(held) => held.prepared.first,
         None => 0,
     }
 }

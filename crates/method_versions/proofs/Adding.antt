@@ -33,7 +33,7 @@ none-one x e = cc
 one-same : (a b : ℕ) → Some a ≡ Some b → a ≡ b
 one-same a b e = cc
 
-apart-by : (a b : ℕ) → (a == b) ≡ false → a ≢ b
+pub apart-by : (a b : ℕ) → (a == b) ≡ false → a ≢ b
 apart-by a b e same = false-true (sym e ∙ eq-eqb a b same)
 
 -- what is held at a number behind it

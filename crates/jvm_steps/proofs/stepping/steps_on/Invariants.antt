@@ -2,7 +2,7 @@
 use Rattle.std.proofs.Common.{◌≡◌, ◌≤◌, ◌-◌}
 use Rattle.jvm_steps.specs.Markers.{state_of}
 use Rattle.jvm_steps.specs.Runs.{Leads}
-use Rattle.jvm_steps.proofs.stepping.run.Given as goal
+use Rattle.jvm_steps.proofs.stepping.steps_on.Given as goal
 
 pub record Loops (l : goal.Live-loop-made) : Type 0 where
   pub within : l.made ≤ l.most
