@@ -8,6 +8,8 @@ use Rattle.jvm_model.specs.Programs.{first_class}
 use Rattle.jvm_model.specs.Sound.{IsFit}
 use Rattle.jvm_steps.specs.Linked.{Linked}
 use Rattle.jvm_steps.specs.OriginalRun.{IsRunOfOriginal, original_setup}
+use Rattle.jvm_steps.specs.Tables.{AreAllCurrent}
+use Rattle.jvm_steps.proofs.OriginalsRun.{original-current}
 use Rattle.jvm_steps.specs.Ready.{CanRun, IsSoundIn}
 use Rattle.jvm_steps.specs.Runs.{Leads, steps_from}
 use Rattle.jvm_steps.specs.Versions.{Setup}
@@ -91,6 +93,10 @@ goes_onward v w now r s after told loads_told started broken clock n most same s
 -- the same code is set up
 pub same-setup : (old new : Setup) → new ≡ old → old ≡ original_setup old.world → new ≡ original_setup new.world
 same-setup old new same own = subst (λ (w : Setup). w ≡ original_setup w.world) (sym same) own
+
+-- each of its versions is current
+pub own-current : (w : Setup) → w ≡ original_setup w.world → AreAllCurrent w.versions
+own-current w own = subst (λ (u : Setup). AreAllCurrent u.versions) (sym own) (original-current w.world.program)
 
 -- what that needs
 pub can-run : (v : View) (o : Linked) (r : Option Rewritten) (s : State) (told : ℕ) (loads_told started broken : Bool) (clock : ℕ)

@@ -2,6 +2,7 @@
 
 ghost use Rattle.std.specs.Prelude.{◌≡◌, [], drop, false, OnOk, IfOk};
 ghost use Rattle.jvm_model.specs.Installed.{world_in};
+ghost use Rattle.jvm_steps.specs.Tables.{AreAllCurrent};
 ghost use Rattle.jvm_steps.specs.Before.{IsAtStart};
 ghost use Rattle.jvm_steps.specs.Markers.{state_of};
 ghost use Rattle.jvm_machine.specs.Moves.{TellsAs, PassesAs, LoadsAs, moved_on};
@@ -29,7 +30,8 @@ fn step_original(
     ensures state { let s = state_of markers.old parts.old in OnOk result
         (state_of markers.new parts.new ≡ stepped_original originals.old.setup started s) }
     ensures linked { OnOk result (originals.new.loaded ≡ parts.new.shared.loaded) }
-    ensures world { originals.new.setup ≡ originals.old.setup }
+    ensures world { AreAllCurrent originals.old.setup.versions
+        → originals.new.setup ≡ originals.old.setup }
 {
     if started {
         step(alloc, originals, parts, markers)
@@ -72,7 +74,8 @@ fn move_original(
     ensures loads { let w = originals.old.setup in let s = state_of markers.old parts.old in
         LoadsAs result (moved_original w started loads_told s) }
     ensures linked { OnOk result (originals.new.loaded ≡ parts.new.shared.loaded) }
-    ensures world { originals.new.setup ≡ originals.old.setup }
+    ensures world { AreAllCurrent originals.old.setup.versions
+        → originals.new.setup ≡ originals.old.setup }
 {
     if loads_told {
         return Ok(brought(Seq::new(alloc)));
@@ -179,7 +182,8 @@ pub fn go_on(
     ensures linked { let s = state_of markers.new parts.new in OnOk result
         (Links originals.old versions.now started s originals.new.loaded) }
     ensures plain { OnOk result (ArePlain versions.now markers.new) }
-    ensures world { originals.new.setup ≡ originals.old.setup }
+    ensures world { AreAllCurrent originals.old.setup.versions
+        → originals.new.setup ≡ originals.old.setup }
 {
     match versions {
         None => move_original(alloc, originals, parts, markers, started, loads_told),

@@ -197,9 +197,10 @@ module _ (all : List PlacedFrame) where
   unfolding stack_of above beneath
   pinned-stack front [] ms whole = subst (IsPinned all) (append-nil (map initializing ms)) (behind-markers ms [] tt)
   pinned-stack front (f ∷ below) ms whole =
-      behind-markers (above (suc (length (map active below))) ms) (active f ∷ stack_of (map active below) (beneath (suc (length (map active below))) ms))
-      (subst (λ fs. (pins_of f.version fs == 0) ≡ false) (sym whole) (own-pin front f below),
-      pinned-stack (front ++ f ∷ []) below (beneath (suc (length (map active below))) ms) (whole ∙ sym (append_assoc front (f ∷ []) below)))
+      behind-markers (above (suc (length (map active below))) ms) (active f ∷ stack_of (map active below) (beneath (suc (length (map active below))) ms)) (
+        subst (λ fs. (pins_of f.version fs == 0) ≡ false) (sym whole) (own-pin front f below),
+        pinned-stack (front ++ f ∷ []) below (beneath (suc (length (map active below))) ms) (whole ∙ sym (append_assoc front (f ∷ []) below)),
+      )
 
 pub parts-pinned : (ms : List Marker) (parts : Parts) → IsPinned parts.frames.frames (state_of ms parts).stack
 parts-pinned ms parts = pinned-stack parts.frames.frames [] parts.frames.frames ms refl

@@ -134,13 +134,13 @@ module _ (p : Program) (norm : ℕ → ℕ → ℕ) (homes : ℕ → ℕ → ℕ
       within : (o : Option ℕ) → o ≡ None → ⊥
       within o is = there v.current k (omega (arith, lt, are.count)) (is_at o is)
         where
-        is_at : (o : Option ℕ) → o ≡ None → slice_get v.current k ≡ None
-        is_at o e = is
+          is_at : (o : Option ℕ) → o ≡ None → slice_get v.current k ≡ None
+          is_at o e = is
 
-        there : (xs : List ℕ) (i : ℕ) → i < length xs → slice_get xs i ≡ None → ⊥
-        there [] i lt e = absurd (omega arith)
-        there (x ∷ xs) zero lt e = cc
-        there (x ∷ xs) (suc i) lt e = there xs i (omega arith) e
+          there : (xs : List ℕ) (i : ℕ) → i < length xs → slice_get xs i ≡ None → ⊥
+          there [] i lt e = absurd (omega arith)
+          there (x ∷ xs) zero lt e = cc
+          there (x ∷ xs) (suc i) lt e = there xs i (omega arith) e
 
   -- ---- superseded versions are dropped
 
@@ -171,12 +171,12 @@ module _ (p : Program) (norm : ℕ → ℕ → ℕ) (homes : ℕ → ℕ → ℕ
         let now : current_of after k ≡ current_of v k = ap (λ ks. unwrap_or (slice_get ks k) (4294967296 + k)) released.current in
         record { version = was.version; held = ap (version_at after) now ∙ (stays (current_of v k) (not-due was) ∙ was.held); own = was.own }
       where
-      not-due : HasCurrent v k → is_due (current_of v k) ≡ false
-      not-due was =
-          ap (λ b. b && pins_of (current_of v k) fs == 0)
-          (ap (λ (o : Option Version). is_old v.current (current_of v k) (option_map (λ y. y.method) o)) was.held
-          ∙ (ap (λ m. not (is_number (current_of v k) (slice_get v.current m))) was.own
-          ∙ (ap (λ o. not (is_number (current_of v k) o)) (begins-in k lt) ∙ ap not (eq-eqb (current_of v k) (current_of v k) refl))))
+        not-due : HasCurrent v k → is_due (current_of v k) ≡ false
+        not-due was =
+            ap (λ b. b && pins_of (current_of v k) fs == 0)
+            (ap (λ (o : Option Version). is_old v.current (current_of v k) (option_map (λ y. y.method) o)) was.held
+            ∙ (ap (λ m. not (is_number (current_of v k) (slice_get v.current m))) was.own
+            ∙ (ap (λ o. not (is_number (current_of v k) o)) (begins-in k lt) ∙ ap not (eq-eqb (current_of v k) (current_of v k) refl))))
 
     far-left : (k : ℕ) → 4294967296 ≤ k → version_at after k ≡ None
     far-left k le = by (is_due k) refl where
@@ -236,13 +236,13 @@ module _ (p : Program) (norm : ℕ → ℕ → ℕ) (homes : ℕ → ℕ → ℕ
         let is : version_at after k ≡ version_at v k = apart k other ∙ ap (λ b. if b then None else version_at v k) (ap (λ b. is_number k former && b) pinned ∙ and-false (is_number k former)) in
         (is, news-apart k other ∙ left-same after k is)
       where
-      some-apart : (o : Option Version) → version_at v k ≡ o → is_some o ≡ true → k ≡ number → ⊥
-      some-apart None is some same = cc
-      some-apart (Some y) is some same = held-apart k y is same
+        some-apart : (o : Option Version) → version_at v k ≡ o → is_some o ≡ true → k ≡ number → ⊥
+        some-apart None is some same = cc
+        some-apart (Some y) is some same = held-apart k y is same
 
-      by : IsKept v k → k ≡ number → ⊥
-      by (inl held) same = some-apart (version_at v k) refl held same
-      by (inr far) same = absurd (omega (arith, far, same, added.small))
+        by : IsKept v k → k ≡ number → ⊥
+        by (inl held) same = some-apart (version_at v k) refl held same
+        by (inr far) same = absurd (omega (arith, far, same, added.small))
 
     pub added-lines : (P : Line → Type 0) → ((place : ℕ) → IfSome (line_in place x) P) → ((version place : ℕ) → IfSome (line_at v version place) P)
         → (version place : ℕ) → IfSome (line_at after version place) P
@@ -296,21 +296,21 @@ module _ (p : Program) (norm : ℕ → ℕ → ℕ) (homes : ℕ → ℕ → ℕ
             own = was.own;
           }
         where
-        not-former : HasCurrent v k → is_former (current_of v k) ≡ false
-        not-former was =
-            ap (λ b. b && pins_of (current_of v k) fs == 0)
-            (ap (is_number (current_of v k)) (begins-in x.method own)
-            ∙ ne_eqb (current_of v x.method) (current_of v k) (λ same. other (sym was.own ∙ (ap (λ (y : Version). y.method) (this same was (are.current x.method own)) ∙ (are.current x.method own).own))))
-          where
-          this : current_of v x.method ≡ current_of v k → (a : HasCurrent v k) (b : HasCurrent v x.method) → a.version ≡ b.version
-          this same a b = same_Some a.version b.version (sym a.held ∙ (ap (version_at v) (sym same) ∙ b.held))
+          not-former : HasCurrent v k → is_former (current_of v k) ≡ false
+          not-former was =
+              ap (λ b. b && pins_of (current_of v k) fs == 0)
+              (ap (is_number (current_of v k)) (begins-in x.method own)
+              ∙ ne_eqb (current_of v x.method) (current_of v k) (λ same. other (sym was.own ∙ (ap (λ (y : Version). y.method) (this same was (are.current x.method own)) ∙ (are.current x.method own).own))))
+            where
+              this : current_of v x.method ≡ current_of v k → (a : HasCurrent v k) (b : HasCurrent v x.method) → a.version ≡ b.version
+              this same a b = same_Some a.version b.version (sym a.held ∙ (ap (version_at v) (sym same) ∙ b.held))
 
       far-added : (k : ℕ) → 4294967296 ≤ k → version_at after k ≡ None
       far-added k le =
           apart k (λ same. absurd (omega (arith, le, same, added.small))) ∙ by (is_former k) where
-        by : (b : Bool) → (if b then None else version_at v k) ≡ None
-        by true = refl
-        by false = are.far k le
+            by : (b : Bool) → (if b then None else version_at v k) ≡ None
+            by true = refl
+            by false = are.far k le
 
       pub added-versions : AreVersions p norm news after
       added-versions = record {

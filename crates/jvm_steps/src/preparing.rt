@@ -22,8 +22,8 @@ use crate::versions::{Catching, PreparedCode, Version, Versions};
 use code_model::instr_at;
 use const_pool::{ClassFile, Handler, Kind, Member};
 use jf_bytes::{NoMemory, Seq, Text16};
-use method_versions::Held;
 use jvm_model::{MethodPlace, Program};
+use method_versions::Held;
 use std::alloc::Global;
 
 /// The line at an offset of a code.

@@ -25,31 +25,31 @@ module _ {T : Type 0} (fs : List PlacedFrame) (slots : List (Option (Held T))) w
       drops k ∙ (ap (λ h. if (k == n) && pins_of n fs == 0 then None else h) (so k)
       ∙ (by (n == k) refl (is_listed k seen) ∙ sym (ap (λ b. if b && pins_of k fs == 0 then None else held_in slots k) (listed-one seen n k))))
     where
-    flipped : (b : Bool) → (n == k) ≡ b → (k == n) ≡ b
-    flipped true e = eq-eqb k n (sym (eqb-true n k e))
-    flipped false e = ne_eqb k n (λ same. false-true (sym e ∙ eq-eqb n k (sym same)))
+      flipped : (b : Bool) → (n == k) ≡ b → (k == n) ≡ b
+      flipped true e = eq-eqb k n (sym (eqb-true n k e))
+      flipped false e = ne_eqb k n (λ same. false-true (sym e ∙ eq-eqb n k (sym same)))
 
-    joined : Bool → Bool → Bool → Bool → Option (Held T)
-    joined a b c d = if a && b then None else if c && d then None else held_in slots k
+      joined : Bool → Bool → Bool → Bool → Option (Held T)
+      joined a b c d = if a && b then None else if c && d then None else held_in slots k
 
-    by : (b : Bool) → (n == k) ≡ b → (c : Bool) → joined (k == n) (pins_of n fs == 0) c (pins_of k fs == 0) ≡ (if (c || ((n == k) || false)) && pins_of k fs == 0 then None else held_in slots k)
-    by false e c =
-        ap (λ a. joined a (pins_of n fs == 0) c (pins_of k fs == 0)) (flipped false e)
-        ∙ (ap (λ x. if x && pins_of k fs == 0 then None else held_in slots k) (sym (or-false c)) ∙ sym (ap (λ x. if (c || (x || false)) && pins_of k fs == 0 then None else held_in slots k) e))
-      where
-      or-false : (x : Bool) → (x || (false || false)) ≡ x
-      or-false true = refl
-      or-false false = refl
-    by true e c =
-        ap (λ a. joined a (pins_of n fs == 0) c (pins_of k fs == 0)) (flipped true e)
-        ∙ (ap (λ b. joined true b c (pins_of k fs == 0)) (ap (λ m. pins_of m fs == 0) (eqb-true n k e))
-        ∙ (twice c (pins_of k fs == 0) ∙ sym (ap (λ x. if (c || (x || false)) && pins_of k fs == 0 then None else held_in slots k) e)))
-      where
-      twice : (c d : Bool) → joined true d c d ≡ (if (c || (true || false)) && d then None else held_in slots k)
-      twice true true = refl
-      twice true false = refl
-      twice false true = refl
-      twice false false = refl
+      by : (b : Bool) → (n == k) ≡ b → (c : Bool) → joined (k == n) (pins_of n fs == 0) c (pins_of k fs == 0) ≡ (if (c || ((n == k) || false)) && pins_of k fs == 0 then None else held_in slots k)
+      by false e c =
+          ap (λ a. joined a (pins_of n fs == 0) c (pins_of k fs == 0)) (flipped false e)
+          ∙ (ap (λ x. if x && pins_of k fs == 0 then None else held_in slots k) (sym (or-false c)) ∙ sym (ap (λ x. if (c || (x || false)) && pins_of k fs == 0 then None else held_in slots k) e))
+        where
+          or-false : (x : Bool) → (x || (false || false)) ≡ x
+          or-false true = refl
+          or-false false = refl
+      by true e c =
+          ap (λ a. joined a (pins_of n fs == 0) c (pins_of k fs == 0)) (flipped true e)
+          ∙ (ap (λ b. joined true b c (pins_of k fs == 0)) (ap (λ m. pins_of m fs == 0) (eqb-true n k e))
+          ∙ (twice c (pins_of k fs == 0) ∙ sym (ap (λ x. if (c || (x || false)) && pins_of k fs == 0 then None else held_in slots k) e)))
+        where
+          twice : (c d : Bool) → joined true d c d ≡ (if (c || (true || false)) && d then None else held_in slots k)
+          twice true true = refl
+          twice true false = refl
+          twice false true = refl
+          twice false false = refl
 
 -- ---- all of them
 
@@ -74,12 +74,12 @@ listed-filter f (x ∷ xs) k = by (listed-filter f xs k) (f x) refl (x == k) ref
       ap (λ z. any (if z then x ∷ filter f xs else filter f xs)) e ∙ (rest
       ∙ (ap (λ z. any xs && z) none ∙ (and-false (any xs) ∙ sym (ap (λ z. (z || any xs) && f k) d ∙ none))))
     where
-    none : f k ≡ false
-    none = ap f (sym (eqb-true x k d)) ∙ e
+      none : f k ≡ false
+      none = ap f (sym (eqb-true x k d)) ∙ e
 
-    and-false : (z : Bool) → (z && false) ≡ false
-    and-false true = refl
-    and-false false = refl
+      and-false : (z : Bool) → (z && false) ≡ false
+      and-false true = refl
+      and-false false = refl
   by rest false e false d =
       ap (λ z. any (if z then x ∷ filter f xs else filter f xs)) e ∙ (rest ∙ sym (ap (λ z. (z || any xs) && f k) d))
 
@@ -93,21 +93,21 @@ module _ {T : Type 0} (fs : List PlacedFrame) (before after : List (Option (Held
       ap (λ (h : Option (Held T)). is_old current k (option_map (λ x. x.method) h)) (held k)
       ∙ (by (is_listed k superseded) refl (pins_of k fs == 0) refl ∙ sym (listed-filter kept superseded k))
     where
-    left : Bool → Option (Held T)
-    left b = if b then None else held_in before k
+      left : Bool → Option (Held T)
+      left b = if b then None else held_in before k
 
-    by : (b : Bool) → is_listed k superseded ≡ b → (c : Bool) → (pins_of k fs == 0) ≡ c
-        → is_old current k (option_map (λ (x : Held T). x.method) (left (is_listed k superseded && pins_of k fs == 0))) ≡ (is_listed k superseded && not (pins_of k fs == 0))
-    by true e true d =
-        ap (λ z. is_old current k (option_map (λ (x : Held T). x.method) (left (z && pins_of k fs == 0)))) e
-        ∙ (ap (λ z. is_old current k (option_map (λ (x : Held T). x.method) (left z))) d ∙ sym (ap (λ z. z && not (pins_of k fs == 0)) e ∙ ap not d))
-    by true e false d =
-        ap (λ z. is_old current k (option_map (λ (x : Held T). x.method) (left (z && pins_of k fs == 0)))) e
-        ∙ (ap (λ z. is_old current k (option_map (λ (x : Held T). x.method) (left z))) d
-        ∙ ((listed k ∙ e) ∙ sym (ap (λ z. z && not (pins_of k fs == 0)) e ∙ ap not d)))
-    by false e c d =
-        ap (λ z. is_old current k (option_map (λ (x : Held T). x.method) (left (z && pins_of k fs == 0)))) e
-        ∙ ((listed k ∙ e) ∙ sym (ap (λ z. z && not (pins_of k fs == 0)) e))
+      by : (b : Bool) → is_listed k superseded ≡ b → (c : Bool) → (pins_of k fs == 0) ≡ c
+          → is_old current k (option_map (λ (x : Held T). x.method) (left (is_listed k superseded && pins_of k fs == 0))) ≡ (is_listed k superseded && not (pins_of k fs == 0))
+      by true e true d =
+          ap (λ z. is_old current k (option_map (λ (x : Held T). x.method) (left (z && pins_of k fs == 0)))) e
+          ∙ (ap (λ z. is_old current k (option_map (λ (x : Held T). x.method) (left z))) d ∙ sym (ap (λ z. z && not (pins_of k fs == 0)) e ∙ ap not d))
+      by true e false d =
+          ap (λ z. is_old current k (option_map (λ (x : Held T). x.method) (left (z && pins_of k fs == 0)))) e
+          ∙ (ap (λ z. is_old current k (option_map (λ (x : Held T). x.method) (left z))) d
+          ∙ ((listed k ∙ e) ∙ sym (ap (λ z. z && not (pins_of k fs == 0)) e ∙ ap not d)))
+      by false e c d =
+          ap (λ z. is_old current k (option_map (λ (x : Held T). x.method) (left (z && pins_of k fs == 0)))) e
+          ∙ ((listed k ∙ e) ∙ sym (ap (λ z. z && not (pins_of k fs == 0)) e))
 
   pub own-left : AreCurrent before current → AreCurrent after current
   own-left are m = there (slice_get current m) refl (are m) where

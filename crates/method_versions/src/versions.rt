@@ -45,7 +45,7 @@ impl<T> Model for Versions<T> {
       slots = v.first.items ++ v.later.slots;
       current = v.current.items;
       spare = spare_of (length v.first.items + v.later.capacity)
-        (min (v.later.capacity - slab_len v.later) (vec_capacity v.superseded - length v.superseded.items));
+          (min (v.later.capacity - slab_len v.later) (vec_capacity v.superseded - length v.superseded.items));
     } };
 
     ghost invariant = { λ v. IsTable v.first.items v.later.slots v.current.items v.superseded.items };
@@ -194,7 +194,12 @@ impl<T: Drop> Versions<T> {
         ensures count { length self.new.slots ≡ length self.old.slots }
         ensures spare { self.old.spare ≤ self.new.spare }
     {
-        drop_unpinned(&mut self.first, &mut self.later, self.superseded.as_slice(), frames);
+        drop_unpinned(
+            &mut self.first,
+            &mut self.later,
+            self.superseded.as_slice(),
+            frames,
+        );
         keep_pinned(&mut self.superseded, frames);
     }
 }

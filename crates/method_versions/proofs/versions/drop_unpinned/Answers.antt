@@ -8,10 +8,13 @@ pub loop-number-preserved : goal.loop-number-preserved
 loop-number-preserved g c =
     let i = c.loop-number.number-index in
     let more = take_more c.args.numbers.now i 0 c.loop-number-test.true in
-    let slots = c.args.first.now.items ++ c.args.later.now.slots in
-    ((λ k. subst (λ seen. held_in (c.drop_free.new.first.items ++ c.drop_free.new.later.slots) k ≡ held_but seen c.args.frames.now.frames slots k) (sym more)
-    (but-one c.args.frames.now.frames slots (take i c.args.numbers.now) (slice_index_or c.args.numbers.now i 0)
-    (c.loop-number.first.items ++ c.loop-number.later.slots) (c.drop_free.new.first.items ++ c.drop_free.new.later.slots)
-    c.loop-number.invariant.0 c.drop_free.ensures.held k)),
-    c.drop_free.ensures.first ∙ c.loop-number.invariant.1, c.drop_free.ensures.later ∙ c.loop-number.invariant.2,
-    c.drop_free.ensures.capacity ∙ c.loop-number.invariant.3, omega (arith, c.drop_free.ensures.fewer, c.loop-number.invariant.4))
+    let slots = c.args.first.now.items ++ c.args.later.now.slots in (
+      (λ k. subst (λ seen. held_in (c.drop_free.new.first.items ++ c.drop_free.new.later.slots) k ≡ held_but seen c.args.frames.now.frames slots k) (sym more)
+          (but-one c.args.frames.now.frames slots (take i c.args.numbers.now) (slice_index_or c.args.numbers.now i 0)
+          (c.loop-number.first.items ++ c.loop-number.later.slots) (c.drop_free.new.first.items ++ c.drop_free.new.later.slots)
+          c.loop-number.invariant.0 c.drop_free.ensures.held k)),
+      c.drop_free.ensures.first ∙ c.loop-number.invariant.1,
+      c.drop_free.ensures.later ∙ c.loop-number.invariant.2,
+      c.drop_free.ensures.capacity ∙ c.loop-number.invariant.3,
+      omega (arith, c.drop_free.ensures.fewer, c.loop-number.invariant.4),
+    )

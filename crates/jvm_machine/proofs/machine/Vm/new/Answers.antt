@@ -7,7 +7,7 @@ use Rattle.jvm_steps.specs.Before.{CanStart}
 use Rattle.jvm_steps.specs.Entries.{original_versions}
 use Rattle.jvm_steps.specs.Markers.{state_of}
 use Rattle.jvm_steps.specs.Versions.{Setup}
-use Rattle.jvm_steps.specs.declared.versions.Versions.{Versions}
+use Rattle.jvm_steps.specs.Tables.{Versions}
 use Rattle.jvm_steps.proofs.MarkedParts.{plain-state}
 use Rattle.jvm_machine.proofs.BothWays.{is_made, seen-made}
 use Rattle.jvm_machine.proofs.machine.Vm.new.Goals as goal

@@ -2,7 +2,7 @@ use Rattle.std.proofs.Common.{◌+◌, ap, subst}
 use Rattle.jvm_steps.specs.Markers.{state_of}
 use Rattle.jvm_steps.specs.Runs.{Leads}
 use Rattle.jvm_steps.specs.Versions.{Setup}
-use Rattle.jvm_machine.proofs.Onward.{can-run, goes_onward, linked-onward, plain-original, same-setup}
+use Rattle.jvm_machine.proofs.Onward.{own-current, can-run, goes_onward, linked-onward, plain-original, same-setup}
 use Rattle.jvm_machine.proofs.machine.Vm.run_on.Goals as goal
 
 pub run-requires-clause-fit : goal.run-requires-clause-fit
@@ -25,7 +25,7 @@ invariant_of-self-2 c =
     let before = state_of c.self.inside.markers c.self.inside.parts in
     let after = state_of c.run.new.markers c.run.new.parts in
     let onward = goes_onward c.args.self.now c.self.inside.originals.setup.world c.run.new.originals.setup.world c.self.inside.versions before after c.self.inside.told c.self.inside.loads_told
-    c.self.inside.started c.self.inside.broken c.self.inside.clock c.in_ok-made.made c.args.most (ap (λ (w : Setup). w.world) c.run.ensures.world) c.self.view_is c.self.invariant.1 c.requires.original
+    c.self.inside.started c.self.inside.broken c.self.inside.clock c.in_ok-made.made c.args.most (ap (λ (w : Setup). w.world) (c.run.ensures.same (own-current c.self.inside.originals.setup c.self.invariant.3))) c.self.view_is c.self.invariant.1 c.requires.original
     c.requires.started c.requires.whole c.requires.resting c.in_ok-made.ensures.within (subst (λ (w : Setup). Leads w (state_of c.self.inside.markers c.self.inside.parts) c.in_ok-made.made (state_of c.run.new.markers c.run.new.parts)) c.self.invariant.3 c.in_ok-made.ensures.made) c.in_ok-made.ensures.ended in (
       λ whole. plain-original c.args.self.now c.self.inside.originals.setup.world c.self.inside.versions c.run.new.markers before c.self.inside.told
           c.self.inside.loads_told c.self.inside.started c.self.inside.broken c.self.inside.clock c.self.view_is c.requires.original,
@@ -33,12 +33,12 @@ invariant_of-self-2 c =
       linked-onward c.args.self.now c.self.inside.originals.setup.world c.run.new.originals.setup.world c.self.inside.versions before after
           c.self.inside.told c.self.inside.loads_told c.self.inside.started c.self.inside.broken c.self.inside.clock (c.self.inside.clock + c.in_ok-made.made) c.run.new.originals.loaded
           c.self.view_is c.requires.original onward.running c.in_ok-made.ensures.linked,
-      same-setup c.self.inside.originals.setup c.run.new.originals.setup c.run.ensures.world c.self.invariant.3,
+      same-setup c.self.inside.originals.setup c.run.new.originals.setup (c.run.ensures.same (own-current c.self.inside.originals.setup c.self.invariant.3)) c.self.invariant.3,
     )
 
 pub returns-clause-ok : goal.returns-clause-ok
 returns-clause-ok c =
     (goes_onward c.args.self.now c.self.inside.originals.setup.world c.run.new.originals.setup.world c.self.inside.versions (state_of c.self.inside.markers c.self.inside.parts)
     (state_of c.run.new.markers c.run.new.parts) c.self.inside.told c.self.inside.loads_told
-    c.self.inside.started c.self.inside.broken c.self.inside.clock c.in_ok-made.made c.args.most (ap (λ (w : Setup). w.world) c.run.ensures.world) c.self.view_is c.self.invariant.1 c.requires.original
+    c.self.inside.started c.self.inside.broken c.self.inside.clock c.in_ok-made.made c.args.most (ap (λ (w : Setup). w.world) (c.run.ensures.same (own-current c.self.inside.originals.setup c.self.invariant.3))) c.self.view_is c.self.invariant.1 c.requires.original
     c.requires.started c.requires.whole c.requires.resting c.in_ok-made.ensures.within (subst (λ (w : Setup). Leads w (state_of c.self.inside.markers c.self.inside.parts) c.in_ok-made.made (state_of c.run.new.markers c.run.new.parts)) c.self.invariant.3 c.in_ok-made.ensures.made) c.in_ok-made.ensures.ended).runs
