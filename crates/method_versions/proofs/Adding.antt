@@ -1,14 +1,12 @@
 -- A version more: its method begins in it, and the former one stays where a frame runs it.
-use Rattle.std.proofs.Common.{◌≡◌, ◌≢◌, ◌≤◌, ◌<◌, ◌+◌, ◌++◌, ℕ, zero, suc, Bool, true, false, List, [], ◌∷◌, length, Option, Some, None, refl, sym, ap, subst, ◌∙◌, arith}
-use Rattle.std.specs.Prelude.{not, ◌==◌, ◌&&◌, ◌||◌, nat_le, slice_get, slice_set, if◌then◌else◌}
-use Rattle.std.specs.List.{list_any}
-use Rattle.std.specs.Option.{IfSome, option_map, option_map_or}
+use Rattle.std.proofs.Common.{◌≡◌, ◌≢◌, ◌≤◌, ◌<◌, ◌++◌, ℕ, zero, suc, Bool, true, false, List, [], ◌∷◌, length, Option, Some, None, refl, sym, ap, subst, ◌∙◌, arith}
+use Rattle.std.specs.Prelude.{not, ◌==◌, ◌&&◌, ◌||◌, slice_get, slice_set, if◌then◌else◌}
+use Rattle.std.specs.Option.{IfSome, option_map}
 use Rattle.std.proofs.lemmas.Bool.{eqb-true, eq-eqb, ne_eqb}
-use Rattle.std.proofs.lemmas.List.{length-set}
 use Rattle.std.proofs.lemmas.List.Folds.{list_any-append}
 use Rattle.frame_stack.specs.FrameLists.{PlacedFrame, pins_of}
 use Rattle.method_versions.specs.declared.versions.Held.{Held}
-use Rattle.method_versions.specs.Tables.{AreCurrent, IsTable, held_besides, held_in, is_listed, is_number, is_old, is_superseded_in, method_in}
+use Rattle.method_versions.specs.Tables.{AreCurrent, held_besides, held_in, is_listed, is_number, is_old, is_superseded_in, method_in}
 
 -- ---- writes
 

@@ -1,4 +1,4 @@
-use Rattle.std.proofs.Common.{◌≡◌, ◌+◌, ◌++◌, ◌∷◌, [], ℕ, sym, subst, take, slice_index_or, ◌∙◌, arith}
+use Rattle.std.proofs.Common.{◌≡◌, ◌++◌, sym, subst, take, slice_index_or, ◌∙◌, arith}
 use Rattle.std.proofs.lemmas.List.{take_more}
 use Rattle.method_versions.specs.Tables.{held_but, held_in}
 use Rattle.method_versions.proofs.Releasing.{but-one}
