@@ -6,7 +6,6 @@ use Rattle.frame_stack.specs.FrameLists.{has_frame}
 use Rattle.jvm_model.specs.declared.state.State.{State}
 use Rattle.jvm_model.specs.Applies.{still}
 use Rattle.jvm_model.specs.Moves.{settled}
-use Rattle.jvm_model.specs.Originals.{original}
 use Rattle.jvm_model.specs.Run.{is_ready, step}
 use Rattle.jvm_model.specs.SharedState.{phase_of}
 use Rattle.jvm_model.proofs.SoundTextRuns.{sound-step}

@@ -1,11 +1,9 @@
 -- The versions of a class's methods for an image of it are versions of the program.
-use Rattle.std.proofs.Common.{◌≡◌, ℕ, zero, suc, ◌+◌, ◌-◌, ◌<◌, ◌≤◌, Bool, true, false, List, [], ◌∷◌, ◌++◌, length, Option, Some, None, refl, sym, ap, subst, ◌∙◌, eqb-true, ⊎_elim, arith}
-use Rattle.std.specs.Prelude.{drop, slice_get, slice_set, ◌==◌, ◌&&◌, if◌then◌else◌}
+use Rattle.std.proofs.Common.{◌≡◌, ℕ, suc, ◌+◌, ◌<◌, ◌≤◌, Bool, true, false, List, [], ◌∷◌, ◌++◌, length, Option, Some, None, refl, sym, ap, subst, ◌∙◌, eqb-true, ⊎_elim, arith}
+use Rattle.std.specs.Prelude.{slice_get, ◌==◌, if◌then◌else◌}
 use Rattle.std.specs.List.{AllByRecursion}
 use Rattle.std.specs.Option.{IfSome, option_and_then, option_map, option_map_or}
-use Rattle.std.proofs.Math.Seq.{drop-append_seam}
 use Rattle.std.proofs.lemmas.Bool.{and_parts, cases_lt}
-use Rattle.std.proofs.lemmas.List.{append_assoc, append-nil, length-append}
 use Rattle.std.proofs.lemmas.Option.{none-some, same_Some, slice_get_past, slice_get_within}
 use Rattle.const_pool.specs.declared.class.ClassFile.{ClassFile}
 use Rattle.const_pool.specs.declared.class.CodeAttribute.{CodeAttribute}
@@ -16,7 +14,7 @@ use Rattle.jvm_model.specs.declared.program.MethodPlace.{MethodPlace}
 use Rattle.jvm_model.specs.declared.program.Program.{Program}
 use Rattle.jvm_model.specs.Methods.{code_of, method_code}
 use Rattle.jvm_model.specs.Programs.{class_at, number_from, number_of_method, place_of_method, same_place}
-use Rattle.jvm_steps.specs.Tables.{Version, Versions}
+use Rattle.jvm_steps.specs.Tables.{Version}
 use Rattle.jvm_steps.specs.ClassVersions.{alone, class_version, class_versions, homes_at, member_version, version_by, versions_from}
 use Rattle.jvm_steps.specs.Entries.{no_version, original_version, version_of}
 use Rattle.jvm_model.specs.ProgramPlaces.{HasClosedCodes}
@@ -171,3 +169,27 @@ versions-of p closed class image homes are = by (class_at p class) refl where
   by : (o : Option ClassFile) → class_at p class ≡ o → AllByRecursion (IsOfProgram p) (option_map_or (λ (c : ClassFile). versions_from p class image homes 0 c.methods) o [])
   by None there = tt
   by (Some c) there = from c there 0 c.methods (λ k m found. let same : 0 + k ≡ k = omega arith in ap (slice_get c.methods) same ∙ found)
+
+-- each is of a method of the program
+method-by : (p : Program) (k : ℕ) (image : ClassFile) (old : CodeAttribute) (homes : Option Homes) (new : Option CodeAttribute) → (version_by p k image old homes new).method ≡ k
+method-by p k image old (Some homes) (Some new) = refl
+method-by p k image old (Some homes) None = own p (places_of p) k
+method-by p k image old None new = own p (places_of p) k
+
+pub versions-below : (p : Program) (class : ℕ) (image : ClassFile) (homes : List (Option Homes)) → AllByRecursion (λ (x : Version). x.method < length p.methods) (class_versions p class image homes)
+versions-below p class image homes = by (class_at p class) where
+  Below : Version → Type 0
+  Below x = x.method < length p.methods
+
+  from : (at : ℕ) (ms : List Member) → AllByRecursion Below (versions_from p class image homes at ms)
+  from at [] = tt
+  from at (m ∷ rest) =
+      all-alone Below (member_version p class image homes at m) (versions_from p class image homes (at + 1) rest)
+      (if-coded Below (λ old. option_map (class_version p image homes at old) (number_of_method p class at)) (code_of m)
+      (λ old coded. if-numbered Below (class_version p image homes at old) (number_of_method p class at)
+      (λ k numbered. subst (λ n. n < length p.methods) (sym (method-by p k image old (homes_at homes at) (method_code image at))) (number-below p class at k numbered))))
+      (from (at + 1) rest)
+
+  by : (o : Option ClassFile) → AllByRecursion Below (option_map_or (λ (c : ClassFile). versions_from p class image homes 0 c.methods) o [])
+  by None = tt
+  by (Some c) = from 0 c.methods

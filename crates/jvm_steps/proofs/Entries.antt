@@ -1,7 +1,8 @@
 -- Methods that are prepared one by one give what the definitions look up there.
-use Rattle.std.proofs.Common.{◌≡◌, ℕ, ◌≤◌, ◌<◌, List, [], length, Option, Some, None, refl, ap, subst, sym, ◌∙◌}
+use Rattle.std.proofs.Common.{◌≡◌, ℕ, ◌<◌, List, length, Option, Some, None, refl, ap, subst, sym, ◌∙◌}
 use Rattle.std.specs.Prelude.{◌^◌, map, slice_get}
 use Rattle.std.specs.Option.{option_map, option_map_or, option_and_then}
+use Rattle.std.proofs.lemmas.List.FromFn.{length-map-range_with_len}
 use Rattle.std.proofs.lemmas.Option.{slice_get-map}
 use Rattle.const_pool.specs.declared.class.ClassFile.{ClassFile}
 use Rattle.const_pool.specs.declared.class.Member.{Member}
@@ -16,7 +17,7 @@ use Rattle.jvm_steps.specs.declared.originals.Exception.{Exception}
 use Rattle.jvm_steps.specs.declared.originals.Exceptions.{Exceptions}
 use Rattle.jvm_steps.specs.declared.originals.Method.{Method}
 use Rattle.jvm_steps.specs.Prepared.{FitsOriginals, IsPrepared, exception_in, exception_kind}
-use Rattle.jvm_steps.specs.Entries.{entry_of, no_method, entry_in, entry_at, original_versions}
+use Rattle.jvm_steps.specs.Entries.{entry_of, no_method, entry_in, entry_at, original_versions, own_number}
 use Rattle.jvm_steps.specs.Versions.{HasLines}
 use Rattle.jvm_steps.specs.Tables.{Versions}
 use Rattle.jvm_steps.proofs.OriginalVersions.{original-lines}
@@ -83,6 +84,7 @@ IsPrepared-entries p methods v x rows fits few numbered is made raised text numb
       max_stack = λ k. ap (λ (o : Option Method). option_map_or (λ m. m.max_stack) o 0) (entry k) ∙ stack-place p (slice_get p.methods k);
       max_locals = λ k. ap (λ (o : Option Method). option_map_or (λ m. m.max_locals) o 0) (entry k) ∙ locals-place p (slice_get p.methods k);
       lines = subst HasLines (sym made) (original-lines p);
+      count = ap (λ (w : Versions). length w.current) made ∙ length-map-range_with_len own_number 0 (length p.methods);
       raised = raised;
       string = text;
       numbers = numbers;

@@ -1,11 +1,8 @@
 -- A method's code in an image is the rewritten version of the method.
-use Rattle.std.proofs.Common.{◌≡◌, ◌≤◌, ◌<◌, ◌+◌, ◌^◌, ℕ, Bool, true, false, cond, List, [], ◌∷◌, ◌++◌, map, length, Option, Some, None, refl, sym, ap, subst, ◌∙◌, arith}
-use Rattle.std.proofs.lemmas.List.{length-append}
+use Rattle.std.proofs.Common.{◌≡◌, ◌≤◌, ◌<◌, ℕ, Bool, true, false, cond, List, [], ◌∷◌, ◌++◌, map, length, sym, ap, subst, arith}
 use Rattle.std.specs.List.{AllByRecursion}
 use Rattle.const_pool.specs.declared.class.ClassFile.{ClassFile}
 use Rattle.const_pool.specs.declared.class.CodeAttribute.{CodeAttribute}
-use Rattle.const_pool.specs.declared.class.Handler.{Handler}
-use Rattle.code_model.specs.declared.instr.Code.{Code}
 use Rattle.code_model.specs.declared.instr.Instr.{Instr}
 use Rattle.code_model.specs.declared.laying.Group.{Group}
 use Rattle.code_model.specs.declared.laying.Homes.{Homes}
@@ -17,7 +14,7 @@ use Rattle.jvm_model.specs.declared.program.Program.{Program}
 use Rattle.jvm_model.specs.Lines.{code_instruction}
 use Rattle.jvm_model.specs.Moved.{IsPlace}
 use Rattle.jvm_model.specs.Originals.{catcher_of, original}
-use Rattle.jvm_model.specs.Versions.{IsVersion, catch_all, code_with, entry_probe, group_of, groups_of, is_return_opcode, laid_version, leave_probe, moved_handler, unwind_code}
+use Rattle.jvm_model.specs.Versions.{IsVersion, catch_all, entry_probe, group_of, is_return_opcode, laid_version, leave_probe, moved_handler, unwind_code}
 use Rattle.jvm_model.proofs.ImageLines.{instrs-groups}
 use Rattle.jvm_steps.specs.LaidMethods.{CanBeLaid, NamesClass}
 use Rattle.jvm_steps.specs.Rewritten.{rewritten_version}

@@ -1,8 +1,8 @@
 -- A code that was laid out with its probes is the rewritten code of its method.
-use Rattle.std.proofs.Common.{◌≡◌, ◌≤◌, ◌<◌, ◌+◌, ℕ, Bool, true, false, cond, List, [], ◌∷◌, ◌++◌, map, length, Option, Some, None, is_some, refl, sym, ap, subst, ◌∙◌, ◌⊎◌, inl, inr, arith}
+use Rattle.std.proofs.Common.{◌≡◌, ◌≤◌, ◌<◌, ℕ, cond, List, [], ◌∷◌, ◌++◌, map, length, Option, Some, None, refl, sym, ap, subst, ◌∙◌, inl, inr, arith}
 use Rattle.std.proofs.lemmas.Bool.{le-ltb}
 use Rattle.std.proofs.lemmas.Option.{same_Some, none-some, slice_get-map}
-use Rattle.std.specs.Prelude.{nat_lt, slice_get, unwrap_or}
+use Rattle.std.specs.Prelude.{slice_get, unwrap_or}
 use Rattle.std.specs.List.{AllByRecursion}
 use Rattle.std.specs.Option.{option_and_then, option_map}
 use Rattle.const_pool.specs.declared.class.ClassFile.{ClassFile}
@@ -12,8 +12,8 @@ use Rattle.code_model.specs.declared.instr.Instr.{Instr}
 use Rattle.code_model.specs.declared.laying.Group.{Group}
 use Rattle.code_model.specs.declared.laying.Laid.{Laid}
 use Rattle.code_model.specs.Groups.{AreGroups, IsLaidIn, instrs_of}
-use Rattle.code_model.specs.Instructions.{Reads, instruction_at}
-use Rattle.code_model.specs.Layout.{Spot, all_spots, end_from, first_far, home_in, home_of, homes_of, laid_of, place_in, place_of}
+use Rattle.code_model.specs.Instructions.{Reads}
+use Rattle.code_model.specs.Layout.{Spot, all_spots, end_from, first_far, home_in, home_of, laid_of, place_in, place_of}
 use Rattle.code_model.proofs.Among.{starts_rise, which_spot, source_end-reads}
 use Rattle.code_model.proofs.Layouts.{home_in-end}
 use Rattle.code_model.proofs.Lookups.{found_beside-back, spot-found_beside}

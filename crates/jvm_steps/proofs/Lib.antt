@@ -18,6 +18,7 @@ pub mod OriginalsRun
 pub mod VersionsAgree
 pub mod Halves
 pub mod RewrittenVersions
+pub mod Added
 pub mod VersionsRun
 pub mod LaidRewritten
 pub mod RewrittenLines

@@ -23,14 +23,13 @@ use Rattle.jvm_model.specs.Lines.{ends, is_last, targets_of}
 use Rattle.jvm_model.specs.LocalRules.{arithmetic_exception, by_zero, divides_these, goes_if, holds, tests, switches_on, goes_back, replaces, returns, returns_datum, within}
 use Rattle.jvm_model.specs.Lookup.{is_below}
 use Rattle.jvm_model.specs.ObjectRules.{Access, ToNull, ToAnother, Outside, Inside, Storing, access_to, array_kind, done, fits_array, loads_at, loads_element, makes, measures, place_of, stores_at, stores_element, storing_of, throws, watches}
-use Rattle.jvm_model.specs.Originals.{original}
 use Rattle.jvm_model.specs.Does.{does, loads}
 use Rattle.jvm_model.specs.Naming.{newly_loaded}
 use Rattle.jvm_model.specs.NamingRules.{does_named}
 use Rattle.jvm_model.specs.Run.{starts, with_loaded}
 use Rattle.jvm_model.specs.SharedState.{class_of, null_pointer, throwable}
 use Rattle.jvm_model.specs.StackForms.{forms_of}
-use Rattle.jvm_model.specs.Values.{as_value, datum_of, loaded, local_in, int_of, ref_of, arranged, with_value}
+use Rattle.jvm_model.specs.Values.{datum_of, loaded, local_in, int_of, ref_of, arranged}
 use Rattle.jvm_basic.specs.Rules.{goes_at, placed}
 use Rattle.jvm_basic.proofs.Asked.{is_simple, pushes-simple, replaces-simple, leaves-simple, stores-simple, increments-simple}
 use Rattle.jvm_steps.specs.declared.line.Action.{Action}

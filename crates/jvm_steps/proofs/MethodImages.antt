@@ -1,5 +1,5 @@
 -- The image of a method of a program whose codes are closed is a version of it.
-use Rattle.std.proofs.Common.{◌≡◌, ℕ, List, [], map, length, Option, Some, None, sym, ap, ◌∙◌}
+use Rattle.std.proofs.Common.{◌≡◌, ℕ, List, [], map, length, Option, Some, ap, ◌∙◌}
 use Rattle.std.specs.List.{AllByRecursion}
 use Rattle.std.specs.Option.{option_and_then, option_map, unwrap_or}
 use Rattle.const_pool.specs.declared.class.ClassFile.{ClassFile}

@@ -1,7 +1,6 @@
 -- Original code is a table of versions, each at its own places.
 use Rattle.std.proofs.Common.{◌≡◌, ℕ, ◌<◌, ◌≤◌, ◌+◌, List, [], ◌∷◌, map, length, Option, Some, None, refl, ap, subst, sym, ◌∙◌, ⊎_elim, arith}
 use Rattle.std.specs.Prelude.{slice_get, unwrap_or}
-use Rattle.std.specs.List.{range_with_len}
 use Rattle.std.specs.Option.{option_and_then, option_map, option_map_or}
 use Rattle.std.proofs.lemmas.Bool.{cases_lt}
 use Rattle.std.proofs.lemmas.List.{map-id}
@@ -20,8 +19,8 @@ use Rattle.jvm_model.specs.Originals.{catcher_of, method_handlers, original}
 use Rattle.jvm_model.specs.Programs.{class_at}
 use Rattle.jvm_steps.specs.Tables.{Version, Versions, version_at}
 use Rattle.jvm_steps.specs.Entries.{catching_of, no_version, original_version, original_versions, own_number, version_entry, version_in, version_of}
-use Rattle.jvm_steps.specs.Versions.{catcher_in, current_of, instruction_in, line_in, text_of}
-use Rattle.jvm_steps.specs.VersionTexts.{AreVersions, HasCurrent, HasOperation, IsVersionOf}
+use Rattle.jvm_steps.specs.Versions.{catcher_in, current_of, instruction_in, line_in}
+use Rattle.jvm_steps.specs.VersionTexts.{AreVersions, HasCurrent, IsVersionOf}
 use Rattle.jvm_steps.proofs.OriginalVersions.{original-at}
 use Rattle.jvm_steps.proofs.OriginalsRun.{of-place, past, there}
 use Rattle.jvm_steps.proofs.Tabled.{tabled-at}

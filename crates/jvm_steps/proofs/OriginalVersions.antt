@@ -1,8 +1,7 @@
 -- Original code as versions: what stands there is what the definitions have at the offsets of methods.
 use Rattle.std.proofs.Common.{◌≡◌, ℕ, ◌≤◌, ◌<◌, List, [], length, Option, Some, None, refl, ap, subst, sym, ◌∙◌, ⊎_elim}
-use Rattle.std.specs.Prelude.{map, slice_get}
-use Rattle.std.specs.List.{range_with_len}
-use Rattle.std.specs.Option.{IfSome, option_map, option_map_or, option_and_then, option_flatten}
+use Rattle.std.specs.Prelude.{slice_get}
+use Rattle.std.specs.Option.{IfSome, option_map_or, option_and_then, option_flatten}
 use Rattle.std.proofs.lemmas.Bool.{cases_lt}
 use Rattle.std.proofs.lemmas.Option.{slice_get_past}
 use Rattle.const_pool.specs.declared.class.ClassFile.{ClassFile}
@@ -11,13 +10,11 @@ use Rattle.const_pool.specs.declared.class.CodeAttribute.{CodeAttribute}
 use Rattle.code_model.proofs.Readings.{instruction_at-past}
 use Rattle.jvm_model.specs.declared.program.MethodPlace.{MethodPlace}
 use Rattle.jvm_model.specs.declared.program.Program.{Program}
-use Rattle.jvm_model.specs.Data.{Instruction}
-use Rattle.jvm_model.specs.Methods.{code_of, method_code}
+use Rattle.jvm_model.specs.Methods.{code_of}
 use Rattle.jvm_model.specs.Originals.{original}
 use Rattle.jvm_model.specs.Programs.{class_at}
 use Rattle.jvm_steps.specs.declared.line.Line.{Line}
-use Rattle.jvm_steps.specs.Tables.{Version}
-use Rattle.jvm_steps.specs.Entries.{code_line, lines_of, no_version, original_slot, original_version, original_versions, version_entry, version_in, version_of}
+use Rattle.jvm_steps.specs.Entries.{code_line, lines_of, no_version, original_slot, original_versions, version_entry, version_in, version_of}
 use Rattle.jvm_steps.specs.Lines.{method_line}
 use Rattle.jvm_steps.specs.Lines as originals
 use Rattle.jvm_steps.specs.Ready.{IsOwnLine}

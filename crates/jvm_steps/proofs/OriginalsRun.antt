@@ -1,7 +1,6 @@
 -- The versions that original code is can be run.
 use Rattle.std.proofs.Common.{◌≡◌, ℕ, ◌<◌, ◌≤◌, ◌+◌, ◌-◌, List, length, Option, Some, None, refl, ap, subst, sym, ◌∙◌, ⊎_elim, inl, inr, arith}
-use Rattle.std.specs.Prelude.{◌^◌, is_some, map, max, not, slice_get, unwrap_or}
-use Rattle.std.specs.List.{range_with_len}
+use Rattle.std.specs.Prelude.{is_some, max, not, slice_get, unwrap_or}
 use Rattle.std.specs.Option.{IfSome, option_and_then, option_map, option_map_or}
 use Rattle.std.proofs.lemmas.Bool.{cases_lt, eq-eqb}
 use Rattle.std.proofs.lemmas.List.FromFn.{length-map-range_with_len}
@@ -11,7 +10,6 @@ use Rattle.const_pool.specs.declared.class.Member.{Member}
 use Rattle.jvm_model.specs.declared.program.MethodPlace.{MethodPlace}
 use Rattle.jvm_model.specs.declared.program.Program.{Program}
 use Rattle.jvm_model.specs.Data.{Instruction}
-use Rattle.jvm_model.specs.Originals.{original}
 use Rattle.jvm_model.specs.Programs.{class_at}
 use Rattle.jvm_model.specs.Sound.{CanAttempt, HasClass, IsFit}
 use Rattle.jvm_model.proofs.SoundLines.{can-attempt}
@@ -20,7 +18,7 @@ use Rattle.jvm_steps.specs.Tables.{AreAllCurrent, Version, Versions, version_at}
 use Rattle.jvm_steps.specs.Entries.{no_version, original_slot, original_version, original_versions, own_number, version_entry, version_in, version_of}
 use Rattle.jvm_steps.specs.Prepared.{world_in}
 use Rattle.jvm_steps.specs.Ready.{CanRun, RunsIn}
-use Rattle.jvm_steps.specs.Versions.{Setup, current_of, instruction_in, line_in, method_of, text_of}
+use Rattle.jvm_steps.specs.Versions.{current_of, instruction_in, line_in, method_of, text_of}
 use Rattle.jvm_steps.proofs.OriginalVersions.{original-at, original-own}
 use Rattle.jvm_steps.proofs.Tabled.{slotted-at, slotted-past, tabled-at, tabled-past}
 

@@ -1,8 +1,7 @@
 -- The lines of a version that rewritten code is are lines of its class.
-use Rattle.std.proofs.Common.{◌≡◌, ◌<◌, ◌≤◌, ℕ, Bool, true, false, cond, List, length, map, Option, Some, None, refl, sym, ap, subst, ⊎_elim}
+use Rattle.std.proofs.Common.{◌<◌, ◌≤◌, ℕ, Bool, true, false, cond, List, length, Option, Some, None, sym, subst, ⊎_elim}
 use Rattle.std.specs.Option.{IfSome, option_and_then, option_flatten, option_map}
-use Rattle.std.specs.Prelude.{nat_lt, slice_get}
-use Rattle.std.specs.List.{range_with_len}
+use Rattle.std.specs.Prelude.{nat_lt}
 use Rattle.std.proofs.lemmas.Bool.{cases_lt}
 use Rattle.const_pool.specs.declared.class.ClassFile.{ClassFile}
 use Rattle.const_pool.specs.declared.class.CodeAttribute.{CodeAttribute}
@@ -12,10 +11,9 @@ use Rattle.code_model.specs.Instructions.{instruction_at}
 use Rattle.code_model.specs.Layout.{place_in}
 use Rattle.jvm_model.specs.Families.{family_of}
 use Rattle.jvm_model.specs.Lines.{instruction_of, operation_of}
-use Rattle.jvm_named.specs.Objects.{HasDimensions}
 use Rattle.jvm_steps.specs.declared.line.Line.{Line}
 use Rattle.jvm_model.specs.Homed.{start_in}
-use Rattle.jvm_steps.specs.Lines.{IfNamedBy, action_of, line_of}
+use Rattle.jvm_steps.specs.Lines.{action_of, line_of}
 use Rattle.jvm_steps.specs.Ready.{IsOwnLine}
 use Rattle.jvm_steps.specs.Rewritten.{homed_line, line_for, own_line, placed_line, rewritten_version}
 use Rattle.jvm_steps.specs.Versions.{HasOwnLines, line_in}

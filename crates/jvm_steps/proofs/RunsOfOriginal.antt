@@ -1,6 +1,5 @@
 -- The run of original code over its table of versions stands for the run.
-use Rattle.std.proofs.Common.{◌≡◌, ℕ, zero, suc, ◌+◌, ◌≤◌, Bool, true, false, List, [], ◌∷◌, length, Option, Some, None, refl, sym, ap, subst, ◌∙◌, arith}
-use Rattle.jvm_model.specs.declared.ending.Ending.{Ending}
+use Rattle.std.proofs.Common.{◌≡◌, ℕ, zero, suc, ◌+◌, ◌≤◌, List, [], ◌∷◌, length, refl, sym, ap, subst, ◌∙◌, arith}
 use Rattle.jvm_model.specs.declared.program.Program.{Program}
 use Rattle.jvm_model.specs.declared.state.State.{State}
 use Rattle.jvm_model.specs.Applies.{live_in}
@@ -9,7 +8,7 @@ use Rattle.jvm_model.specs.Moved.{Agrees, HaveBounds, self}
 use Rattle.jvm_model.specs.Originals.{original}
 use Rattle.jvm_model.specs.Run.{run, start, step, turn_in-zero, turn_in-suc}
 use Rattle.jvm_model.specs.Sound.{IsFit}
-use Rattle.jvm_model.specs.StandsForRun.{StandsFor, at_homes, forgotten}
+use Rattle.jvm_model.specs.StandsForRun.{at_homes, forgotten}
 use Rattle.jvm_model.proofs.AppliesMoves.{live-moves}
 use Rattle.jvm_model.proofs.StandsForRun.{start-stands_for, stands_for-same}
 use Rattle.jvm_steps.specs.Tables.{Versions}

@@ -20,7 +20,6 @@ use Rattle.jvm_model.proofs.SoundKinds.{has-root}
 use Rattle.jvm_model.proofs.SoundRuns.{loads-again}
 use Rattle.jvm_model.proofs.SoundTextRuns.{sound-loaded}
 use Rattle.jvm_model.proofs.SoundTextSteps.{entry-grows, sound-applied}
-use Rattle.jvm_model.specs.SoundTexts.{IsSound, IsSoundEntry}
 use Rattle.jvm_steps.specs.Ready.{CanRun, IsSoundEntryIn, IsSoundIn, IsTied, RunsIn}
 use Rattle.class_linker.specs.Linkers.{LinkerView}
 use Rattle.jvm_named.specs.Natives.{HasBuiltIn}

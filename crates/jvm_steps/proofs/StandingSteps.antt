@@ -1,14 +1,13 @@
 -- What stands for the run of original code stands for it behind the start, behind a step, and with versions more.
-use Rattle.std.proofs.Common.{◌≡◌, ℕ, zero, suc, ◌+◌, ◌<◌, ◌≤◌, Bool, true, false, List, [], ◌∷◌, ◌++◌, length, map, Option, Some, None, refl, sym, ap, subst, ◌∙◌, arith}
-use Rattle.std.specs.Prelude.{◌==◌, if◌then◌else◌}
+use Rattle.std.proofs.Common.{◌≡◌, ℕ, zero, suc, ◌+◌, ◌≤◌, false, List, [], ◌∷◌, ◌++◌, length, map, Option, refl, sym, ap, subst, ◌∙◌, arith}
+use Rattle.std.specs.Prelude.{cond, ◌==◌}
 use Rattle.std.specs.List.{AllByRecursion}
-use Rattle.std.specs.Option.{IfSome}
 use Rattle.std.proofs.lemmas.Bool.{eq-eqb, ne_eqb}
 use Rattle.std.proofs.lemmas.List.{append_assoc, append-nil}
+use Rattle.std.proofs.lemmas.List.Sums.{sum_by-append, sum_by-cons}
 use Rattle.frame_stack.specs.FrameLists.{PlacedFrame, pins_of}
 use Rattle.jvm_model.specs.declared.program.Program.{Program}
 use Rattle.jvm_model.specs.declared.state.Entry.{Entry}
-use Rattle.jvm_model.specs.declared.state.Entry.TheVariants.{Active, Initializing}
 use Rattle.jvm_model.specs.declared.state.State.{State}
 use Rattle.jvm_model.specs.Data.{Turn, World}
 use Rattle.jvm_model.specs.Originals.{original}
@@ -32,13 +31,14 @@ use Rattle.jvm_steps.specs.Runs.{steps_from, steps_from-zero, steps_from-suc}
 use Rattle.jvm_steps.specs.Standing.{AreMethodImages, HasVersions, IsPinned, IsOfProgram, IsRunOf, IsSetUp, places_of}
 use Rattle.jvm_steps.specs.Versions.{Setup, current_of, method_of, text_of}
 use Rattle.jvm_steps.specs.VersionTexts.{homes_left, homes_with}
+use Rattle.jvm_steps.proofs.Added.{lines-added, lines-left}
 use Rattle.jvm_steps.proofs.Assembled.{at-first}
 use Rattle.jvm_model.proofs.ClosedPrograms.{program-agrees}
 use Rattle.jvm_steps.proofs.ClassVersionLaws.{versions-of}
 use Rattle.jvm_steps.proofs.OriginalVersions.{original-own}
 use Rattle.jvm_model.proofs.SoundTextRuns.{sound-start, sound-step}
 use Rattle.jvm_steps.proofs.VersionsAgree.{versions-agree}
-use Rattle.jvm_steps.proofs.VersionsRun.{added-lines, added-versions, count-added, kept-entries, kept-stands, left-lines, left-versions, same-added, same-left, step-stands, versions-can-run}
+use Rattle.jvm_steps.proofs.VersionsRun.{added-versions, count-added, kept-entries, kept-stands, left-versions, same-added, same-left, step-stands, versions-can-run}
 
 -- ---- original code is set up so
 
@@ -109,7 +109,7 @@ module _ (w : Setup) (fs : List PlacedFrame) (after : Versions) where
       fit = has.fit;
       closed = has.closed;
       are = left-versions p (places_of p) homes v has.are fs after released;
-      lines = left-lines p (places_of p) homes v has.are fs after released IsOwnLine has.lines;
+      lines = lines-left IsOwnLine fs v after released has.lines;
     }
 
     pub run-of-left : (clock : ℕ) (s : State) → IsPinned fs s.stack → IsRunOf w clock s → IsRunOf (with_table after w) clock s
@@ -134,7 +134,7 @@ module _ (w : Setup) (fs : List PlacedFrame) (after : Versions) where
       fit = has.fit;
       closed = has.closed;
       are = added-versions p (places_of p) homes v has.are fs number x of.home after added of.version of.own;
-      lines = added-lines p (places_of p) homes v has.are fs number x of.home after added IsOwnLine of.lines has.lines;
+      lines = lines-added IsOwnLine fs number x v after added of.lines has.lines;
     }
 
     pub set-up-one : IsSetUp w → IsSetUp (with_table after w)
@@ -172,21 +172,13 @@ run-of-all fs (x ∷ xs) w after clock s of adds pinned is =
 
 -- ---- the frames of parts are theirs
 
-more-pins : (version : ℕ) (front fs : List PlacedFrame) → pins_of version fs ≤ pins_of version (front ++ fs)
-more-pins version [] fs = omega arith
-more-pins version (f ∷ front) fs = by (f.version == version) refl (more-pins version front fs) where
-  counted : Bool → ℕ → ℕ
-  counted b n = if b then suc n else n
-
-  by : (b : Bool) → (f.version == version) ≡ b → pins_of version fs ≤ pins_of version (front ++ fs) → pins_of version fs ≤ counted (f.version == version) (pins_of version (front ++ fs))
-  by true e more = let on : counted (f.version == version) (pins_of version (front ++ fs)) ≡ suc (pins_of version (front ++ fs)) = ap (λ b. counted b (pins_of version (front ++ fs))) e in omega (arith, on, more)
-  by false e more = let on : counted (f.version == version) (pins_of version (front ++ fs)) ≡ pins_of version (front ++ fs) = ap (λ b. counted b (pins_of version (front ++ fs))) e in omega (arith, on, more)
-
 own-pin : (front : List PlacedFrame) (f : PlacedFrame) (below : List PlacedFrame) → (pins_of f.version (front ++ f ∷ below) == 0) ≡ false
 own-pin front f below =
-    let here : pins_of f.version (f ∷ below) ≡ suc (pins_of f.version below) = ap (λ b. if b then suc (pins_of f.version below) else pins_of f.version below) (eq-eqb f.version f.version refl) in
-    let more = more-pins f.version front (f ∷ below) in
-    ne_eqb (pins_of f.version (front ++ f ∷ below)) 0 (λ none. absurd (omega (arith, none, here, more)))
+    let all = sum_by-append (λ (g : PlacedFrame). cond (g.version == f.version) 1 0) front (f ∷ below) in
+    let top = sum_by-cons (λ (g : PlacedFrame). cond (g.version == f.version) 1 0) f below in
+    let one : ℕ = 1 in
+    let here : cond (f.version == f.version) one 0 ≡ one = ap (λ b. cond b one 0) (eq-eqb f.version f.version refl) in
+    ne_eqb (pins_of f.version (front ++ f ∷ below)) 0 (λ none. absurd (omega (arith, none, all, top, here)))
 
 module _ (all : List PlacedFrame) where
   behind-markers : (ms : List Marker) (stack : List Entry) → IsPinned all stack → IsPinned all (map initializing ms ++ stack)

@@ -1,20 +1,20 @@
 -- A table of versions is a text of versions of the original code.
-use Rattle.std.proofs.Common.{◌≡◌, ◌≤◌, ◌<◌, ◌+◌, ◌-◌, ℕ, List, [], length, map, Option, Some, None, refl, sym, ap, subst, ◌∙◌, ⊎_elim, arith}
-use Rattle.std.specs.Prelude.{max, slice_get, unwrap_or}
+use Rattle.std.proofs.Common.{◌≡◌, ◌≤◌, ◌<◌, ◌+◌, ◌-◌, ℕ, [], length, map, Option, Some, None, refl, sym, ap, subst, ◌∙◌, ⊎_elim, arith}
+use Rattle.std.specs.Prelude.{max, unwrap_or}
 use Rattle.std.specs.Option.{option_and_then, option_map, option_map_or}
 use Rattle.std.proofs.lemmas.Bool.{cases_lt}
-use Rattle.std.proofs.lemmas.Option.{none-some, slice_get_past, slice_get_within}
+use Rattle.std.proofs.lemmas.Option.{slice_get_past}
 use Rattle.jvm_model.specs.declared.program.Program.{Program}
 use Rattle.jvm_model.specs.declared.program.MethodPlace.{MethodPlace}
-use Rattle.jvm_model.specs.Data.{Catcher, Instruction, Text}
+use Rattle.jvm_model.specs.Data.{Text}
 use Rattle.jvm_model.specs.Lines.{method_instruction}
-use Rattle.jvm_model.specs.Moved.{Agrees, IsPlace, moved_catcher, moved_instruction}
+use Rattle.jvm_model.specs.Moved.{IsPlace, moved_catcher, moved_instruction}
 use Rattle.jvm_model.specs.Originals.{method_handlers, original}
 use Rattle.jvm_model.specs.Programs.{class_at}
-use Rattle.jvm_model.specs.StandsForRun.{IsOfVersions, at_homes, named, norm_by}
+use Rattle.jvm_model.specs.StandsForRun.{IsOfVersions, named}
 use Rattle.jvm_steps.specs.Tables.{Version, Versions, version_at}
 use Rattle.jvm_steps.specs.Versions.{catcher_in, current_of, first_of, handlers_in, instruction_in, line_in, method_of, text_of}
-use Rattle.jvm_steps.specs.VersionTexts.{AreVersions, IsVersionOf}
+use Rattle.jvm_steps.specs.VersionTexts.{AreVersions}
 
 -- past the methods there is no code
 none-at : (p : Program) (k at : ℕ) → length p.methods ≤ k → (original p).at k at ≡ None

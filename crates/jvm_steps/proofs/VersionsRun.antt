@@ -1,5 +1,5 @@
 -- A table of versions of the original code can be run, stands for the run, and does so when a version is added.
-use Rattle.std.proofs.Common.{◌≡◌, ◌≤◌, ◌<◌, ◌+◌, ◌-◌, ℕ, zero, suc, Bool, true, false, cond, List, [], ◌∷◌, ◌++◌, length, map, Option, Some, None, refl, sym, ap, subst, ◌∙◌, ⊎_elim, inl, inr, arith}
+use Rattle.std.proofs.Common.{◌≡◌, ◌≤◌, ◌<◌, ◌+◌, ◌-◌, ℕ, zero, suc, Bool, true, false, cond, List, [], ◌∷◌, length, Option, Some, None, refl, sym, ap, subst, ◌∙◌, ⊎_elim, inl, inr, arith}
 use Rattle.std.specs.Prelude.{max, not, is_some, slice_get, slice_set, unwrap_or, ◌==◌, ◌&&◌, if◌then◌else◌}
 use Rattle.std.specs.List.{AllByRecursion}
 use Rattle.std.specs.Option.{IfSome, option_and_then, option_map, option_map_or}
@@ -21,14 +21,18 @@ use Rattle.jvm_model.proofs.StandsForRun.{stands_for-kept, step-stands_for}
 use Rattle.jvm_steps.specs.Tables.{IsAdded, Releases, Version, Versions, version_at}
 use Rattle.jvm_steps.specs.Ready.{CanRun, IsKept, IsOwnLine, RunsIn}
 use Rattle.jvm_model.specs.SoundTexts.{IsSoundEntry}
-use Rattle.jvm_steps.specs.Versions.{Setup, current_of, instruction_in, line_at, line_in, method_of, text_of}
+use Rattle.jvm_steps.specs.Versions.{current_of, instruction_in, line_at, line_in, method_of, text_of}
 use Rattle.jvm_steps.specs.VersionTexts.{AreVersions, HasCurrent, IsVersionOf, homes_left, homes_where, homes_with}
 use Rattle.jvm_steps.specs.Standing.{IsPinned}
-use Rattle.jvm_steps.specs.declared.line.Line.{Line}
 use Rattle.frame_stack.specs.FrameLists.{PlacedFrame, pins_of}
 use Rattle.method_versions.specs.Tables.{held_besides, is_number, is_old, is_superseded_in}
 use Rattle.method_versions.proofs.Adding.{apart-by, set-at, set-other}
 use Rattle.jvm_steps.proofs.VersionsAgree.{begins-by, method-held, versions-agree}
+
+has-number : (xs : List ℕ) (i n : ℕ) → i < length xs → slice_get xs i ≡ Some (unwrap_or (slice_get xs i) n)
+has-number [] i n lt = absurd (omega arith)
+has-number (x ∷ xs) zero n lt = refl
+has-number (x ∷ xs) (suc i) n lt = has-number xs i n (omega arith)
 
 and-false : (b : Bool) → (b && false) ≡ false
 and-false true = refl
@@ -127,25 +131,12 @@ module _ (p : Program) (norm : ℕ → ℕ → ℕ) (homes : ℕ → ℕ → ℕ
 
   -- the number of the version that a method of the program begins in
   begins-in : (k : ℕ) → k < length p.methods → slice_get v.current k ≡ Some (current_of v k)
-  begins-in k lt = by (slice_get v.current k) refl where
-    by : (o : Option ℕ) → slice_get v.current k ≡ o → o ≡ Some (unwrap_or o (4294967296 + k))
-    by (Some n) is = refl
-    by None is = absurd (within (slice_get v.current k) is) where
-      within : (o : Option ℕ) → o ≡ None → ⊥
-      within o is = there v.current k (omega (arith, lt, are.count)) (is_at o is)
-        where
-          is_at : (o : Option ℕ) → o ≡ None → slice_get v.current k ≡ None
-          is_at o e = is
-
-          there : (xs : List ℕ) (i : ℕ) → i < length xs → slice_get xs i ≡ None → ⊥
-          there [] i lt e = absurd (omega arith)
-          there (x ∷ xs) zero lt e = cc
-          there (x ∷ xs) (suc i) lt e = there xs i (omega arith) e
+  begins-in k lt = has-number v.current k (4294967296 + k) (omega (arith, lt, are.count))
 
   -- ---- superseded versions are dropped
 
   module _ (fs : List PlacedFrame) (after : Versions) (released : Releases fs v after) where
-    is_due : ℕ → Bool
+    abbrev is_due : ℕ → Bool
     is_due k = is_superseded_in v.slots v.current k && pins_of k fs == 0
 
     stays : (k : ℕ) → is_due k ≡ false → version_at after k ≡ version_at v k
@@ -194,22 +185,16 @@ module _ (p : Program) (norm : ℕ → ℕ → ℕ) (homes : ℕ → ℕ → ℕ
       bounds = are.bounds;
     }
 
-    pub left-lines : (P : Line → Type 0) → ((version place : ℕ) → IfSome (line_at v version place) P) → (version place : ℕ) → IfSome (line_at after version place) P
-    left-lines P each k place = by (is_due k) refl where
-      by : (b : Bool) → is_due k ≡ b → IfSome (line_at after k place) P
-      by true e = subst (λ (o : Option Version). IfSome (option_and_then (line_in place) o) P) (sym (goes k e)) tt
-      by false e = subst (λ (o : Option Version). IfSome (option_and_then (line_in place) o) P) (sym (stays k e)) (each k place)
-
   -- ---- a version more
 
   module _ (fs : List PlacedFrame) (number : ℕ) (x : Version) (home : ℕ → ℕ) (after : Versions) (added : IsAdded fs number x v after) where
     abbrev news : ℕ → ℕ → ℕ
     news = homes_with after number home homes
 
-    former : Option ℕ
+    abbrev former : Option ℕ
     former = slice_get v.current x.method
 
-    is_former : ℕ → Bool
+    abbrev is_former : ℕ → Bool
     is_former k = is_number k former && pins_of k fs == 0
 
     here : version_at after number ≡ Some x
@@ -243,17 +228,6 @@ module _ (p : Program) (norm : ℕ → ℕ → ℕ) (homes : ℕ → ℕ → ℕ
         by : IsKept v k → k ≡ number → ⊥
         by (inl held) same = some-apart (version_at v k) refl held same
         by (inr far) same = absurd (omega (arith, far, same, added.small))
-
-    pub added-lines : (P : Line → Type 0) → ((place : ℕ) → IfSome (line_in place x) P) → ((version place : ℕ) → IfSome (line_at v version place) P)
-        → (version place : ℕ) → IfSome (line_at after version place) P
-    added-lines P own each k place = by (k == number) refl (is_former k) refl where
-      at : Option Version → Type 0
-      at o = IfSome (option_and_then (line_in place) o) P
-
-      by : (b : Bool) → (k == number) ≡ b → (c : Bool) → is_former k ≡ c → IfSome (line_at after k place) P
-      by true e c d = subst at (sym (ap (version_at after) (eqb-true k number e) ∙ here)) (own place)
-      by false e true d = subst at (sym (apart k (apart-by k number e) ∙ ap (λ b. if b then None else version_at v k) d)) tt
-      by false e false d = subst at (sym (apart k (apart-by k number e) ∙ ap (λ b. if b then None else version_at v k) d)) (each k place)
 
     module _ (is : IsVersionOf p norm x home) (own : x.method < length p.methods) where
       each-added : (k : ℕ) (y : Version) → version_at after k ≡ Some y → IsVersionOf p norm y (news k)

@@ -1,14 +1,12 @@
 -- What becomes of a state by the line of its current frame (JVM Specification 2.6.4, 2.6.5, 2.10, 6.5): what `applies` of the model
 -- says of the instruction that the line stands for. From the state without that frame, and the frame.
-use Rattle.std.specs.Prelude.{◌≡◌, ℕ, Bool, true, false, ◌&&◌, ◌||◌, is_some, is_none, List, [], ◌∷◌, ◌++◌, Option, Some, None, Result, OnOk, if◌then◌else◌}
+use Rattle.std.specs.Prelude.{◌≡◌, ℕ, Bool, true, false, ◌&&◌, ◌||◌, is_some, is_none, List, [], ◌∷◌, ◌++◌, Option, Some, None, Result, OnOk}
 use Rattle.jf_bytes.specs.declared.error.NoMemory.{NoMemory}
 use Rattle.std.specs.Option.{option_map, option_map_or}
 use Rattle.heap_objects.specs.declared.datum.Datum.{Datum}
 use Rattle.const_pool.specs.declared.descriptor.Kind.{Kind}
 use Rattle.frame_stack.specs.FrameLists.{PlacedFrame, has_frame}
-use Rattle.jvm_model.specs.declared.family.Family.{Family}
 use Rattle.jvm_model.specs.declared.ending.Ending.TheVariants.{Unverifiable}
-use Rattle.jvm_model.specs.declared.program.Program.{Program}
 use Rattle.jvm_model.specs.declared.state.Entry.{Entry}
 use Rattle.jvm_model.specs.declared.state.Entry.TheVariants.{Active, Initializing}
 use Rattle.jvm_model.specs.declared.state.Frame.{Frame}
@@ -16,7 +14,6 @@ use Rattle.jvm_model.specs.declared.state.State.{State}
 use Rattle.jvm_model.specs.Data.{Naming, Nop, Within, Instruction, Outcome, Returns, Done}
 use Rattle.jvm_model.specs.Applies.{breaks, goes, throws_at, applies}
 use Rattle.jvm_model.specs.ConstantRules.{pushes_string}
-use Rattle.jvm_model.specs.Families.{family_of}
 use Rattle.jvm_model.specs.Lines.{targets_of}
 use Rattle.jvm_model.specs.LocalRules.{returns, arithmetic_exception, by_zero}
 use Rattle.jvm_model.specs.Naming.{newly_loaded}
@@ -39,7 +36,7 @@ use Rattle.jvm_steps.specs.declared.parts.Parts.{Parts}
 use Rattle.jvm_steps.specs.Markers.{is_unmarked, state_of, with_markers}
 use Rattle.jvm_steps.specs.Prepared.{exception_name}
 use Rattle.jvm_steps.specs.States.{frame_in, state_with, state_in}
-use Rattle.jvm_steps.specs.Versions.{Setup, is_athrow, is_last_family, next_in, text_of, line_at}
+use Rattle.jvm_steps.specs.Versions.{Setup, next_in, text_of, line_at}
 use Rattle.jvm_steps.specs.Tables.{Versions}
 
 -- ---- a line in its place

@@ -1,5 +1,5 @@
 -- The versions of a class's methods for an image of the class: where homes tell of a method the version that it has in the image, else its original code.
-use Rattle.std.specs.Prelude.{◌≡◌, ◌<◌, ◌≤◌, ◌^◌, ℕ, ◌+◌, List, [], ◌∷◌, ◌++◌, length, slice_get, slice_set, Option, Some, None}
+use Rattle.std.specs.Prelude.{ℕ, ◌+◌, List, [], ◌∷◌, ◌++◌, length, slice_get, Option, Some}
 use Rattle.std.specs.List.{AllByRecursion}
 use Rattle.std.specs.List.Sorted.{IsStrictlyIncreasing}
 use Rattle.std.specs.Option.{IfSome, option_and_then, option_flatten, option_map, option_map_or}
@@ -10,7 +10,7 @@ use Rattle.code_model.specs.declared.laying.Homes.{Homes}
 use Rattle.jvm_model.specs.declared.program.Program.{Program}
 use Rattle.jvm_model.specs.Methods.{code_of, method_code}
 use Rattle.jvm_model.specs.Programs.{class_at, number_of_method}
-use Rattle.jvm_steps.specs.Tables.{Version, Versions}
+use Rattle.jvm_steps.specs.Tables.{Version}
 use Rattle.jvm_steps.specs.Entries.{original_version}
 use Rattle.jvm_steps.specs.Prepared.{HasShortCodes}
 use Rattle.jvm_steps.specs.Rewritten.{rewritten_version}

@@ -1,5 +1,5 @@
 -- What is kept of a program's original code: at each number and offset, what the definitions look up there.
-use Rattle.std.specs.Prelude.{◌≡◌, ℕ, ◌<◌, ◌^◌, length, slice_get, unwrap_or, Option, List, [], ◌∷◌, if◌then◌else◌}
+use Rattle.std.specs.Prelude.{◌≡◌, ℕ, ◌<◌, ◌^◌, length, slice_get, unwrap_or, List, [], ◌∷◌, if◌then◌else◌}
 use Rattle.std.specs.Option.{option_and_then, option_map_or}
 use Rattle.std.specs.Option.{IfSome}
 use Rattle.std.specs.List.{AllByRecursion}
@@ -121,6 +121,7 @@ pub record IsPrepared (p : Program) (methods : List Method) (versions : Versions
   pub max_stack : (k : ℕ) → option_map_or (λ m. m.max_stack) (slice_get methods k) 0 ≡ max_stack_of (world_in p []) k
   pub max_locals : (k : ℕ) → option_map_or (λ m. m.max_locals) (slice_get methods k) 0 ≡ max_locals_of (world_in p []) k
   pub lines : HasLines versions
+  pub count : length versions.current ≡ length p.methods
   pub raised : (e : Exception) → exception_in exceptions e ≡ exception_kind p e
   pub string : exceptions.string ≡ kind_for p string
   pub numbers : AreNumbers p rows

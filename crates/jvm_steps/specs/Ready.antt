@@ -1,5 +1,5 @@
 -- What steps ask of the code that is run.
-use Rattle.std.specs.Prelude.{◌≡◌, ◌<◌, ◌≤◌, ◌⊎◌, ℕ, true, List, length, is_some, Some}
+use Rattle.std.specs.Prelude.{◌≡◌, ◌≤◌, ◌⊎◌, ℕ, true, List, is_some, Some}
 use Rattle.jvm_steps.specs.Tables.{Versions, version_at}
 use Rattle.std.specs.Option.{IfSome, option_and_then}
 use Rattle.jvm_model.specs.Data.{Locals, Operands, Local, Operation, Within}

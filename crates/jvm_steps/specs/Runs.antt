@@ -2,7 +2,6 @@
 use Rattle.std.specs.Prelude.{◌≡◌, ℕ, zero, suc, ◌<◌, false, List, [], ◌∷◌, length, Some, None, is_some, refl}
 use Rattle.frame_stack.specs.FrameLists.{PlacedFrame}
 use Rattle.jvm_model.specs.declared.state.State.{State}
-use Rattle.jvm_model.specs.Originals.{original}
 use Rattle.jvm_model.specs.Run.{step}
 use Rattle.jvm_steps.specs.declared.line.Action.TheVariants.{Local}
 use Rattle.jvm_steps.specs.declared.line.Line.{Line}

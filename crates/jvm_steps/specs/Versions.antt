@@ -1,6 +1,6 @@
 -- The code that is run: versions of methods, each with what stands at its places, and the version that each method begins in.
 -- Original code is the case in which a method has one version, and its places are its offsets.
-use Rattle.std.specs.Prelude.{◌≡◌, ◌≤◌, ℕ, ◌^◌, ◌-◌, ◌+◌, List, [], length, map, max, slice_get, unwrap_or, Bool, true, false, Option, Some, None, if◌then◌else◌}
+use Rattle.std.specs.Prelude.{◌≡◌, ℕ, ◌-◌, ◌+◌, List, [], length, map, max, slice_get, unwrap_or, Bool, true, false, Option, Some, None, if◌then◌else◌}
 use Rattle.std.specs.Option.{IfSome, option_and_then, option_flatten, option_map, option_map_or}
 use Rattle.method_versions.specs.Tables.{current_in}
 use Rattle.jvm_model.specs.Data.{Catcher, Instruction, Local, Nop, Return, Operation, Within, Named, Athrow, Monitor, Newarray, Arraylength, LoadElement, StoreElement, LdcString, Text, World}
@@ -8,7 +8,7 @@ use Rattle.jvm_model.specs.Families.{family_of}
 use Rattle.jvm_model.specs.Lines.{local_of, next_of, targets_of}
 use Rattle.jvm_model.specs.declared.family.Family.{Family}
 use Rattle.jvm_model.specs.declared.family.Family.TheVariants as family
-use Rattle.jvm_basic.specs.Rules.{datum_in, rule_of}
+use Rattle.jvm_basic.specs.Rules.{datum_in}
 use Rattle.jvm_named.specs.Names.{naming_view}
 use Rattle.jvm_named.specs.Objects.{HasDimensions}
 use Rattle.jvm_steps.specs.Lines.{IfNamedBy}

@@ -77,7 +77,8 @@ fn begin_class(
     found: Result<u32, Refusal>,
 ) -> Result<(), NoMemory>
     ensures state { OnOk result (state_of markers.new parts.new
-        ≡ begun_by originals.now.setup.world class (found_view found) (state_of markers.old parts.old)) }
+        ≡ begun_by originals.now.setup.world class (found_view found)
+        (state_of markers.old parts.old)) }
     ensures loaded { OnOk result (parts.new.shared.loaded ≡ parts.old.shared.loaded) }
 {
     match found {

@@ -217,7 +217,8 @@ pub fn go_on(
     part: Part,
 ) -> Result<(), NoMemory>
     ensures { let w = originals.now.setup in OnOk result (state_of markers.new parts.new
-        ≡ (initializes w.world (text_of w.versions) (state_of markers.old parts.old) class part).after) }
+        ≡ (initializes w.world (text_of w.versions) (state_of markers.old parts.old) class
+        part).after) }
 {
     match part {
         Part::Constants => run_constants(alloc, originals, parts, markers, class),

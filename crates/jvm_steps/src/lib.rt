@@ -46,12 +46,14 @@ pub use invoking::{fits_params, may_begin};
 pub use line::{Action, Line};
 pub use markers::Marker;
 pub use members::{
-    code_of, field_at, is_initializer, is_out, is_println, is_reference, method_at, method_named,
+    code_of, field_at, initializer_in, is_initializer, is_out, is_println, is_reference, method_at,
+    method_named,
 };
 pub use objects::arguments_fit;
 pub use originals::{Exception, Originals};
 pub use parts::{Here, Parts, where_now};
 pub use raising::raise;
+pub use resolving::line_of;
 pub use starting::parts_before;
 pub use stepping::{run, step};
 pub use versions::{Catching, PreparedCode, Version, Versions};

@@ -185,7 +185,8 @@ impl Originals {
         ensures program { IfOk result (λ o. o.setup.world.program ≡ program) }
         ensures input { IfOk result (λ o. o.setup.world.input ≡ input) }
         ensures versions { IfOk result (λ o. o.setup.versions ≡ original_versions program) }
-        ensures set_up { IfOk result (λ o. IsFit program → HasClosedCodes program → IsSetUp o.setup) }
+        ensures set_up { IfOk result
+            (λ o. IsFit program → HasClosedCodes program → IsSetUp o.setup) }
         ensures loaded { IfOk result (λ o. o.loaded ≡ built_in_from 0 program.classes) }
     {
         let methods = prepare_methods(alloc, &program)?;
@@ -342,7 +343,8 @@ impl Originals {
     ) -> Result<(), NoMemory>
         requires { FitsImage image.now homes.now }
         ensures ok { let w = self.old.setup in OnOk result (Adds frames.now.frames
-            (class_versions w.world.program class image.now homes.now) w.versions self.new.setup.versions) }
+            (class_versions w.world.program class image.now homes.now) w.versions
+            self.new.setup.versions) }
         ensures err { OnErr result (self.new.setup.versions ≡ self.old.setup.versions) }
         ensures world { self.new.setup.world ≡ self.old.setup.world }
         ensures loaded { self.new.loaded ≡ self.old.loaded }
@@ -360,7 +362,8 @@ impl Originals {
 
     /// Drops each superseded version that no frame runs.
     pub fn release(&mut self, frames: &Frames)
-        ensures released { Releases frames.now.frames self.old.setup.versions self.new.setup.versions }
+        ensures released { Releases frames.now.frames self.old.setup.versions
+            self.new.setup.versions }
         ensures same { AreAllCurrent self.old.setup.versions → self.new.setup ≡ self.old.setup }
         ensures world { self.new.setup.world ≡ self.old.setup.world }
         ensures loaded { self.new.loaded ≡ self.old.loaded }
@@ -420,12 +423,14 @@ impl Originals {
             (λ n next. Moves result frames.new (attempts w.world n shared.old frames.old) next
             frames.old) }
         ensures shared { let w = self.old.setup in IfNamed (line_at w.versions version place)
-            (λ n next. Shares result shared.new (attempts w.world n shared.old frames.old) frames.old) }
+            (λ n next. Shares result shared.new (attempts w.world n shared.old frames.old)
+            frames.old) }
         ensures output { let w = self.old.setup in IfNamed (line_at w.versions version place)
             (λ n next. OnOk result (output.new
             ≡ output.old ++ wrote_by (attempts w.world n shared.old frames.old) frames.old)) }
-        ensures loaded { let p = self.old.setup.world.program in IfNamed (line_at self.old.setup.versions version place)
-            (λ n next. OnOk result (self.new.loaded ≡ loaded_for p n shared.old frames.old)) }
+        ensures loaded { let w = self.old.setup in let p = w.world.program in
+            IfNamed (line_at w.versions version place) (λ n next.
+            OnOk result (self.new.loaded ≡ loaded_for p n shared.old frames.old)) }
         ensures built_in { OnOk result (HasBuiltIn (linker_in self.new)) }
         ensures objects { OnOk result (AreLoaded (linker_in self.new) shared.new.heap) }
         ensures world { self.new.setup ≡ self.old.setup }

@@ -140,7 +140,8 @@ pub fn rewritten_version(
     requires short { length code.now.code < 2 ^ 16 }
     requires starts { IsStrictlyIncreasing homes.now.from }
     requires homes { IsStrictlyIncreasing homes.now.home }
-    ensures { IfOk result (λ version. version ≡ rewritten_version method image.now code.now homes.now len) }
+    ensures { IfOk result (λ version. version
+        ≡ rewritten_version method image.now code.now homes.now len) }
 {
     let handlers = handlers_of(alloc, image, code.handlers.as_slice())?;
     let lines = homed_lines(alloc, image, code.code.as_slice(), homes, len)?;

@@ -1,4 +1,4 @@
-use Rattle.std.proofs.Common.{sym, subst, refl, ◌+◌, ◌∙◌, arith}
+use Rattle.std.proofs.Common.{sym, subst, refl, ◌∙◌, arith}
 use Rattle.jvm_steps.specs.Ready.{CanRun, IsSoundIn}
 use Rattle.jvm_steps.specs.Markers.{state_of}
 use Rattle.jvm_steps.specs.Runs.{Leads}

@@ -1,6 +1,9 @@
-use Rattle.std.proofs.Common.{◌≡◌, ◌<◌, ◌^◌, length, arith, rules}
+use Rattle.std.proofs.Common.{◌≡◌, ◌<◌, ◌≤◌, ◌^◌, length, arith, rules}
 use Rattle.jvm_steps.proofs.BuiltInLoads.{few-coded}
 use Rattle.jvm_steps.proofs.Entries.{IsPrepared-entries, IsPrepared-same}
+use Rattle.jvm_steps.specs.Prepared.{world_in}
+use Rattle.jvm_steps.specs.Versions.{Setup}
+use Rattle.jvm_steps.proofs.StandingSteps.{made-set_up}
 use Rattle.jvm_steps.proofs.originals.Originals.new.Goals as goal
 
 pub new-requires-clause-few : goal.new-requires-clause-few
@@ -13,3 +16,10 @@ invariant_of-result c =
     IsPrepared-same c.args.program c.load_built_in.new.linker.program c.in_ok-methods.methods c.in_ok-versions.versions c.exceptions_of-exceptions.result c.in_ok-numbers.numbers same
     (IsPrepared-entries c.args.program c.in_ok-methods.methods c.in_ok-versions.versions c.exceptions_of-exceptions.result c.in_ok-numbers.numbers c.requires few c.requires.methods
     c.in_ok-methods.ensures c.in_ok-versions.ensures c.exceptions_of-exceptions.ensures.raised c.exceptions_of-exceptions.ensures.string c.in_ok-numbers.ensures)
+
+pub returns-clause-set_up : goal.returns-clause-set_up
+returns-clause-set_up c = λ fit closed.
+    let few : length c.args.program.methods ≤ 4294967296 = omega (arith, c.requires.methods) in
+    let same : c.load_built_in.new.linker.program ≡ c.args.program = search rules in
+    let made : Setup = record { world = world_in c.load_built_in.new.linker.program c.args.input; versions = c.in_ok-versions.versions } in
+    made-set_up made c.args.program same c.in_ok-versions.ensures few fit closed
