@@ -1,0 +1,3 @@
+pub mod ClassShapes
+pub mod Comparing
+pub mod Swaps
