@@ -1,3 +1,4 @@
 pub mod NameLists
 pub mod ShapeLaws
 pub mod ImageShapes
+pub mod SwapLaws

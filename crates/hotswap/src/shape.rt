@@ -13,7 +13,7 @@ use const_pool::ClassFile;
 pub const OF_HEADING: u16 = 65535;
 
 /// The number that is told of two classes.
-fn number_of(original: &ClassFile, image: &ClassFile) -> Option<u16>
+pub(crate) fn number_of(original: &ClassFile, image: &ClassFile) -> Option<u16>
     requires { IsClassFile image.now }
     ensures { result ≡ number_of original.now image.now }
 {
