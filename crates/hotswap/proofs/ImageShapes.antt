@@ -15,14 +15,14 @@ use Rattle.const_pool.specs.declared.pool.PoolError.TheVariants.{BadIndex}
 use Rattle.const_pool.specs.ClassFile.{IsClassFile, IsMember, IsFieldAttribute, IsMethodAttribute, IsU2}
 use Rattle.const_pool.specs.Pool.{IsPool, Names, entry_of, is_class, is_utf8}
 use Rattle.const_pool.specs.References.{class_entry, named_class, named_text, text_entry, ◌>>=◌}
-use Rattle.const_pool.specs.Tail.{tail_entries, with_tail}
+use Rattle.const_pool.specs.Tail.{tail_entries}
 use Rattle.code_model.specs.declared.laying.Homes.{Homes}
 use Rattle.jvm_model.specs.declared.event.Mark.{Mark}
 use Rattle.jvm_model.specs.declared.event.Mark.TheVariants.{Off, Plain, Root}
-use Rattle.jvm_model.specs.Images.{all_off, next_number, IsMemberImage, AreMemberImages, IsOriginal, IsRewritten, IsImage}
+use Rattle.jvm_model.specs.Images.{all_off, next_number, IsMemberImage, AreMemberImages, IsOriginal, IsRewritten}
 use Rattle.jvm_model.proofs.ImagePools.{slice_get-more, named_text-more, named_class-more}
 use Rattle.jvm_model.proofs.PoolTexts.{have-texts, named-there}
-use Rattle.hotswap.specs.ClassShapes.{MemberShape, Heading, HasSameShape, heading_of, fields_of, methods_of, shape_in}
+use Rattle.hotswap.specs.ClassShapes.{Heading, HasSameShape, heading_of, shape_in}
 use Rattle.hotswap.specs.Swaps.{IsSomeImage}
 
 -- ---- what the pool names, with more entries behind
@@ -113,10 +113,10 @@ more-same c more methods formed same =
     let counted : length c.methods ≡ length methods = sym (length-map c.methods (shape_in c.pool)) ∙ (ap length same ∙ length-map methods (shape_in pool)) in
     record {
       heading =
-        ap (λ n. record h { name = n }) (named-same c.pool more c.this_class formed.pool formed.this_class)
-        ∙ (ap (λ n. record h { name = this; superclass = n }) (class-same c.pool more c.super_class formed.pool formed.super_class)
-        ∙ (ap (λ ns. record h { name = this; superclass = above; interfaces = ns }) (classes-same c.pool more c.interfaces formed.pool formed.interfaces)
-        ∙ ap (λ n. record h { name = this; superclass = above; interfaces = interfaces; method_count = n }) counted));
+          ap (λ n. record h { name = n }) (named-same c.pool more c.this_class formed.pool formed.this_class)
+          ∙ (ap (λ n. record h { name = this; superclass = n }) (class-same c.pool more c.super_class formed.pool formed.super_class)
+          ∙ (ap (λ ns. record h { name = this; superclass = above; interfaces = ns }) (classes-same c.pool more c.interfaces formed.pool formed.interfaces)
+          ∙ ap (λ n. record h { name = this; superclass = above; interfaces = interfaces; method_count = n }) counted));
       fields = fields-same c.pool more c.fields formed.fields;
       methods = same;
     }

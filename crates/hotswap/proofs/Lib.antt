@@ -2,3 +2,5 @@ pub mod NameLists
 pub mod ShapeLaws
 pub mod ImageShapes
 pub mod SwapLaws
+pub mod WorkedShapes
+pub mod WorkedSwaps

@@ -1,5 +1,5 @@
 -- The number that is told of two classes is told exactly where they have not the same shape, and of what differs first.
-use Rattle.std.proofs.Common.{◌≡◌, ◌≢◌, ℕ, zero, suc, ◌+◌, Bool, true, false, cond, List, [], ◌∷◌, map, take, drop, length, slice_get, Option, Some, None, refl, sym, ap, subst, ◌∙◌, ◌<◌, ◌≤◌, inl, inr, arith}
+use Rattle.std.proofs.Common.{◌≡◌, ◌≢◌, ℕ, zero, suc, ◌+◌, Bool, true, false, cond, List, [], ◌∷◌, take, drop, length, slice_get, Option, Some, None, refl, sym, ap, subst, ◌∙◌, ◌<◌, inl, inr, arith}
 use Rattle.std.specs.Prelude.{IsNone}
 use Rattle.std.specs.Option.{IfSome}
 use Rattle.std.proofs.Math.Nat.{add-zero, zero-add}
@@ -8,7 +8,7 @@ use Rattle.std.proofs.lemmas.List.{length-map}
 use Rattle.std.proofs.lemmas.Option.{none-some, same_Some, slice_get_cases, slice_get_past}
 use Rattle.const_pool.specs.declared.class.ClassFile.{ClassFile}
 use Rattle.const_pool.specs.ClassFile.{IsClassFile}
-use Rattle.hotswap.specs.ClassShapes.{MemberShape, Heading, heading_of, fields_of, methods_of, shape_in, HasSameShape, DifferAt, IsHeadingFault, IsFieldFault, IsMethodFault, IsShapeFault}
+use Rattle.hotswap.specs.ClassShapes.{MemberShape, heading_of, fields_of, methods_of, shape_in, HasSameShape, DifferAt, IsShapeFault}
 use Rattle.hotswap.specs.Comparing.{same_member, same_heading, first_other, else_of, number_of}
 use Rattle.hotswap.proofs.NameLists.{same_member-true, same_member-refl, same_heading-true, same_heading-refl}
 
@@ -85,7 +85,7 @@ module _ (c d : ClassFile) where
   long : (heading : heading_of c ≡ heading_of d) → (length (fields_of c) ≡ length (fields_of d)) × (length (methods_of c) ≡ length (methods_of d))
   long heading = (
     length-map c.fields (shape_in c.pool) ∙ (ap (λ h. h.field_count) heading ∙ sym (length-map d.fields (shape_in d.pool))),
-    length-map c.methods (shape_in c.pool) ∙ (ap (λ h. h.method_count) heading ∙ sym (length-map d.methods (shape_in d.pool)))
+    length-map c.methods (shape_in c.pool) ∙ (ap (λ h. h.method_count) heading ∙ sym (length-map d.methods (shape_in d.pool))),
   )
 
   -- where the headings are the same the members tell
@@ -166,7 +166,7 @@ module _ (c d : ClassFile) where
 
   below : (xs ys : List MemberShape) (told : ℕ) → length xs ≡ length ys → DifferAt xs ys told → told < length ys
   below xs ys told long differ = elim ((slice_get_cases ys told).1) [
-      inl is ↦ is.1
+    | inl is ↦ is.1
     | inr past ↦ absurd (differ.there (slice_get_past xs told (omega (arith, long, past.0)) ∙ sym past.1))
   ]
 

@@ -17,7 +17,6 @@ use Rattle.hotswap.specs.Swaps.{IsSwap, IsSwapFault, HasOtherShape, IsSomeImage}
 use Rattle.hotswap.proofs.ImageShapes.{image-shape}
 use Rattle.hotswap.proofs.ShapeLaws.{told-fault, none-same, same-number, fault-number}
 
-
 module _ (original : ClassFile) (bytes : List ℕ) where
   -- ---- one of them alone
 

@@ -97,12 +97,7 @@ fn same_member(pool: &Pool, member: &Member, other: &Pool, image: &Member) -> bo
 }
 
 /// The position of the first member that is another one in the second list.
-pub fn first_other(
-    pool: &Pool,
-    members: &[Member],
-    other: &Pool,
-    images: &[Member],
-) -> Option<u16>
+pub fn first_other(pool: &Pool, members: &[Member], other: &Pool, images: &[Member]) -> Option<u16>
     requires { length images.now < 2 ^ 16 }
     ensures { result ≡ first_other 0 (map (shape_in pool.now) members.now)
         (map (shape_in other.now) images.now) }

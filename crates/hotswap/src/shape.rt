@@ -22,9 +22,19 @@ pub(crate) fn number_of(original: &ClassFile, image: &ClassFile) -> Option<u16>
     }
     let these = &original.pool;
     let those = &image.pool;
-    match first_other(these, original.fields.as_slice(), those, image.fields.as_slice()) {
+    match first_other(
+        these,
+        original.fields.as_slice(),
+        those,
+        image.fields.as_slice(),
+    ) {
         Some(at) => Some(at),
-        None => first_other(these, original.methods.as_slice(), those, image.methods.as_slice()),
+        None => first_other(
+            these,
+            original.methods.as_slice(),
+            those,
+            image.methods.as_slice(),
+        ),
     }
 }
 

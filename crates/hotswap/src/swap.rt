@@ -38,11 +38,7 @@ fn of_shape(original: &ClassFile, image: ClassFile) -> Result<ClassFile, SwapErr
 }
 
 /// What the bytes come to: a class of the original's shape, or what is told of them.
-fn swap_in(
-    alloc: Global,
-    original: &ClassFile,
-    bytes: &[u8],
-) -> Result<ClassFile, SwapError>
+fn swap_in(alloc: Global, original: &ClassFile, bytes: &[u8]) -> Result<ClassFile, SwapError>
     ensures { IsAnswered original.now bytes.now result }
 {
     match read_image(alloc, bytes) {
@@ -53,11 +49,7 @@ fn swap_in(
 
 /// Reads the class by which another one is redefined, however many its bytes are: the class that they spell, where it has the other's
 /// shape. Bytes that spell none are refused first, by `read_image`.
-pub fn read_swap(
-    alloc: Global,
-    original: &ClassFile,
-    bytes: &[u8],
-) -> Result<ClassFile, SwapError>
+pub fn read_swap(alloc: Global, original: &ClassFile, bytes: &[u8]) -> Result<ClassFile, SwapError>
     ensures found { IfOk result (IsSwap original.now bytes.now) }
     ensures only { (image : Class) → IsSwap original.now bytes.now image
         → IsUnless result (Ok image) SwapError.NoMemory }
