@@ -1,4 +1,4 @@
-pub mod NameLists
+pub mod SameParts
 pub mod ShapeLaws
 pub mod ImageShapes
 pub mod SwapLaws

@@ -10,7 +10,7 @@ use Rattle.const_pool.specs.declared.class.ClassFile.{ClassFile}
 use Rattle.const_pool.specs.ClassFile.{IsClassFile}
 use Rattle.hotswap.specs.ClassShapes.{MemberShape, heading_of, fields_of, methods_of, shape_in, HasSameShape, DifferAt, IsShapeFault}
 use Rattle.hotswap.specs.Comparing.{same_member, same_heading, first_other, else_of, number_of}
-use Rattle.hotswap.proofs.NameLists.{same_member-true, same_member-refl, same_heading-true, same_heading-refl}
+use Rattle.hotswap.proofs.SameParts.{same_member-true, same_member-refl, same_heading-true, same_heading-refl}
 
 -- ---- lists of members
 

@@ -2,7 +2,7 @@
 
 ghost use Rattle.std.specs.Prelude.{◌≡◌, ◌<◌, ◌^◌, map, length};
 ghost use Rattle.const_pool.specs.References.{named_class, named_text};
-ghost use Rattle.hotswap.specs.ClassShapes.{heading_of, shape_in};
+ghost use Rattle.hotswap.specs.ClassShapes.{fields_of, heading_of, methods_of, shape_in};
 ghost use Rattle.hotswap.specs.Comparing.{first_other, same_counts, same_declared, same_heading};
 ghost use Rattle.hotswap.specs.Comparing.{same_member, same_name, same_names};
 
@@ -97,7 +97,7 @@ fn same_member(pool: &Pool, member: &Member, other: &Pool, image: &Member) -> bo
 }
 
 /// The position of the first member that is another one in the second list.
-pub fn first_other(pool: &Pool, members: &[Member], other: &Pool, images: &[Member]) -> Option<u16>
+fn first_other(pool: &Pool, members: &[Member], other: &Pool, images: &[Member]) -> Option<u16>
     requires { length images.now < 2 ^ 16 }
     ensures { result ≡ first_other 0 (map (shape_in pool.now) members.now)
         (map (shape_in other.now) images.now) }
@@ -111,4 +111,27 @@ pub fn first_other(pool: &Pool, members: &[Member], other: &Pool, images: &[Memb
         }
     }
     None
+}
+
+/// The position of the first field that is another one.
+pub fn other_field(original: &ClassFile, image: &ClassFile) -> Option<u16>
+    requires { length image.now.fields < 2 ^ 16 }
+    ensures { result ≡ first_other 0 (fields_of original.now) (fields_of image.now) }
+{
+    let fields = original.fields.as_slice();
+    first_other(&original.pool, fields, &image.pool, image.fields.as_slice())
+}
+
+/// The position of the first method that is another one.
+pub fn other_method(original: &ClassFile, image: &ClassFile) -> Option<u16>
+    requires { length image.now.methods < 2 ^ 16 }
+    ensures { result ≡ first_other 0 (methods_of original.now) (methods_of image.now) }
+{
+    let methods = original.methods.as_slice();
+    first_other(
+        &original.pool,
+        methods,
+        &image.pool,
+        image.methods.as_slice(),
+    )
 }

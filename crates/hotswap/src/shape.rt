@@ -6,7 +6,7 @@ ghost use Rattle.hotswap.specs.ClassShapes.{HasSameShape, IsShapeFault, heading_
 ghost use Rattle.hotswap.specs.Comparing.{number_of};
 ghost use Rattle.hotswap.specs.Swaps.{IsSomeImage};
 
-use crate::comparing::{first_other, same_heading};
+use crate::comparing::{other_field, other_method, same_heading};
 use const_pool::ClassFile;
 
 /// What is told where the difference is in no field and no method. No member of a class file has this position.
@@ -20,21 +20,9 @@ pub(crate) fn number_of(original: &ClassFile, image: &ClassFile) -> Option<u16>
     if !same_heading(original, image) {
         return Some(OF_HEADING);
     }
-    let these = &original.pool;
-    let those = &image.pool;
-    match first_other(
-        these,
-        original.fields.as_slice(),
-        those,
-        image.fields.as_slice(),
-    ) {
+    match other_field(original, image) {
         Some(at) => Some(at),
-        None => first_other(
-            these,
-            original.methods.as_slice(),
-            those,
-            image.methods.as_slice(),
-        ),
+        None => other_method(original, image),
     }
 }
 

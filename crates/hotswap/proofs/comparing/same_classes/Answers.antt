@@ -1,6 +1,6 @@
 use Rattle.std.proofs.Common.{sym}
 use Rattle.const_pool.specs.References.{named_class}
-use Rattle.hotswap.proofs.NameLists.{other_lengths}
+use Rattle.hotswap.proofs.SameParts.{other_lengths}
 use Rattle.hotswap.proofs.comparing.same_classes.Goals as goal
 
 pub returns-then-indices-other_indices : goal.returns-then-indices-other_indices
