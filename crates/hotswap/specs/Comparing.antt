@@ -2,7 +2,7 @@
 use Rattle.std.specs.Prelude.{ℕ, ◌+◌, Bool, true, false, List, [], ◌∷◌, Option, Some, None, ◌==◌, ◌&&◌, if◌then◌else◌}
 use Rattle.std.specs.Str.{bytes_eq}
 use Rattle.const_pool.specs.declared.class.ClassFile.{ClassFile}
-use Rattle.hotswap.specs.ClassShapes.{MemberShape, Heading, heading_of, fields_of, methods_of}
+use Rattle.hotswap.specs.ClassShapes.{MemberShape, Heading, heading_of, fields_of, methods_of, of_heading}
 
 abbrev pub same_name : Option (List ℕ) → Option (List ℕ) → Bool
 same_name (Some these) (Some those) = bytes_eq these those
@@ -43,4 +43,4 @@ else_of None other = other
 abbrev pub number_of : ClassFile → ClassFile → Option ℕ
 number_of c d =
     if same_heading (heading_of c) (heading_of d) then else_of (first_other 0 (fields_of c) (fields_of d)) (first_other 0 (methods_of c) (methods_of d))
-    else Some 65535
+    else Some of_heading
