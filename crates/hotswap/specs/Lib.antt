@@ -1,0 +1,4 @@
+pub mod ClassShapes
+pub mod Comparing
+pub mod Reading
+pub mod Swaps
