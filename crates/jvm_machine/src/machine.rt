@@ -14,7 +14,7 @@ ghost use Rattle.jvm_machine.specs.Turns.{Turns, IsGoingOn};
 ghost use Rattle.jvm_machine.specs.View.{made, shown, state_of as run_state, live_of, with_image};
 ghost use Rattle.jvm_machine.specs.View.{is_resting, has_ended};
 
-use crate::running::go_on;
+use crate::running::{go_on, run_original};
 use crate::stepping::clock_in;
 use crate::tables::Versions;
 use crate::telling::{Telling, telling_by, told_behind};
@@ -24,7 +24,7 @@ use code_model::Homes;
 use const_pool::ClassFile;
 use jf_bytes::{NoMemory, Seq, Stack};
 use jvm_model::{Ending, Event, Mark, Program};
-use jvm_steps::{Marker, Originals, Parts, parts_before, run};
+use jvm_steps::{Marker, Originals, Parts, parts_before};
 use std::alloc::Global;
 use std::marker::Model;
 
@@ -201,7 +201,7 @@ impl Vm {
         ensures err { OnErr result (self.new ≡ stopped_in self.old self.new) }
     {
         self.broken = true;
-        let made = run(
+        let made = run_original(
             self.alloc,
             &mut self.originals,
             &mut self.parts,

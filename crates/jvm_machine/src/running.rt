@@ -1,7 +1,9 @@
 //! One call of `step` over original code, or over the versions that are installed.
 
-ghost use Rattle.std.specs.Prelude.{◌≡◌, [], drop, false, OnOk, IfOk};
+ghost use Rattle.std.specs.Prelude.{◌≡◌, ◌≤◌, ◌<◌, [], drop, false, true, is_some, OnOk, IfOk};
 ghost use Rattle.jvm_model.specs.Installed.{world_in};
+ghost use Rattle.jvm_steps.specs.Ready.{CanRun, IsSoundIn};
+ghost use Rattle.jvm_steps.specs.Runs.{Leads};
 ghost use Rattle.jvm_steps.specs.Tables.{AreAllCurrent};
 ghost use Rattle.jvm_steps.specs.Before.{IsAtStart};
 ghost use Rattle.jvm_steps.specs.Markers.{state_of};
@@ -14,7 +16,7 @@ ghost use Rattle.jvm_machine.specs.Prepared.{installed};
 use crate::stepping::{Advance, brought, move_on};
 use crate::tables::{Tables, Versions};
 use jf_bytes::{NoMemory, Seq, Stack};
-use jvm_steps::{Marker, Originals, Parts, arguments_fit, start, step};
+use jvm_steps::{Marker, Originals, Parts, arguments_fit, run, start, step};
 use std::alloc::Global;
 
 /// The start, or one step of original code.
@@ -26,18 +28,40 @@ fn step_original(
     started: bool,
 ) -> Result<(), NoMemory>
     requires able { CanStep originals.old.setup started (state_of markers.old parts.old) }
+    requires current { AreAllCurrent originals.old.setup.versions }
     requires linked { originals.old.loaded ≡ parts.old.shared.loaded }
     ensures state { let s = state_of markers.old parts.old in OnOk result
         (state_of markers.new parts.new ≡ stepped_original originals.old.setup started s) }
     ensures linked { OnOk result (originals.new.loaded ≡ parts.new.shared.loaded) }
-    ensures world { AreAllCurrent originals.old.setup.versions
-        → originals.new.setup ≡ originals.old.setup }
+    ensures world { originals.new.setup ≡ originals.old.setup }
 {
     if started {
         step(alloc, originals, parts, markers)
     } else {
         start(alloc, originals, parts, markers)
     }
+}
+
+/// Steps of original code, at most so many, and none behind the end of the run: how many it has made.
+pub fn run_original(
+    alloc: Global,
+    originals: &mut Originals,
+    parts: &mut Parts,
+    markers: &mut Stack<Marker>,
+    most: u64,
+) -> Result<u64, NoMemory>
+    requires current { AreAllCurrent originals.old.setup.versions }
+    requires linked { originals.old.loaded ≡ parts.old.shared.loaded }
+    requires fit { CanRun originals.old.setup }
+    requires sound { IsSoundIn originals.old.setup (state_of markers.old parts.old) }
+    ensures world { originals.new.setup ≡ originals.old.setup }
+    ensures linked { OnOk result (originals.new.loaded ≡ parts.new.shared.loaded) }
+    ensures within { IfOk result (λ n. n ≤ most) }
+    ensures made { IfOk result (λ n. Leads originals.old.setup (state_of markers.old parts.old) n
+        (state_of markers.new parts.new)) }
+    ensures ended { IfOk result (λ n. n < most → is_some parts.new.ending ≡ true) }
+{
+    run(alloc, originals, parts, markers, most)
 }
 
 /// The classes behind the first ones.
@@ -64,6 +88,7 @@ fn move_original(
     loads_told: bool,
 ) -> Result<Advance, NoMemory>
     requires able { CanStep originals.old.setup started (state_of markers.old parts.old) }
+    requires current { AreAllCurrent originals.old.setup.versions }
     requires linked { originals.old.loaded ≡ parts.old.shared.loaded }
     ensures moved { let w = originals.old.setup in let s = state_of markers.old parts.old in
         MovesAll result markers.new parts.new (moved_original w started loads_told s) }
@@ -74,8 +99,7 @@ fn move_original(
     ensures loads { let w = originals.old.setup in let s = state_of markers.old parts.old in
         LoadsAs result (moved_original w started loads_told s) }
     ensures linked { OnOk result (originals.new.loaded ≡ parts.new.shared.loaded) }
-    ensures world { AreAllCurrent originals.old.setup.versions
-        → originals.new.setup ≡ originals.old.setup }
+    ensures world { originals.new.setup ≡ originals.old.setup }
 {
     if loads_told {
         return Ok(brought(Seq::new(alloc)));
@@ -169,6 +193,7 @@ pub fn go_on(
 ) -> Result<Advance, NoMemory>
     requires able { CanMove originals.old.setup versions.now started
         (state_of markers.old parts.old) }
+    requires current { AreAllCurrent originals.old.setup.versions }
     requires linked { AreLinked versions.now originals.old.loaded (state_of markers.old parts.old) }
     requires plain { ArePlain versions.now markers.old }
     ensures moved { let s = state_of markers.old parts.old in let w = originals.old.setup in
@@ -182,8 +207,7 @@ pub fn go_on(
     ensures linked { let s = state_of markers.new parts.new in OnOk result
         (Links originals.old versions.now started s originals.new.loaded) }
     ensures plain { OnOk result (ArePlain versions.now markers.new) }
-    ensures world { AreAllCurrent originals.old.setup.versions
-        → originals.new.setup ≡ originals.old.setup }
+    ensures world { originals.new.setup ≡ originals.old.setup }
 {
     match versions {
         None => move_original(alloc, originals, parts, markers, started, loads_told),

@@ -28,15 +28,18 @@ invariant_of-self-2 c =
     let gone = has_advanced c.args.self.now c.self.inside.originals c.go_on.new.originals.setup.world c.self.inside.versions (state_of c.self.inside.markers c.self.inside.parts)
     (state_of c.go_on.new.markers c.go_on.new.parts) c.self.inside.told c.in_ok-advance.advance.told c.in_ok-advance.advance.probe c.in_ok-advance.advance.loads
     c.self.inside.loads_told c.told_behind-self-inside.result c.self.inside.started c.self.inside.broken c.is_resting-resting.result c.self.inside.clock c.clock_in-self-inside.result
-    c.telling_by-telling.result c.go_on.new.originals.loaded c.self.invariant.3 (ap (λ (w : Setup). w.world) (c.go_on.ensures.world (own-current c.self.inside.originals.setup c.self.invariant.3))) c.self.view_is c.self.invariant.1 c.self.invariant.2 c.requires.whole c.requires.going
+    c.telling_by-telling.result c.go_on.new.originals.loaded c.self.invariant.3 (ap (λ (w : Setup). w.world) c.go_on.ensures.world) c.self.view_is c.self.invariant.1 c.self.invariant.2 c.requires.whole c.requires.going
     (c.in_ok-advance.ensures.moved, c.in_ok-advance.ensures.told, c.in_ok-advance.ensures.probe, c.in_ok-advance.ensures.loads)
     c.is_resting-resting.ensures c.clock_in-self-inside.ensures c.telling_by-telling.ensures c.told_behind-self-inside.ensures c.in_ok-advance.ensures.linked in
-    (λ whole. c.in_ok-advance.ensures.plain, gone.running, gone.linked, same-setup c.self.inside.originals.setup c.go_on.new.originals.setup (c.go_on.ensures.world (own-current c.self.inside.originals.setup c.self.invariant.3)) c.self.invariant.3)
+    (λ whole. c.in_ok-advance.ensures.plain, gone.running, gone.linked, same-setup c.self.inside.originals.setup c.go_on.new.originals.setup c.go_on.ensures.world c.self.invariant.3)
 
 pub returns-clause-ok : goal.returns-clause-ok
 returns-clause-ok c = (has_advanced c.args.self.now c.self.inside.originals c.go_on.new.originals.setup.world c.self.inside.versions (state_of c.self.inside.markers c.self.inside.parts)
     (state_of c.go_on.new.markers c.go_on.new.parts) c.self.inside.told c.in_ok-advance.advance.told c.in_ok-advance.advance.probe c.in_ok-advance.advance.loads
     c.self.inside.loads_told c.told_behind-self-inside.result c.self.inside.started c.self.inside.broken c.is_resting-resting.result c.self.inside.clock c.clock_in-self-inside.result
-    c.telling_by-telling.result c.go_on.new.originals.loaded c.self.invariant.3 (ap (λ (w : Setup). w.world) (c.go_on.ensures.world (own-current c.self.inside.originals.setup c.self.invariant.3))) c.self.view_is c.self.invariant.1 c.self.invariant.2 c.requires.whole c.requires.going
+    c.telling_by-telling.result c.go_on.new.originals.loaded c.self.invariant.3 (ap (λ (w : Setup). w.world) c.go_on.ensures.world) c.self.view_is c.self.invariant.1 c.self.invariant.2 c.requires.whole c.requires.going
     (c.in_ok-advance.ensures.moved, c.in_ok-advance.ensures.told, c.in_ok-advance.ensures.probe, c.in_ok-advance.ensures.loads)
     c.is_resting-resting.ensures c.clock_in-self-inside.ensures c.telling_by-telling.ensures c.told_behind-self-inside.ensures c.in_ok-advance.ensures.linked).advances
+
+pub go_on-requires-clause-current : goal.go_on-requires-clause-current
+go_on-requires-clause-current c = own-current c.self.inside.originals.setup c.self.invariant.3
