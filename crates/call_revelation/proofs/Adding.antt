@@ -131,7 +131,7 @@ adds-then a b c xs ys first second m =
 pub adds-alike : (a b xs ys : List ℕ) → ((m : ℕ) → is_among m xs ≡ is_among m ys) → Adds a b xs → Adds a b ys
 adds-alike a b xs ys same adds m = adds m ∙ ap (λ t. is_among m a || t) (same m)
 
-among-with : (m : ℕ) (a : List ℕ) (x : ℕ) → is_among m (with_class a x) ≡ (is_among m a || (m == x))
+pub among-with : (m : ℕ) (a : List ℕ) (x : ℕ) → is_among m (with_class a x) ≡ (is_among m a || (m == x))
 among-with m a x = by (is_among x a) refl
   where
     there : (b : Bool) → (m == x) ≡ b → is_among x a ≡ true → is_among m a ≡ (is_among m a || b)

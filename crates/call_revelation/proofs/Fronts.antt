@@ -1,5 +1,5 @@
 -- Lists that begin with others.
-use Rattle.std.proofs.Common.{◌≡◌, ℕ, Bool, true, false, List, [], ◌∷◌, ◌++◌, length, take, ap, sym, refl, ◌∙◌}
+use Rattle.std.proofs.Common.{◌≡◌, ℕ, Bool, true, false, List, [], ◌∷◌, ◌++◌, ◌≤◌, length, take, drop, ap, sym, subst, refl, ◌∙◌, arith}
 use Rattle.std.specs.Prelude.{if◌then◌else◌}
 use Rattle.jvm_model.specs.Load.{is_among}
 use Rattle.class_index.specs.Orders.{with_class, with_classes}
@@ -48,3 +48,24 @@ front-take a b front = ap (take (length a)) front.is ∙ take-front a front.rest
 
 pub fresh-with : (a : List ℕ) (x : ℕ) → is_among x a ≡ false → with_class a x ≡ a ++ x ∷ []
 fresh-with a x fresh = ap (λ (b : Bool). if b then a else a ++ x ∷ []) fresh
+
+pub front-if : (b : Bool) (a c : List ℕ) (x : ℕ) → c ≡ (if b then with_class a x else a) → IsFront a c
+front-if b a c x e = subst (IsFront a) (sym e) (by b)
+  where
+    by : (b : Bool) → IsFront a (if b then with_class a x else a)
+    by true = front-one a x
+    by false = front-self a
+
+drop-front : (xs ys : List ℕ) → drop (length xs) (xs ++ ys) ≡ ys
+drop-front [] ys = refl
+drop-front (x ∷ xs) ys = drop-front xs ys
+
+pub front-drop : (a b : List ℕ) (front : IsFront a b) → drop (length a) b ≡ front.rest
+front-drop a b front = ap (drop (length a)) front.is ∙ drop-front a front.rest
+
+pub front-long : (a b : List ℕ) → IsFront a b → length a ≤ length b
+front-long a b front = subst (λ l. length a ≤ length l) (sym front.is) (longer a front.rest)
+  where
+    longer : (xs ys : List ℕ) → length xs ≤ length (xs ++ ys)
+    longer [] ys = omega arith
+    longer (x ∷ xs) ys = let rest = longer xs ys in omega (arith, rest)

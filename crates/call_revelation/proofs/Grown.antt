@@ -37,6 +37,44 @@ grown-then p a b c first second = record {
   same = second.same ∙ ap (λ (r : Reveal). record r { lineage = c.lineage; book = c.book; targets = c.targets; stale = c.stale }) first.same;
 }
 
+pub grown-lineage : (p : Program) (old new : Reveal) → IsKept p old → new ≡ (record old { lineage = new.lineage }) → IsLineage p new.lineage
+    → IsFront old.lineage.loaded new.lineage.loaded → IsGrown p old new
+grown-lineage p old new kept same lineage front = subst (IsGrown p old) (sym same) (record {
+  lineage = lineage;
+  book = kept.book;
+  codes = λ m h. h;
+  loaded = front;
+  targets = front-self old.targets;
+  stale = front-self old.stale;
+  same = refl;
+})
+
+pub grown-book : (p : Program) (old : Reveal) (book : Book) → IsKept p old → IsBookOf p book
+    → ((m : ℕ) → is_some (code_at old.book.codes m) ≡ true → is_some (code_at book.codes m) ≡ true) → IsGrown p old (record old { book = book })
+grown-book p old book kept booked codes = record {
+  lineage = kept.lineage;
+  book = booked;
+  codes = codes;
+  loaded = front-self old.lineage.loaded;
+  targets = front-self old.targets;
+  stale = front-self old.stale;
+  same = refl;
+}
+
+-- more targets, and more that is stale
+pub grown-more : (p : Program) (old mid : Reveal) (targets stale : List ℕ) → IsGrown p old mid → IsFront mid.targets targets → IsFront mid.stale stale
+    → IsGrown p old (record mid { targets = targets; stale = stale })
+grown-more p old mid targets stale grown first second =
+    grown-then p old mid (record mid { targets = targets; stale = stale }) grown (record {
+      lineage = grown.lineage;
+      book = grown.book;
+      codes = λ m h. h;
+      loaded = front-self mid.lineage.loaded;
+      targets = first;
+      stale = second;
+      same = refl;
+    })
+
 not-before : (a b : List ℕ) (m : ℕ) → IsFront a b → is_among m b ≡ false → is_among m a ≡ false
 not-before a b m front none = by (is_among m a) refl
   where
@@ -101,3 +139,11 @@ pub back-same : (old new : Reveal) (lineage : Lineage) (targets : List ℕ) → 
 back-same old new lineage targets loaded same =
     ap (λ (r : Reveal). now_of (record r { lineage = lineage; targets = targets })) same
     ∙ ap (λ (l : List ℕ). record { selected = old.selected; entered = old.entered; loaded = l }) loaded
+
+pub went-back : (p : Program) (old mid new : Reveal) (n k : ℕ) → IsRevelation p old → IsGrown p old mid → n ≡ length old.lineage.loaded → k ≡ length old.targets
+    → new ≡ (record mid { lineage = cut_lineage mid.lineage (take n mid.lineage.loaded); targets = take k mid.targets }) → IsRevelation p new
+went-back p old mid new n k is grown first second e =
+    subst (IsRevelation p) (sym (e
+    ∙ (ap (λ (n : ℕ). record mid { lineage = cut_lineage mid.lineage (take n mid.lineage.loaded); targets = take k mid.targets }) first
+    ∙ ap (λ (k : ℕ). record mid { lineage = cut_lineage mid.lineage (take (length old.lineage.loaded) mid.lineage.loaded); targets = take k mid.targets }) second)))
+    (gone-back p old mid is grown)

@@ -17,3 +17,5 @@ pub mod Grown
 pub mod Marking
 pub mod Shown
 pub mod First
+pub mod Callers
+pub mod InTurn

@@ -102,7 +102,7 @@ module _ (p : Program) (codes : Codes) (waiting calls : List (List Use)) (book :
     pub there : slice_get (namings_of (operations_of p u.caller)) u.at ≡ Some naming
     pub within : is_among m (f naming) ≡ true
 
-  read-at : (u : Use) (o : Option (List Naming)) (n : Naming) → code_at codes u.caller ≡ o → option_and_then (λ (ns : List Naming). slice_get ns u.at) o ≡ Some n
+  pub read-at : (u : Use) (o : Option (List Naming)) (n : Naming) → code_at codes u.caller ≡ o → option_and_then (λ (ns : List Naming). slice_get ns u.at) o ≡ Some n
       → slice_get (namings_of (operations_of p u.caller)) u.at ≡ Some (naming_view n)
   read-at u None n c e = absurd (none-some n e)
   read-at u (Some ns) n c e = subst (λ l. slice_get l u.at ≡ Some (naming_view n)) (book.read u.caller ns c) (map-get naming_view ns u.at n e)

@@ -13,14 +13,16 @@ use Rattle.jvm_model.specs.Programs.{place_of_method}
 use Rattle.jvm_model.specs.Revealed.{Revealed, mark_of, without_method}
 use Rattle.jvm_model.specs.Sound.{HasClass, HasSupertypes}
 use Rattle.jvm_model.specs.Targets.{operations_of, targets_in}
+use Rattle.class_linker.specs.Linkers.{IsLoaded, LinkerView}
 use Rattle.call_revelation.specs.declared.book.Book.{Book}
 use Rattle.call_revelation.specs.declared.lineage.Lineage.{Lineage}
 use Rattle.call_revelation.specs.declared.reveal.Reveal.{Reveal}
 use Rattle.call_revelation.specs.Books.{IsBookOf, code_at, gathered}
 use Rattle.call_revelation.specs.Lineages.{IsLineage}
-use Rattle.call_revelation.specs.Reveals.{IsFront, IsKept, IsRevelation, flag_at, is_placed, mark_at, mark_by, mark_kept, now_of}
+use Rattle.call_revelation.specs.Reveals.{IsAhead, IsFront, IsKept, IsRevelation, flag_at, is_placed, mark_at, mark_by, mark_kept, now_of}
 use Rattle.call_revelation.specs.Tables.{Adds, list_at}
-use Rattle.call_revelation.proofs.Adding.{among-append, among-filter, equal, itself, or-assoc, or-false, or-first, or-later, either}
+use Rattle.class_index.specs.Orders.{with_class}
+use Rattle.call_revelation.proofs.Adding.{among-append, among-filter, among-with, equal, itself, or-assoc, or-false, or-first, or-later, either}
 use Rattle.call_revelation.proofs.BookLemmas.{set-length, set-other, set-same}
 use Rattle.call_revelation.proofs.Fronts.{front-among}
 use Rattle.call_revelation.proofs.LoadStep.{load-step}
@@ -64,6 +66,51 @@ kept-loaded p r new lineage is lined loaded = record {
   marked = is.marked;
   booked = is.booked;
   callers = λ m h. subst (λ l. HasClass p l m) (sym loaded) (class-kept p r.lineage.loaded new m (is.callers m h));
+}
+
+-- neither targets nor what is stale matter
+pub kept-other : (p : Program) (r : Reveal) (targets stale : List ℕ) → IsKept p r → IsKept p (record r { targets = targets; stale = stale })
+kept-other p r targets stale is = record {
+  fit = is.fit;
+  short = is.short;
+  methods = is.methods;
+  numbers = is.numbers;
+  own = is.own;
+  lineage = is.lineage;
+  book = is.book;
+  flags = is.flags;
+  flagged = is.flagged;
+  marked = is.marked;
+  booked = is.booked;
+  callers = is.callers;
+}
+
+-- more was read
+pub kept-read : (p : Program) (r : Reveal) (book : Book) → IsKept p r → IsBookOf p book
+    → ((m : ℕ) → is_some (code_at r.book.codes m) ≡ true → is_some (code_at book.codes m) ≡ true) → IsKept p (record r { book = book })
+kept-read p r book is booked codes = record {
+  fit = is.fit;
+  short = is.short;
+  methods = is.methods;
+  numbers = is.numbers;
+  own = is.own;
+  lineage = is.lineage;
+  book = booked;
+  flags = is.flags;
+  flagged = is.flagged;
+  marked = is.marked;
+  booked = λ m h. codes m (is.booked m h);
+  callers = is.callers;
+}
+
+pub ahead-more : (l : LinkerView) (r : Reveal) (new : ℕ) (next : Reveal) → IsAhead l r → IsLoaded l new → next.lineage.loaded ≡ r.lineage.loaded ++ new ∷ []
+    → IsAhead l next
+ahead-more l r new next ahead there loaded = record {
+  loaded = λ class h. elim (either (is_among class r.lineage.loaded) (is_among class (new ∷ [])) (sym (among-append class r.lineage.loaded (new ∷ [])) ∙ (sym (ap (is_among class) loaded) ∙ h))) [
+    inl old ↦ ahead.loaded class old
+  | inr same ↦ ap (λ c. is_among c l.loaded) (equal class new (sym (or-false (class == new)) ∙ same)) ∙ there
+  ];
+  root = ahead.root;
 }
 
 -- a method of another class is no more loaded than it was
@@ -115,7 +162,7 @@ module _ (p : Program) (r : Reveal) (is : IsRevelation p r) (new : ℕ) (above :
 
   pub loaded-more : IsRevelation p (record r { lineage = lineage; targets = targets; stale = stale })
   loaded-more = record {
-    kept = kept-loaded p r new lineage is.kept lined loaded;
+    kept = kept-other p (record r { lineage = lineage }) targets stale (kept-loaded p r new lineage is.kept lined loaded);
     targets = λ m.
       targeted m ∙ (ap (λ t. t || is_among m found) (is.targets m)
       ∙ (sym (target-more m) ∙ ap (λ l. is_target p (operations_of p) l r.entered m) (sym loaded)));
@@ -220,6 +267,24 @@ among-others method m methods other =
     and-true : (a : Bool) → (a && true) ≡ a
     and-true true = refl
     and-true false = refl
+
+pub selected-more : (p : Program) (r : Reveal) → IsRevelation p r → (method : ℕ) (selected stale : List ℕ) → stale ≡ with_class r.stale method
+    → ((m : ℕ) → (m == method) ≡ false → is_among m selected ≡ is_among m r.selected) → IsRevelation p (record r { selected = selected; stale = stale })
+selected-more p r is method selected stale staled others = reselected p r is selected stale (λ m none. each m none)
+  where
+    each : (m : ℕ) → is_among m stale ≡ false → (is_among m r.stale ≡ false) × (is_among m selected ≡ is_among m r.selected)
+    each m none =
+        let both = neither (is_among m r.stale) (m == method) (sym (among-with m r.stale method) ∙ (sym (ap (is_among m) staled) ∙ none)) in
+        (both.0, others m both.1)
+
+pub others-with : (method m : ℕ) (selected methods : List ℕ) → selected ≡ method ∷ without_method method methods → (m == method) ≡ false
+    → is_among m selected ≡ is_among m methods
+others-with method m selected methods e other =
+    ap (is_among m) e ∙ (ap (λ b. b || is_among m (without_method method methods)) other ∙ among-others method m methods other)
+
+pub others-without : (method m : ℕ) (selected methods : List ℕ) → selected ≡ without_method method methods → (m == method) ≡ false
+    → is_among m selected ≡ is_among m methods
+others-without method m selected methods e other = ap (is_among m) e ∙ among-others method m methods other
 
 -- ---- a quiet point
 

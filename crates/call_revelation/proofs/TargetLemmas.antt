@@ -1,5 +1,6 @@
 -- The targets of a method are what its instructions that can begin methods begin.
-use Rattle.std.proofs.Common.{◌≡◌, ℕ, Bool, true, false, List, [], ◌∷◌, ◌++◌, length, map, drop, get_or, ap, ap₂, sym, refl, ◌∙◌, ◌<◌, inl, inr}
+use Rattle.std.proofs.Common.{◌≡◌, ℕ, zero, suc, ◌+◌, ◌<◌, ◌≤◌, Bool, true, false, List, [], ◌∷◌, ◌++◌, length, map, drop, get_or, ap, ap₂, sym, refl, ◌∙◌, arith, inl, inr}
+use Rattle.std.proofs.lemmas.List.{drop_more}
 use Rattle.std.specs.Prelude.{flat_map, Option, Some, None, ◌⊎◌, ◌==◌, ◌||◌}
 use Rattle.std.specs.List.{AllByRecursion, cons_option}
 use Rattle.std.specs.Option.{option_map_or}
@@ -62,10 +63,30 @@ one-added f x rest before after m whole adds e =
     ∙ (ap (λ t. is_among m before || t) (sym (among-append m (f x) (flat_map f rest))) ∙ e))
 
 -- all of a list are among it
-all-behind : (xs ys : List ℕ) → ((x : ℕ) → is_among x ys ≡ true → is_among x xs ≡ true) → AllByRecursion (λ x. is_among x xs ≡ true) ys
+pub all-behind : (xs ys : List ℕ) → ((x : ℕ) → is_among x ys ≡ true → is_among x xs ≡ true) → AllByRecursion (λ x. is_among x xs ≡ true) ys
 all-behind xs [] each = tt
 all-behind xs (y ∷ ys) each =
     (each y (or-first (y == y) (is_among y ys) (itself y)), all-behind xs ys (λ x h. each x (or-later (x == y) (is_among x ys) h)))
 
 pub all-among : (xs : List ℕ) → AllByRecursion (λ x. is_among x xs ≡ true) xs
 all-among xs = all-behind xs xs (λ x h. h)
+
+-- ---- one of a list after the other
+
+drop-past : {A : Type 0} (xs : List A) (i : ℕ) → length xs ≤ i → drop i xs ≡ []
+drop-past [] zero past = refl
+drop-past [] (suc i) past = refl
+drop-past (x ∷ xs) zero past = absurd (omega (arith, past))
+drop-past (x ∷ xs) (suc i) past = drop-past xs i (omega (arith, past))
+
+pub next-added : {A : Type 0} (f : A → List ℕ) (xs : List A) (i : ℕ) (d : A) (before after : List ℕ) (m : ℕ) (whole : Bool) → i < length xs
+    → Adds before after (f (get_or xs i d)) → (is_among m before || is_among m (flat_map f (drop i xs))) ≡ whole
+    → (is_among m after || is_among m (flat_map f (drop (i + 1) xs))) ≡ whole
+next-added f xs i d before after m whole within adds e =
+    one-added f (get_or xs i d) (drop (i + 1) xs) before after m whole adds
+    (sym (ap (λ l. is_among m before || is_among m (flat_map f l)) (drop_more xs i d within)) ∙ e)
+
+pub all-added : {A : Type 0} (f : A → List ℕ) (xs : List A) (i : ℕ) (found : List ℕ) (m : ℕ) (whole : Bool) → length xs ≤ i
+    → (is_among m found || is_among m (flat_map f (drop i xs))) ≡ whole → is_among m found ≡ whole
+all-added f xs i found m whole past e =
+    sym (or-false (is_among m found)) ∙ (ap (λ l. is_among m found || is_among m (flat_map f l)) (sym (drop-past xs i past)) ∙ e)

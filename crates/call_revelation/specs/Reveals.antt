@@ -11,6 +11,7 @@ use Rattle.jvm_model.specs.Load.{is_among}
 use Rattle.jvm_model.specs.Points.{is_target}
 use Rattle.jvm_model.specs.Programs.{place_of_method}
 use Rattle.jvm_model.specs.Revealed.{Revealed, mark_of}
+use Rattle.jvm_model.specs.Revelation.{IsLoadOrder}
 use Rattle.jvm_model.specs.Sound.{HasClass, IsFit}
 use Rattle.jvm_model.specs.Swaps.{same_mark}
 use Rattle.jvm_model.specs.Targets.{operations_of}
@@ -114,3 +115,12 @@ pub record IsGrown (p : Program) (old new : Reveal) : Type 0 where
   pub targets : IsFront old.targets new.targets
   pub stale : IsFront old.stale new.stale
   pub same : new ≡ (record old { lineage = new.lineage; book = new.book; targets = new.targets; stale = new.stale })
+
+-- so far these classes were loaded in order, and the rest is to come
+pub record AreLoading (l : LinkerView) (first now : Reveal) (classes rest : List ℕ) : Type 0 where
+  pub revelation : IsRevelation l.program now
+  pub grown : IsGrown l.program first now
+  pub ahead : IsAhead l now
+  pub loaded : now.lineage.loaded ++ rest ≡ first.lineage.loaded ++ classes
+  pub order : IsLoadOrder l.program now.lineage.loaded rest
+  pub linked : AllByRecursion (IsLoaded l) rest

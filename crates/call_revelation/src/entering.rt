@@ -29,10 +29,10 @@ fn set_flag(flags: &mut Seq<bool>, method: u32, flag: bool)
 
 /// No method is entered, and no flag says that it is.
 fn leave_all(flags: &mut Seq<bool>, entered: &mut Stack<u32>)
-    requires { (m : ℕ) → flag_at flags.old m ≡ true → is_among m entered.old ≡ true }
     ensures none { entered.new ≡ [] }
     ensures length { length flags.new ≡ length flags.old }
-    ensures off { (m : ℕ) → flag_at flags.new m ≡ false }
+    ensures off { ((m : ℕ) → flag_at flags.old m ≡ true → is_among m entered.old ≡ true) →
+        (m : ℕ) → flag_at flags.new m ≡ false }
 {
     while let Some(method) = entered.pop() {
         set_flag(flags, method, false);

@@ -1,6 +1,6 @@
 //! Classes that are loaded more.
 
-ghost use Rattle.std.specs.Prelude.{◌≡◌, ◌++◌, [], ◌∷◌, List, ℕ, false, flat_map, length, take, true, IfOk, OnErr, OnOk};
+ghost use Rattle.std.specs.Prelude.{◌≡◌, ◌≤◌, ◌++◌, [], ◌∷◌, List, ℕ, false, drop, flat_map, length, take, true, IfOk, IfSome, OnErr, OnOk, Some};
 ghost use Rattle.std.specs.List.{AllByRecursion};
 ghost use Rattle.std.specs.Option.{option_copied, option_map_or};
 ghost use Rattle.jvm_model.specs.Load.{is_among};
@@ -11,7 +11,8 @@ ghost use Rattle.jvm_model.specs.Sound.{HasSupertypes};
 ghost use Rattle.jvm_model.specs.Targets.{begun_by};
 ghost use Rattle.class_linker.specs.Linkers.{IsLoaded};
 ghost use Rattle.jvm_named.specs.Names.{naming_view};
-ghost use Rattle.call_revelation.specs.Books.{Begins, called_by, called_from, gathered, of_entered};
+ghost use Rattle.call_revelation.specs.Books.{Begins, called_by, called_from};
+ghost use Rattle.call_revelation.specs.Books.{gathered, naming_at, of_entered};
 ghost use Rattle.call_revelation.specs.Lineages.{IsLineage};
 ghost use Rattle.call_revelation.specs.Reveals.{IsAhead, IsFront, IsGrown, IsKept, IsRevelation};
 ghost use Rattle.call_revelation.specs.Reveals.{flag_at, now_of};
@@ -28,12 +29,22 @@ use jf_bytes::NoMemory;
 use jvm_named::Naming;
 use std::alloc::Global;
 
+/// The classes that a linker has loaded behind so many.
+fn loaded_behind(linker: &Linker, count: usize) -> &[u32]
+    requires { count ≤ length linker.now.loaded }
+    ensures { result.now ≡ drop count linker.now.loaded }
+{
+    &linker.loaded()[count..]
+}
+
 impl Reveal {
     /// What an instruction names, where its method is entered.
     fn entered_naming(&self, u: Use) -> Option<&Naming>
         requires { (m : ℕ) → flag_at self.now.flags m ≡ is_among m self.now.entered }
-        ensures { (f : Begins) → of_entered self.now.entered self.now.book.codes f u
+        ensures begins { (f : Begins) → of_entered self.now.entered self.now.book.codes f u
             ≡ option_map_or (λ n. f (naming_view n)) (option_copied result) [] }
+        ensures entered { IfSome result (λ n. is_among u.caller self.now.entered ≡ true) }
+        ensures naming { IfSome result (λ n. naming_at self.now.book.codes u ≡ Some n.now) }
     {
         if self.is_entered(u.caller) {
             self.book.naming(u)
@@ -213,7 +224,8 @@ impl Reveal {
         let found = self.gain(alloc, linker, new, linker.supertypes(new))?;
         add_more(&mut self.stale, found.as_slice())?;
         add_more(&mut self.stale, own_of(self.own.as_slice(), new))?;
-        add_more(&mut self.targets, found.as_slice())
+        add_more(&mut self.targets, found.as_slice())?;
+        Ok(())
     }
 
     /// Keeps that these classes are loaded more.
@@ -263,7 +275,7 @@ impl Reveal {
     {
         let loaded = self.lineage.loaded.len();
         let targets = self.targets.len();
-        match self.load_all(alloc, linker, &linker.loaded()[loaded..]) {
+        match self.load_all(alloc, linker, loaded_behind(linker, loaded)) {
             Ok(()) => Ok(()),
             Err(error) => {
                 self.go_back(loaded, targets);

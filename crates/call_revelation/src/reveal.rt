@@ -108,18 +108,25 @@ impl Reveal {
     {
         let places = program.methods.as_slice();
         let classes = program.classes.len();
+        let methods = Seq::from_slice(alloc, places)?;
+        let numbers = MethodNumbers::new(alloc, program)?;
+        let own = owned(alloc, places, classes)?;
+        let lineage = Lineage::new(alloc, classes)?;
+        let book = Book::new(alloc, places.len(), classes)?;
+        let flags = no_flags(alloc, places.len())?;
+        let shown = no_marks(alloc, places.len())?;
         Ok(Reveal {
-            methods: Seq::from_slice(alloc, places)?,
-            numbers: MethodNumbers::new(alloc, program)?,
-            own: owned(alloc, places, classes)?,
-            lineage: Lineage::new(alloc, classes)?,
-            book: Book::new(alloc, places.len(), classes)?,
+            methods,
+            numbers,
+            own,
+            lineage,
+            book,
             selected: Seq::new(alloc),
             entered: Stack::new(alloc),
-            flags: no_flags(alloc, places.len())?,
+            flags,
             targets: Order::new(alloc),
             stale: Order::new(alloc),
-            shown: no_marks(alloc, places.len())?,
+            shown,
         })
     }
 

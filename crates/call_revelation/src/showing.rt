@@ -83,7 +83,8 @@ impl Reveal {
             IfOk result (λ cs. cs ≡ changed_of p before (now_of self.now)) }
     {
         let found = self.classes_changed(alloc)?;
-        in_order_of(alloc, self.lineage.loaded.as_slice(), &found)
+        let all = in_order_of(alloc, self.lineage.loaded.as_slice(), &found)?;
+        Ok(all)
     }
 
     /// Shows the mark of a method.

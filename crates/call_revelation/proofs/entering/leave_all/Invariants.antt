@@ -9,4 +9,5 @@ decreases-loop-method l = length l.entered
 
 abbrev pub invariant-loop-method : goal.invariant-loop-method
 invariant-loop-method l =
-    ((m : ℕ) → flag_at l.flags m ≡ true → is_among m l.entered ≡ true) × (length l.flags ≡ length l.initial.flags)
+    (((m : ℕ) → flag_at l.initial.flags m ≡ true → is_among m l.initial.entered ≡ true) → (m : ℕ) → flag_at l.flags m ≡ true → is_among m l.entered ≡ true)
+    × (length l.flags ≡ length l.initial.flags)

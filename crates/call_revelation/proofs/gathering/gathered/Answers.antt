@@ -6,6 +6,7 @@ use Rattle.jvm_model.specs.Sound.{HasLoadedCaller}
 use Rattle.jvm_model.specs.Targets.{begun_by, operations_of}
 use Rattle.jvm_model.specs.Revelation.{namings_of}
 use Rattle.jvm_named.specs.Names.{naming_view}
+use Rattle.jvm_named.specs.Numbers.{AreNumbers}
 use Rattle.call_revelation.specs.Tables.{Adds}
 use Rattle.call_revelation.proofs.Adding.{adds-all}
 use Rattle.call_revelation.proofs.CallerLemmas.{callers-loaded, viewed-fine}
@@ -15,7 +16,7 @@ use Rattle.call_revelation.proofs.gathering.gathered.Goals as goal
 pub add_all_begun-requires-clause-known : goal.add_all_begun-requires-clause-known
 add_all_begun-requires-clause-known c =
     record {
-      numbers = c.in_ok-numbers.ensures;
+      numbers = subst (λ q. AreNumbers q c.in_ok-numbers.numbers) c.program.ensures c.in_ok-numbers.ensures;
       lineage = c.in_ok-lineage.ensures.lineage;
       loaded = λ class h.
         sym (adds-all [] c.args.linker.now.loaded class) ∙ (ap (is_among class) (sym c.in_ok-lineage.ensures.loaded) ∙ h);
@@ -27,7 +28,8 @@ add_all_begun-requires-clause-callers c =
     let p = c.args.linker.now.program in
     let loaded = c.args.linker.now.loaded in
     subst (AllByRecursion (λ n. HasLoadedCaller p loaded (naming_view n))) (sym c.as_slice.ensures)
-    (viewed-fine (HasLoadedCaller p loaded) naming_view c.in_ok-namings.namings (namings_of (operations_of p c.args.method)) c.in_ok-namings.ensures
+    (viewed-fine (HasLoadedCaller p loaded) naming_view c.in_ok-namings.namings (namings_of (operations_of p c.args.method))
+    (c.in_ok-namings.ensures ∙ ap (λ q. namings_of (operations_of q c.args.method)) c.program-2.ensures)
     (callers-loaded p loaded c.requires.fit c.args.method c.requires.class))
 
 pub returns : goal.returns
@@ -38,5 +40,5 @@ returns c =
     let ns = map naming_view c.as_slice.result.now in
     gathered-are p kept loaded c.args.method ns c.add_all_begun.new.found
     (λ x. ap (is_among x) c.in_ok-lineage.ensures.loaded ∙ adds-all [] loaded x)
-    (ap (map naming_view) c.as_slice.ensures ∙ c.in_ok-namings.ensures)
+    (ap (map naming_view) c.as_slice.ensures ∙ (c.in_ok-namings.ensures ∙ ap (λ q. namings_of (operations_of q c.args.method)) c.program-2.ensures))
     (subst (λ l. Adds l c.add_all_begun.new.found (flat_map (begun_by p kept) ns)) c.new-found.ensures c.in_ok-add_all_begun.ensures)

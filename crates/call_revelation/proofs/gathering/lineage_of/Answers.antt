@@ -1,4 +1,6 @@
-use Rattle.std.proofs.Common.{subst, sym}
+use Rattle.std.proofs.Common.{[], ap, length, subst, sym, ◌∙◌}
+use Rattle.std.specs.Prelude.{replicate}
+use Rattle.jvm_model.specs.declared.program.Program.{Program}
 use Rattle.std.specs.List.{AllByRecursion}
 use Rattle.class_linker.specs.Linkers.{IsLoaded}
 use Rattle.call_revelation.proofs.LineageLemmas.{nothing-loaded}
@@ -12,4 +14,5 @@ add_classes-requires c =
 pub returns-clause-lineage : goal.returns-clause-lineage
 returns-clause-lineage c =
     c.in_ok-add_classes.ensures.lineage
-    (nothing-loaded c.args.linker.now.program c.in_ok-lineage.lineage c.in_ok-lineage.ensures.loaded c.in_ok-lineage.ensures.below)
+    (nothing-loaded c.args.linker.now.program c.in_ok-lineage.lineage c.in_ok-lineage.ensures.loaded
+    (c.in_ok-lineage.ensures.below ∙ ap (λ n. replicate n []) (c.len.ensures ∙ ap (λ (q : Program). length q.classes) c.program.ensures)))

@@ -2,6 +2,8 @@ use Rattle.std.proofs.Common.{◌≡◌, ◌<◌, ◌∙◌, subst, sym, ap, ari
 use Rattle.std.specs.Prelude.{is_some}
 use Rattle.std.specs.Vec.{with_items}
 use Rattle.std.proofs.lemmas.List.{with_items_is}
+use Rattle.jvm_model.specs.Revelation.{namings_of}
+use Rattle.jvm_model.specs.Targets.{operations_of}
 use Rattle.call_revelation.specs.Books.{code_at}
 use Rattle.call_revelation.proofs.BookLemmas.{book-kept, has-read, still-read}
 use Rattle.call_revelation.proofs.book.Book.read.Goals as goal
@@ -12,7 +14,7 @@ returns-clause-book c =
     let waiting = c.note_uses.new.lists in
     let calls = c.note_calls.new.lists in
     book-kept c.args.linker.now.program book.codes book.waiting.items book.calls.items c.requires.book c.args.method c.in_ok-namings.namings
-    (subst (λ n. c.args.method < n) (sym c.requires.book.methods) c.requires.method) c.in_ok-namings.ensures
+    (subst (λ n. c.args.method < n) (sym c.requires.book.methods) c.requires.method) (c.in_ok-namings.ensures ∙ ap (λ q. namings_of (operations_of q c.args.method)) c.program.ensures)
     c.set.new.self (with_items book.waiting waiting).items (with_items book.calls calls).items c.set.ensures
     (with_items_is book.waiting waiting (omega (arith, c.in_ok-note_uses.ensures.more.places, book.waiting.ok.0)) ∙ c.in_ok-note_uses.ensures.noted)
     (with_items_is book.calls calls (omega (arith, c.in_ok-note_calls.ensures.more.places, book.calls.ok.0)) ∙ c.in_ok-note_calls.ensures.noted)
@@ -22,11 +24,11 @@ returns-clause-has c =
     let book = c.args.self.now in
     ap (λ codes. is_some (code_at codes c.args.method)) c.set.ensures
     ∙ has-read c.args.linker.now.program book.codes book.waiting.items book.calls.items c.requires.book c.args.method c.in_ok-namings.namings
-    (subst (λ n. c.args.method < n) (sym c.requires.book.methods) c.requires.method) c.in_ok-namings.ensures
+    (subst (λ n. c.args.method < n) (sym c.requires.book.methods) c.requires.method) (c.in_ok-namings.ensures ∙ ap (λ q. namings_of (operations_of q c.args.method)) c.program.ensures)
 
 pub returns-clause-kept : goal.returns-clause-kept
 returns-clause-kept c = λ m h.
     let book = c.args.self.now in
     ap (λ codes. is_some (code_at codes m)) c.set.ensures
     ∙ still-read c.args.linker.now.program book.codes book.waiting.items book.calls.items c.requires.book c.args.method c.in_ok-namings.namings
-    (subst (λ n. c.args.method < n) (sym c.requires.book.methods) c.requires.method) c.in_ok-namings.ensures m h
+    (subst (λ n. c.args.method < n) (sym c.requires.book.methods) c.requires.method) (c.in_ok-namings.ensures ∙ ap (λ q. namings_of (operations_of q c.args.method)) c.program.ensures) m h
