@@ -1,6 +1,6 @@
 -- What a call leaves that stops can be cut back to what there was.
 use Rattle.std.proofs.Common.{◌≡◌, ℕ, Bool, true, false, List, length, take, ap, sym, subst, refl, ◌∙◌}
-use Rattle.std.specs.Prelude.{is_some}
+use Rattle.std.specs.Prelude.{is_some, Result, Ok, Err, OnErr}
 use Rattle.jvm_model.specs.declared.program.Program.{Program}
 use Rattle.jvm_model.specs.Load.{is_among}
 use Rattle.jvm_model.specs.Revealed.{mark_of}
@@ -147,3 +147,7 @@ went-back p old mid new n k is grown first second e =
     ∙ (ap (λ (n : ℕ). record mid { lineage = cut_lineage mid.lineage (take n mid.lineage.loaded); targets = take k mid.targets }) first
     ∙ ap (λ (k : ℕ). record mid { lineage = cut_lineage mid.lineage (take (length old.lineage.loaded) mid.lineage.loaded); targets = take k mid.targets }) second)))
     (gone-back p old mid is grown)
+
+pub if-err : {A E : Type 0} (r : Result A E) (P : Type 0) → P → OnErr r P
+if-err (Ok x) P h = tt
+if-err (Err e) P h = h

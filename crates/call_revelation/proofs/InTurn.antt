@@ -52,7 +52,7 @@ module _ (l : LinkerView) (first now : Reveal) (classes : List ℕ) (i : ℕ) (w
   next-above = in-order.0
 
   pub next-fresh : is_among class now.lineage.loaded ≡ false
-  next-fresh = in-order.1.0
+  next-fresh = in-order.1
 
   pub next-linked : IsLoaded l class
   next-linked = in-linker.0
@@ -67,7 +67,7 @@ module _ (l : LinkerView) (first now : Reveal) (classes : List ℕ) (i : ℕ) (w
       ap (λ k. k ++ drop (i + 1) classes) loaded
       ∙ (append-assoc now.lineage.loaded (class ∷ []) (drop (i + 1) classes)
       ∙ (ap (λ k. now.lineage.loaded ++ k) (sym behind) ∙ so.loaded));
-    order = subst (λ k. IsLoadOrder l.program k (drop (i + 1) classes)) (sym loaded) in-order.1.1;
+    order = subst (λ k. IsLoadOrder l.program k (drop (i + 1) classes)) (sym loaded) in-order.2;
     linked = in-linker.1;
   }
 

@@ -1,4 +1,5 @@
 use Rattle.std.proofs.Common.{ap, is_ok, sym, ◌∙◌}
+use Rattle.jvm_model.specs.Revealed.{without_method}
 use Rattle.call_revelation.proofs.Fronts.{front-if}
 use Rattle.call_revelation.proofs.Marking.{others-without, selected-more, staler}
 use Rattle.call_revelation.proofs.reveal.Reveal.deselected.Goals as goal
@@ -11,4 +12,4 @@ pub returns-clause-revelation : goal.returns-clause-revelation
 returns-clause-revelation c = λ p is.
     let old = c.args.self.now in
     selected-more p old is c.args.method c.in_ok-selected.selected c.add.new.self c.in_ok-add.ensures
-    (λ m other. others-without c.args.method m c.in_ok-selected.selected old.selected (c.in_ok-selected.ensures) other)
+    (λ m other. others-without c.args.method m c.in_ok-selected.selected old.selected (c.in_ok-selected.ensures ∙ ap (without_method c.args.method) c.as_slice.ensures) other)

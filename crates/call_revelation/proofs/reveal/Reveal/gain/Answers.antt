@@ -1,4 +1,7 @@
 use Rattle.std.proofs.Common.{is_ok, ap, subst, sym, ◌∙◌}
+use Rattle.std.specs.Prelude.{flat_map}
+use Rattle.jvm_model.specs.Targets.{begun_by}
+use Rattle.call_revelation.specs.Books.{of_entered}
 use Rattle.call_revelation.specs.Tables.{Adds}
 use Rattle.call_revelation.proofs.Callers.{gathered-both}
 use Rattle.call_revelation.proofs.Fronts.{fresh-with, front-if}
@@ -37,4 +40,12 @@ returns-clause-front c =
     front-if (is_ok c.add.result) c.args.self.now.lineage.loaded c.add.new.self.loaded c.args.new c.add.ensures.loaded
 
 pub returns-clause-gathered : goal.returns-clause-gathered
-returns-clause-gathered c = ?
+returns-clause-gathered c =
+    let p = c.args.linker.now.program in
+    let r = c.args.self.now in
+    let all = c.add.new.self.loaded in
+    gathered-both p r.lineage.loaded c.args.new r.entered r.book.codes r.book.waiting.items r.book.calls.items c.args.supertypes.now all c.new-found.result
+    c.add_calls_above.new.found c.add_all_waiting.new.found c.new-found.ensures
+    (c.in_ok-add.ensures.loaded ∙ fresh-with r.lineage.loaded c.args.new c.requires.fresh) c.in_ok-add_calls_above.ensures
+    (subst (λ us. Adds c.add_calls_above.new.found c.add_all_waiting.new.found (flat_map (of_entered r.entered r.book.codes (begun_by p all)) us))
+    c.waiting.ensures c.in_ok-add_all_waiting.ensures)
