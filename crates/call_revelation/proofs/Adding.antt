@@ -77,16 +77,16 @@ pub from_flat : (f : ℕ → List ℕ) (xs : List ℕ) (m : ℕ) → is_among m 
 from_flat f [] m h = absurd (false_true h)
 from_flat f (x ∷ xs) m h =
     elim (either (is_among m (f x)) (is_among m (flat_map f xs)) (sym (among-append m (f x) (flat_map f xs)) ∙ h)) [
-      inl a ↦ record { item = x; there = or-first (x == x) (is_among x xs) (itself x); within = a }
-    | inr b ↦ let i = from_flat f xs m b in record { item = i.item; there = or-later (i.item == x) (is_among i.item xs) i.there; within = i.within }
+      | inl a ↦ record { item = x; there = or-first (x == x) (is_among x xs) (itself x); within = a }
+      | inr b ↦ let i = from_flat f xs m b in record { item = i.item; there = or-later (i.item == x) (is_among i.item xs) i.there; within = i.within }
     ]
 
 pub to_flat : (f : ℕ → List ℕ) (xs : List ℕ) (x m : ℕ) → is_among x xs ≡ true → is_among m (f x) ≡ true → is_among m (flat_map f xs) ≡ true
 to_flat f [] x m there h = absurd (false_true there)
 to_flat f (y ∷ xs) x m there h =
     among-append m (f y) (flat_map f xs) ∙ elim (either (x == y) (is_among x xs) there) [
-      inl same ↦ or-first (is_among m (f y)) (is_among m (flat_map f xs)) (ap (λ z. is_among m (f z)) (sym (equal x y same)) ∙ h)
-    | inr behind ↦ or-later (is_among m (f y)) (is_among m (flat_map f xs)) (to_flat f xs x m behind h)
+      | inl same ↦ or-first (is_among m (f y)) (is_among m (flat_map f xs)) (ap (λ z. is_among m (f z)) (sym (equal x y same)) ∙ h)
+      | inr behind ↦ or-later (is_among m (f y)) (is_among m (flat_map f xs)) (to_flat f xs x m behind h)
     ]
 
 -- made of those that give one

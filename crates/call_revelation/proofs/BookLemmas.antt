@@ -195,22 +195,22 @@ module _ (p : Program) (codes : Codes) (waiting calls : List (List Use)) (book :
     places = (uses-more p method 0 (map naming_view ns) waiting).places ∙ book.places;
     call_places = (calls-more p method 0 (map naming_view ns) calls).places ∙ book.call_places;
     read = λ k xs e. elim (which k xs e) [
-      inl h ↦ ap (map naming_view) h.1 ∙ (read ∙ ap (λ j. namings_of (operations_of p j)) (sym h.0))
-    | inr h ↦ book.read k xs h
+      | inl h ↦ ap (map naming_view) h.1 ∙ (read ∙ ap (λ j. namings_of (operations_of p j)) (sym h.0))
+      | inr h ↦ book.read k xs h
     ];
     waits = λ k at xs n e there class named. elim (which k xs e) [
-      inl h ↦
-        ap (λ j. has_use j at (list_at waiting_more class)) h.0
-        ∙ uses-listed p method 0 (map naming_view ns) waiting book.places at at (naming_view n)
-        (map-get naming_view ns at n (ap (λ l. slice_get l at) (sym h.1) ∙ there)) (omega arith) class named
-    | inr h ↦ (uses-more p method 0 (map naming_view ns) waiting).kept k at class (book.waits k at xs n h there class named)
+      | inl h ↦
+          ap (λ j. has_use j at (list_at waiting_more class)) h.0
+          ∙ uses-listed p method 0 (map naming_view ns) waiting book.places at at (naming_view n)
+          (map-get naming_view ns at n (ap (λ l. slice_get l at) (sym h.1) ∙ there)) (omega arith) class named
+      | inr h ↦ (uses-more p method 0 (map naming_view ns) waiting).kept k at class (book.waits k at xs n h there class named)
     ];
     called = λ k at xs n e there call class named. elim (which k xs e) [
-      inl h ↦
-        ap (λ j. has_use j at (list_at calls_more class)) h.0
-        ∙ calls-listed p method 0 (map naming_view ns) calls book.call_places at at (naming_view n)
-        (map-get naming_view ns at n (ap (λ l. slice_get l at) (sym h.1) ∙ there)) call (omega arith) class named
-    | inr h ↦ (calls-more p method 0 (map naming_view ns) calls).kept k at class (book.called k at xs n h there call class named)
+      | inl h ↦
+          ap (λ j. has_use j at (list_at calls_more class)) h.0
+          ∙ calls-listed p method 0 (map naming_view ns) calls book.call_places at at (naming_view n)
+          (map-get naming_view ns at n (ap (λ l. slice_get l at) (sym h.1) ∙ there)) call (omega arith) class named
+      | inr h ↦ (calls-more p method 0 (map naming_view ns) calls).kept k at class (book.called k at xs n h there call class named)
     ];
   }
 

@@ -148,10 +148,10 @@ first-revelation p r is fit short numbers lineage book empty = record {
     callers = λ m h. absurd (false_true (sym (ap (is_among m) empty.entered) ∙ h));
   };
   targets = λ m.
-    ap (is_among m) empty.targets ∙ sym (ap (λ l. is_target p (operations_of p) r.lineage.loaded l m) empty.entered);
+      ap (is_among m) empty.targets ∙ sym (ap (λ l. is_target p (operations_of p) r.lineage.loaded l m) empty.entered);
   shown = λ m none.
-    ap (λ l. mark_at l m) empty.shown
-    ∙ (no-mark (length p.methods) m ∙ (sym (unmarked p m) ∙ sym (now-empty m)));
+      ap (λ l. mark_at l m) empty.shown
+      ∙ (no-mark (length p.methods) m ∙ (sym (unmarked p m) ∙ sym (now-empty m)));
 }
   where
     now-empty : (m : ℕ) → mark_of p (now_of r) m ≡ mark_of p nothing_revealed m

@@ -121,7 +121,7 @@ pub gone-back : (p : Program) (old new : Reveal) → IsRevelation p old → IsGr
     → IsRevelation p (record new { lineage = cut_lineage new.lineage (take (length old.lineage.loaded) new.lineage.loaded); targets = take (length old.targets) new.targets })
 gone-back p old new is grown =
     let rest : IsRevelation p (record old { lineage = cut_lineage new.lineage old.lineage.loaded; book = new.book; stale = new.stale }) =
-      cut-back p old is new.lineage new.book new.stale grown.lineage grown.loaded grown.book grown.codes grown.stale in
+    cut-back p old is new.lineage new.book new.stale grown.lineage grown.loaded grown.book grown.codes grown.stale in
     subst (IsRevelation p) (back-is) rest
   where
     back-is : (record old { lineage = cut_lineage new.lineage old.lineage.loaded; book = new.book; stale = new.stale })

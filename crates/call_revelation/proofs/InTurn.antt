@@ -64,9 +64,9 @@ module _ (l : LinkerView) (first now : Reveal) (classes : List ℕ) (i : ℕ) (w
     grown = grown-then l.program first now next so.grown grown;
     ahead = ahead-more l now class next so.ahead next-linked loaded;
     loaded =
-      ap (λ k. k ++ drop (i + 1) classes) loaded
-      ∙ (append-assoc now.lineage.loaded (class ∷ []) (drop (i + 1) classes)
-      ∙ (ap (λ k. now.lineage.loaded ++ k) (sym behind) ∙ so.loaded));
+        ap (λ k. k ++ drop (i + 1) classes) loaded
+        ∙ (append-assoc now.lineage.loaded (class ∷ []) (drop (i + 1) classes)
+        ∙ (ap (λ k. now.lineage.loaded ++ k) (sym behind) ∙ so.loaded));
     order = subst (λ k. IsLoadOrder l.program k (drop (i + 1) classes)) (sym loaded) in-order.2;
     linked = in-linker.1;
   }

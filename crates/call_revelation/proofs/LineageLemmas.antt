@@ -37,8 +37,8 @@ among-item item n k x lists h = by (k == n) refl
     there same (inl within) =
         elim (either (is_among x (list_at lists n)) (is_among x (item ∷ []))
         (sym (among-append x (list_at lists n) (item ∷ [])) ∙ (sym (ap (is_among x) (at-same item n lists within)) ∙ (ap (λ j. is_among x (list_at (with_item n item lists) j)) (sym same) ∙ h)))) [
-          inl a ↦ inl (ap (λ j. is_among x (list_at lists j)) same ∙ a)
-        | inr b ↦ inr (equal x item (sym (or-false (x == item)) ∙ b), same)
+          | inl a ↦ inl (ap (λ j. is_among x (list_at lists j)) same ∙ a)
+          | inr b ↦ inr (equal x item (sym (or-false (x == item)) ∙ b), same)
         ]
     there same (inr past) = inl (ap (λ l. is_among x (list_at l k)) (nothing_past item n lists past) ∙ h)
 
@@ -68,8 +68,8 @@ pub noted-more : (lower : ℕ) (classes : List ℕ) (before after : List (List �
 noted-more lower classes before after class there is = record {
   places = length-with lower class after ∙ is.places;
   only = λ k x h. elim (among-item lower class k x after h) [
-    inl a ↦ is.only k x a
-  | inr b ↦ inr (b.0, ap (λ j. is_among j classes) b.1 ∙ there)
+    | inl a ↦ is.only k x a
+    | inr b ↦ inr (b.0, ap (λ j. is_among j classes) b.1 ∙ there)
   ];
   more = λ k x h. item-kept lower class k x after (is.more k x h);
 }
@@ -96,11 +96,11 @@ noted-there lower below (class ∷ rest) k within (inl h) =
 noted-there lower below (class ∷ rest) k within (inr h) =
     let longer = subst (λ n. k < n) (sym (length-with lower class below)) within in
     elim (either (k == class) (is_among k rest) h) [
-      inl same ↦ noted-there lower (with_item class lower below) rest k longer
-        (inl (ap (is_among lower) (ap (λ j. list_at (with_item j lower below) k) (sym (equal k class same)) ∙ at-same lower k below within)
-        ∙ (among-append lower (list_at below k) (lower ∷ []) ∙ or-later (is_among lower (list_at below k)) (is_among lower (lower ∷ []))
-        (or-first (lower == lower) false (itself lower)))))
-    | inr behind ↦ noted-there lower (with_item class lower below) rest k longer (inr behind)
+      | inl same ↦ noted-there lower (with_item class lower below) rest k longer
+          (inl (ap (is_among lower) (ap (λ j. list_at (with_item j lower below) k) (sym (equal k class same)) ∙ at-same lower k below within)
+          ∙ (among-append lower (list_at below k) (lower ∷ []) ∙ or-later (is_among lower (list_at below k)) (is_among lower (lower ∷ []))
+          (or-first (lower == lower) false (itself lower)))))
+      | inr behind ↦ noted-there lower (with_item class lower below) rest k longer (inr behind)
     ]
 
 among-with : (m : ℕ) (a : List ℕ) (x : ℕ) → is_among m (with_class a x) ≡ true → (is_among m a ≡ true) ⊎ (m ≡ x)
@@ -110,16 +110,16 @@ among-with m a x h = by (is_among x a) h
     by true h = inl h
     by false h =
         elim (either (is_among m a) (is_among m (x ∷ [])) (sym (among-append m a (x ∷ [])) ∙ h)) [
-          inl k ↦ inl k
-        | inr k ↦ inr (equal m x (sym (or-false (m == x)) ∙ k))
+          | inl k ↦ inl k
+          | inr k ↦ inr (equal m x (sym (or-false (m == x)) ∙ k))
         ]
 
 module _ (p : Program) (class : ℕ) (supertypes : List ℕ) (are : (upper : ℕ) → is_among upper supertypes ≡ is_subtype p class upper) where
   noted-below : (before after : List (List ℕ)) → AreBelow p before → IsNoted class supertypes before after → AreBelow p after
   noted-below before after sound is k x h =
       elim (is.only k x h) [
-        inl a ↦ sound k x a
-      | inr b ↦ ap (λ y. is_subtype p y k) b.0 ∙ (sym (are k) ∙ b.1)
+        | inl a ↦ sound k x a
+        | inr b ↦ ap (λ y. is_subtype p y k) b.0 ∙ (sym (are k) ∙ b.1)
       ]
 
   -- where memory ran out nothing is loaded more
@@ -138,12 +138,12 @@ module _ (p : Program) (class : ℕ) (supertypes : List ℕ) (are : (upper : ℕ
     places = is.places ∙ v.places;
     below = noted-below before.below.items after.below.items v.below is;
     whole = λ k x within there sub. elim (among-with x before.loaded class (ap (is_among x) (sym loaded) ∙ there)) [
-      inl old ↦ is.more k x (v.whole k x within old sub)
-    | inr new ↦
-        ap (λ y. is_among y (list_at after.below.items k)) new
-        ∙ (ap (λ l. is_among class (list_at l k)) noted_is
-        ∙ noted-there class before.below.items supertypes k (subst (λ n. k < n) (sym v.places) within)
-        (inr (are k ∙ (ap (λ y. is_subtype p y k) (sym new) ∙ sub))))
+      | inl old ↦ is.more k x (v.whole k x within old sub)
+      | inr new ↦
+          ap (λ y. is_among y (list_at after.below.items k)) new
+          ∙ (ap (λ l. is_among class (list_at l k)) noted_is
+          ∙ noted-there class before.below.items supertypes k (subst (λ n. k < n) (sym v.places) within)
+          (inr (are k ∙ (ap (λ y. is_subtype p y k) (sym new) ∙ sub))))
     ];
   }
 
@@ -161,6 +161,6 @@ pub nothing-loaded : (p : Program) (v : Lineage) → v.loaded ≡ [] → v.below
 nothing-loaded p v none empty = record {
   places = ap length empty ∙ length-replicate (length p.classes);
   below = λ class lower h.
-    absurd (false_true (sym (ap (is_among lower) (ap (λ l. list_at l class) empty ∙ empty-at (length p.classes) class)) ∙ h));
+      absurd (false_true (sym (ap (is_among lower) (ap (λ l. list_at l class) empty ∙ empty-at (length p.classes) class)) ∙ h));
   whole = λ class lower within there sub. absurd (false_true (sym (ap (is_among lower) none) ∙ there));
 }

@@ -43,8 +43,8 @@ pub some-of : {A : Type 0} (f : A → List ℕ) (xs : List A) (m : ℕ) → is_a
 some-of f [] m h = absurd (false_true h)
 some-of f (x ∷ xs) m h =
     elim (either (is_among m (f x)) (is_among m (flat_map f xs)) (sym (among-append m (f x) (flat_map f xs)) ∙ h)) [
-      inl a ↦ record { item = x; within = a }
-    | inr b ↦ some-of f xs m b
+      | inl a ↦ record { item = x; within = a }
+      | inr b ↦ some-of f xs m b
     ]
 
 pub any-flat : {A : Type 0} (f : A → List ℕ) (test : A → Bool) (xs : List A) (m : ℕ) → list_any test xs ≡ true
@@ -52,16 +52,16 @@ pub any-flat : {A : Type 0} (f : A → List ℕ) (test : A → Bool) (xs : List 
 any-flat f test [] m there is = absurd (false_true there)
 any-flat f test (x ∷ xs) m there is =
     among-append m (f x) (flat_map f xs) ∙ elim (either (test x) (list_any test xs) there) [
-      inl a ↦ or-first (is_among m (f x)) (is_among m (flat_map f xs)) (is x a)
-    | inr b ↦ or-later (is_among m (f x)) (is_among m (flat_map f xs)) (any-flat f test xs m b is)
+      | inl a ↦ or-first (is_among m (f x)) (is_among m (flat_map f xs)) (is x a)
+      | inr b ↦ or-later (is_among m (f x)) (is_among m (flat_map f xs)) (any-flat f test xs m b is)
     ]
 
 pub any-of : (f : ℕ → Bool) (xs : List ℕ) (x : ℕ) → is_among x xs ≡ true → f x ≡ true → list_any f xs ≡ true
 any-of f [] x there h = absurd (false_true there)
 any-of f (y ∷ xs) x there h =
     elim (either (x == y) (is_among x xs) there) [
-      inl same ↦ or-first (f y) (list_any f xs) (ap f (sym (equal x y same)) ∙ h)
-    | inr behind ↦ or-later (f y) (list_any f xs) (any-of f xs x behind h)
+      | inl same ↦ or-first (f y) (list_any f xs) (ap f (sym (equal x y same)) ∙ h)
+      | inr behind ↦ or-later (f y) (list_any f xs) (any-of f xs x behind h)
     ]
 
 pub record IsAny (f : ℕ → Bool) (xs : List ℕ) : Type 0 where
@@ -73,8 +73,8 @@ pub from-any : (f : ℕ → Bool) (xs : List ℕ) → list_any f xs ≡ true →
 from-any f [] h = absurd (false_true h)
 from-any f (x ∷ xs) h =
     elim (either (f x) (list_any f xs) h) [
-      inl a ↦ record { item = x; there = or-first (x == x) (is_among x xs) (itself x); holds = a }
-    | inr b ↦ let i = from-any f xs b in record { item = i.item; there = or-later (i.item == x) (is_among i.item xs) i.there; holds = i.holds }
+      | inl a ↦ record { item = x; there = or-first (x == x) (is_among x xs) (itself x); holds = a }
+      | inr b ↦ let i = from-any f xs b in record { item = i.item; there = or-later (i.item == x) (is_among i.item xs) i.there; holds = i.holds }
     ]
 
 pub map-get : {A B : Type 0} (f : A → B) (xs : List A) (i : ℕ) (x : A) → slice_get xs i ≡ Some x → slice_get (map f xs) i ≡ Some (f x)
@@ -305,8 +305,8 @@ module _ (p : Program) (codes : Codes) (waiting calls : List (List Use)) (book :
     load-step =
         alike (is_target p (operations_of p) all entered m) (before || is_among m (gathered p loaded new entered codes waiting calls supertypes))
         (λ t. elim (either before (is_gained p (operations_of p) loaded new entered m) (sym law ∙ t)) [
-          inl x ↦ or-first before (is_among m (gathered p loaded new entered codes waiting calls supertypes)) x
-        | inr y ↦ or-later before (is_among m (gathered p loaded new entered codes waiting calls supertypes)) (is-gathered-all ∙ gained-gathered y)
+          | inl x ↦ or-first before (is_among m (gathered p loaded new entered codes waiting calls supertypes)) x
+          | inr y ↦ or-later before (is_among m (gathered p loaded new entered codes waiting calls supertypes)) (is-gathered-all ∙ gained-gathered y)
         ])
         (λ t. gathered-or before (is_among m (gathered p loaded new entered codes waiting calls supertypes)) t
         (λ x. law ∙ or-first before (is_gained p (operations_of p) loaded new entered m) x)

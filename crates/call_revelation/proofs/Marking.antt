@@ -107,8 +107,8 @@ pub ahead-more : (l : LinkerView) (r : Reveal) (new : ℕ) (next : Reveal) → I
     → IsAhead l next
 ahead-more l r new next ahead there loaded = record {
   loaded = λ class h. elim (either (is_among class r.lineage.loaded) (is_among class (new ∷ [])) (sym (among-append class r.lineage.loaded (new ∷ [])) ∙ (sym (ap (is_among class) loaded) ∙ h))) [
-    inl old ↦ ahead.loaded class old
-  | inr same ↦ ap (λ c. is_among c l.loaded) (equal class new (sym (or-false (class == new)) ∙ same)) ∙ there
+    | inl old ↦ ahead.loaded class old
+    | inr same ↦ ap (λ c. is_among c l.loaded) (equal class new (sym (or-false (class == new)) ∙ same)) ∙ there
   ];
   root = ahead.root;
 }
@@ -164,11 +164,11 @@ module _ (p : Program) (r : Reveal) (is : IsRevelation p r) (new : ℕ) (above :
   loaded-more = record {
     kept = kept-other p (record r { lineage = lineage }) targets stale (kept-loaded p r new lineage is.kept lined loaded);
     targets = λ m.
-      targeted m ∙ (ap (λ t. t || is_among m found) (is.targets m)
-      ∙ (sym (target-more m) ∙ ap (λ l. is_target p (operations_of p) l r.entered m) (sym loaded)));
+        targeted m ∙ (ap (λ t. t || is_among m found) (is.targets m)
+        ∙ (sym (target-more m) ∙ ap (λ l. is_target p (operations_of p) l r.entered m) (sym loaded)));
     shown = λ m none.
-      is.shown m (not-stale m none).0
-      ∙ (sym (still-marked m none) ∙ ap (λ l. mark_of p (record { selected = r.selected; entered = r.entered; loaded = l }) m) (sym loaded));
+        is.shown m (not-stale m none).0
+        ∙ (sym (still-marked m none) ∙ ap (λ l. mark_of p (record { selected = r.selected; entered = r.entered; loaded = l }) m) (sym loaded));
   }
 
 -- ---- a method is entered
@@ -184,8 +184,8 @@ module _ (p : Program) (r : Reveal) (is : IsRevelation p r) (method : ℕ) (with
   if-entered : (P : ℕ → Type 0) (m : ℕ) → is_among m entered ≡ true → P method → (is_among m r.entered ≡ true → P m) → P m
   if-entered P m h first behind =
       elim (either (m == method) (is_among m r.entered) h) [
-        inl same ↦ subst P (sym (equal m method same)) first
-      | inr there ↦ behind there
+        | inl same ↦ subst P (sym (equal m method same)) first
+        | inr there ↦ behind there
       ]
 
   flags-more : (m : ℕ) → flag_at (slice_set r.flags method true) m ≡ is_among m entered
@@ -226,10 +226,10 @@ module _ (p : Program) (r : Reveal) (is : IsRevelation p r) (method : ℕ) (with
     };
     targets = λ m. targeted m ∙ (ap (λ t. t || is_among m found) (is.targets m) ∙ sym (target-too m));
     shown = λ m none.
-      let old = neither (is_among m r.stale) (is_among m found) (sym (staled m) ∙ none) in
-      is.shown m old.0
-      ∙ ap (λ t. mark_by (has_class p r.lineage.loaded m) (is_among m r.selected) t)
-      (sym (target-too m ∙ (ap (λ t. is_target p (operations_of p) r.lineage.loaded r.entered m || t) old.1 ∙ or-false (is_target p (operations_of p) r.lineage.loaded r.entered m))));
+        let old = neither (is_among m r.stale) (is_among m found) (sym (staled m) ∙ none) in
+        is.shown m old.0
+        ∙ ap (λ t. mark_by (has_class p r.lineage.loaded m) (is_among m r.selected) t)
+        (sym (target-too m ∙ (ap (λ t. is_target p (operations_of p) r.lineage.loaded r.entered m || t) old.1 ∙ or-false (is_target p (operations_of p) r.lineage.loaded r.entered m))));
   }
 
 -- ---- a method is selected, or no more
@@ -255,8 +255,8 @@ reselected p r is selected stale same = record {
   };
   targets = is.targets;
   shown = λ m none.
-    is.shown m (same m none).0
-    ∙ ap (λ s. mark_by (has_class p r.lineage.loaded m) s (is_target p (operations_of p) r.lineage.loaded r.entered m)) (sym (same m none).1);
+      is.shown m (same m none).0
+      ∙ ap (λ s. mark_by (has_class p r.lineage.loaded m) s (is_target p (operations_of p) r.lineage.loaded r.entered m)) (sym (same m none).1);
 }
 
 -- another method is among the others
@@ -307,9 +307,9 @@ quieted p r is flags stale long off staled = record {
   };
   targets = λ m. refl;
   shown = λ m none.
-    let old = neither (is_among m r.stale) (is_among m r.targets) (sym (staled m) ∙ none) in
-    is.shown m old.0
-    ∙ ap (λ t. mark_by (has_class p r.lineage.loaded m) (is_among m r.selected) t) (sym (is.targets m) ∙ old.1);
+      let old = neither (is_among m r.stale) (is_among m r.targets) (sym (staled m) ∙ none) in
+      is.shown m old.0
+      ∙ ap (λ t. mark_by (has_class p r.lineage.loaded m) (is_among m r.selected) t) (sym (is.targets m) ∙ old.1);
 }
 
 -- more that is stale does no harm

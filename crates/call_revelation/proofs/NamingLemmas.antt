@@ -101,8 +101,8 @@ module _ (of_operation : Operation → List ℕ) (f : Naming → List ℕ) (sees
   from-all [] m h = absurd (false_true h)
   from-all (op ∷ rest) m h =
       elim (either (is_among m (of_operation op)) (is_among m (all_of rest)) (sym (among-append m (of_operation op) (all_of rest)) ∙ h)) [
-        inl a ↦ first (naming_in op) (sees op) a
-      | inr b ↦ one-behind (naming_in op) (namings_of rest) m (from-all rest m b)
+        | inl a ↦ first (naming_in op) (sees op) a
+        | inr b ↦ one-behind (naming_in op) (namings_of rest) m (from-all rest m b)
       ]
     where
       first : (o : Option Naming) → SeesNaming of_operation f op o → is_among m (of_operation op) ≡ true → IsOne f (cons_option o (namings_of rest)) m
@@ -185,15 +185,15 @@ module _ (p : Program) (loaded : List ℕ) where
         let front = gained_named p loaded new (Invokevirtual r) r.class in
         let back = gained_call p loaded new Virtual r in
         elim (either (is_among m front) (is_among m back) (sym (among-append m front back) ∙ h)) [
-          inl a ↦ inl (names-it (Invokevirtual r) m a)
-        | inr b ↦ inr (calls-it (Invokevirtual r) Virtual r m refl refl (λ class. refl) b)
+          | inl a ↦ inl (names-it (Invokevirtual r) m a)
+          | inr b ↦ inr (calls-it (Invokevirtual r) Virtual r m refl refl (λ class. refl) b)
         ]
     gained-either (Invokeinterface r) m h =
         let front = gained_named p loaded new (Invokeinterface r) r.class in
         let back = gained_call p loaded new OfInterface r in
         elim (either (is_among m front) (is_among m back) (sym (among-append m front back) ∙ h)) [
-          inl a ↦ inl (names-it (Invokeinterface r) m a)
-        | inr b ↦ inr (calls-it (Invokeinterface r) OfInterface r m refl refl (λ class. refl) b)
+          | inl a ↦ inl (names-it (Invokeinterface r) m a)
+          | inr b ↦ inr (calls-it (Invokeinterface r) OfInterface r m refl refl (λ class. refl) b)
         ]
     gained-either (Getfield r) m h = absurd (false_true h)
     gained-either (Putfield r) m h = absurd (false_true h)

@@ -2,7 +2,7 @@
 use Rattle.std.proofs.Common.{◌≡◌, ℕ, suc, List, [], ◌∷◌, ◌++◌, map, ap, ap₂, sym, refl, ◌∙◌}
 use Rattle.std.specs.Prelude.{filter_map, Option, Some, None}
 use Rattle.std.specs.List.{cons_option}
-use Rattle.std.specs.Option.{option_and_then, option_map, option_map_or}
+use Rattle.std.specs.Option.{option_and_then, option_map, option_map_or, option_to_list}
 use Rattle.const_pool.specs.declared.class.ClassFile.{ClassFile}
 use Rattle.code_model.specs.declared.instr.Instr.{Instr}
 use Rattle.code_model.specs.Instructions.{end_of, instruction_at}
@@ -33,6 +33,10 @@ one-read c code at n i e =
     ap (λ o. filter_map naming_in (filter_map (operation_of c) (option_map_or (λ (i : Instr). i ∷ read_from n code (end_of i)) o []))) e
     ∙ one-operation (operation_of c i) (filter_map (operation_of c) (read_from n code (end_of i)))
 
+append-nothing : {A : Type 0} (xs : List A) → xs ++ [] ≡ xs
+append-nothing [] = refl
+append-nothing (x ∷ xs) = ap (λ l. x ∷ l) (append-nothing xs)
+
 append-one : {A B : Type 0} (view : A → B) (xs : List A) (x : A) (rest : List B) → map view (xs ++ x ∷ []) ++ rest ≡ map view xs ++ view x ∷ rest
 append-one view [] x rest = refl
 append-one view (y ∷ ys) x rest = ap (λ l. view y ∷ l) (append-one view ys x rest)
@@ -46,10 +50,15 @@ module _ (c : ClassFile) (code : List ℕ) (ns : List Naming) (whole : List mode
       ∙ (ap (λ l. map naming_view ns ++ l) (sym (one-read c code at n i there)) ∙ (ap (λ k. map naming_view ns ++ namings_from c k code at) (sym more) ∙ is))
 
   -- it can begin a method
-  pub one-pushed : (x : Naming) → Some (naming_view x) ≡ option_and_then naming_in (operation_of c i)
+  one-pushed : (x : Naming) → Some (naming_view x) ≡ option_and_then naming_in (operation_of c i)
       → map naming_view (ns ++ x ∷ []) ++ namings_from c n code (end_of i) ≡ whole
   one-pushed x e = append-one naming_view ns x (namings_from c n code (end_of i)) ∙ read-on (Some (naming_view x)) e
 
   -- or it can't
-  pub one-passed : None ≡ option_and_then naming_in (operation_of c i) → map naming_view ns ++ namings_from c n code (end_of i) ≡ whole
+  one-passed : None ≡ option_and_then naming_in (operation_of c i) → map naming_view ns ++ namings_from c n code (end_of i) ≡ whole
   one-passed e = read-on None e
+
+  pub one-more : (o : Option Naming) → option_map naming_view o ≡ option_and_then naming_in (operation_of c i)
+      → map naming_view (ns ++ option_to_list o) ++ namings_from c n code (end_of i) ≡ whole
+  one-more None e = ap (λ l. map naming_view l ++ namings_from c n code (end_of i)) (append-nothing ns) ∙ one-passed e
+  one-more (Some x) e = one-pushed x e

@@ -64,10 +64,10 @@ numbered-any : (test : ℕ × MethodPlace → Bool) (k : ℕ) (xs : List MethodP
 numbered-any test k [] h = absurd (false_true h)
 numbered-any test k (x ∷ xs) h =
     elim (either (test (k, x)) (list_any test (enumerate_from (k + 1) xs)) h) [
-      inl a ↦ record { index = 0; item = x; there = refl; holds = ap (λ (j : ℕ). test (j, x)) (let z : k + 0 ≡ k = omega arith in z) ∙ a }
-    | inr b ↦
-        let i = numbered-any test (k + 1) xs b in
-        record { index = suc i.index; item = i.item; there = i.there; holds = ap (λ (j : ℕ). test (j, i.item)) (let z : k + suc i.index ≡ k + 1 + i.index = omega arith in z) ∙ i.holds }
+      | inl a ↦ record { index = 0; item = x; there = refl; holds = ap (λ (j : ℕ). test (j, x)) (let z : k + 0 ≡ k = omega arith in z) ∙ a }
+      | inr b ↦
+          let i = numbered-any test (k + 1) xs b in
+          record { index = suc i.index; item = i.item; there = i.there; holds = ap (λ (j : ℕ). test (j, i.item)) (let z : k + suc i.index ≡ k + 1 + i.index = omega arith in z) ∙ i.holds }
     ]
 
 -- what is made of one that gives it
@@ -87,16 +87,16 @@ made-from f (x ∷ xs) y h = by (f x) refl h (made-from f xs y)
     by None e h rest = behind (rest h)
     by (Some z) e h rest =
         elim (either (y == z) (is_among y (filter_map f xs)) h) [
-          inl same ↦ record { item = x; there = or-first (x == x) (is_among x xs) (itself x); gives = e ∙ ap (λ w. Some w) (sym (equal y z same)) }
-        | inr later ↦ behind (rest later)
+          | inl same ↦ record { item = x; there = or-first (x == x) (is_among x xs) (itself x); gives = e ∙ ap (λ w. Some w) (sym (equal y z same)) }
+          | inr later ↦ behind (rest later)
         ]
 
 made-to : (f : ℕ → Option ℕ) (xs : List ℕ) (x y : ℕ) → is_among x xs ≡ true → f x ≡ Some y → is_among y (filter_map f xs) ≡ true
 made-to f [] x y there e = absurd (false_true there)
 made-to f (z ∷ zs) x y there e =
     elim (either (x == z) (is_among x zs) there) [
-      inl same ↦ ap (λ o. is_among y (cons_option o (filter_map f zs))) (ap f (sym (equal x z same)) ∙ e) ∙ or-first (y == y) (is_among y (filter_map f zs)) (itself y)
-    | inr later ↦ pushed (f z) (made-to f zs x y later e)
+      | inl same ↦ ap (λ o. is_among y (cons_option o (filter_map f zs))) (ap f (sym (equal x z same)) ∙ e) ∙ or-first (y == y) (is_among y (filter_map f zs)) (itself y)
+      | inr later ↦ pushed (f z) (made-to f zs x y later e)
     ]
   where
     pushed : (o : Option ℕ) → is_among y (filter_map f zs) ≡ true → is_among y (cons_option o (filter_map f zs)) ≡ true
@@ -164,7 +164,7 @@ module _ (p : Program) (r : Reveal) (is : IsRevelation p r) (before : Revealed) 
       let holds : test (i.index, i.item) ≡ true = ap (λ (j : ℕ). test (j, i.item)) (let z : i.index ≡ 0 + i.index = omega arith in z) ∙ i.holds in
       let of_class = equal i.item.class class (first-of (i.item.class == class) (not (same_mark (mark_of p before i.index) (mark_of p (now_of r) i.index))) holds) in
       let other = is-not (same_mark (mark_of p before i.index) (mark_of p (now_of r) i.index))
-        (second-of (i.item.class == class) (not (same_mark (mark_of p before i.index) (mark_of p (now_of r) i.index))) holds) in
+      (second-of (i.item.class == class) (not (same_mark (mark_of p before i.index) (mark_of p (now_of r) i.index))) holds) in
       made-to (class_changed r) r.stale i.index class (is-stale i.index i.item i.there other)
       (ap (λ b. if b then None else option_map_or (λ (place : MethodPlace). Some place.class) (slice_get r.methods i.index) None)
       (ap₂ (λ x y. same_mark x y) (was-shown i.index i.item i.there) (mark-is p r is i.index) ∙ other)
@@ -216,12 +216,12 @@ mark-set r [] shown m within h = absurd (false_true h)
 mark-set r (x ∷ rest) shown m within h =
     let longer = subst (λ n. m < n) (sym (set-length shown x (mark_kept r x))) within in
     elim (either (m == x) (is_among m rest) h) [
-      inl k ↦
-        let same = equal m x k in
-        mark-stays r rest (slice_set shown x (mark_kept r x)) m longer
-        (ap (λ j. mark_at (slice_set shown x (mark_kept r x)) j) same
-        ∙ (ap (λ (o : Option Mark). unwrap_or o Off) (set-same shown x (mark_kept r x) (subst (λ j. j < length shown) same within)) ∙ ap (mark_kept r) (sym same)))
-    | inr later ↦ mark-set r rest (slice_set shown x (mark_kept r x)) m longer later
+      | inl k ↦
+          let same = equal m x k in
+          mark-stays r rest (slice_set shown x (mark_kept r x)) m longer
+          (ap (λ j. mark_at (slice_set shown x (mark_kept r x)) j) same
+          ∙ (ap (λ (o : Option Mark). unwrap_or o Off) (set-same shown x (mark_kept r x) (subst (λ j. j < length shown) same within)) ∙ ap (mark_kept r) (sym same)))
+      | inr later ↦ mark-set r rest (slice_set shown x (mark_kept r x)) m longer later
     ]
 
 module _ (p : Program) (r : Reveal) (is : IsRevelation p r) where

@@ -28,7 +28,7 @@ use crate::place::Place;
 use class_index::Order;
 use class_linker::Linker;
 use jf_bytes::{NoMemory, Text16};
-use jvm_named::{MemberName, MethodNumbers, MethodName, Naming};
+use jvm_named::{MemberName, MethodName, MethodNumbers, Naming};
 
 // ---- of one method or class
 

@@ -234,8 +234,18 @@ impl Book {
             return Ok(());
         }
         let namings = namings_of(alloc, linker.program(), method)?;
-        note_uses(linker, self.waiting.as_mut_slice(), method, namings.as_slice())?;
-        note_calls(linker, self.calls.as_mut_slice(), method, namings.as_slice())?;
+        note_uses(
+            linker,
+            self.waiting.as_mut_slice(),
+            method,
+            namings.as_slice(),
+        )?;
+        note_calls(
+            linker,
+            self.calls.as_mut_slice(),
+            method,
+            namings.as_slice(),
+        )?;
         self.codes.set(method as usize, Some(namings));
         Ok(())
     }

@@ -10,9 +10,9 @@ ghost use Rattle.call_revelation.specs.Books.{code_at};
 ghost use Rattle.call_revelation.specs.Reveals.{IsAhead, IsFront, IsGrown, IsKept, IsRevelation};
 ghost use Rattle.call_revelation.specs.Reveals.{flag_at, now_of};
 
+use crate::gathering::add_all_begun;
 use crate::growing::add_more;
 use crate::reveal::Reveal;
-use crate::gathering::add_all_begun;
 use class_index::Order;
 use class_linker::Linker;
 use jf_bytes::{NoMemory, Seq, Stack};

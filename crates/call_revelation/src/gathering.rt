@@ -25,11 +25,7 @@ use jvm_named::{MethodNumbers, Naming};
 use std::alloc::Global;
 
 /// Classes more that are loaded.
-fn add_classes(
-    lineage: &mut Lineage,
-    linker: &Linker,
-    classes: &[u32],
-) -> Result<(), NoMemory>
+fn add_classes(lineage: &mut Lineage, linker: &Linker, classes: &[u32]) -> Result<(), NoMemory>
     requires { AllByRecursion (IsLoaded linker.now) classes.now }
     ensures lineage { IsLineage linker.now.program lineage.old →
         IsLineage linker.now.program lineage.new }

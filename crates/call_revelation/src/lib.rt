@@ -18,5 +18,5 @@ mod selecting;
 mod showing;
 mod uses;
 
-pub use reveal::Reveal;
 pub use gathering::targets;
+pub use reveal::Reveal;

@@ -143,12 +143,7 @@ impl Reveal {
     // ---- instructions that name the new one
 
     /// What an instruction begins, where it stands in an entered method.
-    fn add_waiting(
-        &self,
-        linker: &Linker,
-        u: Use,
-        found: &mut Order,
-    ) -> Result<(), NoMemory>
+    fn add_waiting(&self, linker: &Linker, u: Use, found: &mut Order) -> Result<(), NoMemory>
         requires kept { IsKept linker.now.program self.now }
         requires ahead { IsAhead linker.now self.now }
         ensures { OnOk result (Adds found.old found.new (of_entered self.now.entered
@@ -229,12 +224,7 @@ impl Reveal {
     }
 
     /// Keeps that these classes are loaded more.
-    fn load_all(
-        &mut self,
-        alloc: Global,
-        linker: &Linker,
-        classes: &[u32],
-    ) -> Result<(), NoMemory>
+    fn load_all(&mut self, alloc: Global, linker: &Linker, classes: &[u32]) -> Result<(), NoMemory>
         requires revelation { IsRevelation linker.now.program self.old }
         requires ahead { IsAhead linker.now self.old }
         requires new { AllByRecursion (IsLoaded linker.now) classes.now }
@@ -253,9 +243,11 @@ impl Reveal {
     /// No more classes are loaded than so many, and there are no more targets.
     pub fn go_back(&mut self, loaded: usize, targets: usize)
         ensures { self.new ≡ (record self.old {
-            lineage = record self.old.lineage {
-                loaded = take loaded self.old.lineage.loaded };
-            targets = take targets self.old.targets }) }
+          lineage = record self.old.lineage {
+            loaded = take loaded self.old.lineage.loaded;
+          };
+          targets = take targets self.old.targets;
+        }) }
     {
         self.lineage.loaded.truncate(loaded);
         self.targets.truncate(targets);

@@ -1,11 +1,10 @@
 //! The instructions of original code that can begin methods, with the names that they give.
 
-ghost use Rattle.std.specs.Prelude.{◌≡◌, ◌<◌, ◌^◌, filter_map, length, map, IfOk};
+ghost use Rattle.std.specs.Prelude.{◌≡◌, ◌<◌, ◌^◌, ◌++◌, length, map, IfOk, OnOk};
 ghost use Rattle.std.specs.List.{AllByRecursion};
-ghost use Rattle.std.specs.Option.{option_and_then, option_map};
+ghost use Rattle.std.specs.Option.{option_and_then, option_map, option_to_list};
 ghost use Rattle.code_model.specs.Instructions.{end_of};
 ghost use Rattle.jvm_model.specs.Lines.{operation_of};
-ghost use Rattle.jvm_model.specs.Places.{method_reading, read_from};
 ghost use Rattle.jvm_named.specs.Names.{naming_view};
 ghost use Rattle.jvm_steps.specs.Prepared.{HasShortCode, HasShortCodes};
 ghost use Rattle.call_revelation.specs.Namings.{begins_by, code_namings, member_namings};
@@ -61,6 +60,16 @@ fn naming_of(alloc: Global, class: &ClassFile, instr: Instr) -> Result<Option<Na
     }
 }
 
+/// What an instruction names, if it does.
+fn add_naming(namings: &mut Seq<Naming>, naming: Option<Naming>) -> Result<(), NoMemory>
+    ensures { OnOk result (namings.new ≡ namings.old ++ option_to_list naming) }
+{
+    if let Some(naming) = naming {
+        namings.push(naming)?;
+    }
+    Ok(())
+}
+
 /// What the instructions of a code name that can begin methods, in order.
 fn code_namings(alloc: Global, class: &ClassFile, code: &[u8]) -> Result<Seq<Naming>, NoMemory>
     requires { length code.now < 2 ^ 16 }
@@ -75,9 +84,8 @@ fn code_namings(alloc: Global, class: &ClassFile, code: &[u8]) -> Result<Seq<Nam
         };
         at = instr.next_offset();
         left -= 1;
-        if let Some(naming) = naming_of(alloc, class, instr)? {
-            namings.push(naming)?;
-        }
+        let naming = naming_of(alloc, class, instr)?;
+        add_naming(&mut namings, naming)?;
     }
     Ok(namings)
 }
@@ -98,11 +106,7 @@ fn member_namings(
 }
 
 /// What the original code of the method with this number names that can begin methods, in order.
-pub fn namings_of(
-    alloc: Global,
-    program: &Program,
-    method: u32,
-) -> Result<Seq<Naming>, NoMemory>
+pub fn namings_of(alloc: Global, program: &Program, method: u32) -> Result<Seq<Naming>, NoMemory>
     requires { AllByRecursion HasShortCodes program.now.classes }
     ensures { IfOk result (λ ns. map naming_view ns
         ≡ namings_of (operations_of program.now method)) }

@@ -41,11 +41,7 @@ pub struct Reveal {
 }
 
 /// The numbers of methods by their classes.
-fn owned(
-    alloc: Global,
-    methods: &[MethodPlace],
-    classes: usize,
-) -> Result<Vec<Seq<u32>>, NoMemory>
+fn owned(alloc: Global, methods: &[MethodPlace], classes: usize) -> Result<Vec<Seq<u32>>, NoMemory>
     requires { length methods.now < 2 ^ 32 }
     ensures { IfOk result (λ own. own.items
         ≡ owned_from 0 methods.now (replicate classes [])) }
@@ -167,7 +163,11 @@ impl Reveal {
         if self.is_selected(method) {
             return Mark::Root;
         }
-        if self.targets.has(method) { Mark::Plain } else { Mark::Off }
+        if self.targets.has(method) {
+            Mark::Plain
+        } else {
+            Mark::Off
+        }
     }
 
     /// The mark that a method has now.

@@ -90,7 +90,8 @@ impl Reveal {
     /// Shows the mark of a method.
     fn show_one(&mut self, method: u32)
         ensures { self.new ≡ (record self.old {
-            shown = slice_set self.old.shown method (mark_kept self.old method) }) }
+          shown = slice_set self.old.shown method (mark_kept self.old method);
+        }) }
     {
         let mark = self.mark_kept(method);
         if (method as usize) < self.shown.len() {
@@ -101,7 +102,8 @@ impl Reveal {
     /// Shows the marks of all methods that are stale.
     fn show_stale(&mut self)
         ensures { self.new ≡ (record self.old {
-            shown = with_marks self.old self.old.stale self.old.shown }) }
+          shown = with_marks self.old self.old.stale self.old.shown;
+        }) }
     {
         for at in 0..self.stale.len() {
             let method = self.stale.as_slice()[at];

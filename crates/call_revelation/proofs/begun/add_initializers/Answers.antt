@@ -18,6 +18,6 @@ returns c =
     let new = c.add_initializers_of.new.found in
     let made = filter_map (initializer_in p loaded) given in
     let to : new ≡ with_classes old made → Adds old new (initializers p loaded c.args.class) =
-        λ e. adds-alike old new made (initializers p loaded c.args.class)
-        (initializers-of p loaded c.args.class given c.supertypes-supertypes.ensures) (adds-equal old new made e) in
+    λ e. adds-alike old new made (initializers p loaded c.args.class)
+    (initializers-of p loaded c.args.class given c.supertypes-supertypes.ensures) (adds-equal old new made e) in
     on_ok_weaker c.add_initializers_of.result to c.add_initializers_of.ensures

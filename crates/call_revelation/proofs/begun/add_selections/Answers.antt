@@ -19,6 +19,6 @@ returns c =
     let made = filter_map (selection_of p v.loaded c.args.interface m) (list_at v.below.items c.args.class) in
     let begun = selections p v.loaded c.args.class (selecting c.args.interface) m in
     let to : new ≡ with_classes old (filter_map (selection_of p v.loaded c.args.interface m) c.below-lower.result.now) → Adds old new begun =
-        λ e. adds-alike old new made begun (selections-of p v c.args.class c.args.interface m c.requires.known.lineage c.requires.class)
-        (adds-equal old new made (e ∙ ap (λ l. with_classes old (filter_map (selection_of p v.loaded c.args.interface m) l)) c.below-lower.ensures)) in
+    λ e. adds-alike old new made begun (selections-of p v c.args.class c.args.interface m c.requires.known.lineage c.requires.class)
+    (adds-equal old new made (e ∙ ap (λ l. with_classes old (filter_map (selection_of p v.loaded c.args.interface m) l)) c.below-lower.ensures)) in
     on_ok_weaker c.add_selections_of.result to c.add_selections_of.ensures

@@ -19,7 +19,7 @@ add_all_begun-requires-clause-known c =
       numbers = subst (λ q. AreNumbers q c.in_ok-numbers.numbers) c.program.ensures c.in_ok-numbers.ensures;
       lineage = c.in_ok-lineage.ensures.lineage;
       loaded = λ class h.
-        sym (adds-all [] c.args.linker.now.loaded class) ∙ (ap (is_among class) (sym c.in_ok-lineage.ensures.loaded) ∙ h);
+          sym (adds-all [] c.args.linker.now.loaded class) ∙ (ap (is_among class) (sym c.in_ok-lineage.ensures.loaded) ∙ h);
       root = c.requires.root;
     }
 
