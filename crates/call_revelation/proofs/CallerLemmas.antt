@@ -14,8 +14,8 @@ use Rattle.jvm_model.specs.Lines.{code_instruction, instruction_of, method_instr
 use Rattle.jvm_model.specs.Methods.{method_code}
 use Rattle.jvm_model.specs.Naming.{Naming, New, Getfield, Putfield, Getstatic, Putstatic, Invokevirtual, Invokespecial, Invokestatic, Invokeinterface, Checkcast, Instanceof, Anewarray, Multianewarray, LdcClass}
 use Rattle.jvm_model.specs.Originals.{original}
-use Rattle.jvm_model.specs.Places.{method_reading, read_from}
-use Rattle.jvm_model.specs.Programs.{by_number, class_at, place_of_method}
+use Rattle.jvm_model.specs.Places.{read_from}
+use Rattle.jvm_model.specs.Programs.{class_at, place_of_method}
 use Rattle.jvm_model.specs.Revelation.{naming_in, namings_of}
 use Rattle.jvm_model.specs.Sound.{CanAttempt, HasClass, HasLoadedCaller, IsFit}
 use Rattle.jvm_model.specs.Targets.{operations_in, operations_of}

@@ -1,5 +1,5 @@
 -- The class of an invokespecial of a method that was read is loaded where the method's is.
-use Rattle.std.proofs.Common.{◌≡◌, ℕ, List, [], ◌++◌, ◌∷◌, map, ap, sym, refl, ◌∙◌}
+use Rattle.std.proofs.Common.{◌≡◌, ℕ, List, [], ◌++◌, ◌∷◌, ap, refl, ◌∙◌}
 use Rattle.std.specs.Prelude.{Some, flat_map, ◌||◌}
 use Rattle.std.specs.List.{AllByRecursion}
 use Rattle.jvm_model.specs.declared.program.Program.{Program}

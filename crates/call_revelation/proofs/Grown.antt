@@ -3,13 +3,12 @@ use Rattle.std.proofs.Common.{◌≡◌, ℕ, Bool, true, false, List, length, t
 use Rattle.std.specs.Prelude.{is_some, Result, Ok, Err, OnErr}
 use Rattle.jvm_model.specs.declared.program.Program.{Program}
 use Rattle.jvm_model.specs.Load.{is_among}
-use Rattle.jvm_model.specs.Revealed.{mark_of}
 use Rattle.call_revelation.specs.declared.book.Book.{Book}
 use Rattle.call_revelation.specs.declared.lineage.Lineage.{Lineage}
 use Rattle.call_revelation.specs.declared.reveal.Reveal.{Reveal}
 use Rattle.call_revelation.specs.Books.{IsBookOf, code_at}
 use Rattle.call_revelation.specs.Lineages.{IsLineage}
-use Rattle.call_revelation.specs.Reveals.{IsFront, IsGrown, IsKept, IsRevelation, mark_at, now_of}
+use Rattle.call_revelation.specs.Reveals.{IsFront, IsGrown, IsKept, IsRevelation, now_of}
 use Rattle.call_revelation.proofs.Fronts.{front-among, front-self, front-take, front-then}
 
 false_true : false ≡ true → ⊥

@@ -1,28 +1,26 @@
 -- The targets of what is entered when one class more is loaded are those before and what is gathered from what is kept.
 use Rattle.std.proofs.Common.{◌≡◌, ℕ, zero, suc, Bool, true, false, List, [], ◌∷◌, ◌++◌, map, ap, sym, subst, refl, ◌∙◌, inl, inr}
-use Rattle.std.specs.Prelude.{flat_map, Option, Some, None, is_some, slice_get, ◌⊎◌, ◌==◌, ◌||◌, ◌&&◌, if◌then◌else◌}
+use Rattle.std.specs.Prelude.{flat_map, Option, Some, None, is_some, slice_get, ◌⊎◌, ◌==◌, ◌||◌, if◌then◌else◌}
 use Rattle.std.specs.List.{list_any}
 use Rattle.std.specs.Option.{option_and_then, option_map_or}
 use Rattle.jvm_model.specs.declared.program.Program.{Program}
-use Rattle.jvm_model.specs.InvocationRules.{Selecting, Virtual, OfInterface}
 use Rattle.jvm_model.specs.Load.{is_among}
 use Rattle.jvm_model.specs.Lookup.{is_subtype}
 use Rattle.jvm_model.specs.Naming as model
 use Rattle.jvm_model.specs.Points.{is_target}
 use Rattle.jvm_model.specs.Programs.{class_named}
-use Rattle.jvm_model.specs.Revelation.{gained_by, gained_in, gained_on, is_named, namings_of}
+use Rattle.jvm_model.specs.Revelation.{gained_by, gained_in, is_named, namings_of}
 use Rattle.jvm_model.specs.Sound.{HasSupertypes}
 use Rattle.jvm_model.specs.Targets.{begun_by, loaded_class_named, operations_of, targets_in}
 use Rattle.jvm_model.proofs.Gained.{gained-targets}
-use Rattle.jvm_model.proofs.Growing.{targets-grow}
 use Rattle.jvm_model.proofs.Revealed.{is_gained, load-targets}
 use Rattle.jvm_named.specs.declared.naming.Naming.{Naming}
 use Rattle.jvm_named.specs.Names.{naming_view}
 use Rattle.call_revelation.specs.declared.uses.Use.{Use}
-use Rattle.call_revelation.specs.Books.{Codes, IsBook, called_by, called_from, called_on, code_at, gathered, has_use, is_call, is_use, naming_at, of_entered}
+use Rattle.call_revelation.specs.Books.{Codes, IsBook, called_by, called_from, called_on, code_at, gathered, is_use, naming_at, of_entered}
 use Rattle.call_revelation.specs.Tables.{list_at}
 use Rattle.call_revelation.proofs.Adding.{alike, among-append, either, equal, first-of, from_flat, itself, or-first, or-later, second-of, to_flat}
-use Rattle.call_revelation.proofs.NamingLemmas.{CallsIt, IsOne, NamesIt, called-gains, gain-from, gain-of, gained-either, target-of}
+use Rattle.call_revelation.proofs.NamingLemmas.{CallsIt, NamesIt, called-gains, gain-from, gain-of, gained-either, target-of}
 
 false_true : false ≡ true → ⊥
 false_true e = cc

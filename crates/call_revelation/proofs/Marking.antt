@@ -1,16 +1,14 @@
 -- The mark that is told by what is kept is the mark that stands; and what each event changes.
-use Rattle.std.proofs.Common.{◌≡◌, ℕ, zero, suc, ◌+◌, ◌<◌, Bool, true, false, List, [], ◌∷◌, ◌++◌, length, ap, ap₂, sym, subst, refl, ◌∙◌, arith, inl, inr}
-use Rattle.std.specs.Prelude.{Option, Some, None, ◌⊎◌, filter, is_some, not, slice_get, slice_set, unwrap_or, ◌==◌, ◌||◌, ◌&&◌, if◌then◌else◌}
-use Rattle.std.specs.List.{list_any}
+use Rattle.std.proofs.Common.{◌≡◌, ℕ, ◌<◌, Bool, true, false, List, [], ◌∷◌, ◌++◌, length, ap, sym, subst, refl, ◌∙◌, inl, inr}
+use Rattle.std.specs.Prelude.{Option, Some, None, is_some, not, slice_set, unwrap_or, ◌==◌, ◌||◌, ◌&&◌}
 use Rattle.std.specs.Option.{option_map_or}
-use Rattle.jvm_model.specs.declared.event.Mark.{Mark}
 use Rattle.jvm_model.specs.declared.program.MethodPlace.{MethodPlace}
 use Rattle.jvm_model.specs.declared.program.Program.{Program}
 use Rattle.jvm_model.specs.Load.{is_among}
 use Rattle.jvm_model.specs.Lookup.{is_subtype}
-use Rattle.jvm_model.specs.Points.{has_class, is_target, with_entered}
+use Rattle.jvm_model.specs.Points.{has_class, is_target}
 use Rattle.jvm_model.specs.Programs.{place_of_method}
-use Rattle.jvm_model.specs.Revealed.{Revealed, mark_of, without_method}
+use Rattle.jvm_model.specs.Revealed.{mark_of, without_method}
 use Rattle.jvm_model.specs.Sound.{HasClass, HasSupertypes}
 use Rattle.jvm_model.specs.Targets.{operations_of, targets_in}
 use Rattle.class_linker.specs.Linkers.{IsLoaded, LinkerView}
@@ -19,10 +17,10 @@ use Rattle.call_revelation.specs.declared.lineage.Lineage.{Lineage}
 use Rattle.call_revelation.specs.declared.reveal.Reveal.{Reveal}
 use Rattle.call_revelation.specs.Books.{IsBookOf, code_at, gathered}
 use Rattle.call_revelation.specs.Lineages.{IsLineage}
-use Rattle.call_revelation.specs.Reveals.{IsAhead, IsFront, IsKept, IsRevelation, flag_at, is_placed, mark_at, mark_by, mark_kept, now_of}
+use Rattle.call_revelation.specs.Reveals.{IsAhead, IsFront, IsKept, IsRevelation, flag_at, is_placed, mark_by, mark_kept, now_of}
 use Rattle.call_revelation.specs.Tables.{Adds, list_at}
 use Rattle.class_index.specs.Orders.{with_class}
-use Rattle.call_revelation.proofs.Adding.{among-append, among-filter, among-with, equal, itself, or-assoc, or-false, or-first, or-later, either}
+use Rattle.call_revelation.proofs.Adding.{among-append, among-filter, among-with, equal, or-false, or-first, either}
 use Rattle.call_revelation.proofs.BookLemmas.{set-length, set-other, set-same}
 use Rattle.call_revelation.proofs.Fronts.{front-among}
 use Rattle.call_revelation.proofs.LoadStep.{load-step}

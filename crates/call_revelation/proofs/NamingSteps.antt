@@ -1,5 +1,5 @@
 -- The instructions of a code one after the other.
-use Rattle.std.proofs.Common.{◌≡◌, ℕ, suc, List, [], ◌∷◌, ◌++◌, map, ap, ap₂, sym, refl, ◌∙◌}
+use Rattle.std.proofs.Common.{◌≡◌, ℕ, suc, List, [], ◌∷◌, ◌++◌, map, ap, sym, refl, ◌∙◌}
 use Rattle.std.specs.Prelude.{filter_map, Option, Some, None}
 use Rattle.std.specs.List.{cons_option}
 use Rattle.std.specs.Option.{option_and_then, option_map, option_map_or, option_to_list}

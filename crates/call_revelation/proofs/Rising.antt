@@ -1,11 +1,11 @@
 -- Numbers that were gathered, in their order.
 use Rattle.std.proofs.Common.{◌≡◌, ℕ, zero, suc, ◌+◌, ◌<◌, ◌≤◌, Bool, true, false, List, [], ◌∷◌, ◌++◌, ap, sym, refl, ◌∙◌, arith}
-use Rattle.std.specs.Prelude.{filter, nat_lt, ◌==◌, ◌||◌, ◌&&◌, if◌then◌else◌}
+use Rattle.std.specs.Prelude.{filter, ◌==◌, ◌||◌, ◌&&◌, if◌then◌else◌}
 use Rattle.std.specs.List.{AllByRecursion, range_with_len}
 use Rattle.jvm_model.specs.Load.{is_among}
 use Rattle.jvm_model.proofs.Growing.{filter-front}
 use Rattle.call_revelation.specs.Tables.{IsRising}
-use Rattle.call_revelation.proofs.Adding.{alike, among-filter, both, either, equal, first-of, itself, or-first, or-later, second-of}
+use Rattle.call_revelation.proofs.Adding.{alike, among-filter, both, second-of}
 
 false_true : false ≡ true → ⊥
 false_true e = cc

@@ -1,6 +1,6 @@
 -- Targets look at which classes are loaded, and not at their order.
 use Rattle.std.proofs.Common.{◌≡◌, ℕ, Bool, true, false, List, [], ◌∷◌, ◌++◌, ap, ap₂, sym, refl, ◌∙◌}
-use Rattle.std.specs.Prelude.{filter, filter_map, flat_map, Option, Some, None, ◌||◌, ◌&&◌, if◌then◌else◌}
+use Rattle.std.specs.Prelude.{filter, flat_map, Option, Some, None, ◌||◌, if◌then◌else◌}
 use Rattle.std.specs.Option.{option_and_then, option_map_or, option_to_list}
 use Rattle.const_pool.specs.References.{Reference}
 use Rattle.jvm_model.specs.declared.program.Program.{Program}

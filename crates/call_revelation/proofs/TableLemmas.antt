@@ -1,7 +1,6 @@
 -- Lists that are kept by number.
-use Rattle.std.proofs.Common.{◌≡◌, ℕ, zero, suc, ◌<◌, ◌≤◌, Bool, true, false, List, [], ◌∷◌, ◌++◌, length, get_or, ap, sym, refl, ◌∙◌, arith}
+use Rattle.std.proofs.Common.{◌≡◌, ℕ, zero, suc, ◌<◌, ◌≤◌, true, false, List, [], ◌∷◌, ◌++◌, length, get_or, ap, sym, refl, arith}
 use Rattle.std.specs.Prelude.{slice_set, ◌==◌}
-use Rattle.jvm_model.specs.Load.{is_among}
 use Rattle.call_revelation.specs.Tables.{list_at, with_item}
 
 false_true : false ≡ true → ⊥

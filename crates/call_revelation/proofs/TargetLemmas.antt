@@ -1,7 +1,7 @@
 -- The targets of a method are what its instructions that can begin methods begin.
-use Rattle.std.proofs.Common.{◌≡◌, ℕ, zero, suc, ◌+◌, ◌<◌, ◌≤◌, Bool, true, false, List, [], ◌∷◌, ◌++◌, length, map, drop, get_or, ap, ap₂, sym, refl, ◌∙◌, arith, inl, inr}
+use Rattle.std.proofs.Common.{◌≡◌, ℕ, zero, suc, ◌+◌, ◌<◌, ◌≤◌, Bool, true, List, [], ◌∷◌, ◌++◌, length, drop, get_or, ap, ap₂, sym, refl, ◌∙◌, arith}
 use Rattle.std.proofs.lemmas.List.{drop_more}
-use Rattle.std.specs.Prelude.{flat_map, Option, Some, None, ◌⊎◌, ◌==◌, ◌||◌}
+use Rattle.std.specs.Prelude.{flat_map, Option, Some, None, ◌==◌, ◌||◌}
 use Rattle.std.specs.List.{AllByRecursion, cons_option}
 use Rattle.std.specs.Option.{option_map_or}
 use Rattle.jvm_model.specs.declared.program.Program.{Program}
@@ -11,7 +11,7 @@ use Rattle.jvm_model.specs.Naming.{Naming, New, Getfield, Putfield, Getstatic, P
 use Rattle.jvm_model.specs.Revelation.{naming_in, namings_of}
 use Rattle.jvm_model.specs.Targets.{begun_by, begun_by_operation, operations_of, targets, targets_in}
 use Rattle.call_revelation.specs.Tables.{Adds}
-use Rattle.call_revelation.proofs.Adding.{among-append, itself, or-assoc, or-false, or-first, or-later, equal, either}
+use Rattle.call_revelation.proofs.Adding.{among-append, itself, or-assoc, or-false, or-first, or-later}
 use Rattle.call_revelation.proofs.SameLoaded.{targets-same}
 
 module _ (p : Program) (loaded : List ℕ) where

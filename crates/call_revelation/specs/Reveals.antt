@@ -1,5 +1,5 @@
 -- What a revelation keeps of a run: what is selected, entered and loaded, the targets of what is entered, and the marks that were shown.
-use Rattle.std.specs.Prelude.{◌≡◌, ◌+◌, ℕ, Bool, true, false, List, [], ◌∷◌, ◌++◌, length, is_some, not, slice_get, slice_set, unwrap_or, if◌then◌else◌, Option, Some, None}
+use Rattle.std.specs.Prelude.{◌≡◌, ◌+◌, ℕ, Bool, true, false, List, [], ◌∷◌, ◌++◌, length, is_some, slice_get, slice_set, unwrap_or, if◌then◌else◌, Option, Some, None}
 use Rattle.std.specs.List.{AllByRecursion}
 use Rattle.std.specs.Option.{option_map_or}
 use Rattle.jvm_model.specs.declared.event.Mark.{Mark}

@@ -1,5 +1,5 @@
 -- Lists that are kept by number, and numbers that are gathered.
-use Rattle.std.specs.Prelude.{◌≡◌, ◌<◌, ℕ, zero, suc, Bool, List, [], ◌∷◌, ◌++◌, slice_get, unwrap_or, ◌||◌}
+use Rattle.std.specs.Prelude.{◌≡◌, ◌<◌, ℕ, zero, suc, List, [], ◌∷◌, ◌++◌, slice_get, unwrap_or, ◌||◌}
 use Rattle.std.specs.List.{AllByRecursion}
 use Rattle.jvm_model.specs.Load.{is_among}
 

@@ -1,4 +1,4 @@
-use Rattle.std.proofs.Common.{◌≡◌, arith}
+use Rattle.std.proofs.Common.{arith}
 use Rattle.call_revelation.proofs.TableLemmas.{is_with_item, nothing_past}
 use Rattle.call_revelation.proofs.lineage.add_item.Goals as goal
 

@@ -1,5 +1,4 @@
-use Rattle.std.proofs.Common.{◌∷◌, true, ap, subst, sym, ◌∙◌}
-use Rattle.std.specs.Prelude.{slice_set}
+use Rattle.std.proofs.Common.{◌∷◌, ap, subst, sym, ◌∙◌}
 use Rattle.class_index.specs.Orders.{with_classes}
 use Rattle.call_revelation.specs.Reveals.{IsGrown, IsRevelation}
 use Rattle.call_revelation.proofs.Adding.{adds-equal}

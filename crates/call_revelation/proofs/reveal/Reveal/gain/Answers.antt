@@ -1,4 +1,4 @@
-use Rattle.std.proofs.Common.{is_ok, ap, subst, sym, ◌∙◌}
+use Rattle.std.proofs.Common.{is_ok, subst, ◌∙◌}
 use Rattle.std.specs.Prelude.{flat_map}
 use Rattle.jvm_model.specs.Targets.{begun_by}
 use Rattle.call_revelation.specs.Books.{of_entered}

@@ -1,7 +1,5 @@
-use Rattle.std.proofs.Common.{drop}
-use Rattle.call_revelation.specs.Reveals.{AreLoading}
 use Rattle.call_revelation.proofs.Grown.{grown-then}
-use Rattle.call_revelation.proofs.InTurn.{all-loaded, loading-first, loading-next, next-above, next-fresh, next-linked}
+use Rattle.call_revelation.proofs.InTurn.{loading-first, loading-next, next-above, next-fresh, next-linked}
 use Rattle.call_revelation.proofs.reveal.Reveal.load_all.Goals as goal
 
 pub loop-class-init : goal.loop-class-init

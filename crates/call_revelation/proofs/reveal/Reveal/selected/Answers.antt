@@ -1,4 +1,4 @@
-use Rattle.std.proofs.Common.{◌∷◌, ap, is_ok, sym, ◌∙◌}
+use Rattle.std.proofs.Common.{◌∷◌, ap, is_ok, ◌∙◌}
 use Rattle.jvm_model.specs.Revealed.{without_method}
 use Rattle.call_revelation.proofs.Fronts.{front-if}
 use Rattle.call_revelation.proofs.Marking.{others-with, selected-more, staler}

@@ -1,4 +1,4 @@
-use Rattle.std.proofs.Common.{[], ap, subst, sym, ◌∙◌}
+use Rattle.std.proofs.Common.{ap, subst, sym, ◌∙◌}
 use Rattle.call_revelation.specs.declared.reveal.Reveal.{Reveal}
 use Rattle.call_revelation.specs.Reveals.{IsRevelation, with_marks}
 use Rattle.call_revelation.proofs.Shown.{all-shown, reshown}
