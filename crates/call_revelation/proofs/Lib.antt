@@ -19,3 +19,4 @@ pub mod Shown
 pub mod First
 pub mod Callers
 pub mod InTurn
+pub mod CodedMethods
