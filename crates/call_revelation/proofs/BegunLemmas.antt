@@ -1,0 +1,63 @@
+-- What is made of what is kept is what instructions begin.
+use Rattle.std.proofs.Common.{◌≡◌, ℕ, suc, ◌+◌, ◌<◌, Bool, true, false, List, [], ◌∷◌, length, ap, sym, refl, ◌∙◌, arith}
+use Rattle.std.specs.Prelude.{filter, filter_map, Option, Some, None, if◌then◌else◌}
+use Rattle.std.specs.Option.{option_to_list}
+use Rattle.const_pool.specs.declared.class.ClassFile.{ClassFile}
+use Rattle.jvm_model.specs.declared.program.Program.{Program}
+use Rattle.jvm_model.specs.Load.{is_among}
+use Rattle.jvm_model.specs.Lookup.{MemberPlace, is_subtype}
+use Rattle.const_pool.specs.declared.class.Member.{Member}
+use Rattle.const_pool.specs.References.{NameAndType}
+use Rattle.jvm_model.specs.Methods.{is_member, method_from, method_named}
+use Rattle.jvm_model.specs.Programs.{initializer_name, initializer_of}
+use Rattle.jvm_model.specs.Selection.{selected}
+use Rattle.jvm_model.specs.Targets.{coded, initializers, selections}
+use Rattle.jvm_model.specs.InvocationRules.{selected_by}
+use Rattle.call_revelation.specs.declared.lineage.Lineage.{Lineage}
+use Rattle.call_revelation.specs.Lineages.{IsLineage, initializer_in, number_of, selecting, selection_of}
+use Rattle.call_revelation.specs.Tables.{list_at}
+use Rattle.call_revelation.proofs.Adding.{made-flat}
+use Rattle.call_revelation.proofs.Choosing.{chosen-alike}
+
+none-some : {A : Type 0} (x : A) → None ≡ Some x → ⊥
+none-some x e = cc
+
+some-some : {A : Type 0} (x y : A) → Some x ≡ Some y → x ≡ y
+some-some x y e = cc
+
+pub initializers-of : (p : Program) (loaded : List ℕ) (class : ℕ) (supertypes : List ℕ) → ((upper : ℕ) → is_among upper supertypes ≡ is_subtype p class upper)
+    → (m : ℕ) → is_among m (filter_map (initializer_in p loaded) supertypes) ≡ is_among m (initializers p loaded class)
+initializers-of p loaded class supertypes are m =
+    chosen-alike loaded supertypes (is_subtype p class) (initializer_of p) (λ x. option_to_list (initializer_of p x)) (λ x. refl)
+    (λ x h. sym (are x) ∙ h) (λ x there h. are x ∙ h) m
+    ∙ sym (ap (is_among m) (made-flat (initializer_of p) (filter (is_subtype p class) loaded)))
+
+numbered-alike : (p : Program) (o : Option MemberPlace) → option_to_list (number_of p o) ≡ coded p o
+numbered-alike p None = refl
+numbered-alike p (Some m) = refl
+
+selected-alike : (p : Program) (interface : Bool) (m : MemberPlace) (x : ℕ)
+    → option_to_list (number_of p (selected p x interface m)) ≡ coded p (selected_by p (selecting interface) m x)
+selected-alike p true m x = numbered-alike p (selected p x true m)
+selected-alike p false m x = numbered-alike p (selected p x false m)
+
+pub selections-of : (p : Program) (v : Lineage) (class : ℕ) (interface : Bool) (m0 : MemberPlace) → IsLineage p v → class < length p.classes
+    → (m : ℕ) → is_among m (filter_map (selection_of p v.loaded interface m0) (list_at v.below.items class))
+    ≡ is_among m (selections p v.loaded class (selecting interface) m0)
+selections-of p v class interface m0 is within m =
+    chosen-alike v.loaded (list_at v.below.items class) (λ lower. is_subtype p lower class) (λ x. number_of p (selected p x interface m0))
+    (λ x. coded p (selected_by p (selecting interface) m0 x)) (selected-alike p interface m0)
+    (λ x h. is.below class x h) (λ x there sub. is.whole class x within there sub) m
+
+-- a method that was found is one of the class
+found-within : (c : ClassFile) (wanted : NameAndType) (n at : ℕ) (methods : List Member) → method_from c.pool wanted n methods ≡ Some at → at < n + length methods
+found-within c wanted n at [] e = absurd (none-some at e)
+found-within c wanted n at (m ∷ rest) e = by (is_member c.pool wanted m) e (λ k. found-within c wanted (n + 1) at rest k)
+  where
+    by : (b : Bool) → (if b then Some n else method_from c.pool wanted (n + 1) rest) ≡ Some at
+        → (method_from c.pool wanted (n + 1) rest ≡ Some at → at < (n + 1) + length rest) → at < n + suc (length rest)
+    by true e behind = let same : n ≡ at = some-some n at e in omega (arith, same)
+    by false e behind = let less : at < (n + 1) + length rest = behind e in omega (arith, less)
+
+pub method_within : (c : ClassFile) (at : ℕ) → method_named c initializer_name ≡ Some at → at < length c.methods
+method_within c at e = let less : at < 0 + length c.methods = found-within c initializer_name 0 at c.methods e in omega (arith, less)

@@ -1,0 +1,55 @@
+-- What a line names is what its operation names.
+use Rattle.std.proofs.Common.{◌≡◌, ap, sym, refl, ◌∙◌}
+use Rattle.std.specs.Prelude.{Option, Some, None}
+use Rattle.std.specs.Option.{option_and_then, option_map}
+use Rattle.const_pool.specs.declared.class.ClassFile.{ClassFile}
+use Rattle.code_model.specs.declared.instr.Instr.{Instr}
+use Rattle.jvm_model.specs.Lines.{operation_of}
+use Rattle.jvm_steps.specs.declared.line.Line.{Line}
+use Rattle.jvm_model.specs.Data.{Operation, Within, Named, Athrow, Monitor, Newarray, Arraylength, LoadElement, StoreElement, LdcString, Local, Return}
+use Rattle.jvm_model.specs.Naming.{New, Getfield, Putfield, Getstatic, Putstatic, Invokevirtual, Invokespecial, Invokestatic, Invokeinterface, Checkcast, Instanceof, Anewarray, Multianewarray, LdcClass}
+use Rattle.jvm_model.specs.Revelation.{naming_in}
+use Rattle.jvm_steps.specs.Lines.{action_of, line_of, line_with, local_action}
+use Rattle.call_revelation.specs.Namings.{begins_by}
+
+-- what a line names that can begin methods is what its operation names
+pub begins_alike : (op : Operation) → begins_by (action_of op) ≡ naming_in op
+begins_alike (Named (New name)) = refl
+begins_alike (Named (Getstatic r)) = refl
+begins_alike (Named (Putstatic r)) = refl
+begins_alike (Named (Invokestatic r)) = refl
+begins_alike (Named (Invokespecial caller r interface)) = refl
+begins_alike (Named (Invokevirtual r)) = refl
+begins_alike (Named (Invokeinterface r)) = refl
+begins_alike (Named (Getfield r)) = refl
+begins_alike (Named (Putfield r)) = refl
+begins_alike (Named (Checkcast name)) = refl
+begins_alike (Named (Instanceof name)) = refl
+begins_alike (Named (Anewarray name)) = refl
+begins_alike (Named (Multianewarray name dimensions)) = refl
+begins_alike (Named (LdcClass name)) = refl
+begins_alike (Within i) = local i
+  where
+    local : (i : Local) → begins_by (local_action i) ≡ None
+    local (Return k) = refl
+    local i = refl
+begins_alike Athrow = refl
+begins_alike Monitor = refl
+begins_alike (Newarray code) = refl
+begins_alike Arraylength = refl
+begins_alike (LoadElement k) = refl
+begins_alike (StoreElement k) = refl
+begins_alike (LdcString units) = refl
+
+none-some : {A : Type 0} (x : A) → None ≡ Some x → ⊥
+none-some x e = cc
+
+some-some : {A : Type 0} (x y : A) → Some x ≡ Some y → x ≡ y
+some-some x y e = cc
+
+pub line-begins : (c : ClassFile) (i : Instr) (line : Line) → line_of c i ≡ Some line → begins_by line.action ≡ option_and_then naming_in (operation_of c i)
+line-begins c i line e = by (operation_of c i) e
+  where
+    by : (o : Option Operation) → option_map (line_with c i) (option_map action_of o) ≡ Some line → begins_by line.action ≡ option_and_then naming_in o
+    by None e = absurd (none-some line e)
+    by (Some op) e = ap (λ (l : Line). begins_by l.action) (sym (some-some (line_with c i (action_of op)) line e)) ∙ begins_alike op

@@ -1,0 +1,23 @@
+use Rattle.std.proofs.Common.{◌≡◌}
+use Rattle.std.specs.Prelude.{filter_map}
+use Rattle.std.proofs.lemmas.Result.{on_ok_weaker}
+use Rattle.jvm_model.specs.Targets.{initializers}
+use Rattle.class_index.specs.Orders.{with_classes}
+use Rattle.call_revelation.specs.Lineages.{initializer_in}
+use Rattle.call_revelation.specs.Tables.{Adds}
+use Rattle.call_revelation.proofs.Adding.{adds-alike, adds-equal}
+use Rattle.call_revelation.proofs.BegunLemmas.{initializers-of}
+use Rattle.call_revelation.proofs.begun.add_initializers.Goals as goal
+
+pub returns : goal.returns
+returns c =
+    let p = c.args.linker.now.program in
+    let loaded = c.args.lineage.now.loaded in
+    let given = c.supertypes-supertypes.result.now in
+    let old = c.args.found.now in
+    let new = c.add_initializers_of.new.found in
+    let made = filter_map (initializer_in p loaded) given in
+    let to : new ≡ with_classes old made → Adds old new (initializers p loaded c.args.class) =
+    λ e. adds-alike old new made (initializers p loaded c.args.class)
+    (initializers-of p loaded c.args.class given c.supertypes-supertypes.ensures) (adds-equal old new made e) in
+    on_ok_weaker c.add_initializers_of.result to c.add_initializers_of.ensures

@@ -1,0 +1,16 @@
+use Rattle.std.proofs.Common.{◌∙◌, [], subst, sym}
+use Rattle.std.specs.Prelude.{OnOk}
+use Rattle.std.specs.Option.{option_map_or}
+use Rattle.jvm_model.specs.InvocationRules.{Special}
+use Rattle.jvm_model.specs.Targets.{begun_on}
+use Rattle.jvm_named.specs.Members.{reference_of}
+use Rattle.call_revelation.specs.Tables.{Adds}
+use Rattle.call_revelation.proofs.begun.add_special.Goals as goal
+
+pub returns-in-Some : goal.returns-in-Some
+returns-in-Some c =
+    let p = c.args.linker.now.program in
+    let loaded = c.args.lineage.now.loaded in
+    subst (λ o. OnOk c.add_special_on.result (Adds c.args.found.now c.add_special_on.new.found
+    (option_map_or (λ class. begun_on p loaded class (Special c.args.caller.now c.args.interface) (reference_of c.args.member.now)) o [])))
+    (sym c.in-Some.is ∙ c.class_with_methods.ensures) (c.add_special_on.ensures loaded)

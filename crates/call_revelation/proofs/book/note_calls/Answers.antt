@@ -1,0 +1,20 @@
+use Rattle.std.proofs.Common.{◌≡◌, ◌+◌, ◌∷◌, drop, map, ap, sym, subst, ◌∙◌}
+use Rattle.std.proofs.lemmas.List.{drop_more}
+use Rattle.jvm_named.specs.Names.{naming_view}
+use Rattle.call_revelation.specs.Books.{HasMore, use_of, with_call, with_calls}
+use Rattle.call_revelation.proofs.BookLemmas.{more-then, called-more}
+use Rattle.call_revelation.proofs.book.note_calls.Goals as goal
+
+pub loop-at-preserved : goal.loop-at-preserved
+loop-at-preserved c =
+    let p = c.args.linker.now.program in
+    let xs = c.args.namings.now in
+    let at = c.loop-at.at in
+    let x = c.index-namings-at.result in
+    let behind : drop at xs ≡ x ∷ drop (at + 1) xs = drop_more xs at x c.loop-at-test.true ∙ ap (λ y. y ∷ drop (at + 1) xs) (sym c.index-namings-at.is) in
+    let new : c.note_call.new.lists ≡ with_call p (use_of c.args.caller at) (naming_view x) c.loop-at.lists = c.in_ok-note_call.ensures in (
+      ap (λ l. with_calls p c.args.caller (at + 1) (map naming_view (drop (at + 1) xs)) l) new
+          ∙ (sym (ap (λ l. with_calls p c.args.caller at (map naming_view l) c.loop-at.lists) behind) ∙ c.loop-at.invariant.0),
+      more-then c.args.lists.now c.loop-at.lists c.note_call.new.lists c.loop-at.invariant.1
+          (subst (HasMore c.loop-at.lists) (sym new) (called-more p (use_of c.args.caller at) (naming_view x) c.loop-at.lists)),
+    )

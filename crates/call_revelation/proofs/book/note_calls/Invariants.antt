@@ -1,0 +1,11 @@
+-- what is left is noted in what there is
+use Rattle.std.proofs.Common.{◌≡◌, drop, map}
+use Rattle.jvm_named.specs.Names.{naming_view}
+use Rattle.call_revelation.specs.Books.{HasMore, with_calls}
+use Rattle.call_revelation.proofs.book.note_calls.Given as goal
+
+abbrev pub invariant-loop-at : goal.invariant-loop-at
+invariant-loop-at l =
+    (with_calls l.linker.program l.caller l.at (map naming_view (drop l.at l.namings)) l.lists
+    ≡ with_calls l.linker.program l.caller 0 (map naming_view l.namings) l.initial.lists)
+    × HasMore l.initial.lists l.lists

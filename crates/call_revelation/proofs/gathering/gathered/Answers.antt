@@ -1,0 +1,44 @@
+use Rattle.std.proofs.Common.{◌∙◌, [], map, subst, sym, ap}
+use Rattle.std.specs.Prelude.{flat_map}
+use Rattle.std.specs.List.{AllByRecursion}
+use Rattle.jvm_model.specs.Load.{is_among}
+use Rattle.jvm_model.specs.Sound.{HasLoadedCaller}
+use Rattle.jvm_model.specs.Targets.{begun_by, operations_of}
+use Rattle.jvm_model.specs.Revelation.{namings_of}
+use Rattle.jvm_named.specs.Names.{naming_view}
+use Rattle.jvm_named.specs.Numbers.{AreNumbers}
+use Rattle.call_revelation.specs.Tables.{Adds}
+use Rattle.call_revelation.proofs.Adding.{adds-all}
+use Rattle.call_revelation.proofs.CallerLemmas.{callers-loaded, viewed-fine}
+use Rattle.call_revelation.proofs.TargetLemmas.{gathered-are}
+use Rattle.call_revelation.proofs.gathering.gathered.Goals as goal
+
+pub add_all_begun-requires-clause-known : goal.add_all_begun-requires-clause-known
+add_all_begun-requires-clause-known c =
+    record {
+      numbers = subst (λ q. AreNumbers q c.in_ok-numbers.numbers) c.program.ensures c.in_ok-numbers.ensures;
+      lineage = c.in_ok-lineage.ensures.lineage;
+      loaded = λ class h.
+          sym (adds-all [] c.args.linker.now.loaded class) ∙ (ap (is_among class) (sym c.in_ok-lineage.ensures.loaded) ∙ h);
+      root = c.requires.root;
+    }
+
+pub add_all_begun-requires-clause-callers : goal.add_all_begun-requires-clause-callers
+add_all_begun-requires-clause-callers c =
+    let p = c.args.linker.now.program in
+    let loaded = c.args.linker.now.loaded in
+    subst (AllByRecursion (λ n. HasLoadedCaller p loaded (naming_view n))) (sym c.as_slice.ensures)
+    (viewed-fine (HasLoadedCaller p loaded) naming_view c.in_ok-namings.namings (namings_of (operations_of p c.args.method))
+    (c.in_ok-namings.ensures ∙ ap (λ q. namings_of (operations_of q c.args.method)) c.program-2.ensures)
+    (callers-loaded p loaded c.requires.fit c.args.method c.requires.class))
+
+pub returns : goal.returns
+returns c =
+    let p = c.args.linker.now.program in
+    let loaded = c.args.linker.now.loaded in
+    let kept = c.in_ok-lineage.lineage.loaded in
+    let ns = map naming_view c.as_slice.result.now in
+    gathered-are p kept loaded c.args.method ns c.add_all_begun.new.found
+    (λ x. ap (is_among x) c.in_ok-lineage.ensures.loaded ∙ adds-all [] loaded x)
+    (ap (map naming_view) c.as_slice.ensures ∙ (c.in_ok-namings.ensures ∙ ap (λ q. namings_of (operations_of q c.args.method)) c.program-2.ensures))
+    (subst (λ l. Adds l c.add_all_begun.new.found (flat_map (begun_by p kept) ns)) c.new-found.ensures c.in_ok-add_all_begun.ensures)

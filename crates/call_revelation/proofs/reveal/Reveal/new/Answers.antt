@@ -1,0 +1,34 @@
+use Rattle.std.proofs.Common.{ℕ, false, List, [], length, ap, ap₂, ◌∙◌}
+use Rattle.std.specs.Prelude.{None, replicate}
+use Rattle.jvm_model.specs.declared.event.Mark.TheVariants.{Off}
+use Rattle.jvm_model.specs.declared.program.MethodPlace.{MethodPlace}
+use Rattle.call_revelation.specs.Reveals.{owned_from}
+use Rattle.call_revelation.proofs.CodedMethods.{few-coded}
+use Rattle.call_revelation.proofs.BookLemmas.{nothing-read}
+use Rattle.call_revelation.proofs.First.{first-revelation}
+use Rattle.call_revelation.proofs.LineageLemmas.{nothing-loaded}
+use Rattle.call_revelation.proofs.reveal.Reveal.new.Goals as goal
+
+pub new-requires-clause-few : goal.new-requires-clause-few
+new-requires-clause-few c = few-coded c.args.program.now c.requires.numbered c.requires.few
+
+pub returns-clause-revelation : goal.returns-clause-revelation
+returns-clause-revelation c =
+    let p = c.args.program.now in
+    let places = c.as_slice-places.ensures in
+    first-revelation p _ c.requires.numbered c.requires.fit c.requires.short c.in_ok-numbers.ensures
+    (nothing-loaded p c.in_ok-lineage.lineage c.in_ok-lineage.ensures.loaded (c.in_ok-lineage.ensures.below ∙ ap (λ n. replicate n []) c.len-classes.ensures))
+    (nothing-read p c.in_ok-book.book.codes c.in_ok-book.book.waiting.items c.in_ok-book.book.calls.items
+    (c.in_ok-book.ensures.codes ∙ ap (λ (l : List MethodPlace). replicate (length l) None) places)
+    (c.in_ok-book.ensures.waiting ∙ ap (λ n. replicate n []) c.len-classes.ensures)
+    (c.in_ok-book.ensures.calls ∙ ap (λ n. replicate n []) c.len-classes.ensures))
+    (record {
+      methods = c.in_ok-methods.ensures ∙ places;
+      own = c.in_ok-own.ensures ∙ ap₂ (λ (l : List MethodPlace) (n : ℕ). owned_from 0 l (replicate n [])) places c.len-classes.ensures;
+      loaded = c.in_ok-lineage.ensures.loaded;
+      selected = c.new-4.ensures;
+      entered = c.new-5.ensures;
+      flags = c.in_ok-flags.ensures ∙ ap (λ (l : List MethodPlace). replicate (length l) false) places;
+      targets = c.new-6.ensures;
+      shown = c.in_ok-shown.ensures ∙ ap (λ (l : List MethodPlace). replicate (length l) Off) places;
+    })

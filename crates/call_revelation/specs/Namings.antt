@@ -1,0 +1,30 @@
+-- The instructions of a code that can begin methods, with what they name.
+use Rattle.std.specs.Prelude.{ℕ, List, [], length, filter_map, Option, None}
+use Rattle.std.specs.Option.{option_map_or}
+use Rattle.const_pool.specs.declared.class.ClassFile.{ClassFile}
+use Rattle.const_pool.specs.declared.class.CodeAttribute.{CodeAttribute}
+use Rattle.const_pool.specs.declared.class.Member.{Member}
+use Rattle.jvm_model.specs.Data.{Named}
+use Rattle.jvm_model.specs.Naming.{Naming}
+use Rattle.jvm_model.specs.Lines.{operation_of}
+use Rattle.jvm_model.specs.Methods.{code_of}
+use Rattle.jvm_model.specs.Places.{read_from}
+use Rattle.jvm_named.specs.Names.{naming_view}
+use Rattle.jvm_steps.specs.declared.line.Action.{Action}
+use Rattle.jvm_steps.specs.declared.line.Action.TheVariants as action
+use Rattle.jvm_model.specs.Revelation.{naming_in}
+
+-- what a line names, where it can begin a method
+abbrev pub begins_by : Action → Option Naming
+begins_by (action.Named n) = naming_in (Named (naming_view n))
+begins_by _ = None
+
+-- of so many instructions from an offset on
+abbrev pub namings_from : ClassFile → ℕ → List ℕ → ℕ → List Naming
+namings_from c n code at = filter_map naming_in (filter_map (operation_of c) (read_from n code at))
+
+abbrev pub code_namings : ClassFile → List ℕ → List Naming
+code_namings c code = namings_from c (length code) code 0
+
+abbrev pub member_namings : ClassFile → Member → List Naming
+member_namings c m = option_map_or (λ (code : CodeAttribute). code_namings c code.code) (code_of m) []

@@ -1,0 +1,359 @@
+//! What an instruction can begin, over the classes that are loaded.
+
+ghost use Rattle.std.specs.Prelude.{◌≡◌, ◌<◌, ℕ, List, filter_map, length, true, OnOk, Some};
+ghost use Rattle.std.specs.Option.{option_and_then, option_to_list};
+ghost use Rattle.jvm_model.specs.InvocationRules.{Special};
+ghost use Rattle.jvm_model.specs.Load.{is_among};
+ghost use Rattle.jvm_model.specs.Naming.{Getstatic, Invokespecial, Invokestatic, New};
+ghost use Rattle.jvm_model.specs.Programs.{class_named};
+ghost use Rattle.jvm_model.specs.Sound.{HasLoadedCaller};
+ghost use Rattle.jvm_model.specs.SuperCalls.{invoked_special};
+ghost use Rattle.class_index.specs.Orders.{with_classes};
+ghost use Rattle.class_linker.specs.Linkers.{IsLoaded};
+ghost use Rattle.jvm_named.specs.Members.{reference_of};
+ghost use Rattle.jvm_named.specs.Names.{naming_view};
+ghost use Rattle.jvm_named.specs.Numbers.{AreNumbers};
+ghost use Rattle.call_revelation.specs.Lineages.{AreKnown, at_place, initializer_in};
+ghost use Rattle.call_revelation.specs.Lineages.{number_of, selecting, selection_of};
+ghost use Rattle.call_revelation.specs.Tables.{Adds, list_at};
+ghost use Rattle.jvm_model.specs.Targets.{begun_by, begun_field, begun_on, begun_static};
+ghost use Rattle.jvm_model.specs.Targets.{initializers, selections, where_loaded};
+
+use crate::lineage::Lineage;
+use crate::lookup::{
+    class_with_methods, initializer_in, loaded_class, method_found, selection_of,
+    static_field_found,
+};
+use crate::place::Place;
+use class_index::Order;
+use class_linker::Linker;
+use jf_bytes::{NoMemory, Text16};
+use jvm_named::{MemberName, MethodName, MethodNumbers, Naming};
+
+// ---- of one method or class
+
+/// Adds the number, if there is one.
+pub fn add_number(found: &mut Order, number: Option<u32>) -> Result<(), NoMemory>
+    ensures { OnOk result (found.new ≡ with_classes found.old (option_to_list number)) }
+{
+    match number {
+        Some(number) => found.add(number),
+        None => Ok(()),
+    }
+}
+
+/// The static initializers of these classes, where they are loaded.
+fn add_initializers_of(
+    linker: &Linker,
+    numbers: &MethodNumbers,
+    lineage: &Lineage,
+    classes: &[u32],
+    found: &mut Order,
+) -> Result<(), NoMemory>
+    requires { AreKnown linker.now numbers.now lineage.now }
+    ensures { OnOk result (found.new ≡ with_classes found.old
+        (filter_map (initializer_in linker.now.program lineage.now.loaded) classes.now)) }
+{
+    for class in classes {
+        if let Some(number) = initializer_in(linker, numbers, lineage, *class) {
+            found.add(number)?;
+        }
+    }
+    Ok(())
+}
+
+/// The static initializers of a class and of its supertypes.
+fn add_initializers(
+    linker: &Linker,
+    numbers: &MethodNumbers,
+    lineage: &Lineage,
+    class: u32,
+    found: &mut Order,
+) -> Result<(), NoMemory>
+    requires known { AreKnown linker.now numbers.now lineage.now }
+    requires loaded { is_among class lineage.now.loaded ≡ true }
+    ensures { OnOk result (Adds found.old found.new
+        (initializers linker.now.program lineage.now.loaded class)) }
+{
+    let supertypes = linker.supertypes(class);
+    add_initializers_of(linker, numbers, lineage, supertypes, found)
+}
+
+/// What is selected for a method from these classes, where they are loaded.
+fn add_selections_of(
+    linker: &Linker,
+    numbers: &MethodNumbers,
+    lineage: &Lineage,
+    interface: bool,
+    m: Place,
+    classes: &[u32],
+    found: &mut Order,
+) -> Result<(), NoMemory>
+    requires { AreKnown linker.now numbers.now lineage.now }
+    ensures { OnOk result (found.new ≡ with_classes found.old (filter_map
+        (selection_of linker.now.program lineage.now.loaded interface (at_place m)) classes.now)) }
+{
+    for lower in classes {
+        if let Some(number) = selection_of(linker, numbers, lineage, interface, m, *lower) {
+            found.add(number)?;
+        }
+    }
+    Ok(())
+}
+
+/// What is selected for a method from each loaded subtype of a class.
+fn add_selections(
+    linker: &Linker,
+    numbers: &MethodNumbers,
+    lineage: &Lineage,
+    interface: bool,
+    class: u32,
+    m: Place,
+    found: &mut Order,
+) -> Result<(), NoMemory>
+    requires known { AreKnown linker.now numbers.now lineage.now }
+    requires class { class < length linker.now.program.classes }
+    ensures { OnOk result (Adds found.old found.new
+        (selections linker.now.program lineage.now.loaded class (selecting interface)
+        (at_place m))) }
+{
+    let lower = lineage.below(class);
+    add_selections_of(linker, numbers, lineage, interface, m, lower, found)
+}
+
+// ---- by instruction
+
+/// invokevirtual and invokeinterface, where the named class is this one.
+fn add_begun_on(
+    linker: &Linker,
+    numbers: &MethodNumbers,
+    lineage: &Lineage,
+    interface: bool,
+    class: u32,
+    member: &MemberName,
+    found: &mut Order,
+) -> Result<(), NoMemory>
+    requires known { AreKnown linker.now numbers.now lineage.now }
+    requires class { class < length linker.now.program.classes }
+    requires loaded { is_among class lineage.now.loaded ≡ true }
+    ensures { OnOk result (Adds found.old found.new (begun_on linker.now.program lineage.now.loaded
+        class (selecting interface) (reference_of member.now))) }
+{
+    match method_found(linker, class, interface, false, member) {
+        Some(m) => add_selections(linker, numbers, lineage, interface, class, m, found),
+        None => Ok(()),
+    }
+}
+
+/// invokevirtual and invokeinterface.
+fn add_invoked(
+    linker: &Linker,
+    numbers: &MethodNumbers,
+    lineage: &Lineage,
+    interface: bool,
+    member: &MemberName,
+    found: &mut Order,
+) -> Result<(), NoMemory>
+    requires known { AreKnown linker.now numbers.now lineage.now }
+    ensures { let p = linker.now.program in let loaded = lineage.now.loaded in
+        OnOk result (Adds found.old found.new (where_loaded p loaded member.now.class
+        (λ class. begun_on p loaded class (selecting interface) (reference_of member.now)))) }
+{
+    match loaded_class(linker, lineage, &member.class) {
+        Some(class) => add_begun_on(linker, numbers, lineage, interface, class, member, found),
+        None => Ok(()),
+    }
+}
+
+/// What invokespecial in a class of this name takes for a resolved method.
+fn special_number(
+    linker: &Linker,
+    numbers: &MethodNumbers,
+    caller: &Text16,
+    m: Place,
+) -> Option<u32>
+    requires numbers { AreNumbers linker.now.program numbers.now }
+    requires caller { (class : ℕ) → class_named linker.now.program caller.now ≡ Some class →
+        IsLoaded linker.now class }
+    ensures { result ≡ number_of linker.now.program (option_and_then
+        (λ current. invoked_special linker.now.program current (at_place m))
+        (class_named linker.now.program caller.now)) }
+{
+    let current = linker.index().class_named(caller.units())?;
+    let (class, position) = linker.special(current, m.class, m.position)?;
+    numbers.number(class, position)
+}
+
+/// invokespecial, where the named type has the methods of this class.
+fn add_special_on(
+    linker: &Linker,
+    numbers: &MethodNumbers,
+    caller: &Text16,
+    interface: bool,
+    class: u32,
+    member: &MemberName,
+    found: &mut Order,
+) -> Result<(), NoMemory>
+    requires numbers { AreNumbers linker.now.program numbers.now }
+    requires loaded { IsLoaded linker.now class }
+    requires caller { (class : ℕ) → class_named linker.now.program caller.now ≡ Some class →
+        IsLoaded linker.now class }
+    ensures { (loaded : List ℕ) → OnOk result (Adds found.old found.new (begun_on linker.now.program
+        loaded class (Special caller.now interface) (reference_of member.now))) }
+{
+    match method_found(linker, class, interface, false, member) {
+        Some(m) => add_number(found, special_number(linker, numbers, caller, m)),
+        None => Ok(()),
+    }
+}
+
+/// invokespecial.
+fn add_special(
+    linker: &Linker,
+    numbers: &MethodNumbers,
+    lineage: &Lineage,
+    caller: &Text16,
+    interface: bool,
+    member: &MemberName,
+    found: &mut Order,
+) -> Result<(), NoMemory>
+    requires known { AreKnown linker.now numbers.now lineage.now }
+    requires caller { (class : ℕ) → class_named linker.now.program caller.now ≡ Some class →
+        IsLoaded linker.now class }
+    ensures { OnOk result (Adds found.old found.new (begun_by linker.now.program lineage.now.loaded
+        (Invokespecial caller.now (reference_of member.now) interface))) }
+{
+    match class_with_methods(linker, lineage, &member.class) {
+        Some(class) => add_special_on(linker, numbers, caller, interface, class, member, found),
+        None => Ok(()),
+    }
+}
+
+/// invokestatic, where the named class is this one.
+fn add_static_on(
+    linker: &Linker,
+    numbers: &MethodNumbers,
+    lineage: &Lineage,
+    class: u32,
+    member: &MemberName,
+    found: &mut Order,
+) -> Result<(), NoMemory>
+    requires known { AreKnown linker.now numbers.now lineage.now }
+    requires loaded { is_among class lineage.now.loaded ≡ true }
+    ensures { OnOk result (Adds found.old found.new (begun_static linker.now.program
+        lineage.now.loaded class (reference_of member.now))) }
+{
+    let Some(m) = method_found(linker, class, false, true, member) else {
+        return Ok(());
+    };
+    add_number(found, numbers.number(m.class, m.position))?;
+    add_initializers(linker, numbers, lineage, class, found)
+}
+
+/// invokestatic.
+fn add_static(
+    linker: &Linker,
+    numbers: &MethodNumbers,
+    lineage: &Lineage,
+    member: &MemberName,
+    found: &mut Order,
+) -> Result<(), NoMemory>
+    requires known { AreKnown linker.now numbers.now lineage.now }
+    ensures { OnOk result (Adds found.old found.new (begun_by linker.now.program lineage.now.loaded
+        (Invokestatic (reference_of member.now)))) }
+{
+    match loaded_class(linker, lineage, &member.class) {
+        Some(class) => add_static_on(linker, numbers, lineage, class, member, found),
+        None => Ok(()),
+    }
+}
+
+/// getstatic and putstatic, where the named class is this one.
+fn add_field_on(
+    linker: &Linker,
+    numbers: &MethodNumbers,
+    lineage: &Lineage,
+    class: u32,
+    member: &MemberName,
+    found: &mut Order,
+) -> Result<(), NoMemory>
+    requires known { AreKnown linker.now numbers.now lineage.now }
+    requires loaded { is_among class lineage.now.loaded ≡ true }
+    ensures { OnOk result (Adds found.old found.new (begun_field linker.now.program
+        lineage.now.loaded class (reference_of member.now))) }
+{
+    match static_field_found(linker, class, member) {
+        Some(_) => add_initializers(linker, numbers, lineage, class, found),
+        None => Ok(()),
+    }
+}
+
+/// getstatic and putstatic.
+fn add_field(
+    linker: &Linker,
+    numbers: &MethodNumbers,
+    lineage: &Lineage,
+    member: &MemberName,
+    found: &mut Order,
+) -> Result<(), NoMemory>
+    requires known { AreKnown linker.now numbers.now lineage.now }
+    ensures { OnOk result (Adds found.old found.new (begun_by linker.now.program lineage.now.loaded
+        (Getstatic (reference_of member.now)))) }
+{
+    match loaded_class(linker, lineage, &member.class) {
+        Some(class) => add_field_on(linker, numbers, lineage, class, member, found),
+        None => Ok(()),
+    }
+}
+
+/// new.
+fn add_new(
+    linker: &Linker,
+    numbers: &MethodNumbers,
+    lineage: &Lineage,
+    name: &Text16,
+    found: &mut Order,
+) -> Result<(), NoMemory>
+    requires known { AreKnown linker.now numbers.now lineage.now }
+    ensures { OnOk result (Adds found.old found.new
+        (begun_by linker.now.program lineage.now.loaded (New name.now))) }
+{
+    match loaded_class(linker, lineage, name) {
+        Some(class) => add_initializers(linker, numbers, lineage, class, found),
+        None => Ok(()),
+    }
+}
+
+/// Adds the numbers of all methods with Code that an instruction can begin.
+pub fn add_begun(
+    linker: &Linker,
+    numbers: &MethodNumbers,
+    lineage: &Lineage,
+    naming: &Naming,
+    found: &mut Order,
+) -> Result<(), NoMemory>
+    requires known { AreKnown linker.now numbers.now lineage.now }
+    requires caller { HasLoadedCaller linker.now.program linker.now.loaded (naming_view naming.now) }
+    ensures { OnOk result (Adds found.old found.new
+        (begun_by linker.now.program lineage.now.loaded (naming_view naming.now))) }
+{
+    match naming {
+        Naming::New(name) => add_new(linker, numbers, lineage, name, found),
+        Naming::Getstatic(member) => add_field(linker, numbers, lineage, member, found),
+        Naming::Putstatic(member) => add_field(linker, numbers, lineage, member, found),
+        Naming::Invokestatic(method) => {
+            add_static(linker, numbers, lineage, method.member(), found)
+        }
+        Naming::Invokespecial(caller, method, interface) => {
+            let member = method.member();
+            add_special(linker, numbers, lineage, caller, *interface, member, found)
+        }
+        Naming::Invokevirtual(method) => {
+            add_invoked(linker, numbers, lineage, false, method.member(), found)
+        }
+        Naming::Invokeinterface(method) => {
+            add_invoked(linker, numbers, lineage, true, method.member(), found)
+        }
+        _ => Ok(()),
+    }
+}

@@ -1,0 +1,252 @@
+//! The instructions of methods that were entered, which are read once, and where they stand by the classes that they name.
+
+ghost use Rattle.std.specs.Prelude.{◌≡◌, ◌<◌, [], if◌then◌else◌, is_ok, is_some, length, map, replicate, true, unwrap_or, IfOk, OnOk, None, ℕ};
+ghost use Rattle.std.specs.List.{AllByRecursion};
+ghost use Rattle.std.specs.Option.{option_copied};
+ghost use Rattle.jvm_model.specs.Naming.{resolved_name};
+ghost use Rattle.jvm_model.specs.Programs.{class_named};
+ghost use Rattle.jvm_model.specs.Revelation.{is_named, namings_of};
+ghost use Rattle.jvm_model.specs.Targets.{operations_of};
+ghost use Rattle.jvm_named.specs.Names.{naming_view};
+ghost use Rattle.jvm_steps.specs.Prepared.{HasShortCodes};
+ghost use Rattle.call_revelation.specs.Books.{HasMore, IsBookOf, code_at, is_call, naming_at};
+ghost use Rattle.call_revelation.specs.Books.{with_call, with_calls, with_use, with_uses};
+ghost use Rattle.call_revelation.specs.Tables.{list_at};
+
+use crate::lineage::add_item;
+use crate::namings::namings_of;
+use crate::uses::Use;
+use class_linker::Linker;
+use jf_bytes::{NoMemory, Seq, Text16};
+use jvm_named::Naming;
+use std::alloc::Global;
+
+/// What was read of methods, by their numbers; and by the class that an instruction names all instructions that name it, and those
+/// that select by their receiver's class. Where memory ran out there are more of them than were read.
+#[derive(Drop)]
+pub struct Book {
+    pub codes: Seq<Option<Seq<Naming>>>,
+    pub waiting: Vec<Seq<Use>>,
+    pub calls: Vec<Seq<Use>>,
+}
+
+/// The name of the class that an instruction names, or whose member it names.
+fn class_name(naming: &Naming) -> &Text16
+    ensures { result.now ≡ resolved_name (naming_view naming.now) }
+{
+    match naming {
+        Naming::New(name) => name,
+        Naming::Getfield(member) => &member.class,
+        Naming::Putfield(member) => &member.class,
+        Naming::Getstatic(member) => &member.class,
+        Naming::Putstatic(member) => &member.class,
+        Naming::Invokevirtual(method) => method.class(),
+        Naming::Invokespecial(_, method, _) => method.class(),
+        Naming::Invokestatic(method) => method.class(),
+        Naming::Invokeinterface(method) => method.class(),
+        Naming::Checkcast(name) => name,
+        Naming::Instanceof(name) => name,
+        Naming::Anewarray(name) => name,
+        Naming::Multianewarray(name, _) => name,
+        Naming::LdcClass(name) => name,
+    }
+}
+
+/// Whether it selects by its receiver's class.
+fn is_call(naming: &Naming) -> bool
+    ensures { result ≡ is_call (naming_view naming.now) }
+{
+    match naming {
+        Naming::Invokevirtual(_) => true,
+        Naming::Invokeinterface(_) => true,
+        _ => false,
+    }
+}
+
+/// The class that it names, where the program has one.
+fn class_of(linker: &Linker, naming: &Naming) -> Option<u32>
+    ensures { result ≡ class_named linker.now.program (resolved_name (naming_view naming.now)) }
+{
+    linker.index().class_named(class_name(naming).units())
+}
+
+/// Whether it names this class.
+pub fn names(linker: &Linker, naming: &Naming, class: u32) -> bool
+    ensures { result ≡ is_named linker.now.program class (resolved_name (naming_view naming.now)) }
+{
+    match class_of(linker, naming) {
+        Some(found) => found == class,
+        None => false,
+    }
+}
+
+/// Notes an instruction by the class that it names.
+fn note_use(
+    linker: &Linker,
+    lists: &mut [Seq<Use>],
+    naming: &Naming,
+    u: Use,
+) -> Result<(), NoMemory>
+    ensures { lists.new ≡ (if is_ok result
+        then with_use linker.now.program u (naming_view naming.now) lists.old else lists.old) }
+{
+    match class_of(linker, naming) {
+        Some(class) => add_item(lists, class as usize, u),
+        None => Ok(()),
+    }
+}
+
+/// The same of a call.
+fn note_call(
+    linker: &Linker,
+    lists: &mut [Seq<Use>],
+    naming: &Naming,
+    u: Use,
+) -> Result<(), NoMemory>
+    ensures { lists.new ≡ (if is_ok result
+        then with_call linker.now.program u (naming_view naming.now) lists.old else lists.old) }
+{
+    if is_call(naming) {
+        note_use(linker, lists, naming, u)
+    } else {
+        Ok(())
+    }
+}
+
+/// Notes the instructions of a method.
+fn note_uses(
+    linker: &Linker,
+    lists: &mut [Seq<Use>],
+    caller: u32,
+    namings: &[Naming],
+) -> Result<(), NoMemory>
+    ensures noted { OnOk result (lists.new
+        ≡ with_uses linker.now.program caller 0 (map naming_view namings.now) lists.old) }
+    ensures more { HasMore lists.old lists.new }
+{
+    for (at, naming) in namings.iter().enumerate() {
+        note_use(linker, lists, naming, Use { caller, at })?;
+    }
+    Ok(())
+}
+
+/// Notes the calls of a method.
+fn note_calls(
+    linker: &Linker,
+    lists: &mut [Seq<Use>],
+    caller: u32,
+    namings: &[Naming],
+) -> Result<(), NoMemory>
+    ensures noted { OnOk result (lists.new
+        ≡ with_calls linker.now.program caller 0 (map naming_view namings.now) lists.old) }
+    ensures more { HasMore lists.old lists.new }
+{
+    for (at, naming) in namings.iter().enumerate() {
+        note_call(linker, lists, naming, Use { caller, at })?;
+    }
+    Ok(())
+}
+
+/// Nothing was read of so many methods.
+fn no_codes(alloc: Global, methods: usize) -> Result<Seq<Option<Seq<Naming>>>, NoMemory>
+    ensures { IfOk result (λ codes. codes ≡ replicate methods None) }
+{
+    let mut codes = Seq::with_capacity(alloc, methods)?;
+    for _ in 0..methods {
+        codes.push(None)?;
+    }
+    Ok(codes)
+}
+
+/// A list for each class.
+fn no_uses(alloc: Global, classes: usize) -> Result<Vec<Seq<Use>>, NoMemory>
+    ensures { IfOk result (λ lists. lists.items ≡ replicate classes []) }
+{
+    let mut lists = Vec::with_capacity(alloc, classes)?;
+    for _ in 0..classes {
+        lists.push(Seq::new(alloc))?;
+    }
+    Ok(lists)
+}
+
+impl Book {
+    /// Nothing was read.
+    pub fn new(alloc: Global, methods: usize, classes: usize) -> Result<Book, NoMemory>
+        ensures codes { IfOk result (λ b. b.codes ≡ replicate methods None) }
+        ensures waiting { IfOk result (λ b. b.waiting.items ≡ replicate classes []) }
+        ensures calls { IfOk result (λ b. b.calls.items ≡ replicate classes []) }
+    {
+        let codes = no_codes(alloc, methods)?;
+        let waiting = no_uses(alloc, classes)?;
+        let calls = no_uses(alloc, classes)?;
+        Ok(Book {
+            codes,
+            waiting,
+            calls,
+        })
+    }
+
+    /// What was read of a method.
+    pub fn namings(&self, method: u32) -> Option<&Seq<Naming>>
+        ensures { option_copied result ≡ code_at self.now.codes method }
+    {
+        self.codes.get(method as usize)?.as_ref()
+    }
+
+    /// What an instruction names.
+    pub fn naming(&self, u: Use) -> Option<&Naming>
+        ensures { option_copied result ≡ naming_at self.now.codes u }
+    {
+        self.namings(u.caller)?.get(u.at)
+    }
+
+    /// The instructions that name a class.
+    pub fn waiting(&self, class: u32) -> &[Use]
+        ensures { result.now ≡ list_at self.now.waiting.items class }
+    {
+        match self.waiting.get(class as usize) {
+            Some(uses) => uses.as_slice(),
+            None => &[],
+        }
+    }
+
+    /// The calls that name a class.
+    pub fn calls(&self, class: u32) -> &[Use]
+        ensures { result.now ≡ list_at self.now.calls.items class }
+    {
+        match self.calls.get(class as usize) {
+            Some(uses) => uses.as_slice(),
+            None => &[],
+        }
+    }
+
+    /// Reads a method, if it was not. What was read stays.
+    pub fn read(&mut self, alloc: Global, linker: &Linker, method: u32) -> Result<(), NoMemory>
+        requires book { IsBookOf linker.now.program self.old }
+        requires method { method < length linker.now.program.methods }
+        requires codes { AllByRecursion HasShortCodes linker.now.program.classes }
+        ensures book { IsBookOf linker.now.program self.new }
+        ensures has { OnOk result (is_some (code_at self.new.codes method) ≡ true) }
+        ensures kept { (m : ℕ) → is_some (code_at self.old.codes m) ≡ true →
+            is_some (code_at self.new.codes m) ≡ true }
+    {
+        if self.namings(method).is_some() {
+            return Ok(());
+        }
+        let namings = namings_of(alloc, linker.program(), method)?;
+        note_uses(
+            linker,
+            self.waiting.as_mut_slice(),
+            method,
+            namings.as_slice(),
+        )?;
+        note_calls(
+            linker,
+            self.calls.as_mut_slice(),
+            method,
+            namings.as_slice(),
+        )?;
+        self.codes.set(method as usize, Some(namings));
+        Ok(())
+    }
+}

@@ -1,0 +1,111 @@
+//! What a call begins on a class that is loaded more.
+
+ghost use Rattle.std.specs.Prelude.{◌≡◌, true, OnOk};
+ghost use Rattle.class_linker.specs.Linkers.{IsLoaded};
+ghost use Rattle.jvm_model.specs.Revelation.{gained_on};
+ghost use Rattle.jvm_model.specs.Selection.{selected};
+ghost use Rattle.jvm_named.specs.Members.{reference_of};
+ghost use Rattle.jvm_named.specs.Names.{naming_view};
+ghost use Rattle.jvm_named.specs.Numbers.{AreNumbers};
+ghost use Rattle.call_revelation.specs.Books.{called_by, called_on};
+ghost use Rattle.call_revelation.specs.Lineages.{at_place, number_of, selecting};
+ghost use Rattle.call_revelation.specs.Tables.{Adds};
+
+use crate::begun::add_number;
+use crate::book::names;
+use crate::lookup::method_found;
+use crate::place::Place;
+use class_index::Order;
+use class_linker::Linker;
+use jf_bytes::NoMemory;
+use jvm_named::{MemberName, MethodNumbers, Naming};
+
+/// The number of the method that a class has for a method.
+fn selected_number(
+    linker: &Linker,
+    numbers: &MethodNumbers,
+    interface: bool,
+    m: Place,
+    receiver: u32,
+) -> Option<u32>
+    requires numbers { AreNumbers linker.now.program numbers.now }
+    requires loaded { IsLoaded linker.now receiver }
+    ensures { result ≡ number_of linker.now.program
+        (selected linker.now.program receiver interface (at_place m)) }
+{
+    let (class, position) = linker.select(receiver, m.class, m.position, interface)?;
+    numbers.number(class, position)
+}
+
+/// What a call that names a class begins on a new one.
+fn add_called_on(
+    linker: &Linker,
+    numbers: &MethodNumbers,
+    interface: bool,
+    new: u32,
+    class: u32,
+    member: &MemberName,
+    found: &mut Order,
+) -> Result<(), NoMemory>
+    requires numbers { AreNumbers linker.now.program numbers.now }
+    requires loaded { IsLoaded linker.now class }
+    requires new { IsLoaded linker.now new }
+    ensures { OnOk result (Adds found.old found.new (gained_on linker.now.program new class
+        (selecting interface) (reference_of member.now))) }
+{
+    if !linker.is_subtype(new, class) {
+        return Ok(());
+    }
+    match method_found(linker, class, interface, false, member) {
+        Some(m) => add_number(found, selected_number(linker, numbers, interface, m, new)),
+        None => Ok(()),
+    }
+}
+
+/// What an instruction that names a class begins on a new one, where it is a call.
+fn add_called_naming(
+    linker: &Linker,
+    numbers: &MethodNumbers,
+    new: u32,
+    class: u32,
+    naming: &Naming,
+    found: &mut Order,
+) -> Result<(), NoMemory>
+    requires numbers { AreNumbers linker.now.program numbers.now }
+    requires loaded { IsLoaded linker.now class }
+    requires new { IsLoaded linker.now new }
+    ensures { OnOk result (Adds found.old found.new
+        (called_on linker.now.program new class (naming_view naming.now))) }
+{
+    match naming {
+        Naming::Invokevirtual(method) => {
+            add_called_on(linker, numbers, false, new, class, method.member(), found)
+        }
+        Naming::Invokeinterface(method) => {
+            add_called_on(linker, numbers, true, new, class, method.member(), found)
+        }
+        _ => Ok(()),
+    }
+}
+
+/// What an instruction begins on a new class, where it is a call that names this class.
+pub fn add_called(
+    linker: &Linker,
+    numbers: &MethodNumbers,
+    new: u32,
+    class: u32,
+    naming: &Naming,
+    found: &mut Order,
+) -> Result<(), NoMemory>
+    requires numbers { AreNumbers linker.now.program numbers.now }
+    requires loaded { IsLoaded linker.now class }
+    requires new { IsLoaded linker.now new }
+    ensures { OnOk result (Adds found.old found.new
+        (called_by linker.now.program new class (naming_view naming.now))) }
+{
+    if names(linker, naming, class) {
+        add_called_naming(linker, numbers, new, class, naming, found)
+    } else {
+        Ok(())
+    }
+}

@@ -1,0 +1,22 @@
+//! Which methods can begin from original code over the classes that are loaded, and which methods of a profiled run are marked (JVM
+//! Specification 2.11.8, 5.4.3, 5.4.5, 5.5, 6.5), at the cost of what changes.
+#![tactic(auto)]
+
+mod begun;
+mod book;
+mod entering;
+mod gains;
+mod gathering;
+mod growing;
+mod lineage;
+mod loading;
+mod lookup;
+mod namings;
+mod place;
+mod reveal;
+mod selecting;
+mod showing;
+mod uses;
+
+pub use gathering::targets;
+pub use reveal::Reveal;

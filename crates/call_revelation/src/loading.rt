@@ -1,0 +1,278 @@
+//! Classes that are loaded more.
+
+ghost use Rattle.std.specs.Prelude.{◌≡◌, ◌≤◌, ◌++◌, [], ◌∷◌, List, ℕ, false, drop, flat_map, length, take, true, IfOk, IfSome, OnErr, OnOk, Some};
+ghost use Rattle.std.specs.List.{AllByRecursion};
+ghost use Rattle.std.specs.Option.{option_copied, option_map_or};
+ghost use Rattle.jvm_model.specs.Load.{is_among};
+ghost use Rattle.jvm_model.specs.Lookup.{is_subtype};
+ghost use Rattle.jvm_model.specs.Revealed.{with_loaded};
+ghost use Rattle.jvm_model.specs.Revelation.{IsLoadOrder};
+ghost use Rattle.jvm_model.specs.Sound.{HasSupertypes};
+ghost use Rattle.jvm_model.specs.Targets.{begun_by};
+ghost use Rattle.class_linker.specs.Linkers.{IsLoaded};
+ghost use Rattle.jvm_named.specs.Names.{naming_view};
+ghost use Rattle.call_revelation.specs.Books.{Begins, called_by, called_from};
+ghost use Rattle.call_revelation.specs.Books.{gathered, naming_at, of_entered};
+ghost use Rattle.call_revelation.specs.Lineages.{IsLineage};
+ghost use Rattle.call_revelation.specs.Reveals.{IsAhead, IsFront, IsGrown, IsKept, IsRevelation};
+ghost use Rattle.call_revelation.specs.Reveals.{flag_at, now_of};
+ghost use Rattle.call_revelation.specs.Tables.{Adds, list_at};
+
+use crate::begun::add_begun;
+use crate::gains::add_called;
+use crate::growing::add_more;
+use crate::reveal::{Reveal, own_of};
+use crate::uses::Use;
+use class_index::Order;
+use class_linker::Linker;
+use jf_bytes::NoMemory;
+use jvm_named::Naming;
+use std::alloc::Global;
+
+/// The classes that a linker has loaded behind so many.
+fn loaded_behind(linker: &Linker, count: usize) -> &[u32]
+    requires { count ≤ length linker.now.loaded }
+    ensures { result.now ≡ drop count linker.now.loaded }
+{
+    &linker.loaded()[count..]
+}
+
+impl Reveal {
+    /// What an instruction names, where its method is entered.
+    fn entered_naming(&self, u: Use) -> Option<&Naming>
+        requires { (m : ℕ) → flag_at self.now.flags m ≡ is_among m self.now.entered }
+        ensures begins { (f : Begins) → of_entered self.now.entered self.now.book.codes f u
+            ≡ option_map_or (λ n. f (naming_view n)) (option_copied result) [] }
+        ensures entered { IfSome result (λ n. is_among u.caller self.now.entered ≡ true) }
+        ensures naming { IfSome result (λ n. naming_at self.now.book.codes u ≡ Some n.now) }
+    {
+        if self.is_entered(u.caller) {
+            self.book.naming(u)
+        } else {
+            None
+        }
+    }
+
+    // ---- calls of classes above the new one
+
+    /// What an instruction begins on the new class, where it stands in an entered method and is a call that names this class.
+    fn add_call(
+        &self,
+        linker: &Linker,
+        new: u32,
+        class: u32,
+        u: Use,
+        found: &mut Order,
+    ) -> Result<(), NoMemory>
+        requires kept { IsKept linker.now.program self.now }
+        requires loaded { IsLoaded linker.now class }
+        requires new { IsLoaded linker.now new }
+        ensures { OnOk result (Adds found.old found.new (of_entered self.now.entered
+            self.now.book.codes (called_by linker.now.program new class) u)) }
+    {
+        match self.entered_naming(u) {
+            Some(naming) => add_called(linker, &self.numbers, new, class, naming, found),
+            None => Ok(()),
+        }
+    }
+
+    /// The same of each of these instructions.
+    fn add_calls(
+        &self,
+        linker: &Linker,
+        new: u32,
+        class: u32,
+        uses: &[Use],
+        found: &mut Order,
+    ) -> Result<(), NoMemory>
+        requires kept { IsKept linker.now.program self.now }
+        requires loaded { IsLoaded linker.now class }
+        requires new { IsLoaded linker.now new }
+        ensures { OnOk result (Adds found.old found.new (flat_map (of_entered self.now.entered
+            self.now.book.codes (called_by linker.now.program new class)) uses.now)) }
+    {
+        for u in uses {
+            self.add_call(linker, new, class, *u, found)?;
+        }
+        Ok(())
+    }
+
+    /// The same of all calls that name a class, where it is loaded.
+    fn add_calls_from(
+        &self,
+        linker: &Linker,
+        new: u32,
+        class: u32,
+        found: &mut Order,
+    ) -> Result<(), NoMemory>
+        requires kept { IsKept linker.now.program self.now }
+        requires ahead { IsAhead linker.now self.now }
+        requires new { IsLoaded linker.now new }
+        ensures { OnOk result (Adds found.old found.new (called_from linker.now.program
+            self.now.lineage.loaded new self.now.entered self.now.book.codes
+            self.now.book.calls.items class)) }
+    {
+        if self.lineage.loaded.has(class) {
+            self.add_calls(linker, new, class, self.book.calls(class), found)
+        } else {
+            Ok(())
+        }
+    }
+
+    /// The same of all calls that name one of these classes.
+    fn add_calls_above(
+        &self,
+        linker: &Linker,
+        new: u32,
+        classes: &[u32],
+        found: &mut Order,
+    ) -> Result<(), NoMemory>
+        requires kept { IsKept linker.now.program self.now }
+        requires ahead { IsAhead linker.now self.now }
+        requires new { IsLoaded linker.now new }
+        ensures { OnOk result (Adds found.old found.new (flat_map (called_from linker.now.program
+            self.now.lineage.loaded new self.now.entered self.now.book.codes
+            self.now.book.calls.items) classes.now)) }
+    {
+        for class in classes {
+            self.add_calls_from(linker, new, *class, found)?;
+        }
+        Ok(())
+    }
+
+    // ---- instructions that name the new one
+
+    /// What an instruction begins, where it stands in an entered method.
+    fn add_waiting(&self, linker: &Linker, u: Use, found: &mut Order) -> Result<(), NoMemory>
+        requires kept { IsKept linker.now.program self.now }
+        requires ahead { IsAhead linker.now self.now }
+        ensures { OnOk result (Adds found.old found.new (of_entered self.now.entered
+            self.now.book.codes (begun_by linker.now.program self.now.lineage.loaded) u)) }
+    {
+        match self.entered_naming(u) {
+            Some(naming) => add_begun(linker, &self.numbers, &self.lineage, naming, found),
+            None => Ok(()),
+        }
+    }
+
+    /// What each of these instructions begins.
+    fn add_all_waiting(
+        &self,
+        linker: &Linker,
+        uses: &[Use],
+        found: &mut Order,
+    ) -> Result<(), NoMemory>
+        requires kept { IsKept linker.now.program self.now }
+        requires ahead { IsAhead linker.now self.now }
+        ensures { OnOk result (Adds found.old found.new (flat_map (of_entered self.now.entered
+            self.now.book.codes (begun_by linker.now.program self.now.lineage.loaded)) uses.now)) }
+    {
+        for u in uses {
+            self.add_waiting(linker, *u, found)?;
+        }
+        Ok(())
+    }
+
+    // ---- one class more
+
+    /// Keeps that a class is loaded more, with these above it, and gathers what begins by it.
+    fn gain(
+        &mut self,
+        alloc: Global,
+        linker: &Linker,
+        new: u32,
+        supertypes: &[u32],
+    ) -> Result<Order, NoMemory>
+        requires kept { IsKept linker.now.program self.old }
+        requires ahead { IsAhead linker.now self.old }
+        requires new { IsLoaded linker.now new }
+        requires fresh { is_among new self.old.lineage.loaded ≡ false }
+        ensures same { self.new ≡ (record self.old { lineage = self.new.lineage }) }
+        ensures lineage { IsLineage linker.now.program self.new.lineage }
+        ensures front { IsFront self.old.lineage.loaded self.new.lineage.loaded }
+        ensures loaded { OnOk result (self.new.lineage.loaded
+            ≡ self.old.lineage.loaded ++ new ∷ []) }
+        ensures gathered { IfOk result (λ found. (m : ℕ) → is_among m found
+            ≡ is_among m (gathered linker.now.program self.old.lineage.loaded new
+            self.old.entered self.old.book.codes self.old.book.waiting.items
+            self.old.book.calls.items supertypes.now)) }
+    {
+        let mut found = Order::new(alloc);
+        self.add_calls_above(linker, new, supertypes, &mut found)?;
+        self.lineage.add(linker, new)?;
+        self.add_all_waiting(linker, self.book.waiting(new), &mut found)?;
+        Ok(found)
+    }
+
+    /// Keeps that a class is loaded more.
+    fn load_class(&mut self, alloc: Global, linker: &Linker, new: u32) -> Result<(), NoMemory>
+        requires revelation { IsRevelation linker.now.program self.old }
+        requires ahead { IsAhead linker.now self.old }
+        requires new { IsLoaded linker.now new }
+        requires fresh { is_among new self.old.lineage.loaded ≡ false }
+        requires above { HasSupertypes linker.now.program self.old.lineage.loaded }
+        ensures grown { IsGrown linker.now.program self.old self.new }
+        ensures loaded { OnOk result (self.new.lineage.loaded
+            ≡ self.old.lineage.loaded ++ new ∷ []) }
+        ensures revelation { OnOk result (IsRevelation linker.now.program self.new) }
+    {
+        let found = self.gain(alloc, linker, new, linker.supertypes(new))?;
+        add_more(&mut self.stale, found.as_slice())?;
+        add_more(&mut self.stale, own_of(self.own.as_slice(), new))?;
+        add_more(&mut self.targets, found.as_slice())?;
+        Ok(())
+    }
+
+    /// Keeps that these classes are loaded more.
+    fn load_all(&mut self, alloc: Global, linker: &Linker, classes: &[u32]) -> Result<(), NoMemory>
+        requires revelation { IsRevelation linker.now.program self.old }
+        requires ahead { IsAhead linker.now self.old }
+        requires new { AllByRecursion (IsLoaded linker.now) classes.now }
+        requires order { IsLoadOrder linker.now.program self.old.lineage.loaded classes.now }
+        ensures grown { IsGrown linker.now.program self.old self.new }
+        ensures loaded { OnOk result (self.new.lineage.loaded
+            ≡ self.old.lineage.loaded ++ classes.now) }
+        ensures revelation { OnOk result (IsRevelation linker.now.program self.new) }
+    {
+        for class in classes {
+            self.load_class(alloc, linker, *class)?;
+        }
+        Ok(())
+    }
+
+    /// No more classes are loaded than so many, and there are no more targets.
+    pub fn go_back(&mut self, loaded: usize, targets: usize)
+        ensures { self.new ≡ (record self.old {
+          lineage = record self.old.lineage {
+            loaded = take loaded self.old.lineage.loaded;
+          };
+          targets = take targets self.old.targets;
+        }) }
+    {
+        self.lineage.loaded.truncate(loaded);
+        self.targets.truncate(targets);
+    }
+
+    /// The classes that the linker has loaded are loaded: those that were, and more behind them.
+    pub fn loaded(&mut self, alloc: Global, linker: &Linker) -> Result<(), NoMemory>
+        requires revelation { IsRevelation linker.now.program self.old }
+        requires ahead { IsAhead linker.now self.old }
+        requires front { IsFront self.old.lineage.loaded linker.now.loaded }
+        requires order { IsLoadOrder linker.now.program [] linker.now.loaded }
+        ensures revelation { IsRevelation linker.now.program self.new }
+        ensures now { OnOk result (now_of self.new
+            ≡ with_loaded linker.now.loaded (now_of self.old)) }
+        ensures stays { OnErr result (now_of self.new ≡ now_of self.old) }
+        ensures shown { self.new.shown ≡ self.old.shown }
+    {
+        let loaded = self.lineage.loaded.len();
+        let targets = self.targets.len();
+        match self.load_all(alloc, linker, loaded_behind(linker, loaded)) {
+            Ok(()) => Ok(()),
+            Err(error) => {
+                self.go_back(loaded, targets);
+                Err(error)
+            }
+        }
+    }
+}

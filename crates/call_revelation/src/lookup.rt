@@ -1,0 +1,191 @@
+//! The members that instructions name, and the numbers of methods that have Code (JVM Specification 5.4.3, 2.9).
+
+ghost use Rattle.std.specs.Prelude.{◌≡◌, true};
+ghost use Rattle.std.specs.Option.{option_map};
+ghost use Rattle.jvm_model.specs.FieldRules.{is_static_field};
+ghost use Rattle.jvm_model.specs.Lookup.{Found, resolved_field, resolved_method};
+ghost use Rattle.jvm_model.specs.Programs.{initializer_of};
+ghost use Rattle.jvm_model.specs.Selection.{access_of, is_static};
+ghost use Rattle.class_linker.specs.Linkers.{IsLoaded};
+ghost use Rattle.jvm_named.specs.Members.{reference_of};
+ghost use Rattle.jvm_named.specs.Numbers.{AreNumbers};
+ghost use Rattle.call_revelation.specs.Lineages.{at_place, initializer_in, selection_of};
+ghost use Rattle.jvm_model.specs.Targets.{class_with_methods, found_where, loaded_class_named};
+ghost use Rattle.call_revelation.specs.Lineages.{AreKnown};
+
+use crate::lineage::Lineage;
+use crate::place::Place;
+use class_index::{STATIC, has_flag, meaning_of};
+use class_linker::{Linker, Resolved};
+use jf_bytes::Text16;
+use jvm_model::Program;
+use jvm_named::{MemberName, MethodNumbers, user_count};
+use jvm_steps::initializer_in as initializer_place;
+
+// ---- classes
+
+/// The class of this name, where it is loaded.
+pub fn loaded_class(linker: &Linker, lineage: &Lineage, name: &Text16) -> Option<u32>
+    ensures { result ≡ loaded_class_named linker.now.program lineage.now.loaded name.now }
+{
+    let class = linker.index().class_named(name.units())?;
+    if lineage.loaded.has(class) {
+        Some(class)
+    } else {
+        None
+    }
+}
+
+/// The class whose methods a type of this name has.
+pub fn class_with_methods(linker: &Linker, lineage: &Lineage, name: &Text16) -> Option<u32>
+    ensures { result ≡ class_with_methods linker.now.program lineage.now.loaded name.now }
+{
+    if meaning_of(name.units()).dimensions > 0 {
+        Some(user_count(linker))
+    } else {
+        loaded_class(linker, lineage, name)
+    }
+}
+
+// ---- methods
+
+/// The flags of a method.
+fn access_of(program: &Program, m: Place) -> u16
+    ensures { result ≡ access_of program.now (at_place m) }
+{
+    match program.classes.get(m.class as usize) {
+        Some(file) => match file.methods.get(m.position as usize) {
+            Some(method) => method.access,
+            None => 0,
+        },
+        None => 0,
+    }
+}
+
+fn is_static(program: &Program, m: Place) -> bool
+    ensures { result ≡ is_static program.now (at_place m) }
+{
+    has_flag(access_of(program, m), STATIC)
+}
+
+/// The method, where it is static as it is asked for, or is not.
+fn method_kept(program: &Program, m: Place, fixed: bool) -> Option<Place>
+    ensures { option_map at_place result
+        ≡ found_where (is_static program.now) fixed (Found (at_place m)) }
+{
+    if is_static(program, m) == fixed {
+        Some(m)
+    } else {
+        None
+    }
+}
+
+/// The method, static or not, that a reference stands for in a class.
+pub fn method_found(
+    linker: &Linker,
+    class: u32,
+    interface: bool,
+    fixed: bool,
+    member: &MemberName,
+) -> Option<Place>
+    requires { IsLoaded linker.now class }
+    ensures { option_map at_place result
+        ≡ found_where (is_static linker.now.program) fixed
+        (resolved_method linker.now.program class interface (reference_of member.now).member) }
+{
+    match linker.resolve_method(class, interface, &member.name, &member.descriptor) {
+        Resolved::Found(class, position) => {
+            method_kept(linker.program(), Place { class, position }, fixed)
+        }
+        Resolved::Throws(_) => None,
+    }
+}
+
+// ---- fields
+
+/// Whether a field is static.
+fn is_static_field(linker: &Linker, m: Place) -> bool
+    ensures { result ≡ is_static_field linker.now.program (at_place m) }
+{
+    let Some(file) = linker.index().file(m.class) else {
+        return false;
+    };
+    match file.fields.get(m.position as usize) {
+        Some(field) => has_flag(field.access, STATIC),
+        None => false,
+    }
+}
+
+/// The field, where it is static.
+fn field_kept(linker: &Linker, m: Place) -> Option<Place>
+    ensures { option_map at_place result
+        ≡ found_where (is_static_field linker.now.program) true (Found (at_place m)) }
+{
+    if is_static_field(linker, m) {
+        Some(m)
+    } else {
+        None
+    }
+}
+
+/// The static field that a reference stands for in a class.
+pub fn static_field_found(linker: &Linker, class: u32, member: &MemberName) -> Option<Place>
+    requires { IsLoaded linker.now class }
+    ensures { option_map at_place result
+        ≡ found_where (is_static_field linker.now.program) true
+        (resolved_field linker.now.program class (reference_of member.now).member) }
+{
+    match linker.resolve_field(class, &member.name, &member.descriptor) {
+        Resolved::Found(class, position) => field_kept(linker, Place { class, position }),
+        Resolved::Throws(_) => None,
+    }
+}
+
+// ---- numbers
+
+/// The number of a class's static initializer, where it has one.
+fn initializer_of(linker: &Linker, numbers: &MethodNumbers, class: u32) -> Option<u32>
+    requires { AreNumbers linker.now.program numbers.now }
+    ensures { result ≡ initializer_of linker.now.program class }
+{
+    let file = linker.index().file(class)?;
+    let at = initializer_place(file)?;
+    numbers.number(class, at as u16)
+}
+
+/// The same of a class that is loaded.
+pub fn initializer_in(
+    linker: &Linker,
+    numbers: &MethodNumbers,
+    lineage: &Lineage,
+    class: u32,
+) -> Option<u32>
+    requires { AreNumbers linker.now.program numbers.now }
+    ensures { result ≡ initializer_in linker.now.program lineage.now.loaded class }
+{
+    if lineage.loaded.has(class) {
+        initializer_of(linker, numbers, class)
+    } else {
+        None
+    }
+}
+
+/// The number of the method that a class has for a method, where the class is loaded.
+pub fn selection_of(
+    linker: &Linker,
+    numbers: &MethodNumbers,
+    lineage: &Lineage,
+    interface: bool,
+    m: Place,
+    lower: u32,
+) -> Option<u32>
+    requires { AreKnown linker.now numbers.now lineage.now }
+    ensures { result ≡ selection_of linker.now.program lineage.now.loaded interface
+        (at_place m) lower }
+{
+    if !lineage.loaded.has(lower) {
+        return None;
+    }
+    let (class, position) = linker.select(lower, m.class, m.position, interface)?;
+    numbers.number(class, position)
+}

@@ -1,0 +1,180 @@
+//! Which methods of a run are marked.
+
+ghost use Rattle.std.specs.Prelude.{◌≡◌, ◌<◌, ◌^◌, [], ℕ, false, length, not, replicate, IfOk};
+ghost use Rattle.std.specs.List.{AllByRecursion};
+ghost use Rattle.jvm_model.specs.declared.event.Mark.TheVariants.{Off};
+ghost use Rattle.jvm_model.specs.declared.program.Program.{Program};
+ghost use Rattle.jvm_model.specs.Load.{is_among};
+ghost use Rattle.jvm_model.specs.Points.{is_empty};
+ghost use Rattle.jvm_model.specs.Programs.{numbered};
+ghost use Rattle.jvm_model.specs.Revealed.{mark_of};
+ghost use Rattle.jvm_model.specs.Sound.{IsFit};
+ghost use Rattle.jvm_steps.specs.Prepared.{HasShortCodes};
+ghost use Rattle.call_revelation.specs.Reveals.{IsRevelation, flag_at, mark_kept};
+ghost use Rattle.call_revelation.specs.Reveals.{nothing_revealed, now_of, owned_from};
+ghost use Rattle.call_revelation.specs.Tables.{list_at};
+
+use crate::book::Book;
+use crate::lineage::{Lineage, add_item, no_lists};
+use class_index::Order;
+use jf_bytes::{NoMemory, Seq, Stack};
+use jvm_model::{Mark, MethodPlace, Program};
+use jvm_named::MethodNumbers;
+use std::alloc::Global;
+
+/// What is selected, entered and loaded, with what each event needs of it: where methods stand and the methods of each class; the
+/// classes below each; the code that was read; which methods are entered, by a flag; the targets of what is entered; and the marks
+/// that were shown last, with the methods whose mark may be another one now.
+#[derive(Drop)]
+pub struct Reveal {
+    pub methods: Seq<MethodPlace>,
+    pub numbers: MethodNumbers,
+    pub own: Vec<Seq<u32>>,
+    pub lineage: Lineage,
+    pub book: Book,
+    pub selected: Seq<u32>,
+    pub entered: Stack<u32>,
+    pub flags: Seq<bool>,
+    pub targets: Order,
+    pub stale: Order,
+    pub shown: Seq<Mark>,
+}
+
+/// The numbers of methods by their classes.
+fn owned(alloc: Global, methods: &[MethodPlace], classes: usize) -> Result<Vec<Seq<u32>>, NoMemory>
+    requires { length methods.now < 2 ^ 32 }
+    ensures { IfOk result (λ own. own.items
+        ≡ owned_from 0 methods.now (replicate classes [])) }
+{
+    let mut own = no_lists(alloc, classes)?;
+    for (number, place) in methods.iter().enumerate() {
+        add_item(own.as_mut_slice(), place.class as usize, number as u32)?;
+    }
+    Ok(own)
+}
+
+/// No method is entered.
+fn no_flags(alloc: Global, methods: usize) -> Result<Seq<bool>, NoMemory>
+    ensures { IfOk result (λ flags. flags ≡ replicate methods false) }
+{
+    let mut flags = Seq::with_capacity(alloc, methods)?;
+    for _ in 0..methods {
+        flags.push(false)?;
+    }
+    Ok(flags)
+}
+
+/// No method is marked.
+fn no_marks(alloc: Global, methods: usize) -> Result<Seq<Mark>, NoMemory>
+    ensures { IfOk result (λ marks. marks ≡ replicate methods Off) }
+{
+    let mut marks = Seq::with_capacity(alloc, methods)?;
+    for _ in 0..methods {
+        marks.push(Mark::Off)?;
+    }
+    Ok(marks)
+}
+
+/// Whether a method is one of these.
+fn is_one(methods: &[u32], method: u32) -> bool
+    ensures { result ≡ is_among method methods.now }
+{
+    methods.contains(&method)
+}
+
+/// The methods of a class.
+pub fn own_of(own: &[Seq<u32>], class: u32) -> &[u32]
+    ensures { result.now ≡ list_at own.now class }
+{
+    match own.get(class as usize) {
+        Some(methods) => methods.as_slice(),
+        None => &[],
+    }
+}
+
+impl Reveal {
+    /// Nothing is selected, entered or loaded, and no method is shown as marked.
+    pub fn new(alloc: Global, program: &Program) -> Result<Reveal, NoMemory>
+        requires numbered { program.now.methods ≡ numbered program.now.classes }
+        requires few { length program.now.methods < 2 ^ 32 }
+        requires short { AllByRecursion HasShortCodes program.now.classes }
+        requires fit { IsFit program.now }
+        ensures revelation { IfOk result (λ r. IsRevelation program.now r) }
+        ensures now { IfOk result (λ r. now_of r ≡ nothing_revealed) }
+    {
+        let places = program.methods.as_slice();
+        let classes = program.classes.len();
+        let methods = Seq::from_slice(alloc, places)?;
+        let numbers = MethodNumbers::new(alloc, program)?;
+        let own = owned(alloc, places, classes)?;
+        let lineage = Lineage::new(alloc, classes)?;
+        let book = Book::new(alloc, places.len(), classes)?;
+        let flags = no_flags(alloc, places.len())?;
+        let shown = no_marks(alloc, places.len())?;
+        Ok(Reveal {
+            methods,
+            numbers,
+            own,
+            lineage,
+            book,
+            selected: Seq::new(alloc),
+            entered: Stack::new(alloc),
+            flags,
+            targets: Order::new(alloc),
+            stale: Order::new(alloc),
+            shown,
+        })
+    }
+
+    /// Whether a method is selected.
+    pub fn is_selected(&self, method: u32) -> bool
+        ensures { result ≡ is_among method self.now.selected }
+    {
+        is_one(self.selected.as_slice(), method)
+    }
+
+    /// Whether any method is selected.
+    pub fn selects(&self) -> bool
+        ensures { result ≡ not (is_empty self.now.selected) }
+    {
+        !self.selected.is_empty()
+    }
+
+    /// Whether a method is entered.
+    pub fn is_entered(&self, method: u32) -> bool
+        ensures { result ≡ flag_at self.now.flags method }
+    {
+        match self.flags.at(method as usize) {
+            Some(flag) => flag,
+            None => false,
+        }
+    }
+
+    /// The mark of a method, by what is kept.
+    pub fn mark_kept(&self, method: u32) -> Mark
+        ensures { result ≡ mark_kept self.now method }
+    {
+        let Some(place) = self.methods.at(method as usize) else {
+            return Mark::Off;
+        };
+        if !self.lineage.loaded.has(place.class) {
+            return Mark::Off;
+        }
+        if self.is_selected(method) {
+            return Mark::Root;
+        }
+        if self.targets.has(method) {
+            Mark::Plain
+        } else {
+            Mark::Off
+        }
+    }
+
+    /// The mark that a method has now.
+    pub fn mark(&self, method: u32) -> Mark
+        ensures { (p : Program) → IsRevelation p self.now →
+            result ≡ mark_of p (now_of self.now) method }
+    {
+        self.mark_kept(method)
+    }
+}

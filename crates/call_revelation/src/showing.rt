@@ -1,0 +1,124 @@
+//! Which classes have a method with another mark than the one that was shown.
+
+ghost use Rattle.std.specs.Prelude.{◌≡◌, [], filter, filter_map, slice_set, IfOk, OnOk};
+ghost use Rattle.jvm_model.specs.declared.program.Program.{Program};
+ghost use Rattle.jvm_model.specs.Load.{is_among};
+ghost use Rattle.jvm_model.specs.Revealed.{Revealed, changed_of, marks_of};
+ghost use Rattle.jvm_model.specs.Swaps.{same_mark};
+ghost use Rattle.class_index.specs.Orders.{with_classes};
+ghost use Rattle.call_revelation.specs.Reveals.{IsRevelation, class_changed, mark_at};
+ghost use Rattle.call_revelation.specs.Reveals.{mark_kept, now_of, with_marks};
+
+use crate::reveal::Reveal;
+use class_index::Order;
+use jf_bytes::{NoMemory, Seq};
+use jvm_model::Mark;
+use std::alloc::Global;
+
+fn same_mark(a: Mark, b: Mark) -> bool
+    ensures { result ≡ same_mark a b }
+{
+    match a {
+        Mark::Off => matches!(b, Mark::Off),
+        Mark::Plain => matches!(b, Mark::Plain),
+        Mark::Root => matches!(b, Mark::Root),
+    }
+}
+
+/// Those of these classes that are among the ones that were found, in their order.
+fn in_order_of(alloc: Global, classes: &[u32], found: &Order) -> Result<Seq<u32>, NoMemory>
+    ensures { IfOk result (λ cs. cs ≡ filter (λ c. is_among c found.now) classes.now) }
+{
+    let mut kept = Seq::new(alloc);
+    for class in classes {
+        if found.has(*class) {
+            kept.push(*class)?;
+        }
+    }
+    Ok(kept)
+}
+
+impl Reveal {
+    /// The mark that was shown of a method.
+    fn mark_shown(&self, method: u32) -> Mark
+        ensures { result ≡ mark_at self.now.shown method }
+    {
+        match self.shown.at(method as usize) {
+            Some(mark) => mark,
+            None => Mark::Off,
+        }
+    }
+
+    /// The class of a method that has another mark than the one that was shown.
+    fn class_changed(&self, method: u32) -> Option<u32>
+        ensures { result ≡ class_changed self.now method }
+    {
+        if same_mark(self.mark_shown(method), self.mark_kept(method)) {
+            return None;
+        }
+        match self.methods.at(method as usize) {
+            Some(place) => Some(place.class),
+            None => None,
+        }
+    }
+
+    /// Those of all methods that are stale.
+    fn classes_changed(&self, alloc: Global) -> Result<Order, NoMemory>
+        ensures { IfOk result (λ found. found
+            ≡ with_classes [] (filter_map (class_changed self.now) self.now.stale)) }
+    {
+        let mut found = Order::new(alloc);
+        for method in self.stale.as_slice() {
+            if let Some(class) = self.class_changed(*method) {
+                found.add(class)?;
+            }
+        }
+        Ok(found)
+    }
+
+    /// The classes whose methods have other marks than those that were shown, in load order.
+    pub fn changed(&self, alloc: Global) -> Result<Seq<u32>, NoMemory>
+        ensures { (p : Program) (before : Revealed) → IsRevelation p self.now →
+            self.now.shown ≡ marks_of p before →
+            IfOk result (λ cs. cs ≡ changed_of p before (now_of self.now)) }
+    {
+        let found = self.classes_changed(alloc)?;
+        let all = in_order_of(alloc, self.lineage.loaded.as_slice(), &found)?;
+        Ok(all)
+    }
+
+    /// Shows the mark of a method.
+    fn show_one(&mut self, method: u32)
+        ensures { self.new ≡ (record self.old {
+          shown = slice_set self.old.shown method (mark_kept self.old method);
+        }) }
+    {
+        let mark = self.mark_kept(method);
+        if (method as usize) < self.shown.len() {
+            self.shown.set(method as usize, mark);
+        }
+    }
+
+    /// Shows the marks of all methods that are stale.
+    fn show_stale(&mut self)
+        ensures { self.new ≡ (record self.old {
+          shown = with_marks self.old self.old.stale self.old.shown;
+        }) }
+    {
+        for at in 0..self.stale.len() {
+            let method = self.stale.as_slice()[at];
+            self.show_one(method);
+        }
+    }
+
+    /// The marks of now are those that were shown last.
+    pub fn show(&mut self)
+        ensures revelation { (p : Program) → IsRevelation p self.old → IsRevelation p self.new }
+        ensures now { now_of self.new ≡ now_of self.old }
+        ensures shown { (p : Program) → IsRevelation p self.old →
+            self.new.shown ≡ marks_of p (now_of self.old) }
+    {
+        self.show_stale();
+        self.stale.truncate(0);
+    }
+}
