@@ -333,7 +333,8 @@ pub fn add_begun(
     found: &mut Order,
 ) -> Result<(), NoMemory>
     requires known { AreKnown linker.now numbers.now lineage.now }
-    requires caller { HasLoadedCaller linker.now.program linker.now.loaded (naming_view naming.now) }
+    requires caller { HasLoadedCaller linker.now.program linker.now.loaded
+        (naming_view naming.now) }
     ensures { OnOk result (Adds found.old found.new
         (begun_by linker.now.program lineage.now.loaded (naming_view naming.now))) }
 {
