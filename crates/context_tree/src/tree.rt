@@ -68,7 +68,8 @@ impl Tree {
     pub fn credit(&mut self, clock: u64)
         requires { self.old.clock ≤ clock }
         ensures credited { self.new ≡ credited clock self.old }
-        ensures adds { (later : ℕ) → clock ≤ later → credited later self.new ≡ credited later self.old }
+        ensures adds { (later : ℕ) → clock ≤ later
+            → credited later self.new ≡ credited later self.old }
         ensures unseen { (e : TheEvent) → clock ≤ e.clock → taken self.new e ≡ taken self.old e }
         ensures calls { calls_of self.new ≡ calls_of self.old }
     {

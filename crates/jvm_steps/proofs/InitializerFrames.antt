@@ -1,5 +1,5 @@
 -- The frame of a static initializer begins on the current one, beneath no marker; and how a static initializer begins or can not.
-use Rattle.std.proofs.Common.{◌≡◌, ℕ, suc, ◌+◌, Bool, true, false, cond, List, [], ◌∷◌, length, map, Option, Some, None, nat_le, nat_lt, refl, ap, ◌∙◌, arith}
+use Rattle.std.proofs.Common.{◌≡◌, ℕ, suc, ◌+◌, Bool, true, false, cond, List, [], ◌∷◌, length, map, Option, Some, None, nat_le, nat_lt, refl, sym, ap, ◌∙◌, arith}
 use Rattle.std.specs.Prelude.{◌&&◌}
 use Rattle.std.proofs.lemmas.Bool.{le-leb}
 use Rattle.heap_objects.specs.Changes.{changed_if}
@@ -17,6 +17,7 @@ use Rattle.jvm_steps.specs.declared.markers.Marker.{Marker}
 use Rattle.jvm_steps.specs.declared.parts.Parts.{Parts}
 use Rattle.jvm_steps.specs.Markers.{marker_on, stack_of, state_of}
 use Rattle.jvm_steps.specs.States.{active, state_in}
+use Rattle.jvm_steps.specs.Turning.{begun_in}
 use Rattle.jvm_steps.proofs.Callees.{live-is}
 use Rattle.jvm_steps.proofs.Carried.{length-active}
 use Rattle.jvm_steps.proofs.MarkedStacks.{live-stack, stack-frame}
@@ -82,3 +83,13 @@ module _ (w : Setup) (s : State) (c m : ℕ) (is : initializer_of w.world.progra
   pub runs-over : nat_lt (live_in s.stack) most_live ≡ false
       → (runs_initializer w.world t s c (initializer_of w.world.program c)).after ≡ raises w.world (at_part s c Finish) stack_overflow None
   runs-over few = runs-by false few
+
+  -- the method that has begun by that
+  method-by : (b : Bool) → nat_lt (live_in s.stack) most_live ≡ b → begun_in (runs_initializer w.world t s c (initializer_of w.world.program c)).changes ≡ begun_in (chosen b).changes
+  method-by b few = ap (λ o. begun_in (runs_initializer w.world t s c o).changes) is ∙ ap (λ x. begun_in (chosen x).changes) few
+
+  pub method-begun : nat_lt (live_in s.stack) most_live ≡ true → Some m ≡ begun_in (runs_initializer w.world t s c (initializer_of w.world.program c)).changes
+  method-begun few = sym (method-by true few)
+
+  pub method-none : nat_lt (live_in s.stack) most_live ≡ false → None ≡ begun_in (runs_initializer w.world t s c (initializer_of w.world.program c)).changes
+  method-none few = sym (method-by false few)

@@ -50,3 +50,12 @@ pub mod ElementLemmas
 pub mod ElementActs
 pub mod Leading
 mod PlainSteps
+mod TurnsCarried
+mod OneMove
+mod LoadedApart
+mod Followed
+mod TriedSteps
+mod StartLoads
+mod PausesSound
+mod StartSound
+mod HandLaws

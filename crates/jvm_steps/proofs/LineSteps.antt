@@ -338,6 +338,12 @@ module _ (w : Setup) (run : CanRun w) (s : State) (going : IsGoing s) where
           stack = ap (λ (x : State). x.stack) comes-there ∙ back.stack;
         }
 
+        pub ending-again : behind_it.ending ≡ None
+        ending-again = ap (λ (x : State). x.ending) comes-there ∙ back.ending
+
+        pub stack-again : behind_it.stack ≡ Active going.frame ∷ going.rest
+        stack-again = ap (λ (x : State). x.stack) comes-there ∙ back.stack
+
         -- and its line is attempted in the same step
         pub step-again : (mid_again after : State) → mid_again ≡ attempts_on w behind_it behind_it.stack → after ≡ behind w mid_again → after ≡ (step w.world text s).after
         step-again mid_again after attempted_again settles_again =

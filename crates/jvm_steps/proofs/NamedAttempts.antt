@@ -38,11 +38,11 @@ concluded-in w v here a mid after same made = subst (λ u. state_in after ≡ co
 
 -- ---- a line that names something
 
-record Names (lo : Option Line) : Type 0 where
-  line : Line
-  kept : Kept
-  there : lo ≡ Some line
-  named : line.action ≡ action.Named kept
+pub record Names (lo : Option Line) : Type 0 where
+  pub line : Line
+  pub kept : Kept
+  pub there : lo ≡ Some line
+  pub named : line.action ≡ action.Named kept
 
 names-by : (a : Action) → is_named a ≡ true → (n : Kept) × (a ≡ action.Named n)
 names-by (action.Named n) is = (n, refl)
@@ -56,12 +56,12 @@ names-by (action.LoadElement k) is = absurd (false≢true is)
 names-by (action.StoreElement k) is = absurd (false≢true is)
 names-by (action.LdcString units) is = absurd (false≢true is)
 
-names-there : (lo : Option Line) → named_in lo ≡ true → Names lo
+pub names-there : (lo : Option Line) → named_in lo ≡ true → Names lo
 names-there None is = absurd (false≢true is)
 names-there (Some line) is = let found = names-by line.action is in record { line = line; kept = found.0; there = refl; named = found.1 }
 
 -- what holds of it where it is known
-held : (lo : Option Line) (names : Names lo) (Holds : Naming → ℕ → Type 0) → IfNamed lo Holds → Holds (naming_view names.kept) names.line.next
+pub held : (lo : Option Line) (names : Names lo) (Holds : Naming → ℕ → Type 0) → IfNamed lo Holds → Holds (naming_view names.kept) names.line.next
 held lo names Holds if_named =
     subst (λ a. IfNamedBy a names.line.next Holds) names.named (subst (λ o. IfNamed o Holds) names.there if_named)
 

@@ -7,6 +7,7 @@ use Rattle.jvm_model.specs.declared.state.State.{State}
 use Rattle.jvm_model.specs.Moves.{at_part, fails, initializes, wrapped}
 use Rattle.jvm_model.specs.SharedState.{with_phase}
 use Rattle.jvm_steps.specs.declared.parts.Parts.{Parts}
+use Rattle.jvm_steps.specs.Turning.{begun_in}
 use Rattle.jvm_steps.specs.Versions.{Setup, text_of}
 
 -- it begins
@@ -21,3 +22,8 @@ failing w c r p = let a = wrapped w.world p.shared r in record p { shared = with
 abbrev pub after_marker : Setup → State → Option ℕ → ℕ → Part → State
 after_marker w s (Some r) c part = fails w.world s c r
 after_marker w s None c part = (initializes w.world (text_of w.versions) s c part).after
+
+-- the method that begins by that
+abbrev pub marker_begins : Setup → State → Option ℕ → ℕ → Part → Option ℕ
+marker_begins w s (Some r) c part = None
+marker_begins w s None c part = begun_in (initializes w.world (text_of w.versions) s c part).changes

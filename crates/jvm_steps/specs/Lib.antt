@@ -10,6 +10,9 @@ pub mod LaidMethods
 pub mod Linked
 pub mod Prepared
 pub mod Settling
+pub mod Turning
+pub mod Trying
+pub mod Hands
 pub mod Acts
 pub mod Going
 pub mod Returning

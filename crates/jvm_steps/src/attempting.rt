@@ -1,8 +1,10 @@
 //! An attempt of the current frame's line.
 
-ghost use Rattle.std.specs.Prelude.{◌≡◌, ◌-◌, None, Some, true, false, is_some, length, IfOk, OnOk};
-ghost use Rattle.std.specs.Option.{option_map_or};
+ghost use Rattle.std.specs.Prelude.{◌≡◌, ◌-◌, None, Some, true, false, is_some, length};
+ghost use Rattle.std.specs.Prelude.{IfNone, IfOk, OnOk};
+ghost use Rattle.std.specs.Option.{IfSome, option_map_or};
 ghost use Rattle.jvm_model.specs.Families.{family_of};
+ghost use Rattle.jvm_model.specs.Run.{with_loaded};
 ghost use Rattle.jvm_named.specs.Objects.{AreLoaded};
 ghost use Rattle.jvm_steps.specs.Acts.{IsTop, Becomes, ended};
 ghost use Rattle.jvm_steps.specs.Acts.{acts, acts_alone, attempts_on};
@@ -11,6 +13,7 @@ ghost use Rattle.jvm_steps.specs.Linked.{linker_in};
 ghost use Rattle.jvm_steps.specs.Ready.{CanRun, IsSoundIn};
 ghost use Rattle.jvm_steps.specs.Markers.{marker_on, state_of};
 ghost use Rattle.jvm_steps.specs.States.{here_of};
+ghost use Rattle.jvm_steps.specs.Turning.{loads_in, loads_none};
 ghost use Rattle.jvm_steps.specs.Versions.{line_at};
 
 use crate::arrays::{make_array, measure};
@@ -268,4 +271,90 @@ pub fn attempt(
     }
     attempt_line(alloc, originals, parts, markers, here)?;
     Ok(None)
+}
+
+// ---- in two parts
+
+/// The same of a line that names something: where it loads classes nothing else is done, and None is the answer.
+fn attempt_name_loaded(
+    alloc: Global,
+    originals: &mut Originals,
+    parts: &mut Parts,
+    markers: &mut Stack<Marker>,
+    here: Here,
+) -> Result<Option<Option<u32>>, NoMemory>
+    requires linked { originals.old.loaded ≡ parts.old.shared.loaded }
+    requires fit { CanRun originals.old.setup }
+    requires sound { IsSoundIn originals.old.setup (state_of markers.old parts.old) }
+    requires ending { parts.old.ending ≡ None }
+    requires here { here_of parts.old.frames.frames ≡ Some here }
+    requires named { named_in (line_at originals.old.setup.versions here.version here.place)
+        ≡ true }
+    requires unmarked { marker_on (length parts.old.frames.frames) markers.old ≡ None }
+    ensures world { originals.new.setup ≡ originals.old.setup }
+    ensures linked { OnOk result (originals.new.loaded ≡ parts.new.shared.loaded) }
+    ensures some { IfOk result (λ o. is_some o
+        ≡ loads_none originals.old.setup (state_of markers.old parts.old)) }
+    ensures answer { IfOk result (λ o. IfSome o (λ a.
+        a ≡ awaited_in originals.old.setup (state_of markers.old parts.old))) }
+    ensures state { let w = originals.old.setup in let s = state_of markers.old parts.old in
+        IfOk result (λ o. IfSome o (λ _.
+        state_of markers.new parts.new ≡ attempts_on w s s.stack)) }
+    ensures loads { let w = originals.old.setup in let s = state_of markers.old parts.old in
+        IfOk result (λ o. IfNone o
+        (state_of markers.new parts.new ≡ with_loaded (loads_in w s) s)) }
+{
+    let asked = originals.attempt_loaded(
+        alloc,
+        here.version,
+        here.place,
+        &mut parts.shared,
+        &mut parts.frames,
+        &mut parts.output,
+    )?;
+    let Some(asked) = asked else {
+        return Ok(None);
+    };
+    let awaited = conclude(alloc, originals, parts, here, asked)?;
+    let Some(class) = awaited else {
+        return Ok(Some(None));
+    };
+    initialize(parts, markers, class)?;
+    Ok(Some(Some(class)))
+}
+
+/// Attempts what stands at the current frame's place, in two parts. Where its classes are still to be loaded they are loaded, nothing
+/// else is done, and None is the answer. Else it is attempted, and the answer is the class that is initialized before.
+pub fn attempt_loaded(
+    alloc: Global,
+    originals: &mut Originals,
+    parts: &mut Parts,
+    markers: &mut Stack<Marker>,
+) -> Result<Option<Option<u32>>, NoMemory>
+    requires linked { originals.old.loaded ≡ parts.old.shared.loaded }
+    requires fit { CanRun originals.old.setup }
+    requires sound { IsSoundIn originals.old.setup (state_of markers.old parts.old) }
+    requires ending { parts.old.ending ≡ None }
+    requires unmarked { marker_on (length parts.old.frames.frames) markers.old ≡ None }
+    ensures world { originals.new.setup ≡ originals.old.setup }
+    ensures linked { OnOk result (originals.new.loaded ≡ parts.new.shared.loaded) }
+    ensures some { IfOk result (λ o. is_some o
+        ≡ loads_none originals.old.setup (state_of markers.old parts.old)) }
+    ensures answer { IfOk result (λ o. IfSome o (λ a.
+        a ≡ awaited_in originals.old.setup (state_of markers.old parts.old))) }
+    ensures state { let w = originals.old.setup in let s = state_of markers.old parts.old in
+        IfOk result (λ o. IfSome o (λ _.
+        state_of markers.new parts.new ≡ attempts_on w s s.stack)) }
+    ensures loads { let w = originals.old.setup in let s = state_of markers.old parts.old in
+        IfOk result (λ o. IfNone o
+        (state_of markers.new parts.new ≡ with_loaded (loads_in w s) s)) }
+{
+    let Some(here) = where_now(&parts.frames) else {
+        return Ok(Some(None));
+    };
+    if named_at(originals, here) {
+        return attempt_name_loaded(alloc, originals, parts, markers, here);
+    }
+    attempt_line(alloc, originals, parts, markers, here)?;
+    Ok(Some(None))
 }

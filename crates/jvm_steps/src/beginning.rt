@@ -1,8 +1,8 @@
 //! The start (JVM Specification 5.2, 5.3, 5.5): the main class is loaded and initialized, and then
 //! `main` begins.
 
-ghost use Rattle.std.specs.Prelude.{◌≡◌, true, OnOk};
-ghost use Rattle.jvm_model.specs.Run.{main_class, start, starts_if, starts_with};
+ghost use Rattle.std.specs.Prelude.{◌≡◌, ◌++◌, true, OnOk};
+ghost use Rattle.jvm_model.specs.Run.{main_class, main_loads, start, starts_if, starts_with};
 ghost use Rattle.jvm_model.specs.SharedState.{arguments_fit};
 ghost use Rattle.jvm_model.specs.Sound.{IsFit};
 ghost use Rattle.jvm_model.specs.Starting.{ready_in, unmade_in};
@@ -117,8 +117,9 @@ fn load_main(
     begin_class(alloc, originals, parts, markers, class, found)
 }
 
-/// The same, or, where there is no room for the arguments, object 1 is thrown.
-fn begin_start(
+/// What the start does before its moves: the same, or, where there is no room for the arguments, object 1 is thrown. The classes that
+/// it loads are the last ones then.
+pub fn begin_start(
     alloc: Global,
     originals: &mut Originals,
     parts: &mut Parts,
@@ -131,6 +132,8 @@ fn begin_start(
     ensures linked { OnOk result (originals.new.loaded ≡ parts.new.shared.loaded) }
     ensures state { OnOk result
         (state_of markers.new parts.new ≡ starts_with originals.old.setup.world) }
+    ensures loads { let w = originals.old.setup.world in OnOk result
+        (parts.new.shared.loaded ≡ parts.old.shared.loaded ++ main_loads w) }
 {
     if arguments_fit(originals.program()) {
         return load_main(alloc, originals, parts, markers);

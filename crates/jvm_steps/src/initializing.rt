@@ -10,6 +10,7 @@ ghost use Rattle.jvm_model.specs.Programs.{initializer_of, super_of};
 ghost use Rattle.jvm_model.specs.SharedState.{class_of, error, phase_of, with_phase};
 ghost use Rattle.jvm_steps.specs.Initializing.{begins_class, failing};
 ghost use Rattle.jvm_steps.specs.Invoking.{may_begin};
+ghost use Rattle.jvm_steps.specs.Turning.{begun_in};
 ghost use Rattle.jvm_steps.specs.Markers.{marker_on, state_of};
 ghost use Rattle.jvm_steps.specs.Versions.{text_of};
 
@@ -162,26 +163,30 @@ fn begin_initializer(
 }
 
 /// The static initializer of a class begins, where it has one; where that were one activation too
-/// many StackOverflowError is thrown.
+/// many StackOverflowError is thrown. The answer is the method that has begun.
 fn run_initializer(
     originals: &Originals,
     parts: &mut Parts,
     markers: &mut Stack<Marker>,
     class: u32,
-) -> Result<(), NoMemory>
-    ensures { let w = originals.now.setup in OnOk result (state_of markers.new parts.new
+) -> Result<Option<u32>, NoMemory>
+    ensures begun { let w = originals.now.setup in IfOk result (λ o. o ≡ begun_in
+        (runs_initializer w.world (text_of w.versions) (state_of markers.old parts.old) class
+        (initializer_of w.world.program class)).changes) }
+    ensures state { let w = originals.now.setup in OnOk result (state_of markers.new parts.new
         ≡ (runs_initializer w.world (text_of w.versions) (state_of markers.old parts.old) class
         (initializer_of w.world.program class)).after) }
 {
     mark(parts, markers, class, Part::Finish)?;
     let Some(method) = initializer_of(originals.program(), class) else {
-        return Ok(());
+        return Ok(None);
     };
-    if may_begin(&parts.frames) {
-        begin_initializer(originals, parts, markers, method)
-    } else {
-        raise(originals, parts, Exception::StackOverflow)
+    if !may_begin(&parts.frames) {
+        raise(originals, parts, Exception::StackOverflow)?;
+        return Ok(None);
     }
+    begin_initializer(originals, parts, markers, method)?;
+    Ok(Some(method))
 }
 
 // ---- the constants
@@ -207,7 +212,7 @@ fn run_constants(
 
 // ---- every part
 
-/// The initialization of a class goes on with this part, after its marker was taken off.
+/// The initialization of a class goes on with this part, after its marker was taken off. The answer is the method that has begun.
 pub fn go_on(
     alloc: Global,
     originals: &Originals,
@@ -215,18 +220,27 @@ pub fn go_on(
     markers: &mut Stack<Marker>,
     class: u32,
     part: Part,
-) -> Result<(), NoMemory>
-    ensures { let w = originals.now.setup in OnOk result (state_of markers.new parts.new
-        ≡ (initializes w.world (text_of w.versions) (state_of markers.old parts.old) class
-        part).after) }
+) -> Result<Option<u32>, NoMemory>
+    ensures begun { let w = originals.now.setup in let s = state_of markers.old parts.old in
+        IfOk result (λ o. o ≡ begun_in
+        (initializes w.world (text_of w.versions) s class part).changes) }
+    ensures state { let w = originals.now.setup in let s = state_of markers.old parts.old in
+        OnOk result (state_of markers.new parts.new
+        ≡ (initializes w.world (text_of w.versions) s class part).after) }
 {
     match part {
-        Part::Constants => run_constants(alloc, originals, parts, markers, class),
-        Part::Superclass => initialize_super(originals, parts, markers, class),
+        Part::Constants => {
+            run_constants(alloc, originals, parts, markers, class)?;
+            Ok(None)
+        }
+        Part::Superclass => {
+            initialize_super(originals, parts, markers, class)?;
+            Ok(None)
+        }
         Part::Initializer => run_initializer(originals, parts, markers, class),
         Part::Finish => {
             set_phase(&mut parts.shared, class, Phase::Ready);
-            Ok(())
+            Ok(None)
         }
     }
 }

@@ -1,7 +1,8 @@
 //! The original code of a program, prepared: what stands at each offset is looked up once, and is
 //! found by its offset from then on.
 
-ghost use Rattle.std.specs.Prelude.{ℕ, ◌≡◌, ◌<◌, ◌^◌, ◌++◌, length, slice_get, IfOk, OnErr, OnOk};
+ghost use Rattle.std.specs.Prelude.{ℕ, ◌≡◌, ◌<◌, ◌^◌, ◌++◌, length, slice_get, is_some};
+ghost use Rattle.std.specs.Prelude.{IfNone, IfOk, OnErr, OnOk};
 ghost use Rattle.std.specs.Option.{option_and_then, option_copied, option_map, IfSome};
 ghost use Rattle.class_linker.specs.Linkers.{IsLoaded};
 ghost use Rattle.jvm_model.specs.Families.{family_of};
@@ -11,7 +12,9 @@ ghost use Rattle.jvm_model.specs.Naming.{resolved_kind};
 ghost use Rattle.jvm_model.specs.Programs.{max_stack_of, max_locals_of, params_of_method};
 ghost use Rattle.jvm_model.specs.SharedState.{built_in_from, kind_for, string};
 ghost use Rattle.jvm_named.specs.Answers.{Answers, Moves, Shares, found_view, wrote_by};
-ghost use Rattle.jvm_named.specs.Attempts.{attempts, loaded_for, world_over};
+ghost use Rattle.jvm_named.specs.Answers.{answer_by, answer_view, frames_by, shared_by};
+ghost use Rattle.jvm_named.specs.Attempts.{attempts, is_loaded, loaded_for};
+ghost use Rattle.jvm_named.specs.Attempts.{shared_loaded, world_over};
 ghost use Rattle.jvm_named.specs.Natives.{HasBuiltIn};
 ghost use Rattle.jvm_named.specs.Numbers.{AreNumbers};
 ghost use Rattle.jvm_named.specs.Objects.{AreLoaded, HasDimensions, HasLoadedCaller};
@@ -43,7 +46,7 @@ use const_pool::{ClassFile, Kind};
 use frame_stack::Frames;
 use jf_bytes::{NoMemory, Seq};
 use jvm_model::{Program, Shared};
-use jvm_named::{Asked, MethodNumbers, Refusal, attempt, resolve};
+use jvm_named::{Asked, MethodNumbers, Refusal, attempt, attempt_loaded, resolve};
 use std::alloc::Global;
 use std::marker::Model;
 
@@ -175,6 +178,60 @@ fn attempt_line(
             alloc, linker, numbers, shared, frames, input, output, naming, line.next,
         ),
         _ => Ok(Asked::Refused(Refusal::Breaks)),
+    }
+}
+
+/// The same in two parts: where it loads classes nothing else is done, and None is the answer.
+fn attempt_line_loaded(
+    alloc: Global,
+    linker: &mut Linker,
+    numbers: &MethodNumbers,
+    line: &Line,
+    shared: &mut Shared,
+    frames: &mut Frames,
+    input: &[u8],
+    output: &mut Seq<u8>,
+) -> Result<Option<Asked>, NoMemory>
+    requires linked { linker.old.loaded ≡ shared.old.loaded }
+    requires numbers { AreNumbers linker.old.program numbers.now }
+    requires built_in { HasBuiltIn linker.old }
+    requires objects { AreLoaded linker.old shared.old.heap }
+    requires caller { IfNamedBy line.now.action line.now.next
+        (λ n next. HasLoadedCaller linker.old n) }
+    requires dimensions { IfNamedBy line.now.action line.now.next (λ n next. HasDimensions n) }
+    ensures some { let w = world_over linker.old input.now in
+        IfNamedBy line.now.action line.now.next (λ n next.
+        IfOk result (λ a. is_some a ≡ is_loaded w n shared.old frames.old)) }
+    ensures answer { let w = world_over linker.old input.now in
+        IfNamedBy line.now.action line.now.next (λ n next. IfOk result (λ a.
+        IfSome a (λ a. answer_view a
+        ≡ answer_by (attempts w n shared.old frames.old) frames.old))) }
+    ensures frames { let w = world_over linker.old input.now in
+        IfNamedBy line.now.action line.now.next (λ n next. IfOk result (λ a. IfSome a (λ _.
+        frames.new ≡ frames_by (attempts w n shared.old frames.old) next frames.old))) }
+    ensures shared { let w = world_over linker.old input.now in
+        IfNamedBy line.now.action line.now.next (λ n next. IfOk result (λ a. IfSome a (λ _.
+        shared.new ≡ shared_by (attempts w n shared.old frames.old) frames.old))) }
+    ensures output { let w = world_over linker.old input.now in
+        IfNamedBy line.now.action line.now.next (λ n next. IfOk result (λ a. IfSome a (λ _.
+        output.new ≡ output.old ++ wrote_by (attempts w n shared.old frames.old) frames.old))) }
+    ensures same_frames { IfNamedBy line.now.action line.now.next (λ n next.
+        IfOk result (λ a. IfNone a (frames.new ≡ frames.old))) }
+    ensures same_output { IfNamedBy line.now.action line.now.next (λ n next.
+        IfOk result (λ a. IfNone a (output.new ≡ output.old))) }
+    ensures loads { let p = linker.old.program in
+        IfNamedBy line.now.action line.now.next (λ n next. IfOk result (λ a. IfNone a
+        (shared.new ≡ shared_loaded p n shared.old frames.old))) }
+    ensures loaded { IfNamedBy line.now.action line.now.next (λ n next. OnOk result
+        (linker.new.loaded ≡ loaded_for linker.old.program n shared.old frames.old)) }
+    ensures program { linker.new.program ≡ linker.old.program }
+{
+    let next = line.next;
+    match &line.action {
+        Action::Named(naming) => attempt_loaded(
+            alloc, linker, numbers, shared, frames, input, output, naming, next,
+        ),
+        _ => Ok(None),
     }
 }
 
@@ -439,6 +496,62 @@ impl Originals {
             return Ok(Asked::Refused(Refusal::Breaks));
         };
         attempt_line(
+            alloc,
+            &mut self.linker,
+            &self.numbers,
+            line,
+            shared,
+            frames,
+            self.input.as_slice(),
+            output,
+        )
+    }
+
+    /// The same in two parts: where it loads classes nothing else is done, and None is the answer.
+    pub fn attempt_loaded(
+        &mut self,
+        alloc: Global,
+        version: usize,
+        place: u16,
+        shared: &mut Shared,
+        frames: &mut Frames,
+        output: &mut Seq<u8>,
+    ) -> Result<Option<Asked>, NoMemory>
+        requires linked { self.old.loaded ≡ shared.old.loaded }
+        requires built_in { HasBuiltIn (linker_in self.old) }
+        requires objects { AreLoaded (linker_in self.old) shared.old.heap }
+        requires caller { IfNamed (line_at self.old.setup.versions version place)
+            (λ n next. HasLoadedCaller (linker_in self.old) n) }
+        ensures some { let w = self.old.setup in IfNamed (line_at w.versions version place)
+            (λ n next. IfOk result (λ a. is_some a ≡ is_loaded w.world n shared.old frames.old)) }
+        ensures answer { let w = self.old.setup in IfNamed (line_at w.versions version place)
+            (λ n next. IfOk result (λ a. IfSome a (λ a. answer_view a
+            ≡ answer_by (attempts w.world n shared.old frames.old) frames.old))) }
+        ensures frames { let w = self.old.setup in IfNamed (line_at w.versions version place)
+            (λ n next. IfOk result (λ a. IfSome a (λ _. frames.new
+            ≡ frames_by (attempts w.world n shared.old frames.old) next frames.old))) }
+        ensures shared { let w = self.old.setup in IfNamed (line_at w.versions version place)
+            (λ n next. IfOk result (λ a. IfSome a (λ _. shared.new
+            ≡ shared_by (attempts w.world n shared.old frames.old) frames.old))) }
+        ensures output { let w = self.old.setup in IfNamed (line_at w.versions version place)
+            (λ n next. IfOk result (λ a. IfSome a (λ _. output.new
+            ≡ output.old ++ wrote_by (attempts w.world n shared.old frames.old) frames.old))) }
+        ensures same_frames { IfNamed (line_at self.old.setup.versions version place)
+            (λ n next. IfOk result (λ a. IfNone a (frames.new ≡ frames.old))) }
+        ensures same_output { IfNamed (line_at self.old.setup.versions version place)
+            (λ n next. IfOk result (λ a. IfNone a (output.new ≡ output.old))) }
+        ensures loads { let p = self.old.setup.world.program in
+            IfNamed (line_at self.old.setup.versions version place) (λ n next. IfOk result
+            (λ a. IfNone a (shared.new ≡ shared_loaded p n shared.old frames.old))) }
+        ensures loaded { let p = self.old.setup.world.program in
+            IfNamed (line_at self.old.setup.versions version place)
+            (λ n next. OnOk result (self.new.loaded ≡ loaded_for p n shared.old frames.old)) }
+        ensures world { self.new.setup ≡ self.old.setup }
+    {
+        let Some(line) = line_at(&self.versions, version, place) else {
+            return Ok(None);
+        };
+        attempt_line_loaded(
             alloc,
             &mut self.linker,
             &self.numbers,

@@ -5,11 +5,12 @@
 ghost use Rattle.std.specs.Prelude.{◌≡◌, [], false, map, None, Some, is_some, IfOk, OnOk};
 ghost use Rattle.jvm_model.specs.Applies.{has_room, still};
 ghost use Rattle.jvm_model.specs.Moves.{argument_array, main_or_end, move, settled};
-ghost use Rattle.jvm_steps.specs.Initializing.{after_marker};
+ghost use Rattle.jvm_steps.specs.Initializing.{after_marker, marker_begins};
 ghost use Rattle.jvm_steps.specs.Markers.{state_of};
 ghost use Rattle.jvm_steps.specs.States.{active, here_of, state_in};
 ghost use Rattle.jvm_steps.specs.Settling.{emptied, fits_alone, with_alone};
 ghost use Rattle.jvm_steps.specs.Settling.{after_move, caught_at, caught_top, main_entries};
+ghost use Rattle.jvm_steps.specs.Turning.{begun_in};
 ghost use Rattle.jvm_steps.specs.Versions.{text_of};
 
 use crate::entering::enter;
@@ -49,7 +50,7 @@ fn put_alone(frames: &mut Frames, object: u32) -> bool
 }
 
 /// The current frame goes on at a handler, with the object that was thrown alone on its operands.
-fn go_to_handler(originals: &Originals, parts: &mut Parts, object: u32, here: Here, target: u16)
+pub fn go_to_handler(originals: &Originals, parts: &mut Parts, object: u32, here: Here, target: u16)
     requires { here_of parts.old.frames.frames ≡ Some here }
     ensures state { state_in parts.new ≡
         caught_at originals.now.setup object target parts.old.frames.frames parts.old }
@@ -115,19 +116,21 @@ fn begin_frame(originals: &Originals, frames: &mut Frames, main: u32) -> Result<
     Ok(true)
 }
 
-/// `main` begins, or the run ends where it has no local for its argument.
-fn begin_main(originals: &Originals, parts: &mut Parts) -> Result<(), NoMemory>
+/// `main` begins, or the run ends where it has no local for its argument. The answer is the method that has begun.
+pub fn begin_main(originals: &Originals, parts: &mut Parts) -> Result<Option<u32>, NoMemory>
     requires { parts.old.frames.frames ≡ [] }
+    ensures begun { let w = originals.now.setup in IfOk result (λ o. o ≡ begun_in
+        (main_or_end w.world (text_of w.versions) (state_in parts.old) false).changes) }
     ensures state { let w = originals.now.setup in OnOk result (state_in parts.new ≡
         (main_or_end w.world (text_of w.versions) (state_in parts.old) false).after) }
 {
     let main = originals.program().main;
     if begin_frame(originals, &mut parts.frames, main)? {
         parts.begun = true;
-    } else {
-        parts.ending = Some(Ending::Unverifiable(main, 0));
+        return Ok(Some(main));
     }
-    Ok(())
+    parts.ending = Some(Ending::Unverifiable(main, 0));
+    Ok(None)
 }
 
 /// With nothing thrown and no frame left the run has returned, or `main` begins.
@@ -137,7 +140,8 @@ fn begin_or_end(originals: &Originals, parts: &mut Parts) -> Result<(), NoMemory
         (main_or_end w.world (text_of w.versions) (state_in parts.old) parts.old.begun).after) }
 {
     if !parts.begun {
-        return begin_main(originals, parts);
+        begin_main(originals, parts)?;
+        return Ok(());
     }
     parts.ending = Some(Ending::Returned);
     Ok(())
@@ -167,20 +171,26 @@ fn move_frame(originals: &Originals, parts: &mut Parts) -> Result<bool, NoMemory
     Ok(true)
 }
 
-/// A throw meets the initialization of a class, or it goes on, after its marker was taken off.
-fn move_marker(
+/// A throw meets the initialization of a class, or it goes on, after its marker was taken off. The answer is the method that has
+/// begun.
+pub fn move_marker(
     alloc: Global,
     originals: &Originals,
     parts: &mut Parts,
     markers: &mut Stack<Marker>,
     marker: Marker,
-) -> Result<(), NoMemory>
-    ensures { OnOk result (state_of markers.new parts.new
+) -> Result<Option<u32>, NoMemory>
+    ensures begun { IfOk result (λ o. o ≡ marker_begins originals.now.setup
+        (state_of markers.old parts.old) parts.old.thrown marker.class marker.part) }
+    ensures state { OnOk result (state_of markers.new parts.new
         ≡ after_marker originals.now.setup (state_of markers.old parts.old) parts.old.thrown
         marker.class marker.part) }
 {
     match parts.thrown {
-        Some(object) => fail(originals, parts, marker.class, object),
+        Some(object) => {
+            fail(originals, parts, marker.class, object)?;
+            Ok(None)
+        }
         None => go_on(alloc, originals, parts, markers, marker.class, marker.part),
     }
 }

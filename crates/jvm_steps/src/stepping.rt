@@ -40,7 +40,7 @@ fn is_at_rest(parts: &Parts, markers: &Stack<Marker>) -> bool
 }
 
 /// Whether the run has not ended, and there is a frame with no marker on it.
-fn goes_on(parts: &Parts, markers: &Stack<Marker>) -> bool
+pub fn goes_on(parts: &Parts, markers: &Stack<Marker>) -> bool
     ensures { result ≡ goes_on_in markers.now parts.now }
 {
     parts.ending.is_none() && (parts.frames.depth() > 0 && is_unmarked(parts, markers))
@@ -64,7 +64,7 @@ fn finish(
 }
 
 /// Whether a class is initialized.
-fn is_ready(shared: &Shared, class: u32) -> bool
+pub fn is_ready(shared: &Shared, class: u32) -> bool
     ensures { result ≡ is_ready (phase_of shared.now class) }
 {
     match shared.phases.at(class as usize) {

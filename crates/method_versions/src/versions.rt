@@ -82,6 +82,7 @@ impl<T> Versions<T> {
     }
 
     /// The version with this number, or None where there is none.
+    #[inline(always)]
     pub fn get(&self, number: usize) -> Option<&Held<T>>
         ensures { option_copied result ≡ held_at self.now number }
     {
@@ -92,6 +93,7 @@ impl<T> Versions<T> {
     }
 
     /// The number of the version that a method begins in, or None where there is no such method.
+    #[inline(always)]
     pub fn current(&self, method: u32) -> Option<usize>
         ensures { result ≡ current_of self.now method }
     {
@@ -123,8 +125,9 @@ fn drop_free<T: Drop>(
     frames: &Frames,
 )
     ensures held { let fs = frames.now.frames in (other : ℕ) →
-        held_in (first.new.items ++ later.new.slots) other ≡ (if other == number && pins_of number fs == 0
-        then None else held_in (first.old.items ++ later.old.slots) other) }
+        held_in (first.new.items ++ later.new.slots) other
+        ≡ (if other == number && pins_of number fs == 0 then None
+        else held_in (first.old.items ++ later.old.slots) other) }
     ensures first { length first.new.items ≡ length first.old.items }
     ensures later { length later.new.slots ≡ length later.old.slots }
     ensures capacity { later.new.capacity ≡ later.old.capacity }
@@ -156,7 +159,8 @@ fn drop_unpinned<T: Drop>(
 
 /// Keeps the numbers of versions that frames run.
 fn keep_pinned(numbers: &mut Vec<usize>, frames: &Frames)
-    ensures kept { numbers.new.items ≡ filter (λ n. not (pins_of n frames.now.frames == 0)) numbers.old.items }
+    ensures kept { numbers.new.items
+        ≡ filter (λ n. not (pins_of n frames.now.frames == 0)) numbers.old.items }
     ensures bound { vec_len numbers.new ≤ vec_len numbers.old }
     ensures capacity { vec_capacity numbers.new ≡ vec_capacity numbers.old }
 {
@@ -189,7 +193,8 @@ impl<T: Drop> Versions<T> {
 
     /// Drops each superseded version that no frame runs.
     pub fn release(&mut self, frames: &Frames)
-        ensures held { (number : ℕ) → held_at self.new number ≡ held_for frames.now.frames self.old number }
+        ensures held { (number : ℕ) → held_at self.new number
+            ≡ held_for frames.now.frames self.old number }
         ensures current { self.new.current ≡ self.old.current }
         ensures count { length self.new.slots ≡ length self.old.slots }
         ensures spare { self.old.spare ≤ self.new.spare }

@@ -1,0 +1,53 @@
+-- What is in hand of a step over versions, between two turns of a machine.
+use Rattle.std.specs.Prelude.{◌≡◌, ℕ, Bool, true, false, List}
+use Rattle.jvm_model.specs.declared.due.Due.{Due}
+use Rattle.jvm_model.specs.declared.event.Mark.{Mark}
+use Rattle.jvm_model.specs.declared.state.State.{State}
+use Rattle.jvm_model.specs.Data.{Turn}
+use Rattle.jvm_model.specs.InHand.{GoesOn, InHand, Versioned}
+use Rattle.jvm_model.specs.Originals.{original}
+use Rattle.jvm_model.specs.Pauses.{Pause, is_end, later_of}
+use Rattle.jvm_model.specs.Rest.{Todo, Attempt, Moves}
+use Rattle.jvm_model.specs.Told.{Held}
+use Rattle.jvm_steps.specs.declared.hands.Gone.{Gone}
+use Rattle.jvm_steps.specs.declared.hands.Hand.{Hand}
+use Rattle.jvm_steps.specs.Standing.{places_of}
+use Rattle.jvm_steps.specs.Trying.{tried_in}
+use Rattle.jvm_steps.specs.Turning.{goes_by_moves, mark_in, pause_at}
+use Rattle.jvm_steps.specs.Versions.{Setup, current_of, method_of}
+
+abbrev pub todo_of : Bool → Todo
+todo_of true = Moves
+todo_of false = Attempt
+
+-- the versions with their marks, and where their places stand
+abbrev pub versioned_in : Setup → List Mark → (ℕ → ℕ → ℕ) → Versioned
+versioned_in w marks homes = record {
+  norm = places_of w.world.program;
+  method_of = method_of w.versions;
+  homes = homes;
+  mark_of = mark_in marks;
+}
+
+-- the rest of this whole step of original code is in hand
+abbrev pub HasInHand : Setup → List Mark → (ℕ → ℕ → ℕ) → Turn → Hand → List Held → State → Type 0
+HasInHand w marks homes turn hand live s =
+    InHand w.world (original w.world.program) (versioned_in w marks homes) turn hand.passed hand.told live (todo_of hand.moves) s
+
+-- where it goes on to
+abbrev pub goes_as : Setup → List Mark → Bool → Bool → ℕ → State → Pause
+goes_as w marks true told n s = goes_by_moves w marks told n s
+goes_as w marks false told n s = tried_in w marks told n s
+
+abbrev pub goes_in : Setup → List Mark → Hand → State → Pause
+goes_in w marks hand s = goes_as w marks hand.moves hand.told hand.passed s
+
+abbrev pub HasGoneOn : Setup → List Mark → (ℕ → ℕ → ℕ) → Turn → Hand → List Held → Gone → State → Type 0
+HasGoneOn w marks homes turn hand live gone s =
+    GoesOn w.world (original w.world.program) (versioned_in w marks homes) (current_of w.versions) turn hand.passed hand.told live
+    (pause_at s gone.hand.passed gone.due)
+
+-- what is left there: whether an end was told, and whether moves alone are left
+pub record IsLeft (gone : Gone) : Type 0 where
+  pub told : gone.hand.told ≡ is_end gone.due
+  pub moves : todo_of gone.hand.moves ≡ later_of gone.due
