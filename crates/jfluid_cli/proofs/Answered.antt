@@ -5,7 +5,7 @@ use Rattle.std.specs.Option.{option_and_then}
 use Rattle.jf_bytes.specs.Streams.{Rose}
 use Rattle.jvm_model.proofs.Growth.{ending-earlier}
 use Rattle.jvm_model.specs.Originals.{original}
-use Rattle.jvm_machine.specs.View.{View, world}
+use Rattle.small_machine.specs.View.{View, world}
 use Rattle.jfluid_cli.specs.declared.kept.Kept.{Kept}
 use Rattle.jfluid_cli.specs.declared.refusal.Refusal.{Refusal}
 use Rattle.jfluid_cli.specs.declared.refusal.Refusal.TheVariants.{OutFailed, NoMemory}

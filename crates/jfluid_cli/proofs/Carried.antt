@@ -7,7 +7,7 @@ use Rattle.jf_bytes.specs.Streams.{PutsFront}
 use Rattle.plan_text.specs.declared.plan.Plan.{Plan}
 use Rattle.jvm_model.specs.declared.program.Program.{Program}
 use Rattle.jvm_model.specs.Run.{output_of}
-use Rattle.jvm_machine.specs.View.{View}
+use Rattle.small_machine.specs.View.{View}
 use Rattle.command_line.specs.Input.{most_input}
 use Rattle.command_line.specs.Words.{Read}
 use Rattle.jfluid_cli.specs.declared.kept.Kept.{Kept}

@@ -11,7 +11,7 @@ use Rattle.small_program.specs.Admission.{Runs}
 use Rattle.jvm_model.specs.Originals.{original}
 use Rattle.jvm_model.specs.Run.{ending_of}
 use Rattle.jvm_model.proofs.Growth.{run-stays}
-use Rattle.jvm_machine.specs.View.{View, world}
+use Rattle.small_machine.specs.View.{View, world}
 use Rattle.jfluid_cli.specs.Runs.{ending_at, IsCarriedOut, world_on}
 use Rattle.jfluid_cli.specs.Top.{IsCalm}
 

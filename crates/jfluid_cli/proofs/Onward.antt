@@ -9,8 +9,8 @@ use Rattle.jvm_model.specs.declared.state.State.{State}
 use Rattle.jvm_model.specs.Data.{World}
 use Rattle.jvm_model.specs.EventLists.{Marking, step_events, events_of, events_of-suc}
 use Rattle.jvm_model.specs.StandsFor.{marking_of}
-use Rattle.jvm_machine.specs.Several.{RunsOn, stopped_in}
-use Rattle.jvm_machine.specs.View.{View, world, shown, has_ended}
+use Rattle.small_machine.specs.Several.{RunsOn, stopped_in}
+use Rattle.small_machine.specs.View.{View, world, shown, has_ended}
 use Rattle.jfluid_cli.specs.Runs.{IsGoing, IsTold, RanFor, SameProgram, events_before, is_ended_at}
 use Rattle.jfluid_cli.proofs.Outputs.{shown-going}
 use Rattle.jfluid_cli.proofs.Steps.{HasRun, has_ended-going, ran-all}

@@ -6,7 +6,7 @@ use Rattle.jf_bytes.specs.Streams.{Told, PutsAll, PutsFront, Rose}
 use Rattle.command_line.specs.Input.{TakesOneMore}
 use Rattle.jvm_model.specs.declared.program.Program.{Program}
 use Rattle.jvm_model.specs.Run.{ending_of}
-use Rattle.jvm_machine.specs.View.{View}
+use Rattle.small_machine.specs.View.{View}
 use Rattle.jfluid_cli.specs.declared.kept.Kept.{Kept}
 use Rattle.jfluid_cli.specs.declared.refusal.Refusal.{Refusal}
 use Rattle.jfluid_cli.specs.declared.refusal.Refusal.TheVariants.{PlanNotFetched, NotFetched}

@@ -13,7 +13,7 @@ use Rattle.small_program.specs.declared.admission.Refused.{Refused}
 use Rattle.small_program.specs.Admission.{selected, Runs, IsRefusedFor}
 use Rattle.plan_text.specs.declared.plan.Plan.{Plan}
 use Rattle.jfluid_cli.specs.Asking.{Asked, asked_by}
-use Rattle.jvm_machine.specs.View.{View, world}
+use Rattle.small_machine.specs.View.{View, world}
 use Rattle.jfluid_cli.specs.Contents.{AreFiles, classes_for}
 use Rattle.jfluid_cli.specs.Words.{Command, command_of}
 use Rattle.jfluid_cli.specs.Runs.{ending_at}

@@ -10,7 +10,7 @@ ghost use Rattle.jfluid_cli.specs.Top.{status_of_ending, is_run, is_status, repo
 use crate::refusal::{Refusal, put_bytes};
 use context_tree::Tree;
 use jf_bytes::{NoMemory, Sink};
-use jvm_machine::Vm;
+use small_machine::Vm;
 use jvm_model::Ending;
 use profile_report::{Facts, report};
 use std::alloc::Global;

@@ -23,7 +23,7 @@ use crate::words::{read, texts_in};
 use command_line::Words;
 use context_tree::Tree;
 use jf_bytes::{Files, NoMemory, Seq, Sink, Source};
-use jvm_machine::Vm;
+use small_machine::Vm;
 use std::alloc::Global;
 
 /// Answers for a run that was carried out, or that stopped.

@@ -3,7 +3,7 @@ use Rattle.std.proofs.Common.{◌≡◌, ℕ, List, Option, None, refl, sym, ap,
 use Rattle.std.proofs.lemmas.Option.{none-some}
 use Rattle.jvm_model.specs.declared.program.Program.{Program}
 use Rattle.jvm_model.specs.OneClass.{IsBuiltProgram}
-use Rattle.jvm_machine.specs.View.{View, made}
+use Rattle.small_machine.specs.View.{View, made}
 use Rattle.jfluid_cli.specs.Selections.{IsSelected}
 use Rattle.jfluid_cli.proofs.making.machine_of.Goals as goal
 
