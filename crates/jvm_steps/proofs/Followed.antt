@@ -24,9 +24,9 @@ use Rattle.jvm_steps.specs.declared.markers.Marker.{Marker}
 use Rattle.jvm_steps.specs.declared.parts.Parts.{Parts}
 use Rattle.jvm_steps.specs.Markers.{above, beneath, initializing, stack_of, state_of}
 use Rattle.jvm_steps.specs.States.{active}
-use Rattle.jvm_steps.specs.Turning.{mark_in, pause_at, paused_in}
+use Rattle.jvm_steps.specs.Turning.{pause_at, paused_in}
 use Rattle.jvm_steps.specs.Trying.{changes_since, enters_by, is_begins, pause_behind_attempt, top_frame_method}
-use Rattle.jvm_steps.specs.Versions.{Setup, current_of, text_of}
+use Rattle.jvm_steps.specs.Versions.{Setup, current_of, text_of, mark_of}
 use Rattle.jvm_steps.proofs.InitializerFrames.{live-of}
 use Rattle.jvm_steps.proofs.MovesLoad.{settled-loaded}
 
@@ -59,30 +59,30 @@ begins-unless Plain = refl
 begins-unless Root = refl
 
 -- no activation more
-pub enters_none : (w : Setup) (marks : List Mark) (live : ℕ) (fs : List PlacedFrame) → length fs ≤ live → false ≡ enters_by w marks (changes_since live fs)
-enters_none w marks live fs few = by (nat_lt (length fs) live) ∙ ap (λ b. enters_by w marks (compared (nat_lt (length fs) live) b (top_frame_method fs))) (sym (le-ltb live (length fs) few)) where
-  by : (b : Bool) → false ≡ enters_by w marks (compared b false (top_frame_method fs))
+pub enters_none : (w : Setup) (live : ℕ) (fs : List PlacedFrame) → length fs ≤ live → false ≡ enters_by w (changes_since live fs)
+enters_none w live fs few = by (nat_lt (length fs) live) ∙ ap (λ b. enters_by w (compared (nat_lt (length fs) live) b (top_frame_method fs))) (sym (le-ltb live (length fs) few)) where
+  by : (b : Bool) → false ≡ enters_by w (compared b false (top_frame_method fs))
   by true = refl
   by false = refl
 
 -- one more
-enters-one : (w : Setup) (marks : List Mark) (live : ℕ) (f : PlacedFrame) (fs : List PlacedFrame) → live < length (f ∷ fs)
-    → not (is_off (mark_in marks (current_of w.versions f.method))) ≡ enters_by w marks (changes_since live (f ∷ fs))
-enters-one w marks live f fs more =
-    begins-unless (mark_in marks (current_of w.versions f.method))
-    ∙ (ap (λ b. enters_by w marks (compared false b f.method)) (sym (lt-ltb live (length (f ∷ fs)) more))
-    ∙ ap (λ b. enters_by w marks (compared b (nat_lt live (length (f ∷ fs))) f.method)) (sym (le-ltb (length (f ∷ fs)) live (omega arith))))
+enters-one : (w : Setup) (live : ℕ) (f : PlacedFrame) (fs : List PlacedFrame) → live < length (f ∷ fs)
+    → not (is_off (mark_of w.versions (current_of w.versions f.method))) ≡ enters_by w (changes_since live (f ∷ fs))
+enters-one w live f fs more =
+    begins-unless (mark_of w.versions (current_of w.versions f.method))
+    ∙ (ap (λ b. enters_by w (compared false b f.method)) (sym (lt-ltb live (length (f ∷ fs)) more))
+    ∙ ap (λ b. enters_by w (compared b (nat_lt live (length (f ∷ fs))) f.method)) (sym (le-ltb (length (f ∷ fs)) live (omega arith))))
 
-pub enters_top : (w : Setup) (marks : List Mark) (live : ℕ) (fs : List PlacedFrame) (version method : ℕ) → top_of fs ≡ Some (version, method) → live < length fs
-    → not (is_off (mark_in marks (current_of w.versions method))) ≡ enters_by w marks (changes_since live fs)
-enters_top w marks live [] version method top more = absurd (omega arith)
-enters_top w marks live (f ∷ fs) version method top more =
+pub enters_top : (w : Setup) (live : ℕ) (fs : List PlacedFrame) (version method : ℕ) → top_of fs ≡ Some (version, method) → live < length fs
+    → not (is_off (mark_of w.versions (current_of w.versions method))) ≡ enters_by w (changes_since live fs)
+enters_top w live [] version method top more = absurd (omega arith)
+enters_top w live (f ∷ fs) version method top more =
     let same : f.method ≡ method = ap (λ (x : ℕ × ℕ). x.1) (same_Some _ _ top) in
-    ap (λ m. not (is_off (mark_in marks (current_of w.versions m)))) (sym same) ∙ enters-one w marks live f fs more
+    ap (λ m. not (is_off (mark_of w.versions (current_of w.versions m)))) (sym same) ∙ enters-one w live f fs more
 
-pub enters_nothing : (w : Setup) (marks : List Mark) (live : ℕ) (fs : List PlacedFrame) → top_of fs ≡ None → live < length fs → false ≡ enters_by w marks (changes_since live fs)
-enters_nothing w marks live [] top more = absurd (omega arith)
-enters_nothing w marks live (f ∷ fs) top more = absurd cc
+pub enters_nothing : (w : Setup) (live : ℕ) (fs : List PlacedFrame) → top_of fs ≡ None → live < length fs → false ≡ enters_by w (changes_since live fs)
+enters_nothing w live [] top more = absurd (omega arith)
+enters_nothing w live (f ∷ fs) top more = absurd cc
 
 -- ---- how many changes are behind it
 
@@ -117,7 +117,7 @@ goes-pause Begins begun later isnt = absurd (false≢true (sym isnt))
 goes-pause Nothing begun later isnt = refl
 goes-pause (Ends k) begun later isnt = refl
 
-module _ (w : Setup) (marks : List Mark) (live n : ℕ) (ms : List Marker) (p : Parts) where
+module _ (w : Setup) (live n : ℕ) (ms : List Marker) (p : Parts) where
   abbrev s : State
   s = state_of ms p
 
@@ -125,25 +125,25 @@ module _ (w : Setup) (marks : List Mark) (live n : ℕ) (ms : List Marker) (p : 
   cs = changes_since live p.frames.frames
 
   abbrev followed_by : List Change → Pause
-  followed_by changes = followed w.world (text_of w.versions) (mark_in marks) n changes s
+  followed_by changes = followed w.world (text_of w.versions) (mark_of w.versions) n changes s
 
-  same-followed : followed_by cs ≡ pause_behind_attempt w marks live n s
+  same-followed : followed_by cs ≡ pause_behind_attempt w live n s
   same-followed = ap followed_by (since-between live ms p)
 
   -- a method has begun, which is told
-  pub follows-told : (passed : ℕ) → passed ≡ passed_by n cs → enters_by w marks cs ≡ true → pause_at s passed Begins ≡ pause_behind_attempt w marks live n s
+  pub follows-told : (passed : ℕ) → passed ≡ passed_by n cs → enters_by w cs ≡ true → pause_at s passed Begins ≡ pause_behind_attempt w live n s
   follows-told passed counted is =
       ap (λ k. pause_at s k Begins) counted
-      ∙ (sym (begins-pause (changes_due (mark_now (mark_in marks) (text_of w.versions)) [] cs) (record { state = s; passed = passed_by n cs; due = Begins })
-      (paused w.world (text_of w.versions) (mark_in marks) (passed_by n cs) s) is)
+      ∙ (sym (begins-pause (changes_due (mark_now (mark_of w.versions) (text_of w.versions)) [] cs) (record { state = s; passed = passed_by n cs; due = Begins })
+      (paused w.world (text_of w.versions) (mark_of w.versions) (passed_by n cs) s) is)
       ∙ same-followed)
 
   -- the moves follow
-  pub follows-on : (passed : ℕ) → passed ≡ passed_by n cs → enters_by w marks cs ≡ false → paused_in w marks passed s ≡ pause_behind_attempt w marks live n s
+  pub follows-on : (passed : ℕ) → passed ≡ passed_by n cs → enters_by w cs ≡ false → paused_in w passed s ≡ pause_behind_attempt w live n s
   follows-on passed counted isnt =
-      ap (λ k. paused_in w marks k s) counted
-      ∙ (sym (goes-pause (changes_due (mark_now (mark_in marks) (text_of w.versions)) [] cs) (record { state = s; passed = passed_by n cs; due = Begins })
-      (paused w.world (text_of w.versions) (mark_in marks) (passed_by n cs) s) isnt)
+      ap (λ k. paused_in w k s) counted
+      ∙ (sym (goes-pause (changes_due (mark_now (mark_of w.versions) (text_of w.versions)) [] cs) (record { state = s; passed = passed_by n cs; due = Begins })
+      (paused w.world (text_of w.versions) (mark_of w.versions) (passed_by n cs) s) isnt)
       ∙ same-followed)
 
 -- ---- moves load nothing
@@ -174,8 +174,8 @@ left-loaded (Err e) new passed p classes reached same = tt
 
 -- ---- in the world that stays
 
-pub follows-in : {E : Type 0} (r : Result Due E) (w v : Setup) (marks : List Mark) (live n passed : ℕ) (mid done new : State) → v ≡ w → mid ≡ done
-    → IfOk r (λ due. pause_at new passed due ≡ pause_behind_attempt v marks live n mid) → IfOk r (λ due. pause_at new passed due ≡ pause_behind_attempt w marks live n done)
-follows-in r w v marks live n passed mid done new same made reached =
-    subst (λ x. IfOk r (λ due. pause_at new passed due ≡ pause_behind_attempt w marks live n x)) made
-    (subst (λ u. IfOk r (λ due. pause_at new passed due ≡ pause_behind_attempt u marks live n mid)) same reached)
+pub follows-in : {E : Type 0} (r : Result Due E) (w v : Setup) (live n passed : ℕ) (mid done new : State) → v ≡ w → mid ≡ done
+    → IfOk r (λ due. pause_at new passed due ≡ pause_behind_attempt v live n mid) → IfOk r (λ due. pause_at new passed due ≡ pause_behind_attempt w live n done)
+follows-in r w v live n passed mid done new same made reached =
+    subst (λ x. IfOk r (λ due. pause_at new passed due ≡ pause_behind_attempt w live n x)) made
+    (subst (λ u. IfOk r (λ due. pause_at new passed due ≡ pause_behind_attempt u live n mid)) same reached)

@@ -28,9 +28,9 @@ use Rattle.jvm_model.proofs.SoundTextRuns.{sound-loaded}
 use Rattle.jvm_model.proofs.SoundTextSteps.{GoesTo, moves-go}
 use Rattle.jvm_steps.specs.Acts.{attempts_on, awaited_in}
 use Rattle.jvm_steps.specs.Ready.{CanRun, IsSoundIn, RunsIn}
-use Rattle.jvm_steps.specs.Turning.{goes_by_moves, loads_in, mark_in, paused_in, resumed, resumed_count}
+use Rattle.jvm_steps.specs.Turning.{goes_by_moves, loads_in, paused_in, resumed, resumed_count}
 use Rattle.jvm_steps.specs.Trying.{leaves_at, pause_behind_attempt, tried_in, tries_again}
-use Rattle.jvm_steps.specs.Versions.{Setup, text_of}
+use Rattle.jvm_steps.specs.Versions.{Setup, text_of, mark_of}
 use Rattle.jvm_steps.proofs.LineSteps.{IsGoing, behind, going-again}
 use Rattle.jvm_steps.proofs.Sounded.{attempted-sound}
 use Rattle.jvm_steps.proofs.TriedSteps.{again-nothing, again-ready, told-first, told-silent, tried-again, tried-once, tried-stays}
@@ -65,8 +65,8 @@ module _ (w : Setup) (run : CanRun w) where
       by-move v k n s is (pauses-sound v k) (move w.world t s)
       (moves-go (RunsIn w.versions) w.world run.fit t run.text s is s.ending s.thrown s.stack refl is.stack)
 
-  pub paused-sound : (marks : List Mark) (n : ℕ) (s : State) → Sound s → Sound (paused_in w marks n s).state
-  paused-sound marks n s is = pauses-sound (mark_in marks) (left s) n s is
+  pub paused-sound : (n : ℕ) (s : State) → Sound s → Sound (paused_in w n s).state
+  paused-sound n s is = pauses-sound (mark_of w.versions) (left s) n s is
 
   -- without the current frame
   all-below : (Holds : Entry → Type 0) (stack : List Entry) → AllByRecursion Holds stack → AllByRecursion Holds (drop 1 stack)
@@ -80,9 +80,9 @@ module _ (w : Setup) (run : CanRun w) where
     main = is.main;
   }
 
-  pub moved-sound : (marks : List Mark) (told : Bool) (n : ℕ) (s : State) → Sound s → Sound (goes_by_moves w marks told n s).state
-  moved-sound marks true n s is = paused-sound marks (suc n) (popped s) (popped-sound s is)
-  moved-sound marks false n s is = paused-sound marks n s is
+  pub moved-sound : (told : Bool) (n : ℕ) (s : State) → Sound s → Sound (goes_by_moves w told n s).state
+  moved-sound true n s is = paused-sound (suc n) (popped s) (popped-sound s is)
+  moved-sound false n s is = paused-sound n s is
 
   -- ---- behind an attempt
 
@@ -91,11 +91,11 @@ module _ (w : Setup) (run : CanRun w) where
   behind-sound Nothing begun later one two = two
   behind-sound (Ends k) begun later one two = two
 
-  pub followed-sound : (marks : List Mark) (live n : ℕ) (s : State) → Sound s → Sound (pause_behind_attempt w marks live n s).state
-  followed-sound marks live n s is =
+  pub followed-sound : (live n : ℕ) (s : State) → Sound s → Sound (pause_behind_attempt w live n s).state
+  followed-sound live n s is =
       let changes : List Change = changes_between live s.stack in
-      behind-sound (changes_due (mark_now (mark_in marks) t) [] changes) (record { state = s; passed = passed_by n changes; due = Begins })
-      (paused w.world t (mark_in marks) (passed_by n changes) s) is (paused-sound marks (passed_by n changes) s is)
+      behind-sound (changes_due (mark_now (mark_of w.versions) t) [] changes) (record { state = s; passed = passed_by n changes; due = Begins })
+      (paused w.world t (mark_of w.versions) (passed_by n changes) s) is (paused-sound (passed_by n changes) s is)
 
   -- ---- behind the classes that it loads
 
@@ -114,51 +114,51 @@ module _ (w : Setup) (run : CanRun w) where
 
 -- ---- wherever a step stops that begins with an attempt
 
-module _ (w : Setup) (run : CanRun w) (marks : List Mark) (n : ℕ) (s : State) (is : IsSoundIn w s) (none : loads_in w s ≡ []) where
+module _ (w : Setup) (run : CanRun w) (n : ℕ) (s : State) (is : IsSoundIn w s) (none : loads_in w s ≡ []) where
   abbrev pub mid : State
   mid = attempts_on w s s.stack
 
   module _ (going : IsGoing s) where
     abbrev first : Pause
-    first = pause_behind_attempt w marks (live_in s.stack) n mid
+    first = pause_behind_attempt w (live_in s.stack) n mid
 
     mid-sound : IsSoundIn w mid
     mid-sound = attempted-sound w run s going is
 
     first-sound : IsSoundIn w first.state
-    first-sound = followed-sound w run marks (live_in s.stack) n mid mid-sound
+    first-sound = followed-sound w run (live_in s.stack) n mid mid-sound
 
-    twice-sound : (c : ℕ) → awaited_in w s ≡ Some c → tries_again n c first ≡ true → IsSoundIn w (tried_in w marks true n s).state
+    twice-sound : (c : ℕ) → awaited_in w s ≡ Some c → tries_again n c first ≡ true → IsSoundIn w (tried_in w true n s).state
     twice-sound c awaits again =
         let settles : first.state ≡ behind w mid =
-        settled-there w.world (text_of w.versions) (mark_in marks) n (changes_between (live_in s.stack) mid.stack) mid (again-nothing n c first again) in
+        settled-there w.world (text_of w.versions) (mark_of w.versions) n (changes_between (live_in s.stack) mid.stack) mid (again-nothing n c first again) in
         let ready = again-ready n c first again in
-        subst (λ (p : Pause). IsSoundIn w p.state) (sym (tried-again w run marks n s going none c awaits settles ready again))
-        (followed-sound w run marks (live_in s.stack) n (attempts_on w first.state first.state.stack)
+        subst (λ (p : Pause). IsSoundIn w p.state) (sym (tried-again w run n s going none c awaits settles ready again))
+        (followed-sound w run (live_in s.stack) n (attempts_on w first.state first.state.stack)
         (attempted-sound w run first.state (going-again w run s going c awaits mid first.state refl settles ready) first-sound))
 
-    awaits-sound : (o : Option ℕ) → awaited_in w s ≡ o → IsSoundIn w (tried_in w marks true n s).state
-    awaits-sound None awaits = subst (λ (p : Pause). IsSoundIn w p.state) (sym (tried-once w run marks n s going none awaits)) first-sound
+    awaits-sound : (o : Option ℕ) → awaited_in w s ≡ o → IsSoundIn w (tried_in w true n s).state
+    awaits-sound None awaits = subst (λ (p : Pause). IsSoundIn w p.state) (sym (tried-once w run n s going none awaits)) first-sound
     awaits-sound (Some c) awaits = by (tries_again n c first) refl where
-      by : (b : Bool) → tries_again n c first ≡ b → IsSoundIn w (tried_in w marks true n s).state
+      by : (b : Bool) → tries_again n c first ≡ b → IsSoundIn w (tried_in w true n s).state
       by true again = twice-sound c awaits again
-      by false isnt = subst (λ (p : Pause). IsSoundIn w p.state) (sym (tried-stays w run marks n s going none c awaits isnt)) first-sound
+      by false isnt = subst (λ (p : Pause). IsSoundIn w p.state) (sym (tried-stays w run n s going none c awaits isnt)) first-sound
 
-    going-sound : (told : Bool) → IsSoundIn w (tried_in w marks told n s).state
-    going-sound told = by (not told && leaves_at w marks going.frame.version going.frame.place) refl where
-      by : (b : Bool) → (not told && leaves_at w marks going.frame.version going.frame.place) ≡ b → IsSoundIn w (tried_in w marks told n s).state
-      by true due = subst (λ (p : Pause). IsSoundIn w p.state) (sym (told-first w run marks n s going told due)) is
+    going-sound : (told : Bool) → IsSoundIn w (tried_in w told n s).state
+    going-sound told = by (not told && leaves_at w going.frame.version going.frame.place) refl where
+      by : (b : Bool) → (not told && leaves_at w going.frame.version going.frame.place) ≡ b → IsSoundIn w (tried_in w told n s).state
+      by true due = subst (λ (p : Pause). IsSoundIn w p.state) (sym (told-first w run n s going told due)) is
       by false isnt =
-          subst (λ (p : Pause). IsSoundIn w p.state) (told-silent w run marks n s going told isnt) (awaits-sound (awaited_in w s) refl)
+          subst (λ (p : Pause). IsSoundIn w p.state) (told-silent w run n s going told isnt) (awaits-sound (awaited_in w s) refl)
 
   abbrev stopped : Bool → Option Ending → List Entry → State
-  stopped told ending stack = (stack_pause w.world (text_of w.versions) (mark_in marks) told n s ending stack).state
+  stopped told ending stack = (stack_pause w.world (text_of w.versions) (mark_of w.versions) told n s ending stack).state
 
-  stack-sound : (told : Bool) (ending : Option Ending) (stack : List Entry) → s.ending ≡ ending → s.stack ≡ stack → IsSoundIn w (tried_in w marks told n s).state
+  stack-sound : (told : Bool) (ending : Option Ending) (stack : List Entry) → s.ending ≡ ending → s.stack ≡ stack → IsSoundIn w (tried_in w told n s).state
   stack-sound told (Some e) stack on at = subst (IsSoundIn w) (sym (ap (λ x. stopped told x s.stack) on)) is
   stack-sound told None [] on at = subst (IsSoundIn w) (sym (ap (λ x. stopped told x s.stack) on ∙ ap (stopped told None) at)) is
   stack-sound told None (Initializing c part ∷ below) on at = subst (IsSoundIn w) (sym (ap (λ x. stopped told x s.stack) on ∙ ap (stopped told None) at)) is
   stack-sound told None (Active f ∷ below) on at = going-sound (record { frame = f; rest = below; ending = on; stack = at }) told
 
-  pub tried-sound : (told : Bool) → IsSoundIn w (tried_in w marks told n s).state
+  pub tried-sound : (told : Bool) → IsSoundIn w (tried_in w told n s).state
   tried-sound told = stack-sound told s.ending s.stack refl refl

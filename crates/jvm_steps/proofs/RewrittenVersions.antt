@@ -13,6 +13,7 @@ use Rattle.code_model.specs.declared.laying.Homes.{Homes}
 use Rattle.code_model.specs.declared.laying.Laid.{Laid}
 use Rattle.code_model.specs.Instructions.{instruction_at}
 use Rattle.code_model.specs.Layout.{home_in, home_of, place_in}
+use Rattle.jvm_model.specs.declared.event.Mark.{Mark}
 use Rattle.jvm_model.specs.declared.program.Program.{Program}
 use Rattle.jvm_model.specs.Data.{Catcher, Instruction}
 use Rattle.jvm_model.specs.Lines.{code_instruction, instruction_of}
@@ -105,7 +106,7 @@ pub record IsRewritten (p : Program) (norm : ℕ → ℕ → ℕ) (method : ℕ)
   pub only : (k : ℕ) (i : Instruction) → homed_instruction image laid.code laid.homes (length old.code) k ≡ Some i → HasOperation p method i.operation
   pub rises : (a b : ℕ) → IsPlace norm method a → IsPlace norm method b → a < b → home_of laid.homes a < home_of laid.homes b
 
-module _ (p : Program) (norm : ℕ → ℕ → ℕ) (method : ℕ) (c image : ClassFile) (leave : List ℕ) (old new : CodeAttribute) (instrs : List Instr) (laid : Laid)
+module _ (p : Program) (norm : ℕ → ℕ → ℕ) (method : ℕ) (mark : Mark) (c image : ClassFile) (leave : List ℕ) (old new : CodeAttribute) (instrs : List Instr) (laid : Laid)
     (is : IsRewritten p norm method c image leave old new instrs laid) where
   abbrev h : ℕ → ℕ
   h = home_of laid.homes
@@ -114,7 +115,7 @@ module _ (p : Program) (norm : ℕ → ℕ → ℕ) (method : ℕ) (c image : Cl
   len = length old.code
 
   abbrev x : Version
-  x = rewritten_version method image new laid.homes len
+  x = rewritten_version method mark image new laid.homes len
 
   lines-are : homed_lines image new.code laid.homes len ≡ homed_lines image laid.code laid.homes len
   lines-are = ap (λ code. homed_lines image code laid.homes len) is.code

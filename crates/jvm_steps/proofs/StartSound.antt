@@ -27,8 +27,8 @@ use Rattle.jvm_model.proofs.SoundClasses.{load-supertypes, load-there, plain-ele
 use Rattle.jvm_model.proofs.SoundObjects.{arguments-sound, before-sound, exception-sound, with-heap}
 use Rattle.jvm_model.proofs.SoundRuns.{shared-more, with-loaded-is}
 use Rattle.jvm_steps.specs.Ready.{CanRun, IsSoundIn, RunsIn}
-use Rattle.jvm_steps.specs.Turning.{mark_in, paused_in}
-use Rattle.jvm_steps.specs.Versions.{Setup, text_of}
+use Rattle.jvm_steps.specs.Turning.{paused_in}
+use Rattle.jvm_steps.specs.Versions.{Setup, text_of, mark_of}
 use Rattle.jvm_steps.proofs.PausesSound.{paused-sound}
 
 module _ (Runs : ℕ → ℕ → Type 0) (w : World) (fit : IsFit w.program) where
@@ -112,20 +112,20 @@ module _ (w : World) (t : Text) (v : ℕ → Mark) (n : ℕ) (s : State) (object
       ap (λ (p : Pause). p.state)
       (paused-move w t v n s ∙ (ap (one s) (moves-over on threw none) ∙ paused-move w t v n over))
 
-module _ (w : Setup) (run : CanRun w) (marks : List Mark) (n : ℕ) where
-  refused-sound : (s : State) → IsRefused (RunsIn w.versions) w.world run.fit s → IsSoundIn w (paused_in w marks n s).state
+module _ (w : Setup) (run : CanRun w) (n : ℕ) where
+  refused-sound : (s : State) → IsRefused (RunsIn w.versions) w.world run.fit s → IsSoundIn w (paused_in w n s).state
   refused-sound s is =
-      subst (IsSoundIn w) (sym (refused-over w.world (text_of w.versions) (mark_in marks) n s is.object is.ending is.thrown is.stack)) (record {
+      subst (IsSoundIn w) (sym (refused-over w.world (text_of w.versions) (mark_of w.versions) n s is.object is.ending is.thrown is.stack)) (record {
         shared = is.shared;
         stack = subst (λ stack. AllByRecursion (IsSoundEntry (RunsIn w.versions) w.world.program s.shared.loaded) stack) (sym is.stack) tt;
         main = λ on. absurd (let e : Some (Uncaught (class_of w.world.program s.shared is.object)) ≡ None = on in cc);
       })
 
-  either-sound : (s : State) → IsSoundIn w s ⊎ IsRefused (RunsIn w.versions) w.world run.fit s → IsSoundIn w (paused_in w marks n s).state
-  either-sound s (inl is) = paused-sound w run marks n s is
+  either-sound : (s : State) → IsSoundIn w s ⊎ IsRefused (RunsIn w.versions) w.world run.fit s → IsSoundIn w (paused_in w n s).state
+  either-sound s (inl is) = paused-sound w run n s is
   either-sound s (inr is) = refused-sound s is
 
-  pub starts-sound : (s : State) → s ≡ starts_with w.world → IsSoundIn w (paused_in w marks n s).state
+  pub starts-sound : (s : State) → s ≡ starts_with w.world → IsSoundIn w (paused_in w n s).state
   starts-sound s start =
-      subst (λ x. IsSoundIn w (paused_in w marks n x).state) (sym start)
+      subst (λ x. IsSoundIn w (paused_in w n x).state) (sym start)
       (either-sound (starts_with w.world) (begins-if (RunsIn w.versions) w.world run.fit (arguments_fit w.world.program)))

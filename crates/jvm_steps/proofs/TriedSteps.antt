@@ -40,9 +40,9 @@ use Rattle.jvm_steps.specs.Lines.{action_of, local_action, named_as}
 use Rattle.jvm_steps.specs.Markers.{initializing, marker_on, stack_of, state_of}
 use Rattle.jvm_steps.specs.Ready.{CanRun, IsSoundIn, IsTied}
 use Rattle.jvm_steps.specs.States.{active, frame_in}
-use Rattle.jvm_steps.specs.Turning.{loads_in, loads_none, mark_in, pause_at}
+use Rattle.jvm_steps.specs.Turning.{loads_in, loads_none, pause_at}
 use Rattle.jvm_steps.specs.Trying.{is_return_line, leaves_at, leaves_in, pause_behind_attempt, returns_by, tried_in, tries_again}
-use Rattle.jvm_steps.specs.Versions.{Setup, instruction_by, line_at, text_of}
+use Rattle.jvm_steps.specs.Versions.{Setup, instruction_by, line_at, text_of, mark_of}
 use Rattle.jvm_steps.proofs.ActsLoad.{named-loads}
 use Rattle.jvm_steps.proofs.Behind.{sound-again, unmarked-again}
 use Rattle.jvm_steps.proofs.Carried.{length-active}
@@ -85,12 +85,12 @@ both false b e = absurd (false≢true e)
 
 -- ---- a state whose current frame stands on top
 
-module _ (w : Setup) (run : CanRun w) (marks : List Mark) (n : ℕ) (s : State) (going : IsGoing s) where
+module _ (w : Setup) (run : CanRun w) (n : ℕ) (s : State) (going : IsGoing s) where
   abbrev t : Text
   t = text_of w.versions
 
   abbrev v : ℕ → Mark
-  v = mark_in marks
+  v = mark_of w.versions
 
   abbrev f : Frame
   f = going.frame
@@ -104,7 +104,7 @@ module _ (w : Setup) (run : CanRun w) (marks : List Mark) (n : ℕ) (s : State) 
 
   -- where the step stops, by the state behind an attempt
   abbrev first : State → Pause
-  first mid = pause_behind_attempt w marks (live_in s.stack) n mid
+  first mid = pause_behind_attempt w (live_in s.stack) n mid
 
   loads-here : loads_in w s ≡ loads_at w.world s f (t.at f.version f.place)
   loads-here = ap (λ e. loads_on w.world t s e s.stack) going.ending ∙ ap (loads_on w.world t s None) going.stack
@@ -121,7 +121,7 @@ module _ (w : Setup) (run : CanRun w) (marks : List Mark) (n : ℕ) (s : State) 
 
   told-by : (told : Bool) (lo : Option Line) (io : Option Instruction) → t.at f.version f.place ≡ io → Tie lo io
       → (not told && (not (is_off (v f.version)) && is_return_line lo)) ≡ true
-      → (tried_in w marks told n s ≡ pause_at s n (Ends kind.Leave)) × (loads_at w.world s f io ≡ [])
+      → (tried_in w told n s ≡ pause_at s n (Ends kind.Leave)) × (loads_at w.world s f io ≡ [])
   told-by told None io at tie due =
       absurd (false≢true (both (not (is_off (v f.version))) false (both (not told) (not (is_off (v f.version)) && false) due).1).1)
   told-by told (Some line) None at tie due = absurd tie
@@ -131,10 +131,10 @@ module _ (w : Setup) (run : CanRun w) (marks : List Mark) (n : ℕ) (s : State) 
         return-loads w i.operation s.shared f.operands (both (not told && not (is_off (v f.version))) (is_return i.operation) is).1,
       )
 
-  pub told-first : (told : Bool) → (not told && leaves_at w marks f.version f.place) ≡ true → tried_in w marks told n s ≡ pause_at s n (Ends kind.Leave)
+  pub told-first : (told : Bool) → (not told && leaves_at w f.version f.place) ≡ true → tried_in w told n s ≡ pause_at s n (Ends kind.Leave)
   told-first told due = (told-by told here (t.at f.version f.place) refl (tied-there w run f.version f.place) due).0
 
-  pub told-loads : (told : Bool) → (not told && leaves_at w marks f.version f.place) ≡ true → loads_none w s ≡ true
+  pub told-loads : (told : Bool) → (not told && leaves_at w f.version f.place) ≡ true → loads_none w s ≡ true
   told-loads told due =
       ap (λ (classes : List ℕ). length classes == 0) (loads-here ∙ (told-by told here (t.at f.version f.place) refl (tied-there w run f.version f.place) due).1)
 
@@ -152,9 +152,9 @@ module _ (w : Setup) (run : CanRun w) (marks : List Mark) (n : ℕ) (s : State) 
   silent-by told lo None tie isnt = refl
   silent-by told lo (Some i) tie isnt = ap (chosen i) (due-by told lo i tie ∙ isnt)
 
-  pub told-silent : (told : Bool) → (not told && leaves_at w marks f.version f.place) ≡ false → tried_in w marks true n s ≡ tried_in w marks told n s
+  pub told-silent : (told : Bool) → (not told && leaves_at w f.version f.place) ≡ false → tried_in w true n s ≡ tried_in w told n s
   told-silent told isnt = sym (at told ∙ (silent-by told here (t.at f.version f.place) (tied-there w run f.version f.place) isnt ∙ sym (at true))) where
-    at : (b : Bool) → tried_in w marks b n s ≡ frame_pause w.world t v b n under f (t.at f.version f.place)
+    at : (b : Bool) → tried_in w b n s ≡ frame_pause w.world t v b n under f (t.at f.version f.place)
     at b = ap (λ e. stack_pause w.world t v b n s e s.stack) going.ending ∙ ap (stack_pause w.world t v b n s None) going.stack
 
   -- ---- an attempt, where its classes are loaded
@@ -197,7 +197,7 @@ module _ (w : Setup) (run : CanRun w) (marks : List Mark) (n : ℕ) (s : State) 
       ∙ paused-move w.world t v n (breaks under f 0)
 
   once-by : (lo : Option Line) (io : Option Instruction) → t.at f.version f.place ≡ io → Tie lo io → loads_at w.world s f io ≡ [] → awaited_by w under f lo ≡ None
-      → tried_in w marks true n s ≡ first (attempts_line w under f lo)
+      → tried_in w true n s ≡ first (attempts_line w under f lo)
   once-by None None at tie none awaits = breaks-pause w.world t v true n s f going.rest going.ending going.stack at ∙ sym broken-first
   once-by None (Some i) at tie none awaits = absurd tie
   once-by (Some line) None at tie none awaits = absurd tie
@@ -211,7 +211,7 @@ module _ (w : Setup) (run : CanRun w) (marks : List Mark) (n : ℕ) (s : State) 
   awaited-here : awaited_in w s ≡ awaited_by w under f here
   awaited-here = ap (awaited_on w s) going.stack
 
-  pub tried-once : loads_in w s ≡ [] → awaited_in w s ≡ None → tried_in w marks true n s ≡ first (attempts_on w s s.stack)
+  pub tried-once : loads_in w s ≡ [] → awaited_in w s ≡ None → tried_in w true n s ≡ first (attempts_on w s s.stack)
   tried-once none awaits =
       once-by here (t.at f.version f.place) refl (tied-there w run f.version f.place) (sym loads-here ∙ none) (sym awaited-here ∙ awaits)
       ∙ ap first (sym attempted-here)
@@ -236,7 +236,7 @@ module _ (w : Setup) (run : CanRun w) (marks : List Mark) (n : ℕ) (s : State) 
     starts-there : starts (does w.world i.operation under.shared f.locals f.operands).outcome ≡ Some c
     starts-there = starts-is line i tie under none ∙ awaits
 
-    stays-by : tries_again n c (first mid) ≡ false → tried_in w marks true n s ≡ first mid
+    stays-by : tries_again n c (first mid) ≡ false → tried_in w true n s ≡ first mid
     stays-by isnt =
         stays-once w.world t v true n s f going.rest going.ending going.stack i at refl c starts-there (ap (λ x. tries_again n c (first x)) mid-is ∙ isnt)
         ∙ ap first mid-is
@@ -257,7 +257,7 @@ module _ (w : Setup) (run : CanRun w) (marks : List Mark) (n : ℕ) (s : State) 
     second-loads =
         loads-same w i.operation second.shared s.shared f.operands (followed-loaded w t v n (changes_between (live_in s.stack) mid.stack) mid ∙ mid-loaded) ∙ none
 
-    again-by : second.stack ≡ Active f ∷ going.rest → tries_again n c (first mid) ≡ true → tried_in w marks true n s ≡ first (attempts_on w second second.stack)
+    again-by : second.stack ≡ Active f ∷ going.rest → tries_again n c (first mid) ≡ true → tried_in w true n s ≡ first (attempts_on w second second.stack)
     again-by top is =
         goes-again w.world t v true n s f going.rest going.ending going.stack i at refl c starts-there (ap (λ x. tries_again n c (first x)) mid-is ∙ is)
         ∙ (ap (λ x. first (attempted w.world t i (record (first x).state { stack = going.rest }) f).after) mid-is
@@ -285,7 +285,7 @@ module _ (w : Setup) (run : CanRun w) (marks : List Mark) (n : ℕ) (s : State) 
     none-there : loads w.world found.i.operation s.shared f.operands ≡ []
     none-there = sym (loads-here ∙ ap (loads_at w.world s f) found.at) ∙ none
 
-    pub tried-stays : tries_again n c (first (attempts_on w s s.stack)) ≡ false → tried_in w marks true n s ≡ first (attempts_on w s s.stack)
+    pub tried-stays : tries_again n c (first (attempts_on w s s.stack)) ≡ false → tried_in w true n s ≡ first (attempts_on w s s.stack)
     tried-stays isnt = stays-by c found.line found.i found.at found.there found.tie none-there found.awaits isnt
 
     abbrev reached : State
@@ -293,7 +293,7 @@ module _ (w : Setup) (run : CanRun w) (marks : List Mark) (n : ℕ) (s : State) 
 
     -- the moves behind it are all made, and its class is ready
     pub tried-again : reached ≡ behind w (attempts_on w s s.stack) → is_ready (phase_of reached.shared c) ≡ true → tries_again n c (first (attempts_on w s s.stack)) ≡ true
-        → tried_in w marks true n s ≡ first (attempts_on w reached reached.stack)
+        → tried_in w true n s ≡ first (attempts_on w reached reached.stack)
     tried-again settles ready again =
         again-by c found.line found.i found.at found.there found.tie none-there found.awaits
         (stack-again w run s going c is (attempts_on w s s.stack) reached refl settles ready) again
@@ -327,7 +327,7 @@ pub no-classes : (classes : List ℕ) → (length classes == 0) ≡ true → cla
 no-classes [] is = refl
 no-classes (c ∷ more) is = let same : suc (length more) ≡ 0 = eqb-true (suc (length more)) 0 is in absurd (omega arith)
 
-module _ (w : Setup) (run : CanRun w) (marks : List Mark) (ms : List Marker) (p : Parts) (goes : goes_on_in ms p ≡ true) (n live : ℕ)
+module _ (w : Setup) (run : CanRun w) (ms : List Marker) (p : Parts) (goes : goes_on_in ms p ≡ true) (n live : ℕ)
     (is_live : live ≡ length p.frames.frames) (none : loads_none w (state_of ms p) ≡ true) (o : Option ℕ) (answer : o ≡ awaited_in w (state_of ms p))
     (mid : State) (attempted : mid ≡ attempts_on w (state_of ms p) (state_of ms p).stack) where
   abbrev s : State
@@ -339,52 +339,52 @@ module _ (w : Setup) (run : CanRun w) (marks : List Mark) (ms : List Marker) (p 
   empty : loads_in w s ≡ []
   empty = no-classes (loads_in w s) none
 
-  stands : pause_behind_attempt w marks live n mid ≡ pause_behind_attempt w marks (live_in s.stack) n (attempts_on w s s.stack)
+  stands : pause_behind_attempt w live n mid ≡ pause_behind_attempt w (live_in s.stack) n (attempts_on w s s.stack)
   stands =
-      ap (λ k. pause_behind_attempt w marks k n mid) (is_live ∙ sym (live-of ms p)) ∙ ap (pause_behind_attempt w marks (live_in s.stack) n) attempted
+      ap (λ k. pause_behind_attempt w k n mid) (is_live ∙ sym (live-of ms p)) ∙ ap (pause_behind_attempt w (live_in s.stack) n) attempted
 
   -- no class is awaited
-  pub tries-once : (q : Pause) → q ≡ pause_behind_attempt w marks live n mid → o ≡ None → q ≡ tried_in w marks true n s
-  tries-once q reached is = reached ∙ (stands ∙ sym (tried-once w run marks n s going empty (sym answer ∙ is)))
+  pub tries-once : (q : Pause) → q ≡ pause_behind_attempt w live n mid → o ≡ None → q ≡ tried_in w true n s
+  tries-once q reached is = reached ∙ (stands ∙ sym (tried-once w run n s going empty (sym answer ∙ is)))
 
-  module _ (c : ℕ) (some : o ≡ Some c) (q : Pause) (reached : q ≡ pause_behind_attempt w marks live n mid) where
-    same : q ≡ pause_behind_attempt w marks (live_in s.stack) n (attempts_on w s s.stack)
+  module _ (c : ℕ) (some : o ≡ Some c) (q : Pause) (reached : q ≡ pause_behind_attempt w live n mid) where
+    same : q ≡ pause_behind_attempt w (live_in s.stack) n (attempts_on w s s.stack)
     same = reached ∙ stands
 
-    pub tries-no-more : tries_again n c q ≡ false → q ≡ tried_in w marks true n s
-    tries-no-more isnt = same ∙ sym (tried-stays w run marks n s going empty c (sym answer ∙ some) (sym (ap (tries_again n c) same) ∙ isnt))
+    pub tries-no-more : tries_again n c q ≡ false → q ≡ tried_in w true n s
+    tries-no-more isnt = same ∙ sym (tried-stays w run n s going empty c (sym answer ∙ some) (sym (ap (tries_again n c) same) ∙ isnt))
 
     module _ (again : tries_again n c q ≡ true) where
       -- all moves were made
       pub settles-before : q.state ≡ behind w mid
       settles-before =
           ap (λ (x : Pause). x.state) reached
-          ∙ settled-there w.world (text_of w.versions) (mark_in marks) n (changes_between live mid.stack) mid
+          ∙ settled-there w.world (text_of w.versions) (mark_of w.versions) n (changes_between live mid.stack) mid
           (sym (ap (λ (x : Pause). x.due) reached) ∙ again-nothing n c q again)
 
-      pub tries-twice : (r : Pause) → r ≡ pause_behind_attempt w marks live q.passed (attempts_on w q.state q.state.stack) → r ≡ tried_in w marks true n s
+      pub tries-twice : (r : Pause) → r ≡ pause_behind_attempt w live q.passed (attempts_on w q.state q.state.stack) → r ≡ tried_in w true n s
       tries-twice r reached_again =
           reached_again
-          ∙ (ap (λ k. pause_behind_attempt w marks live k (attempts_on w q.state q.state.stack)) (again-same n c q again)
-          ∙ (ap (λ k. pause_behind_attempt w marks k n (attempts_on w q.state q.state.stack)) (is_live ∙ sym (live-of ms p))
-          ∙ (ap (λ (x : Pause). pause_behind_attempt w marks (live_in s.stack) n (attempts_on w x.state x.state.stack)) same
-          ∙ sym (tried-again w run marks n s going empty c (sym answer ∙ some)
+          ∙ (ap (λ k. pause_behind_attempt w live k (attempts_on w q.state q.state.stack)) (again-same n c q again)
+          ∙ (ap (λ k. pause_behind_attempt w k n (attempts_on w q.state q.state.stack)) (is_live ∙ sym (live-of ms p))
+          ∙ (ap (λ (x : Pause). pause_behind_attempt w (live_in s.stack) n (attempts_on w x.state x.state.stack)) same
+          ∙ sym (tried-again w run n s going empty c (sym answer ∙ some)
           (sym (ap (λ (x : Pause). x.state) same) ∙ (settles-before ∙ ap (behind w) attempted))
           (sym (ap (λ (x : Pause). is_ready (phase_of x.state.shared c)) same) ∙ again-ready n c q again)
           (sym (ap (tries_again n c) same) ∙ again)))))
 
 -- ---- before an attempt
 
-module _ (w : Setup) (marks : List Mark) (told : Bool) (n : ℕ) (ms : List Marker) (p : Parts) where
+module _ (w : Setup) (told : Bool) (n : ℕ) (ms : List Marker) (p : Parts) where
   abbrev before : State
   before = state_of ms p
 
   abbrev IsStopped : State → List Entry → Type 0
-  IsStopped s es = (stack_pause w.world (text_of w.versions) (mark_in marks) told n s None es ≡ pause_at s n Nothing) × (loads_on w.world (text_of w.versions) s None es ≡ [])
+  IsStopped s es = (stack_pause w.world (text_of w.versions) (mark_of w.versions) told n s None es ≡ pause_at s n Nothing) × (loads_on w.world (text_of w.versions) s None es ≡ [])
 
   -- where no frame goes on
   stopped-by : (s : State) (ending : Option Ending) (fs : List PlacedFrame) → (is_none ending && (has_frame fs && is_none (marker_on (length fs) ms))) ≡ false
-      → (stack_pause w.world (text_of w.versions) (mark_in marks) told n s ending (stack_of (map active fs) ms) ≡ pause_at s n Nothing)
+      → (stack_pause w.world (text_of w.versions) (mark_of w.versions) told n s ending (stack_of (map active fs) ms) ≡ pause_at s n Nothing)
       × (loads_on w.world (text_of w.versions) s ending (stack_of (map active fs) ms) ≡ [])
   stopped-by s (Some e) fs is = (refl, refl)
   stopped-by s None [] is = subst (IsStopped s) (sym (stack-empty ms)) (by ms) where
@@ -398,7 +398,7 @@ module _ (w : Setup) (marks : List Mark) (told : Bool) (n : ℕ) (ms : List Mark
         let on = stack-on (map active (f ∷ fs)) ms m (ap (λ k. marker_on k ms) (length-active (f ∷ fs)) ∙ e) in
         subst (IsStopped s) (sym on.1) (refl, refl)
 
-  pub stopped-pause : goes_on_in ms p ≡ false → pause_at before n Nothing ≡ tried_in w marks told n before
+  pub stopped-pause : goes_on_in ms p ≡ false → pause_at before n Nothing ≡ tried_in w told n before
   stopped-pause is = sym (stopped-by before p.ending p.frames.frames is).0
 
   pub stopped-loads : goes_on_in ms p ≡ false → true ≡ loads_none w before
@@ -410,36 +410,36 @@ module _ (w : Setup) (marks : List Mark) (told : Bool) (n : ℕ) (ms : List Mark
 
     -- the frame that stands on top
     leaves-by : (ending : Option Ending) (fs : List PlacedFrame) → (is_none ending && (has_frame fs && is_none (marker_on (length fs) ms))) ≡ true
-        → (g : Frame) (rest : List Entry) → stack_of (map active fs) ms ≡ Active g ∷ rest → leaves_in w marks fs ≡ leaves_at w marks g.version g.place
+        → (g : Frame) (rest : List Entry) → stack_of (map active fs) ms ≡ Active g ∷ rest → leaves_in w fs ≡ leaves_at w g.version g.place
     leaves-by (Some e) fs is g rest top = absurd (false≢true is)
     leaves-by None [] is g rest top = absurd (false≢true is)
     leaves-by None (f ∷ fs) is g rest top =
         let same : Active (frame_in f) ∷ stack_of (map active fs) ms ≡ Active g ∷ rest = sym (top-frame ms f fs (none-of ms (length (f ∷ fs)) is)) ∙ top in
         let one : frame_in f ≡ g = cc in
-        ap (λ (h : Frame). leaves_at w marks h.version h.place) one
+        ap (λ (h : Frame). leaves_at w h.version h.place) one
 
-    leaves-is : leaves_in w marks p.frames.frames ≡ leaves_at w marks on_top.frame.version on_top.frame.place
+    leaves-is : leaves_in w p.frames.frames ≡ leaves_at w on_top.frame.version on_top.frame.place
     leaves-is = leaves-by p.ending p.frames.frames goes on_top.frame on_top.rest on_top.stack
 
     -- a return of which a probe tells first
-    pub leaves-pause : (not told && leaves_in w marks p.frames.frames) ≡ true → pause_at before n (Ends kind.Leave) ≡ tried_in w marks told n before
-    leaves-pause due = sym (told-first w run marks n before on_top told (ap (λ b. not told && b) (sym leaves-is) ∙ due))
+    pub leaves-pause : (not told && leaves_in w p.frames.frames) ≡ true → pause_at before n (Ends kind.Leave) ≡ tried_in w told n before
+    leaves-pause due = sym (told-first w run n before on_top told (ap (λ b. not told && b) (sym leaves-is) ∙ due))
 
-    pub leaves-loads : (not told && leaves_in w marks p.frames.frames) ≡ true → true ≡ loads_none w before
-    leaves-loads due = sym (told-loads w run marks n before on_top told (ap (λ b. not told && b) (sym leaves-is) ∙ due))
+    pub leaves-loads : (not told && leaves_in w p.frames.frames) ≡ true → true ≡ loads_none w before
+    leaves-loads due = sym (told-loads w run n before on_top told (ap (λ b. not told && b) (sym leaves-is) ∙ due))
 
     -- none is told
-    pub tries-silently : (not told && leaves_in w marks p.frames.frames) ≡ false → tried_in w marks true n before ≡ tried_in w marks told n before
-    tries-silently isnt = told-silent w run marks n before on_top told (ap (λ b. not told && b) (sym leaves-is) ∙ isnt)
+    pub tries-silently : (not told && leaves_in w p.frames.frames) ≡ false → tried_in w true n before ≡ tried_in w told n before
+    tries-silently isnt = told-silent w run n before on_top told (ap (λ b. not told && b) (sym leaves-is) ∙ isnt)
 
 -- ---- an attempt in two parts that was made
 
-module _ (w v : Setup) (same_world : v ≡ w) (run : CanRun w) (marks : List Mark) (ms : List Marker) (p : Parts) (goes : goes_on_in ms p ≡ true) (n live : ℕ)
+module _ (w v : Setup) (same_world : v ≡ w) (run : CanRun w) (ms : List Marker) (p : Parts) (goes : goes_on_in ms p ≡ true) (n live : ℕ)
     (is_live : live ≡ length p.frames.frames) (made : Option (Option ℕ)) (o : Option ℕ) (is_made : made ≡ Some o) (mid : State)
     (some : is_some made ≡ loads_none w (state_of ms p)) (answers : IfSome made (λ a. a ≡ awaited_in w (state_of ms p)))
     (attempts : IfSome made (λ a. mid ≡ attempts_on w (state_of ms p) (state_of ms p).stack))
     (ms_then : List Marker) (then_there : Parts) (passed : ℕ) (due : Due)
-    (reaches : pause_at (state_of ms_then then_there) passed due ≡ pause_behind_attempt v marks live n mid) where
+    (reaches : pause_at (state_of ms_then then_there) passed due ≡ pause_behind_attempt v live n mid) where
   abbrev start : State
   start = state_of ms p
 
@@ -455,19 +455,19 @@ module _ (w v : Setup) (same_world : v ≡ w) (run : CanRun w) (marks : List Mar
   line-attempted : mid ≡ attempts_on w start start.stack
   line-attempted = subst (λ x. IfSome x (λ a. mid ≡ attempts_on w start start.stack)) is_made attempts
 
-  reached-is : q ≡ pause_behind_attempt w marks live n mid
-  reached-is = subst (λ u. q ≡ pause_behind_attempt u marks live n mid) same_world reaches
+  reached-is : q ≡ pause_behind_attempt w live n mid
+  reached-is = subst (λ u. q ≡ pause_behind_attempt u live n mid) same_world reaches
 
-  pub line-once : o ≡ None → q ≡ tried_in w marks true n start
-  line-once none = tries-once w run marks ms p goes n live is_live (sym line-loads) o answer-is mid line-attempted q reached-is none
+  pub line-once : o ≡ None → q ≡ tried_in w true n start
+  line-once none = tries-once w run ms p goes n live is_live (sym line-loads) o answer-is mid line-attempted q reached-is none
 
   module _ (c : ℕ) (is : o ≡ Some c) where
-    pub line-no-more : tries_again n c q ≡ false → q ≡ tried_in w marks true n start
-    line-no-more isnt = tries-no-more w run marks ms p goes n live is_live (sym line-loads) o answer-is mid line-attempted c is q reached-is isnt
+    pub line-no-more : tries_again n c q ≡ false → q ≡ tried_in w true n start
+    line-no-more isnt = tries-no-more w run ms p goes n live is_live (sym line-loads) o answer-is mid line-attempted c is q reached-is isnt
 
     module _ (again : tries_again n c q ≡ true) where
       settles : state_of ms_then then_there ≡ behind w mid
-      settles = settles-before w run marks ms p goes n live is_live (sym line-loads) o answer-is mid line-attempted c is q reached-is again
+      settles = settles-before w run ms p goes n live is_live (sym line-loads) o answer-is mid line-attempted c is q reached-is again
 
       pub line-sound : IsSoundIn w start → IsSoundIn v (state_of ms_then then_there)
       line-sound sound =
@@ -477,8 +477,8 @@ module _ (w v : Setup) (same_world : v ≡ w) (run : CanRun w) (marks : List Mar
       pub line-unmarked : marker_on (length then_there.frames.frames) ms_then ≡ None
       line-unmarked = unmarked-again w run ms p goes o c answer-is is mid line-attempted ms_then then_there settles (again-ready n c q again)
 
-      pub line-twice : (r : Pause) → r ≡ pause_behind_attempt v marks live passed (attempts_on v (state_of ms_then then_there) (state_of ms_then then_there).stack)
-          → r ≡ tried_in w marks true n start
+      pub line-twice : (r : Pause) → r ≡ pause_behind_attempt v live passed (attempts_on v (state_of ms_then then_there) (state_of ms_then then_there).stack)
+          → r ≡ tried_in w true n start
       line-twice r reaches_again =
-          tries-twice w run marks ms p goes n live is_live (sym line-loads) o answer-is mid line-attempted c is q reached-is again r
-          (subst (λ u. r ≡ pause_behind_attempt u marks live passed (attempts_on u (state_of ms_then then_there) (state_of ms_then then_there).stack)) same_world reaches_again)
+          tries-twice w run ms p goes n live is_live (sym line-loads) o answer-is mid line-attempted c is q reached-is again r
+          (subst (λ u. r ≡ pause_behind_attempt u live passed (attempts_on u (state_of ms_then then_there) (state_of ms_then then_there).stack)) same_world reaches_again)

@@ -27,8 +27,8 @@ use Rattle.jvm_steps.specs.Markers.{initializing, marker_on, above, beneath, sta
 use Rattle.jvm_steps.specs.Settling.{after_move}
 use Rattle.jvm_steps.specs.declared.turning.Moved.{Moved}
 use Rattle.jvm_steps.specs.States.{active, frame_in, here_of, state_in}
-use Rattle.jvm_steps.specs.Turning.{changes_of, due_by, found_move, mark_in, moved_as, moved_if, moved_to, state_by}
-use Rattle.jvm_steps.specs.Versions.{Setup, text_of}
+use Rattle.jvm_steps.specs.Turning.{changes_of, due_by, found_move, moved_as, moved_if, moved_to, state_by}
+use Rattle.jvm_steps.specs.Versions.{Setup, text_of, mark_of}
 use Rattle.jvm_steps.proofs.Carried.{IsCarried, length-active, move-carried}
 use Rattle.jvm_steps.proofs.LineSteps.{top-frame}
 use Rattle.jvm_steps.proofs.MarkedStacks.{none-left, stack-empty, stack-frame}
@@ -86,21 +86,21 @@ module _ (ms : List Marker) (w : Setup) (begun : Bool) (shared : Shared) (output
 
 -- ---- the move beneath the markers
 
-module _ (ms : List Marker) (w : Setup) (marks : List Mark) (p : Parts) (none : marker_on (length p.frames.frames) ms ≡ None) where
+module _ (ms : List Marker) (w : Setup) (p : Parts) (none : marker_on (length p.frames.frames) ms ≡ None) where
   carried : IsCarried ms w (state_in p)
   carried = move-carried ms w p none
 
   same-changes : changes_of (found_move w (state_in p)) ≡ changes_of (found_move w (state_of ms p))
   same-changes = changes-carried ms w p.begun p.shared p.output p.frames.frames p.thrown p.ending (ap (λ n. marker_on n ms) (length-active p.frames.frames) ∙ none)
 
-  same-due : due_by w marks (state_in p) (changes_of (found_move w (state_in p))) ≡ due_by w marks (state_of ms p) (changes_of (found_move w (state_of ms p)))
+  same-due : due_by w (state_in p) (changes_of (found_move w (state_in p))) ≡ due_by w (state_of ms p) (changes_of (found_move w (state_of ms p)))
   same-due =
-      ap₂ (changes_due (mark_now (mark_in marks) (text_of w.versions))) (sym (held-stack (mark_in marks) (map active p.frames.frames) ms)) same-changes
+      ap₂ (changes_due (mark_now (mark_of w.versions) (text_of w.versions))) (sym (held-stack (mark_of w.versions) (map active p.frames.frames) ms)) same-changes
 
-  pub moved-as-carried : moved_as w marks (state_in p) ≡ moved_as w marks (state_of ms p)
+  pub moved-as-carried : moved_as w (state_in p) ≡ moved_as w (state_of ms p)
   moved-as-carried =
-      ap (λ b. moved_if b (changes_of (found_move w (state_in p))) (due_by w marks (state_in p) (changes_of (found_move w (state_in p))))) carried.found
-      ∙ (ap (λ cs. moved_if (is_some (found_move w (state_of ms p))) cs (due_by w marks (state_in p) (changes_of (found_move w (state_in p))))) same-changes
+      ap (λ b. moved_if b (changes_of (found_move w (state_in p))) (due_by w (state_in p) (changes_of (found_move w (state_in p))))) carried.found
+      ∙ (ap (λ cs. moved_if (is_some (found_move w (state_of ms p))) cs (due_by w (state_in p) (changes_of (found_move w (state_in p))))) same-changes
       ∙ ap (moved_if (is_some (found_move w (state_of ms p))) (changes_of (found_move w (state_of ms p)))) same-due)
 
   by-due : (x y : State) (d : Due) → with_markers ms x ≡ y → with_markers ms (state_by (state_in p) x d) ≡ state_by (state_of ms p) y d
@@ -108,16 +108,16 @@ module _ (ms : List Marker) (w : Setup) (marks : List Mark) (p : Parts) (none : 
   by-due x y (Ends k) e = refl
   by-due x y Begins e = e
 
-  pub moved-to-carried : with_markers ms (moved_to w marks (state_in p)) ≡ moved_to w marks (state_of ms p)
+  pub moved-to-carried : with_markers ms (moved_to w (state_in p)) ≡ moved_to w (state_of ms p)
   moved-to-carried =
-      by-due (after_move w (state_in p)) (after_move w (state_of ms p)) (due_by w marks (state_in p) (changes_of (found_move w (state_in p)))) carried.moved
+      by-due (after_move w (state_in p)) (after_move w (state_of ms p)) (due_by w (state_in p) (changes_of (found_move w (state_in p)))) carried.moved
       ∙ ap (state_by (state_of ms p) (after_move w (state_of ms p))) same-due
 
   -- of the parts that a move of the frames has left
-  pub carried-to : (ns : List Marker) (after : Parts) → ns ≡ ms → state_in after ≡ moved_to w marks (state_in p) → state_of ns after ≡ moved_to w marks (state_of ms p)
+  pub carried-to : (ns : List Marker) (after : Parts) → ns ≡ ms → state_in after ≡ moved_to w (state_in p) → state_of ns after ≡ moved_to w (state_of ms p)
   carried-to ns after same e = ap (λ all. state_of all after) same ∙ (ap (with_markers ms) e ∙ moved-to-carried)
 
-  pub carried-as : {A : Type 0} (result : Result Moved A) → IfOk result (λ m. m ≡ moved_as w marks (state_in p)) → IfOk result (λ m. m ≡ moved_as w marks (state_of ms p))
+  pub carried-as : {A : Type 0} (result : Result Moved A) → IfOk result (λ m. m ≡ moved_as w (state_in p)) → IfOk result (λ m. m ≡ moved_as w (state_of ms p))
   carried-as result e = subst (λ x. IfOk result (λ m. m ≡ x)) moved-as-carried e
 
 -- ---- the current frame is taken off

@@ -14,6 +14,7 @@ use Rattle.op_table.specs.Opcodes.{row_of, groups}
 use Rattle.code_model.specs.declared.laying.Homes.{Homes}
 use Rattle.code_model.specs.Instructions.{instruction_at}
 use Rattle.code_model.specs.Reading.{read_instruction, behind_opcode_at, operand_at, value_at, index_at, signed_at, number_at, branch_at, target_at, local_at, table_at, run_at, high_at, many_at}
+use Rattle.jvm_model.specs.declared.event.Mark.TheVariants.{Plain}
 use Rattle.jvm_model.specs.declared.state.Entry.{Entry}
 use Rattle.jvm_model.specs.declared.state.Entry.TheVariants.{Active}
 use Rattle.jvm_model.specs.declared.state.State.{State}
@@ -59,7 +60,7 @@ world_of code = record {
 -- its original code, and rewritten code with its homes
 abbrev both : CodeAttribute → CodeAttribute → Homes → Versions
 both old new homes = record {
-  slots = Some (original_version (world_of old).program 0) ∷ Some (rewritten_version 0 (class_with new) new homes (length old.code)) ∷ [];
+  slots = Some (original_version (world_of old).program 0) ∷ Some (rewritten_version 0 Plain (class_with new) new homes (length old.code)) ∷ [];
   current = 1 ∷ [];
 }
 

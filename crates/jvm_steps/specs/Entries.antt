@@ -8,6 +8,7 @@ use Rattle.const_pool.specs.declared.class.Member.{Member}
 use Rattle.const_pool.specs.References.{named_class}
 use Rattle.const_pool.specs.declared.descriptor.Kind.{Kind}
 use Rattle.code_model.specs.Instructions.{instruction_at}
+use Rattle.jvm_model.specs.declared.event.Mark.TheVariants.{Off}
 use Rattle.jvm_model.specs.declared.program.MethodPlace.{MethodPlace}
 use Rattle.jvm_model.specs.declared.program.Program.{Program}
 use Rattle.jvm_model.specs.Methods.{code_of, member_shape}
@@ -59,6 +60,7 @@ abbrev pub version_entry : ℕ → ClassFile → Member → Version
 version_entry k c m = record {
   method = k;
   prepared = record {
+    mark = Off;
     first = 0;
     lines = option_map_or (λ code. lines_of c code.code) (code_of m) [];
     handlers = option_map_or (λ code. map (catching_of c) code.handlers) (code_of m) [];
@@ -66,7 +68,7 @@ version_entry k c m = record {
 }
 
 abbrev pub no_version : ℕ → Version
-no_version k = record { method = k; prepared = record { first = 0; lines = []; handlers = [] } }
+no_version k = record { method = k; prepared = record { mark = Off; first = 0; lines = []; handlers = [] } }
 
 abbrev pub version_in : ℕ → MethodPlace → ClassFile → Version
 version_in k place c = option_map_or (version_entry k c) (slice_get c.methods place.position) (no_version k)

@@ -13,38 +13,38 @@ use Rattle.jvm_steps.specs.declared.hands.Gone.{Gone}
 use Rattle.jvm_steps.specs.declared.hands.Hand.{Hand}
 use Rattle.jvm_steps.specs.Standing.{places_of}
 use Rattle.jvm_steps.specs.Trying.{tried_in}
-use Rattle.jvm_steps.specs.Turning.{goes_by_moves, mark_in, pause_at}
-use Rattle.jvm_steps.specs.Versions.{Setup, current_of, method_of}
+use Rattle.jvm_steps.specs.Turning.{goes_by_moves, pause_at}
+use Rattle.jvm_steps.specs.Versions.{Setup, current_of, method_of, mark_of}
 
 abbrev pub todo_of : Bool → Todo
 todo_of true = Moves
 todo_of false = Attempt
 
 -- the versions with their marks, and where their places stand
-abbrev pub versioned_in : Setup → List Mark → (ℕ → ℕ → ℕ) → Versioned
-versioned_in w marks homes = record {
+abbrev pub versioned_in : Setup → (ℕ → ℕ → ℕ) → Versioned
+versioned_in w homes = record {
   norm = places_of w.world.program;
   method_of = method_of w.versions;
   homes = homes;
-  mark_of = mark_in marks;
+  mark_of = mark_of w.versions;
 }
 
 -- the rest of this whole step of original code is in hand
-abbrev pub HasInHand : Setup → List Mark → (ℕ → ℕ → ℕ) → Turn → Hand → List Held → State → Type 0
-HasInHand w marks homes turn hand live s =
-    InHand w.world (original w.world.program) (versioned_in w marks homes) turn hand.passed hand.told live (todo_of hand.moves) s
+abbrev pub HasInHand : Setup → (ℕ → ℕ → ℕ) → Turn → Hand → List Held → State → Type 0
+HasInHand w homes turn hand live s =
+    InHand w.world (original w.world.program) (versioned_in w homes) turn hand.passed hand.told live (todo_of hand.moves) s
 
 -- where it goes on to
-abbrev pub goes_as : Setup → List Mark → Bool → Bool → ℕ → State → Pause
-goes_as w marks true told n s = goes_by_moves w marks told n s
-goes_as w marks false told n s = tried_in w marks told n s
+abbrev pub goes_as : Setup → Bool → Bool → ℕ → State → Pause
+goes_as w true told n s = goes_by_moves w told n s
+goes_as w false told n s = tried_in w told n s
 
-abbrev pub goes_in : Setup → List Mark → Hand → State → Pause
-goes_in w marks hand s = goes_as w marks hand.moves hand.told hand.passed s
+abbrev pub goes_in : Setup → Hand → State → Pause
+goes_in w hand s = goes_as w hand.moves hand.told hand.passed s
 
-abbrev pub HasGoneOn : Setup → List Mark → (ℕ → ℕ → ℕ) → Turn → Hand → List Held → Gone → State → Type 0
-HasGoneOn w marks homes turn hand live gone s =
-    GoesOn w.world (original w.world.program) (versioned_in w marks homes) (current_of w.versions) turn hand.passed hand.told live
+abbrev pub HasGoneOn : Setup → (ℕ → ℕ → ℕ) → Turn → Hand → List Held → Gone → State → Type 0
+HasGoneOn w homes turn hand live gone s =
+    GoesOn w.world (original w.world.program) (versioned_in w homes) (current_of w.versions) turn hand.passed hand.told live
     (pause_at s gone.hand.passed gone.due)
 
 -- what is left there: whether an end was told, and whether moves alone are left

@@ -10,6 +10,7 @@ use Rattle.jvm_steps.specs.declared.line.Line.{Line}
 use Rattle.jvm_steps.specs.declared.versions.Catching.{Catching}
 use Rattle.jvm_steps.specs.Tables.{Version}
 use Rattle.jvm_steps.specs.Entries.{catching_of, code_line}
+use Rattle.jvm_model.specs.declared.event.Mark.{Mark}
 use Rattle.jvm_model.specs.Homed.{start_in}
 
 -- with the offset that it has in the original code
@@ -36,11 +37,12 @@ homed_lines image code homes len = map (homed_line image code homes len) (range_
 abbrev pub own_handlers : List Catching → List Catching
 own_handlers hs = take (length hs - 1) hs
 
--- of the method with this number; the handler that takes what leaves the original code is none of its own
-abbrev pub rewritten_version : ℕ → ClassFile → CodeAttribute → Homes → ℕ → Version
-rewritten_version method image code homes len = record {
+-- of the method with this number, with the probes of this mark; the handler that takes what leaves the original code is none of its own
+abbrev pub rewritten_version : ℕ → Mark → ClassFile → CodeAttribute → Homes → ℕ → Version
+rewritten_version method mark image code homes len = record {
   method = method;
   prepared = record {
+    mark = mark;
     first = home_of homes 0;
     lines = homed_lines image code.code homes len;
     handlers = own_handlers (map (catching_of image) code.handlers);

@@ -16,8 +16,7 @@ use Rattle.jvm_model.specs.StepPauses.{is_nothing, step_pause}
 use Rattle.jvm_steps.specs.declared.line.Action.{Action}
 use Rattle.jvm_steps.specs.declared.line.Action.TheVariants as action
 use Rattle.jvm_steps.specs.declared.line.Line.{Line}
-use Rattle.jvm_steps.specs.Turning.{mark_in}
-use Rattle.jvm_steps.specs.Versions.{Setup, line_at, text_of}
+use Rattle.jvm_steps.specs.Versions.{Setup, line_at, text_of, mark_of}
 
 -- ---- before an attempt
 
@@ -31,12 +30,12 @@ is_return_line None = false
 is_return_line (Some line) = returns_by line.action
 
 -- a probe tells of it first
-abbrev pub leaves_at : Setup → List Mark → ℕ → ℕ → Bool
-leaves_at w marks version place = not (is_off (mark_in marks version)) && is_return_line (line_at w.versions version place)
+abbrev pub leaves_at : Setup → ℕ → ℕ → Bool
+leaves_at w version place = not (is_off (mark_of w.versions version)) && is_return_line (line_at w.versions version place)
 
-abbrev pub leaves_in : Setup → List Mark → List PlacedFrame → Bool
-leaves_in w marks [] = false
-leaves_in w marks (f ∷ fs) = leaves_at w marks f.version f.place
+abbrev pub leaves_in : Setup → List PlacedFrame → Bool
+leaves_in w [] = false
+leaves_in w (f ∷ fs) = leaves_at w f.version f.place
 
 -- ---- behind an attempt
 
@@ -54,13 +53,13 @@ is_begins Nothing = false
 is_begins (Ends k) = false
 
 -- a method has begun of which a probe tells
-abbrev pub enters_by : Setup → List Mark → List Change → Bool
-enters_by w marks changes = is_begins (changes_due (mark_now (mark_in marks) (text_of w.versions)) [] changes)
+abbrev pub enters_by : Setup → List Change → Bool
+enters_by w changes = is_begins (changes_due (mark_now (mark_of w.versions) (text_of w.versions)) [] changes)
 
 -- where the step stops, where so many activations were live before
-abbrev pub pause_behind_attempt : Setup → List Mark → ℕ → ℕ → State → Pause
-pause_behind_attempt w marks live n s =
-    followed w.world (text_of w.versions) (mark_in marks) n (changes_between live s.stack) s
+abbrev pub pause_behind_attempt : Setup → ℕ → ℕ → State → Pause
+pause_behind_attempt w live n s =
+    followed w.world (text_of w.versions) (mark_of w.versions) n (changes_between live s.stack) s
 
 -- its class is ready, and nothing else has happened
 abbrev pub tries_again : ℕ → ℕ → Pause → Bool
@@ -69,5 +68,5 @@ tries_again n class p =
 
 -- ---- all of it
 
-abbrev pub tried_in : Setup → List Mark → Bool → ℕ → State → Pause
-tried_in w marks told n s = step_pause w.world (text_of w.versions) (mark_in marks) told n s
+abbrev pub tried_in : Setup → Bool → ℕ → State → Pause
+tried_in w told n s = step_pause w.world (text_of w.versions) (mark_of w.versions) told n s

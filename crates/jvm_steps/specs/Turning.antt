@@ -18,14 +18,10 @@ use Rattle.jvm_steps.specs.declared.turning.Moved.{Moved}
 use Rattle.jvm_steps.specs.declared.turning.Moved.TheVariants as moved
 use Rattle.jvm_steps.specs.States.{active}
 use Rattle.jvm_steps.specs.Settling.{after_move}
-use Rattle.jvm_steps.specs.Versions.{Setup, text_of}
+use Rattle.jvm_steps.specs.Versions.{Setup, text_of, mark_of}
 
--- the marks of the versions, by their numbers
-abbrev pub mark_in : List Mark → ℕ → Mark
-mark_in marks version = unwrap_or (slice_get marks version) Off
-
-abbrev pub helds_in : List Mark → List PlacedFrame → List Held
-helds_in marks fs = helds (mark_in marks) (map active fs)
+abbrev pub helds_in : Setup → List PlacedFrame → List Held
+helds_in w fs = helds (mark_of w.versions) (map active fs)
 
 -- the method that has begun by a move
 abbrev pub begun_in : List Change → Option ℕ
@@ -41,8 +37,8 @@ abbrev pub changes_of : Option Turn → List Change
 changes_of next = option_map_or (λ (turn : Turn). turn.changes) next []
 
 -- what is due by such changes
-abbrev pub due_by : Setup → List Mark → State → List Change → Due
-due_by w marks s changes = changes_due (mark_now (mark_in marks) (text_of w.versions)) (helds (mark_in marks) s.stack) changes
+abbrev pub due_by : Setup → State → List Change → Due
+due_by w s changes = changes_due (mark_now (mark_of w.versions) (text_of w.versions)) (helds (mark_of w.versions) s.stack) changes
 
 -- an end that a probe tells of has not come yet
 abbrev pub moved_by : List Change → Due → Moved
@@ -56,21 +52,21 @@ abbrev pub moved_if : Bool → List Change → Due → Moved
 moved_if true changes due = moved_by changes due
 moved_if false changes due = moved.Nothing
 
-abbrev pub moved_as : Setup → List Mark → State → Moved
-moved_as w marks s = let next = found_move w s in moved_if (is_some next) (changes_of next) (due_by w marks s (changes_of next))
+abbrev pub moved_as : Setup → State → Moved
+moved_as w s = let next = found_move w s in moved_if (is_some next) (changes_of next) (due_by w s (changes_of next))
 
 abbrev pub state_by : State → State → Due → State
 state_by s after (Ends k) = s
 state_by s after Nothing = after
 state_by s after Begins = after
 
-abbrev pub moved_to : Setup → List Mark → State → State
-moved_to w marks s = state_by s (after_move w s) (due_by w marks s (changes_of (found_move w s)))
+abbrev pub moved_to : Setup → State → State
+moved_to w s = state_by s (after_move w s) (due_by w s (changes_of (found_move w s)))
 
 -- what a method that begins comes to
-abbrev pub begun_as : Setup → List Mark → Option ℕ → Moved
-begun_as w marks None = moved.On
-begun_as w marks (Some m) = moved_by (Began m ∷ []) (unless_off (mark_now (mark_in marks) (text_of w.versions) m) Begins)
+abbrev pub begun_as : Setup → Option ℕ → Moved
+begun_as w None = moved.On
+begun_as w (Some m) = moved_by (Began m ∷ []) (unless_off (mark_now (mark_of w.versions) (text_of w.versions) m) Begins)
 
 -- the frames with the current one taken off, unless a probe tells of that first
 abbrev pub unwound_by : Due → List PlacedFrame → List PlacedFrame
@@ -78,8 +74,8 @@ unwound_by (Ends k) fs = fs
 unwound_by Nothing fs = drop 1 fs
 unwound_by Begins fs = drop 1 fs
 
-abbrev pub unwind_due : List Mark → List PlacedFrame → Due
-unwind_due marks fs = end_due kind.Unwind (helds_in marks fs)
+abbrev pub unwind_due : Setup → List PlacedFrame → Due
+unwind_due w fs = end_due kind.Unwind (helds_in w fs)
 
 -- ---- all moves, up to the first that is told
 
@@ -87,8 +83,8 @@ unwind_due marks fs = end_due kind.Unwind (helds_in marks fs)
 abbrev pub pause_at : State → ℕ → Due → Pause
 pause_at s n due = record { state = s; passed = n; due = due }
 
-abbrev pub paused_in : Setup → List Mark → ℕ → State → Pause
-paused_in w marks n s = paused w.world (text_of w.versions) (mark_in marks) n s
+abbrev pub paused_in : Setup → ℕ → State → Pause
+paused_in w n s = paused w.world (text_of w.versions) (mark_of w.versions) n s
 
 -- behind the event of an unwinding, the frame is taken off
 abbrev pub resumed : Bool → State → State
@@ -100,8 +96,8 @@ resumed_count true n = suc n
 resumed_count false n = n
 
 -- where moves alone are left of a step
-abbrev pub goes_by_moves : Setup → List Mark → Bool → ℕ → State → Pause
-goes_by_moves w marks told n s = paused_in w marks (resumed_count told n) (resumed told s)
+abbrev pub goes_by_moves : Setup → Bool → ℕ → State → Pause
+goes_by_moves w told n s = paused_in w (resumed_count told n) (resumed told s)
 
 -- ---- an attempt in two parts
 

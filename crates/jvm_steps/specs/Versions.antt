@@ -3,6 +3,8 @@
 use Rattle.std.specs.Prelude.{◌≡◌, ℕ, ◌-◌, ◌+◌, List, [], length, map, max, slice_get, unwrap_or, Bool, true, false, Option, Some, None, if◌then◌else◌}
 use Rattle.std.specs.Option.{IfSome, option_and_then, option_flatten, option_map, option_map_or}
 use Rattle.method_versions.specs.Tables.{current_in}
+use Rattle.jvm_model.specs.declared.event.Mark.{Mark}
+use Rattle.jvm_model.specs.declared.event.Mark.TheVariants.{Off}
 use Rattle.jvm_model.specs.Data.{Catcher, Instruction, Local, Nop, Return, Operation, Within, Named, Athrow, Monitor, Newarray, Arraylength, LoadElement, StoreElement, LdcString, Text, World}
 use Rattle.jvm_model.specs.Families.{family_of}
 use Rattle.jvm_model.specs.Lines.{local_of, next_of, targets_of}
@@ -51,6 +53,10 @@ current_of v method = unwrap_or (current_in v.current method) (4294967296 + meth
 -- The method that a version is of. One that is not held is of none of the program's, and each of these has its own.
 abbrev pub method_of : Versions → ℕ → ℕ
 method_of v version = option_map_or (λ (x : Version). x.method) (version_at v version) (max (version - 4294967296) (length v.current))
+
+-- whose probes a version has: none where it is not held
+abbrev pub mark_of : Versions → ℕ → Mark
+mark_of v version = option_map_or (λ (x : Version). x.prepared.mark) (version_at v version) Off
 
 -- where a version begins
 abbrev pub first_of : Versions → ℕ → ℕ

@@ -18,7 +18,7 @@ use crate::parts::Parts;
 use crate::pausing::go_by_moves;
 use crate::trying::go_by_attempt;
 use jf_bytes::{NoMemory, Stack};
-use jvm_model::{Due, EventKind, Mark};
+use jvm_model::{Due, EventKind};
 use std::alloc::Global;
 
 /// What is in hand of a step: whether moves alone are left of it, or an attempt before them; whether the probe of the end that
@@ -81,7 +81,6 @@ fn gone_to(due: Due, passed: u64) -> Gone
 pub fn go(
     alloc: Global,
     originals: &mut Originals,
-    marks: &[Mark],
     parts: &mut Parts,
     markers: &mut Stack<Marker>,
     hand: Hand,
@@ -103,7 +102,7 @@ pub fn go(
         ≡ (hand.moves || loads_none originals.old.setup s)) }
     ensures reaches { let s = state_of markers.old parts.old in IfOk result (λ o. IfSome o (λ gone.
         pause_at (state_of markers.new parts.new) gone.hand.passed gone.due
-        ≡ goes_in originals.old.setup marks.now hand s)) }
+        ≡ goes_in originals.old.setup hand s)) }
     ensures left { IfOk result (λ o. IfSome o (λ gone. IsLeft gone)) }
     ensures loads { let w = originals.old.setup in let s = state_of markers.old parts.old in
         IfOk result (λ o. IfNone o
@@ -111,31 +110,15 @@ pub fn go(
     // The rest of the same step is in hand then, at the next of its changes that is told.
     ensures hands { let w = originals.old.setup in let s = state_of markers.old parts.old in
         IfOk result (λ o. IfSome o (λ gone. (homes : ℕ → ℕ → ℕ) (turn : Turn) (live : List Held)
-        → HasVersions w homes → HasInHand w marks.now homes turn hand live s
-        → HasGoneOn w marks.now homes turn hand live gone (state_of markers.new parts.new))) }
+        → HasVersions w homes → HasInHand w.now homes turn hand live s
+        → HasGoneOn w.now homes turn hand live gone (state_of markers.new parts.new))) }
 {
     let mut passed = hand.passed;
     if hand.moves {
-        let due = go_by_moves(
-            alloc,
-            originals,
-            marks,
-            parts,
-            markers,
-            hand.told,
-            &mut passed,
-        )?;
+        let due = go_by_moves(alloc, originals, parts, markers, hand.told, &mut passed)?;
         return Ok(Some(gone_to(due, passed)));
     }
-    let gone = go_by_attempt(
-        alloc,
-        originals,
-        marks,
-        parts,
-        markers,
-        hand.told,
-        &mut passed,
-    )?;
+    let gone = go_by_attempt(alloc, originals, parts, markers, hand.told, &mut passed)?;
     let Some(due) = gone else {
         return Ok(None);
     };

@@ -24,7 +24,7 @@ ghost use Rattle.jvm_steps.specs.Linked.{linker_in};
 ghost use Rattle.jvm_steps.specs.Prepared.{FitsOriginals, built_in_named, exception_kind};
 ghost use Rattle.jvm_steps.specs.Prepared.{main_name};
 ghost use Rattle.jvm_steps.specs.Entries.{original_versions};
-ghost use Rattle.jvm_steps.specs.Versions.{current_of, first_of};
+ghost use Rattle.jvm_steps.specs.Versions.{current_of, first_of, mark_of};
 ghost use Rattle.jvm_model.specs.declared.state.State.{State};
 ghost use Rattle.jvm_model.specs.Sound.{IsFit};
 ghost use Rattle.jvm_steps.specs.ClassVersions.{FitsImage, class_versions};
@@ -38,14 +38,16 @@ use crate::line::{Action, Line};
 use crate::loading::{link_main, load_built_in, main_name};
 use crate::objects::kind_named;
 use crate::preparing::{exceptions_of, prepare_methods, prepare_versions};
-use crate::versions::{Catching, Version, Versions, current_of, first_of, line_at, version_at};
+use crate::versions::{
+    Catching, Version, Versions, current_of, first_of, line_at, mark_of, version_at,
+};
 use base_classes::built_in_name;
 use class_linker::Linker;
 use code_model::Homes;
 use const_pool::{ClassFile, Kind};
 use frame_stack::Frames;
 use jf_bytes::{NoMemory, Seq};
-use jvm_model::{Program, Shared};
+use jvm_model::{Mark, Program, Shared};
 use jvm_named::{Asked, MethodNumbers, Refusal, attempt, attempt_loaded, resolve};
 use std::alloc::Global;
 use std::marker::Model;
@@ -124,7 +126,8 @@ impl Model for Originals {
       loaded = o.linker.loaded;
     } };
 
-    ghost invariant = { λ o. IsPrepared o.linker.program o.methods o.versions o.exceptions o.numbers };
+    ghost invariant = { λ o.
+        IsPrepared o.linker.program o.methods o.versions o.exceptions o.numbers };
 }
 
 /// The name of the built-in class at this place of their order; none has an empty one.
@@ -286,6 +289,7 @@ impl Originals {
     }
 
     /// The line at a place of a version, by two look-ups.
+    #[inline(always)]
     pub fn line(&self, version: usize, place: u16) -> Option<&Line>
         ensures line { option_copied result ≡ line_at self.now.setup.versions version place }
         ensures family { IfSome result (λ l. l.now.family ≡ family_of l.now.instr.op) }
@@ -294,6 +298,7 @@ impl Originals {
     }
 
     /// The version in which a method begins.
+    #[inline(always)]
     pub fn current(&self, method: u32) -> usize
         ensures { result ≡ current_of self.now.setup.versions method }
     {
@@ -301,10 +306,18 @@ impl Originals {
     }
 
     /// Where a version begins.
+    #[inline(always)]
     pub fn first(&self, version: usize) -> u16
         ensures { result ≡ first_of self.now.setup.versions version }
     {
         first_of(&self.versions, version)
+    }
+
+    /// Whose probes a version has.
+    pub fn mark(&self, version: usize) -> Mark
+        ensures { result ≡ mark_of self.now.setup.versions version }
+    {
+        mark_of(&self.versions, version)
     }
 
     /// The handlers of a version.
@@ -388,19 +401,20 @@ impl Originals {
     // ---- versions
 
     /// Adds the versions of a class's methods for an image of the class, in which they begin from then on: where homes tell of
-    /// a method the version that it has in the image, else its original code. Frames keep the versions that they run; a former
+    /// a method the version that it has in the image, with its mark, else its original code. Frames keep the versions that they run; a former
     /// version that none runs is dropped. After want of memory nothing has changed.
     pub fn install(
         &mut self,
         alloc: Global,
         class: u32,
         image: &ClassFile,
+        marks: &[Mark],
         homes: &[Option<Homes>],
         frames: &Frames,
     ) -> Result<(), NoMemory>
         requires { FitsImage image.now homes.now }
         ensures ok { let w = self.old.setup in OnOk result (Adds frames.now.frames
-            (class_versions w.world.program class image.now homes.now) w.versions
+            (class_versions w.world.program class image.now marks.now homes.now) w.versions
             self.new.setup.versions) }
         ensures err { OnErr result (self.new.setup.versions ≡ self.old.setup.versions) }
         ensures world { self.new.setup.world ≡ self.old.setup.world }
@@ -413,7 +427,7 @@ impl Originals {
             → IsRunOf w clock s → IsRunOf self.new.setup clock s) }
     {
         let program = self.linker.program();
-        let more = class_versions(alloc, program, &self.numbers, class, image, homes)?;
+        let more = class_versions(alloc, program, &self.numbers, class, image, marks, homes)?;
         self.versions.add_all(more, frames)
     }
 

@@ -11,7 +11,7 @@ use crate::originals::Originals;
 use crate::parts::{Parts, where_now};
 use crate::turning::{Moved, make_move};
 use jf_bytes::{NoMemory, Stack};
-use jvm_model::{Due, EventKind, Mark};
+use jvm_model::{Due, EventKind};
 use std::alloc::Global;
 
 /// One change more. (More changes than fit do not come.)
@@ -29,17 +29,16 @@ pub fn one_more(passed: u64) -> Result<u64, NoMemory>
 pub fn pause(
     alloc: Global,
     originals: &Originals,
-    marks: &[Mark],
     parts: &mut Parts,
     markers: &mut Stack<Marker>,
     passed: &mut u64,
 ) -> Result<Due, NoMemory>
     ensures { let s = state_of markers.old parts.old in
         IfOk result (λ due. pause_at (state_of markers.new parts.new) passed.new due
-        ≡ paused_in originals.now.setup marks.now passed.old s) }
+        ≡ paused_in originals.now.setup passed.old s) }
 {
     loop {
-        match make_move(alloc, originals, marks, parts, markers)? {
+        match make_move(alloc, originals, parts, markers)? {
             Moved::Nothing => return Ok(Due::Nothing),
             Moved::On => {}
             Moved::Unwound => *passed = one_more(*passed)?,
@@ -96,7 +95,6 @@ fn resume(
 pub fn go_by_moves(
     alloc: Global,
     originals: &Originals,
-    marks: &[Mark],
     parts: &mut Parts,
     markers: &mut Stack<Marker>,
     told: bool,
@@ -104,8 +102,8 @@ pub fn go_by_moves(
 ) -> Result<Due, NoMemory>
     ensures { let s = state_of markers.old parts.old in
         IfOk result (λ due. pause_at (state_of markers.new parts.new) passed.new due
-        ≡ goes_by_moves originals.now.setup marks.now told passed.old s) }
+        ≡ goes_by_moves originals.now.setup told passed.old s) }
 {
     resume(parts, markers, told, passed)?;
-    pause(alloc, originals, marks, parts, markers, passed)
+    pause(alloc, originals, parts, markers, passed)
 }

@@ -17,6 +17,7 @@ use frame_stack::Frames;
 use jvm_basic::{Effect, basic_by};
 
 /// The line at which the current frame stands, where the frame does it by itself.
+#[inline(always)]
 fn plain_line<'a>(originals: &'a Originals, frames: &Frames) -> Option<&'a Line>
     ensures line { IfSome result (λ l. IsPlainLine originals.now.setup frames.now.frames l.now) }
     ensures family { IfSome result (λ l. l.now.family ≡ family_of l.now.instr.op) }
@@ -31,6 +32,7 @@ fn plain_line<'a>(originals: &'a Originals, frames: &Frames) -> Option<&'a Line>
 
 /// Does a line within the current frame. False, with nothing changed, where the frame does not
 /// go on.
+#[inline(always)]
 fn pass_line(line: &Line, frames: &mut Frames) -> bool
     requires { line.now.family ≡ family_of line.now.instr.op }
     ensures gone { let line = line.now in
@@ -45,6 +47,7 @@ fn pass_line(line: &Line, frames: &mut Frames) -> bool
 }
 
 /// A step, where the current frame does it by itself; else nothing has changed.
+#[inline(always)]
 fn plain_step(originals: &Originals, frames: &mut Frames) -> bool
     requires { CanRun originals.now.setup }
     ensures gone { result ≡ true

@@ -22,7 +22,7 @@ use crate::versions::{Catching, PreparedCode, Version, Versions};
 use code_model::instr_at;
 use const_pool::{ClassFile, Handler, Kind, Member};
 use jf_bytes::{NoMemory, Seq, Text16};
-use jvm_model::{MethodPlace, Program};
+use jvm_model::{Mark, MethodPlace, Program};
 use method_versions::Held;
 use std::alloc::Global;
 
@@ -181,6 +181,7 @@ fn no_version(alloc: Global, method: u32) -> Version
     Held {
         method,
         prepared: PreparedCode {
+            mark: Mark::Off,
             first: 0,
             lines: Seq::new(alloc),
             handlers: Seq::new(alloc),
@@ -206,6 +207,7 @@ fn version_entry(
     Ok(Held {
         method,
         prepared: PreparedCode {
+            mark: Mark::Off,
             first: 0,
             lines,
             handlers,

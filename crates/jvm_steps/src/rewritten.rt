@@ -13,6 +13,7 @@ use crate::versions::{Catching, PreparedCode, Version};
 use code_model::Homes;
 use const_pool::{ClassFile, CodeAttribute};
 use jf_bytes::{NoMemory, Seq};
+use jvm_model::Mark;
 use method_versions::Held;
 use std::alloc::Global;
 
@@ -128,10 +129,11 @@ fn own_handlers(handlers: Seq<Catching>) -> Seq<Catching>
     own
 }
 
-/// Prepares the rewritten code of a method, whose original code has so many bytes.
+/// Prepares the rewritten code of a method, with the probes of this mark; the original code has so many bytes.
 pub fn rewritten_version(
     alloc: Global,
     method: u32,
+    mark: Mark,
     image: &ClassFile,
     code: &CodeAttribute,
     homes: &Homes,
@@ -141,13 +143,14 @@ pub fn rewritten_version(
     requires starts { IsStrictlyIncreasing homes.now.from }
     requires homes { IsStrictlyIncreasing homes.now.home }
     ensures { IfOk result (λ version. version
-        ≡ rewritten_version method image.now code.now homes.now len) }
+        ≡ rewritten_version method mark image.now code.now homes.now len) }
 {
     let handlers = handlers_of(alloc, image, code.handlers.as_slice())?;
     let lines = homed_lines(alloc, image, code.code.as_slice(), homes, len)?;
     Ok(Held {
         method,
         prepared: PreparedCode {
+            mark,
             first: homes.home_of(0),
             lines,
             handlers: own_handlers(handlers),

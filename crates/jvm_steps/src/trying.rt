@@ -26,7 +26,7 @@ use crate::stepping::{goes_on, is_ready};
 use crate::turning::is_marked;
 use frame_stack::Frames;
 use jf_bytes::{NoMemory, Stack};
-use jvm_model::{Due, EventKind, Mark};
+use jvm_model::{Due, EventKind};
 use std::alloc::Global;
 
 // ---- behind an attempt
@@ -42,15 +42,15 @@ fn count(frames: &Frames, depth: u32, passed: u64) -> Result<u64, NoMemory>
 }
 
 /// Whether a method has begun since then of which a probe tells.
-fn enters(originals: &Originals, marks: &[Mark], frames: &Frames, depth: u32) -> bool
+fn enters(originals: &Originals, frames: &Frames, depth: u32) -> bool
     ensures { result
-        ≡ enters_by originals.now.setup marks.now (changes_since depth frames.now.frames) }
+        ≡ enters_by originals.now.setup (changes_since depth frames.now.frames) }
 {
     if frames.depth() <= depth {
         return false;
     }
     match frames.top() {
-        Some((_, method)) => is_marked(marks, originals.current(method)),
+        Some((_, method)) => is_marked(originals, originals.current(method)),
         None => false,
     }
 }
@@ -59,7 +59,6 @@ fn enters(originals: &Originals, marks: &[Mark], frames: &Frames, depth: u32) ->
 fn follow(
     alloc: Global,
     originals: &Originals,
-    marks: &[Mark],
     parts: &mut Parts,
     markers: &mut Stack<Marker>,
     depth: u32,
@@ -67,26 +66,26 @@ fn follow(
 ) -> Result<Due, NoMemory>
     ensures reaches { let s = state_of markers.old parts.old in
         IfOk result (λ due. pause_at (state_of markers.new parts.new) passed.new due
-        ≡ pause_behind_attempt originals.now.setup marks.now depth passed.old s) }
+        ≡ pause_behind_attempt originals.now.setup depth passed.old s) }
     ensures loaded { OnOk result (parts.new.shared.loaded ≡ parts.old.shared.loaded) }
 {
     *passed = count(&parts.frames, depth, *passed)?;
-    if enters(originals, marks, &parts.frames, depth) {
+    if enters(originals, &parts.frames, depth) {
         return Ok(Due::Begins);
     }
-    pause(alloc, originals, marks, parts, markers, passed)
+    pause(alloc, originals, parts, markers, passed)
 }
 
 // ---- before one, and once more
 
 /// Whether the current frame stands at a return of which a probe tells first.
-fn leaves(originals: &Originals, marks: &[Mark], frames: &Frames) -> bool
-    ensures { result ≡ leaves_in originals.now.setup marks.now frames.now.frames }
+fn leaves(originals: &Originals, frames: &Frames) -> bool
+    ensures { result ≡ leaves_in originals.now.setup frames.now.frames }
 {
     let Some(here) = where_now(frames) else {
         return false;
     };
-    if !is_marked(marks, here.version) {
+    if !is_marked(originals, here.version) {
         return false;
     }
     match originals.line(here.version, here.place) {
@@ -96,10 +95,10 @@ fn leaves(originals: &Originals, marks: &[Mark], frames: &Frames) -> bool
 }
 
 /// The same, unless it has told.
-fn tells_leave(originals: &Originals, marks: &[Mark], frames: &Frames, told: bool) -> bool
-    ensures { result ≡ (not told && leaves_in originals.now.setup marks.now frames.now.frames) }
+fn tells_leave(originals: &Originals, frames: &Frames, told: bool) -> bool
+    ensures { result ≡ (not told && leaves_in originals.now.setup frames.now.frames) }
 {
-    !told && leaves(originals, marks, frames)
+    !told && leaves(originals, frames)
 }
 
 /// Whether nothing is due.
@@ -128,7 +127,6 @@ fn tries_again(parts: &Parts, class: u32, due: Due, same: bool) -> bool
 fn try_again(
     alloc: Global,
     originals: &mut Originals,
-    marks: &[Mark],
     parts: &mut Parts,
     markers: &mut Stack<Marker>,
     depth: u32,
@@ -142,10 +140,10 @@ fn try_again(
     ensures linked { OnOk result (originals.new.loaded ≡ parts.new.shared.loaded) }
     ensures reaches { let w = originals.old.setup in let s = state_of markers.old parts.old in
         IfOk result (λ due. pause_at (state_of markers.new parts.new) passed.new due
-        ≡ pause_behind_attempt w marks.now depth passed.old (attempts_on w s s.stack)) }
+        ≡ pause_behind_attempt w.now depth passed.old (attempts_on w s s.stack)) }
 {
     attempt(alloc, originals, parts, markers)?;
-    follow(alloc, originals, marks, parts, markers, depth, passed)
+    follow(alloc, originals, parts, markers, depth, passed)
 }
 
 /// The same in two parts, and once more where its class is ready behind it. Where classes are still to be loaded they are loaded,
@@ -153,7 +151,6 @@ fn try_again(
 fn try_line(
     alloc: Global,
     originals: &mut Originals,
-    marks: &[Mark],
     parts: &mut Parts,
     markers: &mut Stack<Marker>,
     passed: &mut u64,
@@ -168,7 +165,7 @@ fn try_line(
         ≡ loads_none originals.old.setup (state_of markers.old parts.old)) }
     ensures reaches { let s = state_of markers.old parts.old in IfOk result (λ o. IfSome o (λ due.
         pause_at (state_of markers.new parts.new) passed.new due
-        ≡ tried_in originals.old.setup marks.now true passed.old s)) }
+        ≡ tried_in originals.old.setup true passed.old s)) }
     ensures loads { let w = originals.old.setup in let s = state_of markers.old parts.old in
         IfOk result (λ o. IfNone o
         (state_of markers.new parts.new ≡ with_loaded (loads_in w s) s)) }
@@ -179,14 +176,14 @@ fn try_line(
     let Some(awaited) = attempt_loaded(alloc, originals, parts, markers)? else {
         return Ok(None);
     };
-    let due = follow(alloc, originals, marks, parts, markers, depth, passed)?;
+    let due = follow(alloc, originals, parts, markers, depth, passed)?;
     let Some(class) = awaited else {
         return Ok(Some(due));
     };
     if !tries_again(parts, class, due, *passed == before) {
         return Ok(Some(due));
     }
-    let due = try_again(alloc, originals, marks, parts, markers, depth, passed)?;
+    let due = try_again(alloc, originals, parts, markers, depth, passed)?;
     Ok(Some(due))
 }
 
@@ -198,7 +195,6 @@ fn try_line(
 pub fn go_by_attempt(
     alloc: Global,
     originals: &mut Originals,
-    marks: &[Mark],
     parts: &mut Parts,
     markers: &mut Stack<Marker>,
     told: bool,
@@ -213,7 +209,7 @@ pub fn go_by_attempt(
         ≡ loads_none originals.old.setup (state_of markers.old parts.old)) }
     ensures reaches { let s = state_of markers.old parts.old in IfOk result (λ o. IfSome o (λ due.
         pause_at (state_of markers.new parts.new) passed.new due
-        ≡ tried_in originals.old.setup marks.now told passed.old s)) }
+        ≡ tried_in originals.old.setup told passed.old s)) }
     ensures loads { let w = originals.old.setup in let s = state_of markers.old parts.old in
         IfOk result (λ o. IfNone o
         (state_of markers.new parts.new ≡ with_loaded (loads_in w s) s)) }
@@ -222,8 +218,8 @@ pub fn go_by_attempt(
     if !goes_on(parts, markers) {
         return Ok(Some(Due::Nothing));
     }
-    if tells_leave(originals, marks, &parts.frames, told) {
+    if tells_leave(originals, &parts.frames, told) {
         return Ok(Some(Due::Ends(EventKind::Leave)));
     }
-    try_line(alloc, originals, marks, parts, markers, passed)
+    try_line(alloc, originals, parts, markers, passed)
 }

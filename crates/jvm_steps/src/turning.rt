@@ -5,8 +5,9 @@ ghost use Rattle.jvm_model.specs.Images.{is_off};
 ghost use Rattle.jvm_model.specs.Data.{Unwound};
 ghost use Rattle.jvm_steps.specs.Markers.{state_of};
 ghost use Rattle.jvm_steps.specs.States.{here_of, state_in};
-ghost use Rattle.jvm_steps.specs.Turning.{begun_as, mark_in, moved_as, moved_by, moved_to};
+ghost use Rattle.jvm_steps.specs.Turning.{begun_as, moved_as, moved_by, moved_to};
 ghost use Rattle.jvm_steps.specs.Turning.{unwind_due, unwound_by};
+ghost use Rattle.jvm_steps.specs.Versions.{mark_of};
 
 use crate::handlers::{class_of, handler_for};
 use crate::markers::{Marker, take_marker};
@@ -38,24 +39,23 @@ pub enum Moved {
 // ---- marks
 
 /// Whether a version has probes.
-pub fn is_marked(marks: &[Mark], version: usize) -> bool
-    ensures { result ≡ not (is_off (mark_in marks.now version)) }
+pub fn is_marked(originals: &Originals, version: usize) -> bool
+    ensures { result ≡ not (is_off (mark_of originals.now.setup.versions version)) }
 {
-    match marks.get(version) {
-        Some(Mark::Plain | Mark::Root) => true,
-        Some(Mark::Off) => false,
-        None => false,
+    match originals.mark(version) {
+        Mark::Plain | Mark::Root => true,
+        Mark::Off => false,
     }
 }
 
 /// What a move has done by which a method begins, or none does.
-fn begun(originals: &Originals, marks: &[Mark], method: Option<u32>) -> Moved
-    ensures { result ≡ begun_as originals.now.setup marks.now method }
+fn begun(originals: &Originals, method: Option<u32>) -> Moved
+    ensures { result ≡ begun_as originals.now.setup method }
 {
     let Some(method) = method else {
         return Moved::On;
     };
-    if is_marked(marks, originals.current(method)) {
+    if is_marked(originals, originals.current(method)) {
         Moved::Enters
     } else {
         Moved::Began
@@ -65,13 +65,14 @@ fn begun(originals: &Originals, marks: &[Mark], method: Option<u32>) -> Moved
 // ---- moves of frames
 
 /// The current frame is taken off, unless a probe tells of that first.
-fn unwind(marks: &[Mark], frames: &mut Frames, here: Here) -> Moved
+fn unwind(originals: &Originals, frames: &mut Frames, here: Here) -> Moved
     requires { here_of frames.old.frames ≡ Some here }
-    ensures answer { result ≡ moved_by (Unwound ∷ []) (unwind_due marks.now frames.old.frames) }
+    ensures answer { let fs = frames.old.frames in
+        result ≡ moved_by (Unwound ∷ []) (unwind_due originals.now.setup fs) }
     ensures frames { frames.new.frames
-        ≡ unwound_by (unwind_due marks.now frames.old.frames) frames.old.frames }
+        ≡ unwound_by (unwind_due originals.now.setup frames.old.frames) frames.old.frames }
 {
-    if is_marked(marks, here.version) {
+    if is_marked(originals, here.version) {
         return Moved::Unwinds;
     }
     frames.leave();
@@ -79,19 +80,13 @@ fn unwind(marks: &[Mark], frames: &mut Frames, here: Here) -> Moved
 }
 
 /// A throw meets the current frame.
-fn meet_frame(
-    originals: &Originals,
-    marks: &[Mark],
-    parts: &mut Parts,
-    object: u32,
-    here: Here,
-) -> Moved
+fn meet_frame(originals: &Originals, parts: &mut Parts, object: u32, here: Here) -> Moved
     requires ending { parts.old.ending ≡ None }
     requires thrown { parts.old.thrown ≡ Some object }
     requires here { here_of parts.old.frames.frames ≡ Some here }
-    ensures answer { result ≡ moved_as originals.now.setup marks.now (state_in parts.old) }
+    ensures answer { result ≡ moved_as originals.now.setup (state_in parts.old) }
     ensures state { state_in parts.new
-        ≡ moved_to originals.now.setup marks.now (state_in parts.old) }
+        ≡ moved_to originals.now.setup (state_in parts.old) }
 {
     let class = class_of(originals.program(), &parts.shared.heap, object) as usize;
     match handler_for(originals, here.version, class, here.place) {
@@ -99,61 +94,61 @@ fn meet_frame(
             go_to_handler(originals, parts, object, here, target);
             Moved::On
         }
-        None => unwind(marks, &mut parts.frames, here),
+        None => unwind(originals, &mut parts.frames, here),
     }
 }
 
 /// A throw meets the current frame, or ends the run where there is none.
-fn meet_throw(originals: &Originals, marks: &[Mark], parts: &mut Parts, object: u32) -> Moved
+fn meet_throw(originals: &Originals, parts: &mut Parts, object: u32) -> Moved
     requires ending { parts.old.ending ≡ None }
     requires thrown { parts.old.thrown ≡ Some object }
-    ensures answer { result ≡ moved_as originals.now.setup marks.now (state_in parts.old) }
+    ensures answer { result ≡ moved_as originals.now.setup (state_in parts.old) }
     ensures state { state_in parts.new
-        ≡ moved_to originals.now.setup marks.now (state_in parts.old) }
+        ≡ moved_to originals.now.setup (state_in parts.old) }
 {
     let Some(here) = where_now(&parts.frames) else {
         let class = class_of(originals.program(), &parts.shared.heap, object);
         parts.ending = Some(Ending::Uncaught(class));
         return Moved::On;
     };
-    meet_frame(originals, marks, parts, object, here)
+    meet_frame(originals, parts, object, here)
 }
 
 /// With nothing thrown and no frame left `main` begins, or the run has returned.
-fn begin_or_end(originals: &Originals, marks: &[Mark], parts: &mut Parts) -> Result<Moved, NoMemory>
+fn begin_or_end(originals: &Originals, parts: &mut Parts) -> Result<Moved, NoMemory>
     requires ending { parts.old.ending ≡ None }
     requires thrown { parts.old.thrown ≡ None }
     requires none { parts.old.frames.frames ≡ [] }
     ensures answer { IfOk result
-        (λ m. m ≡ moved_as originals.now.setup marks.now (state_in parts.old)) }
+        (λ m. m ≡ moved_as originals.now.setup (state_in parts.old)) }
     ensures state { OnOk result (state_in parts.new
-        ≡ moved_to originals.now.setup marks.now (state_in parts.old)) }
+        ≡ moved_to originals.now.setup (state_in parts.old)) }
 {
     if parts.begun {
         parts.ending = Some(Ending::Returned);
         return Ok(Moved::On);
     }
     let method = begin_main(originals, parts)?;
-    Ok(begun(originals, marks, method))
+    Ok(begun(originals, method))
 }
 
 /// A move of the frames, where no marker stands on the current one.
-fn move_frame(originals: &Originals, marks: &[Mark], parts: &mut Parts) -> Result<Moved, NoMemory>
+fn move_frame(originals: &Originals, parts: &mut Parts) -> Result<Moved, NoMemory>
     ensures answer { IfOk result
-        (λ m. m ≡ moved_as originals.now.setup marks.now (state_in parts.old)) }
+        (λ m. m ≡ moved_as originals.now.setup (state_in parts.old)) }
     ensures state { OnOk result (state_in parts.new
-        ≡ moved_to originals.now.setup marks.now (state_in parts.old)) }
+        ≡ moved_to originals.now.setup (state_in parts.old)) }
 {
     if parts.ending.is_some() {
         return Ok(Moved::Nothing);
     }
     if let Some(object) = parts.thrown {
-        return Ok(meet_throw(originals, marks, parts, object));
+        return Ok(meet_throw(originals, parts, object));
     }
     if where_now(&parts.frames).is_some() {
         return Ok(Moved::Nothing);
     }
-    begin_or_end(originals, marks, parts)
+    begin_or_end(originals, parts)
 }
 
 // ---- every move
@@ -162,21 +157,20 @@ fn move_frame(originals: &Originals, marks: &[Mark], parts: &mut Parts) -> Resul
 pub fn make_move(
     alloc: Global,
     originals: &Originals,
-    marks: &[Mark],
     parts: &mut Parts,
     markers: &mut Stack<Marker>,
 ) -> Result<Moved, NoMemory>
     ensures answer { let s = state_of markers.old parts.old in
-        IfOk result (λ m. m ≡ moved_as originals.now.setup marks.now s) }
+        IfOk result (λ m. m ≡ moved_as originals.now.setup s) }
     ensures state { let s = state_of markers.old parts.old in
-        OnOk result (state_of markers.new parts.new ≡ moved_to originals.now.setup marks.now s) }
+        OnOk result (state_of markers.new parts.new ≡ moved_to originals.now.setup s) }
 {
     if parts.ending.is_some() {
         return Ok(Moved::Nothing);
     }
     let Some(marker) = take_marker(parts, markers) else {
-        return move_frame(originals, marks, parts);
+        return move_frame(originals, parts);
     };
     let method = move_marker(alloc, originals, parts, markers, marker)?;
-    Ok(begun(originals, marks, method))
+    Ok(begun(originals, method))
 }

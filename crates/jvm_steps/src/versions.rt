@@ -5,11 +5,12 @@ ghost use Rattle.std.specs.Prelude.{◌≡◌, ◌≤◌, ℕ, length, IfSome, O
 ghost use Rattle.std.specs.Option.{option_copied};
 ghost use Rattle.method_versions.specs.Tables.{IsFirst};
 ghost use Rattle.jvm_steps.specs.Tables.{Adds, AreAllCurrent, AreOfMethods, Releases, seen, version_at};
-ghost use Rattle.jvm_steps.specs.Versions.{current_of, first_of, line_at};
+ghost use Rattle.jvm_steps.specs.Versions.{current_of, first_of, line_at, mark_of};
 
 use crate::line::Line;
 use frame_stack::Frames;
 use jf_bytes::{NoMemory, Seq, Text16};
+use jvm_model::Mark;
 use method_versions::{Held, Versions as Table};
 use std::alloc::Global;
 use std::marker::Model;
@@ -23,9 +24,10 @@ pub struct Catching {
     pub catches: Option<Text16>,
 }
 
-/// The code of a version: where it begins, the line at each of its places, and its handlers.
+/// The code of a version: whose probes stand in it, where it begins, the line at each of its places, and its handlers.
 #[derive(Drop)]
 pub struct PreparedCode {
+    pub mark: Mark,
     pub first: u16,
     pub lines: Seq<Option<Line>>,
     pub handlers: Seq<Catching>,
@@ -102,6 +104,7 @@ pub fn version_at(versions: &Versions, version: usize) -> Option<&Version>
 }
 
 /// The line at a place of a version.
+#[inline(always)]
 pub fn line_at(versions: &Versions, version: usize, place: u16) -> Option<&Line>
     ensures { option_copied result ≡ line_at versions.now version place }
 {
@@ -110,6 +113,7 @@ pub fn line_at(versions: &Versions, version: usize, place: u16) -> Option<&Line>
 }
 
 /// The version in which a method begins.
+#[inline(always)]
 pub fn current_of(versions: &Versions, method: u32) -> usize
     ensures { result ≡ current_of versions.now method }
 {
@@ -119,7 +123,18 @@ pub fn current_of(versions: &Versions, method: u32) -> usize
     }
 }
 
+/// Whose probes a version has; one that is not held has none.
+pub fn mark_of(versions: &Versions, version: usize) -> Mark
+    ensures { result ≡ mark_of versions.now version }
+{
+    match versions.table.get(version) {
+        Some(held) => held.prepared.mark,
+        None => Mark::Off,
+    }
+}
+
 /// Where a version begins.
+#[inline(always)]
 pub fn first_of(versions: &Versions, version: usize) -> u16
     ensures { result ≡ first_of versions.now version }
 {

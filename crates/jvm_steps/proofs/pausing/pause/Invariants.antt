@@ -7,8 +7,8 @@ use Rattle.jvm_steps.proofs.pausing.pause.Given as goal
 
 abbrev pub invariant-loop-passed : goal.invariant-loop-passed
 invariant-loop-passed l =
-    paused_in l.originals.setup l.marks l.passed (state_of l.markers l.parts)
-    ≡ paused_in l.fn.originals.setup l.fn.marks l.fn.passed (state_of l.fn.markers l.fn.parts)
+    paused_in l.originals.setup l.passed (state_of l.markers l.parts)
+    ≡ paused_in l.fn.originals.setup l.fn.passed (state_of l.fn.markers l.fn.parts)
 
 abbrev pub decreases-loop-passed : goal.decreases-loop-passed
 decreases-loop-passed l = left (state_of l.markers l.parts)

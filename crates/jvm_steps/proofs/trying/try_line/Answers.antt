@@ -7,7 +7,7 @@ use Rattle.jvm_steps.proofs.trying.try_line.Goals as goal
 
 pub returns-in_default-awaited-clause-reaches : goal.returns-in_default-awaited-clause-reaches
 returns-in_default-awaited-clause-reaches c =
-    line-once c.args.originals.now.setup c.attempt_loaded.new.originals.setup c.in_ok-awaited.ensures.world c.requires.fit c.args.marks.now c.args.markers.now c.args.parts.now c.requires.goes
+    line-once c.args.originals.now.setup c.attempt_loaded.new.originals.setup c.in_ok-awaited.ensures.world c.requires.fit c.args.markers.now c.args.parts.now c.requires.goes
     c.args.passed.now c.depth-depth.result c.depth-depth.ensures c.in_ok-awaited.field-0 c.in-Some.awaited c.in-Some.is (state_of c.attempt_loaded.new.markers c.attempt_loaded.new.parts)
     c.in_ok-awaited.ensures.some c.in_ok-awaited.ensures.answer c.in_ok-awaited.ensures.state c.follow.new.markers c.follow.new.parts c.follow.new.passed c.in_ok-due.due
     c.in_ok-due.ensures.reaches
@@ -15,7 +15,7 @@ returns-in_default-awaited-clause-reaches c =
 
 pub returns-then-not-tries_again-clause-reaches : goal.returns-then-not-tries_again-clause-reaches
 returns-then-not-tries_again-clause-reaches c =
-    line-no-more c.args.originals.now.setup c.attempt_loaded.new.originals.setup c.in_ok-awaited.ensures.world c.requires.fit c.args.marks.now c.args.markers.now c.args.parts.now c.requires.goes
+    line-no-more c.args.originals.now.setup c.attempt_loaded.new.originals.setup c.in_ok-awaited.ensures.world c.requires.fit c.args.markers.now c.args.parts.now c.requires.goes
     c.args.passed.now c.depth-depth.result c.depth-depth.ensures c.in_ok-awaited.field-0 c.in-Some.awaited c.in-Some.is (state_of c.attempt_loaded.new.markers c.attempt_loaded.new.parts)
     c.in_ok-awaited.ensures.some c.in_ok-awaited.ensures.answer c.in_ok-awaited.ensures.state c.follow.new.markers c.follow.new.parts c.follow.new.passed c.in_ok-due.due
     c.in_ok-due.ensures.reaches
@@ -30,7 +30,7 @@ try_again-requires-clause-fit c = subst (λ w. CanRun w) (sym c.in_ok-awaited.en
 
 pub try_again-requires-clause-sound : goal.try_again-requires-clause-sound
 try_again-requires-clause-sound c =
-    line-sound c.args.originals.now.setup c.attempt_loaded.new.originals.setup c.in_ok-awaited.ensures.world c.requires.fit c.args.marks.now c.args.markers.now c.args.parts.now c.requires.goes
+    line-sound c.args.originals.now.setup c.attempt_loaded.new.originals.setup c.in_ok-awaited.ensures.world c.requires.fit c.args.markers.now c.args.parts.now c.requires.goes
     c.args.passed.now c.depth-depth.result c.depth-depth.ensures c.in_ok-awaited.field-0 c.in-Some.awaited c.in-Some.is (state_of c.attempt_loaded.new.markers c.attempt_loaded.new.parts)
     c.in_ok-awaited.ensures.some c.in_ok-awaited.ensures.answer c.in_ok-awaited.ensures.state c.follow.new.markers c.follow.new.parts c.follow.new.passed c.in_ok-due.due
     c.in_ok-due.ensures.reaches
@@ -39,7 +39,7 @@ try_again-requires-clause-sound c =
 
 pub try_again-requires-clause-unmarked : goal.try_again-requires-clause-unmarked
 try_again-requires-clause-unmarked c =
-    line-unmarked c.args.originals.now.setup c.attempt_loaded.new.originals.setup c.in_ok-awaited.ensures.world c.requires.fit c.args.marks.now c.args.markers.now c.args.parts.now c.requires.goes
+    line-unmarked c.args.originals.now.setup c.attempt_loaded.new.originals.setup c.in_ok-awaited.ensures.world c.requires.fit c.args.markers.now c.args.parts.now c.requires.goes
     c.args.passed.now c.depth-depth.result c.depth-depth.ensures c.in_ok-awaited.field-0 c.in-Some.awaited c.in-Some.is (state_of c.attempt_loaded.new.markers c.attempt_loaded.new.parts)
     c.in_ok-awaited.ensures.some c.in_ok-awaited.ensures.answer c.in_ok-awaited.ensures.state c.follow.new.markers c.follow.new.parts c.follow.new.passed c.in_ok-due.due
     c.in_ok-due.ensures.reaches
@@ -48,7 +48,7 @@ try_again-requires-clause-unmarked c =
 
 pub returns-clause-reaches : goal.returns-clause-reaches
 returns-clause-reaches c =
-    line-twice c.args.originals.now.setup c.attempt_loaded.new.originals.setup c.in_ok-awaited.ensures.world c.requires.fit c.args.marks.now c.args.markers.now c.args.parts.now c.requires.goes
+    line-twice c.args.originals.now.setup c.attempt_loaded.new.originals.setup c.in_ok-awaited.ensures.world c.requires.fit c.args.markers.now c.args.parts.now c.requires.goes
     c.args.passed.now c.depth-depth.result c.depth-depth.ensures c.in_ok-awaited.field-0 c.in-Some.awaited c.in-Some.is (state_of c.attempt_loaded.new.markers c.attempt_loaded.new.parts)
     c.in_ok-awaited.ensures.some c.in_ok-awaited.ensures.answer c.in_ok-awaited.ensures.state c.follow.new.markers c.follow.new.parts c.follow.new.passed c.in_ok-due.due
     c.in_ok-due.ensures.reaches
