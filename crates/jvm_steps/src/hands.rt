@@ -110,8 +110,8 @@ pub fn go(
     // The rest of the same step is in hand then, at the next of its changes that is told.
     ensures hands { let w = originals.old.setup in let s = state_of markers.old parts.old in
         IfOk result (λ o. IfSome o (λ gone. (homes : ℕ → ℕ → ℕ) (turn : Turn) (live : List Held)
-        → HasVersions w homes → HasInHand w.now homes turn hand live s
-        → HasGoneOn w.now homes turn hand live gone (state_of markers.new parts.new))) }
+        → HasVersions w homes → HasInHand w homes turn hand live s
+        → HasGoneOn w homes turn hand live gone (state_of markers.new parts.new))) }
 {
     let mut passed = hand.passed;
     if hand.moves {
