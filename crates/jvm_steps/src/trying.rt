@@ -140,7 +140,7 @@ fn try_again(
     ensures linked { OnOk result (originals.new.loaded ≡ parts.new.shared.loaded) }
     ensures reaches { let w = originals.old.setup in let s = state_of markers.old parts.old in
         IfOk result (λ due. pause_at (state_of markers.new parts.new) passed.new due
-        ≡ pause_behind_attempt w.now depth passed.old (attempts_on w s s.stack)) }
+        ≡ pause_behind_attempt w depth passed.old (attempts_on w s s.stack)) }
 {
     attempt(alloc, originals, parts, markers)?;
     follow(alloc, originals, parts, markers, depth, passed)
