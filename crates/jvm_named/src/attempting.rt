@@ -54,7 +54,7 @@ fn resolves(frames: &Frames, naming: &Naming) -> bool
 }
 
 /// The name of the class, or of the array type, that is resolved: of a member its class's.
-fn resolved_name(naming: &Naming) -> &Text16
+pub fn resolved_name(naming: &Naming) -> &Text16
     ensures { result.now ≡ resolved_name (naming_view naming.now) }
 {
     match naming {

@@ -31,9 +31,12 @@ mod targets;
 mod values;
 
 pub use asked::{Asked, Exception, Refusal};
-pub use attempting::{attempt, attempt_loaded};
+pub use attempting::{attempt, attempt_loaded, resolved_name};
 pub use constants::set_constants;
 pub use instances::{is_instance, user_count};
+pub use members::is_static_field;
 pub use naming::{MemberName, MethodName, Naming};
 pub use numbers::MethodNumbers;
+pub use place::Place;
 pub use resolution::resolve;
+pub use targets::is_static;

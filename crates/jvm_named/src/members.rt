@@ -20,7 +20,7 @@ use class_index::{STATIC, has_flag};
 use class_linker::{Linker, Resolved};
 
 /// Whether the field is static.
-fn is_static_field(linker: &Linker, m: Place) -> bool
+pub fn is_static_field(linker: &Linker, m: Place) -> bool
     ensures { result ≡ is_static_field linker.now.program (at_place m) }
 {
     let Some(file) = linker.index().file(m.class) else {

@@ -67,7 +67,7 @@ fn access_of(program: &Program, m: Place) -> u16
     }
 }
 
-fn is_static(program: &Program, m: Place) -> bool
+pub fn is_static(program: &Program, m: Place) -> bool
     ensures { result ≡ is_static program.now (at_place m) }
 {
     has_flag(access_of(program, m), STATIC)
