@@ -67,6 +67,7 @@ fn access_of(program: &Program, m: Place) -> u16
     }
 }
 
+/// Whether a method is static (JVM Specification 4.6).
 pub fn is_static(program: &Program, m: Place) -> bool
     ensures { result ≡ is_static program.now (at_place m) }
 {
