@@ -2,8 +2,12 @@ use Rattle.std.proofs.Common.{sym, subst, ◌∙◌}
 use Rattle.jvm_steps.specs.Markers.{state_of}
 use Rattle.jvm_steps.specs.Ready.{CanRun}
 use Rattle.jvm_steps.specs.Turning.{pause_at}
+use Rattle.jvm_steps.proofs.Behind.{none-there}
 use Rattle.jvm_steps.proofs.TriedSteps.{line-no-more, line-once, line-sound, line-twice, line-unmarked}
 use Rattle.jvm_steps.proofs.trying.try_line.Goals as goal
+
+pub attempt_loaded-requires-clause-unmarked : goal.attempt_loaded-requires-clause-unmarked
+attempt_loaded-requires-clause-unmarked c = none-there c.args.markers.now c.args.parts.now c.requires.goes
 
 pub returns-in_default-awaited-clause-reaches : goal.returns-in_default-awaited-clause-reaches
 returns-in_default-awaited-clause-reaches c =
