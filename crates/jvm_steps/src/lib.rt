@@ -58,6 +58,7 @@ pub use objects::arguments_fit;
 pub use originals::{Exception, Originals};
 pub use parts::{Here, Parts, where_now};
 pub use pausing::{go_by_moves, pause};
+pub use plain::plain_steps;
 pub use raising::raise;
 pub use resolving::line_of;
 pub use starting::parts_before;
