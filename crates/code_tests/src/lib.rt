@@ -7,6 +7,8 @@ mod of_base_classes;
 #[cfg(test)]
 mod of_class_linker;
 #[cfg(test)]
+mod of_class_shape;
+#[cfg(test)]
 mod of_code_model;
 #[cfg(test)]
 mod of_event_buffer;
@@ -14,8 +16,6 @@ mod of_event_buffer;
 mod of_frame_stack;
 #[cfg(test)]
 mod of_heap_objects;
-#[cfg(test)]
-mod of_hotswap;
 #[cfg(test)]
 mod of_native_ops;
 #[cfg(test)]
