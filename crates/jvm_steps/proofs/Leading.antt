@@ -1,10 +1,10 @@
 -- Steps that lead from one state to another, one after the other.
-use Rattle.std.proofs.Common.{◌≡◌, ℕ, zero, suc, ◌+◌, ◌-◌, false, inl, inr, sym, ap, subst, ◌∙◌, arith}
+use Rattle.std.proofs.Common.{◌≡◌, ℕ, zero, suc, ◌+◌, ◌-◌, false, [], inl, inr, sym, ap, subst, ◌∙◌, arith}
 use Rattle.std.specs.Prelude.{is_some}
 use Rattle.std.proofs.lemmas.Bool.{cases_lt}
 use Rattle.jvm_model.specs.declared.state.State.{State}
 use Rattle.jvm_model.specs.Run.{step}
-use Rattle.jvm_steps.specs.Runs.{Leads, steps_from, steps_from-zero, steps_from-suc}
+use Rattle.jvm_steps.specs.Runs.{AreQuiet, Leads, steps_from, steps_from-zero, steps_from-suc}
 use Rattle.jvm_steps.specs.Versions.{Setup, text_of}
 
 module _ (w : Setup) where
@@ -47,3 +47,22 @@ module _ (w : Setup) where
           ap (λ (s : State). is_some s.ending) state ∙ second.before (k - n) (omega arith))
     ];
   }
+
+  -- ---- without changes
+
+  pub quiet-one : (s : State) → (step w.world (text_of w.versions) s).changes ≡ [] → AreQuiet w s 1
+  quiet-one s quiet k less =
+      let none : 0 ≡ k = omega arith in
+      subst (λ n. (step w.world (text_of w.versions) (steps_from w n s)).changes ≡ []) none
+      (ap (λ (z : State). (step w.world (text_of w.versions) z).changes) (steps_from-zero w s) ∙ quiet)
+
+  pub quiet-on : (old mid : State) (n m : ℕ) → mid ≡ steps_from w n old → AreQuiet w old n → AreQuiet w mid m → AreQuiet w old (n + m)
+  quiet-on old mid n m made first second k less = elim (cases_lt k n) [
+    | inl below ↦ first k below
+    | inr above ↦
+        (let same : n + (k - n) ≡ k = omega arith in
+        let state : steps_from w k old ≡ steps_from w (k - n) mid =
+        ap (λ j. steps_from w j old) (sym same)
+        ∙ (steps-parts n (k - n) old ∙ ap (steps_from w (k - n)) (sym made)) in
+        ap (λ (z : State). (step w.world (text_of w.versions) z).changes) state ∙ second (k - n) (omega arith))
+  ]

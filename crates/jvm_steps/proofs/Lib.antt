@@ -49,6 +49,7 @@ pub mod Above
 pub mod ElementLemmas
 pub mod ElementActs
 pub mod Leading
+mod QuietLines
 mod PlainSteps
 mod TurnsCarried
 mod OneMove

@@ -1,5 +1,5 @@
 -- What the current frame does by itself is a step of the run: nothing follows from it.
-use Rattle.std.proofs.Common.{◌≡◌, ℕ, suc, ◌+◌, Bool, true, false, cond, List, [], ◌∷◌, length, map, Option, Some, None, refl, sym, ap, ◌∙◌}
+use Rattle.std.proofs.Common.{◌≡◌, ℕ, suc, ◌+◌, Bool, true, false, cond, List, [], ◌∷◌, length, map, Option, Some, None, refl, sym, ap, ◌∙◌, arith}
 use Rattle.std.specs.Prelude.{is_some, is_none, nat_le, ◌&&◌, ◌||◌}
 use Rattle.frame_stack.specs.Widths.{height_of}
 use Rattle.frame_stack.specs.FrameLists.{PlacedFrame, FramesView, has_frame}
@@ -17,7 +17,8 @@ use Rattle.jvm_steps.specs.Markers.{marker_on, state_of, with_markers}
 use Rattle.jvm_steps.specs.Runs.{IsCalm, IsPlainLine, LeadsPlainly}
 use Rattle.jvm_steps.specs.States.{active, frame_in, state_with}
 use Rattle.jvm_steps.proofs.Alone.{goes-next}
-use Rattle.jvm_steps.proofs.Leading.{leads-none, leads-one, leads-on}
+use Rattle.jvm_steps.proofs.Leading.{leads-none, leads-one, leads-on, quiet-on, quiet-one}
+use Rattle.jvm_steps.proofs.QuietLines.{quiet-step}
 use Rattle.jvm_steps.proofs.Carried.{comes-carried, length-active}
 use Rattle.jvm_steps.proofs.LineSteps.{going-on, rests, step-attempts, top-frame}
 use Rattle.jvm_steps.specs.Versions.{Setup, text_of, line_at}
@@ -93,6 +94,13 @@ plain-at w run line ms p (f ∷ fs) room new calm stands e made =
     (rests w (text_of w.versions) ms r
     (at-rest p.ending p.thrown (has_frame new.frames && is_none (marker_on (length new.frames) ms)) calm.ending calm.thrown (framed (length (f ∷ fs)) ms new.frames calm.unmarked many has)))
 
+-- it has no change
+quiet-at : (w : Setup) (run : CanRun w) (line : Line) (ms : List Marker) (p : Parts) (fs : List PlacedFrame) (room : Option ℕ) → IsCalm (length fs) ms p → IsPlainLine w fs line
+    → (let old : FramesView = record { frames = fs; room = room } in effect_of (rule_of line.instr line.constant line.next) old ≡ Next)
+    → (step w.world (text_of w.versions) (with_markers ms (state_with fs p))).changes ≡ []
+quiet-at w run line ms p [] room calm stands e = absurd stands
+quiet-at w run line ms p (f ∷ fs) room calm stands e = quiet-step w run line ms p f fs calm stands e
+
 goes-on : (n : ℕ) (ms : List Marker) (p : Parts) → IsCalm n ms p → is_some p.ending ≡ false
 goes-on n ms p calm = ap is_some calm.ending
 
@@ -104,10 +112,18 @@ plain-one w run line old new stands e made = record {
   leads = λ ms p calm.
       leads-one w (with_markers ms (state_with old.frames p)) (with_markers ms (state_with new.frames p)) (goes-on (length old.frames) ms p calm)
       (plain-at w run line ms p old.frames old.room new calm stands e made);
+  quiet = λ ms p calm. quiet-one w (with_markers ms (state_with old.frames p)) (quiet-at w run line ms p old.frames old.room calm stands e);
 }
 
 pub plain-none : (w : Setup) (fs : List PlacedFrame) → LeadsPlainly w fs 0 fs
-plain-none w fs = record { many = refl; leads = λ ms p calm. leads-none w (with_markers ms (state_with fs p)) }
+plain-none w fs = record {
+  many = refl;
+  leads = λ ms p calm. leads-none w (with_markers ms (state_with fs p));
+  quiet = λ ms p calm k less. absurd (omega arith);
+}
+
+still-calm : (old mid : List PlacedFrame) → length mid ≡ length old → (ms : List Marker) (p : Parts) → IsCalm (length old) ms p → IsCalm (length mid) ms p
+still-calm old mid many ms p calm = record { ending = calm.ending; thrown = calm.thrown; unmarked = ap (λ k. marker_on k ms) many ∙ calm.unmarked }
 
 pub plain-on : (w : Setup) (old mid new : List PlacedFrame) (n m : ℕ) → LeadsPlainly w old n mid → LeadsPlainly w mid m new
     → LeadsPlainly w old (n + m) new
@@ -115,5 +131,8 @@ plain-on w old mid new n m first second = record {
   many = second.many ∙ first.many;
   leads = λ ms p calm.
       leads-on w (with_markers ms (state_with old p)) (with_markers ms (state_with mid p)) (with_markers ms (state_with new p)) n m (first.leads ms p calm)
-      (second.leads ms p (record { ending = calm.ending; thrown = calm.thrown; unmarked = ap (λ k. marker_on k ms) first.many ∙ calm.unmarked }));
+      (second.leads ms p (still-calm old mid first.many ms p calm));
+  quiet = λ ms p calm.
+      quiet-on w (with_markers ms (state_with old p)) (with_markers ms (state_with mid p)) n m (first.leads ms p calm).made (first.quiet ms p calm)
+      (second.quiet ms p (still-calm old mid first.many ms p calm));
 }

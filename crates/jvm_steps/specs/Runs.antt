@@ -42,7 +42,12 @@ pub record IsCalm (n : ℕ) (ms : List Marker) (p : Parts) : Type 0 where
   pub thrown : p.thrown ≡ None
   pub unmarked : marker_on n ms ≡ None
 
--- So many steps change the frames to these, which are as many, whatever else there is.
+-- none of so many steps has a change: nothing is loaded, nothing begins and nothing ends
+abbrev pub AreQuiet : Setup → State → ℕ → Type 0
+AreQuiet w s n = (k : ℕ) → k < n → (step w.world (text_of w.versions) (steps_from w k s)).changes ≡ []
+
+-- So many steps change the frames to these, which are as many, and nothing else, whatever else there is.
 pub record LeadsPlainly (w : Setup) (old : List PlacedFrame) (n : ℕ) (new : List PlacedFrame) : Type 0 where
   pub many : length new ≡ length old
   pub leads : (ms : List Marker) (p : Parts) → IsCalm (length old) ms p → Leads w (with_markers ms (state_with old p)) n (with_markers ms (state_with new p))
+  pub quiet : (ms : List Marker) (p : Parts) → IsCalm (length old) ms p → AreQuiet w (with_markers ms (state_with old p)) n
