@@ -12,12 +12,12 @@ use Rattle.jvm_model.proofs.SoundKinds.{named-class}
 use Rattle.jvm_named.specs.declared.naming.Naming.{Naming}
 use Rattle.jvm_named.specs.Names.{naming_view}
 use Rattle.call_revelation.specs.declared.uses.Use.{Use}
-use Rattle.call_revelation.specs.Books.{Codes, HasMore, IsBook, IsListed, code_at, has_use, is_call, is_use, use_of, with_call, with_calls, with_use, with_uses}
+use Rattle.call_revelation.specs.Books.{Codes, HasMore, IsBook, IsListed, code_at, has_use, is_noted, is_use, use_of, with_noted, with_use, with_uses}
 use Rattle.call_revelation.specs.Tables.{list_at, with_item}
 use Rattle.call_revelation.proofs.Adding.{both, equal, itself, or-assoc, or-first, or-later}
 use Rattle.call_revelation.proofs.LineageLemmas.{below-or-past}
 use Rattle.call_revelation.proofs.LoadStep.{map-get}
-use Rattle.call_revelation.proofs.TableLemmas.{at-other, at-same, length-with, nothing_past}
+use Rattle.call_revelation.proofs.TableLemmas.{at-other, at-same, length-with, nothing_past, set-length, set-other, set-same}
 
 false_true : false ≡ true → ⊥
 false_true e = cc
@@ -68,31 +68,25 @@ more-then a b c first second = record {
 -- ---- an instruction, by the class that it names
 
 module _ (p : Program) where
-  pub noted-more : (u : Use) (n : model.Naming) (lists : List (List Use)) → HasMore lists (with_use p u n lists)
-  noted-more u n lists = by (class_named p (model.resolved_name n))
+  use-more : (u : Use) (n : model.Naming) (lists : List (List Use)) → HasMore lists (with_use p u n lists)
+  use-more u n lists = by (class_named p (model.resolved_name n))
     where
       by : (o : Option ℕ) → HasMore lists (option_map_or (λ class. with_item class u lists) o lists)
       by None = more-same lists
       by (Some class) = record { places = length-with u class lists; kept = λ caller at k h. use-kept caller at k class u lists h }
 
-  pub called-more : (u : Use) (n : model.Naming) (lists : List (List Use)) → HasMore lists (with_call p u n lists)
-  called-more u n lists = by (is_call n)
+  pub noted-more : (calls : Bool) (u : Use) (n : model.Naming) (lists : List (List Use)) → HasMore lists (with_noted p calls u n lists)
+  noted-more calls u n lists = by (is_noted calls n)
     where
       by : (b : Bool) → HasMore lists (if b then with_use p u n lists else lists)
-      by true = noted-more u n lists
+      by true = use-more u n lists
       by false = more-same lists
 
-  uses-more : (caller at : ℕ) (ns : List model.Naming) (lists : List (List Use)) → HasMore lists (with_uses p caller at ns lists)
-  uses-more caller at [] lists = more-same lists
-  uses-more caller at (n ∷ rest) lists =
-      let one = with_use p (use_of caller at) n lists in
-      more-then lists one (with_uses p caller (at + 1) rest one) (noted-more (use_of caller at) n lists) (uses-more caller (at + 1) rest one)
-
-  calls-more : (caller at : ℕ) (ns : List model.Naming) (lists : List (List Use)) → HasMore lists (with_calls p caller at ns lists)
-  calls-more caller at [] lists = more-same lists
-  calls-more caller at (n ∷ rest) lists =
-      let one = with_call p (use_of caller at) n lists in
-      more-then lists one (with_calls p caller (at + 1) rest one) (called-more (use_of caller at) n lists) (calls-more caller (at + 1) rest one)
+  uses-more : (calls : Bool) (caller at : ℕ) (ns : List model.Naming) (lists : List (List Use)) → HasMore lists (with_uses p calls caller at ns lists)
+  uses-more calls caller at [] lists = more-same lists
+  uses-more calls caller at (n ∷ rest) lists =
+      let one = with_noted p calls (use_of caller at) n lists in
+      more-then lists one (with_uses p calls caller (at + 1) rest one) (noted-more calls (use_of caller at) n lists) (uses-more calls caller (at + 1) rest one)
 
   use-listed : (caller at : ℕ) (n : model.Naming) (lists : List (List Use)) → length lists ≡ length p.classes
       → IsListed p (with_use p (use_of caller at) n lists) caller at n
@@ -100,36 +94,25 @@ module _ (p : Program) where
       ap (λ o. has_use caller at (list_at (option_map_or (λ k. with_item k (use_of caller at) lists) o lists) class)) e
       ∙ use-there caller at class lists (subst (λ k. class < k) (sym places) (named-class (has_name (model.resolved_name n)) p.classes class e))
 
-  -- each of a method's instructions
-  uses-listed : (caller at : ℕ) (ns : List model.Naming) (lists : List (List Use)) → length lists ≡ length p.classes
-      → (i k : ℕ) (n : model.Naming) → slice_get ns i ≡ Some n → k ≡ at + i → IsListed p (with_uses p caller at ns lists) caller k n
-  uses-listed caller at [] lists places i k n e is = absurd (none-some n e)
-  uses-listed caller at (x ∷ rest) lists places zero k n e is = λ class named.
-      let one = with_use p (use_of caller at) x lists in
-      (uses-more caller (at + 1) rest one).kept caller k class
-      (ap (λ j. has_use caller j (list_at one class)) (let same : k ≡ at = omega (arith, is) in same)
-      ∙ use-listed caller at x lists places class (ap (λ y. class_named p (model.resolved_name y)) (some-some x n e) ∙ named))
-  uses-listed caller at (x ∷ rest) lists places (suc i) k n e is = λ class named.
-      let one = with_use p (use_of caller at) x lists in
-      uses-listed caller (at + 1) rest one ((noted-more (use_of caller at) x lists).places ∙ places) i k n e (omega (arith, is)) class named
-
-  call-listed : (caller at : ℕ) (n : model.Naming) (lists : List (List Use)) → length lists ≡ length p.classes → is_call n ≡ true
-      → IsListed p (with_call p (use_of caller at) n lists) caller at n
-  call-listed caller at n lists places call class e =
-      ap (λ b. has_use caller at (list_at (if b then with_use p (use_of caller at) n lists else lists) class)) call
+  noted-listed : (calls : Bool) (caller at : ℕ) (n : model.Naming) (lists : List (List Use)) → length lists ≡ length p.classes → is_noted calls n ≡ true
+      → IsListed p (with_noted p calls (use_of caller at) n lists) caller at n
+  noted-listed calls caller at n lists places noted class e =
+      ap (λ b. has_use caller at (list_at (if b then with_use p (use_of caller at) n lists else lists) class)) noted
       ∙ use-listed caller at n lists places class e
 
-  calls-listed : (caller at : ℕ) (ns : List model.Naming) (lists : List (List Use)) → length lists ≡ length p.classes
-      → (i k : ℕ) (n : model.Naming) → slice_get ns i ≡ Some n → is_call n ≡ true → k ≡ at + i → IsListed p (with_calls p caller at ns lists) caller k n
-  calls-listed caller at [] lists places i k n e call is = absurd (none-some n e)
-  calls-listed caller at (x ∷ rest) lists places zero k n e call is = λ class named.
-      let one = with_call p (use_of caller at) x lists in
-      (calls-more caller (at + 1) rest one).kept caller k class
+  -- each of a method's instructions that is noted
+  uses-listed : (calls : Bool) (caller at : ℕ) (ns : List model.Naming) (lists : List (List Use)) → length lists ≡ length p.classes
+      → (i k : ℕ) (n : model.Naming) → slice_get ns i ≡ Some n → is_noted calls n ≡ true → k ≡ at + i → IsListed p (with_uses p calls caller at ns lists) caller k n
+  uses-listed calls caller at [] lists places i k n e noted is = absurd (none-some n e)
+  uses-listed calls caller at (x ∷ rest) lists places zero k n e noted is = λ class named.
+      let one = with_noted p calls (use_of caller at) x lists in
+      (uses-more calls caller (at + 1) rest one).kept caller k class
       (ap (λ j. has_use caller j (list_at one class)) (let same : k ≡ at = omega (arith, is) in same)
-      ∙ call-listed caller at x lists places (ap is_call (some-some x n e) ∙ call) class (ap (λ y. class_named p (model.resolved_name y)) (some-some x n e) ∙ named))
-  calls-listed caller at (x ∷ rest) lists places (suc i) k n e call is = λ class named.
-      let one = with_call p (use_of caller at) x lists in
-      calls-listed caller (at + 1) rest one ((called-more (use_of caller at) x lists).places ∙ places) i k n e call (omega (arith, is)) class named
+      ∙ noted-listed calls caller at x lists places (ap (is_noted calls) (some-some x n e) ∙ noted) class
+      (ap (λ y. class_named p (model.resolved_name y)) (some-some x n e) ∙ named))
+  uses-listed calls caller at (x ∷ rest) lists places (suc i) k n e noted is = λ class named.
+      let one = with_noted p calls (use_of caller at) x lists in
+      uses-listed calls caller (at + 1) rest one ((noted-more calls (use_of caller at) x lists).places ∙ places) i k n e noted (omega (arith, is)) class named
 
   -- ---- the book
 
@@ -147,36 +130,16 @@ module _ (p : Program) where
 
 -- ---- what was read of a method
 
-pub set-same : {A : Type 0} (codes : List A) (m : ℕ) (x : A) → m < length codes → slice_get (slice_set codes m x) m ≡ Some x
-set-same [] m x within = absurd (omega (arith, within))
-set-same (c ∷ codes) zero x within = refl
-set-same (c ∷ codes) (suc m) x within = set-same codes m x (omega (arith, within))
-
-pub set-other : {A : Type 0} (codes : List A) (m k : ℕ) (x : A) → (k == m) ≡ false → slice_get (slice_set codes m x) k ≡ slice_get codes k
-set-other [] m k x other = refl
-set-other (c ∷ codes) zero zero x other = absurd (false_true (sym other))
-set-other (c ∷ codes) zero (suc k) x other = refl
-set-other (c ∷ codes) (suc m) zero x other = refl
-set-other (c ∷ codes) (suc m) (suc k) x other = set-other codes m k x (less m k other)
-  where
-    less : (m k : ℕ) → (suc k == suc m) ≡ false → (k == m) ≡ false
-    less m k e = grind (arith)
-
-pub set-length : {A : Type 0} (codes : List A) (m : ℕ) (x : A) → length (slice_set codes m x) ≡ length codes
-set-length [] m x = refl
-set-length (c ∷ codes) zero x = refl
-set-length (c ∷ codes) (suc m) x = ap suc (set-length codes m x)
-
 module _ (p : Program) (codes : Codes) (waiting calls : List (List Use)) (book : IsBook p codes waiting calls) (method : ℕ) (ns : List Naming)
     (within : method < length codes) (read : map naming_view ns ≡ namings_of (operations_of p method)) where
   abbrev more : Codes
   more = slice_set codes method (Some ns)
 
   abbrev waiting_more : List (List Use)
-  waiting_more = with_uses p method 0 (map naming_view ns) waiting
+  waiting_more = with_uses p false method 0 (map naming_view ns) waiting
 
   abbrev calls_more : List (List Use)
-  calls_more = with_calls p method 0 (map naming_view ns) calls
+  calls_more = with_uses p true method 0 (map naming_view ns) calls
 
   here : code_at more method ≡ Some ns
   here = ap option_flatten (set-same codes method (Some ns) within)
@@ -192,8 +155,8 @@ module _ (p : Program) (codes : Codes) (waiting calls : List (List Use)) (book :
   pub book-read : IsBook p more waiting_more calls_more
   book-read = record {
     methods = set-length codes method (Some ns) ∙ book.methods;
-    places = (uses-more p method 0 (map naming_view ns) waiting).places ∙ book.places;
-    call_places = (calls-more p method 0 (map naming_view ns) calls).places ∙ book.call_places;
+    places = (uses-more p false method 0 (map naming_view ns) waiting).places ∙ book.places;
+    call_places = (uses-more p true method 0 (map naming_view ns) calls).places ∙ book.call_places;
     read = λ k xs e. elim (which k xs e) [
       | inl h ↦ ap (map naming_view) h.1 ∙ (read ∙ ap (λ j. namings_of (operations_of p j)) (sym h.0))
       | inr h ↦ book.read k xs h
@@ -201,16 +164,16 @@ module _ (p : Program) (codes : Codes) (waiting calls : List (List Use)) (book :
     waits = λ k at xs n e there class named. elim (which k xs e) [
       | inl h ↦
           ap (λ j. has_use j at (list_at waiting_more class)) h.0
-          ∙ uses-listed p method 0 (map naming_view ns) waiting book.places at at (naming_view n)
-          (map-get naming_view ns at n (ap (λ l. slice_get l at) (sym h.1) ∙ there)) (omega arith) class named
-      | inr h ↦ (uses-more p method 0 (map naming_view ns) waiting).kept k at class (book.waits k at xs n h there class named)
+          ∙ uses-listed p false method 0 (map naming_view ns) waiting book.places at at (naming_view n)
+          (map-get naming_view ns at n (ap (λ l. slice_get l at) (sym h.1) ∙ there)) refl (omega arith) class named
+      | inr h ↦ (uses-more p false method 0 (map naming_view ns) waiting).kept k at class (book.waits k at xs n h there class named)
     ];
     called = λ k at xs n e there call class named. elim (which k xs e) [
       | inl h ↦
           ap (λ j. has_use j at (list_at calls_more class)) h.0
-          ∙ calls-listed p method 0 (map naming_view ns) calls book.call_places at at (naming_view n)
+          ∙ uses-listed p true method 0 (map naming_view ns) calls book.call_places at at (naming_view n)
           (map-get naming_view ns at n (ap (λ l. slice_get l at) (sym h.1) ∙ there)) call (omega arith) class named
-      | inr h ↦ (calls-more p method 0 (map naming_view ns) calls).kept k at class (book.called k at xs n h there call class named)
+      | inr h ↦ (uses-more p true method 0 (map naming_view ns) calls).kept k at class (book.called k at xs n h there call class named)
     ];
   }
 

@@ -20,10 +20,12 @@ use Rattle.jvm_steps.specs.Prepared.{HasShortCodes}
 use Rattle.call_revelation.specs.declared.reveal.Reveal.{Reveal}
 use Rattle.call_revelation.specs.Books.{IsBookOf}
 use Rattle.call_revelation.specs.Lineages.{IsLineage}
-use Rattle.call_revelation.specs.Reveals.{AreOwned, IsRevelation, flag_at, mark_at, mark_by, now_of, nothing_revealed, owned_from}
+use Rattle.call_revelation.specs.Ranks.{flag_at}
+use Rattle.call_revelation.specs.Reveals.{AreOwned, IsRevelation, mark_at, mark_by, now_of, nothing_revealed, owned_from}
 use Rattle.call_revelation.specs.Tables.{list_at, with_item}
 use Rattle.call_revelation.proofs.Adding.{among-append, itself, or-first, or-later}
 use Rattle.call_revelation.proofs.LineageLemmas.{item-kept}
+use Rattle.call_revelation.proofs.RankLemmas.{no-flag}
 use Rattle.call_revelation.proofs.TableLemmas.{at-same, length-with}
 
 false_true : false ≡ true → ⊥
@@ -101,11 +103,6 @@ all-owned p is own e m place there =
     (subst (λ n. place.class < n) (sym (replicate-length {A = List ℕ} (length p.classes) [])) (place-within p is m place there))
 
 -- ---- nothing is entered or marked
-
-no-flag : (n m : ℕ) → flag_at (replicate n false) m ≡ false
-no-flag zero m = refl
-no-flag (suc n) zero = refl
-no-flag (suc n) (suc m) = no-flag n m
 
 no-mark : (n m : ℕ) → mark_at (replicate n Off) m ≡ Off
 no-mark zero m = refl

@@ -1,6 +1,8 @@
 pub mod Adding
 pub mod Choosing
 pub mod TableLemmas
+pub mod RankLemmas
+pub mod InLoadOrder
 pub mod LineageLemmas
 pub mod BegunLemmas
 pub mod LineNamings

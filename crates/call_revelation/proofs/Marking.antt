@@ -17,11 +17,12 @@ use Rattle.call_revelation.specs.declared.lineage.Lineage.{Lineage}
 use Rattle.call_revelation.specs.declared.reveal.Reveal.{Reveal}
 use Rattle.call_revelation.specs.Books.{IsBookOf, code_at, gathered}
 use Rattle.call_revelation.specs.Lineages.{IsLineage}
-use Rattle.call_revelation.specs.Reveals.{IsAhead, IsFront, IsKept, IsRevelation, flag_at, is_placed, mark_by, mark_kept, now_of}
+use Rattle.call_revelation.specs.Ranks.{flag_at}
+use Rattle.call_revelation.specs.Reveals.{IsAhead, IsFront, IsKept, IsRevelation, is_placed, mark_by, mark_kept, now_of}
 use Rattle.call_revelation.specs.Tables.{Adds, list_at}
 use Rattle.class_index.specs.Orders.{with_class}
-use Rattle.call_revelation.proofs.Adding.{among-append, among-filter, among-with, equal, or-false, or-first, either}
-use Rattle.call_revelation.proofs.BookLemmas.{set-length, set-other, set-same}
+use Rattle.call_revelation.proofs.Adding.{among-append, among-filter, among-with, either, equal, neither, or-false, or-first}
+use Rattle.call_revelation.proofs.TableLemmas.{set-length, set-other, set-same}
 use Rattle.call_revelation.proofs.Fronts.{front-among}
 use Rattle.call_revelation.proofs.LoadStep.{load-step}
 
@@ -33,10 +34,6 @@ none-some x e = cc
 
 some-some : {A : Type 0} (x y : A) → Some x ≡ Some y → x ≡ y
 some-some x y e = cc
-
-pub neither : (a b : Bool) → (a || b) ≡ false → (a ≡ false) × (b ≡ false)
-neither false b e = (refl, e)
-neither true b e = absurd (false_true (sym e))
 
 pub mark-is : (p : Program) (r : Reveal) → IsRevelation p r → (m : ℕ) → mark_kept r m ≡ mark_of p (now_of r) m
 mark-is p r is m =

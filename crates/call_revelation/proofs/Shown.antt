@@ -2,7 +2,7 @@
 use Rattle.std.proofs.Common.{◌≡◌, ℕ, zero, suc, ◌+◌, ◌<◌, ◌≤◌, Bool, true, false, List, [], ◌∷◌, length, map, ap, ap₂, sym, subst, refl, ◌∙◌, arith, inl, inr}
 use Rattle.std.specs.Prelude.{Option, Some, None, ◌⊎◌, filter, filter_map, not, slice_get, slice_set, unwrap_or, ◌==◌, ◌&&◌, if◌then◌else◌}
 use Rattle.std.specs.List.{cons_option, enumerate_from, list_any}
-use Rattle.std.specs.Option.{option_map_or}
+use Rattle.std.specs.Option.{option_and_then, option_map_or}
 use Rattle.jvm_model.specs.declared.event.Mark.{Mark}
 use Rattle.jvm_model.specs.declared.event.Mark.TheVariants.{Off, Plain, Root}
 use Rattle.jvm_model.specs.declared.program.MethodPlace.{MethodPlace}
@@ -12,11 +12,14 @@ use Rattle.jvm_model.specs.Points.{is_target}
 use Rattle.jvm_model.specs.Revealed.{Revealed, changed_of, mark_of, marks_of, stand_of}
 use Rattle.jvm_model.specs.Swaps.{differs, same_mark}
 use Rattle.jvm_model.specs.Targets.{operations_of}
-use Rattle.class_index.specs.Orders.{with_classes}
 use Rattle.call_revelation.specs.declared.reveal.Reveal.{Reveal}
-use Rattle.call_revelation.specs.Reveals.{IsRevelation, class_changed, mark_at, mark_by, mark_kept, now_of, with_marks}
-use Rattle.call_revelation.proofs.Adding.{adds-all, alike, both, either, equal, first-of, itself, or-first, or-later, second-of}
-use Rattle.call_revelation.proofs.BookLemmas.{set-length, set-other, set-same}
+use Rattle.call_revelation.specs.Reveals.{IsRevelation, class_changed, mark_at, mark_by, mark_kept, now_of, rank_changed, with_marks}
+use Rattle.call_revelation.specs.Tables.{IsRising}
+use Rattle.call_revelation.specs.Ranks.{AreDistinct, rank_of}
+use Rattle.call_revelation.proofs.Adding.{alike, both, either, equal, first-of, itself, or-first, or-later, second-of}
+use Rattle.call_revelation.proofs.InLoadOrder.{in-order}
+use Rattle.call_revelation.proofs.RankLemmas.{rank-is, rank-there}
+use Rattle.call_revelation.proofs.TableLemmas.{set-length, set-other, set-same}
 use Rattle.call_revelation.proofs.LineageLemmas.{below-or-past}
 use Rattle.call_revelation.proofs.Marking.{mark-is}
 
@@ -175,20 +178,49 @@ module _ (p : Program) (r : Reveal) (is : IsRevelation p r) (before : Revealed) 
       is-not false h = refl
       is-not true h = absurd (false_true h)
 
-  class-differs : is_among class (with_classes [] (filter_map (class_changed r) r.stale)) ≡ differs p (operations_of p) (stand_of before) (stand_of (now_of r)) class
-  class-differs =
-      adds-all [] (filter_map (class_changed r) r.stale) class
-      ∙ alike (is_among class (filter_map (class_changed r) r.stale)) (list_any test (enumerate_from 0 p.methods)) changed-to changed-from
+  class-differs : is_among class (filter_map (class_changed r) r.stale) ≡ differs p (operations_of p) (stand_of before) (stand_of (now_of r)) class
+  class-differs = alike (is_among class (filter_map (class_changed r) r.stale)) (list_any test (enumerate_from 0 p.methods)) changed-to changed-from
 
-filter-alike : (f g : ℕ → Bool) (xs : List ℕ) → ((x : ℕ) → f x ≡ g x) → filter f xs ≡ filter g xs
-filter-alike f g [] same = refl
-filter-alike f g (x ∷ xs) same = ap₂ (λ b l. if b then x ∷ l else l) (same x) (filter-alike f g xs same)
+-- ---- and their places in load order
 
-pub classes-changed : (p : Program) (r : Reveal) → IsRevelation p r → (before : Revealed) → r.shown ≡ marks_of p before → (found : List ℕ)
-    → found ≡ with_classes [] (filter_map (class_changed r) r.stale) → filter (λ c. is_among c found) r.lineage.loaded ≡ changed_of p before (now_of r)
-classes-changed p r is before shown found e =
-    filter-alike (λ c. is_among c found) (differs p (operations_of p) (stand_of before) (stand_of (now_of r))) r.lineage.loaded
-    (λ class. ap (is_among class) e ∙ class-differs p r is before shown class)
+module _ (p : Program) (r : Reveal) (is : IsRevelation p r) (before : Revealed) (shown : r.shown ≡ marks_of p before) (alone : AreDistinct r.lineage.loaded) where
+  abbrev is_changed : ℕ → Bool
+  is_changed = differs p (operations_of p) (stand_of before) (stand_of (now_of r))
+
+  abbrev changed_classes : List ℕ
+  changed_classes = filter_map (class_changed r) r.stale
+
+  abbrev changed_ranks : List ℕ
+  changed_ranks = filter_map (rank_changed r) r.stale
+
+  -- at the place of a class that changed
+  rank-hit : (i : ℕ) → is_among i changed_ranks ≡ true → option_map_or is_changed (slice_get r.lineage.loaded i) false ≡ true
+  rank-hit i h =
+      let made = made-from (rank_changed r) r.stale i h in
+      by made.item made.there (class_changed r made.item) refl made.gives
+    where
+      by : (m : ℕ) → is_among m r.stale ≡ true → (o : Option ℕ) → class_changed r m ≡ o
+          → option_and_then (λ class. rank_of class r.lineage.loaded) o ≡ Some i → option_map_or is_changed (slice_get r.lineage.loaded i) false ≡ true
+      by m stale None e ranked = absurd (none-some i ranked)
+      by m stale (Some class) e ranked =
+          ap (λ o. option_map_or is_changed o false) (rank-there class r.lineage.loaded i ranked)
+          ∙ (sym (class-differs p r is before shown class) ∙ made-to (class_changed r) r.stale m class stale e)
+
+  hit-rank : (i : ℕ) → option_map_or is_changed (slice_get r.lineage.loaded i) false ≡ true → is_among i changed_ranks ≡ true
+  hit-rank i h = by (slice_get r.lineage.loaded i) refl h
+    where
+      by : (o : Option ℕ) → slice_get r.lineage.loaded i ≡ o → option_map_or is_changed o false ≡ true → is_among i changed_ranks ≡ true
+      by None e h = absurd (false_true h)
+      by (Some class) e h =
+          let made = made-from (class_changed r) r.stale class (class-differs p r is before shown class ∙ h) in
+          made-to (rank_changed r) r.stale made.item i made.there
+          (ap (option_and_then (λ c. rank_of c r.lineage.loaded)) made.gives ∙ rank-is class r.lineage.loaded i alone e)
+
+  pub classes-changed : (ranks : List ℕ) → IsRising ranks → ((rank : ℕ) → is_among rank ranks ≡ is_among rank changed_ranks)
+      → filter_map (slice_get r.lineage.loaded) ranks ≡ changed_of p before (now_of r)
+  classes-changed ranks up same =
+      in-order is_changed r.lineage.loaded ranks up
+      (λ i. same i ∙ alike (is_among i changed_ranks) (option_map_or is_changed (slice_get r.lineage.loaded i) false) (rank-hit i) (hit-rank i))
 
 -- ---- marks that are shown
 

@@ -1,6 +1,6 @@
 -- Lists that are kept by number.
 use Rattle.std.proofs.Common.{◌≡◌, ℕ, zero, suc, ◌<◌, ◌≤◌, true, false, List, [], ◌∷◌, ◌++◌, length, get_or, ap, sym, refl, arith}
-use Rattle.std.specs.Prelude.{slice_set, ◌==◌}
+use Rattle.std.specs.Prelude.{Some, slice_get, slice_set, ◌==◌}
 use Rattle.call_revelation.specs.Tables.{list_at, with_item}
 
 false_true : false ≡ true → ⊥
@@ -37,3 +37,25 @@ at-other item (suc n) (suc k) (list ∷ lists) other = at-other item n k lists (
   where
     less : (n k : ℕ) → (suc k == suc n) ≡ false → (k == n) ≡ false
     less n k e = grind (arith)
+
+-- ---- an item that is written
+
+pub set-same : {A : Type 0} (codes : List A) (m : ℕ) (x : A) → m < length codes → slice_get (slice_set codes m x) m ≡ Some x
+set-same [] m x within = absurd (omega (arith, within))
+set-same (c ∷ codes) zero x within = refl
+set-same (c ∷ codes) (suc m) x within = set-same codes m x (omega (arith, within))
+
+pub set-other : {A : Type 0} (codes : List A) (m k : ℕ) (x : A) → (k == m) ≡ false → slice_get (slice_set codes m x) k ≡ slice_get codes k
+set-other [] m k x other = refl
+set-other (c ∷ codes) zero zero x other = absurd (false_true (sym other))
+set-other (c ∷ codes) zero (suc k) x other = refl
+set-other (c ∷ codes) (suc m) zero x other = refl
+set-other (c ∷ codes) (suc m) (suc k) x other = set-other codes m k x (less m k other)
+  where
+    less : (m k : ℕ) → (suc k == suc m) ≡ false → (k == m) ≡ false
+    less m k e = grind (arith)
+
+pub set-length : {A : Type 0} (codes : List A) (m : ℕ) (x : A) → length (slice_set codes m x) ≡ length codes
+set-length [] m x = refl
+set-length (c ∷ codes) zero x = refl
+set-length (c ∷ codes) (suc m) x = ap suc (set-length codes m x)

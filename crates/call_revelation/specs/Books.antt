@@ -68,17 +68,18 @@ use_of caller at = record { caller = caller; at = at }
 abbrev pub with_use : Program → Use → model.Naming → List (List Use) → List (List Use)
 with_use p u n lists = option_map_or (λ class. with_item class u lists) (class_named p (model.resolved_name n)) lists
 
-abbrev pub with_call : Program → Use → model.Naming → List (List Use) → List (List Use)
-with_call p u n lists = if is_call n then with_use p u n lists else lists
+-- all of them are noted, or calls alone
+abbrev pub is_noted : Bool → model.Naming → Bool
+is_noted true n = is_call n
+is_noted _ n = true
+
+abbrev pub with_noted : Program → Bool → Use → model.Naming → List (List Use) → List (List Use)
+with_noted p calls u n lists = if is_noted calls n then with_use p u n lists else lists
 
 -- the instructions of a method, from this place on
-abbrev pub with_uses : Program → ℕ → ℕ → List model.Naming → List (List Use) → List (List Use)
-with_uses p caller at [] lists = lists
-with_uses p caller at (n ∷ rest) lists = with_uses p caller (at + 1) rest (with_use p (use_of caller at) n lists)
-
-abbrev pub with_calls : Program → ℕ → ℕ → List model.Naming → List (List Use) → List (List Use)
-with_calls p caller at [] lists = lists
-with_calls p caller at (n ∷ rest) lists = with_calls p caller (at + 1) rest (with_call p (use_of caller at) n lists)
+abbrev pub with_uses : Program → Bool → ℕ → ℕ → List model.Naming → List (List Use) → List (List Use)
+with_uses p calls caller at [] lists = lists
+with_uses p calls caller at (n ∷ rest) lists = with_uses p calls caller (at + 1) rest (with_noted p calls (use_of caller at) n lists)
 
 -- whatever stood in a list does
 pub record HasMore (before after : List (List Use)) : Type 0 where

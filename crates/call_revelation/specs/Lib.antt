@@ -1,4 +1,5 @@
 pub mod Tables
+pub mod Ranks
 pub mod Lineages
 pub mod Namings
 pub mod Books

@@ -5,18 +5,13 @@ use Rattle.jvm_model.specs.declared.program.Program.{Program}
 use Rattle.jvm_model.specs.InvocationRules.{Selecting, Virtual, OfInterface}
 use Rattle.jvm_model.specs.KindNumbers.{user_count}
 use Rattle.jvm_model.specs.Load.{is_among}
-use Rattle.jvm_model.specs.Lookup.{MemberPlace, is_subtype, place_in}
+use Rattle.jvm_model.specs.Lookup.{MemberPlace, is_subtype}
 use Rattle.jvm_model.specs.Programs.{initializer_of, number_of_method}
 use Rattle.jvm_model.specs.Selection.{selected}
 use Rattle.class_linker.specs.Linkers.{IsLoaded, LinkerView}
 use Rattle.jvm_named.specs.Numbers.{AreNumbers, Row}
 use Rattle.call_revelation.specs.declared.lineage.Lineage.{Lineage}
-use Rattle.call_revelation.specs.declared.place.Place.{Place}
 use Rattle.call_revelation.specs.Tables.{list_at, with_item}
-
--- where a member stands
-abbrev pub at_place : Place → MemberPlace
-at_place m = place_in m.class m.position
 
 -- what stands in the list of a class is at or below it
 abbrev pub AreBelow : Program → List (List ℕ) → Type 0

@@ -1,7 +1,7 @@
 -- What a revelation keeps of a run: what is selected, entered and loaded, the targets of what is entered, and the marks that were shown.
 use Rattle.std.specs.Prelude.{◌≡◌, ◌+◌, ℕ, Bool, true, false, List, [], ◌∷◌, ◌++◌, length, is_some, slice_get, slice_set, unwrap_or, if◌then◌else◌, Option, Some, None}
 use Rattle.std.specs.List.{AllByRecursion}
-use Rattle.std.specs.Option.{option_map_or}
+use Rattle.std.specs.Option.{option_and_then, option_map_or}
 use Rattle.jvm_model.specs.declared.event.Mark.{Mark}
 use Rattle.jvm_model.specs.declared.event.Mark.TheVariants.{Off, Plain, Root}
 use Rattle.jvm_model.specs.declared.program.MethodPlace.{MethodPlace}
@@ -21,6 +21,7 @@ use Rattle.jvm_named.specs.Numbers.{AreNumbers}
 use Rattle.call_revelation.specs.declared.reveal.Reveal.{Reveal}
 use Rattle.call_revelation.specs.Books.{IsBookOf, code_at}
 use Rattle.call_revelation.specs.Lineages.{IsLineage}
+use Rattle.call_revelation.specs.Ranks.{flag_at, rank_of}
 use Rattle.call_revelation.specs.Tables.{list_at, with_item}
 
 -- what marks look at
@@ -32,9 +33,6 @@ abbrev pub nothing_revealed : Revealed
 nothing_revealed = record { selected = []; entered = []; loaded = [] }
 
 -- ---- kept by number
-
-abbrev pub flag_at : List Bool → ℕ → Bool
-flag_at flags m = unwrap_or (slice_get flags m) false
 
 -- a number that is no method's has no mark but Off
 abbrev pub mark_at : List Mark → ℕ → Mark
@@ -65,6 +63,10 @@ abbrev pub class_changed : Reveal → ℕ → Option ℕ
 class_changed r m =
     if same_mark (mark_at r.shown m) (mark_kept r m) then None
     else option_map_or (λ (place : MethodPlace). Some place.class) (slice_get r.methods m) None
+
+-- its place in load order, where it is loaded
+abbrev pub rank_changed : Reveal → ℕ → Option ℕ
+rank_changed r m = option_and_then (λ class. rank_of class r.lineage.loaded) (class_changed r m)
 
 -- with the marks of these methods
 abbrev pub with_marks : Reveal → List ℕ → List Mark → List Mark

@@ -1,5 +1,5 @@
 -- Lists that are kept by number, and numbers that are gathered.
-use Rattle.std.specs.Prelude.{◌≡◌, ◌<◌, ℕ, zero, suc, List, [], ◌∷◌, ◌++◌, slice_get, unwrap_or, ◌||◌}
+use Rattle.std.specs.Prelude.{◌≡◌, ◌<◌, ℕ, zero, suc, List, [], ◌∷◌, ◌++◌, replicate, slice_get, unwrap_or, ◌||◌}
 use Rattle.std.specs.List.{AllByRecursion}
 use Rattle.jvm_model.specs.Load.{is_among}
 
@@ -12,6 +12,11 @@ abbrev pub with_item : {A : Type 0} → ℕ → A → List (List A) → List (Li
 with_item n item [] = []
 with_item zero item (list ∷ lists) = (list ++ item ∷ []) ∷ lists
 with_item (suc n) item (list ∷ lists) = list ∷ with_item n item lists
+
+-- the second list is the first with so many of an item behind it
+pub record IsPadded {A : Type 0} (item : A) (before after : List A) : Type 0 where
+  pub count : ℕ
+  pub is : after ≡ before ++ replicate count item
 
 -- the second list has what the first one and these have
 abbrev pub Adds : List ℕ → List ℕ → List ℕ → Type 0

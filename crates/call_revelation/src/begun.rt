@@ -10,10 +10,10 @@ ghost use Rattle.jvm_model.specs.Sound.{HasLoadedCaller};
 ghost use Rattle.jvm_model.specs.SuperCalls.{invoked_special};
 ghost use Rattle.class_index.specs.Orders.{with_classes};
 ghost use Rattle.class_linker.specs.Linkers.{IsLoaded};
-ghost use Rattle.jvm_named.specs.Members.{reference_of};
+ghost use Rattle.jvm_named.specs.Members.{at_place, reference_of};
 ghost use Rattle.jvm_named.specs.Names.{naming_view};
 ghost use Rattle.jvm_named.specs.Numbers.{AreNumbers};
-ghost use Rattle.call_revelation.specs.Lineages.{AreKnown, at_place, initializer_in};
+ghost use Rattle.call_revelation.specs.Lineages.{AreKnown, initializer_in};
 ghost use Rattle.call_revelation.specs.Lineages.{number_of, selecting, selection_of};
 ghost use Rattle.call_revelation.specs.Tables.{Adds, list_at};
 ghost use Rattle.jvm_model.specs.Targets.{begun_by, begun_field, begun_on, begun_static};
@@ -24,11 +24,10 @@ use crate::lookup::{
     class_with_methods, initializer_in, loaded_class, method_found, selection_of,
     static_field_found,
 };
-use crate::place::Place;
 use class_index::Order;
 use class_linker::Linker;
 use jf_bytes::{NoMemory, Text16};
-use jvm_named::{MemberName, MethodName, MethodNumbers, Naming};
+use jvm_named::{MemberName, MethodNumbers, Naming, Place};
 
 // ---- of one method or class
 

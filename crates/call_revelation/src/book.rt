@@ -9,16 +9,16 @@ ghost use Rattle.jvm_model.specs.Revelation.{is_named, namings_of};
 ghost use Rattle.jvm_model.specs.Targets.{operations_of};
 ghost use Rattle.jvm_named.specs.Names.{naming_view};
 ghost use Rattle.jvm_steps.specs.Prepared.{HasShortCodes};
-ghost use Rattle.call_revelation.specs.Books.{HasMore, IsBookOf, code_at, is_call, naming_at};
-ghost use Rattle.call_revelation.specs.Books.{with_call, with_calls, with_use, with_uses};
+ghost use Rattle.call_revelation.specs.Books.{HasMore, IsBookOf, code_at, is_noted, naming_at};
+ghost use Rattle.call_revelation.specs.Books.{with_noted, with_use, with_uses};
 ghost use Rattle.call_revelation.specs.Tables.{list_at};
 
-use crate::lineage::add_item;
 use crate::namings::namings_of;
+use crate::tables::{add_item, no_lists};
 use crate::uses::Use;
 use class_linker::Linker;
-use jf_bytes::{NoMemory, Seq, Text16};
-use jvm_named::Naming;
+use jf_bytes::{NoMemory, Seq};
+use jvm_named::{Naming, resolved_name};
 use std::alloc::Global;
 
 /// What was read of methods, by their numbers; and by the class that an instruction names all instructions that name it, and those
@@ -30,44 +30,11 @@ pub struct Book {
     pub calls: Vec<Seq<Use>>,
 }
 
-/// The name of the class that an instruction names, or whose member it names.
-fn class_name(naming: &Naming) -> &Text16
-    ensures { result.now ≡ resolved_name (naming_view naming.now) }
-{
-    match naming {
-        Naming::New(name) => name,
-        Naming::Getfield(member) => &member.class,
-        Naming::Putfield(member) => &member.class,
-        Naming::Getstatic(member) => &member.class,
-        Naming::Putstatic(member) => &member.class,
-        Naming::Invokevirtual(method) => method.class(),
-        Naming::Invokespecial(_, method, _) => method.class(),
-        Naming::Invokestatic(method) => method.class(),
-        Naming::Invokeinterface(method) => method.class(),
-        Naming::Checkcast(name) => name,
-        Naming::Instanceof(name) => name,
-        Naming::Anewarray(name) => name,
-        Naming::Multianewarray(name, _) => name,
-        Naming::LdcClass(name) => name,
-    }
-}
-
-/// Whether it selects by its receiver's class.
-fn is_call(naming: &Naming) -> bool
-    ensures { result ≡ is_call (naming_view naming.now) }
-{
-    match naming {
-        Naming::Invokevirtual(_) => true,
-        Naming::Invokeinterface(_) => true,
-        _ => false,
-    }
-}
-
-/// The class that it names, where the program has one.
+/// The class that an instruction names, where the program has one.
 fn class_of(linker: &Linker, naming: &Naming) -> Option<u32>
     ensures { result ≡ class_named linker.now.program (resolved_name (naming_view naming.now)) }
 {
-    linker.index().class_named(class_name(naming).units())
+    linker.index().class_named(resolved_name(naming).units())
 }
 
 /// Whether it names this class.
@@ -77,6 +44,17 @@ pub fn names(linker: &Linker, naming: &Naming, class: u32) -> bool
     match class_of(linker, naming) {
         Some(found) => found == class,
         None => false,
+    }
+}
+
+/// Whether an instruction is noted, where calls alone are: those that select by their receiver's class.
+fn is_noted(calls: bool, naming: &Naming) -> bool
+    ensures { result ≡ is_noted calls (naming_view naming.now) }
+{
+    match naming {
+        Naming::Invokevirtual(_) => true,
+        Naming::Invokeinterface(_) => true,
+        _ => !calls,
     }
 }
 
@@ -96,53 +74,39 @@ fn note_use(
     }
 }
 
-/// The same of a call.
-fn note_call(
+/// The same, where it is noted.
+fn note_one(
     linker: &Linker,
     lists: &mut [Seq<Use>],
+    calls: bool,
     naming: &Naming,
     u: Use,
 ) -> Result<(), NoMemory>
     ensures { lists.new ≡ (if is_ok result
-        then with_call linker.now.program u (naming_view naming.now) lists.old else lists.old) }
+        then with_noted linker.now.program calls u (naming_view naming.now) lists.old
+        else lists.old) }
 {
-    if is_call(naming) {
+    if is_noted(calls, naming) {
         note_use(linker, lists, naming, u)
     } else {
         Ok(())
     }
 }
 
-/// Notes the instructions of a method.
+/// Notes the instructions of a method, or its calls alone.
 fn note_uses(
     linker: &Linker,
     lists: &mut [Seq<Use>],
+    calls: bool,
     caller: u32,
     namings: &[Naming],
 ) -> Result<(), NoMemory>
-    ensures noted { OnOk result (lists.new
-        ≡ with_uses linker.now.program caller 0 (map naming_view namings.now) lists.old) }
+    ensures noted { OnOk result (lists.new ≡ with_uses linker.now.program calls caller 0
+        (map naming_view namings.now) lists.old) }
     ensures more { HasMore lists.old lists.new }
 {
     for (at, naming) in namings.iter().enumerate() {
-        note_use(linker, lists, naming, Use { caller, at })?;
-    }
-    Ok(())
-}
-
-/// Notes the calls of a method.
-fn note_calls(
-    linker: &Linker,
-    lists: &mut [Seq<Use>],
-    caller: u32,
-    namings: &[Naming],
-) -> Result<(), NoMemory>
-    ensures noted { OnOk result (lists.new
-        ≡ with_calls linker.now.program caller 0 (map naming_view namings.now) lists.old) }
-    ensures more { HasMore lists.old lists.new }
-{
-    for (at, naming) in namings.iter().enumerate() {
-        note_call(linker, lists, naming, Use { caller, at })?;
+        note_one(linker, lists, calls, naming, Use { caller, at })?;
     }
     Ok(())
 }
@@ -158,17 +122,6 @@ fn no_codes(alloc: Global, methods: usize) -> Result<Seq<Option<Seq<Naming>>>, N
     Ok(codes)
 }
 
-/// A list for each class.
-fn no_uses(alloc: Global, classes: usize) -> Result<Vec<Seq<Use>>, NoMemory>
-    ensures { IfOk result (λ lists. lists.items ≡ replicate classes []) }
-{
-    let mut lists = Vec::with_capacity(alloc, classes)?;
-    for _ in 0..classes {
-        lists.push(Seq::new(alloc))?;
-    }
-    Ok(lists)
-}
-
 impl Book {
     /// Nothing was read.
     pub fn new(alloc: Global, methods: usize, classes: usize) -> Result<Book, NoMemory>
@@ -177,8 +130,8 @@ impl Book {
         ensures calls { IfOk result (λ b. b.calls.items ≡ replicate classes []) }
     {
         let codes = no_codes(alloc, methods)?;
-        let waiting = no_uses(alloc, classes)?;
-        let calls = no_uses(alloc, classes)?;
+        let waiting = no_lists(alloc, classes)?;
+        let calls = no_lists(alloc, classes)?;
         Ok(Book {
             codes,
             waiting,
@@ -234,18 +187,9 @@ impl Book {
             return Ok(());
         }
         let namings = namings_of(alloc, linker.program(), method)?;
-        note_uses(
-            linker,
-            self.waiting.as_mut_slice(),
-            method,
-            namings.as_slice(),
-        )?;
-        note_calls(
-            linker,
-            self.calls.as_mut_slice(),
-            method,
-            namings.as_slice(),
-        )?;
+        let named = namings.as_slice();
+        note_uses(linker, self.waiting.as_mut_slice(), false, method, named)?;
+        note_uses(linker, self.calls.as_mut_slice(), true, method, named)?;
         self.codes.set(method as usize, Some(namings));
         Ok(())
     }

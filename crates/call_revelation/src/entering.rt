@@ -8,24 +8,17 @@ ghost use Rattle.jvm_model.specs.Sound.{HasClass};
 ghost use Rattle.jvm_model.specs.Targets.{operations_of, targets_in};
 ghost use Rattle.call_revelation.specs.Books.{code_at};
 ghost use Rattle.call_revelation.specs.Reveals.{IsAhead, IsFront, IsGrown, IsKept, IsRevelation};
-ghost use Rattle.call_revelation.specs.Reveals.{flag_at, now_of};
+ghost use Rattle.call_revelation.specs.Ranks.{flag_at};
+ghost use Rattle.call_revelation.specs.Reveals.{now_of};
 
 use crate::gathering::add_all_begun;
 use crate::growing::add_more;
 use crate::reveal::Reveal;
+use crate::tables::put;
 use class_index::Order;
 use class_linker::Linker;
 use jf_bytes::{NoMemory, Seq, Stack};
 use std::alloc::Global;
-
-/// A flag, where there is one.
-fn set_flag(flags: &mut Seq<bool>, method: u32, flag: bool)
-    ensures { flags.new ≡ slice_set flags.old method flag }
-{
-    if (method as usize) < flags.len() {
-        flags.set(method as usize, flag);
-    }
-}
 
 /// No method is entered, and no flag says that it is.
 fn leave_all(flags: &mut Seq<bool>, entered: &mut Stack<u32>)
@@ -35,7 +28,7 @@ fn leave_all(flags: &mut Seq<bool>, entered: &mut Stack<u32>)
         (m : ℕ) → flag_at flags.new m ≡ false }
 {
     while let Some(method) = entered.pop() {
-        set_flag(flags, method, false);
+        put(flags, method as usize, false);
     }
 }
 
@@ -77,7 +70,7 @@ impl Reveal {
         add_more(&mut self.stale, found.as_slice())?;
         add_more(&mut self.targets, found.as_slice())?;
         self.entered.push(method)?;
-        set_flag(&mut self.flags, method, true);
+        put(&mut self.flags, method as usize, true);
         Ok(())
     }
 

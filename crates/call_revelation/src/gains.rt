@@ -3,39 +3,20 @@
 ghost use Rattle.std.specs.Prelude.{◌≡◌, true, OnOk};
 ghost use Rattle.class_linker.specs.Linkers.{IsLoaded};
 ghost use Rattle.jvm_model.specs.Revelation.{gained_on};
-ghost use Rattle.jvm_model.specs.Selection.{selected};
 ghost use Rattle.jvm_named.specs.Members.{reference_of};
 ghost use Rattle.jvm_named.specs.Names.{naming_view};
 ghost use Rattle.jvm_named.specs.Numbers.{AreNumbers};
 ghost use Rattle.call_revelation.specs.Books.{called_by, called_on};
-ghost use Rattle.call_revelation.specs.Lineages.{at_place, number_of, selecting};
+ghost use Rattle.call_revelation.specs.Lineages.{selecting};
 ghost use Rattle.call_revelation.specs.Tables.{Adds};
 
 use crate::begun::add_number;
 use crate::book::names;
-use crate::lookup::method_found;
-use crate::place::Place;
+use crate::lookup::{method_found, selected_number};
 use class_index::Order;
 use class_linker::Linker;
 use jf_bytes::NoMemory;
 use jvm_named::{MemberName, MethodNumbers, Naming};
-
-/// The number of the method that a class has for a method.
-fn selected_number(
-    linker: &Linker,
-    numbers: &MethodNumbers,
-    interface: bool,
-    m: Place,
-    receiver: u32,
-) -> Option<u32>
-    requires numbers { AreNumbers linker.now.program numbers.now }
-    requires loaded { IsLoaded linker.now receiver }
-    ensures { result ≡ number_of linker.now.program
-        (selected linker.now.program receiver interface (at_place m)) }
-{
-    let (class, position) = linker.select(receiver, m.class, m.position, interface)?;
-    numbers.number(class, position)
-}
 
 /// What a call that names a class begins on a new one.
 fn add_called_on(

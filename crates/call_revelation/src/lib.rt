@@ -9,13 +9,16 @@ mod gains;
 mod gathering;
 mod growing;
 mod lineage;
+mod load_order;
 mod loading;
 mod lookup;
 mod namings;
-mod place;
+mod ranks;
 mod reveal;
 mod selecting;
+mod selection;
 mod showing;
+mod tables;
 mod uses;
 
 pub use gathering::targets;

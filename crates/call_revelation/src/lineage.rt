@@ -4,9 +4,10 @@ ghost use Rattle.std.specs.Prelude.{◌≡◌, [], if◌then◌else◌, is_ok, r
 ghost use Rattle.class_index.specs.Orders.{with_class};
 ghost use Rattle.class_linker.specs.Linkers.{IsLoaded};
 ghost use Rattle.call_revelation.specs.Lineages.{IsLineage, IsNoted, noted};
-ghost use Rattle.call_revelation.specs.Tables.{list_at, with_item};
+ghost use Rattle.call_revelation.specs.Tables.{list_at};
 
-use class_index::Order;
+use crate::load_order::LoadOrder;
+use crate::tables::{add_item, no_lists};
 use class_linker::Linker;
 use jf_bytes::{NoMemory, Seq};
 use std::alloc::Global;
@@ -15,30 +16,8 @@ use std::alloc::Global;
 /// loaded.
 #[derive(Drop)]
 pub struct Lineage {
-    pub loaded: Order,
+    pub loaded: LoadOrder,
     pub below: Vec<Seq<u32>>,
-}
-
-/// A list for each class.
-pub fn no_lists(alloc: Global, classes: usize) -> Result<Vec<Seq<u32>>, NoMemory>
-    ensures { IfOk result (λ lists. lists.items ≡ replicate classes []) }
-{
-    let mut lists = Vec::with_capacity(alloc, classes)?;
-    for _ in 0..classes {
-        lists.push(Seq::new(alloc))?;
-    }
-    Ok(lists)
-}
-
-/// Adds an item to the list with this number, where there is one.
-pub fn add_item<T: Drop>(lists: &mut [Seq<T>], number: usize, item: T) -> Result<(), NoMemory>
-    ensures { lists.new
-        ≡ (if is_ok result then with_item number item lists.old else lists.old) }
-{
-    if number < lists.len() {
-        lists[number].push(item)?;
-    }
-    Ok(())
 }
 
 /// Notes a class in the lists of its supertypes.
@@ -58,11 +37,9 @@ impl Lineage {
         ensures loaded { IfOk result (λ v. v.loaded ≡ []) }
         ensures below { IfOk result (λ v. v.below.items ≡ replicate classes []) }
     {
+        let loaded = LoadOrder::new(alloc, classes)?;
         let below = no_lists(alloc, classes)?;
-        Ok(Lineage {
-            loaded: Order::new(alloc),
-            below,
-        })
+        Ok(Lineage { loaded, below })
     }
 
     /// Classes at or below a class; all that are loaded are among them.

@@ -15,7 +15,8 @@ ghost use Rattle.call_revelation.specs.Books.{Begins, called_by, called_from};
 ghost use Rattle.call_revelation.specs.Books.{gathered, naming_at, of_entered};
 ghost use Rattle.call_revelation.specs.Lineages.{IsLineage};
 ghost use Rattle.call_revelation.specs.Reveals.{IsAhead, IsFront, IsGrown, IsKept, IsRevelation};
-ghost use Rattle.call_revelation.specs.Reveals.{flag_at, now_of};
+ghost use Rattle.call_revelation.specs.Ranks.{flag_at};
+ghost use Rattle.call_revelation.specs.Reveals.{now_of};
 ghost use Rattle.call_revelation.specs.Tables.{Adds, list_at};
 
 use crate::begun::add_begun;

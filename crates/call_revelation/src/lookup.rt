@@ -5,21 +5,20 @@ ghost use Rattle.std.specs.Option.{option_map};
 ghost use Rattle.jvm_model.specs.FieldRules.{is_static_field};
 ghost use Rattle.jvm_model.specs.Lookup.{Found, resolved_field, resolved_method};
 ghost use Rattle.jvm_model.specs.Programs.{initializer_of};
-ghost use Rattle.jvm_model.specs.Selection.{access_of, is_static};
+ghost use Rattle.jvm_model.specs.Selection.{is_static, selected};
 ghost use Rattle.class_linker.specs.Linkers.{IsLoaded};
-ghost use Rattle.jvm_named.specs.Members.{reference_of};
+ghost use Rattle.jvm_named.specs.Members.{at_place, reference_of};
 ghost use Rattle.jvm_named.specs.Numbers.{AreNumbers};
-ghost use Rattle.call_revelation.specs.Lineages.{at_place, initializer_in, selection_of};
+ghost use Rattle.call_revelation.specs.Lineages.{initializer_in, number_of, selection_of};
 ghost use Rattle.jvm_model.specs.Targets.{class_with_methods, found_where, loaded_class_named};
 ghost use Rattle.call_revelation.specs.Lineages.{AreKnown};
 
 use crate::lineage::Lineage;
-use crate::place::Place;
-use class_index::{STATIC, has_flag, meaning_of};
+use class_index::meaning_of;
 use class_linker::{Linker, Resolved};
 use jf_bytes::Text16;
 use jvm_model::Program;
-use jvm_named::{MemberName, MethodNumbers, user_count};
+use jvm_named::{MemberName, MethodNumbers, Place, is_static, is_static_field, user_count};
 use jvm_steps::initializer_in as initializer_place;
 
 // ---- classes
@@ -48,25 +47,6 @@ pub fn class_with_methods(linker: &Linker, lineage: &Lineage, name: &Text16) -> 
 }
 
 // ---- methods
-
-/// The flags of a method.
-fn access_of(program: &Program, m: Place) -> u16
-    ensures { result ≡ access_of program.now (at_place m) }
-{
-    match program.classes.get(m.class as usize) {
-        Some(file) => match file.methods.get(m.position as usize) {
-            Some(method) => method.access,
-            None => 0,
-        },
-        None => 0,
-    }
-}
-
-fn is_static(program: &Program, m: Place) -> bool
-    ensures { result ≡ is_static program.now (at_place m) }
-{
-    has_flag(access_of(program, m), STATIC)
-}
 
 /// The method, where it is static as it is asked for, or is not.
 fn method_kept(program: &Program, m: Place, fixed: bool) -> Option<Place>
@@ -102,19 +82,6 @@ pub fn method_found(
 }
 
 // ---- fields
-
-/// Whether a field is static.
-fn is_static_field(linker: &Linker, m: Place) -> bool
-    ensures { result ≡ is_static_field linker.now.program (at_place m) }
-{
-    let Some(file) = linker.index().file(m.class) else {
-        return false;
-    };
-    match file.fields.get(m.position as usize) {
-        Some(field) => has_flag(field.access, STATIC),
-        None => false,
-    }
-}
 
 /// The field, where it is static.
 fn field_kept(linker: &Linker, m: Place) -> Option<Place>
@@ -170,7 +137,24 @@ pub fn initializer_in(
     }
 }
 
-/// The number of the method that a class has for a method, where the class is loaded.
+/// The number of the method that a class has for a method.
+pub fn selected_number(
+    linker: &Linker,
+    numbers: &MethodNumbers,
+    interface: bool,
+    m: Place,
+    receiver: u32,
+) -> Option<u32>
+    requires numbers { AreNumbers linker.now.program numbers.now }
+    requires loaded { IsLoaded linker.now receiver }
+    ensures { result ≡ number_of linker.now.program
+        (selected linker.now.program receiver interface (at_place m)) }
+{
+    let (class, position) = linker.select(receiver, m.class, m.position, interface)?;
+    numbers.number(class, position)
+}
+
+/// The same, where the class is loaded.
 pub fn selection_of(
     linker: &Linker,
     numbers: &MethodNumbers,
@@ -183,9 +167,9 @@ pub fn selection_of(
     ensures { result ≡ selection_of linker.now.program lineage.now.loaded interface
         (at_place m) lower }
 {
-    if !lineage.loaded.has(lower) {
-        return None;
+    if lineage.loaded.has(lower) {
+        selected_number(linker, numbers, interface, m, lower)
+    } else {
+        None
     }
-    let (class, position) = linker.select(lower, m.class, m.position, interface)?;
-    numbers.number(class, position)
 }

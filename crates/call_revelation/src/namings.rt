@@ -11,6 +11,7 @@ ghost use Rattle.call_revelation.specs.Namings.{begins_by, code_namings, member_
 ghost use Rattle.jvm_model.specs.Revelation.{naming_in, namings_of};
 ghost use Rattle.jvm_model.specs.Targets.{operations_of};
 
+use crate::tables::add_some;
 use code_model::{Instr, instr_at};
 use const_pool::{ClassFile, Member};
 use jf_bytes::{NoMemory, Seq};
@@ -60,16 +61,6 @@ fn naming_of(alloc: Global, class: &ClassFile, instr: Instr) -> Result<Option<Na
     }
 }
 
-/// What an instruction names, if it does.
-fn add_naming(namings: &mut Seq<Naming>, naming: Option<Naming>) -> Result<(), NoMemory>
-    ensures { OnOk result (namings.new ≡ namings.old ++ option_to_list naming) }
-{
-    if let Some(naming) = naming {
-        namings.push(naming)?;
-    }
-    Ok(())
-}
-
 /// What the instructions of a code name that can begin methods, in order.
 fn code_namings(alloc: Global, class: &ClassFile, code: &[u8]) -> Result<Seq<Naming>, NoMemory>
     requires { length code.now < 2 ^ 16 }
@@ -85,7 +76,7 @@ fn code_namings(alloc: Global, class: &ClassFile, code: &[u8]) -> Result<Seq<Nam
         at = instr.next_offset();
         left -= 1;
         let naming = naming_of(alloc, class, instr)?;
-        add_naming(&mut namings, naming)?;
+        add_some(&mut namings, naming)?;
     }
     Ok(namings)
 }

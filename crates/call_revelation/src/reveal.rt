@@ -10,12 +10,15 @@ ghost use Rattle.jvm_model.specs.Programs.{numbered};
 ghost use Rattle.jvm_model.specs.Revealed.{mark_of};
 ghost use Rattle.jvm_model.specs.Sound.{IsFit};
 ghost use Rattle.jvm_steps.specs.Prepared.{HasShortCodes};
-ghost use Rattle.call_revelation.specs.Reveals.{IsRevelation, flag_at, mark_kept};
+ghost use Rattle.call_revelation.specs.Ranks.{flag_at};
+ghost use Rattle.call_revelation.specs.Reveals.{IsRevelation, mark_kept};
 ghost use Rattle.call_revelation.specs.Reveals.{nothing_revealed, now_of, owned_from};
 ghost use Rattle.call_revelation.specs.Tables.{list_at};
 
 use crate::book::Book;
-use crate::lineage::{Lineage, add_item, no_lists};
+use crate::lineage::Lineage;
+use crate::selection::Selection;
+use crate::tables::{add_item, no_lists, repeated};
 use class_index::Order;
 use jf_bytes::{NoMemory, Seq, Stack};
 use jvm_model::{Mark, MethodPlace, Program};
@@ -32,7 +35,7 @@ pub struct Reveal {
     pub own: Vec<Seq<u32>>,
     pub lineage: Lineage,
     pub book: Book,
-    pub selected: Seq<u32>,
+    pub selected: Selection,
     pub entered: Stack<u32>,
     pub flags: Seq<bool>,
     pub targets: Order,
@@ -51,35 +54,6 @@ fn owned(alloc: Global, methods: &[MethodPlace], classes: usize) -> Result<Vec<S
         add_item(own.as_mut_slice(), place.class as usize, number as u32)?;
     }
     Ok(own)
-}
-
-/// No method is entered.
-fn no_flags(alloc: Global, methods: usize) -> Result<Seq<bool>, NoMemory>
-    ensures { IfOk result (λ flags. flags ≡ replicate methods false) }
-{
-    let mut flags = Seq::with_capacity(alloc, methods)?;
-    for _ in 0..methods {
-        flags.push(false)?;
-    }
-    Ok(flags)
-}
-
-/// No method is marked.
-fn no_marks(alloc: Global, methods: usize) -> Result<Seq<Mark>, NoMemory>
-    ensures { IfOk result (λ marks. marks ≡ replicate methods Off) }
-{
-    let mut marks = Seq::with_capacity(alloc, methods)?;
-    for _ in 0..methods {
-        marks.push(Mark::Off)?;
-    }
-    Ok(marks)
-}
-
-/// Whether a method is one of these.
-fn is_one(methods: &[u32], method: u32) -> bool
-    ensures { result ≡ is_among method methods.now }
-{
-    methods.contains(&method)
 }
 
 /// The methods of a class.
@@ -109,15 +83,16 @@ impl Reveal {
         let own = owned(alloc, places, classes)?;
         let lineage = Lineage::new(alloc, classes)?;
         let book = Book::new(alloc, places.len(), classes)?;
-        let flags = no_flags(alloc, places.len())?;
-        let shown = no_marks(alloc, places.len())?;
+        let selected = Selection::new(alloc, places.len())?;
+        let flags = repeated(alloc, false, places.len())?;
+        let shown = repeated(alloc, Mark::Off, places.len())?;
         Ok(Reveal {
             methods,
             numbers,
             own,
             lineage,
             book,
-            selected: Seq::new(alloc),
+            selected,
             entered: Stack::new(alloc),
             flags,
             targets: Order::new(alloc),
@@ -130,7 +105,7 @@ impl Reveal {
     pub fn is_selected(&self, method: u32) -> bool
         ensures { result ≡ is_among method self.now.selected }
     {
-        is_one(self.selected.as_slice(), method)
+        self.selected.has(method)
     }
 
     /// Whether any method is selected.

@@ -1,44 +1,13 @@
-//! Methods that are selected.
+//! Methods that are selected, and that are no more.
 
-ghost use Rattle.std.specs.Prelude.{◌≡◌, ◌++◌, ◌∷◌, [], IfOk, OnErr, OnOk};
+ghost use Rattle.std.specs.Prelude.{◌≡◌, OnErr, OnOk};
 ghost use Rattle.jvm_model.specs.declared.program.Program.{Program};
-ghost use Rattle.jvm_model.specs.Revealed.{with_selected, without_method, without_selected};
+ghost use Rattle.jvm_model.specs.Revealed.{with_selected, without_selected};
 ghost use Rattle.call_revelation.specs.Reveals.{IsRevelation, now_of};
 
 use crate::reveal::Reveal;
-use jf_bytes::{NoMemory, Seq};
+use jf_bytes::NoMemory;
 use std::alloc::Global;
-
-/// Adds the others among these methods.
-fn add_others(kept: &mut Seq<u32>, methods: &[u32], method: u32) -> Result<(), NoMemory>
-    ensures { OnOk result (kept.new ≡ kept.old ++ without_method method methods.now) }
-{
-    for other in methods {
-        if *other != method {
-            kept.push(*other)?;
-        }
-    }
-    Ok(())
-}
-
-/// These methods with this one in front, once.
-fn with_one(alloc: Global, methods: &[u32], method: u32) -> Result<Seq<u32>, NoMemory>
-    ensures { IfOk result (λ kept. kept ≡ method ∷ without_method method methods.now) }
-{
-    let mut kept = Seq::new(alloc);
-    kept.push(method)?;
-    add_others(&mut kept, methods, method)?;
-    Ok(kept)
-}
-
-/// These methods without this one.
-fn without_one(alloc: Global, methods: &[u32], method: u32) -> Result<Seq<u32>, NoMemory>
-    ensures { IfOk result (λ kept. kept ≡ without_method method methods.now) }
-{
-    let mut kept = Seq::new(alloc);
-    add_others(&mut kept, methods, method)?;
-    Ok(kept)
-}
 
 impl Reveal {
     /// A method is selected.
@@ -48,9 +17,8 @@ impl Reveal {
         ensures stays { OnErr result (now_of self.new ≡ now_of self.old) }
         ensures shown { self.new.shown ≡ self.old.shown }
     {
-        let selected = with_one(alloc, self.selected.as_slice(), method)?;
         self.stale.add(method)?;
-        self.selected = selected;
+        self.selected.select(alloc, method)?;
         Ok(())
     }
 
@@ -61,9 +29,8 @@ impl Reveal {
         ensures stays { OnErr result (now_of self.new ≡ now_of self.old) }
         ensures shown { self.new.shown ≡ self.old.shown }
     {
-        let selected = without_one(alloc, self.selected.as_slice(), method)?;
         self.stale.add(method)?;
-        self.selected = selected;
+        self.selected.deselect(alloc, method)?;
         Ok(())
     }
 }

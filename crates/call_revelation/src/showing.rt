@@ -1,16 +1,15 @@
 //! Which classes have a method with another mark than the one that was shown.
 
-ghost use Rattle.std.specs.Prelude.{◌≡◌, [], filter, filter_map, slice_set, IfOk, OnOk};
+ghost use Rattle.std.specs.Prelude.{◌≡◌, filter_map, slice_set, IfOk};
 ghost use Rattle.jvm_model.specs.declared.program.Program.{Program};
-ghost use Rattle.jvm_model.specs.Load.{is_among};
 ghost use Rattle.jvm_model.specs.Revealed.{Revealed, changed_of, marks_of};
 ghost use Rattle.jvm_model.specs.Swaps.{same_mark};
-ghost use Rattle.class_index.specs.Orders.{with_classes};
 ghost use Rattle.call_revelation.specs.Reveals.{IsRevelation, class_changed, mark_at};
-ghost use Rattle.call_revelation.specs.Reveals.{mark_kept, now_of, with_marks};
+ghost use Rattle.call_revelation.specs.Reveals.{mark_kept, now_of, rank_changed, with_marks};
 
+use crate::ranks::{classes_at, put_in_order};
 use crate::reveal::Reveal;
-use class_index::Order;
+use crate::tables::{add_some, put};
 use jf_bytes::{NoMemory, Seq};
 use jvm_model::Mark;
 use std::alloc::Global;
@@ -23,19 +22,6 @@ fn same_mark(a: Mark, b: Mark) -> bool
         Mark::Plain => matches!(b, Mark::Plain),
         Mark::Root => matches!(b, Mark::Root),
     }
-}
-
-/// Those of these classes that are among the ones that were found, in their order.
-fn in_order_of(alloc: Global, classes: &[u32], found: &Order) -> Result<Seq<u32>, NoMemory>
-    ensures { IfOk result (λ cs. cs ≡ filter (λ c. is_among c found.now) classes.now) }
-{
-    let mut kept = Seq::new(alloc);
-    for class in classes {
-        if found.has(*class) {
-            kept.push(*class)?;
-        }
-    }
-    Ok(kept)
 }
 
 impl Reveal {
@@ -62,28 +48,34 @@ impl Reveal {
         }
     }
 
-    /// Those of all methods that are stale.
-    fn classes_changed(&self, alloc: Global) -> Result<Order, NoMemory>
-        ensures { IfOk result (λ found. found
-            ≡ with_classes [] (filter_map (class_changed self.now) self.now.stale)) }
+    /// The place in load order of the class of a method that has another mark than the one that was shown, where it is loaded.
+    fn rank_changed(&self, method: u32) -> Option<usize>
+        ensures { result ≡ rank_changed self.now method }
     {
-        let mut found = Order::new(alloc);
-        for method in self.stale.as_slice() {
-            if let Some(class) = self.class_changed(*method) {
-                found.add(class)?;
-            }
-        }
-        Ok(found)
+        self.lineage.loaded.rank(self.class_changed(method)?)
     }
 
-    /// The classes whose methods have other marks than those that were shown, in load order.
+    /// Those of all methods that are stale.
+    fn ranks_changed(&self, alloc: Global) -> Result<Vec<usize>, NoMemory>
+        ensures { IfOk result (λ ranks. ranks.items
+            ≡ filter_map (rank_changed self.now) self.now.stale) }
+    {
+        let mut ranks = Seq::new(alloc);
+        for method in self.stale.as_slice() {
+            add_some(&mut ranks, self.rank_changed(*method))?;
+        }
+        Ok(ranks.into_vec())
+    }
+
+    /// The classes whose methods have other marks than those that were shown, in load order. It takes what a sort of them takes.
     pub fn changed(&self, alloc: Global) -> Result<Seq<u32>, NoMemory>
         ensures { (p : Program) (before : Revealed) → IsRevelation p self.now →
             self.now.shown ≡ marks_of p before →
             IfOk result (λ cs. cs ≡ changed_of p before (now_of self.now)) }
     {
-        let found = self.classes_changed(alloc)?;
-        let all = in_order_of(alloc, self.lineage.loaded.as_slice(), &found)?;
+        let mut ranks = self.ranks_changed(alloc)?;
+        put_in_order(&mut ranks);
+        let all = classes_at(alloc, self.lineage.loaded.as_slice(), ranks.as_slice())?;
         Ok(all)
     }
 
@@ -94,9 +86,7 @@ impl Reveal {
         }) }
     {
         let mark = self.mark_kept(method);
-        if (method as usize) < self.shown.len() {
-            self.shown.set(method as usize, mark);
-        }
+        put(&mut self.shown, method as usize, mark);
     }
 
     /// Shows the marks of all methods that are stale.

@@ -3,7 +3,8 @@ use Rattle.std.specs.Prelude.{filter_map}
 use Rattle.std.proofs.lemmas.Result.{on_ok_weaker}
 use Rattle.jvm_model.specs.Targets.{selections}
 use Rattle.class_index.specs.Orders.{with_classes}
-use Rattle.call_revelation.specs.Lineages.{at_place, selecting, selection_of}
+use Rattle.jvm_named.specs.Members.{at_place}
+use Rattle.call_revelation.specs.Lineages.{selecting, selection_of}
 use Rattle.call_revelation.specs.Tables.{Adds, list_at}
 use Rattle.call_revelation.proofs.Adding.{adds-alike, adds-equal}
 use Rattle.call_revelation.proofs.BegunLemmas.{selections-of}

@@ -2,7 +2,8 @@
 use Rattle.std.proofs.Common.{◌≡◌, drop}
 use Rattle.std.specs.Prelude.{filter_map}
 use Rattle.class_index.specs.Orders.{with_classes}
-use Rattle.call_revelation.specs.Lineages.{at_place, selection_of}
+use Rattle.jvm_named.specs.Members.{at_place}
+use Rattle.call_revelation.specs.Lineages.{selection_of}
 use Rattle.call_revelation.proofs.begun.add_selections_of.Given as goal
 
 abbrev pub invariant-loop-lower : goal.invariant-loop-lower

@@ -6,6 +6,6 @@ use Rattle.call_revelation.proofs.book.note_uses.Given as goal
 
 abbrev pub invariant-loop-at : goal.invariant-loop-at
 invariant-loop-at l =
-    (with_uses l.linker.program l.caller l.at (map naming_view (drop l.at l.namings)) l.lists
-    ≡ with_uses l.linker.program l.caller 0 (map naming_view l.namings) l.initial.lists)
+    (with_uses l.linker.program l.calls l.caller l.at (map naming_view (drop l.at l.namings)) l.lists
+    ≡ with_uses l.linker.program l.calls l.caller 0 (map naming_view l.namings) l.initial.lists)
     × HasMore l.initial.lists l.lists

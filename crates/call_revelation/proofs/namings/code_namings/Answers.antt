@@ -16,7 +16,7 @@ loop-left-preserved c =
     let code = c.args.code.now in
     let n = c.loop-left.left - 1 in
     let ns = c.loop-left.namings in
-    ap (λ l. map naming_view l ++ namings_from class n code c.next_offset-at.result) c.in_ok-add_naming.ensures
+    ap (λ l. map naming_view l ++ namings_from class n code c.next_offset-at.result) c.in_ok-add_some.ensures
     ∙ (ap (λ k. map naming_view (ns ++ option_to_list c.in_ok-naming.naming) ++ namings_from class n code k) c.next_offset-at.ensures
     ∙ one-more class code ns (code_namings class code) c.loop-left.at n c.loop-left.left c.in-Some.instr (sym c.in_ok-instr.ensures ∙ c.in-Some.is)
     (omega (arith, c.loop-left-test.true)) c.loop-left.invariant c.in_ok-naming.naming c.in_ok-naming.ensures)

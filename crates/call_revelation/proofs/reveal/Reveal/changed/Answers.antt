@@ -1,10 +1,12 @@
-use Rattle.std.proofs.Common.{ap, ◌∙◌}
-use Rattle.std.specs.Prelude.{filter}
+use Rattle.std.proofs.Common.{ap, ap₂, ◌∙◌}
+use Rattle.std.specs.Prelude.{filter_map, slice_get}
 use Rattle.jvm_model.specs.Load.{is_among}
 use Rattle.call_revelation.proofs.Shown.{classes-changed}
 use Rattle.call_revelation.proofs.reveal.Reveal.changed.Goals as goal
 
 pub returns : goal.returns
 returns c = λ p before is shown.
-    c.in_ok-all.ensures ∙ (ap (filter (λ k. is_among k c.in_ok-found.found)) c.as_slice.ensures
-    ∙ classes-changed p c.args.self.now is before shown c.in_ok-found.found c.in_ok-found.ensures)
+    c.in_ok-all.ensures
+    ∙ (ap₂ (λ classes ranks. filter_map (slice_get classes) ranks) c.as_slice.ensures.classes c.as_slice-2.ensures.value
+    ∙ classes-changed p c.args.self.now is before shown c.as_slice.ensures.distinct c.put_in_order.new.ranks.items c.put_in_order.ensures.rising
+    (λ rank. c.put_in_order.ensures.same rank ∙ ap (is_among rank) c.in_ok-ranks.ensures))

@@ -51,8 +51,8 @@ returns-clause-revelation c =
     let targets = c.add_more-2.new.order in
     let stale = c.add_more.new.order in
     let found = c.in_ok-found.found in
-    subst (λ e. IsRevelation p (record old { book = book; entered = e; flags = c.set_flag.new.flags; targets = targets; stale = stale })) (sym c.in_ok-push.ensures.items)
-    (subst (λ f. IsRevelation p (record old { book = book; entered = c.args.method ∷ old.entered; flags = f; targets = targets; stale = stale })) (sym c.set_flag.ensures)
+    subst (λ e. IsRevelation p (record old { book = book; entered = e; flags = c.put.new.items; targets = targets; stale = stale })) (sym c.in_ok-push.ensures.items)
+    (subst (λ f. IsRevelation p (record old { book = book; entered = c.args.method ∷ old.entered; flags = f; targets = targets; stale = stale })) (sym c.put.ensures)
     (entered-more p old c.requires.revelation c.args.method c.requires.method c.requires.class book c.read.ensures.book c.read.ensures.kept c.in_ok-read.ensures.has
     found targets stale c.in_ok-found.ensures
     (adds-equal old.targets targets found (c.in_ok-add_more-2.ensures.added ∙ ap (with_classes old.targets) c.as_slice-2.ensures))

@@ -1,6 +1,6 @@
 use Rattle.std.proofs.Common.{arith}
 use Rattle.call_revelation.proofs.TableLemmas.{is_with_item, nothing_past}
-use Rattle.call_revelation.proofs.lineage.add_item.Goals as goal
+use Rattle.call_revelation.proofs.tables.add_item.Goals as goal
 
 pub returns-in_ok-push : goal.returns-in_ok-push
 returns-in_ok-push g c =
