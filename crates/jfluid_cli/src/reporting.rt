@@ -10,9 +10,9 @@ ghost use Rattle.jfluid_cli.specs.Top.{status_of_ending, is_run, is_status, repo
 use crate::refusal::{Refusal, put_bytes};
 use context_tree::Tree;
 use jf_bytes::{NoMemory, Sink};
-use small_machine::Vm;
 use jvm_model::Ending;
 use profile_report::{Facts, report};
+use small_machine::Vm;
 use std::alloc::Global;
 
 /// The exit status of a run that ended so, or did not.
