@@ -1,0 +1,9 @@
+pub mod Kept
+pub mod Released
+pub mod Going
+pub mod Machines
+pub mod Exits
+pub mod Shown
+pub mod ToldFrames
+pub mod Turned
+pub mod SeveralTurns

@@ -1,0 +1,28 @@
+-- A step that is settled by one turn is one more of several.
+use Rattle.std.proofs.Common.{◌≡◌, ℕ, suc, ◌+◌, ◌≤◌, Bool, true, false, if◌then◌else◌, refl, sym, subst, arith}
+use Rattle.jvm_machine.specs.View.{View, begun, is_resting}
+use Rattle.jvm_machine.specs.declared.turn.Turn.{Turn}
+use Rattle.jvm_machine.specs.declared.turn.Turn.TheVariants.{Settled, Loaded, Probe, Ended, Broken, NoMemory}
+use Rattle.jvm_machine.specs.Several.{Passes, more, is_settled}
+use Rattle.jvm_machine.specs.Turns.{Settles, Turns}
+
+pub settled-is : (t : Turn) → is_settled t ≡ true → t ≡ Settled
+settled-is Settled e = refl
+settled-is (Loaded classes) e = absurd (let h : false ≡ true = e in cc)
+settled-is (Probe event) e = absurd (let h : false ≡ true = e in cc)
+settled-is Ended e = absurd (let h : false ≡ true = e in cc)
+settled-is Broken e = absurd (let h : false ≡ true = e in cc)
+settled-is NoMemory e = absurd (let h : false ≡ true = e in cc)
+
+begun-clock : (v : View) → (begun v).clock ≤ v.clock + 1
+begun-clock v = by (is_resting v) v.started where
+  by : (a b : Bool) → (let x : View = if a then record v { started = true; clock = if b then v.clock + 1 else 0 } else v in x).clock ≤ v.clock + 1
+  by true true = omega arith
+  by true false = omega arith
+  by false b = omega arith
+
+pub settles-clock : (old new : View) → Settles old new → new.clock ≤ old.clock + 1
+settles-clock old new is = subst (λ (v : View). v.clock ≤ old.clock + 1) (sym is.stepped) (begun-clock old)
+
+pub one-more : (first old new : View) (n : ℕ) (t : Turn) → Passes first n old → Turns old t new → is_settled t ≡ true → Passes first (suc n) new × Settles old new
+one-more first old new n t passes turns e = let s = subst (λ t. Turns old t new) (settled-is t e) turns in (more n old new passes s, s)

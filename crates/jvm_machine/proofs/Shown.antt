@@ -1,0 +1,60 @@
+-- What a machine shows at rest is what the run has.
+use Rattle.std.proofs.Common.{◌≡◌, ℕ, Bool, true, false, List, refl, sym, ap, subst, ◌∙◌}
+use Rattle.std.specs.Prelude.{is_some, if◌then◌else◌, ◌&&◌}
+use Rattle.std.proofs.lemmas.Bool.{and_parts}
+use Rattle.jvm_model.specs.declared.ending.Ending.{Ending}
+use Rattle.jvm_model.specs.declared.state.State.{State}
+use Rattle.jvm_model.specs.Run.{before, run}
+use Rattle.jvm_steps.specs.declared.hands.Hand.{Hand}
+use Rattle.jvm_steps.specs.Versions.{Setup}
+use Rattle.jvm_machine.specs.Machine.{IsMachine, Stands, seen}
+use Rattle.jvm_machine.specs.Turns.{Ends}
+use Rattle.jvm_machine.specs.View.{View, begun, has_ended, is_resting, rested, run_state}
+
+-- of a state that stands for another
+pub record Shows (s from_original : State) : Type 0 where
+  pub output : s.output ≡ from_original.output
+  pub ending : s.ending ≡ from_original.ending
+  pub loaded : s.shared.loaded ≡ from_original.shared.loaded
+
+stands-shows : (w : Setup) (homes : ℕ → ℕ → ℕ) (s from_original : State) → Stands w homes s from_original → Shows s from_original
+stands-shows w homes s from_original stands = record {
+  output = ap (λ (z : State). z.output) stands.versioned_is ∙ sym (ap (λ (z : State). z.output) stands.original_is);
+  ending = ap (λ (z : State). z.ending) stands.versioned_is ∙ sym (ap (λ (z : State). z.ending) stands.original_is);
+  loaded = ap (λ (z : State). z.shared.loaded) stands.versioned_is ∙ sym (ap (λ (z : State). z.shared.loaded) stands.original_is);
+}
+
+same-shows : (s z : State) → s ≡ z → Shows s z
+same-shows s z e = record {
+  output = ap (λ (x : State). x.output) e;
+  ending = ap (λ (x : State). x.ending) e;
+  loaded = ap (λ (x : State). x.shared.loaded) e;
+}
+
+module _ (w : Setup) (loaded : List ℕ) (hand : Hand) (started broken : Bool) (clock : ℕ) (s : State) (is : IsMachine w loaded hand (seen w s started broken clock hand) s)
+    (v : View) (view : seen w s started broken clock hand ≡ v) (whole : v.broken ≡ false) where
+  unbroken : broken ≡ false
+  unbroken = ap (λ (x : View). x.broken) view ∙ whole
+
+  shows-by : (b : Bool) → started ≡ b → is_resting (seen w s started broken clock hand) ≡ true → Shows s (if b then run w.world clock else before w.world)
+  shows-by true e resting =
+      stands-shows w is.homes s (run w.world clock)
+      (subst (λ b. Stands w is.homes s (if b then run w.world clock else before w.world)) e ((is.whole unbroken).stands resting e))
+  shows-by false e resting = same-shows s (before w.world) ((is.whole unbroken).first e).before
+
+  pub rest-shows : is_resting v ≡ true → Shows s (run_state v)
+  rest-shows resting = subst (λ (x : View). Shows s (run_state x)) view (shows-by started refl (ap is_resting view ∙ resting))
+
+  pub over-is : is_resting v ≡ true → is_some s.ending ≡ (is_resting v && has_ended v)
+  over-is resting = ap is_some (rest-shows resting).ending ∙ ap (λ b. b && has_ended v) (sym resting)
+
+-- ---- turns without a step
+
+pub over-ends : (v : View) → v.broken ≡ false → (is_resting v && has_ended v) ≡ true → Ends v v
+over-ends v whole over = record {
+  whole = whole;
+  loads = λ going. absurd (let e : true ≡ false = sym over ∙ going in cc);
+  all = λ going. absurd (let e : true ≡ false = sym over ∙ going in cc);
+  stepped = ap (λ b. if b then v else rested (begun v)) (sym over);
+  ended = (and_parts (is_resting v) (has_ended v) over).1;
+}

@@ -1,0 +1,5 @@
+pub mod View
+pub mod Turns
+pub mod Several
+pub mod Machine
+pub mod Advances

@@ -1,0 +1,71 @@
+-- What a machine that runs versions keeps to.
+use Rattle.std.specs.Prelude.{◌≡◌, ℕ, Bool, true, false, List, map, ◌⊎◌}
+use Rattle.jvm_model.specs.declared.event.Mark.{Mark}
+use Rattle.jvm_model.specs.declared.state.State.{State}
+use Rattle.jvm_model.specs.Run.{starts_with, turn}
+use Rattle.jvm_model.specs.StandsForRun.{StandsFor}
+use Rattle.jvm_model.specs.Told.{helds}
+use Rattle.jvm_steps.specs.declared.hands.Hand.{Hand}
+use Rattle.jvm_steps.specs.Before.{IsAtStart}
+use Rattle.jvm_steps.specs.Hands.{HasInHand}
+use Rattle.jvm_steps.specs.Ready.{IsSoundIn}
+use Rattle.jvm_steps.specs.Standing.{HasVersions, places_of}
+use Rattle.jvm_steps.specs.Tables.{Versions}
+use Rattle.jvm_steps.specs.Versions.{Setup, mark_of, method_of}
+use Rattle.jvm_machine.specs.View.{View, is_resting, run_state}
+
+-- ---- what is seen
+
+-- of the versions in which methods begin
+abbrev pub marks_of : Versions → List Mark
+marks_of v = map (mark_of v) v.current
+
+abbrev pub seen : Setup → State → Bool → Bool → ℕ → Hand → View
+seen w s started broken clock hand = record {
+  program = w.world.program;
+  input = w.world.input;
+  marks = marks_of w.versions;
+  started = started;
+  broken = broken;
+  clock = clock;
+  passed = hand.passed;
+  told = hand.told;
+  live = helds (mark_of w.versions) s.stack;
+}
+
+-- ---- the invariant
+
+abbrev pub Stands : Setup → (ℕ → ℕ → ℕ) → State → State → Type 0
+Stands w homes s original = StandsFor (places_of w.world.program) (method_of w.versions) homes s original
+
+-- what moves of the start are made from
+pub record IsStarting (w : Setup) (hand : Hand) (s : State) : Type 0 where
+  pub moves : hand.moves ≡ true
+  pub untold : hand.told ≡ false
+  pub begins : s ≡ starts_with w.world
+
+-- it is sound, or the moves of the start make it so
+abbrev pub IsSoundOnce : Setup → Hand → State → Type 0
+IsSoundOnce w hand s = IsSoundIn w s ⊎ IsStarting w hand s
+
+-- Between steps it stands for the run's state, and in a step the rest of it is in hand. Before the start nothing was done.
+pub record IsWhole (w : Setup) (homes : ℕ → ℕ → ℕ) (loaded : List ℕ) (hand : Hand) (v : View) (s : State) : Type 0 where
+  pub linked : loaded ≡ s.shared.loaded
+  pub stands : is_resting v ≡ true → v.started ≡ true → Stands w homes s (run_state v)
+  pub rests : is_resting v ≡ true → v.started ≡ true → IsSoundIn w s
+  pub in_hand : is_resting v ≡ false → HasInHand w homes (turn w.world v.clock) hand v.live s
+  pub sound : is_resting v ≡ false → IsSoundOnce w hand s
+  pub first : v.started ≡ false → IsAtStart w.world s
+
+-- before the start no step is in hand
+pub record IsEarly (v : View) : Type 0 where
+  pub clock : v.clock ≡ 0
+  pub passed : v.passed ≡ 0
+  pub told : v.told ≡ false
+
+-- unless memory has run out
+pub record IsMachine (w : Setup) (loaded : List ℕ) (hand : Hand) (v : View) (s : State) : Type 0 where
+  pub homes : ℕ → ℕ → ℕ
+  pub has : HasVersions w homes
+  pub early : v.started ≡ false → IsEarly v
+  pub whole : v.broken ≡ false → IsWhole w homes loaded hand v s

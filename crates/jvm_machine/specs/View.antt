@@ -1,0 +1,93 @@
+-- What a clause sees of a machine that runs versions, and what is left of the step that it has in hand.
+use Rattle.std.specs.Prelude.{◌≡◌, ℕ, ◌+◌, Bool, true, false, not, List, [], drop, map, Option, is_some, ◌==◌, ◌&&◌, if◌then◌else◌}
+use Rattle.jvm_model.specs.declared.event.Event.{Event}
+use Rattle.jvm_model.specs.declared.event.Mark.{Mark}
+use Rattle.jvm_model.specs.declared.event.Mark.TheVariants.{Off}
+use Rattle.jvm_model.specs.declared.program.Program.{Program}
+use Rattle.jvm_model.specs.declared.state.State.{State}
+use Rattle.jvm_model.specs.Data.{Change, World}
+use Rattle.jvm_model.specs.Pauses.{Stop, is_end, stop_from, told_at}
+use Rattle.jvm_model.specs.Rest.{loads_first}
+use Rattle.jvm_model.specs.Run.{before, run, turn}
+use Rattle.jvm_model.specs.StandsFor.{mark_at}
+use Rattle.jvm_model.specs.Told.{Held}
+
+-- A machine of a program, with its input; the marks of the versions in which methods begin now, by the methods' numbers; whether it has made
+-- the start; whether memory has run out; the number of steps begun after the start; how many changes of the step in hand are behind it, its load
+-- among them, and whether the probe of the end that comes next has told; and the live activations, each with the mark of its version.
+pub record View : Type 0 where
+  pub program : Program
+  pub input : List ℕ
+  pub marks : List Mark
+  pub started : Bool
+  pub broken : Bool
+  pub clock : ℕ
+  pub passed : ℕ
+  pub told : Bool
+  pub live : List Held
+
+-- a machine that was just made runs original code
+abbrev pub made : Program → List ℕ → View
+made program input = record {
+  program = program;
+  input = input;
+  marks = map (λ place. Off) program.methods;
+  started = false;
+  broken = false;
+  clock = 0;
+  passed = 0;
+  told = false;
+  live = [];
+}
+
+abbrev pub world : View → World
+world v = record { program = v.program; input = v.input }
+
+-- ---- between steps
+
+-- the state that it stands for: the run's after that many steps, and before the start nothing was done
+abbrev pub run_state : View → State
+run_state v = if v.started then run (world v) v.clock else before (world v)
+
+abbrev pub has_ended : View → Bool
+has_ended v = is_some (run_state v).ending
+
+-- no step is in hand
+abbrev pub is_resting : View → Bool
+is_resting v = v.passed == 0 && not v.told
+
+-- there is a step to make, or one in hand
+abbrev pub IsGoingOn : View → Type 0
+IsGoingOn v = (is_resting v && has_ended v) ≡ false
+
+-- the start, or one step further
+abbrev pub advanced : View → View
+advanced v = record v { started = true; clock = if v.started then v.clock + 1 else 0 }
+
+-- the step in hand, or else the next one
+abbrev pub begun : View → View
+begun v = if is_resting v then advanced v else v
+
+-- ---- the rest of the step in hand
+
+abbrev pub to_come : View → List Change
+to_come v = drop v.passed (turn (world v) v.clock).changes
+
+-- the classes that it has to tell, which are its first change
+abbrev pub loads_next : View → List ℕ
+loads_next v = loads_first (to_come v)
+
+-- where it stops: at the next change of which a probe tells
+abbrev pub next_stop : View → Stop
+next_stop v = stop_from (mark_at v.marks) v.told v.passed v.live (to_come v)
+
+abbrev pub next_event : View → Option Event
+next_event v = told_at (next_stop v).due v.clock (next_stop v).live
+
+-- what is seen there
+abbrev pub stopped : View → View
+stopped v = record v { passed = (next_stop v).passed; told = is_end (next_stop v).due; live = (next_stop v).live }
+
+-- and where the step is done
+abbrev pub rested : View → View
+rested v = record v { passed = 0; told = false; live = (next_stop v).live }

@@ -1,0 +1,142 @@
+//! How a step is taken up, and what it has come to.
+
+ghost use Rattle.std.specs.Prelude.{◌≡◌, ◌+◌, ◌++◌, ◌^◌, ◌<◌, drop, false, true, IfOk, OnErr, OnOk};
+ghost use Rattle.jvm_model.specs.InHand.{behind_load};
+ghost use Rattle.jvm_model.specs.Run.{main_loads, starts_with};
+ghost use Rattle.jvm_model.specs.Sound.{IsFit};
+ghost use Rattle.jvm_steps.specs.Before.{IsAtStart};
+ghost use Rattle.jvm_steps.specs.Markers.{state_of};
+ghost use Rattle.jvm_machine.specs.Advances.{clock_in, left_in};
+ghost use Rattle.jvm_machine.specs.Advances.{taken_hand, taken_loads, taken_state};
+
+use jf_bytes::{NoMemory, Seq, Stack};
+use jvm_model::{Due, Shared};
+use jvm_steps::{Gone, Hand, Marker, Originals, Parts, begin_start};
+use std::alloc::Global;
+
+/// What a call of `step` has come to: classes were loaded, or something is due, or nothing more of the step.
+#[derive(Debug, Drop)]
+pub enum Telling {
+    Classes(Seq<u32>),
+    Due(Due),
+}
+
+/// The clock rises where a step after the start begins.
+pub fn clock_in(resting: bool, started: bool, clock: u64) -> u64
+    requires { clock < 2 ^ 63 }
+    ensures { result ≡ clock_in resting started clock }
+{
+    if !resting {
+        return clock;
+    }
+    if started { clock + 1 } else { 0 }
+}
+
+/// What is in hand where a step has stopped: nothing where it is done.
+pub fn left(gone: Gone) -> Hand
+    ensures { result ≡ left_in gone }
+{
+    let mut hand = gone.hand;
+    if let Due::Nothing = gone.due {
+        hand.passed = 0;
+    }
+    hand
+}
+
+/// The classes that were loaded since there were so many.
+pub fn loaded_since(alloc: Global, shared: &Shared, count: usize) -> Result<Seq<u32>, NoMemory>
+    ensures { IfOk result (λ classes. classes ≡ drop count shared.now.loaded) }
+{
+    let Some(classes) = shared.loaded.as_slice().get(count..) else {
+        return Ok(Seq::new(alloc));
+    };
+    Ok(Seq::from_slice(alloc, classes)?)
+}
+
+/// How many changes of a step it is that classes were loaded.
+fn behind_load(classes: &[u32]) -> u64
+    ensures { result ≡ behind_load classes.now }
+{
+    if classes.is_empty() { 0 } else { 1 }
+}
+
+/// What was taken up: the classes that the start has loaded, and what is in hand then.
+#[derive(Debug, Drop)]
+pub struct Taken {
+    pub loads: Seq<u32>,
+    pub hand: Hand,
+}
+
+/// Begins the start.
+fn take_start(
+    alloc: Global,
+    originals: &mut Originals,
+    parts: &mut Parts,
+    markers: &mut Stack<Marker>,
+) -> Result<Taken, NoMemory>
+    requires at_start { IsAtStart originals.old.setup.world (state_of markers.old parts.old) }
+    requires linked { originals.old.loaded ≡ parts.old.shared.loaded }
+    requires fit { IsFit originals.old.setup.world.program }
+    ensures world { originals.new.setup ≡ originals.old.setup }
+    ensures linked { OnOk result (originals.new.loaded ≡ parts.new.shared.loaded) }
+    ensures loads { IfOk result (λ t. t.loads ≡ main_loads originals.old.setup.world) }
+    ensures hand { let passed = behind_load (main_loads originals.old.setup.world) in
+        IfOk result (λ t. t.hand ≡ record { moves = true; told = false; passed = passed }) }
+    ensures state { OnOk result
+        (state_of markers.new parts.new ≡ starts_with originals.old.setup.world) }
+{
+    let count = parts.shared.loaded.len();
+    begin_start(alloc, originals, parts, markers)?;
+    let loads = loaded_since(alloc, &parts.shared, count)?;
+    let passed = behind_load(loads.as_slice());
+    Ok(Taken {
+        loads,
+        hand: Hand {
+            moves: true,
+            told: false,
+            passed,
+        },
+    })
+}
+
+/// Takes up what is in hand, or begins the start, or the next step.
+pub fn take_up(
+    alloc: Global,
+    originals: &mut Originals,
+    parts: &mut Parts,
+    markers: &mut Stack<Marker>,
+    resting: bool,
+    started: bool,
+    hand: Hand,
+) -> Result<Taken, NoMemory>
+    requires at_start { started ≡ false → resting ≡ true
+        → IsAtStart originals.old.setup.world (state_of markers.old parts.old) }
+    requires linked { originals.old.loaded ≡ parts.old.shared.loaded }
+    requires fit { IsFit originals.old.setup.world.program }
+    ensures world { originals.new.setup ≡ originals.old.setup }
+    ensures linked { OnOk result (originals.new.loaded ≡ parts.new.shared.loaded) }
+    ensures loads { let w = originals.old.setup.world in
+        IfOk result (λ t. t.loads ≡ taken_loads w resting started) }
+    ensures hand { let w = originals.old.setup.world in
+        IfOk result (λ t. t.hand ≡ taken_hand w resting started hand) }
+    ensures state { let s = state_of markers.old parts.old in OnOk result (state_of markers.new
+        parts.new ≡ taken_state originals.old.setup.world resting started s) }
+{
+    if !resting {
+        return Ok(Taken {
+            loads: Seq::new(alloc),
+            hand,
+        });
+    }
+    if !started {
+        return take_start(alloc, originals, parts, markers);
+    }
+    Ok(Taken {
+        loads: Seq::new(alloc),
+        hand: Hand {
+            moves: false,
+            told: false,
+            passed: 0,
+        },
+    })
+}

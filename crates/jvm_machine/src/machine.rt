@@ -1,0 +1,178 @@
+//! The machine: one turn a call.
+
+ghost use Rattle.std.specs.Prelude.{◌≡◌, ◌+◌, ◌^◌, ◌<◌, ◌&&◌, true, false, None};
+ghost use Rattle.std.specs.Prelude.{OnErr, IfOk, OnOk};
+ghost use Rattle.jvm_model.specs.Pauses.{told_at};
+ghost use Rattle.jvm_machine.specs.Advances.{Advances, broken_in};
+ghost use Rattle.jvm_machine.specs.Turns.{Turns, turn_by};
+ghost use Rattle.jvm_machine.specs.Several.{RunsOn, is_settled};
+ghost use Rattle.jvm_machine.specs.View.{IsGoingOn, has_ended, is_resting};
+
+use crate::advancing::{Telling, clock_in, left, loaded_since, take_up};
+use crate::telling::told;
+use crate::turn::Turn;
+use jf_bytes::{NoMemory, Stack};
+use jvm_model::{Due, Event};
+use jvm_steps::{Hand, Marker, Originals, Parts, go};
+use std::alloc::Global;
+use std::marker::Model;
+
+/// A machine that runs versions of a program's methods. A clause sees the program, how far it has come, what of the step in hand
+/// is behind it, and the marks of the versions in which methods begin and of those that are live.
+#[derive(Drop)]
+pub struct Vm {
+    alloc: Global,
+    originals: Originals,
+    parts: Parts,
+    markers: Stack<Marker>,
+    started: bool,
+    broken: bool,
+    clock: u64,
+    hand: Hand,
+}
+
+impl Model for Vm {
+    ghost use Rattle.jvm_steps.specs.Markers.{state_of};
+    ghost use Rattle.jvm_machine.specs.Machine.{IsMachine, seen};
+    ghost use Rattle.jvm_machine.specs.View.{View};
+
+    ghost Value = { View };
+
+    ghost view = { λ v. seen v.originals.setup (state_of v.markers v.parts) v.started
+        v.broken v.clock v.hand };
+
+    ghost invariant = { λ v. IsMachine v.originals.setup v.originals.loaded v.hand (seen
+        v.originals.setup (state_of v.markers v.parts) v.started v.broken v.clock v.hand)
+        (state_of v.markers v.parts) };
+}
+
+/// Whether a turn says no more than that a step is done.
+fn is_settled(turn: &Turn) -> bool
+    ensures { result ≡ is_settled turn.now }
+{
+    matches!(turn, Turn::Settled)
+}
+
+impl Vm {
+    /// Whether there is no step in hand.
+    fn is_resting(&self) -> bool
+        ensures { result ≡ is_resting self.now }
+    {
+        self.hand.passed == 0 && !self.hand.told
+    }
+
+    /// Goes on to what is told next of the step, or to its end.
+    fn advance(&mut self) -> Result<Telling, NoMemory>
+        requires whole { self.old.broken ≡ false }
+        requires going { IsGoingOn self.old }
+        requires below { self.old.clock < 2 ^ 63 }
+        ensures ok { IfOk result (λ telling. Advances self.old telling self.new) }
+        ensures whole { OnOk result (self.new.broken ≡ false) }
+        ensures err { OnErr result (self.new ≡ broken_in self.old self.new) }
+    {
+        let started = self.started;
+        let resting = self.is_resting();
+        self.broken = true;
+        self.clock = clock_in(resting, started, self.clock);
+        self.started = true;
+        let taken = take_up(
+            self.alloc,
+            &mut self.originals,
+            &mut self.parts,
+            &mut self.markers,
+            resting,
+            started,
+            self.hand,
+        )?;
+        self.hand = taken.hand;
+        if !taken.loads.is_empty() {
+            self.broken = false;
+            return Ok(Telling::Classes(taken.loads));
+        }
+        let count = self.parts.shared.loaded.len();
+        let gone = go(
+            self.alloc,
+            &mut self.originals,
+            &mut self.parts,
+            &mut self.markers,
+            self.hand,
+        )?;
+        let Some(gone) = gone else {
+            let classes = loaded_since(self.alloc, &self.parts.shared, count)?;
+            self.hand.passed = 1;
+            self.broken = false;
+            return Ok(Telling::Classes(classes));
+        };
+        self.originals.release(&self.parts.frames);
+        self.hand = left(gone);
+        self.broken = false;
+        Ok(Telling::Due(gone.due))
+    }
+
+    /// Whether there is no step in hand, and the run has ended.
+    fn is_over(&self) -> bool
+        ensures { self.now.broken ≡ false → result ≡ (is_resting self.now && has_ended self.now) }
+    {
+        self.is_resting() && self.parts.ending.is_some()
+    }
+
+    /// The event of which the probe has told that the current frame stands behind.
+    fn event(&self, due: Due) -> Option<Event>
+        ensures { result ≡ told_at due self.now.clock self.now.live }
+    {
+        told(self.clock, due, &self.originals, &self.parts, &self.markers)
+    }
+
+    /// What this tells: an event, or that the step is done.
+    fn turn(&self, due: Due) -> Turn
+        requires whole { self.now.broken ≡ false }
+        requires rests { told_at due self.now.clock self.now.live ≡ None
+            → is_resting self.now ≡ true }
+        ensures { let event = told_at due self.now.clock self.now.live in
+            result ≡ turn_by event (has_ended self.now) }
+    {
+        match self.event(due) {
+            Some(event) => Turn::Probe(event),
+            None if self.is_over() => Turn::Ended,
+            None => Turn::Settled,
+        }
+    }
+
+    /// Goes on with the step in hand, or begins the next one, the start first: one turn. Where it loads classes these are told first.
+    /// Each probe that a frame executes tells its event in a turn of its own, an entry probe behind the instruction, the others before
+    /// the activation ends; then comes Settled, or Ended, exactly where the run has ended. After want of memory the machine is broken, and
+    /// does no more.
+    pub fn step(&mut self) -> Turn
+        requires { self.old.clock < 2 ^ 63 }
+        ensures { Turns self.old result self.new }
+    {
+        if self.broken {
+            return Turn::Broken;
+        }
+        if self.is_over() {
+            return Turn::Ended;
+        }
+        match self.advance() {
+            Ok(Telling::Classes(classes)) => Turn::Loaded(classes),
+            Ok(Telling::Due(due)) => self.turn(due),
+            Err(_) => Turn::NoMemory,
+        }
+    }
+
+    /// Makes steps, at most so many, while they tell nothing; the answer is the turn of the last one.
+    pub fn run_on(&mut self, most: u64) -> Turn
+        requires some { 0 < most }
+        requires below { self.old.clock + most < 2 ^ 63 }
+        requires resting { is_resting self.old ≡ true }
+        ensures { RunsOn self.old most result self.new }
+    {
+        let mut made = 0;
+        loop {
+            let turn = self.step();
+            made += 1;
+            if made == most || !is_settled(&turn) {
+                return turn;
+            }
+        }
+    }
+}

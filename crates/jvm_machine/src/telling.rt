@@ -1,0 +1,46 @@
+//! What a probe has told.
+
+ghost use Rattle.std.specs.Prelude.{◌≡◌};
+ghost use Rattle.jvm_model.specs.Pauses.{begin_kind, told_at};
+ghost use Rattle.jvm_model.specs.Told.{helds};
+ghost use Rattle.jvm_steps.specs.Markers.{state_of};
+ghost use Rattle.jvm_steps.specs.Versions.{mark_of};
+
+use jf_bytes::Stack;
+use jvm_model::{Due, Event, EventKind, Mark};
+use jvm_steps::{Marker, Originals, Parts, where_now};
+
+/// The probe at the entry of a version with this mark.
+fn begin_kind(mark: Mark) -> EventKind
+    ensures { result ≡ begin_kind mark }
+{
+    match mark {
+        Mark::Root => EventKind::Root,
+        Mark::Plain | Mark::Off => EventKind::Enter,
+    }
+}
+
+/// What is told where a step has stopped, of the current frame.
+pub fn told(
+    clock: u64,
+    due: Due,
+    originals: &Originals,
+    parts: &Parts,
+    markers: &Stack<Marker>,
+) -> Option<Event>
+    ensures { let s = state_of markers.now parts.now in let v = originals.now.setup.versions in
+        result ≡ told_at due clock (helds (mark_of v) s.stack) }
+{
+    let _used = markers.peek(0);
+    let here = where_now(&parts.frames)?;
+    let kind = match due {
+        Due::Nothing => return None,
+        Due::Ends(kind) => kind,
+        Due::Begins => begin_kind(originals.mark(here.version)),
+    };
+    Some(Event {
+        kind,
+        method: here.method,
+        clock,
+    })
+}
