@@ -4,6 +4,8 @@ pub mod Going
 pub mod Machines
 pub mod Exits
 pub mod Shown
+pub mod Fresh
+pub mod Loaded
 pub mod ToldFrames
 pub mod Turned
 pub mod SeveralTurns

@@ -1,27 +1,43 @@
 -- What a machine shows at rest is what the run has.
-use Rattle.std.proofs.Common.{◌≡◌, ℕ, Bool, true, false, List, refl, sym, ap, subst, ◌∙◌}
+use Rattle.std.proofs.Common.{◌≡◌, ℕ, suc, Bool, true, false, List, [], ◌∷◌, length, refl, sym, ap, subst, ◌∙◌}
 use Rattle.std.specs.Prelude.{is_some, if◌then◌else◌, ◌&&◌}
 use Rattle.std.proofs.lemmas.Bool.{and_parts}
 use Rattle.jvm_model.specs.declared.ending.Ending.{Ending}
+use Rattle.jvm_model.specs.declared.event.Mark.{Mark}
+use Rattle.jvm_model.specs.declared.state.Entry.{Entry}
+use Rattle.jvm_model.specs.declared.state.Entry.TheVariants.{Active, Initializing}
 use Rattle.jvm_model.specs.declared.state.State.{State}
+use Rattle.jvm_model.specs.Applies.{live_in}
 use Rattle.jvm_model.specs.Run.{before, run}
+use Rattle.jvm_model.specs.StandsForRun.{at_homes, forgotten}
+use Rattle.jvm_model.specs.Told.{helds}
+use Rattle.jvm_model.proofs.AppliesMoves.{live-moves}
 use Rattle.jvm_steps.specs.declared.hands.Hand.{Hand}
-use Rattle.jvm_steps.specs.Versions.{Setup}
+use Rattle.jvm_steps.specs.Versions.{Setup, mark_of, method_of}
 use Rattle.jvm_machine.specs.Machine.{IsMachine, Stands, seen}
 use Rattle.jvm_machine.specs.Turns.{Ends}
 use Rattle.jvm_machine.specs.View.{View, begun, has_ended, is_resting, rested, run_state}
+
+-- live activations are those of the frames
+helds-live : (mark : ℕ → Mark) (stack : List Entry) → length (helds mark stack) ≡ live_in stack
+helds-live mark [] = refl
+helds-live mark (Active f ∷ below) = ap suc (helds-live mark below)
+helds-live mark (Initializing class part ∷ below) = helds-live mark below
 
 -- of a state that stands for another
 pub record Shows (s from_original : State) : Type 0 where
   pub output : s.output ≡ from_original.output
   pub ending : s.ending ≡ from_original.ending
   pub loaded : s.shared.loaded ≡ from_original.shared.loaded
+  pub live : live_in s.stack ≡ live_in from_original.stack
 
-stands-shows : (w : Setup) (homes : ℕ → ℕ → ℕ) (s from_original : State) → Stands w homes s from_original → Shows s from_original
+pub stands-shows : (w : Setup) (homes : ℕ → ℕ → ℕ) (s from_original : State) → Stands w homes s from_original → Shows s from_original
 stands-shows w homes s from_original stands = record {
   output = ap (λ (z : State). z.output) stands.versioned_is ∙ sym (ap (λ (z : State). z.output) stands.original_is);
   ending = ap (λ (z : State). z.ending) stands.versioned_is ∙ sym (ap (λ (z : State). z.ending) stands.original_is);
   loaded = ap (λ (z : State). z.shared.loaded) stands.versioned_is ∙ sym (ap (λ (z : State). z.shared.loaded) stands.original_is);
+  live = (ap (λ (z : State). live_in z.stack) stands.versioned_is ∙ live-moves (at_homes homes) stands.between.stack)
+      ∙ sym (ap (λ (z : State). live_in z.stack) stands.original_is ∙ live-moves (forgotten (method_of w.versions)) stands.between.stack);
 }
 
 same-shows : (s z : State) → s ≡ z → Shows s z
@@ -29,6 +45,7 @@ same-shows s z e = record {
   output = ap (λ (x : State). x.output) e;
   ending = ap (λ (x : State). x.ending) e;
   loaded = ap (λ (x : State). x.shared.loaded) e;
+  live = ap (λ (x : State). live_in x.stack) e;
 }
 
 module _ (w : Setup) (loaded : List ℕ) (hand : Hand) (started broken : Bool) (clock : ℕ) (s : State) (is : IsMachine w loaded hand (seen w s started broken clock hand) s)
@@ -44,6 +61,12 @@ module _ (w : Setup) (loaded : List ℕ) (hand : Hand) (started broken : Bool) (
 
   pub rest-shows : is_resting v ≡ true → Shows s (run_state v)
   rest-shows resting = subst (λ (x : View). Shows s (run_state x)) view (shows-by started refl (ap is_resting view ∙ resting))
+
+  -- as many activations are live
+  pub rest-live : is_resting v ≡ true → length v.live ≡ live_in (run_state v).stack
+  rest-live resting =
+      ap (λ (x : View). length x.live) (sym view)
+      ∙ (helds-live (mark_of w.versions) s.stack ∙ (rest-shows resting).live)
 
   pub over-is : is_resting v ≡ true → is_some s.ending ≡ (is_resting v && has_ended v)
   over-is resting = ap is_some (rest-shows resting).ending ∙ ap (λ b. b && has_ended v) (sym resting)

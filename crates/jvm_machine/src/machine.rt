@@ -1,19 +1,25 @@
 //! The machine: one turn a call.
 
-ghost use Rattle.std.specs.Prelude.{◌≡◌, ◌+◌, ◌^◌, ◌<◌, ◌&&◌, true, false, None};
+ghost use Rattle.std.specs.Prelude.{◌≡◌, ◌+◌, ◌^◌, ◌<◌, ◌&&◌, true, false, None, length};
 ghost use Rattle.std.specs.Prelude.{OnErr, IfOk, OnOk};
+ghost use Rattle.jvm_model.specs.Applies.{live_in};
 ghost use Rattle.jvm_model.specs.Pauses.{told_at};
+ghost use Rattle.jvm_model.specs.ProgramPlaces.{HasClosedCodes};
+ghost use Rattle.jvm_model.specs.Sound.{IsFit};
+ghost use Rattle.jvm_steps.specs.Before.{CanStart};
+ghost use Rattle.jvm_steps.specs.Prepared.{FitsOriginals};
 ghost use Rattle.jvm_machine.specs.Advances.{Advances, broken_in};
 ghost use Rattle.jvm_machine.specs.Turns.{Turns, turn_by};
 ghost use Rattle.jvm_machine.specs.Several.{RunsOn, is_settled};
-ghost use Rattle.jvm_machine.specs.View.{IsGoingOn, has_ended, is_resting};
+ghost use Rattle.jvm_machine.specs.View.{IsGoingOn, has_ended, is_resting, made, run_state};
 
 use crate::advancing::{Telling, clock_in, left, loaded_since, take_up};
 use crate::telling::told;
 use crate::turn::Turn;
-use jf_bytes::{NoMemory, Stack};
-use jvm_model::{Due, Event};
-use jvm_steps::{Hand, Marker, Originals, Parts, go};
+use class_linker::Linker;
+use jf_bytes::{NoMemory, Seq, Stack};
+use jvm_model::{Due, Ending, Event, Program};
+use jvm_steps::{Hand, Marker, Originals, Parts, go, parts_before};
 use std::alloc::Global;
 use std::marker::Model;
 
@@ -54,6 +60,32 @@ fn is_settled(turn: &Turn) -> bool
 }
 
 impl Vm {
+    /// A machine that will run the program from its main method, in original code at first. It looks up every offset of every code once.
+    pub fn new(alloc: Global, program: Program, input: Vec<u8>) -> Result<Vm, NoMemory>
+        requires fits { FitsOriginals program }
+        requires fit { IsFit program }
+        requires closed { HasClosedCodes program }
+        requires starts { CanStart program }
+        ensures { IfOk result (λ vm. vm ≡ made program input.items) }
+    {
+        let parts = parts_before(alloc, &program)?;
+        let originals = Originals::new(alloc, program, Seq::from_vec(input))?;
+        Ok(Vm {
+            alloc,
+            originals,
+            parts,
+            markers: Stack::new(alloc),
+            started: false,
+            broken: false,
+            clock: 0,
+            hand: Hand {
+                moves: false,
+                told: false,
+                passed: 0,
+            },
+        })
+    }
+
     /// Whether there is no step in hand.
     fn is_resting(&self) -> bool
         ensures { result ≡ is_resting self.now }
@@ -174,5 +206,53 @@ impl Vm {
                 return turn;
             }
         }
+    }
+
+    /// The number of steps that were begun after the start.
+    pub fn clock(&self) -> u64
+        ensures { result ≡ self.now.clock }
+    {
+        self.clock
+    }
+
+    /// The program that it runs, as it was given.
+    pub fn program(&self) -> &Program
+        ensures { result.now ≡ self.now.program }
+    {
+        self.originals.program()
+    }
+
+    /// What links its classes: it has loaded those that the run has loaded, the step in hand included.
+    pub fn linker(&self) -> &Linker
+        ensures program { result.now.program ≡ self.now.program }
+        ensures loaded { self.now.broken ≡ false
+            → result.now.loaded ≡ (run_state self.now).shared.loaded }
+    {
+        self.originals.linker()
+    }
+
+    /// What the program has written, where no step is in hand.
+    pub fn output(&self) -> &[u8]
+        ensures { self.now.broken ≡ false → is_resting self.now ≡ true
+            → result.now ≡ (run_state self.now).output }
+    {
+        self.parts.output.as_slice()
+    }
+
+    /// How the run has ended, if it has, where no step is in hand.
+    pub fn ending(&self) -> Option<Ending>
+        ensures { self.now.broken ≡ false → is_resting self.now ≡ true
+            → result ≡ (run_state self.now).ending }
+    {
+        self.parts.ending
+    }
+
+    /// The number of live activations, with that of which a probe has told that it ends.
+    pub fn live(&self) -> u32
+        ensures live { result ≡ length self.now.live }
+        ensures rests { self.now.broken ≡ false → is_resting self.now ≡ true
+            → result ≡ live_in (run_state self.now).stack }
+    {
+        self.parts.frames.depth()
     }
 }
