@@ -31,7 +31,7 @@ fresh_hand = record { moves = false; told = false; passed = 0 }
 abbrev IsPlain : Version → Type 0
 IsPlain x = x.prepared.mark ≡ Off
 
-original-plain : (p : Program) (k : ℕ) → IsPlain (original_version p k)
+pub original-plain : (p : Program) (k : ℕ) → IsPlain (original_version p k)
 original-plain p k = at (slice_get p.methods k) where
   entry : (place : MethodPlace) (c : ClassFile) (m : Option Member) → IsPlain (option_map_or (version_entry k c) m (no_version k))
   entry place c None = refl

@@ -6,6 +6,10 @@ pub mod Exits
 pub mod Shown
 pub mod Fresh
 pub mod Loaded
+pub mod Numbered
+pub mod MarkedClasses
+pub mod ImagedMethods
+pub mod Installed
 pub mod ToldFrames
 pub mod Turned
 pub mod SeveralTurns

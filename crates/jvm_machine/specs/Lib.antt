@@ -3,3 +3,4 @@ pub mod Turns
 pub mod Several
 pub mod Machine
 pub mod Advances
+pub mod Installs

@@ -9,6 +9,7 @@ ghost use Rattle.jvm_model.specs.Sound.{IsFit};
 ghost use Rattle.jvm_steps.specs.Before.{CanStart};
 ghost use Rattle.jvm_steps.specs.Prepared.{FitsOriginals};
 ghost use Rattle.jvm_machine.specs.Advances.{Advances, broken_in};
+ghost use Rattle.jvm_machine.specs.Installs.{IsFormed, IsImageOf, with_class};
 ghost use Rattle.jvm_machine.specs.Turns.{Turns, turn_by};
 ghost use Rattle.jvm_machine.specs.Several.{RunsOn, is_settled};
 ghost use Rattle.jvm_machine.specs.View.{IsGoingOn, has_ended, is_resting, made, run_state};
@@ -17,8 +18,10 @@ use crate::advancing::{Telling, clock_in, left, loaded_since, take_up};
 use crate::telling::told;
 use crate::turn::Turn;
 use class_linker::Linker;
+use code_model::Homes;
+use const_pool::ClassFile;
 use jf_bytes::{NoMemory, Seq, Stack};
-use jvm_model::{Due, Ending, Event, Program};
+use jvm_model::{Due, Ending, Event, Mark, Program};
 use jvm_steps::{Hand, Marker, Originals, Parts, go, parts_before};
 use std::alloc::Global;
 use std::marker::Model;
@@ -206,6 +209,25 @@ impl Vm {
                 return turn;
             }
         }
+    }
+
+    /// Makes the versions of an image current: the methods of the class begin in them from now on, also within a step in hand. Live
+    /// activations stay in theirs. It takes all memory first: after want of memory nothing has changed.
+    pub fn install(
+        &mut self,
+        class: u32,
+        image: ClassFile,
+        marks: &[Mark],
+        homes: &[Option<Homes>],
+    ) -> Result<(), NoMemory>
+        requires whole { self.old.broken ≡ false }
+        requires formed { IsFormed self.old.program }
+        requires image { IsImageOf self.old.program class marks.now image homes.now }
+        ensures ok { OnOk result (self.new ≡ with_class class marks.now self.old) }
+        ensures err { OnErr result (self.new ≡ self.old) }
+    {
+        let frames = &self.parts.frames;
+        self.originals.install(self.alloc, class, &image, marks, homes, frames)
     }
 
     /// The number of steps that were begun after the start.
