@@ -10,6 +10,7 @@ pub mod Numbered
 pub mod MarkedClasses
 pub mod ImagedMethods
 pub mod Installed
+pub mod QuietSteps
 pub mod ToldFrames
 pub mod Turned
 pub mod SeveralTurns

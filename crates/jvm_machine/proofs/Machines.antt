@@ -42,10 +42,10 @@ pub drop-front : (front more : List ℕ) → drop (length front) (front ++ more)
 drop-front [] more = refl
 drop-front (c ∷ front) more = drop-front front more
 
-zero_is : (n : ℕ) → (n == 0) ≡ true → n ≡ 0
+pub zero_is : (n : ℕ) → (n == 0) ≡ true → n ≡ 0
 zero_is n e = grind (arith)
 
-not_is : (b : Bool) → not b ≡ true → b ≡ false
+pub not_is : (b : Bool) → not b ≡ true → b ≡ false
 not_is true e = absurd (let h : false ≡ true = e in cc)
 not_is false e = refl
 

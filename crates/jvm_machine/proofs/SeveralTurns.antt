@@ -1,9 +1,9 @@
 -- A step that is settled by one turn is one more of several.
-use Rattle.std.proofs.Common.{◌≡◌, ℕ, suc, ◌+◌, ◌≤◌, Bool, true, false, if◌then◌else◌, refl, sym, subst, arith}
+use Rattle.std.proofs.Common.{◌≡◌, ℕ, suc, ◌+◌, ◌≤◌, Bool, true, false, if◌then◌else◌, refl, sym, ap, subst, arith}
 use Rattle.jvm_machine.specs.View.{View, begun, is_resting}
 use Rattle.jvm_machine.specs.declared.turn.Turn.{Turn}
 use Rattle.jvm_machine.specs.declared.turn.Turn.TheVariants.{Settled, Loaded, Probe, Ended, Broken, NoMemory}
-use Rattle.jvm_machine.specs.Several.{Passes, more, is_settled}
+use Rattle.jvm_machine.specs.Several.{Passes, RunsOn, is_settled, more, none}
 use Rattle.jvm_machine.specs.Turns.{Settles, Turns}
 
 pub settled-is : (t : Turn) → is_settled t ≡ true → t ≡ Settled
@@ -26,3 +26,27 @@ settles-clock old new is = subst (λ (v : View). v.clock ≤ old.clock + 1) (sym
 
 pub one-more : (first old new : View) (n : ℕ) (t : Turn) → Passes first n old → Turns old t new → is_settled t ≡ true → Passes first (suc n) new × Settles old new
 one-more first old new n t passes turns e = let s = subst (λ t. Turns old t new) (settled-is t e) turns in (more n old new passes s, s)
+
+pub settles-rests : (old new : View) → Settles old new → is_resting new ≡ true
+settles-rests old new is = ap is_resting is.stepped
+
+-- several steps that told nothing, and then several more
+pub passes-more : (first mid new : View) (n m : ℕ) → Passes first n mid → Passes mid m new → Passes first (n + m) new
+passes-more first mid _ n _ before none =
+    let same : n ≡ n + 0 = omega arith in
+    subst (λ k. Passes first k mid) same before
+passes-more first mid new n _ before (more m between _ passes last) =
+    let same : suc (n + m) ≡ n + suc m = omega arith in
+    subst (λ k. Passes first k new) same (more (n + m) between new (passes-more first mid between n m before passes) last)
+
+-- and then one whose turn answers
+pub runs-on : (first mid between new : View) (n m most : ℕ) (t : Turn) → Passes first n mid → Passes mid m between → Turns between t new → n + m + 1 ≤ most → (is_settled t ≡ true → n + m + 1 ≡ most)
+    → RunsOn first most t new
+runs-on first mid between new n m most t before passes turns within all = record {
+  steps = n + m;
+  between = between;
+  passes = passes-more first mid between n m before passes;
+  last = turns;
+  within = omega (arith, within);
+  all = λ settled. let last = all (ap is_settled settled) in omega (arith, last);
+}

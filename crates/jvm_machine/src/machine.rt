@@ -1,6 +1,6 @@
 //! The machine: one turn a call.
 
-ghost use Rattle.std.specs.Prelude.{◌≡◌, ◌+◌, ◌^◌, ◌<◌, ◌&&◌, true, false, None, length};
+ghost use Rattle.std.specs.Prelude.{◌≡◌, ◌+◌, ◌^◌, ◌<◌, ◌≤◌, ◌&&◌, true, false, None, length};
 ghost use Rattle.std.specs.Prelude.{OnErr, IfOk, OnOk};
 ghost use Rattle.jvm_model.specs.Applies.{live_in};
 ghost use Rattle.jvm_model.specs.Pauses.{told_at};
@@ -8,10 +8,11 @@ ghost use Rattle.jvm_model.specs.ProgramPlaces.{HasClosedCodes};
 ghost use Rattle.jvm_model.specs.Sound.{IsFit};
 ghost use Rattle.jvm_steps.specs.Before.{CanStart};
 ghost use Rattle.jvm_steps.specs.Prepared.{FitsOriginals};
+ghost use Rattle.jvm_steps.specs.Runs.{IsCalm};
 ghost use Rattle.jvm_machine.specs.Advances.{Advances, broken_in};
 ghost use Rattle.jvm_machine.specs.Installs.{IsFormed, IsImageOf, with_class};
 ghost use Rattle.jvm_machine.specs.Turns.{Turns, turn_by};
-ghost use Rattle.jvm_machine.specs.Several.{RunsOn, is_settled};
+ghost use Rattle.jvm_machine.specs.Several.{Passes, RunsOn, is_settled};
 ghost use Rattle.jvm_machine.specs.View.{IsGoingOn, has_ended, is_resting, made, run_state};
 
 use crate::advancing::{Telling, clock_in, left, loaded_since, take_up};
@@ -22,7 +23,7 @@ use code_model::Homes;
 use const_pool::ClassFile;
 use jf_bytes::{NoMemory, Seq, Stack};
 use jvm_model::{Due, Ending, Event, Mark, Program};
-use jvm_steps::{Hand, Marker, Originals, Parts, go, parts_before};
+use jvm_steps::{Hand, Marker, Originals, Parts, go, parts_before, plain_steps};
 use std::alloc::Global;
 use std::marker::Model;
 
@@ -60,6 +61,20 @@ fn is_settled(turn: &Turn) -> bool
     ensures { result ≡ is_settled turn.now }
 {
     matches!(turn, Turn::Settled)
+}
+
+/// Whether the run goes on, nothing is thrown, and no initialization stands on the current frame.
+#[tactic(auto, unfolding(jvm_steps::specs::Markers::marker_on))]
+fn is_calm(parts: &Parts, markers: &Stack<Marker>) -> bool
+    ensures { result ≡ true → IsCalm (length parts.now.frames.frames) markers.now parts.now }
+{
+    if parts.ending.is_some() || parts.thrown.is_some() {
+        return false;
+    }
+    match markers.peek(0) {
+        Some(marker) => parts.frames.depth() > marker.depth,
+        None => true,
+    }
 }
 
 impl Vm {
@@ -194,6 +209,23 @@ impl Vm {
         }
     }
 
+    /// Makes steps that the current frame does by itself, at most so many: how many it has made. Nothing is told of them.
+    fn pass_plainly(&mut self, most: u64) -> u64
+        requires resting { is_resting self.old ≡ true }
+        requires below { self.old.clock + most < 2 ^ 63 }
+        ensures passes { Passes self.old result self.new }
+        ensures within { result ≤ most }
+        ensures clock { self.new.clock ≡ self.old.clock + result }
+        ensures rests { is_resting self.new ≡ true }
+    {
+        if self.broken || !self.started || !is_calm(&self.parts, &self.markers) {
+            return 0;
+        }
+        let made = plain_steps(&self.originals, &mut self.parts.frames, most);
+        self.clock += made;
+        made
+    }
+
     /// Makes steps, at most so many, while they tell nothing; the answer is the turn of the last one.
     pub fn run_on(&mut self, most: u64) -> Turn
         requires some { 0 < most }
@@ -203,9 +235,13 @@ impl Vm {
     {
         let mut made = 0;
         loop {
+            made += self.pass_plainly(most - made - 1);
             let turn = self.step();
             made += 1;
-            if made == most || !is_settled(&turn) {
+            if !is_settled(&turn) {
+                return turn;
+            }
+            if made == most {
                 return turn;
             }
         }
