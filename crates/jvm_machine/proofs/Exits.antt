@@ -1,5 +1,5 @@
 -- How a machine is left by one call, in terms of what the calls within it have answered.
-use Rattle.std.proofs.Common.{◌≡◌, ℕ, suc, ◌+◌, Bool, true, false, List, [], ◌∷◌, ◌++◌, drop, length, Option, Some, None, refl, sym, ap, ap₂, subst, ◌∙◌, inl, inr}
+use Rattle.std.proofs.Common.{◌≡◌, ℕ, ◌+◌, Bool, true, false, List, ◌∷◌, drop, length, Option, Some, None, refl, sym, ap, ap₂, subst, ◌∙◌, inl, inr}
 use Rattle.std.specs.Prelude.{Result, Ok, Err, OnErr, IfNone, is_some, if◌then◌else◌, ◌==◌, ◌||◌}
 use Rattle.std.specs.Option.{IfSome}
 use Rattle.frame_stack.specs.FrameLists.{PlacedFrame}
@@ -19,14 +19,13 @@ use Rattle.jvm_steps.proofs.StandingSteps.{set-up-runs}
 use Rattle.jvm_machine.specs.Advances.{Stops, TellsClasses, broken_in, clock_in, left_in, taken_hand, taken_loads, taken_state}
 use Rattle.jvm_machine.specs.Machine.{IsMachine, IsSoundOnce, seen}
 use Rattle.jvm_machine.specs.View.{View, advanced, begun, is_resting}
-use Rattle.jvm_machine.proofs.Machines.{FromRest, at_rest, clock-more, drop-front, goes-stops, gone-machine, loads-machine, loads-tell, none-front, released-machine, released-seen, same-state, some-front, start-machine, start-tells, started-if}
+use Rattle.jvm_machine.proofs.Machines.{at_rest, clock-more, drop-front, goes-stops, gone-machine, loads-machine, loads-tell, none-front, released-machine, released-seen, same-state, some-front, start-machine, start-tells, started-if}
 
 pub on-err : {A E : Type 0} (X : Type 0) (r : Result A E) → X → OnErr r X
 on-err X (Ok a) x = tt
 on-err X (Err e) x = x
 
 -- ---- what the calls have answered
-
 
 -- the start has loaded classes
 abbrev pub TellsStart : Setup → List ℕ → Hand → State → ℕ → View → Type 0
@@ -117,10 +116,9 @@ module _ (w : Setup) (h : Hand) (started broken : Bool) (clock : ℕ) (s : State
     -- classes of the start
     start-by : TellsStart w (taken_loads w.world now started) (taken_hand w.world now started h) (taken_state w.world now started s) (clock_in now started clock) (seen w s started false clock h)
     start-by some l' linked =
-        let front = some-front (taken_loads w.world now started) some in
-        (
+        let front = some-front (taken_loads w.world now started) some in (
           subst (λ l. TellsClasses (seen w s started false clock h) l (seen w (taken_state w.world now started s) true false (clock_in now started clock) (taken_hand w.world now started h))) (sym front.2)
-          (start-tells w h started clock s loaded unbroken front.0 front.1 front.2),
+              (start-tells w h started clock s loaded unbroken front.0 front.1 front.2),
           start-machine w h started clock s loaded unbroken front.0 front.1 front.2 l' linked,
         )
 
@@ -165,18 +163,17 @@ module _ (w : Setup) (h : Hand) (started broken : Bool) (clock : ℕ) (s : State
         let ticks : clock_in now started clock ≡ clock + 1 = clock-more w h started clock s loaded unbroken none in
         let next : State = with_loaded (loads_in w s) s in
         let lasts : front.0 ∷ front.1 ≡ drop (length (taken_state w.world now started s).shared.loaded) s'.shared.loaded =
-        sym (ap₂ (λ (a b : State). drop (length a.shared.loaded) b.shared.loaded) same made ∙ (ap (λ l. drop (length s.shared.loaded) (with_loaded l s).shared.loaded) front.2 ∙ drop-front s.shared.loaded (front.0 ∷ front.1))) in
-        (
+        sym (ap₂ (λ (a b : State). drop (length a.shared.loaded) b.shared.loaded) same made ∙ (ap (λ l. drop (length s.shared.loaded) (with_loaded l s).shared.loaded) front.2 ∙ drop-front s.shared.loaded (front.0 ∷ front.1))) in (
           subst (λ l. TellsClasses (seen w s started false clock h) l (seen w s' true false (clock_in now started clock) (one_passed (taken_hand w.world now started h)))) lasts
-          (subst (λ (z : State). TellsClasses (seen w s started false clock h) (front.0 ∷ front.1) (seen w z true false (clock_in now started clock) (one_passed (taken_hand w.world now started h)))) (sym made)
-          (subst (λ c. TellsClasses (seen w s started false clock h) (front.0 ∷ front.1) (seen w next true false c (one_passed (taken_hand w.world now started h)))) (sym ticks)
-          (subst (λ (k : Hand). TellsClasses (seen w s started false clock h) (front.0 ∷ front.1) (seen w next true false (clock + 1) k)) (sym hand)
-          (loads-tell w h started clock s loaded unbroken none front.0 front.1 front.2)))),
+              (subst (λ (z : State). TellsClasses (seen w s started false clock h) (front.0 ∷ front.1) (seen w z true false (clock_in now started clock) (one_passed (taken_hand w.world now started h)))) (sym made)
+              (subst (λ c. TellsClasses (seen w s started false clock h) (front.0 ∷ front.1) (seen w next true false c (one_passed (taken_hand w.world now started h)))) (sym ticks)
+              (subst (λ (k : Hand). TellsClasses (seen w s started false clock h) (front.0 ∷ front.1) (seen w next true false (clock + 1) k)) (sym hand)
+              (loads-tell w h started clock s loaded unbroken none front.0 front.1 front.2)))),
           subst (λ (z : State). IsMachine w l' (one_passed (taken_hand w.world now started h)) (seen w z true false (clock_in now started clock) (one_passed (taken_hand w.world now started h))) z) (sym made)
-          (subst (λ c. IsMachine w l' (one_passed (taken_hand w.world now started h)) (seen w next true false c (one_passed (taken_hand w.world now started h))) next) (sym ticks)
-          (subst (λ (k : Hand). IsMachine w l' k (seen w next true false (clock + 1) k) next) (sym hand)
-          (loads-machine w h started clock s loaded unbroken none front.0 front.1 front.2 l' (linked ∙ ap (λ (z : State). z.shared.loaded) made)
-          (λ is. subst (IsSoundIn w) made (sound (subst (IsSoundIn w) (sym same) is)))))),
+              (subst (λ c. IsMachine w l' (one_passed (taken_hand w.world now started h)) (seen w next true false c (one_passed (taken_hand w.world now started h))) next) (sym ticks)
+              (subst (λ (k : Hand). IsMachine w l' k (seen w next true false (clock + 1) k) next) (sym hand)
+              (loads-machine w h started clock s loaded unbroken none front.0 front.1 front.2 l' (linked ∙ ap (λ (z : State). z.shared.loaded) made)
+              (λ is. subst (IsSoundIn w) made (sound (subst (IsSoundIn w) (sym same) is)))))),
         )
 
     pub tells-step : TellsStep w1 loads h1 s1 clock' oldv
@@ -195,14 +192,13 @@ module _ (w : Setup) (h : Hand) (started broken : Bool) (clock : ℕ) (s : State
         let same : u ≡ w' = ap (λ (x : World). let z : Setup = record { world = x; versions = w'.versions } in z) (sym world) in
         let c : ℕ = clock_in now started clock in
         let machine = gone-machine w h started clock s loaded unbroken nothing enough new gone left_there on sound starts l' linked in
-        let stops = goes-stops w h started clock s loaded unbroken nothing enough new gone left_there on in
-        (
+        let stops = goes-stops w h started clock s loaded unbroken nothing enough new gone left_there on in (
           subst (λ (x : Setup). Stops (seen w s started false clock h) gone.due (seen x new true false c h')) same
-          (subst (λ (k : Hand). Stops (seen w s started false clock h) gone.due (seen u new true false c k)) (sym handed')
-          (subst (Stops (seen w s started false clock h) gone.due) (sym (released-seen w fs w'.versions released (left_in gone) c new l' pinned machine)) stops)),
+              (subst (λ (k : Hand). Stops (seen w s started false clock h) gone.due (seen u new true false c k)) (sym handed')
+              (subst (Stops (seen w s started false clock h) gone.due) (sym (released-seen w fs w'.versions released (left_in gone) c new l' pinned machine)) stops)),
           subst (λ (x : Setup). IsMachine x l' h' (seen x new true false c h') new) same
-          (subst (λ (k : Hand). IsMachine u l' k (seen u new true false c k) new) (sym handed')
-          (released-machine w fs w'.versions released (left_in gone) c new l' pinned machine)),
+              (subst (λ (k : Hand). IsMachine u l' k (seen u new true false c k) new) (sym handed')
+              (released-machine w fs w'.versions released (left_in gone) c new l' pinned machine)),
         )
 
     pub goes-there : GoesThere w1 loads h1 s1 clock' oldv

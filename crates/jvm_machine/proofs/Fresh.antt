@@ -1,6 +1,5 @@
 -- A machine that was just made: original code runs, and nothing was done.
-use Rattle.std.proofs.Common.{◌≡◌, ℕ, zero, suc, ◌≤◌, Bool, true, false, List, [], ◌∷◌, length, map, Option, Some, None, slice_get, slice_index_or, refl, sym, ap, ap₂, subst, ◌∙◌}
-use Rattle.std.specs.Prelude.{if◌then◌else◌}
+use Rattle.std.proofs.Common.{◌≡◌, ℕ, zero, suc, true, false, List, [], ◌∷◌, length, map, Option, Some, None, slice_get, slice_index_or, refl, sym, ap, ap₂, ◌∙◌}
 use Rattle.std.specs.List.{range_with_len}
 use Rattle.std.specs.Option.{option_map_or}
 use Rattle.const_pool.specs.declared.class.ClassFile.{ClassFile}
@@ -10,13 +9,12 @@ use Rattle.jvm_model.specs.declared.event.Mark.TheVariants.{Off}
 use Rattle.jvm_model.specs.declared.program.MethodPlace.{MethodPlace}
 use Rattle.jvm_model.specs.declared.program.Program.{Program}
 use Rattle.jvm_model.specs.declared.state.State.{State}
-use Rattle.jvm_model.specs.Data.{World}
 use Rattle.jvm_model.specs.Programs.{class_at}
 use Rattle.jvm_model.specs.Run.{before}
 use Rattle.jvm_model.specs.Told.{helds}
 use Rattle.jvm_steps.specs.declared.hands.Hand.{Hand}
-use Rattle.jvm_steps.specs.Before.{CanStart, IsAtStart}
-use Rattle.jvm_steps.specs.Entries.{no_version, original_slot, original_version, original_versions, own_number, version_entry, version_in, version_of}
+use Rattle.jvm_steps.specs.Before.{IsAtStart}
+use Rattle.jvm_steps.specs.Entries.{no_version, original_slot, original_version, original_versions, version_entry, version_in, version_of}
 use Rattle.jvm_steps.specs.Standing.{IsSetUp}
 use Rattle.jvm_steps.specs.Tables.{Version, Versions}
 use Rattle.jvm_steps.specs.Versions.{Setup, mark_of}

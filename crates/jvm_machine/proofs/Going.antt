@@ -1,5 +1,5 @@
 -- What is in hand of a step goes on: where it stops is what is seen, and the rest of the same step is in hand there.
-use Rattle.std.proofs.Common.{◌≡◌, ℕ, suc, ◌+◌, ◌≤◌, Bool, true, false, List, [], ◌∷◌, drop, length, map, Option, Some, None, slice_get, refl, sym, ap, ap₂, subst, ◌∙◌, arith}
+use Rattle.std.proofs.Common.{◌≡◌, ℕ, suc, ◌+◌, Bool, true, false, List, [], ◌∷◌, length, Option, Some, None, slice_get, refl, sym, ap, ap₂, subst, ◌∙◌, arith}
 use Rattle.std.specs.Prelude.{unwrap_or, ◌==◌}
 use Rattle.std.specs.Option.{option_map, option_map_or}
 use Rattle.std.proofs.lemmas.Option.{slice_get-map}
@@ -14,7 +14,7 @@ use Rattle.jvm_model.specs.InHand.{InHand, behind_load, original_of}
 use Rattle.jvm_model.specs.Load.{Fault}
 use Rattle.jvm_model.specs.Moves.{settled}
 use Rattle.jvm_model.specs.Originals.{original}
-use Rattle.jvm_model.specs.Pauses.{Stop, change_due, is_end, later_of, stop_by, stop_from, stop_in, stop_of}
+use Rattle.jvm_model.specs.Pauses.{Stop, change_due, is_end, stop_by, stop_from, stop_in}
 use Rattle.jvm_model.specs.Rest.{Todo, loads_first, step_loads}
 use Rattle.jvm_model.specs.Run.{arguments_made, before, loaded_turn, main_classes, main_loading, main_loads, opened, run, start, starts_if, starts_unless, starts_with, step, turn, turn_in-more, turn_in-zero, with_loaded}
 use Rattle.jvm_model.specs.SharedState.{arguments_fit}
@@ -30,7 +30,7 @@ use Rattle.jvm_steps.specs.declared.hands.Gone.{Gone}
 use Rattle.jvm_steps.specs.declared.hands.Hand.{Hand}
 use Rattle.jvm_steps.specs.Hands.{HasGoneOn, HasInHand, IsLeft, todo_of, versioned_in}
 use Rattle.jvm_steps.specs.Standing.{HasVersions, places_of}
-use Rattle.jvm_steps.specs.Tables.{Version, version_at}
+use Rattle.jvm_steps.specs.Tables.{Version}
 use Rattle.jvm_steps.specs.Turning.{loads_in, loads_none}
 use Rattle.jvm_steps.specs.Versions.{Setup, current_of, mark_of, method_of, text_of}
 use Rattle.jvm_steps.proofs.VersionsAgree.{versions-agree}

@@ -1,5 +1,5 @@
 -- The methods of an image are versions of the program's methods, as tables of versions ask for.
-use Rattle.std.proofs.Common.{◌≡◌, ◌<◌, ◌≤◌, ◌+◌, ◌^◌, ℕ, zero, suc, Bool, true, false, List, [], ◌∷◌, ◌++◌, length, map, get_or, Option, Some, None, refl, sym, ap, ap₂, subst, ◌∙◌, inl, inr, ◌⊎◌, arith}
+use Rattle.std.proofs.Common.{◌≡◌, ◌<◌, ◌+◌, ◌^◌, ℕ, zero, suc, Bool, true, false, List, [], ◌∷◌, ◌++◌, length, map, Option, Some, None, refl, sym, ap, ap₂, subst, ◌∙◌, inl, inr, ◌⊎◌, arith}
 use Rattle.std.specs.Prelude.{MatchBool, is_some, slice_get, unwrap_or}
 use Rattle.std.specs.List.{AllByRecursion}
 use Rattle.std.specs.List.Sorted.{IsStrictlyIncreasing}
@@ -31,24 +31,21 @@ use Rattle.jvm_model.specs.Data.{Operation}
 use Rattle.jvm_model.specs.Images.{AreMemberImages, IsImage, IsMarkedMember, IsMemberImage, IsOriginal, IsRewritten, all_off, next_number, number_behind}
 use Rattle.jvm_model.specs.Lines.{operation_of}
 use Rattle.jvm_model.specs.Methods.{code_among, code_of, method_code}
-use Rattle.jvm_model.specs.Programs.{class_at, numbered}
 use Rattle.jvm_model.specs.StandsFor.{mark_at}
 use Rattle.jvm_model.specs.Swaps.{first_number}
-use Rattle.jvm_model.specs.Versions.{IsVersion, entry_probe, group_of, groups_of, laid_version, leave_probe}
+use Rattle.jvm_model.specs.Versions.{IsVersion, entry_probe, groups_of, laid_version, leave_probe}
 use Rattle.jvm_model.specs.Whole.{instrs_of}
 use Rattle.jvm_model.proofs.ImageLines.{instrs-groups}
 use Rattle.jvm_model.proofs.ImageMethods.{code_of-marked}
 use Rattle.jvm_model.proofs.ImagePools.{named_class-more}
-use Rattle.jvm_model.proofs.MethodsOfImages.{HasCodeFor, HasMarkedCode, HasOriginal, HasVersion, StaysLike, image-code, image-stays}
-use Rattle.jvm_model.proofs.MoreEntries.{HasMore, operation-more}
+use Rattle.jvm_model.proofs.MethodsOfImages.{HasCodeFor, HasMarkedCode, HasVersion, StaysLike, image-code, image-stays}
+use Rattle.jvm_model.proofs.MoreEntries.{operation-more}
 use Rattle.jvm_model.proofs.NumbersOfMethods.{place-behind}
 use Rattle.jvm_model.proofs.PoolTexts.{have-texts, named-there}
 use Rattle.jvm_model.specs.ProgramPlaces.{HasClosedCodes}
 use Rattle.jvm_steps.specs.ClassVersions.{AreRising, FitsImage, class_version, homes_at, version_by}
-use Rattle.jvm_steps.specs.Entries.{original_version}
-use Rattle.jvm_steps.specs.LaidMethods.{CanBeLaid, NamesClass}
+use Rattle.jvm_steps.specs.LaidMethods.{NamesClass}
 use Rattle.jvm_steps.specs.Prepared.{HasShortCode, HasShortCodes}
-use Rattle.jvm_steps.specs.Rewritten.{rewritten_version}
 use Rattle.jvm_steps.specs.Standing.{AreMethodImages, IsMethodImage}
 use Rattle.jvm_steps.proofs.MethodImages.{code-is}
 use Rattle.jvm_machine.specs.Installs.{IsFormed, IsImageOf}
@@ -95,8 +92,7 @@ version-rising : (count number : ℕ) (mark : Mark) (old new : CodeAttribute) (h
 version-rising count number mark old new h is =
     let front : List ℕ = entry_probe count number mark in
     let groups : List Group = groups_of count number is.reading.instrs in
-    let reads : Reads old.code 0 (group_instrs groups) = subst (Reads old.code 0) (sym (instrs-groups (leave_probe count number) is.reading.instrs)) is.reads.instrs in
-    (
+    let reads : Reads old.code 0 (group_instrs groups) = subst (Reads old.code 0) (sym (instrs-groups (leave_probe count number) is.reading.instrs)) is.reads.instrs in (
       subst (λ (x : Homes). IsStrictlyIncreasing x.from) (sym is.moved) (starts-increasing old.code front groups reads),
       subst (λ (x : Homes). IsStrictlyIncreasing x.home) (sym is.moved) (homes-increasing front groups),
     )

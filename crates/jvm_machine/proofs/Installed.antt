@@ -1,6 +1,6 @@
 -- Versions of a class are added: what is in hand stays in hand, whatever of the step is done, and live activations keep their marks.
 use Rattle.std.proofs.Common.{◌≡◌, ℕ, Bool, true, false, List, [], ◌∷◌, length, Option, Result, Ok, Err, refl, sym, ap, ap₂, subst, ◌∙◌}
-use Rattle.std.specs.Prelude.{OnErr, OnOk, if◌then◌else◌, ◌==◌}
+use Rattle.std.specs.Prelude.{OnErr, OnOk, ◌==◌}
 use Rattle.std.specs.List.{AllByRecursion}
 use Rattle.std.proofs.lemmas.List.{length-map}
 use Rattle.jf_bytes.specs.declared.error.NoMemory.{NoMemory}
@@ -8,16 +8,15 @@ use Rattle.const_pool.specs.declared.class.ClassFile.{ClassFile}
 use Rattle.code_model.specs.declared.laying.Homes.{Homes}
 use Rattle.frame_stack.specs.FrameLists.{PlacedFrame, pins_of}
 use Rattle.jvm_model.specs.declared.event.Mark.{Mark}
-use Rattle.jvm_model.specs.declared.state.Entry.{Entry}
 use Rattle.jvm_model.specs.declared.state.State.{State}
-use Rattle.jvm_model.specs.Data.{Turn, World}
+use Rattle.jvm_model.specs.Data.{World}
 use Rattle.jvm_model.specs.Run.{before, run, turn}
-use Rattle.jvm_model.specs.Told.{Held, helds}
+use Rattle.jvm_model.specs.Told.{helds}
 use Rattle.jvm_steps.specs.declared.hands.Hand.{Hand}
 use Rattle.jvm_steps.specs.ClassVersions.{class_versions}
 use Rattle.jvm_steps.specs.Hands.{HasInHand}
 use Rattle.jvm_steps.specs.Ready.{IsKept}
-use Rattle.jvm_steps.specs.Standing.{HasVersions, IsOfProgram, IsPinned, places_of}
+use Rattle.jvm_steps.specs.Standing.{IsOfProgram, IsPinned, places_of}
 use Rattle.jvm_steps.specs.Tables.{Adds, IsAdded, Version, Versions, version_at}
 use Rattle.jvm_steps.specs.Versions.{Setup, mark_of}
 use Rattle.jvm_steps.specs.VersionTexts.{homes_with}
@@ -29,7 +28,7 @@ use Rattle.jvm_machine.specs.Machine.{IsMachine, marks_of, seen}
 use Rattle.jvm_machine.specs.View.{View, is_resting, run_state}
 use Rattle.jvm_machine.proofs.ImagedMethods.{method-images, version-marked}
 use Rattle.jvm_machine.proofs.Kept.{AreKept, hand-stays, kept-of-sound, kept-once, once-stays, same-helds, sound-stays, stands-stays}
-use Rattle.jvm_machine.proofs.MarkedClasses.{added_marks, class-marks, marks-all}
+use Rattle.jvm_machine.proofs.MarkedClasses.{class-marks, marks-all}
 
 module _ (started broken : Bool) (clock : ℕ) (hand : Hand) (s : State) (loaded : List ℕ) (whole : broken ≡ false) where
   abbrev view : Setup → View

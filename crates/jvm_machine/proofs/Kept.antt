@@ -24,7 +24,7 @@ use Rattle.jvm_steps.specs.Standing.{HasVersions, IsPinned, places_of}
 use Rattle.jvm_steps.specs.Tables.{Version, Versions, version_at}
 use Rattle.jvm_steps.specs.Versions.{Setup, mark_of, method_of}
 use Rattle.jvm_steps.proofs.VersionsRun.{kept-entries, kept-stands}
-use Rattle.jvm_machine.specs.Machine.{IsSoundOnce, IsStarting, Stands}
+use Rattle.jvm_machine.specs.Machine.{IsSoundOnce, Stands}
 
 -- each frame runs a version that is held, or none that will ever be
 abbrev pub IsKeptEntry : Versions → Entry → Type 0

@@ -14,3 +14,4 @@ pub mod QuietSteps
 pub mod ToldFrames
 pub mod Turned
 pub mod SeveralTurns
+pub mod SeenLaws

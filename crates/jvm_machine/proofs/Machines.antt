@@ -1,12 +1,12 @@
 -- What a machine keeps to, from turn to turn.
-use Rattle.std.proofs.Common.{◌≡◌, ℕ, zero, suc, ◌+◌, Bool, true, false, List, [], ◌∷◌, ◌++◌, drop, length, Option, Some, None, refl, sym, ap, ap₂, subst, ◌∙◌, inl, inr, arith}
-use Rattle.std.specs.Prelude.{not, is_some, ◌==◌, ◌&&◌, ◌||◌, if◌then◌else◌}
+use Rattle.std.proofs.Common.{◌≡◌, ℕ, ◌+◌, Bool, true, false, List, [], ◌∷◌, ◌++◌, drop, length, refl, sym, ap, ap₂, subst, ◌∙◌, inl, inr, arith}
+use Rattle.std.specs.Prelude.{not, ◌==◌, ◌&&◌, ◌||◌, if◌then◌else◌}
 use Rattle.std.proofs.lemmas.Bool.{and_parts}
 use Rattle.frame_stack.specs.FrameLists.{PlacedFrame}
 use Rattle.jvm_model.specs.declared.due.Due.{Due}
 use Rattle.jvm_model.specs.declared.due.Due.TheVariants.{Nothing, Ends, Begins}
 use Rattle.jvm_model.specs.declared.state.State.{State}
-use Rattle.jvm_model.specs.Data.{Turn, World}
+use Rattle.jvm_model.specs.Data.{Turn}
 use Rattle.jvm_model.specs.InHand.{behind_load}
 use Rattle.jvm_model.specs.Pauses.{is_end}
 use Rattle.jvm_model.specs.Rest.{loads_first}
@@ -14,19 +14,18 @@ use Rattle.jvm_model.specs.Run.{before, main_loads, run, starts_with, turn, with
 use Rattle.jvm_model.specs.Told.{Held, helds}
 use Rattle.jvm_steps.specs.declared.hands.Gone.{Gone}
 use Rattle.jvm_steps.specs.declared.hands.Hand.{Hand}
-use Rattle.jvm_steps.specs.Before.{IsAtStart}
-use Rattle.jvm_steps.specs.Hands.{HasGoneOn, HasInHand, IsLeft, todo_of}
+use Rattle.jvm_steps.specs.Hands.{HasGoneOn, HasInHand, IsLeft}
 use Rattle.jvm_steps.specs.Ready.{IsSoundIn}
 use Rattle.jvm_steps.specs.Standing.{HasVersions, IsPinned}
 use Rattle.jvm_steps.specs.Tables.{Releases, Versions}
 use Rattle.jvm_steps.specs.Turning.{loads_in, loads_none}
 use Rattle.jvm_steps.specs.Versions.{Setup, mark_of}
 use Rattle.jvm_machine.specs.Advances.{Stops, TellsClasses, clock_in, left_in, passed_then, taken_hand, taken_loads, taken_state, told_in}
-use Rattle.jvm_machine.specs.Machine.{IsEarly, IsMachine, IsSoundOnce, IsStarting, IsWhole, Stands, marks_of, seen}
-use Rattle.jvm_machine.specs.View.{View, advanced, begun, is_resting, loads_next, next_stop, run_state}
+use Rattle.jvm_machine.specs.Machine.{IsMachine, IsSoundOnce, IsWhole, Stands, seen}
+use Rattle.jvm_machine.specs.View.{View, advanced, begun, is_resting, loads_next, next_stop}
 use Rattle.jvm_machine.proofs.Going.{due-is, goes-hand, goes-rests, goes-stopped, in-hand-loads, no-loads, passed-some, start-first, start-hand, starts-held, step-first, step-hand}
 use Rattle.jvm_machine.proofs.Kept.{AreKept, kept-of-sound, kept-once}
-use Rattle.jvm_machine.proofs.Released.{hand-left, has-then, helds-left, same-marks, sound-left, stands-left, then_homes, then_setup}
+use Rattle.jvm_machine.proofs.Released.{hand-left, has-then, helds-left, same-marks, sound-left, stands-left, then_homes}
 
 -- ---- lists
 

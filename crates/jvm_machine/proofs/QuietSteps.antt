@@ -9,7 +9,7 @@ use Rattle.jvm_model.specs.declared.state.State.{State}
 use Rattle.jvm_model.specs.Data.{Change, Text, Turn}
 use Rattle.jvm_model.specs.Originals.{original}
 use Rattle.jvm_model.specs.Pauses.{Pause, Stop, stop_from, stop_in}
-use Rattle.jvm_model.specs.Rest.{Attempt, loads_first, rest, step_loads}
+use Rattle.jvm_model.specs.Rest.{Attempt, loads_first, step_loads}
 use Rattle.jvm_model.specs.Run.{before, loaded_turn, run, step, turn, turn_in-more, with_loaded}
 use Rattle.jvm_model.specs.StandsFor.{mark_at}
 use Rattle.jvm_model.specs.StepPauses.{step_pause}
@@ -31,7 +31,7 @@ use Rattle.jvm_steps.proofs.VersionsAgree.{versions-agree}
 use Rattle.jvm_machine.specs.Machine.{IsMachine, Stands, seen}
 use Rattle.jvm_machine.specs.Several.{Passes, more, none}
 use Rattle.jvm_machine.specs.Turns.{Settles}
-use Rattle.jvm_machine.specs.View.{View, advanced, begun, has_ended, is_resting, loads_next, next_stop, rested, run_state, to_come, world}
+use Rattle.jvm_machine.specs.View.{View, advanced, begun, has_ended, is_resting, loads_next, next_stop, rested, to_come, world}
 use Rattle.jvm_machine.proofs.Machines.{not_is, zero_is}
 use Rattle.jvm_machine.proofs.Shown.{stands-shows}
 

@@ -1,5 +1,5 @@
 -- Superseded versions are dropped: the marks that are seen stay, and what a machine keeps to.
-use Rattle.std.proofs.Common.{◌≡◌, ℕ, zero, suc, ◌+◌, ◌<◌, Bool, true, false, List, [], ◌∷◌, length, map, Option, Some, None, refl, sym, ap, ap₂, subst, ◌∙◌, arith}
+use Rattle.std.proofs.Common.{◌≡◌, ℕ, zero, suc, ◌+◌, ◌<◌, Bool, true, false, List, [], ◌∷◌, length, map, Option, Some, None, refl, sym, ap, ap₂, ◌∙◌, arith}
 use Rattle.std.specs.Prelude.{slice_get, unwrap_or, ◌==◌, ◌&&◌, if◌then◌else◌}
 use Rattle.std.specs.Option.{option_map_or}
 use Rattle.std.proofs.lemmas.Option.{none-some}
@@ -10,19 +10,16 @@ use Rattle.jvm_model.specs.declared.state.State.{State}
 use Rattle.jvm_model.specs.Data.{Turn}
 use Rattle.jvm_model.specs.Told.{Held, helds}
 use Rattle.jvm_steps.specs.declared.hands.Hand.{Hand}
-use Rattle.jvm_steps.specs.declared.markers.Marker.{Marker}
-use Rattle.jvm_steps.specs.declared.parts.Parts.{Parts}
 use Rattle.jvm_steps.specs.Hands.{HasInHand}
-use Rattle.jvm_steps.specs.Markers.{state_of}
 use Rattle.jvm_steps.specs.Ready.{IsKept, IsSoundIn}
 use Rattle.jvm_steps.specs.Standing.{HasVersions, IsPinned, places_of}
 use Rattle.jvm_steps.specs.Tables.{Releases, Version, Versions, version_at}
 use Rattle.jvm_steps.specs.Versions.{Setup, current_of, mark_of}
 use Rattle.jvm_steps.specs.VersionTexts.{HasCurrent, homes_left}
 use Rattle.jvm_steps.proofs.StandingSteps.{has-left}
-use Rattle.jvm_steps.proofs.VersionsRun.{left-versions, same-left}
+use Rattle.jvm_steps.proofs.VersionsRun.{same-left}
 use Rattle.jvm_machine.specs.Machine.{Stands, marks_of}
-use Rattle.jvm_machine.proofs.Kept.{AreKept, hand-stays, once-stays, same-helds, sound-stays, stands-stays}
+use Rattle.jvm_machine.proofs.Kept.{AreKept, hand-stays, same-helds, sound-stays, stands-stays}
 
 -- a number that is listed is of a place in the list
 pub in-list : (xs : List ℕ) (i n : ℕ) → slice_get xs i ≡ Some n → i < length xs

@@ -6,11 +6,11 @@ use Rattle.jvm_model.specs.declared.event.Mark.TheVariants.{Off}
 use Rattle.jvm_model.specs.declared.program.Program.{Program}
 use Rattle.jvm_model.specs.declared.state.State.{State}
 use Rattle.jvm_model.specs.Data.{Change, World}
-use Rattle.jvm_model.specs.Pauses.{Stop, is_end, stop_from, told_at}
+use Rattle.jvm_model.specs.Pauses.{Stop, is_end, stop_from, told_at, told_from}
 use Rattle.jvm_model.specs.Rest.{loads_first}
 use Rattle.jvm_model.specs.Run.{before, run, turn}
 use Rattle.jvm_model.specs.StandsFor.{mark_at}
-use Rattle.jvm_model.specs.Told.{Held}
+use Rattle.jvm_model.specs.Told.{Held, all_held}
 
 -- A machine of a program, with its input; the marks of the versions in which methods begin now, by the methods' numbers; whether it has made
 -- the start; whether memory has run out; the number of steps begun after the start; how many changes of the step in hand are behind it, its load
@@ -91,3 +91,13 @@ stopped v = record v { passed = (next_stop v).passed; told = is_end (next_stop v
 -- and where the step is done
 abbrev pub rested : View → View
 rested v = record v { passed = 0; told = false; live = (next_stop v).live }
+
+-- ---- what is left of it
+
+-- the events that are still to be told, where no other versions are installed
+abbrev pub events_left : View → List Event
+events_left v = told_from (mark_at v.marks) v.clock v.told v.live (to_come v)
+
+-- the live activations after the step
+abbrev pub live_then : View → List Held
+live_then v = all_held (mark_at v.marks) v.live (to_come v)

@@ -263,7 +263,8 @@ impl Vm {
         ensures err { OnErr result (self.new ≡ self.old) }
     {
         let frames = &self.parts.frames;
-        self.originals.install(self.alloc, class, &image, marks, homes, frames)
+        self.originals
+            .install(self.alloc, class, &image, marks, homes, frames)
     }
 
     /// The number of steps that were begun after the start.

@@ -1,4 +1,4 @@
-use Rattle.std.proofs.Common.{true, false, length, drop, sym, ap, subst, ◌∙◌}
+use Rattle.std.proofs.Common.{true, false, drop, sym, ap, subst, ◌∙◌}
 use Rattle.jvm_steps.specs.Markers.{state_of}
 use Rattle.jvm_steps.specs.Versions.{Setup}
 use Rattle.jvm_steps.specs.Tables.{Releases}

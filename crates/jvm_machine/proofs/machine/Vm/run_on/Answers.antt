@@ -1,4 +1,4 @@
-use Rattle.std.proofs.Common.{true, false, ◌≡◌, ◌+◌, sym, ap, subst, ◌∙◌, add-one, arith}
+use Rattle.std.proofs.Common.{true, false, ◌≡◌, ◌+◌, sym, subst, ◌∙◌, add-one, arith}
 use Rattle.jvm_machine.specs.Several.{Passes, none}
 use Rattle.jvm_machine.proofs.SeveralTurns.{one-more, passes-more, runs-on, settles-clock, settles-rests}
 use Rattle.jvm_machine.proofs.machine.Vm.run_on.Goals as goal
@@ -35,8 +35,7 @@ loop-turn-preserved c =
     let le = c.loop-turn.invariant.2 in
     let within = c.pass_plainly-made.ensures.within in
     let clock = c.pass_plainly-made.ensures.clock in
-    let other = c.if-made-most.false in
-    (
+    let other = c.if-made-most.false in (
       subst (λ n. Passes c.args.self.now n c.step-turn.new.self) (sym (add-one n)) both.0,
       (let not_most : n + 1 ≡ c.args.most → ⊥ = other in grind (arith, less, within, not_most)),
       omega (arith, up, le, clock),
