@@ -18,7 +18,7 @@ use Rattle.jvm_steps.specs.Versions.{Setup, mark_of}
 use Rattle.jvm_steps.proofs.StandingSteps.{set-up-runs}
 use Rattle.jvm_machine.specs.Advances.{Stops, TellsClasses, broken_in, clock_in, left_in, taken_hand, taken_loads, taken_state}
 use Rattle.jvm_machine.specs.Machine.{IsMachine, IsSoundOnce, seen}
-use Rattle.jvm_machine.specs.View.{View, advanced, begun, is_resting}
+use Rattle.jvm_machine.specs.View.{View, advanced, is_resting}
 use Rattle.jvm_machine.proofs.Machines.{at_rest, clock-more, drop-front, goes-stops, gone-machine, loads-machine, loads-tell, none-front, released-machine, released-seen, same-state, some-front, start-machine, start-tells, started-if}
 
 pub on-err : {A E : Type 0} (X : Type 0) (r : Result A E) → X → OnErr r X

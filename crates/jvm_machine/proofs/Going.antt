@@ -16,7 +16,7 @@ use Rattle.jvm_model.specs.Moves.{settled}
 use Rattle.jvm_model.specs.Originals.{original}
 use Rattle.jvm_model.specs.Pauses.{Stop, change_due, is_end, stop_by, stop_from, stop_in}
 use Rattle.jvm_model.specs.Rest.{Todo, loads_first, step_loads}
-use Rattle.jvm_model.specs.Run.{arguments_made, before, loaded_turn, main_classes, main_loading, main_loads, opened, run, start, starts_if, starts_unless, starts_with, step, turn, turn_in-more, turn_in-zero, with_loaded}
+use Rattle.jvm_model.specs.Run.{arguments_made, before, loaded_turn, main_classes, main_loading, main_loads, opened, run, starts_if, starts_unless, starts_with, step, turn, turn_in-more, turn_in-zero, with_loaded}
 use Rattle.jvm_model.specs.SharedState.{arguments_fit}
 use Rattle.jvm_model.specs.StandsFor.{mark_at}
 use Rattle.jvm_model.specs.StandsForRun.{StandsFor}

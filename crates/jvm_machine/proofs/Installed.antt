@@ -10,7 +10,7 @@ use Rattle.frame_stack.specs.FrameLists.{PlacedFrame, pins_of}
 use Rattle.jvm_model.specs.declared.event.Mark.{Mark}
 use Rattle.jvm_model.specs.declared.state.State.{State}
 use Rattle.jvm_model.specs.Data.{World}
-use Rattle.jvm_model.specs.Run.{before, run, turn}
+use Rattle.jvm_model.specs.Run.{turn}
 use Rattle.jvm_model.specs.Told.{helds}
 use Rattle.jvm_steps.specs.declared.hands.Hand.{Hand}
 use Rattle.jvm_steps.specs.ClassVersions.{class_versions}
