@@ -1,7 +1,7 @@
 -- What is made of what is kept is what instructions begin.
 use Rattle.std.proofs.Common.{◌≡◌, ℕ, suc, ◌+◌, ◌<◌, Bool, true, false, List, [], ◌∷◌, length, ap, sym, refl, ◌∙◌, arith}
 use Rattle.std.specs.Prelude.{filter, filter_map, Option, Some, None, if◌then◌else◌}
-use Rattle.std.specs.Option.{option_to_list}
+use Rattle.std.specs.Option.{option_map_or, option_to_list}
 use Rattle.const_pool.specs.declared.class.ClassFile.{ClassFile}
 use Rattle.jvm_model.specs.declared.program.Program.{Program}
 use Rattle.jvm_model.specs.Load.{is_among}
@@ -11,13 +11,17 @@ use Rattle.const_pool.specs.References.{NameAndType}
 use Rattle.jvm_model.specs.Methods.{is_member, method_from, method_named}
 use Rattle.jvm_model.specs.Programs.{initializer_name, initializer_of}
 use Rattle.jvm_model.specs.Selection.{selected}
-use Rattle.jvm_model.specs.Targets.{coded, initializers, selections}
+use Rattle.jvm_model.specs.Naming as model
+use Rattle.jvm_model.specs.Targets.{begun_by, coded, initializers, loaded_class_named, selections}
 use Rattle.jvm_model.specs.InvocationRules.{selected_by}
 use Rattle.call_revelation.specs.declared.lineage.Lineage.{Lineage}
-use Rattle.call_revelation.specs.Lineages.{IsLineage, initializer_in, number_of, selecting, selection_of}
+use Rattle.call_revelation.specs.Lineages.{IsLineage, begun_named, initializer_in, number_of, selecting, selection_of}
 use Rattle.call_revelation.specs.Tables.{list_at}
 use Rattle.call_revelation.proofs.Adding.{made-flat}
 use Rattle.call_revelation.proofs.Choosing.{chosen-alike}
+
+false_true : false ≡ true → ⊥
+false_true e = cc
 
 none-some : {A : Type 0} (x : A) → None ≡ Some x → ⊥
 none-some x e = cc
@@ -61,3 +65,32 @@ found-within c wanted n at (m ∷ rest) e = by (is_member c.pool wanted m) e (λ
 
 pub method_within : (c : ClassFile) (at : ℕ) → method_named c initializer_name ≡ Some at → at < length c.methods
 method_within c at e = let less : at < 0 + length c.methods = found-within c initializer_name 0 at c.methods e in omega (arith, less)
+
+-- ---- by the class that an instruction names
+
+abbrev pub is_special : model.Naming → Bool
+is_special (model.Invokespecial caller r interface) = true
+is_special _ = false
+
+abbrev nothing : ℕ → List ℕ
+nothing class = []
+
+begins-nothing : (o : Option ℕ) → [] ≡ option_map_or nothing o []
+begins-nothing None = refl
+begins-nothing (Some class) = refl
+
+pub begun-by-name : (p : Program) (loaded : List ℕ) (n : model.Naming) → is_special n ≡ false → begun_by p loaded n ≡ begun_named p loaded n
+begun-by-name p loaded (model.New name) e = refl
+begun-by-name p loaded (model.Getfield r) e = begins-nothing (loaded_class_named p loaded r.class)
+begun-by-name p loaded (model.Putfield r) e = begins-nothing (loaded_class_named p loaded r.class)
+begun-by-name p loaded (model.Getstatic r) e = refl
+begun-by-name p loaded (model.Putstatic r) e = refl
+begun-by-name p loaded (model.Invokevirtual r) e = refl
+begun-by-name p loaded (model.Invokespecial caller r interface) e = absurd (false_true (sym e))
+begun-by-name p loaded (model.Invokestatic r) e = refl
+begun-by-name p loaded (model.Invokeinterface r) e = refl
+begun-by-name p loaded (model.Checkcast name) e = begins-nothing (loaded_class_named p loaded name)
+begun-by-name p loaded (model.Instanceof name) e = begins-nothing (loaded_class_named p loaded name)
+begun-by-name p loaded (model.Anewarray name) e = begins-nothing (loaded_class_named p loaded name)
+begun-by-name p loaded (model.Multianewarray name count) e = begins-nothing (loaded_class_named p loaded name)
+begun-by-name p loaded (model.LdcClass name) e = begins-nothing (loaded_class_named p loaded name)

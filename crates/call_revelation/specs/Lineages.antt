@@ -6,8 +6,10 @@ use Rattle.jvm_model.specs.InvocationRules.{Selecting, Virtual, OfInterface}
 use Rattle.jvm_model.specs.KindNumbers.{user_count}
 use Rattle.jvm_model.specs.Load.{is_among}
 use Rattle.jvm_model.specs.Lookup.{MemberPlace, is_subtype}
+use Rattle.jvm_model.specs.Naming as model
 use Rattle.jvm_model.specs.Programs.{initializer_of, number_of_method}
 use Rattle.jvm_model.specs.Selection.{selected}
+use Rattle.jvm_model.specs.Targets.{begun_field, begun_on, begun_static, initializers, where_loaded}
 use Rattle.class_linker.specs.Linkers.{IsLoaded, LinkerView}
 use Rattle.jvm_named.specs.Numbers.{AreNumbers, Row}
 use Rattle.call_revelation.specs.declared.lineage.Lineage.{Lineage}
@@ -60,3 +62,16 @@ selection_of p loaded interface m lower = if is_among lower loaded then number_o
 -- the static initializer of a class that is loaded
 abbrev pub initializer_in : Program → List ℕ → ℕ → Option ℕ
 initializer_in p loaded class = if is_among class loaded then initializer_of p class else None
+
+-- what an instruction begins that names this class; invokespecial asks for the class whose methods the named type has
+abbrev pub begun_at : Program → List ℕ → model.Naming → ℕ → List ℕ
+begun_at p loaded (model.New name) class = initializers p loaded class
+begun_at p loaded (model.Getstatic r) class = begun_field p loaded class r
+begun_at p loaded (model.Putstatic r) class = begun_field p loaded class r
+begun_at p loaded (model.Invokestatic r) class = begun_static p loaded class r
+begun_at p loaded (model.Invokevirtual r) class = begun_on p loaded class Virtual r
+begun_at p loaded (model.Invokeinterface r) class = begun_on p loaded class OfInterface r
+begun_at p loaded _ class = []
+
+abbrev pub begun_named : Program → List ℕ → model.Naming → List ℕ
+begun_named p loaded n = where_loaded p loaded (model.resolved_name n) (begun_at p loaded n)

@@ -4,7 +4,7 @@ ghost use Rattle.std.specs.Prelude.{◌≡◌, ◌<◌, ℕ, List, filter_map, l
 ghost use Rattle.std.specs.Option.{option_and_then, option_to_list};
 ghost use Rattle.jvm_model.specs.InvocationRules.{Special};
 ghost use Rattle.jvm_model.specs.Load.{is_among};
-ghost use Rattle.jvm_model.specs.Naming.{Getstatic, Invokespecial, Invokestatic, New};
+ghost use Rattle.jvm_model.specs.Naming.{Invokespecial};
 ghost use Rattle.jvm_model.specs.Programs.{class_named};
 ghost use Rattle.jvm_model.specs.Sound.{HasLoadedCaller};
 ghost use Rattle.jvm_model.specs.SuperCalls.{invoked_special};
@@ -13,11 +13,11 @@ ghost use Rattle.class_linker.specs.Linkers.{IsLoaded};
 ghost use Rattle.jvm_named.specs.Members.{at_place, reference_of};
 ghost use Rattle.jvm_named.specs.Names.{naming_view};
 ghost use Rattle.jvm_named.specs.Numbers.{AreNumbers};
-ghost use Rattle.call_revelation.specs.Lineages.{AreKnown, initializer_in};
+ghost use Rattle.call_revelation.specs.Lineages.{AreKnown, begun_at, begun_named, initializer_in};
 ghost use Rattle.call_revelation.specs.Lineages.{number_of, selecting, selection_of};
 ghost use Rattle.call_revelation.specs.Tables.{Adds, list_at};
 ghost use Rattle.jvm_model.specs.Targets.{begun_by, begun_field, begun_on, begun_static};
-ghost use Rattle.jvm_model.specs.Targets.{initializers, selections, where_loaded};
+ghost use Rattle.jvm_model.specs.Targets.{initializers, selections};
 
 use crate::lineage::Lineage;
 use crate::lookup::{
@@ -27,7 +27,7 @@ use crate::lookup::{
 use class_index::Order;
 use class_linker::Linker;
 use jf_bytes::{NoMemory, Text16};
-use jvm_named::{MemberName, MethodNumbers, Naming, Place};
+use jvm_named::{MemberName, MethodNumbers, Naming, Place, resolved_name};
 
 // ---- of one method or class
 
@@ -144,26 +144,6 @@ fn add_begun_on(
     }
 }
 
-/// invokevirtual and invokeinterface.
-fn add_invoked(
-    linker: &Linker,
-    numbers: &MethodNumbers,
-    lineage: &Lineage,
-    interface: bool,
-    member: &MemberName,
-    found: &mut Order,
-) -> Result<(), NoMemory>
-    requires known { AreKnown linker.now numbers.now lineage.now }
-    ensures { let p = linker.now.program in let loaded = lineage.now.loaded in
-        OnOk result (Adds found.old found.new (where_loaded p loaded member.now.class
-        (λ class. begun_on p loaded class (selecting interface) (reference_of member.now)))) }
-{
-    match loaded_class(linker, lineage, &member.class) {
-        Some(class) => add_begun_on(linker, numbers, lineage, interface, class, member, found),
-        None => Ok(()),
-    }
-}
-
 /// What invokespecial in a class of this name takes for a resolved method.
 fn special_number(
     linker: &Linker,
@@ -249,24 +229,6 @@ fn add_static_on(
     add_initializers(linker, numbers, lineage, class, found)
 }
 
-/// invokestatic.
-fn add_static(
-    linker: &Linker,
-    numbers: &MethodNumbers,
-    lineage: &Lineage,
-    member: &MemberName,
-    found: &mut Order,
-) -> Result<(), NoMemory>
-    requires known { AreKnown linker.now numbers.now lineage.now }
-    ensures { OnOk result (Adds found.old found.new (begun_by linker.now.program lineage.now.loaded
-        (Invokestatic (reference_of member.now)))) }
-{
-    match loaded_class(linker, lineage, &member.class) {
-        Some(class) => add_static_on(linker, numbers, lineage, class, member, found),
-        None => Ok(()),
-    }
-}
-
 /// getstatic and putstatic, where the named class is this one.
 fn add_field_on(
     linker: &Linker,
@@ -287,38 +249,68 @@ fn add_field_on(
     }
 }
 
-/// getstatic and putstatic.
-fn add_field(
+/// What an instruction begins, where the class that it names is this one. It is not asked of invokespecial.
+fn add_begun_at(
     linker: &Linker,
     numbers: &MethodNumbers,
     lineage: &Lineage,
-    member: &MemberName,
+    class: u32,
+    naming: &Naming,
     found: &mut Order,
 ) -> Result<(), NoMemory>
     requires known { AreKnown linker.now numbers.now lineage.now }
-    ensures { OnOk result (Adds found.old found.new (begun_by linker.now.program lineage.now.loaded
-        (Getstatic (reference_of member.now)))) }
+    requires class { class < length linker.now.program.classes }
+    requires loaded { is_among class lineage.now.loaded ≡ true }
+    ensures { OnOk result (Adds found.old found.new (begun_at linker.now.program
+        lineage.now.loaded (naming_view naming.now) class)) }
 {
-    match loaded_class(linker, lineage, &member.class) {
-        Some(class) => add_field_on(linker, numbers, lineage, class, member, found),
-        None => Ok(()),
+    match naming {
+        Naming::New(_) => add_initializers(linker, numbers, lineage, class, found),
+        Naming::Getstatic(member) => add_field_on(linker, numbers, lineage, class, member, found),
+        Naming::Putstatic(member) => add_field_on(linker, numbers, lineage, class, member, found),
+        Naming::Invokestatic(method) => {
+            add_static_on(linker, numbers, lineage, class, method.member(), found)
+        }
+        Naming::Invokevirtual(method) => {
+            add_begun_on(
+                linker,
+                numbers,
+                lineage,
+                false,
+                class,
+                method.member(),
+                found,
+            )
+        }
+        Naming::Invokeinterface(method) => {
+            add_begun_on(
+                linker,
+                numbers,
+                lineage,
+                true,
+                class,
+                method.member(),
+                found,
+            )
+        }
+        _ => Ok(()),
     }
 }
 
-/// new.
-fn add_new(
+/// The same of the class that it names, where that is loaded.
+fn add_begun_named(
     linker: &Linker,
     numbers: &MethodNumbers,
     lineage: &Lineage,
-    name: &Text16,
+    naming: &Naming,
     found: &mut Order,
 ) -> Result<(), NoMemory>
     requires known { AreKnown linker.now numbers.now lineage.now }
-    ensures { OnOk result (Adds found.old found.new
-        (begun_by linker.now.program lineage.now.loaded (New name.now))) }
+    ensures { OnOk result (Adds found.old found.new (begun_named linker.now.program
+        lineage.now.loaded (naming_view naming.now))) }
 {
-    match loaded_class(linker, lineage, name) {
-        Some(class) => add_initializers(linker, numbers, lineage, class, found),
+    match loaded_class(linker, lineage, resolved_name(naming)) {
+        Some(class) => add_begun_at(linker, numbers, lineage, class, naming, found),
         None => Ok(()),
     }
 }
@@ -338,22 +330,10 @@ pub fn add_begun(
         (begun_by linker.now.program lineage.now.loaded (naming_view naming.now))) }
 {
     match naming {
-        Naming::New(name) => add_new(linker, numbers, lineage, name, found),
-        Naming::Getstatic(member) => add_field(linker, numbers, lineage, member, found),
-        Naming::Putstatic(member) => add_field(linker, numbers, lineage, member, found),
-        Naming::Invokestatic(method) => {
-            add_static(linker, numbers, lineage, method.member(), found)
-        }
         Naming::Invokespecial(caller, method, interface) => {
             let member = method.member();
             add_special(linker, numbers, lineage, caller, *interface, member, found)
         }
-        Naming::Invokevirtual(method) => {
-            add_invoked(linker, numbers, lineage, false, method.member(), found)
-        }
-        Naming::Invokeinterface(method) => {
-            add_invoked(linker, numbers, lineage, true, method.member(), found)
-        }
-        _ => Ok(()),
+        _ => add_begun_named(linker, numbers, lineage, naming, found),
     }
 }
