@@ -1,0 +1,7 @@
+//! Redefines a class of a machine while it runs: the versions of its image become current for all of its methods.
+#![tactic(auto)]
+
+mod redefining;
+
+pub use class_shape::SwapError;
+pub use redefining::redefine;
