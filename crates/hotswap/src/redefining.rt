@@ -1,6 +1,6 @@
 //! Redefines a class of a machine while it runs.
 
-ghost use Rattle.std.specs.Prelude.{◌≡◌, ◌≢◌, false, Err, IfErr, IfOk, OnErr, OnOk};
+ghost use Rattle.std.specs.Prelude.{◌≡◌, ◌≢◌, ◌<◌, false, length, Err, IfErr, IfOk, OnErr, OnOk};
 ghost use Rattle.jf_bytes.specs.Results.{IsUnless};
 ghost use Rattle.jvm_machine.specs.Installs.{IsFormed, with_class};
 ghost use Rattle.class_shape.specs.declared.error.SwapError.{SwapError as Refusal};
@@ -15,12 +15,14 @@ use std::alloc::Global;
 
 /// The class of the bytes, by which the class at this position is redefined.
 fn image_for(alloc: Global, vm: &Vm, class: u32, bytes: &[u8]) -> Result<ClassFile, SwapError>
+    requires known { class < length vm.now.program.classes }
     ensures found { IfOk result (IsImageFor vm.now.program class bytes.now) }
     ensures refused { IfErr result (λ e.
         e ≢ SwapError.NoMemory → IsRefused vm.now.program class bytes.now e) }
     ensures first_fault { (refusal : Refusal) → IsRefused vm.now.program class bytes.now refusal
         → IsUnless result (Err refusal) SwapError.NoMemory }
 {
+    // (there is one, as is asked)
     let Some(original) = vm.program().classes.get(class as usize) else {
         return Err(SwapError::NoMemory);
     };
@@ -41,6 +43,7 @@ pub fn redefine(
     marks: &[Mark],
     homes: &[Option<Homes>],
 ) -> Result<(), SwapError>
+    requires known { class < length vm.old.program.classes }
     requires whole { vm.old.broken ≡ false }
     requires formed { IsFormed vm.old.program }
     requires image { SpellsImage vm.old.program class bytes.now marks.now homes.now }
