@@ -13,8 +13,8 @@ use Rattle.jvm_steps.specs.declared.line.Action.{Action}
 use Rattle.jvm_steps.specs.declared.line.Line.{Line}
 use Rattle.jvm_steps.specs.Lines.{line_at, line_with}
 use Rattle.jvm_steps.specs.Versions as versions
-use Rattle.jvm_steps.specs.Versions.{HasLines}
-use Rattle.jvm_steps.specs.Tables.{Versions}
+use Rattle.jvm_steps.specs.Versions.{HasFamilies, HasLines, line_in}
+use Rattle.jvm_steps.specs.Tables.{Version, Versions, version_at}
 
 abbrev pub KeepsFamily : Line → Type 0
 KeepsFamily l = l.family ≡ family_of l.instr.op
@@ -46,3 +46,11 @@ seen (Some l) h = h
 pub keeps-family : (v : Versions) → HasLines v → (version place : ℕ) (r : Option (Bor Line)) → option_copied r ≡ versions.line_at v version place
     → IfSome r (λ l. l.now.family ≡ family_of l.now.instr.op)
 keeps-family v lines version place r found = seen r (subst (λ (o : Option Line). IfSome o KeepsFamily) (sym found) (lines.families version place))
+
+seen-version : (r : Option (Bor Version)) → ((place : ℕ) → IfSome (option_and_then (line_in place) (option_copied r)) KeepsFamily) → IfSome r (λ x. HasFamilies x.now)
+seen-version None h = tt
+seen-version (Some x) h = h
+
+pub keeps-families : (v : Versions) → HasLines v → (version : ℕ) (r : Option (Bor Version)) → option_copied r ≡ version_at v version → IfSome r (λ x. HasFamilies x.now)
+keeps-families v lines version r found =
+    seen-version r (λ place. subst (λ (o : Option Version). IfSome (option_and_then (line_in place) o) KeepsFamily) (sym found) (lines.families version place))

@@ -1,6 +1,8 @@
 -- What the current frame does by itself is a step of the run: nothing follows from it.
 use Rattle.std.proofs.Common.{◌≡◌, ℕ, suc, ◌+◌, Bool, true, false, cond, List, [], ◌∷◌, length, map, Option, Some, None, refl, sym, ap, ◌∙◌, arith}
 use Rattle.std.specs.Prelude.{is_some, is_none, nat_le, ◌&&◌, ◌||◌}
+use Rattle.std.specs.Option.{option_and_then}
+use Rattle.std.proofs.lemmas.Option.{none-some, same_Some}
 use Rattle.frame_stack.specs.Widths.{height_of}
 use Rattle.frame_stack.specs.FrameLists.{PlacedFrame, FramesView, has_frame}
 use Rattle.jvm_model.specs.declared.ending.Ending.{Ending}
@@ -11,17 +13,19 @@ use Rattle.jvm_basic.specs.Outcomes.{Outcome, GoesOn, Raises, Breaks, Leaves, fr
 use Rattle.jvm_basic.specs.Rules.{rule_of}
 use Rattle.jvm_steps.specs.declared.line.Line.{Line}
 use Rattle.jvm_steps.specs.declared.markers.Marker.{Marker}
+use Rattle.jvm_steps.specs.declared.parts.Here.{Here}
 use Rattle.jvm_steps.specs.declared.parts.Parts.{Parts}
 use Rattle.jvm_steps.specs.Acts.{acts_by, attempts_line, attempts_on, awaited, awaited_by, awaited_on}
 use Rattle.jvm_steps.specs.Markers.{marker_on, state_of, with_markers}
-use Rattle.jvm_steps.specs.Runs.{IsCalm, IsPlainLine, LeadsPlainly}
-use Rattle.jvm_steps.specs.States.{active, frame_in, state_with}
+use Rattle.jvm_steps.specs.Runs.{IsCalm, IsPlainIn, IsPlainLine, LeadsPlainly, RunsVersion, top_version}
+use Rattle.jvm_steps.specs.Tables.{Version, version_at}
+use Rattle.jvm_steps.specs.States.{active, frame_in, here_of, state_with}
 use Rattle.jvm_steps.proofs.Alone.{goes-next}
 use Rattle.jvm_steps.proofs.Leading.{leads-none, leads-one, leads-on, quiet-on, quiet-one}
 use Rattle.jvm_steps.proofs.QuietLines.{quiet-step}
 use Rattle.jvm_steps.proofs.Carried.{comes-carried, length-active}
 use Rattle.jvm_steps.proofs.LineSteps.{going-on, rests, step-attempts, top-frame}
-use Rattle.jvm_steps.specs.Versions.{Setup, text_of, line_at}
+use Rattle.jvm_steps.specs.Versions.{Setup, text_of, line_at, line_in}
 use Rattle.jvm_steps.specs.Ready.{CanRun}
 
 -- ---- nothing follows
@@ -100,6 +104,31 @@ quiet-at : (w : Setup) (run : CanRun w) (line : Line) (ms : List Marker) (p : Pa
     → (step w.world (text_of w.versions) (with_markers ms (state_with fs p))).changes ≡ []
 quiet-at w run line ms p [] room calm stands e = absurd stands
 quiet-at w run line ms p (f ∷ fs) room calm stands e = quiet-step w run line ms p f fs calm stands e
+
+-- ---- in the version that is at hand
+
+pub plain-there : (w : Setup) (x : Version) (fs : List PlacedFrame) (line : Line) → RunsVersion w x fs → IsPlainIn x fs line → IsPlainLine w fs line
+plain-there w x [] line runs stands = absurd stands
+plain-there w x (f ∷ fs) line runs stands = (ap (option_and_then (line_in f.place)) runs ∙ stands.0, stands.1)
+
+pub runs-here : (w : Setup) (fs : List PlacedFrame) (here : Here) (x : Version) → here_of fs ≡ Some here → version_at w.versions here.version ≡ Some x → RunsVersion w x fs
+runs-here w [] here x is held = absurd (none-some here is)
+runs-here w (f ∷ fs) here x is held = ap (λ (h : Here). version_at w.versions h.version) (same_Some _ here is) ∙ held
+
+-- a frame stays in its version
+same-version : (x : Outcome) (fs : List PlacedFrame) → top_version (frames_in x fs) ≡ top_version fs
+same-version (GoesOn l o place) [] = refl
+same-version (GoesOn l o place) (f ∷ fs) = by (nat_le (height_of o) f.max_stack) where
+  by : (b : Bool) → top_version (cond b (with_top l o place (f ∷ fs)) (f ∷ fs)) ≡ top_version (f ∷ fs)
+  by true = refl
+  by false = refl
+same-version (Raises class) fs = refl
+same-version Breaks fs = refl
+same-version Leaves fs = refl
+
+pub stays-in : (line : Line) (old new : FramesView) → new ≡ after (rule_of line.instr line.constant line.next) old → top_version new.frames ≡ top_version old.frames
+stays-in line old new made =
+    ap (λ (s : FramesView). top_version s.frames) made ∙ same-version (asked (rule_of line.instr line.constant line.next) old.frames) old.frames
 
 goes-on : (n : ℕ) (ms : List Marker) (p : Parts) → IsCalm n ms p → is_some p.ending ≡ false
 goes-on n ms p calm = ap is_some calm.ending

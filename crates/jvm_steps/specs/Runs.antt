@@ -1,5 +1,6 @@
 -- Several steps of the run of original code.
-use Rattle.std.specs.Prelude.{◌≡◌, ℕ, zero, suc, ◌<◌, false, List, [], ◌∷◌, length, Some, None, is_some, refl}
+use Rattle.std.specs.Prelude.{◌≡◌, ℕ, zero, suc, ◌<◌, false, List, [], ◌∷◌, length, Option, Some, None, is_some, refl}
+use Rattle.std.specs.Option.{option_and_then}
 use Rattle.frame_stack.specs.FrameLists.{PlacedFrame}
 use Rattle.jvm_model.specs.declared.state.State.{State}
 use Rattle.jvm_model.specs.Run.{step}
@@ -9,7 +10,8 @@ use Rattle.jvm_steps.specs.declared.markers.Marker.{Marker}
 use Rattle.jvm_steps.specs.declared.parts.Parts.{Parts}
 use Rattle.jvm_steps.specs.Markers.{marker_on, with_markers}
 use Rattle.jvm_steps.specs.States.{state_with}
-use Rattle.jvm_steps.specs.Versions.{Setup, text_of, line_at}
+use Rattle.jvm_steps.specs.Tables.{Version, version_at}
+use Rattle.jvm_steps.specs.Versions.{Setup, text_of, line_at, line_in}
 
 -- the state after so many steps
 unfoldable pub steps_from : Setup → ℕ → State → State
@@ -35,6 +37,20 @@ pub record Leads (w : Setup) (old : State) (n : ℕ) (new : State) : Type 0 wher
 abbrev pub IsPlainLine : Setup → List PlacedFrame → Line → Type 0
 IsPlainLine w [] line = ⊥
 IsPlainLine w (f ∷ fs) line = (line_at w.versions f.version f.place ≡ Some line) × (line.action ≡ Local)
+
+-- the same of a version that is at hand
+abbrev pub IsPlainIn : Version → List PlacedFrame → Line → Type 0
+IsPlainIn x [] line = ⊥
+IsPlainIn x (f ∷ fs) line = (line_in f.place x ≡ Some line) × (line.action ≡ Local)
+
+-- the version of the current frame
+abbrev pub top_version : List PlacedFrame → Option ℕ
+top_version [] = None
+top_version (f ∷ fs) = Some f.version
+
+-- it runs this one
+abbrev pub RunsVersion : Setup → Version → List PlacedFrame → Type 0
+RunsVersion w x fs = option_and_then (version_at w.versions) (top_version fs) ≡ Some x
 
 -- the run goes on, nothing is thrown, and no marker stands on so many frames
 pub record IsCalm (n : ℕ) (ms : List Marker) (p : Parts) : Type 0 where

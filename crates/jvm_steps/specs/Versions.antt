@@ -41,6 +41,10 @@ pub record HasLines (v : Versions) : Type 0 where
   pub families : (version place : ℕ) → IfSome (line_at v version place) (λ (l : Line). l.family ≡ family_of l.instr.op)
   pub dimensions : (version place : ℕ) → IfSome (line_at v version place) (λ (l : Line). IfNamedBy l.action l.next (λ n next. HasDimensions n))
 
+-- each line of the version keeps the family of its instruction
+abbrev pub HasFamilies : Version → Type 0
+HasFamilies x = (place : ℕ) → IfSome (line_in place x) (λ (l : Line). l.family ≡ family_of l.instr.op)
+
 -- the same of one version
 pub record HasOwnLines (x : Version) : Type 0 where
   pub families : (place : ℕ) → IfSome (line_in place x) (λ (l : Line). l.family ≡ family_of l.instr.op)

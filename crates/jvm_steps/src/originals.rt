@@ -24,7 +24,7 @@ ghost use Rattle.jvm_steps.specs.Linked.{linker_in};
 ghost use Rattle.jvm_steps.specs.Prepared.{FitsOriginals, built_in_named, exception_kind};
 ghost use Rattle.jvm_steps.specs.Prepared.{main_name};
 ghost use Rattle.jvm_steps.specs.Entries.{original_versions};
-ghost use Rattle.jvm_steps.specs.Versions.{current_of, first_of, mark_of};
+ghost use Rattle.jvm_steps.specs.Versions.{HasFamilies, current_of, first_of, mark_of};
 ghost use Rattle.jvm_model.specs.declared.state.State.{State};
 ghost use Rattle.jvm_model.specs.Sound.{IsFit};
 ghost use Rattle.jvm_steps.specs.ClassVersions.{FitsImage, class_versions};
@@ -286,6 +286,14 @@ impl Originals {
         ensures { AreNumbers self.now.setup.world.program result.now }
     {
         &self.numbers
+    }
+
+    /// The version with this number.
+    pub fn version(&self, version: usize) -> Option<&Version>
+        ensures version { option_copied result ≡ version_at self.now.setup.versions version }
+        ensures families { IfSome result (λ x. HasFamilies x.now) }
+    {
+        version_at(&self.versions, version)
     }
 
     /// The line at a place of a version, by two look-ups.

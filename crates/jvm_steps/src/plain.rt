@@ -8,22 +8,25 @@ ghost use Rattle.jvm_basic.specs.Outcomes.{effect_of, after};
 ghost use Rattle.jvm_basic.specs.Rules.{rule_of};
 ghost use Rattle.jvm_model.specs.Families.{family_of};
 ghost use Rattle.jvm_steps.specs.Ready.{CanRun};
-ghost use Rattle.jvm_steps.specs.Runs.{IsPlainLine, LeadsPlainly};
+ghost use Rattle.jvm_steps.specs.Runs.{IsPlainIn, LeadsPlainly, RunsVersion, top_version};
+ghost use Rattle.jvm_steps.specs.Versions.{HasFamilies, Setup};
 
 use crate::line::{Action, Line};
 use crate::originals::Originals;
 use crate::parts::where_now;
+use crate::versions::{Version, line_in};
 use frame_stack::Frames;
 use jvm_basic::{Effect, basic_by};
 
-/// The line at which the current frame stands, where the frame does it by itself.
+/// The line of a version at which the current frame stands, where the frame does it by itself.
 #[inline(always)]
-fn plain_line<'a>(originals: &'a Originals, frames: &Frames) -> Option<&'a Line>
-    ensures line { IfSome result (λ l. IsPlainLine originals.now.setup frames.now.frames l.now) }
+fn plain_line<'a>(version: &'a Version, frames: &Frames) -> Option<&'a Line>
+    requires { HasFamilies version.now }
+    ensures line { IfSome result (λ l. IsPlainIn version.now frames.now.frames l.now) }
     ensures family { IfSome result (λ l. l.now.family ≡ family_of l.now.instr.op) }
 {
     let here = where_now(frames)?;
-    let line = originals.line(here.version, here.place)?;
+    let line = line_in(version, here.place)?;
     match line.action {
         Action::Local => Some(line),
         _ => None,
@@ -46,28 +49,35 @@ fn pass_line(line: &Line, frames: &mut Frames) -> bool
     matches!(effect, Effect::Next)
 }
 
-/// A step, where the current frame does it by itself; else nothing has changed.
+/// A step in the version that the current frame runs, where the frame does it by itself; else nothing has changed.
 #[inline(always)]
-fn plain_step(originals: &Originals, frames: &mut Frames) -> bool
-    requires { CanRun originals.now.setup }
-    ensures gone { result ≡ true
-        → LeadsPlainly originals.now.setup frames.old.frames 1 frames.new.frames }
+fn plain_step(version: &Version, frames: &mut Frames) -> bool
+    requires { HasFamilies version.now }
+    ensures gone { (w : Setup) → CanRun w → RunsVersion w version.now frames.old.frames
+        → result ≡ true → LeadsPlainly w frames.old.frames 1 frames.new.frames }
+    ensures same { top_version frames.new.frames ≡ top_version frames.old.frames }
     ensures kept { result ≡ false → frames.new ≡ frames.old }
 {
-    match plain_line(originals, frames) {
+    match plain_line(version, frames) {
         Some(line) => pass_line(line, frames),
         None => false,
     }
 }
 
-/// Steps that the current frame does by itself, at most so many: how many it has made.
+/// Steps that the current frame does by itself, at most so many: how many it has made. The frame's version is looked up once.
 pub fn plain_steps(originals: &Originals, frames: &mut Frames, most: u64) -> u64
     requires { CanRun originals.now.setup }
     ensures within { result ≤ most }
     ensures made { LeadsPlainly originals.now.setup frames.old.frames result frames.new.frames }
 {
+    let Some(here) = where_now(frames) else {
+        return 0;
+    };
+    let Some(version) = originals.version(here.version) else {
+        return 0;
+    };
     for made in 0..most {
-        if !plain_step(originals, frames) {
+        if !plain_step(version, frames) {
             return made;
         }
     }

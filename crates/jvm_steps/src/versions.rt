@@ -5,7 +5,7 @@ ghost use Rattle.std.specs.Prelude.{◌≡◌, ◌≤◌, ℕ, length, IfSome, O
 ghost use Rattle.std.specs.Option.{option_copied};
 ghost use Rattle.method_versions.specs.Tables.{IsFirst};
 ghost use Rattle.jvm_steps.specs.Tables.{Adds, AreAllCurrent, AreOfMethods, Releases, seen, version_at};
-ghost use Rattle.jvm_steps.specs.Versions.{current_of, first_of, line_at, mark_of};
+ghost use Rattle.jvm_steps.specs.Versions.{current_of, first_of, line_at, line_in, mark_of};
 
 use crate::line::Line;
 use frame_stack::Frames;
@@ -103,13 +103,20 @@ pub fn version_at(versions: &Versions, version: usize) -> Option<&Version>
     versions.table.get(version)
 }
 
+/// The line at a place of this version.
+#[inline(always)]
+pub fn line_in(version: &Version, place: u16) -> Option<&Line>
+    ensures { option_copied result ≡ line_in place version.now }
+{
+    version.prepared.lines.get(place as usize)?.as_ref()
+}
+
 /// The line at a place of a version.
 #[inline(always)]
 pub fn line_at(versions: &Versions, version: usize, place: u16) -> Option<&Line>
     ensures { option_copied result ≡ line_at versions.now version place }
 {
-    let held = versions.table.get(version)?;
-    held.prepared.lines.get(place as usize)?.as_ref()
+    line_in(versions.table.get(version)?, place)
 }
 
 /// The version in which a method begins.
