@@ -70,4 +70,5 @@ pub record Makes (old : Parts) (steps : ℕ) (ended : Bool) (new : Parts) : Type
   pub flag : new.started ≡ true
   pub started : new.vm.started ≡ true
   pub clock : ended ≡ false → new.vm.clock ≡ old.vm.clock + steps
+  pub later : old.vm.clock ≤ new.vm.clock
   pub within : new.vm.clock ≤ old.vm.clock + steps

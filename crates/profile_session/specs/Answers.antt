@@ -1,17 +1,18 @@
 -- What the calls of a session answer.
-use Rattle.std.specs.Prelude.{◌≡◌, ℕ, ◌+◌, ◌≤◌, Bool, true, false, not, [], Option, Some, None}
-use Rattle.jvm_model.specs.Projection.{projection}
-use Rattle.context_tree.specs.Profiles.{Profile}
+use Rattle.std.specs.Prelude.{◌≡◌, ℕ, ◌+◌, ◌≤◌, ◌<◌, Bool, true, false, not, Option, Some, None, is_some}
+use Rattle.jvm_model.specs.Run.{ending_of}
 use Rattle.profile_session.specs.declared.answer.ActError.{ActError}
 use Rattle.profile_session.specs.declared.answer.ActError.TheVariants as act
 use Rattle.profile_session.specs.declared.answer.Run.{Run}
 use Rattle.profile_session.specs.declared.answer.Run.TheVariants as run
 use Rattle.profile_session.specs.Sessions.{Profiling, is_over, is_selected_in, with_act, world_of}
 
--- some steps further
+-- Some steps further, each of which was made while the run went on.
 pub record Onward (old : Profiling) (steps : ℕ) (new : Profiling) : Type 0 where
-  pub same : new ≡ record old { started = true; clock = new.clock }
+  pub same : new ≡ record old { started = true; clock = new.clock; gathered = false }
+  pub later : old.clock ≤ new.clock
   pub within : new.clock ≤ old.clock + steps
+  pub first : (m : ℕ) → m < new.clock → is_some (ending_of (world_of old) m) ≡ false
 
 -- all steps were made and no ending stands
 pub record IsStill (old : Profiling) (steps : ℕ) (new : Profiling) : Type 0 where
@@ -88,16 +89,23 @@ refusal_of false true = None
 
 -- ---- the tree
 
--- The tree is the projection of the run under the accepted actions, with its order; before the first advance nothing was told.
-pub record IsTreeOf (v : Profiling) (t : Profile) : Type 0 where
-  pub whole : v.broken ≡ false
-  pub early : v.started ≡ false → t.contexts ≡ []
-  pub tree : v.started ≡ true → t.contexts ≡ projection v.acts (world_of v) v.clock
+-- the tree holds all that was told, and the steps up to the clock; nothing else has changed
+pub record Gathers (old new : Profiling) : Type 0 where
+  pub whole : old.broken ≡ false
+  pub same : new ≡ record old { gathered = true }
 
--- no tree comes from a broken session, or memory runs out in this call
-abbrev pub RefusesTree : Profiling → ActError → Type 0
-RefusesTree old act.Broken = old.broken ≡ true
-RefusesTree old act.NoMemory = old.broken ≡ false
-RefusesTree old act.AlreadySelected = ⊥
-RefusesTree old act.NotSelected = ⊥
-RefusesTree old act.Ended = ⊥
+-- of a broken session nothing is gathered, or memory runs out in this call
+abbrev pub RefusesTree : Profiling → ActError → Profiling → Type 0
+RefusesTree old act.Broken new = Refuses old new
+RefusesTree old act.NoMemory new = Breaks old new
+RefusesTree old act.AlreadySelected new = ⊥
+RefusesTree old act.NotSelected new = ⊥
+RefusesTree old act.Ended new = ⊥
+
+-- why none is lent
+abbrev pub LendsNoTree : Profiling → ActError → Type 0
+LendsNoTree old act.Broken = old.broken ≡ true
+LendsNoTree old act.NoMemory = old.broken ≡ false
+LendsNoTree old act.AlreadySelected = ⊥
+LendsNoTree old act.NotSelected = ⊥
+LendsNoTree old act.Ended = ⊥

@@ -9,15 +9,18 @@ use Rattle.jvm_model.specs.Data.{World}
 use Rattle.jvm_model.specs.Load.{is_among}
 use Rattle.jvm_model.specs.Originals.{original}
 use Rattle.jvm_model.specs.Points.{Standing, mark_in, nothing, standing_in}
+use Rattle.jvm_model.specs.Projection.{projection}
 use Rattle.jvm_model.specs.Run.{before, run}
 use Rattle.jvm_model.specs.Swaps.{HasBytes, Swapped, points_before, swaps_from}
 use Rattle.jvm_model.specs.Targets.{operations_of}
+use Rattle.context_tree.specs.Profiles.{Profile}
 use Rattle.profile_session.specs.declared.parts.Parts.{Parts}
 use Rattle.profile_session.specs.declared.swap.Swap.{Swap}
 use Rattle.profile_session.specs.Keeping.{swap_of}
 use Rattle.profile_session.specs.Parts.{Rests}
 
--- Its program and input; the accepted actions, each with its moment; whether it was advanced; whether memory has run out; and the number of steps.
+-- Its program and input; the accepted actions, each with its moment; whether it was advanced; whether memory has run out; the number of steps; and
+-- whether its tree was gathered behind all of them.
 pub record Profiling : Type 0 where
   pub program : Program
   pub input : List ℕ
@@ -25,10 +28,19 @@ pub record Profiling : Type 0 where
   pub started : Bool
   pub broken : Bool
   pub clock : ℕ
+  pub gathered : Bool
 
 -- a new one
 abbrev pub profiling_of : Program → List ℕ → Profiling
-profiling_of program input = record { program = program; input = input; acts = []; started = false; broken = false; clock = 0 }
+profiling_of program input = record {
+  program = program;
+  input = input;
+  acts = [];
+  started = false;
+  broken = false;
+  clock = 0;
+  gathered = false;
+}
 
 abbrev pub world_of : Profiling → World
 world_of v = record { program = v.program; input = v.input }
@@ -81,19 +93,42 @@ AreSwapsOf p _ _ = ⊥
 -- ---- actions
 
 -- an action is accepted now
+abbrev pub act_now : Bool → ℕ → Profiling → Act
+act_now select method v = record { moment = v.clock; select = select; method = method }
+
 abbrev pub with_act : Bool → ℕ → Profiling → Profiling
-with_act select method v = record v { acts = v.acts ++ record { moment = v.clock; select = select; method = method } ∷ [] }
+with_act select method v = record v { acts = v.acts ++ act_now select method v ∷ []; gathered = false }
 
 -- An action is accepted before the first advance, or behind a step above 0; where none is accepted nothing is asked.
 abbrev pub CanActNow : Profiling → Type 0
 CanActNow v = v.broken ≡ false → is_over v ≡ false → v.started ≡ true → 1 ≤ v.clock
 
+-- ---- the tree
+
+-- The tree is the projection of the run under the accepted actions, with its order; before the first advance nothing was told.
+pub record IsTreeOf (v : Profiling) (t : Profile) : Type 0 where
+  pub early : v.started ≡ false → t.contexts ≡ []
+  pub tree : v.started ≡ true → t.contexts ≡ projection v.acts (world_of v) v.clock
+
 -- ---- its parts
 
-abbrev pub profiling_in : Bool → Parts → Profiling
-profiling_in broken x =
-    record { program = x.vm.program; input = x.vm.input; acts = x.acts; started = x.started; broken = broken; clock = x.vm.clock }
+abbrev pub profiling_in : Bool → Bool → Parts → Profiling
+profiling_in broken gathered x = record {
+  program = x.vm.program;
+  input = x.vm.input;
+  acts = x.acts;
+  started = x.started;
+  broken = broken;
+  clock = x.vm.clock;
+  gathered = gathered;
+}
 
+-- they rest at a step of the run under the accepted actions
 pub record Stands (x : Parts) : Type 0 where
   pub rests : Rests x
   pub started : x.started ≡ x.vm.started
+
+-- and the tree is theirs, where it was gathered
+pub record Holds (gathered : Bool) (x : Parts) : Type 0 where
+  pub stands : Stands x
+  pub tree : gathered ≡ true → IsTreeOf (profiling_in false true x) x.tree

@@ -31,7 +31,7 @@ pub fn begin(alloc: Global, vm: Vm) -> Result<Parts, NoMemory>
     requires fresh { vm ≡ made vm.program vm.input }
     requires profilable { CanBeProfiled vm.program }
     ensures stands { IfOk result Stands }
-    ensures seen { IfOk result (λ x. profiling_in false x ≡ profiling_of vm.program vm.input) }
+    ensures seen { IfOk result (λ x. profiling_in false false x ≡ profiling_of vm.program vm.input) }
 {
     let reveal = reveal_first(alloc, &vm)?;
     let buffer = Events::new(alloc, 65536)?;

@@ -2,10 +2,11 @@
 
 ghost use Rattle.std.specs.Prelude.{◌≡◌, ◌+◌, ◌≤◌, true, false, IfOk, IfErr, OnOk};
 ghost use Rattle.jvm_machine.specs.View.{made};
-ghost use Rattle.profile_session.specs.Answers.{Accepts, Advances, IsTreeOf, RefusesAct, RefusesTree};
-ghost use Rattle.profile_session.specs.Answers.{refusal_of, run_by};
+ghost use Rattle.profile_session.specs.Answers.{Accepts, Advances, Gathers, LendsNoTree};
+ghost use Rattle.profile_session.specs.Answers.{RefusesAct, RefusesTree, refusal_of, run_by};
 ghost use Rattle.profile_session.specs.Beginning.{CanBeProfiled};
-ghost use Rattle.profile_session.specs.Sessions.{AreSwapsOf, CanActNow, ending_in, entries_of, is_over, is_selected_in};
+ghost use Rattle.profile_session.specs.Sessions.{AreSwapsOf, CanActNow, IsTreeOf, ending_in};
+ghost use Rattle.profile_session.specs.Sessions.{entries_of, is_over, is_selected_in};
 ghost use Rattle.profile_session.specs.Sessions.{mark_in_session, profiling_of, run_of, swaps_of};
 
 use crate::answer::{ActError, Run, Shown};
@@ -19,22 +20,24 @@ use std::alloc::Global;
 use std::marker::Model;
 
 /// A program that is run and profiled. A clause sees its program and input, the accepted actions with their moments, whether it was
-/// advanced, and the number of steps: the state of the run, what is marked, the swap list and the tree follow from these.
+/// advanced, and the number of steps: the state of the run, what is marked, the swap list and the tree follow from these, since its
+/// machine stands for the run. It sees too whether the tree was gathered behind the last of its steps and actions.
 #[derive(Drop)]
 pub struct Session {
     parts: Parts,
     broken: bool,
+    gathered: bool,
 }
 
 impl Model for Session {
     ghost use Rattle.std.specs.Prelude.{◌≡◌, false};
-    ghost use Rattle.profile_session.specs.Sessions.{Profiling, Stands, profiling_in};
+    ghost use Rattle.profile_session.specs.Sessions.{Holds, Profiling, profiling_in};
 
     ghost Value = { Profiling };
 
-    ghost view = { λ s. profiling_in s.broken s.parts };
+    ghost view = { λ s. profiling_in s.broken s.gathered s.parts };
 
-    ghost invariant = { λ s. s.broken ≡ false → Stands s.parts };
+    ghost invariant = { λ s. s.broken ≡ false → Holds s.gathered s.parts };
 }
 
 /// Why a method that is selected, or is not, is refused.
@@ -66,6 +69,7 @@ impl Session {
         Ok(Session {
             parts,
             broken: false,
+            gathered: false,
         })
     }
 
@@ -78,8 +82,10 @@ impl Session {
 
     /// How many steps were made after the start.
     pub fn clock(&self) -> u64
-        ensures { result ≡ self.now.clock }
+        ensures clock { result ≡ self.now.clock }
+        ensures early { self.now.broken ≡ false → self.now.started ≡ false → result ≡ 0 }
     {
+        let _whole = self.broken;
         self.parts.vm.clock()
     }
 
@@ -148,6 +154,7 @@ impl Session {
             return Run::NoMemory;
         };
         self.broken = false;
+        self.gathered = false;
         run_by(ended)
     }
 
@@ -176,6 +183,7 @@ impl Session {
             return Err(ActError::NoMemory);
         };
         self.broken = false;
+        self.gathered = false;
         Ok(())
     }
 
@@ -197,11 +205,10 @@ impl Session {
         self.act(false, method)
     }
 
-    /// Lends the tree of the steps up to the clock, beside the program.
-    pub fn tree(&mut self) -> Result<Shown<'_>, ActError>
-        ensures tree { IfOk result (λ shown. IsTreeOf self.old shown.tree.now) }
-        ensures program { IfOk result (λ shown. shown.program.now ≡ self.old.program) }
-        ensures err { IfErr result (RefusesTree self.old) }
+    /// Brings the tree to the clock: it takes the events that are held back, and the steps since.
+    pub fn gather(&mut self) -> Result<(), ActError>
+        ensures ok { OnOk result (Gathers self.old self.new) }
+        ensures err { IfErr result (λ e. RefusesTree self.old e self.new) }
     {
         if self.broken {
             return Err(ActError::Broken);
@@ -211,9 +218,34 @@ impl Session {
             return Err(ActError::NoMemory);
         };
         self.broken = false;
-        Ok(Shown {
+        self.gathered = true;
+        Ok(())
+    }
+
+    /// Lends the tree that was gathered, beside the program.
+    pub fn shown(&self) -> Shown<'_>
+        requires whole { self.now.broken ≡ false }
+        requires gathered { self.now.gathered ≡ true }
+        ensures tree { IsTreeOf self.now result.tree.now }
+        ensures program { result.program.now ≡ self.now.program }
+    {
+        let _gathered = self.gathered;
+        Shown {
             tree: &self.parts.tree,
             program: self.parts.vm.program(),
-        })
+        }
+    }
+
+    /// Gathers the tree and lends it, beside the program. What the session is behind it no clause can say, since it is lent: who goes
+    /// on with it gathers, and then has it shown.
+    pub fn tree(&mut self) -> Result<Shown<'_>, ActError>
+        ensures tree { IfOk result (λ shown. IsTreeOf self.old shown.tree.now) }
+        ensures program { IfOk result (λ shown. shown.program.now ≡ self.old.program) }
+        ensures err { IfErr result (LendsNoTree self.old) }
+    {
+        match self.gather() {
+            Ok(()) => Ok(self.shown()),
+            Err(error) => Err(error),
+        }
     }
 }
