@@ -34,10 +34,11 @@ pub record Refuses (old new : Profiling) : Type 0 where
   pub broken : old.broken ≡ true
   pub same : new ≡ old
 
--- or in this call
+-- or in this call: it is still a session of the same program and input
 pub record Breaks (old new : Profiling) : Type 0 where
   pub whole : old.broken ≡ false
   pub broken : new.broken ≡ true
+  pub same : world_of new ≡ world_of old
 
 -- in an action or an advance, which are made while no ending stands
 pub record BreaksOff (old new : Profiling) : Type 0 where

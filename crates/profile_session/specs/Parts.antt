@@ -59,6 +59,10 @@ loaded_in x = (run_state x.vm).shared.loaded
 abbrev pub linking : View → LinkerView
 linking v = record { program = v.program; loaded = (run_state v).shared.loaded }
 
+-- the program and the input are the same
+abbrev pub IsSameRun : Parts → Parts → Type 0
+IsSameRun old new = world new.vm ≡ world old.vm
+
 -- ---- they fit
 
 -- The machine is whole, and what is revealed is of its program; new activations begin in versions of the marks that were shown; the depth is that of

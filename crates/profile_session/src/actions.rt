@@ -1,10 +1,10 @@
 //! Actions of a session, and its tree.
 
-ghost use Rattle.std.specs.Prelude.{◌≡◌, OnOk, if◌then◌else◌};
+ghost use Rattle.std.specs.Prelude.{◌≡◌, MatchResult, OnOk, if◌then◌else◌};
 ghost use Rattle.jvm_model.specs.declared.program.Program.{Program};
 ghost use Rattle.call_revelation.specs.Reveals.{IsRevelation, now_of};
 ghost use Rattle.jvm_model.specs.Revealed.{with_none_entered};
-ghost use Rattle.profile_session.specs.Parts.{Acts, AreFit, AreShown, Brings, chosen_by};
+ghost use Rattle.profile_session.specs.Parts.{Acts, AreFit, AreShown, Brings, IsSameRun, chosen_by};
 
 use crate::parts::Parts;
 use call_revelation::Reveal;
@@ -42,7 +42,9 @@ impl Parts {
     pub fn act(&mut self, act: Act) -> Result<(), NoMemory>
         requires fit { AreFit self.old }
         requires shown { AreShown self.old }
-        ensures { OnOk result (Acts self.old act self.new) }
+        ensures { MatchResult result
+            (λ ok. Acts self.old act self.new)
+            (λ e. IsSameRun self.old self.new) }
     {
         choose(self.alloc, &mut self.reveal, act)?;
         let idle = self.is_idle();
@@ -57,7 +59,9 @@ impl Parts {
     /// The tree takes all that was told, and the steps up to the clock.
     pub fn bring(&mut self) -> Result<(), NoMemory>
         requires fit { AreFit self.old }
-        ensures { OnOk result (Brings self.old self.new) }
+        ensures { MatchResult result
+            (λ ok. Brings self.old self.new)
+            (λ e. IsSameRun self.old self.new) }
     {
         self.drain()?;
         self.tree.credit(self.vm.clock());

@@ -1,9 +1,9 @@
 //! Turns and steps of a session.
 
-ghost use Rattle.std.specs.Prelude.{◌≡◌, ◌+◌, ◌^◌, ◌<◌, true, false, IfOk, if◌then◌else◌};
+ghost use Rattle.std.specs.Prelude.{◌≡◌, ◌+◌, ◌^◌, ◌<◌, true, false, MatchResult, if◌then◌else◌};
 ghost use Rattle.jvm_machine.specs.View.{IsGoingOn, has_ended};
 ghost use Rattle.profile_session.specs.Advances.{After, Finished, Makes, Ran, Sliced};
-ghost use Rattle.profile_session.specs.Parts.{IsBusy, Rests};
+ghost use Rattle.profile_session.specs.Parts.{IsBusy, IsSameRun, Rests};
 ghost use Rattle.profile_session.specs.Turned.{is_telling};
 
 use crate::parts::Parts;
@@ -29,7 +29,9 @@ impl Parts {
     fn turn(&mut self) -> Result<Turn, NoMemory>
         requires busy { IsBusy self.old }
         requires below { self.old.vm.clock < 2 ^ 63 }
-        ensures { IfOk result (λ turn. After self.old turn self.new) }
+        ensures { MatchResult result
+            (λ turn. After self.old turn self.new)
+            (λ e. IsSameRun self.old self.new) }
     {
         let turn = self.vm.step();
         if !is_telling(&turn) {
@@ -45,7 +47,9 @@ impl Parts {
         requires going { IsGoingOn self.old.vm }
         requires some { 0 < most }
         requires below { self.old.vm.clock + most < 2 ^ 63 }
-        ensures { IfOk result (λ turn. Ran self.old most turn self.new) }
+        ensures { MatchResult result
+            (λ turn. Ran self.old most turn self.new)
+            (λ e. IsSameRun self.old self.new) }
     {
         let turn = self.vm.run_on(most);
         if !is_telling(&turn) {
@@ -59,7 +63,9 @@ impl Parts {
     fn finish(&mut self) -> Result<bool, NoMemory>
         requires busy { IsBusy self.old }
         requires below { self.old.vm.clock < 2 ^ 63 }
-        ensures { IfOk result (λ ended. Finished self.old ended self.new) }
+        ensures { MatchResult result
+            (λ ended. Finished self.old ended self.new)
+            (λ e. IsSameRun self.old self.new) }
     {
         loop {
             match self.turn()? {
@@ -80,7 +86,9 @@ impl Parts {
         requires going { IsGoingOn self.old.vm }
         requires some { 0 < most }
         requires below { self.old.vm.clock + most < 2 ^ 63 }
-        ensures { IfOk result (λ ended. Sliced self.old most ended self.new) }
+        ensures { MatchResult result
+            (λ ended. Sliced self.old most ended self.new)
+            (λ e. IsSameRun self.old self.new) }
     {
         match self.run(most)? {
             Turn::Settled => return Ok(false),
@@ -107,7 +115,9 @@ impl Parts {
         requires goes_on { has_ended self.old.vm ≡ false }
         requires started { self.old.started ≡ self.old.vm.started }
         requires below { self.old.vm.clock + steps < 2 ^ 62 }
-        ensures { IfOk result (λ ended. Makes self.old steps ended self.new) }
+        ensures { MatchResult result
+            (λ ended. Makes self.old steps ended self.new)
+            (λ e. IsSameRun self.old self.new) }
     {
         let last = self.vm.clock() + steps;
         let mut next = self.next_number();
