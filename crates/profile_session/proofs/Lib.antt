@@ -5,6 +5,7 @@ pub mod Passing
 pub mod Acting
 pub mod SwapLists
 pub mod Begun
+pub mod Worlds
 pub mod Turning
 pub mod OpenPaths
 pub mod MethodPlaces

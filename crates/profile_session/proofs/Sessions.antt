@@ -1,5 +1,5 @@
 -- What a session's calls owe.
-use Rattle.std.proofs.Common.{◌≡◌, ℕ, ◌+◌, ◌≤◌, Bool, true, false, not, Some, None, List, [], ◌∷◌, ◌++◌, map, Option, is_some, if◌then◌else◌, refl, sym, ap, ap₂, subst, ◌∙◌, arith, add-one}
+use Rattle.std.proofs.Common.{◌≡◌, ℕ, ◌+◌, ◌≤◌, ◌<◌, Bool, true, false, not, Some, None, List, [], ◌∷◌, ◌++◌, map, Option, is_some, if◌then◌else◌, refl, sym, ap, ap₂, subst, ◌∙◌, arith, add-one}
 use Rattle.std.specs.List.{AllByRecursion, enumerate_from}
 use Rattle.jvm_model.specs.declared.ending.Ending.{Ending}
 use Rattle.jvm_model.specs.declared.event.Act.{Act}
@@ -18,7 +18,7 @@ use Rattle.jvm_model.specs.Originals.{original}
 use Rattle.jvm_model.specs.Points.{chosen, has_class, mark_in, marking_of, nothing, standing_in}
 use Rattle.jvm_model.specs.Projection.{projection}
 use Rattle.jvm_model.specs.Revealed.{Revealed, mark_of, marks_of}
-use Rattle.jvm_model.specs.Run.{before, run}
+use Rattle.jvm_model.specs.Run.{before, ending_of, run}
 use Rattle.jvm_model.specs.Swaps.{points_before}
 use Rattle.jvm_model.specs.Targets.{operations_of}
 use Rattle.jvm_model.specs.Told.{held_in}
@@ -34,10 +34,10 @@ use Rattle.profile_session.specs.declared.swap.Swap.{Swap}
 use Rattle.profile_session.specs.declared.answer.ActError.{ActError}
 use Rattle.profile_session.specs.declared.answer.ActError.TheVariants as act
 use Rattle.profile_session.specs.Advances.{Makes}
-use Rattle.profile_session.specs.Answers.{Accepts, Advances, IsTreeOf, Onward, RefusesAct, refusal_of, run_by}
+use Rattle.profile_session.specs.Answers.{Accepts, Advances, Gathers, Onward, RefusesAct, refusal_of, run_by}
 use Rattle.profile_session.specs.Keeping.{Kept, at_point, first_kept, kept_act, kept_before, kept_by-zero, mark_seen, marks_seen, revealed}
 use Rattle.profile_session.specs.Parts.{Acts, AreFit, AreOf, Brings, IsProfiling, calls_in, kept_in, loaded_in, profile_in, revealed_in, seen_by}
-use Rattle.profile_session.specs.Sessions.{AreSwapsOf, Profiling, Stands, ending_in, entries_of, is_over, is_selected_in, mark_in_session, profiling_in, run_of, standing_of, step_of, swaps_of, with_act, world_of}
+use Rattle.profile_session.specs.Sessions.{AreSwapsOf, Holds, IsTreeOf, Profiling, Stands, ending_in, entries_of, is_over, is_selected_in, mark_in_session, profiling_in, run_of, standing_of, step_of, swaps_of, with_act, world_of}
 use Rattle.profile_session.specs.Standing.{AtRest, next_step, told_before}
 use Rattle.profile_session.proofs.Acting.{acted, from-last}
 use Rattle.profile_session.proofs.Advancing.{profile-clock, still-of}
@@ -46,68 +46,70 @@ use Rattle.profile_session.proofs.SwapImages.{swap-images}
 use Rattle.profile_session.proofs.SwapLists.{swaps-are}
 
 -- the run's state for which the session and its machine stand
-pub run-in : (x : Parts) (b : Bool) → Stands x → run_state x.vm ≡ run_of (profiling_in b x)
-run-in x b s = ap (λ b. if b then run (world x.vm) x.vm.clock else before (world x.vm)) (sym s.started)
+pub run-in : (x : Parts) (b g : Bool) → Stands x → run_state x.vm ≡ run_of (profiling_in b g x)
+run-in x b g s = ap (λ b. if b then run (world x.vm) x.vm.clock else before (world x.vm)) (sym s.started)
 
-pub over-in : (x : Parts) (b : Bool) → Stands x → has_ended x.vm ≡ is_over (profiling_in b x)
-over-in x b s = ap (λ (s : State). is_some s.ending) (run-in x b s)
+pub over-in : (x : Parts) (b g : Bool) → Stands x → has_ended x.vm ≡ is_over (profiling_in b g x)
+over-in x b g s = ap (λ (s : State). is_some s.ending) (run-in x b g s)
 
 pub made-stands : (x new : Parts) (steps : ℕ) (ended : Bool) → Makes x steps ended new → Stands new
 made-stands x new steps ended m = record { rests = m.rests; started = m.flag ∙ sym m.started }
 
-pub made-by : (x new : Parts) (steps : ℕ) (ended : Bool) → Stands x → is_over (profiling_in false x) ≡ false → Makes x steps ended new
-    → Advances (profiling_in false x) steps (run_by ended) (profiling_in false new)
-made-by x new steps ended s going m = by ended m where
-  onward : (ended : Bool) → Makes x steps ended new → Onward (profiling_in false x) steps (profiling_in false new)
+pub made-by : (x new : Parts) (g : Bool) (steps : ℕ) (ended : Bool) → Stands x → is_over (profiling_in false g x) ≡ false → Makes x steps ended new
+    → Advances (profiling_in false g x) steps (run_by ended) (profiling_in false false new)
+made-by x new g steps ended s going m = by ended m where
+  onward : (ended : Bool) → Makes x steps ended new → Onward (profiling_in false g x) steps (profiling_in false false new)
   onward ended m = record {
-    same = ap₂ (λ (w : World) b. let v : Profiling = record { program = w.program; input = w.input; acts = new.acts; started = b; broken = false; clock = new.vm.clock } in v) m.world_is m.flag
-        ∙ ap (λ acts. let v : Profiling = record (profiling_in false x) { acts = acts; started = true; clock = new.vm.clock } in v) m.acts;
+    same = ap₂ (λ (w : World) b. let v : Profiling = record (profiling_in false false new) { program = w.program; input = w.input; started = b } in v) m.world_is m.flag
+        ∙ ap (λ acts. let v : Profiling = record (profiling_in false false x) { acts = acts; started = true; clock = new.vm.clock } in v) m.acts;
+    later = m.later;
     within = m.within;
+    first = subst (λ w. (k : ℕ) → k < new.vm.clock → is_some (ending_of w k) ≡ false) m.world_is m.rests.stands.going;
   }
 
-  over : (ended : Bool) → Makes x steps ended new → is_over (profiling_in false new) ≡ ended
-  over ended m = sym (over-in new false (made-stands x new steps ended m)) ∙ m.ended_is
+  over : (ended : Bool) → Makes x steps ended new → is_over (profiling_in false false new) ≡ ended
+  over ended m = sym (over-in new false false (made-stands x new steps ended m)) ∙ m.ended_is
 
-  by : (ended : Bool) → Makes x steps ended new → Advances (profiling_in false x) steps (run_by ended) (profiling_in false new)
-  by true m = record { whole = refl; same = λ is. absurd (let h : true ≡ false = sym is ∙ going in cc); onward = λ is. onward true m; ended = over true m }
+  by : (ended : Bool) → Makes x steps ended new → Advances (profiling_in false g x) steps (run_by ended) (profiling_in false false new)
+  by true m = record { whole = refl; same = λ is. absurd (let h : true ≡ false = sym is ∙ going in cc); onward = λ no. onward true m; ended = over true m }
   by false m = record { whole = refl; going = going; onward = onward false m; all = m.clock refl; goes_on = over false m }
 
 -- ---- what stands between calls
 
-step-is : (x : Parts) (b : Bool) → Stands x → next_step x.vm ≡ step_of (profiling_in b x)
-step-is x b s = ap (λ b. if b then x.vm.clock + 1 else 0) (sym s.started)
+step-is : (x : Parts) (b g : Bool) → Stands x → next_step x.vm ≡ step_of (profiling_in b g x)
+step-is x b g s = ap (λ b. if b then x.vm.clock + 1 else 0) (sym s.started)
 
-kept-is : (x : Parts) (b : Bool) → Stands x → kept_in x ≡ kept_before x.acts (world x.vm) (step_of (profiling_in b x))
-kept-is x b s = s.rests.stands.kept ∙ ap (kept_before x.acts (world x.vm)) (step-is x b s)
+kept-is : (x : Parts) (b g : Bool) → Stands x → kept_in x ≡ kept_before x.acts (world x.vm) (step_of (profiling_in b g x))
+kept-is x b g s = s.rests.stands.kept ∙ ap (kept_before x.acts (world x.vm)) (step-is x b g s)
 
-matches : (x : Parts) (b : Bool) → Stands x → Matches x.acts (kept_in x).seen (standing_of (profiling_in b x))
-matches x b s =
+matches : (x : Parts) (b g : Bool) → Stands x → Matches x.acts (kept_in x).seen (standing_of (profiling_in b g x))
+matches x b g s =
     let w = world x.vm in
-    let n = step_of (profiling_in b x) in
+    let n = step_of (profiling_in b g x) in
     subst (λ seen. Matches x.acts seen (standing_in x.acts w (original w.program) n))
-    (sym (ap (λ (k : Kept). k.seen) (kept-is x b s) ∙ kept-seen x.acts w (marking_of x.acts w) n)) (session-whole w s.rests.is.whole x.acts s.rests.is.from n)
+    (sym (ap (λ (k : Kept). k.seen) (kept-is x b g s) ∙ kept-seen x.acts w (marking_of x.acts w) n)) (session-whole w s.rests.is.whole x.acts s.rests.is.from n)
 
-pub selected-is : (x : Parts) (b : Bool) (method : ℕ) → Stands x → is_among method x.reveal.selected ≡ is_selected_in (profiling_in b x) method
-selected-is x b method s = ap (is_among method) (matches x b s).selected
+pub selected-is : (x : Parts) (b g : Bool) (method : ℕ) → Stands x → is_among method x.reveal.selected ≡ is_selected_in (profiling_in b g x) method
+selected-is x b g method s = ap (is_among method) (matches x b g s).selected
 
-pub mark-is : (x : Parts) (b : Bool) (method : ℕ) → Stands x → mark_of x.vm.program (revealed_in x) method ≡ mark_in_session (profiling_in b x) method
-mark-is x b method s =
-    ap (λ (k : Kept). mark_seen x.vm.program k.seen method) (kept-is x b s)
-    ∙ marks-stand (world x.vm) s.rests.is.whole x.acts s.rests.is.from (step_of (profiling_in b x)) method
+pub mark-is : (x : Parts) (b g : Bool) (method : ℕ) → Stands x → mark_of x.vm.program (revealed_in x) method ≡ mark_in_session (profiling_in b g x) method
+mark-is x b g method s =
+    ap (λ (k : Kept). mark_seen x.vm.program k.seen method) (kept-is x b g s)
+    ∙ marks-stand (world x.vm) s.rests.is.whole x.acts s.rests.is.from (step_of (profiling_in b g x)) method
 
-pub swaps-of : (x : Parts) (b : Bool) → Stands x → x.swaps ≡ swaps_of (profiling_in b x)
-swaps-of x b s = ap (λ (k : Kept). k.swaps) (kept-is x b s) ∙ swaps-are (world x.vm) s.rests.is.whole x.acts s.rests.is.from (step_of (profiling_in b x))
+pub swaps-of : (x : Parts) (b g : Bool) → Stands x → x.swaps ≡ swaps_of (profiling_in b g x)
+swaps-of x b g s = ap (λ (k : Kept). k.swaps) (kept-is x b g s) ∙ swaps-are (world x.vm) s.rests.is.whole x.acts s.rests.is.from (step_of (profiling_in b g x))
 
-pub swaps-entries : (x : Parts) (b : Bool) → Stands x → AreSwapsOf x.vm.program (entries_of (profiling_in b x)) x.swaps
-swaps-entries x b s =
-    let v = profiling_in b x in
-    subst (AreSwapsOf x.vm.program (entries_of v)) (sym (swaps-of x b s))
+pub swaps-entries : (x : Parts) (b g : Bool) → Stands x → AreSwapsOf x.vm.program (entries_of (profiling_in b g x)) x.swaps
+swaps-entries x b g s =
+    let v = profiling_in b g x in
+    subst (AreSwapsOf x.vm.program (entries_of v)) (sym (swaps-of x b g s))
     (swap-images x.vm.program s.rests.is.fit.imageable (nothing (world_of v)) (points_before x.acts (world_of v) (original x.vm.program) (step_of v)))
 
 -- ---- the tree with all that was told
 
-pub tree-of : (x new : Parts) (b : Bool) → Stands x → b ≡ false → Brings x new → IsTreeOf (profiling_in b x) new.tree
-tree-of x new b s whole brings =
+pub tree-of : (x new : Parts) (b g : Bool) → Stands x → Brings x new → IsTreeOf (profiling_in b g x) new.tree
+tree-of x new b g s brings =
     let r = s.rests in
     let w = world x.vm in
     let m = marking_of x.acts w in
@@ -115,7 +117,6 @@ tree-of x new b s whole brings =
     λ started e. r.stands.told ∙ ap (λ b. told_before m w (if b then x.vm.clock + 1 else 0)) (sym s.started ∙ e) in
     let tree : new.tree ≡ credited x.vm.clock (profile_of r.told) = brings.tree ∙ r.are.profile in
     record {
-      whole = whole;
       early = λ no. ap (λ (q : Profile). q.contexts) (tree ∙ ap (λ es. credited x.vm.clock (profile_of es)) (told false no));
       tree = λ yes.
           ap (λ (q : Profile). q.contexts) (tree ∙ ap (λ es. credited x.vm.clock (profile_of es)) (told true yes ∙ ap (told_before m w) (add-one x.vm.clock)))
@@ -145,8 +146,24 @@ brought-stands x new s b = subst Stands (sym b.same) (there b.same b.profile b.c
         started = s.started;
       }
 
-pub brought-same : (x new : Parts) (b : Bool) → Brings x new → profiling_in b new ≡ profiling_in b x
-brought-same x new b brings = ap (profiling_in b) brings.same
+pub brought-same : (x new : Parts) (b g : Bool) → Brings x new → profiling_in b g new ≡ profiling_in b g x
+brought-same x new b g brings = ap (profiling_in b g) brings.same
+
+pub gathered-holds : (x new : Parts) → Stands x → Brings x new → Holds true new
+gathered-holds x new s b = record {
+  stands = brought-stands x new s b;
+  tree = λ yes. subst (λ v. IsTreeOf v new.tree) (sym (brought-same x new false true b)) (tree-of x new false true s b);
+}
+
+-- where it is not gathered, nothing is asked of the tree
+pub ungathered : (x : Parts) → Stands x → Holds false x
+ungathered x s = record { stands = s; tree = λ no. absurd (let h : false ≡ true = no in cc) }
+
+pub gathers : (x new : Parts) (b g : Bool) → b ≡ false → Brings x new → Gathers (profiling_in b g x) (profiling_in false true new)
+gathers x new b g whole brings = record {
+  whole = whole;
+  same = brought-same x new false true brings ∙ ap (λ b. profiling_in b true x) (sym whole);
+}
 
 -- ---- an action
 
@@ -202,14 +219,14 @@ other-is false true is = refl
 other-is true true is = absurd (let h : Some act.AlreadySelected ≡ None = is in cc)
 other-is false false is = absurd (let h : Some act.NotSelected ≡ None = is in cc)
 
-pub accepts : (x new : Parts) (v : Profiling) (a : Act) → profiling_in false x ≡ v → is_over v ≡ false → a.moment ≡ x.vm.clock → (selected : Bool)
-    → selected ≡ is_selected_in v a.method → refusal_of a.select selected ≡ None → Acts x a new → Accepts v a.select a.method (profiling_in false new)
-accepts x new v a now going moment selected at none is = record {
+pub accepts : (x new : Parts) (v : Profiling) (g : Bool) (a : Act) → profiling_in false g x ≡ v → is_over v ≡ false → a.moment ≡ x.vm.clock → (selected : Bool)
+    → selected ≡ is_selected_in v a.method → refusal_of a.select selected ≡ None → Acts x a new → Accepts v a.select a.method (profiling_in false false new)
+accepts x new v g a now going moment selected at none is = record {
   whole = sym (ap (λ (v : Profiling). v.broken) now);
   going = going;
   other = sym at ∙ other-is a.select selected none;
-  same = ap₂ (λ (v : View) started. let q : Profiling = record { program = v.program; input = v.input; acts = new.acts; started = started; broken = false; clock = v.clock } in q) is.vm is.started
-      ∙ (ap (λ acts. let q : Profiling = record (profiling_in false x) { acts = acts } in q) is.acts
-      ∙ (ap (λ n. let q : Profiling = record (profiling_in false x) { acts = x.acts ++ record { moment = n; select = a.select; method = a.method } ∷ [] } in q) moment
+  same = ap₂ (λ (v : View) started. let q : Profiling = record (profiling_in false false new) { program = v.program; input = v.input; started = started; clock = v.clock } in q) is.vm is.started
+      ∙ (ap (λ acts. let q : Profiling = record (profiling_in false false x) { acts = acts } in q) is.acts
+      ∙ (ap (λ n. let q : Profiling = record (profiling_in false false x) { acts = x.acts ++ record { moment = n; select = a.select; method = a.method } ∷ [] } in q) moment
       ∙ ap (with_act a.select a.method) now));
 }

@@ -89,6 +89,13 @@ next-clock x = by x.vm.started where
   by true = omega arith
   by false = omega arith
 
+-- the step that comes next is none before the clock's
+clock-next : (x : Parts) → Rests x → x.vm.clock ≤ next_step x.vm
+clock-next x r = by x.vm.started r.stands.early where
+  by : (b : Bool) → (b ≡ false → x.vm.clock ≡ 0) → x.vm.clock ≤ (let n : ℕ = if b then x.vm.clock + 1 else 0 in n)
+  by true early = omega arith
+  by false early = let e = early refl in omega (arith, e)
+
 pub ran-hearable : (x : Parts) (most : ℕ) (turn : Turn) (v : View) → Rests x → IsGoingOn x.vm → RunsOn x.vm most turn v → is_telling turn ≡ true → x.vm.clock + most < 9223372036854775808
     → IsHearable (record x { vm = v }) turn
 ran-hearable x most turn v r on runs tells below =
@@ -197,6 +204,7 @@ pub record Making (first : Parts) (steps last next : ℕ) (x : Parts) : Type 0 w
   pub flag : x.started ≡ true
   pub going : has_ended x.vm ≡ false
   pub next_is : next ≡ next_step x.vm
+  pub later : first.vm.clock ≤ next
   pub last_is : last ≡ first.vm.clock + steps
   pub low : next ≤ last + 1
 
@@ -222,7 +230,9 @@ pub making-first : (x : Parts) (steps last next : ℕ) → Rests x → has_ended
 making-first x steps last next r going flag last_is next_is =
     let at : next ≡ next_step x.vm = next_is ∙ ap (λ b. if b then x.vm.clock + 1 else 0) flag in
     let up = next-clock x in
-    record { rests = flagged x r; world_is = refl; acts = refl; flag = refl; going = going; next_is = at; last_is = last_is; low = omega (arith, at, up, last_is) }
+    let from = clock-next x r in
+    record { rests = flagged x r; world_is = refl; acts = refl; flag = refl; going = going; next_is = at; later = omega (arith, at, from); last_is = last_is;
+      low = omega (arith, at, up, last_is) }
 
 pub making-next : (first x new : Parts) (steps last next : ℕ) → Making first steps last next x → next ≤ last → Sliced x (last + 1 - next) false new → Making first steps last (new.vm.clock + 1) new
 making-next first x new steps last next m le s =
@@ -235,6 +245,7 @@ making-next first x new steps last next m le s =
       flag = s.stays.started ∙ m.flag;
       going = s.ended_is;
       next_is = sym (ap (λ b. if b then new.vm.clock + 1 else 0) s.started);
+      later = (let l = m.later in let low = s.low in omega (arith, at, l, low));
       last_is = m.last_is;
       low = omega (arith, at, high, le);
     }
@@ -255,6 +266,7 @@ making-ends first x new steps last next m le s =
       flag = s.stays.started ∙ m.flag;
       started = s.started;
       clock = λ no. absurd (let h : true ≡ false = no in cc);
+      later = (let l = m.later in let low = s.low in omega (arith, at, l, low));
       within = omega (arith, at, high, last_is, le);
     }
 
@@ -267,6 +279,7 @@ making-done first x steps last next m over = record {
   flag = m.flag;
   started = started x.vm.started refl;
   clock = λ no. clock;
+  later = (let c = clock in omega (arith, c));
   within = (let c = clock in omega (arith, c));
 } where
   started : (b : Bool) → x.vm.started ≡ b → x.vm.started ≡ true
@@ -286,9 +299,5 @@ pub making-below : (first x : Parts) (steps last next : ℕ) → Making first st
 making-below first x steps last next m le below =
     let at = m.next_is in
     let last_is = m.last_is in
-    let up : x.vm.clock ≤ next_step x.vm = by x.vm.started m.rests.stands.early in
+    let up = clock-next x m.rests in
     omega (arith, at, up, last_is, below, le)
-  where
-    by : (b : Bool) → (b ≡ false → x.vm.clock ≡ 0) → x.vm.clock ≤ (let n : ℕ = if b then x.vm.clock + 1 else 0 in n)
-    by true early = omega arith
-    by false early = let e = early refl in omega (arith, e)

@@ -6,5 +6,5 @@ use Rattle.profile_session.proofs.session.Session.ending.Goals as goal
 
 pub returns : goal.returns
 returns c whole =
-    let s = c.self.invariant (ap (λ (v : Profiling). v.broken) c.self.view_is ∙ whole) in
-    c.ending.ensures s.rests.is.fit.whole s.rests.stands.resting ∙ (ap (λ (s : State). s.ending) (run-in c.self.inside.parts c.self.inside.broken s) ∙ ap ending_in c.self.view_is)
+    let s = (c.self.invariant (ap (λ (v : Profiling). v.broken) c.self.view_is ∙ whole)).stands in
+    c.ending.ensures s.rests.is.fit.whole s.rests.stands.resting ∙ (ap (λ (s : State). s.ending) (run-in c.self.inside.parts c.self.inside.broken c.self.inside.gathered s) ∙ ap ending_in c.self.view_is)
