@@ -1,4 +1,3 @@
-pub mod Stops
 pub mod Joins
 pub mod Steps
 pub mod Passing

@@ -28,7 +28,7 @@ use Rattle.jvm_model.specs.Images.{is_off}
 use Rattle.jvm_model.proofs.GoesOn.{drop-passed}
 use Rattle.jvm_model.proofs.Order.{run-ordered}
 use Rattle.jvm_model.proofs.Stops.{stop_from-is}
-use Rattle.profile_session.proofs.Stops.{at-stop, left-there, stop-tells, stop-lives, end-tells, end-lives, all-events, all-lives, first-loads}
+use Rattle.jvm_machine.proofs.SeenLaws.{stop-tells, stop-lives, end-tells, end-lives, all-events, all-lives, first-loads}
 use Rattle.jvm_model.specs.Whole.{IsWhole}
 use Rattle.jvm_model.proofs.Revealable.{calls-told, revealable}
 use Rattle.context_tree.proofs.Headline.{session-whole}
@@ -352,7 +352,11 @@ module _ (w : World) (is : IsWhole w.program) (acts : List Act) (from : AreFrom 
   -- ---- an event
 
   stays-ordered : (v : View) → AreOrdered (to_come v) → AreOrdered (to_come (stopped v))
-  stays-ordered v order = let is = at-stop v in subst AreOrdered (sym (left-there v)) (ordered-behind is.passed is.more (subst AreOrdered is.all order))
+  stays-ordered v order =
+      let is = stop_from-is (mark_at v.marks) v.clock v.told v.passed v.live (to_come v) in
+      let there : to_come (stopped v) ≡ is.more =
+      ap (λ n. drop n (turn (world v) v.clock).changes) is.count ∙ drop-passed v.passed is.passed is.more (turn (world v) v.clock).changes is.all in
+      subst AreOrdered (sym there) (ordered-behind is.passed is.more (subst AreOrdered is.all order))
 
   -- nothing is left behind an event that opens a path
   none-left : (v : View) (path : List ℕ) (e : Event) → AreOrdered (to_come v) → next_event v ≡ Some e → opens path e.kind ≡ true → to_come (stopped v) ≡ []

@@ -1,5 +1,6 @@
 -- Classes are swapped for the marks of what is revealed now.
-use Rattle.std.specs.Prelude.{◌≡◌, ℕ, List, [], ◌∷◌, ◌++◌}
+use Rattle.std.specs.Prelude.{◌≡◌, ℕ, ◌<◌, List, [], ◌∷◌, ◌++◌, length}
+use Rattle.std.specs.List.{AllByRecursion}
 use Rattle.std.specs.Option.{option_map_or}
 use Rattle.jvm_model.specs.declared.event.Mark.{Mark}
 use Rattle.jvm_model.specs.declared.event.Mark.TheVariants.{Off}
@@ -18,6 +19,10 @@ use Rattle.profile_session.specs.Keeping.{swapped_now}
 -- of the method at a position of a class; one without Code has none but Off
 abbrev pub mark_at_position : Program → Revealed → ℕ → ℕ → Mark
 mark_at_position p r class position = option_map_or (mark_of p r) (number_of_method p class position) Off
+
+-- the program has these classes
+abbrev pub AreKnown : Program → List ℕ → Type 0
+AreKnown p classes = AllByRecursion (λ class. class < length p.classes) classes
 
 -- one class after another
 abbrev pub with_classes : Program → Revealed → List ℕ → View → View

@@ -77,7 +77,8 @@ impl Parts {
         self.drain()?;
         match self.buffer.push(event) {
             Ok(()) => Ok(()),
-            Err(_) => Err(NoMemory),
+            // A record fits where nothing is held.
+            Err(_) => unreachable!(),
         }
     }
 
@@ -204,8 +205,8 @@ impl Parts {
             Turn::Probe(event) => self.tell(*event),
             Turn::Settled => self.end(),
             Turn::Ended => self.end(),
-            Turn::Broken => Err(NoMemory),
-            Turn::NoMemory => Err(NoMemory),
+            Turn::Broken => unreachable!(),
+            Turn::NoMemory => unreachable!(),
         }
     }
 }

@@ -1,6 +1,6 @@
 //! The classes whose marks have changed are swapped.
 
-ghost use Rattle.std.specs.Prelude.{◌≡◌, ◌≤◌, false, length, map, IfOk, OnOk};
+ghost use Rattle.std.specs.Prelude.{◌≡◌, ◌≤◌, ◌<◌, false, length, map, IfOk, OnOk};
 ghost use Rattle.std.specs.List.{range_with_len};
 ghost use Rattle.jvm_model.specs.Swaps.{first_number};
 ghost use Rattle.inject_events.specs.Answers.{MarkedHaveCode};
@@ -8,13 +8,13 @@ ghost use Rattle.jvm_machine.specs.Installs.{with_class};
 ghost use Rattle.call_revelation.specs.Reveals.{IsRevelation, now_of};
 ghost use Rattle.profile_session.specs.Images.{AreImageable, class_in, marks_for};
 ghost use Rattle.profile_session.specs.Keeping.{swap_now};
-ghost use Rattle.profile_session.specs.Swapping.{HasSwapped, IsImaged, IsMade, mark_at_position};
+ghost use Rattle.profile_session.specs.Swapping.{AreKnown, HasSwapped, IsImaged, IsMade, mark_at_position};
 
 use crate::swap::Swap;
 use call_revelation::Reveal;
 use class_writer::write_class;
 use code_model::Homes;
-use hotswap::redefine;
+use hotswap::{SwapError, redefine};
 use inject_events::{Image, InjectError, instrument};
 use jf_bytes::{NoMemory, Seq};
 use jvm_machine::Vm;
@@ -77,18 +77,19 @@ fn image_for(
     class: u32,
     marks: &[Mark],
 ) -> Result<Image, NoMemory>
+    requires known { class < length program.now.classes }
     requires imageable { AreImageable program.now }
     requires count { length marks.now ≡ length (class_in program.now class).methods }
     requires coded { MarkedHaveCode marks.now (class_in program.now class).methods }
     ensures { IfOk result (IsImaged program.now class marks.now) }
 {
     let Some(original) = program.classes.get(class as usize) else {
-        return Err(NoMemory);
+        unreachable!()
     };
     match instrument(alloc, original, first_number(program, class), marks) {
         Ok(image) => Ok(image),
-        // Each class of the program can be rewritten for any marks: it is memory that was wanted.
-        Err(InjectError::NotProfilable(..) | InjectError::NoMemory) => Err(NoMemory),
+        Err(InjectError::NotProfilable(..)) => unreachable!(),
+        Err(InjectError::NoMemory) => Err(NoMemory),
     }
 }
 
@@ -105,6 +106,7 @@ fn method_count(program: &Program, class: u32) -> usize
 /// What redefines a class for the marks of now.
 fn make(alloc: Global, reveal: &Reveal, program: &Program, class: u32) -> Result<Made, NoMemory>
     requires revelation { IsRevelation program.now reveal.now }
+    requires known { class < length program.now.classes }
     requires imageable { AreImageable program.now }
     ensures { IfOk result (IsMade program.now (now_of reveal.now) class) }
 {
@@ -128,6 +130,7 @@ fn swap_class(
 ) -> Result<Swap, NoMemory>
     requires whole { vm.old.broken ≡ false }
     requires revelation { IsRevelation vm.old.program reveal.now }
+    requires known { class < length vm.old.program.classes }
     requires imageable { AreImageable vm.old.program }
     ensures swap { let p = vm.old.program in
         IfOk result (λ swap. swap ≡ swap_now p vm.old.clock (now_of reveal.now) class) }
@@ -149,7 +152,9 @@ fn swap_class(
             class,
             image: Seq::from_vec(made.bytes),
         }),
-        Err(_) => Err(NoMemory),
+        // Its bytes spell an image of the class.
+        Err(SwapError::Unreadable(_) | SwapError::NotSameShape(_)) => unreachable!(),
+        Err(SwapError::NoMemory) => Err(NoMemory),
     }
 }
 
@@ -163,6 +168,7 @@ pub fn swap_all(
 ) -> Result<(), NoMemory>
     requires whole { vm.old.broken ≡ false }
     requires revelation { IsRevelation vm.old.program reveal.now }
+    requires known { AreKnown vm.old.program classes.now }
     requires imageable { AreImageable vm.old.program }
     ensures { let now = now_of reveal.now in OnOk result
         (HasSwapped vm.old.program now classes.now vm.old vm.new swaps.old swaps.new) }
