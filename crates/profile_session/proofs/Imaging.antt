@@ -3,6 +3,7 @@ use Rattle.std.proofs.Common.{◌≡◌, ℕ, zero, suc, ◌+◌, ◌<◌, ◌�
 use Rattle.std.specs.Prelude.{is_some, unwrap_or, Result, Ok}
 use Rattle.std.specs.List.{AllByRecursion, enumerate_from, range_with_len}
 use Rattle.std.specs.Option.{option_map_or}
+use Rattle.std.proofs.lemmas.Option.{same_Some}
 use Rattle.const_pool.specs.declared.class.ClassFile.{ClassFile}
 use Rattle.const_pool.specs.declared.class.Member.{Member}
 use Rattle.const_pool.specs.ClassFile.{IsClassFile, Spells, class_bytes}
@@ -20,7 +21,11 @@ use Rattle.inject_events.specs.declared.image.Image.{Image}
 use Rattle.inject_events.specs.Answers.{IsReadableClass, MarkedHaveCode}
 use Rattle.inject_events.specs.Rewriting.{image_of}
 use Rattle.jvm_machine.specs.Installs.{IsImageOf}
-use Rattle.hotswap.specs.Redefining.{SpellsImage}
+use Rattle.class_shape.specs.declared.error.SwapError.{SwapError}
+use Rattle.class_shape.specs.Swaps.{IsSomeImage}
+use Rattle.class_shape.proofs.ImageShapes.{image-shape}
+use Rattle.class_shape.proofs.SwapLaws.{no-swap_fault}
+use Rattle.hotswap.specs.Redefining.{IsRefused, SpellsImage}
 use Rattle.profile_session.specs.declared.swapping.Made.{Made}
 use Rattle.profile_session.specs.Images.{AreImageable, class_in, image_bytes, image_bytes-is, image_for, marks_for}
 use Rattle.profile_session.specs.Swapping.{IsImaged, IsMade, mark_at_position}
@@ -104,6 +109,20 @@ redefined p r class m is = λ original image there swap.
     subst (λ c. IsImageOf p class m.marks.items c m.homes) (sym one)
     (subst (λ marks. IsImageOf p class marks is.image.class m.homes) (sym is.marks)
     (subst (λ homes. IsImageOf p class (marks_for p r class) is.image.class homes) (sym is.homes) i.made))
+
+-- they redefine the class
+pub taken-as : (p : Program) (r : Revealed) (class : ℕ) (m : Made) → AreImageable p → IsMade p r class m → (e : SwapError) → IsRefused p class m.bytes.items e → ⊥
+taken-as p r class m imageable is e refused =
+    let i = is.imaged in
+    let original = refused.original in
+    let bytes : m.bytes.items ≡ class_bytes is.image.class =
+    is.bytes ∙ (image_bytes-is p class (marks_for p r class) ∙ ap (λ (x : Image). class_bytes x.class) (sym i.is)) in
+    let spelled : Spells m.bytes.items is.image.class = record { spelled = bytes; formed = i.formed } in
+    let one : i.made.file ≡ original = same_Some i.made.file original (sym i.made.there ∙ refused.is) in
+    let imaged = subst (λ (c : ClassFile). IsImage c (first_number p class) (marks_for p r class) is.image.class is.image.homes) one i.made.imaged in
+    let formed = all-at IsClassFile p.classes class original imageable.formed refused.is in
+    let some : IsSomeImage original is.image.class = record { first = first_number p class; marks = marks_for p r class; homes = is.image.homes; made = imaged } in
+    no-swap_fault original m.bytes.items is.image.class e (record { spelled = spelled; shape = image-shape original is.image.class formed some }) refused.fault
 
 pub made-by : (p : Program) (r : Revealed) (class count : ℕ) (m : Made) (image : Image) → count ≡ length (class_in p class).methods
     → m.marks.items ≡ map (mark_at_position p r class) (range_with_len 0 count) → IsImaged p class m.marks.items image → m.homes ≡ image.homes → Spells m.bytes.items image.class

@@ -3,7 +3,9 @@ use Rattle.std.proofs.Common.{◌≡◌, ℕ, zero, suc, ◌+◌, Bool, true, fa
 use Rattle.std.specs.Prelude.{filter}
 use Rattle.std.specs.List.{list_any, enumerate_from}
 use Rattle.std.specs.Option.{option_map_or}
-use Rattle.std.proofs.lemmas.Bool.{eqb-true, eq-eqb}
+use Rattle.std.specs.List.{AllByRecursion}
+use Rattle.std.proofs.lemmas.Bool.{and_parts, eqb-true, eq-eqb}
+use Rattle.std.proofs.lemmas.Option.{slice_get_within}
 use Rattle.std.proofs.lemmas.List.{append-nil}
 use Rattle.const_pool.specs.declared.class.Member.{Member}
 use Rattle.jvm_model.specs.declared.event.Mark.{Mark}
@@ -18,13 +20,13 @@ use Rattle.jvm_model.specs.StandsFor.{mark_at}
 use Rattle.jvm_model.specs.Swaps.{differs, same_mark}
 use Rattle.jvm_model.specs.Targets.{operations_of}
 use Rattle.jvm_machine.specs.Installs.{marks_over, with_class}
-use Rattle.jvm_machine.specs.View.{View}
+use Rattle.jvm_machine.specs.View.{View, world}
 use Rattle.profile_session.specs.declared.swap.Swap.{Swap}
 use Rattle.profile_session.specs.Images.{class_in, marks_for}
 use Rattle.profile_session.specs.Keeping.{swap_now, swapped_now}
 use Rattle.profile_session.specs.Parts.{changed_from, differs_from}
-use Rattle.profile_session.specs.Swapping.{HasSwapped, mark_at_position, with_classes}
-use Rattle.profile_session.proofs.MethodPlaces.{number-back, within-class}
+use Rattle.profile_session.specs.Swapping.{AreKnown, HasSwapped, mark_at_position, with_classes}
+use Rattle.profile_session.proofs.MethodPlaces.{class-of, number-back, within-class}
 
 -- ---- lists over numbered places
 
@@ -214,6 +216,43 @@ pub changed-shown : (p : Program) (shown : List Mark) (before now : Revealed) �
 changed-shown p shown before now is =
     filter-same (differs_from p shown now) (differs p (operations_of p) (stand_of before) (stand_of now)) (differs-shown p shown before now is) now.loaded
 
+-- a class that has changed is one of the program
+pair-with : (test : Place → Bool) (n : ℕ) (l : List MethodPlace) → list_any test (enumerate_from n l) ≡ true
+    → (i : ℕ) × (x : MethodPlace) × (slice_get l i ≡ Some x) × (test (n + i, x) ≡ true)
+pair-with test n [] is = absurd (let h : false ≡ true = is in cc)
+pair-with test n (x ∷ l) is = by (test (n, x)) refl is where
+  by : (b : Bool) → test (n, x) ≡ b → (b || list_any test (enumerate_from (n + 1) l)) ≡ true
+      → (i : ℕ) × (y : MethodPlace) × (slice_get (x ∷ l) i ≡ Some y) × (test (n + i, y) ≡ true)
+  by true e is = let q : n ≡ n + 0 = omega arith in (0, x, refl, ap (λ (k : ℕ). test (k, x)) (sym q) ∙ e)
+  by false e is =
+      let there = pair-with test (n + 1) l is in
+      let q : n + 1 + there.0 ≡ n + suc there.0 = omega arith in
+      (suc there.0, there.1.0, there.1.1.0, ap (λ (k : ℕ). test (k, there.1.0)) (sym q) ∙ there.1.1.1)
+
+filter-all : (test : ℕ → Bool) (P : ℕ → Type 0) → ((n : ℕ) → test n ≡ true → P n) → (l : List ℕ) → AllByRecursion P (filter test l)
+filter-all test P each [] = tt
+filter-all test P each (n ∷ l) = by (test n) refl (filter-all test P each l) where
+  by : (b : Bool) → test n ≡ b → AllByRecursion P (filter test l) → AllByRecursion P (if b then n ∷ filter test l else filter test l)
+  by true e rest = (each n e, rest)
+  by false e rest = rest
+
+pub changed-known : (p : Program) → p.methods ≡ numbered p.classes → (shown : List Mark) (now : Revealed) → AreKnown p (changed_from p shown now)
+changed-known p are shown now =
+    filter-all (differs_from p shown now) (λ class. class < length p.classes) (λ class differs.
+    let there = pair-with (λ (e : Place). e.1.class == class && not (same_mark (mark_at shown e.0) (mark_of p now e.0))) 0 p.methods differs in
+    let parts = and_parts (there.1.0.class == class) (not (same_mark (mark_at shown (0 + there.0)) (mark_of p now (0 + there.0)))) there.1.1.1 in
+    let is = class-of p are there.0 there.1.0 there.1.1.0 in
+    subst (λ c. c < length p.classes) (eqb-true there.1.0.class class parts.0) (slice_get_within p.classes there.1.0.class is.class is.found)) now.loaded
+
+known-in : (p : Program) (classes : List ℕ) (i : ℕ) → AreKnown p classes → i < length classes → get_or classes i 0 < length p.classes
+known-in p [] i all less = absurd (omega (arith, less))
+known-in p (c ∷ classes) zero all less = all.0
+known-in p (c ∷ classes) (suc i) all less = known-in p classes i all.1 (omega (arith, less))
+
+pub known-at : (p q : Program) → q ≡ p → (classes : List ℕ) (i class : ℕ) → AreKnown p classes → i < length classes → class ≡ get_or classes i 0 → class < length q.classes
+known-at p q same classes i class all less at =
+    subst (λ (p : Program). class < length p.classes) (sym same) (subst (λ c. c < length p.classes) (sym at) (known-in p classes i all less))
+
 -- ---- from class to class
 
 drop-suc : (l : List ℕ) (i : ℕ) → i < length l → drop i l ≡ get_or l i 0 ∷ drop (suc i) l
@@ -231,9 +270,10 @@ pub record AreSwapping (first : View) (r : Revealed) (classes : List ℕ) (i : �
   pub whole : v.broken ≡ false
   pub program : v.program ≡ first.program
   pub clock : v.clock ≡ first.clock
+  pub same : world v ≡ world first
 
 pub swapping-first : (first : View) (r : Revealed) (classes : List ℕ) (before : List Swap) → first.broken ≡ false → AreSwapping first r classes 0 first before before
-swapping-first first r classes before whole = record { vm = refl; swaps_are = refl; whole = whole; program = refl; clock = refl }
+swapping-first first r classes before whole = record { vm = refl; swaps_are = refl; whole = whole; program = refl; clock = refl; same = refl }
 
 pub swapping-next : (first : View) (r : Revealed) (classes : List ℕ) (i : ℕ) (v : View) (before swaps : List Swap) → AreSwapping first r classes i v before swaps → i < length classes
     → (new : View) (after : List Swap) (class : ℕ) (swap : Swap) → class ≡ get_or classes i 0 → new ≡ with_class class (marks_for v.program r class) v
@@ -253,6 +293,7 @@ swapping-next first r classes i v before swaps is less new after class swap at n
       whole = ap (λ (v : View). v.broken) stepped ∙ is.whole;
       program = ap (λ (v : View). v.program) stepped ∙ is.program;
       clock = ap (λ (v : View). v.clock) stepped ∙ is.clock;
+      same = ap world stepped ∙ is.same;
     }
 
 drop-all : (l : List ℕ) (i : ℕ) → length l ≤ i → drop i l ≡ []

@@ -1,12 +1,13 @@
 //! The parts of a session that move, and what it does behind each turn.
 
-ghost use Rattle.std.specs.Prelude.{◌≡◌, length, true, IfOk, OnOk};
+ghost use Rattle.std.specs.Prelude.{◌≡◌, length, true, IfOk, MatchResult};
 ghost use Rattle.jvm_model.specs.Points.{has_class};
 ghost use Rattle.jvm_model.specs.Revealed.{with_loaded, with_method_entered, with_none_entered};
 ghost use Rattle.jvm_machine.specs.declared.turn.Turn.TheVariants as Turn;
 ghost use Rattle.context_tree.specs.Counts.{opens};
 ghost use Rattle.profile_session.specs.Keeping.{is_idle};
 ghost use Rattle.profile_session.specs.Parts.{AreFit, AreLoadable, AreShown, CanLoad, Drains, Hears, IsHearable};
+ghost use Rattle.profile_session.specs.Parts.{IsSameRun};
 ghost use Rattle.profile_session.specs.Parts.{IsPoint, IsShowable, IsTellable, Pushes, Shows, Takes};
 ghost use Rattle.profile_session.specs.Parts.{kept_in, loaded_in, profile_in, revealed_in};
 ghost use Rattle.profile_session.specs.Turned.{is_telling};
@@ -42,7 +43,8 @@ impl Parts {
     pub fn show(&mut self) -> Result<(), NoMemory>
         requires fit { AreFit self.old }
         requires showable { IsShowable self.old }
-        ensures { OnOk result (Shows self.old self.new) }
+        ensures { MatchResult result (λ ok. Shows self.old self.new)
+            (λ e. IsSameRun self.old self.new) }
     {
         let changed = self.reveal.changed(self.alloc)?;
         let classes = changed.as_slice();
@@ -60,7 +62,8 @@ impl Parts {
     /// The buffer's events go to the tree.
     pub fn drain(&mut self) -> Result<(), NoMemory>
         requires fit { AreFit self.old }
-        ensures { OnOk result (Drains self.old self.new) }
+        ensures { MatchResult result (λ ok. Drains self.old self.new)
+            (λ e. IsSameRun self.old self.new) }
     {
         while let Some(event) = self.buffer.pop() {
             self.tree.take(&event)?;
@@ -72,7 +75,8 @@ impl Parts {
     fn push_behind(&mut self, event: Event) -> Result<(), NoMemory>
         requires fit { AreFit self.old }
         requires now { event.clock ≡ self.old.vm.clock }
-        ensures { OnOk result (Pushes self.old event self.new) }
+        ensures { MatchResult result (λ ok. Pushes self.old event self.new)
+            (λ e. IsSameRun self.old self.new) }
     {
         self.drain()?;
         match self.buffer.push(event) {
@@ -86,7 +90,8 @@ impl Parts {
     fn push(&mut self, event: Event) -> Result<(), NoMemory>
         requires fit { AreFit self.old }
         requires now { event.clock ≡ self.old.vm.clock }
-        ensures { OnOk result (Pushes self.old event self.new) }
+        ensures { MatchResult result (λ ok. Pushes self.old event self.new)
+            (λ e. IsSameRun self.old self.new) }
     {
         match self.buffer.push(event) {
             Ok(()) => Ok(()),
@@ -98,7 +103,8 @@ impl Parts {
     fn take(&mut self, event: Event) -> Result<bool, NoMemory>
         requires fit { AreFit self.old }
         requires tellable { IsTellable self.old event }
-        ensures takes { OnOk result (Takes self.old event self.new) }
+        ensures takes { MatchResult result (λ opening. Takes self.old event self.new)
+            (λ e. IsSameRun self.old self.new) }
         ensures opens { IfOk result (λ b. b ≡ opens (profile_in self.old).open event.kind) }
     {
         let opening = is_opening(event.kind, self.depth);
@@ -114,7 +120,7 @@ impl Parts {
         requires shown { AreShown self.old }
         requires loadable { CanLoad self.old }
         ensures { let now = with_loaded (loaded_in self.old) (revealed_in self.old) in
-            OnOk result (IsPoint self.old now self.new) }
+            MatchResult result (λ ok. IsPoint self.old now self.new) (λ e. IsSameRun self.old self.new) }
     {
         self.reveal.loaded(self.alloc, self.vm.linker())?;
         self.show()?;
@@ -126,7 +132,8 @@ impl Parts {
         requires fit { AreFit self.old }
         requires shown { AreShown self.old }
         requires loadable { AreLoadable self.old classes.now }
-        ensures { OnOk result (Hears self.old (Turn.Loaded classes.now) self.new) }
+        ensures { MatchResult result (λ ok. Hears self.old (Turn.Loaded classes.now) self.new)
+            (λ e. IsSameRun self.old self.new) }
     {
         let _count = classes.len();
         self.load()?;
@@ -140,7 +147,7 @@ impl Parts {
         requires loaded { self.old.reveal.lineage.loaded ≡ loaded_in self.old }
         requires class { has_class self.old.vm.program self.old.reveal.lineage.loaded method ≡ true }
         ensures { let now = with_method_entered method (revealed_in self.old) in
-            OnOk result (IsPoint self.old now self.new) }
+            MatchResult result (λ ok. IsPoint self.old now self.new) (λ e. IsSameRun self.old self.new) }
     {
         self.reveal.entered(self.alloc, self.vm.linker(), method)?;
         self.show()?;
@@ -152,7 +159,7 @@ impl Parts {
         requires fit { AreFit self.old }
         requires shown { AreShown self.old }
         ensures { let now = with_none_entered (revealed_in self.old) in
-            OnOk result (IsPoint self.old now self.new) }
+            MatchResult result (λ ok. IsPoint self.old now self.new) (λ e. IsSameRun self.old self.new) }
     {
         self.reveal.quiet()?;
         self.show()?;
@@ -171,7 +178,8 @@ impl Parts {
     fn end(&mut self) -> Result<(), NoMemory>
         requires fit { AreFit self.old }
         requires shown { AreShown self.old }
-        ensures { OnOk result (Hears self.old Turn.Settled self.new) }
+        ensures { MatchResult result (λ ok. Hears self.old Turn.Settled self.new)
+            (λ e. IsSameRun self.old self.new) }
     {
         if !self.is_idle() {
             return Ok(());
@@ -185,7 +193,8 @@ impl Parts {
         requires fit { AreFit self.old }
         requires shown { AreShown self.old }
         requires tellable { IsTellable self.old event }
-        ensures { OnOk result (Hears self.old (Turn.Probe event) self.new) }
+        ensures { MatchResult result (λ ok. Hears self.old (Turn.Probe event) self.new)
+            (λ e. IsSameRun self.old self.new) }
     {
         if !self.take(event)? {
             return Ok(());
@@ -198,7 +207,8 @@ impl Parts {
     pub fn hear(&mut self, turn: &Turn) -> Result<(), NoMemory>
         requires telling { is_telling turn.now ≡ true }
         requires hearable { IsHearable self.old turn.now }
-        ensures { OnOk result (Hears self.old turn.now self.new) }
+        ensures { MatchResult result (λ ok. Hears self.old turn.now self.new)
+            (λ e. IsSameRun self.old self.new) }
     {
         match turn {
             Turn::Loaded(classes) => self.load_classes(classes),

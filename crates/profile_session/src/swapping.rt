@@ -1,10 +1,11 @@
 //! The classes whose marks have changed are swapped.
 
-ghost use Rattle.std.specs.Prelude.{◌≡◌, ◌≤◌, ◌<◌, false, length, map, IfOk, OnOk};
+ghost use Rattle.std.specs.Prelude.{◌≡◌, ◌≤◌, ◌<◌, false, length, map, IfOk, MatchResult};
 ghost use Rattle.std.specs.List.{range_with_len};
 ghost use Rattle.jvm_model.specs.Swaps.{first_number};
 ghost use Rattle.inject_events.specs.Answers.{MarkedHaveCode};
 ghost use Rattle.jvm_machine.specs.Installs.{with_class};
+ghost use Rattle.jvm_machine.specs.View.{world};
 ghost use Rattle.call_revelation.specs.Reveals.{IsRevelation, now_of};
 ghost use Rattle.profile_session.specs.Images.{AreImageable, class_in, marks_for};
 ghost use Rattle.profile_session.specs.Keeping.{swap_now};
@@ -135,7 +136,8 @@ fn swap_class(
     ensures swap { let p = vm.old.program in
         IfOk result (λ swap. swap ≡ swap_now p vm.old.clock (now_of reveal.now) class) }
     ensures vm { let marks = marks_for vm.old.program (now_of reveal.now) class in
-        OnOk result (vm.new ≡ with_class class marks vm.old) }
+        MatchResult result (λ swap. vm.new ≡ with_class class marks vm.old)
+            (λ e. world vm.new ≡ world vm.old) }
 {
     let clock = vm.clock();
     let made = make(alloc, reveal, vm.program(), class)?;
@@ -170,8 +172,9 @@ pub fn swap_all(
     requires revelation { IsRevelation vm.old.program reveal.now }
     requires known { AreKnown vm.old.program classes.now }
     requires imageable { AreImageable vm.old.program }
-    ensures { let now = now_of reveal.now in OnOk result
-        (HasSwapped vm.old.program now classes.now vm.old vm.new swaps.old swaps.new) }
+    ensures { let now = now_of reveal.now in MatchResult result
+        (λ ok. HasSwapped vm.old.program now classes.now vm.old vm.new swaps.old swaps.new)
+        (λ e. world vm.new ≡ world vm.old) }
 {
     for class in classes {
         let swap = swap_class(alloc, vm, reveal, *class)?;

@@ -2,7 +2,7 @@ use Rattle.std.proofs.Common.{◌≡◌, sym, ap, subst, ◌∙◌, refl}
 use Rattle.jvm_model.specs.declared.program.Program.{Program}
 use Rattle.call_revelation.specs.Reveals.{IsRevelation, now_of}
 use Rattle.profile_session.specs.Images.{AreImageable}
-use Rattle.profile_session.proofs.SwappedClasses.{swapping-done, swapping-first, swapping-next}
+use Rattle.profile_session.proofs.SwappedClasses.{known-at, swapping-done, swapping-first, swapping-next}
 use Rattle.profile_session.proofs.swapping.swap_all.Goals as goal
 
 pub loop-class-init : goal.loop-class-init
@@ -16,6 +16,10 @@ swap_class-requires-clause-revelation c = subst (λ (p : Program). IsRevelation 
 
 pub swap_class-requires-clause-imageable : goal.swap_class-requires-clause-imageable
 swap_class-requires-clause-imageable c = subst (λ (p : Program). AreImageable p) (sym c.loop-class.invariant.program) c.requires.imageable
+
+pub swap_class-requires-clause-known : goal.swap_class-requires-clause-known
+swap_class-requires-clause-known c =
+    known-at c.args.vm.now.program c.loop-class.vm.program c.loop-class.invariant.program c.args.classes.now c.loop-class.class-index _ c.requires.known c.loop-class-test.true refl
 
 pub loop-class-preserved : goal.loop-class-preserved
 loop-class-preserved c =
