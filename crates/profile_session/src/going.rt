@@ -73,9 +73,9 @@ impl Parts {
                 Turn::Settled => return Ok(false),
                 Turn::Ended => return Ok(true),
                 // A step tells the classes that it loads first, and there was memory.
-                Turn::Loaded(_) => return Err(NoMemory),
-                Turn::Broken => return Err(NoMemory),
-                Turn::NoMemory => return Err(NoMemory),
+                Turn::Loaded(_) => unreachable!(),
+                Turn::Broken => unreachable!(),
+                Turn::NoMemory => unreachable!(),
             }
         }
     }
@@ -96,8 +96,8 @@ impl Parts {
             Turn::Probe(_) => return self.finish(),
             Turn::Loaded(_) => return self.finish(),
             // There was memory.
-            Turn::Broken => return Err(NoMemory),
-            Turn::NoMemory => return Err(NoMemory),
+            Turn::Broken => unreachable!(),
+            Turn::NoMemory => unreachable!(),
         }
     }
 
