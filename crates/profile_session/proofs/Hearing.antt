@@ -1,6 +1,6 @@
 -- What a session does behind a turn is what the turn asks.
 use Rattle.std.proofs.Common.{◌≡◌, ℕ, ◌+◌, ◌≤◌, ◌<◌, Bool, true, false, List, [], ◌∷◌, ◌++◌, length, if◌then◌else◌, refl, sym, ap, ap₂, subst, ◌∙◌, arith}
-use Rattle.std.specs.Prelude.{fold}
+use Rattle.std.specs.Prelude.{fold, Result, Ok, Err, MatchResult}
 use Rattle.jvm_model.specs.declared.event.Event.{Event}
 use Rattle.jvm_model.specs.declared.event.EventKind.{EventKind}
 use Rattle.jvm_model.specs.declared.event.EventKind.TheVariants.{Root, Enter, Leave, Unwind}
@@ -98,6 +98,10 @@ hears-still x fit shown idle =
 
 pub hears-ended : (x new : Parts) → Hears x Settled new → Hears x Ended new
 hears-ended x new h = record { kept = h.kept; profile = h.profile; calls = h.calls; vm = h.vm; fit = h.fit; shown = h.shown; started = h.started; acts = h.acts }
+
+pub ended-by : {A E : Type 0} (r : Result A E) (Q : E → Type 0) (x new : Parts) → MatchResult r (λ a. Hears x Settled new) Q → MatchResult r (λ a. Hears x Ended new) Q
+ended-by (Ok a) Q x new h = hears-ended x new h
+ended-by (Err e) Q x new h = h
 
 -- ---- an event
 
