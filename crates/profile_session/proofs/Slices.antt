@@ -1,5 +1,5 @@
 -- Steps that tell nothing, slices, and as many steps as are asked for.
-use Rattle.std.proofs.Common.{◌≡◌, ℕ, zero, suc, ◌+◌, ◌-◌, ◌<◌, ◌≤◌, Bool, true, false, ◌&&◌, List, length, is_some, Result, Ok, Err, IfOk, if◌then◌else◌, refl, sym, ap, ap₂, subst, ◌∙◌, arith, add-one}
+use Rattle.std.proofs.Common.{◌≡◌, ℕ, zero, suc, ◌+◌, ◌-◌, ◌<◌, ◌≤◌, Bool, true, false, ◌&&◌, List, length, is_some, Result, Ok, Err, if◌then◌else◌, refl, sym, ap, ap₂, subst, ◌∙◌, arith, add-one}
 use Rattle.jvm_model.specs.declared.event.Event.{Event}
 use Rattle.jvm_model.specs.Revealed.{marks_of}
 use Rattle.jvm_model.specs.Whole.{IsWhole}
@@ -10,7 +10,8 @@ use Rattle.jvm_machine.specs.Turns.{Turns}
 use Rattle.jvm_machine.specs.View.{View, IsGoingOn, advanced, begun, has_ended, is_resting, world, events_left}
 use Rattle.profile_session.specs.declared.parts.Parts.{Parts}
 use Rattle.profile_session.specs.Advances.{After, Finished, Goes, Loads, Makes, Ran, Sliced, Stays, Tells}
-use Rattle.profile_session.specs.Parts.{AreFit, AreOf, Hears, IsBusy, IsHearable, IsProfiling, Rests, kept_in, profile_in, revealed_in}
+use Rattle.std.specs.Prelude.{MatchResult}
+use Rattle.profile_session.specs.Parts.{AreFit, AreOf, Hears, IsBusy, IsHearable, IsProfiling, IsSameRun, Rests, kept_in, profile_in, revealed_in}
 use Rattle.profile_session.specs.Standing.{AtRest, next_step, rests, within}
 use Rattle.profile_session.specs.Turned.{is_telling}
 use Rattle.profile_session.proofs.Advancing.{after, clock-rises, fits, hearable, same-world, still-of}
@@ -191,9 +192,9 @@ sliced-below x mid most turn r g below =
     omega (arith, at, up, high, below)
 
 pub sliced-finish : {E : Type 0} (x mid new : Parts) (most : ℕ) (turn : Turn) (result : Result Bool E) (r : Ran x most turn mid) → Goes r.between mid
-    → IfOk result (λ ended. Finished mid ended new) → IfOk result (λ ended. Sliced x most ended new)
+    → MatchResult result (λ ended. Finished mid ended new) (λ e. IsSameRun mid new) → MatchResult result (λ ended. Sliced x most ended new) (λ e. IsSameRun x new)
 sliced-finish x mid new most turn (Ok ended) r g f = sliced-on x mid new most turn ended r g f
-sliced-finish x mid new most turn (Err e) r g f = f
+sliced-finish x mid new most turn (Err e) r g f = f ∙ (g.stays.world_is ∙ r.stays.world_is)
 
 -- ---- many slices
 

@@ -1,5 +1,6 @@
-use Rattle.std.proofs.Common.{sym}
+use Rattle.std.proofs.Common.{sym, ◌∙◌}
 use Rattle.profile_session.proofs.Slices.{turn-after, turn-hearable}
+use Rattle.profile_session.proofs.Worlds.{turn-world}
 use Rattle.profile_session.proofs.parts.Parts.turn.Goals as goal
 
 pub hear-requires-clause-hearable : goal.hear-requires-clause-hearable
