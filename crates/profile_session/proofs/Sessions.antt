@@ -34,7 +34,7 @@ use Rattle.profile_session.specs.declared.swap.Swap.{Swap}
 use Rattle.profile_session.specs.declared.answer.ActError.{ActError}
 use Rattle.profile_session.specs.declared.answer.ActError.TheVariants as act
 use Rattle.profile_session.specs.Advances.{Makes}
-use Rattle.profile_session.specs.Answers.{Accepts, Advances, Gathers, Onward, RefusesAct, refusal_of, run_by}
+use Rattle.profile_session.specs.Answers.{Accepts, Advances, Gathers, LendsNoTree, Onward, RefusesAct, RefusesTree, refusal_of, run_by}
 use Rattle.profile_session.specs.Keeping.{Kept, at_point, first_kept, kept_act, kept_before, kept_by-zero, mark_seen, marks_seen, revealed}
 use Rattle.profile_session.specs.Parts.{Acts, AreFit, AreOf, Brings, IsProfiling, calls_in, kept_in, loaded_in, profile_in, revealed_in, seen_by}
 use Rattle.profile_session.specs.Sessions.{AreSwapsOf, Holds, IsTreeOf, Profiling, Stands, ending_in, entries_of, is_over, is_selected_in, mark_in_session, profiling_in, run_of, standing_of, step_of, swaps_of, with_act, world_of}
@@ -164,6 +164,17 @@ gathers x new b g whole brings = record {
   whole = whole;
   same = brought-same x new false true brings ∙ ap (λ b. profiling_in b true x) (sym whole);
 }
+
+-- what is lent is of the session before it was gathered
+pub shown-before : (v : Profiling) (b : Bool) (t : Profile) → (let q : Profiling = record v { gathered = b } in IsTreeOf q t) → IsTreeOf v t
+shown-before v b t is = record { early = is.early; tree = is.tree }
+
+pub lends-none : (old new : Profiling) (e : ActError) → RefusesTree old e new → LendsNoTree old e
+lends-none old new act.Broken r = r.broken
+lends-none old new act.NoMemory r = r.whole
+lends-none old new act.AlreadySelected r = r
+lends-none old new act.NotSelected r = r
+lends-none old new act.Ended r = r
 
 -- ---- an action
 
