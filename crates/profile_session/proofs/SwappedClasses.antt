@@ -217,17 +217,22 @@ changed-shown p shown before now is =
     filter-same (differs_from p shown now) (differs p (operations_of p) (stand_of before) (stand_of now)) (differs-shown p shown before now is) now.loaded
 
 -- a class that has changed is one of the program
-pair-with : (test : Place → Bool) (n : ℕ) (l : List MethodPlace) → list_any test (enumerate_from n l) ≡ true
-    → (i : ℕ) × (x : MethodPlace) × (slice_get l i ≡ Some x) × (test (n + i, x) ≡ true)
+record IsPair (test : Place → Bool) (n : ℕ) (l : List MethodPlace) : Type 0 where
+  at : ℕ
+  place : MethodPlace
+  found : slice_get l at ≡ Some place
+  holds : test (n + at, place) ≡ true
+
+pair-with : (test : Place → Bool) (n : ℕ) (l : List MethodPlace) → list_any test (enumerate_from n l) ≡ true → IsPair test n l
 pair-with test n [] is = absurd (let h : false ≡ true = is in cc)
-pair-with test n (x ∷ l) is = by (test (n, x)) refl is where
-  by : (b : Bool) → test (n, x) ≡ b → (b || list_any test (enumerate_from (n + 1) l)) ≡ true
-      → (i : ℕ) × (y : MethodPlace) × (slice_get (x ∷ l) i ≡ Some y) × (test (n + i, y) ≡ true)
-  by true e is = let q : n ≡ n + 0 = omega arith in (0, x, refl, ap (λ (k : ℕ). test (k, x)) (sym q) ∙ e)
-  by false e is =
-      let there = pair-with test (n + 1) l is in
-      let q : n + 1 + there.0 ≡ n + suc there.0 = omega arith in
-      (suc there.0, there.1.0, there.1.1.0, ap (λ (k : ℕ). test (k, there.1.0)) (sym q) ∙ there.1.1.1)
+pair-with test n (x ∷ l) is = by (test (n, x)) refl (pair-with test (n + 1) l) is where
+  by : (b : Bool) → test (n, x) ≡ b → (list_any test (enumerate_from (n + 1) l) ≡ true → IsPair test (n + 1) l) → (b || list_any test (enumerate_from (n + 1) l)) ≡ true
+      → IsPair test n (x ∷ l)
+  by true e later is = let q : n + 0 ≡ n = omega arith in record { at = 0; place = x; found = refl; holds = ap (λ (k : ℕ). test (k, x)) q ∙ e }
+  by false e later is =
+      let there = later is in
+      let q : n + suc there.at ≡ n + 1 + there.at = omega arith in
+      record { at = suc there.at; place = there.place; found = there.found; holds = ap (λ (k : ℕ). test (k, there.place)) q ∙ there.holds }
 
 filter-all : (test : ℕ → Bool) (P : ℕ → Type 0) → ((n : ℕ) → test n ≡ true → P n) → (l : List ℕ) → AllByRecursion P (filter test l)
 filter-all test P each [] = tt
@@ -240,9 +245,9 @@ pub changed-known : (p : Program) → p.methods ≡ numbered p.classes → (show
 changed-known p are shown now =
     filter-all (differs_from p shown now) (λ class. class < length p.classes) (λ class differs.
     let there = pair-with (λ (e : Place). e.1.class == class && not (same_mark (mark_at shown e.0) (mark_of p now e.0))) 0 p.methods differs in
-    let parts = and_parts (there.1.0.class == class) (not (same_mark (mark_at shown (0 + there.0)) (mark_of p now (0 + there.0)))) there.1.1.1 in
-    let is = class-of p are there.0 there.1.0 there.1.1.0 in
-    subst (λ c. c < length p.classes) (eqb-true there.1.0.class class parts.0) (slice_get_within p.classes there.1.0.class is.class is.found)) now.loaded
+    let parts = and_parts (there.place.class == class) (not (same_mark (mark_at shown (0 + there.at)) (mark_of p now (0 + there.at)))) there.holds in
+    let is = class-of p are there.at there.place there.found in
+    subst (λ c. c < length p.classes) (eqb-true there.place.class class parts.0) (slice_get_within p.classes there.place.class is.class is.found)) now.loaded
 
 known-in : (p : Program) (classes : List ℕ) (i : ℕ) → AreKnown p classes → i < length classes → get_or classes i 0 < length p.classes
 known-in p [] i all less = absurd (omega (arith, less))

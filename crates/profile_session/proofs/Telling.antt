@@ -21,11 +21,11 @@ use Rattle.profile_session.specs.Parts.{AreFit, Drains, IsTellable, Pushes, Take
 use Rattle.profile_session.proofs.Hearing.{open-taken}
 use Rattle.profile_session.proofs.Steps.{order-push}
 
-fold-both : (a b : List Event) (p : Profile) → fold taken p (a ++ b) ≡ fold taken (fold taken p a) b
+pub fold-both : (a b : List Event) (p : Profile) → fold taken p (a ++ b) ≡ fold taken (fold taken p a) b
 fold-both [] b p = refl
 fold-both (e ∷ a) b p = fold-both a b (taken p e)
 
-taken-clock : (p : Profile) (e : Event) → (taken p e).clock ≡ e.clock
+pub taken-clock : (p : Profile) (e : Event) → (taken p e).clock ≡ e.clock
 taken-clock p e = by e.kind where
   either : (b : Bool) → (let q : Profile = if b then credited e.clock p else opened e.method (credited e.clock p) in q).clock ≡ e.clock
   either true = refl

@@ -1,8 +1,8 @@
 use Rattle.std.proofs.Common.{arith, sym, ap, subst, ◌∙◌}
-use Rattle.std.specs.Result.{OnOk}
+use Rattle.std.specs.Result.{MatchResult}
 use Rattle.event_buffer.specs.Buffers.{Held}
 use Rattle.profile_session.specs.declared.parts.Parts.{Parts}
-use Rattle.profile_session.specs.Parts.{AreFit, Pushes}
+use Rattle.profile_session.specs.Parts.{AreFit, IsSameRun, Pushes}
 use Rattle.profile_session.proofs.Telling.{pushed-first}
 use Rattle.profile_session.proofs.parts.Parts.push.Goals as goal
 
@@ -20,4 +20,5 @@ push_behind-requires-clause-fit c = subst (λ (b : Held). AreFit (record c.args.
 
 pub returns-in-Err : goal.returns-in-Err
 returns-in-Err c =
-    subst (λ (b : Held). OnOk c.push_behind.result (Pushes (record c.args.self.now { buffer = b }) c.args.event c.push_behind.new.self)) c.in-Err.ensures.err c.push_behind.ensures
+    subst (λ (b : Held). MatchResult c.push_behind.result (λ ok. Pushes (record c.args.self.now { buffer = b }) c.args.event c.push_behind.new.self)
+    (λ e. IsSameRun (record c.args.self.now { buffer = b }) c.push_behind.new.self)) c.in-Err.ensures.err c.push_behind.ensures

@@ -11,5 +11,5 @@ push-requires c =
     let now = c.requires.now in
     record { later = omega (arith, last, clock, now) }
 
-pub returns-in-Ok : goal.returns-in-Ok
-returns-in-Ok c = pushed-behind c.args.self.now c.drain.new.self c.args.event c.push.new.self c.in_ok-drain.ensures c.requires.now c.in-Ok.ensures.ok c.in-Ok.ensures.clock
+pub returns : goal.returns
+returns c = pushed-behind c.args.self.now c.drain.new.self c.args.event c.push.new.self c.in_ok-drain.ensures c.requires.now c.in-Ok.ensures.ok c.in-Ok.ensures.clock
