@@ -32,6 +32,7 @@ use Rattle.profile_session.specs.Parts.{AreFit, AreLoadable, AreOf, AreShown, He
 use Rattle.profile_session.specs.Standing.{AtRest, InStep, Stands, next_step, rests, within}
 use Rattle.profile_session.specs.Turned.{events_in, is_telling, kept_turned}
 use Rattle.profile_session.proofs.Hearing.{open-taken}
+use Rattle.profile_session.proofs.OpenPaths.{path-entry}
 use Rattle.profile_session.proofs.Passing.{passes}
 use Rattle.profile_session.proofs.Steps.{order-later, order-push}
 use Rattle.profile_session.proofs.Telling.{fold-both, taken-clock}

@@ -16,8 +16,8 @@ pub loop-preserved : goal.loop-preserved
 loop-preserved c =
     goes-along c.args.self.now c.loop.self c.turn.new.self c.loop.invariant (subst (λ t. After c.loop.self t c.turn.new.self) c.in-Probe.is c.in_ok-turn.ensures).goes
 
-pub loop-decreases : goal.loop-decreases
-loop-decreases c =
+pub loop-smaller : goal.loop-smaller
+loop-smaller c =
     goes-down c.args.self.now c.loop.self c.turn.new.self c.loop.invariant (subst (λ t. After c.loop.self t c.turn.new.self) c.in-Probe.is c.in_ok-turn.ensures)
 
 pub returns-in-Settled : goal.returns-in-Settled
