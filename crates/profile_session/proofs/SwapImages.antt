@@ -25,6 +25,7 @@ use Rattle.profile_session.specs.Keeping.{swap_of}
 use Rattle.profile_session.specs.Sessions.{AreSwapsOf, IsSwapOf}
 use Rattle.profile_session.proofs.Imaging.{all-at, marks-coded, marks-count}
 use Rattle.profile_session.proofs.MethodPlaces.{class-of}
+use Rattle.profile_session.proofs.SwappedClasses.{pair-with}
 
 -- an entry is of a class of the program, with the marks of something revealed
 record IsEntry (p : Program) (e : Swapped) : Type 0 where
@@ -65,23 +66,14 @@ module _ (p : Program) (is : AreImageable p) where
 
   -- ---- each entry is one
 
-  any-found : (test : ℕ × MethodPlace → Bool) (n : ℕ) (l : List MethodPlace) → list_any test (enumerate_from n l) ≡ true
-      → (i : ℕ) × (x : MethodPlace) × (slice_get l i ≡ Some x) × (test (n + i, x) ≡ true)
-  any-found test n [] any = absurd (let h : false ≡ true = any in cc)
-  any-found test n (x ∷ l) any = by (test (n, x)) refl any where
-    by : (b : Bool) → test (n, x) ≡ b → (b || list_any test (enumerate_from (n + 1) l)) ≡ true
-        → (i : ℕ) × (y : MethodPlace) × (slice_get (x ∷ l) i ≡ Some y) × (test (n + i, y) ≡ true)
-    by true e any = (0, x, refl, (let q : n + 0 ≡ n = omega arith in ap (λ k. test (k, x)) q ∙ e))
-    by false e any =
-        let rest = any-found test (n + 1) l any in
-        (suc rest.0, rest.1, rest.2, (let q : n + suc rest.0 ≡ n + 1 + rest.0 = omega arith in ap (λ k. test (k, rest.1)) q ∙ rest.3))
-
   class-found : (before now : Standing) (class : ℕ) → differs p (operations_of p) before now class ≡ true → (c : ClassFile) × (class_at p class ≡ Some c)
   class-found before now class other =
-      let found = any-found (λ (e : ℕ × MethodPlace). e.1.class == class && not (same_mark (mark_in p (operations_of p) before e.0) (mark_in p (operations_of p) now e.0))) 0 p.methods other in
-      let at : found.1.class ≡ class =
-      eqb-true found.1.class class (and_parts (found.1.class == class) (not (same_mark (mark_in p (operations_of p) before (0 + found.0)) (mark_in p (operations_of p) now (0 + found.0)))) found.3).0 in
-      let there = class-of p is.numbered_are found.0 found.1 found.2 in
+      let test : ℕ × MethodPlace → Bool =
+      λ (e : ℕ × MethodPlace). e.1.class == class && not (same_mark (mark_in p (operations_of p) before e.0) (mark_in p (operations_of p) now e.0)) in
+      let found = pair-with test 0 p.methods other in
+      let parts = and_parts (found.place.class == class) (not (same_mark (mark_in p (operations_of p) before (0 + found.at)) (mark_in p (operations_of p) now (0 + found.at)))) found.holds in
+      let at : found.place.class ≡ class = eqb-true found.place.class class parts.0 in
+      let there = class-of p is.numbered_are found.at found.place found.found in
       (there.class, ap (class_at p) (sym at) ∙ there.found)
 
   at-point : (before : Standing) (now : Point) (classes : List ℕ)

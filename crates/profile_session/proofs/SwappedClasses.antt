@@ -217,13 +217,13 @@ changed-shown p shown before now is =
     filter-same (differs_from p shown now) (differs p (operations_of p) (stand_of before) (stand_of now)) (differs-shown p shown before now is) now.loaded
 
 -- a class that has changed is one of the program
-record IsPair (test : Place → Bool) (n : ℕ) (l : List MethodPlace) : Type 0 where
-  at : ℕ
-  place : MethodPlace
-  found : slice_get l at ≡ Some place
-  holds : test (n + at, place) ≡ true
+pub record IsPair (test : Place → Bool) (n : ℕ) (l : List MethodPlace) : Type 0 where
+  pub at : ℕ
+  pub place : MethodPlace
+  pub found : slice_get l at ≡ Some place
+  pub holds : test (n + at, place) ≡ true
 
-pair-with : (test : Place → Bool) (n : ℕ) (l : List MethodPlace) → list_any test (enumerate_from n l) ≡ true → IsPair test n l
+pub pair-with : (test : Place → Bool) (n : ℕ) (l : List MethodPlace) → list_any test (enumerate_from n l) ≡ true → IsPair test n l
 pair-with test n [] is = absurd (let h : false ≡ true = is in cc)
 pair-with test n (x ∷ l) is = by (test (n, x)) refl (pair-with test (n + 1) l) is where
   by : (b : Bool) → test (n, x) ≡ b → (list_any test (enumerate_from (n + 1) l) ≡ true → IsPair test (n + 1) l) → (b || list_any test (enumerate_from (n + 1) l)) ≡ true
