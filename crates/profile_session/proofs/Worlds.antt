@@ -1,0 +1,35 @@
+-- No turn of a machine changes its program or its input.
+use Rattle.std.proofs.Common.{◌≡◌, ℕ, Bool, true, false, ◌&&◌, if◌then◌else◌, refl, ap, ◌∙◌}
+use Rattle.jvm_model.specs.Data.{World}
+use Rattle.jvm_machine.specs.declared.turn.Turn.{Turn}
+use Rattle.jvm_machine.specs.declared.turn.Turn.TheVariants.{Settled, Loaded, Probe, Ended, Broken, NoMemory}
+use Rattle.jvm_machine.specs.Several.{Passes, RunsOn, none, more}
+use Rattle.jvm_machine.specs.Turns.{Turns, after_last}
+use Rattle.jvm_machine.specs.View.{View, advanced, begun, has_ended, is_resting, rested, world}
+
+begun-world : (v : View) → world (begun v) ≡ world v
+begun-world v = by (is_resting v) where
+  by : (b : Bool) → world (let y : View = if b then advanced v else v in y) ≡ world v
+  by true = refl
+  by false = refl
+
+last-world : (v : View) → world (after_last v) ≡ world v
+last-world v = by (is_resting v && has_ended v) where
+  by : (b : Bool) → world (let y : View = if b then v else rested (begun v) in y) ≡ world v
+  by true = refl
+  by false = begun-world v
+
+pub turn-world : (old new : View) (turn : Turn) → Turns old turn new → world new ≡ world old
+turn-world old new Settled t = ap world t.stepped ∙ begun-world old
+turn-world old new (Loaded classes) t = ap world t.stepped ∙ begun-world old
+turn-world old new (Probe event) t = ap world t.stepped ∙ begun-world old
+turn-world old new Ended t = ap world t.stepped ∙ last-world old
+turn-world old new Broken t = ap world t.same
+turn-world old new NoMemory t = ap world t.stepped ∙ begun-world old
+
+passes-world : (old : View) (n : ℕ) (new : View) → Passes old n new → world new ≡ world old
+passes-world old _ _ none = refl
+passes-world old _ _ (more n mid new before t) = ap world t.stepped ∙ (begun-world mid ∙ passes-world old n mid before)
+
+pub run-world : (old new : View) (most : ℕ) (turn : Turn) → RunsOn old most turn new → world new ≡ world old
+run-world old new most turn r = turn-world r.between new turn r.last ∙ passes-world old r.steps r.between r.passes

@@ -1,0 +1,12 @@
+use Rattle.std.proofs.Common.{sym, ◌∙◌}
+use Rattle.profile_session.proofs.Slices.{turn-after, turn-hearable}
+use Rattle.profile_session.proofs.Worlds.{turn-world}
+use Rattle.profile_session.proofs.parts.Parts.turn.Goals as goal
+
+pub hear-requires-clause-hearable : goal.hear-requires-clause-hearable
+hear-requires-clause-hearable c =
+    turn-hearable c.args.self.now c.step-turn.new.self c.step-turn.result c.requires.busy c.step-turn.ensures (sym c.if-not-is_telling.ensures) c.requires.below
+
+pub returns : goal.returns
+returns c =
+    turn-after c.args.self.now c.hear.new.self c.step-turn.new.self c.step-turn.result c.requires.busy c.step-turn.ensures (sym c.if-not-is_telling.ensures) c.in_ok-hear.ensures

@@ -1,0 +1,74 @@
+-- How a session's parts go on with turns and steps.
+use Rattle.std.specs.Prelude.{◌≡◌, ℕ, suc, ◌+◌, ◌≤◌, ◌<◌, Bool, true, false, length}
+use Rattle.jvm_machine.specs.declared.turn.Turn.{Turn}
+use Rattle.jvm_machine.specs.declared.turn.Turn.TheVariants.{Settled, Loaded, Probe, Ended, Broken, NoMemory}
+use Rattle.jvm_machine.specs.View.{begun, has_ended, is_resting, world, events_left}
+use Rattle.profile_session.specs.declared.parts.Parts.{Parts}
+use Rattle.profile_session.specs.Parts.{IsBusy, Rests}
+use Rattle.profile_session.specs.Standing.{next_step}
+
+pub record Stays (old new : Parts) : Type 0 where
+  pub world_is : world new.vm ≡ world old.vm
+  pub acts : new.acts ≡ old.acts
+  pub started : new.started ≡ old.started
+
+-- the step is done
+pub record Finished (old : Parts) (ended : Bool) (new : Parts) : Type 0 where
+  pub stays : Stays old new
+  pub rests : Rests new
+  pub ended_is : has_ended new.vm ≡ ended
+  pub clock : new.vm.clock ≡ (begun old.vm).clock
+  pub started : new.vm.started ≡ true
+
+-- it goes on
+pub record Goes (old new : Parts) : Type 0 where
+  pub stays : Stays old new
+  pub busy : IsBusy new
+  pub clock : new.vm.clock ≡ (begun old.vm).clock
+
+-- with one event less that is left
+pub record Tells (old new : Parts) : Type 0 where
+  pub goes : Goes old new
+  pub fewer : suc (length (events_left new.vm)) ≡ length (events_left (begun old.vm))
+
+-- classes are told first
+pub record Loads (old new : Parts) : Type 0 where
+  pub goes : Goes old new
+  pub first : is_resting old.vm ≡ true
+
+abbrev pub After : Parts → Turn → Parts → Type 0
+After old Settled new = Finished old false new
+After old Ended new = Finished old true new
+After old (Loaded classes) new = Loads old new
+After old (Probe e) new = Tells old new
+After old Broken new = ⊥
+After old NoMemory new = ⊥
+
+-- steps that tell nothing, and one turn more
+pub record Ran (old : Parts) (most : ℕ) (turn : Turn) (new : Parts) : Type 0 where
+  pub between : Parts
+  pub rests : Rests between
+  pub stays : Stays old between
+  pub low : next_step old.vm ≤ next_step between.vm
+  pub high : next_step between.vm < next_step old.vm + most
+  pub last : After between turn new
+
+-- one step or several, no more than this
+pub record Sliced (old : Parts) (most : ℕ) (ended : Bool) (new : Parts) : Type 0 where
+  pub stays : Stays old new
+  pub rests : Rests new
+  pub ended_is : has_ended new.vm ≡ ended
+  pub started : new.vm.started ≡ true
+  pub low : next_step old.vm ≤ new.vm.clock
+  pub high : new.vm.clock < next_step old.vm + most
+
+pub record Makes (old : Parts) (steps : ℕ) (ended : Bool) (new : Parts) : Type 0 where
+  pub rests : Rests new
+  pub world_is : world new.vm ≡ world old.vm
+  pub acts : new.acts ≡ old.acts
+  pub ended_is : has_ended new.vm ≡ ended
+  pub flag : new.started ≡ true
+  pub started : new.vm.started ≡ true
+  pub clock : ended ≡ false → new.vm.clock ≡ old.vm.clock + steps
+  pub later : old.vm.clock ≤ new.vm.clock
+  pub within : new.vm.clock ≤ old.vm.clock + steps

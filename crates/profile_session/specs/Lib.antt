@@ -1,0 +1,10 @@
+pub mod Images
+pub mod Keeping
+pub mod Standing
+pub mod Turned
+pub mod Parts
+pub mod Swapping
+pub mod Advances
+pub mod Beginning
+pub mod Sessions
+pub mod Answers
