@@ -1,14 +1,12 @@
 pub mod Accepted
 pub mod Outputs
-pub mod Telling
-pub mod Selected
-pub mod Steps
-pub mod Onward
+pub mod ActionLemmas
 pub mod Underway
 pub mod Pairs
 pub mod ToldFiles
 pub mod ToldPlans
 pub mod Spelled
+pub mod Admitted
 pub mod OneCommand
 pub mod Complete
 pub mod Early
