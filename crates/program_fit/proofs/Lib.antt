@@ -1,0 +1,4 @@
+mod Loads
+mod LoadedInOrder
+mod ShortCodes
+pub mod Runs
