@@ -47,7 +47,7 @@ sipush_at p ys number n lt len =
     stands_to (p ++ (17 ∷ (u2 number ++ ys))) n (instr_with n false 17 (arg.Value (cast_signed w16 number)))
     (record { front = p; text = 17 ∷ u2 number; rest = ys; parts = refl; place = len; spelled = instr_of_operand n false 17 (u2 number) (arg.Value (cast_signed w16 number)) refl operand })
 
-invokestatic_at : (p ys : List ℕ) (index n : ℕ) → index < 2 ^ 16 → length p ≡ n
+pub invokestatic_at : (p ys : List ℕ) (index n : ℕ) → index < 2 ^ 16 → length p ≡ n
     → instruction_at (p ++ (184 ∷ (u2 index ++ ys))) n ≡ Some (instr_with n false 184 (arg.Pool index))
 unfolding row_of groups
 invokestatic_at p ys index n lt len =
