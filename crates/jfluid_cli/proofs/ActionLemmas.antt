@@ -19,7 +19,7 @@ all-of : {A : Type 0} (P : A → Type 0) (xs : List A) → ((x : A) → P x) →
 all-of P [] each = tt
 all-of P (x ∷ xs) each = (each x, all-of P xs each)
 
-all-weaken : {A : Type 0} (P Q : A → Type 0) (xs : List A) → ((x : A) → P x → Q x) → AllByRecursion P xs
+pub all-weaken : {A : Type 0} (P Q : A → Type 0) (xs : List A) → ((x : A) → P x → Q x) → AllByRecursion P xs
     → AllByRecursion Q xs
 all-weaken P Q [] f all = tt
 all-weaken P Q (x ∷ xs) f all = (f x all.0, all-weaken P Q xs f all.1)
@@ -29,19 +29,19 @@ all-both : {A : Type 0} (P Q R : A → Type 0) (xs : List A) → ((x : A) → P 
 all-both P Q R [] f left right = tt
 all-both P Q R (x ∷ xs) f left right = (f x left.0 right.0, all-both P Q R xs f left.1 right.1)
 
-keeps-all : {A : Type 0} (p : A → Bool) (xs : List A) → AllByRecursion (λ x. p x ≡ true) xs → filter p xs ≡ xs
+pub keeps-all : {A : Type 0} (p : A → Bool) (xs : List A) → AllByRecursion (λ x. p x ≡ true) xs → filter p xs ≡ xs
 keeps-all p [] all = refl
-keeps-all p (x ∷ xs) all = by (p x) all.0 where
-  by : (b : Bool) → b ≡ true → cond b (x ∷ filter p xs) (filter p xs) ≡ x ∷ xs
-  by true e = ap (λ ys. x ∷ ys) (keeps-all p xs all.1)
-  by false e = absurd cc
+keeps-all p (x ∷ xs) all = by (p x) all.0 (keeps-all p xs all.1) where
+  by : (b : Bool) → b ≡ true → filter p xs ≡ xs → cond b (x ∷ filter p xs) (filter p xs) ≡ x ∷ xs
+  by true e rest = ap (λ ys. x ∷ ys) rest
+  by false e rest = absurd cc
 
-keeps-none : {A : Type 0} (p : A → Bool) (xs : List A) → AllByRecursion (λ x. p x ≡ false) xs → filter p xs ≡ []
+pub keeps-none : {A : Type 0} (p : A → Bool) (xs : List A) → AllByRecursion (λ x. p x ≡ false) xs → filter p xs ≡ []
 keeps-none p [] all = refl
-keeps-none p (x ∷ xs) all = by (p x) all.0 where
-  by : (b : Bool) → b ≡ false → cond b (x ∷ filter p xs) (filter p xs) ≡ []
-  by false e = keeps-none p xs all.1
-  by true e = absurd cc
+keeps-none p (x ∷ xs) all = by (p x) all.0 (keeps-none p xs all.1) where
+  by : (b : Bool) → b ≡ false → filter p xs ≡ [] → cond b (x ∷ filter p xs) (filter p xs) ≡ []
+  by false e rest = rest
+  by true e rest = absurd cc
 
 -- the front is what a test keeps
 front-kept : {A : Type 0} (p : A → Bool) (n : ℕ) (xs : List A) → AllByRecursion (λ x. p x ≡ true) (take n xs)
@@ -75,10 +75,10 @@ all-first P n xs x there all = subst (AllByRecursion P) (drop-at n xs x there) a
 
 -- ---- moments
 
-abbrev IsFrom : ℕ → Act → Type 0
+abbrev pub IsFrom : ℕ → Act → Type 0
 IsFrom k a = k ≤ a.moment
 
-rise : (least k : ℕ) (acts : List Act) → AreFrom least acts → k ≤ least → AllByRecursion (IsFrom k) acts
+pub rise : (least k : ℕ) (acts : List Act) → AreFrom least acts → k ≤ least → AllByRecursion (IsFrom k) acts
 rise least k [] from le = tt
 rise least k (a ∷ more) from le =
     let first : least ≤ a.moment = from.0 in
@@ -138,7 +138,7 @@ one-more now at act along due =
     record {
       within = (let less = slice_get_within acts at act due.there in omega (arith, less));
       acts = ap (λ (a : Act). now.acts ++ a ∷ []) is
-          ∙ (ap (λ (as : List Act). as ++ act ∷ []) along.acts ∙ sym (take-at at acts act due.there));
+          ∙ (ap (λ (list : List Act). list ++ act ∷ []) along.acts ∙ sym (take-at at acts act due.there));
       taken = subst (AllByRecursion (λ (a : Act). a.moment ≤ now.clock)) (sym (take-at at acts act due.there))
           (all-push (λ (a : Act). a.moment ≤ now.clock) (take at acts) act along.taken
           (let e = due.now in omega (arith, e)));
@@ -174,12 +174,18 @@ takes-all old now at has other = record {
   later = later-at now at (slice_get now.program.acts at) refl has.along other;
 }
 
-pub takes-last : (old now : Profiling) (at : ℕ) → HasTaken old now at → length now.program.acts ≤ at → Takes old now at
-takes-last old now at has past = record {
-  same = has.same;
-  along = has.along;
-  later = subst (λ (o : Option Act). IfSome o (λ a. now.clock < a.moment)) (sym (slice_get_past now.program.acts at past)) tt;
-}
+pub takes-end : (old now : Profiling) (next count : ℕ) → HasTaken old now next → count ≡ length old.program.acts → count ≤ next
+    → Takes old now count
+takes-end old now next count has is past =
+    let acts : List Act = now.program.acts in
+    let same : length old.program.acts ≡ length acts = sym (ap (λ (s : Profiling). length s.program.acts) has.same) in
+    let at : next ≡ count = (let within = has.along.within in omega (arith, is, same, past, within)) in
+    record {
+      same = has.same;
+      along = subst (λ n. IsAlong now n) at has.along;
+      later = subst (λ (o : Option Act). IfSome o (λ a. now.clock < a.moment))
+          (sym (slice_get_past acts count (omega (arith, is, same)))) tt;
+    }
 
 -- ---- a slice
 

@@ -61,14 +61,17 @@ IsActOf p a act = act_of p a ≡ Some act
 acts-zip : (p : Program) (at : ℕ) (actions : List Action) (acts : List Act) → acts_from p at actions ≡ Ok acts
     → AllZip (IsActOf p) actions acts
 acts-zip p at [] acts e = subst (AllZip (IsActOf p) []) (let same : [] ≡ acts = cc e in same) tt
-acts-zip p at (a ∷ rest) acts e = by (act_of p a) refl (acts_from p (at + 1) rest) refl e where
+acts-zip p at (a ∷ rest) acts e =
+    by (act_of p a) refl (acts_from p (at + 1) rest) refl (λ more is. acts-zip p (at + 1) rest more is) e
+  where
   by : (o : Option Act) → act_of p a ≡ o → (r : Result (List Act) AdmitError) → acts_from p (at + 1) rest ≡ r
+      → ((more : List Act) → acts_from p (at + 1) rest ≡ Ok more → AllZip (IsActOf p) rest more)
       → act_with o at r ≡ Ok acts → AllZip (IsActOf p) (a ∷ rest) acts
-  by (Some act) found (Ok more) is e =
+  by (Some act) found (Ok more) is later e =
       subst (AllZip (IsActOf p) (a ∷ rest)) (let same : act ∷ more ≡ acts = cc e in same)
-      (found, acts-zip p (at + 1) rest more is)
-  by (Some act) found (Err fault) is e = absurd cc
-  by None found r is e = absurd cc
+      (found, later more is)
+  by (Some act) found (Err fault) is later e = absurd cc
+  by None found r is later e = absurd cc
 
 -- the acts of an admitted program, one for each action of its plan
 pub plan-acts : (classes : List ClassFile) (name : List ℕ) (plan : Plan) (p : Program)
@@ -104,6 +107,6 @@ pub acts-in-order : (classes : List ClassFile) (name : List ℕ) (plan : Plan) (
 acts-in-order classes name plan p rising e =
     in-order (program_for classes plan) 0 plan.actions p.acts (plan-acts classes name plan p e) rising (from-zero plan.actions)
   where
-    from-zero : (as : List Action) → AllByRecursion (λ (a : Action). 0 ≤ a.moment) as
+    from-zero : (list : List Action) → AllByRecursion (λ (a : Action). 0 ≤ a.moment) list
     from-zero [] = tt
-    from-zero (a ∷ as) = (omega arith, from-zero as)
+    from-zero (a ∷ list) = (omega arith, from-zero list)

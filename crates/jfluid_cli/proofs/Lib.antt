@@ -1,12 +1,15 @@
 pub mod Accepted
 pub mod Outputs
 pub mod ActionLemmas
+pub mod Chosen
 pub mod Underway
 pub mod Pairs
 pub mod ToldFiles
 pub mod ToldPlans
 pub mod Spelled
 pub mod Admitted
+pub mod NamedRoots
+pub mod Alternating
 pub mod OneCommand
 pub mod Complete
 pub mod Early

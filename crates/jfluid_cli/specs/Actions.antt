@@ -1,10 +1,44 @@
 -- How a session takes the actions of its program's plan at their moments, one slice after the other.
-use Rattle.std.specs.Prelude.{◌≡◌, ℕ, ◌<◌, ◌≤◌, true, false, length, take, drop, Option, Some, slice_get, IfSome}
+use Rattle.std.specs.Prelude.{◌≡◌, ℕ, ◌<◌, ◌≤◌, true, false, not, List, [], ◌∷◌, ◌++◌, length, take, drop, Some, slice_get, IfSome}
 use Rattle.std.specs.List.{AllByRecursion}
+use Rattle.plan_text.specs.declared.plan.Action.{Action}
+use Rattle.plan_text.specs.Lines.{selected_after}
 use Rattle.jvm_model.specs.declared.event.Act.{Act}
+use Rattle.jvm_model.specs.Calls.{AreFrom}
+use Rattle.jvm_model.specs.Load.{is_among}
+use Rattle.jvm_model.specs.Points.{chosen}
 use Rattle.profile_session.specs.Sessions.{Profiling}
 use Rattle.jfluid_cli.specs.declared.running.Reached.{Reached}
 use Rattle.jfluid_cli.specs.Runs.{IsPlanned, is_ended_at}
+
+-- ---- which actions can be taken
+
+-- what is selected behind actions, where these methods were selected before
+abbrev pub chosen_by : List ℕ → List Act → List ℕ
+chosen_by selected [] = selected
+chosen_by selected (act ∷ more) = chosen_by (chosen act selected) more
+
+-- Each action that stands behind others selects a method that is not selected then, or deselects one
+-- that is.
+abbrev pub Alternate : List Act → List Act → Type 0
+Alternate earlier [] = Unit {0}
+Alternate earlier (act ∷ more) =
+    (is_among act.method (chosen_by [] earlier) ≡ not act.select)
+    × Alternate (earlier ++ act ∷ []) more
+
+-- Moments do not fall, and no action asks for what is so already.
+pub record CanBeTaken (acts : List Act) : Type 0 where
+  pub in_order : AreFrom 0 acts
+  pub alternate : Alternate [] acts
+
+-- the same of a plan's actions, by the names of their roots
+abbrev pub AlternateRoots : List Action → List Action → Type 0
+AlternateRoots earlier [] = Unit {0}
+AlternateRoots earlier (action ∷ more) =
+    (selected_after false action.root earlier ≡ not action.select)
+    × AlternateRoots (earlier ++ action ∷ []) more
+
+-- ---- how far they were taken
 
 -- An action that is still to come: not at an earlier step than the session's, and behind the start
 -- none of moment 0.

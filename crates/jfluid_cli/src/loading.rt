@@ -1,12 +1,12 @@
 //! Reads the plan, and fetches, reads and admits the class files.
 
-ghost use Rattle.std.specs.Prelude.{◌≡◌, ◌≢◌, ◌≤◌, length, Some, ℕ, List, Option, IfOk, IfErr, IsOk};
+ghost use Rattle.std.specs.Prelude.{◌≡◌, ◌≢◌, ◌≤◌, length, [], Some, ℕ, List, Option, IfOk, IfErr, IsOk};
 ghost use Rattle.std.specs.List.{AllByRecursion};
 ghost use Rattle.const_pool.specs.ClassFile.{IsClassFile};
 ghost use Rattle.plan_text.specs.Bounds.{IsWithin};
 ghost use Rattle.plan_text.specs.Numbers.{greatest_steps};
 ghost use Rattle.command_line.specs.Words.{IsSound, most_files, read_in, texts};
-ghost use Rattle.jvm_model.specs.Calls.{AreFrom};
+ghost use Rattle.jfluid_cli.specs.Actions.{AlternateRoots, CanBeTaken};
 ghost use Rattle.jfluid_cli.specs.Asking.{asked_for};
 ghost use Rattle.jfluid_cli.specs.Causes.{Given};
 ghost use Rattle.jfluid_cli.specs.Contents.{AreFetched, IsFrontFor, SpellsAlone, SpellAlone, classes_for};
@@ -73,11 +73,12 @@ fn read_program(
 ) -> Result<Program, Refusal>
     requires few { length contents.now ≤ most_files }
     requires within { IsWithin plan.now }
+    requires alternate { AlternateRoots [] plan.now.actions }
     ensures ok { IfOk result (λ p.
         IsProgram (asked_for main.now plan.now) contents.now p) }
     ensures alone { IfOk result (λ p. SpellAlone contents.now (classes_for contents.now p)) }
     ensures admitted { IfOk result IsAdmitted }
-    ensures in_order { IfOk result (λ p. AreFrom 0 p.acts) }
+    ensures acts { IfOk result (λ p. CanBeTaken p.acts) }
     ensures early { (g : Given) → IsFetchedFor g (asked_for main.now plan.now) contents.now →
         IfErr result (IsEarly g) }
     ensures calm { IfErr result (λ e. status_of e ≢ 7) }
@@ -168,12 +169,13 @@ fn load<F: Files>(
 ) -> Result<Found, Refusal>
     requires sound { IsSound (read_in words.now) }
     requires within { IsWithin plan.now }
+    requires alternate { AlternateRoots [] plan.now.actions }
     ensures ok { (g : Given) → AreReadWith g (read_in words.now) plan.now →
         g.told ≡ F.contents files.old → IfOk result (λ l.
         IsPrepared g plan.now l.budget l.contents l.program) }
     ensures small { IfOk result (λ l. l.budget ≤ greatest_steps) }
     ensures admitted { IfOk result (λ l. IsAdmitted l.program) }
-    ensures in_order { IfOk result (λ l. AreFrom 0 l.program.acts) }
+    ensures acts { IfOk result (λ l. CanBeTaken l.program.acts) }
     ensures early { (g : Given) → AreReadWith g (read_in words.now) plan.now →
         g.told ≡ F.contents files.old → IfErr result (IsEarly g) }
     ensures calm { IsOk result → F.faults files.new ≡ F.faults files.old }
@@ -207,7 +209,7 @@ pub fn prepare<F: Files>(alloc: Global, words: &Words<'_>, files: &mut F) -> Res
         IsPrepared g l.plan l.budget l.contents l.program) }
     ensures small { IfOk result (λ l. l.budget ≤ greatest_steps) }
     ensures admitted { IfOk result (λ l. IsAdmitted l.program) }
-    ensures in_order { IfOk result (λ l. AreFrom 0 l.program.acts) }
+    ensures acts { IfOk result (λ l. CanBeTaken l.program.acts) }
     ensures early { (g : Given) → accepted g.words ≡ Some (read_in words.now) →
         g.told ≡ F.contents files.old → IfErr result (IsEarly g) }
     ensures calm { IsOk result → F.faults files.new ≡ F.faults files.old }

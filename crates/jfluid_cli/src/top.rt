@@ -1,11 +1,11 @@
 //! The top call: from the words to a status.
 
 ghost use Rattle.std.specs.Prelude.{◌≡◌, ◌≤◌, ◌<◌, ◌⊎◌, ℕ, List, false, Ok, Err, None, Some, MatchResult, IfOk, IfErr, IsOk, IsSomeAnd, OnOk};
-ghost use Rattle.jvm_model.specs.Calls.{AreFrom};
 ghost use Rattle.plan_text.specs.Numbers.{greatest_steps};
 ghost use Rattle.command_line.specs.Raw.{AreTexts};
 ghost use Rattle.command_line.specs.Words.{IsSound, read_in, texts};
 ghost use Rattle.profile_session.specs.Answers.{Gathers};
+ghost use Rattle.jfluid_cli.specs.Actions.{CanBeTaken};
 ghost use Rattle.jfluid_cli.specs.Calls.{Call, IsReported, IsRun, IsAnswered};
 ghost use Rattle.jfluid_cli.specs.Stages.{IsStopped, IsSameRun, IsCarried};
 ghost use Rattle.jfluid_cli.specs.Runs.{IsFresh, IsGoing, IsPlanned, PutsAtMost, SameProgram};
@@ -62,7 +62,7 @@ fn run_made<O: Sink, P: Sink>(
     kept: &mut Option<Kept>,
 ) -> Result<u8, Refusal>
     requires fresh { IsFresh made_of.session.value }
-    requires in_order { AreFrom 0 made_of.session.value.program.acts }
+    requires acts { CanBeTaken made_of.session.value.program.acts }
     requires small { budget ≤ greatest_steps }
     ensures same { IsSomeAnd kept.new (IsSameRun made_of) }
     ensures run { let s : Streams = record {

@@ -3,6 +3,7 @@ use Rattle.jfluid_cli.specs.Asking.{asked_for}
 use Rattle.jfluid_cli.specs.Contents.{SpellsAlone}
 use Rattle.jfluid_cli.proofs.Early.{due-unread, due-fault}
 use Rattle.jfluid_cli.proofs.Admitted.{acts-in-order, first-classes}
+use Rattle.jfluid_cli.proofs.Alternating.{acts-alternating}
 use Rattle.jfluid_cli.proofs.Pairs.{zip-length}
 use Rattle.jfluid_cli.proofs.Spelled.{spelled-program, spelled-alone}
 use Rattle.jfluid_cli.proofs.loading.read_program.Goals as goal
@@ -40,10 +41,13 @@ pub returns-in-Ok-admit-clause-admitted : goal.returns-in-Ok-admit-clause-admitt
 returns-in-Ok-admit-clause-admitted c =
     record { classes = c.in-Ok.classes; name = c.args.main.now; is = c.in-Ok-admit.ensures.sound }
 
-pub returns-in-Ok-admit-clause-in_order : goal.returns-in-Ok-admit-clause-in_order
-returns-in-Ok-admit-clause-in_order c =
-    acts-in-order c.in-Ok.classes c.args.main.now c.args.plan.now c.in-Ok-admit.program
-    c.requires.within.rising c.in-Ok-admit.ensures.admitted
+pub returns-in-Ok-admit-clause-acts : goal.returns-in-Ok-admit-clause-acts
+returns-in-Ok-admit-clause-acts c = record {
+  in_order = acts-in-order c.in-Ok.classes c.args.main.now c.args.plan.now c.in-Ok-admit.program
+      c.requires.within.rising c.in-Ok-admit.ensures.admitted;
+  alternate = acts-alternating c.in-Ok.classes c.args.main.now c.args.plan.now c.in-Ok-admit.program
+      c.requires.alternate c.in-Ok-admit.ensures.admitted;
+}
 
 -- ---- what does not
 

@@ -3,6 +3,8 @@ use Rattle.std.specs.Prelude.{IfSome}
 use Rattle.plan_text.specs.declared.plan.Plan.{Plan}
 use Rattle.command_line.specs.Input.{most_input}
 use Rattle.command_line.specs.Words.{read_in}
+use Rattle.jvm_model.specs.declared.program.Program.{Program}
+use Rattle.jfluid_cli.specs.Actions.{CanBeTaken}
 use Rattle.jfluid_cli.specs.Causes.{Given}
 use Rattle.jfluid_cli.specs.Runs.{RunsProgram}
 use Rattle.jfluid_cli.specs.Stages.{IsPrepared}
@@ -32,6 +34,10 @@ returns-in_default g c = record {
   carried = λ list read. carried-memory _ c.requires.empty
       (record { taken = refl; faults = refl }) (record { taken = refl; faults = refl });
 }
+
+pub run_made-requires-clause-acts : goal.run_made-requires-clause-acts
+run_made-requires-clause-acts g c =
+    subst (λ (p : Program). CanBeTaken p.acts) (sym c.in-Ok-make.ensures.runs.program_is) c.in-Ok.ensures.acts
 
 pub returns : goal.returns
 returns g c =
