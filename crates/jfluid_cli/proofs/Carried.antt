@@ -7,13 +7,13 @@ use Rattle.jf_bytes.specs.Streams.{PutsFront}
 use Rattle.plan_text.specs.declared.plan.Plan.{Plan}
 use Rattle.jvm_model.specs.declared.program.Program.{Program}
 use Rattle.jvm_model.specs.Run.{output_of}
-use Rattle.small_machine.specs.View.{View}
+use Rattle.profile_session.specs.Sessions.{Profiling}
 use Rattle.command_line.specs.Input.{most_input}
 use Rattle.command_line.specs.Words.{Read}
 use Rattle.jfluid_cli.specs.declared.kept.Kept.{Kept}
 use Rattle.jfluid_cli.specs.declared.refusal.Refusal.{Refusal}
 use Rattle.jfluid_cli.specs.declared.refusal.Refusal.TheVariants.{NoMemory}
-use Rattle.jfluid_cli.specs.Calls.{Call, given_of, words_of, IsReported, IsRun, IsRunAsked, IsTrueOf, IsRefused}
+use Rattle.jfluid_cli.specs.Calls.{Call, given_of, words_of, IsRun, IsRunAsked, IsTrueOf, IsRefused}
 use Rattle.jfluid_cli.specs.Asking.{asked_by}
 use Rattle.jfluid_cli.specs.Causes.{Given, OfProgram}
 use Rattle.jfluid_cli.specs.Sinks.{SourceView, IsUntold}
@@ -21,13 +21,10 @@ use Rattle.jfluid_cli.specs.Contents.{AreToldAs, SpellAlone, classes_for}
 use Rattle.jfluid_cli.specs.Stages.{IsEarly, IsInputRefusal, IsPrepared, HasFetchCause, is_early, IsStopped, IsSameRun, IsCarried}
 use Rattle.jfluid_cli.specs.Origins.{HasOrigin, IsOnlyProgram}
 use Rattle.jfluid_cli.specs.Refusals.{status_of}
-use Rattle.jfluid_cli.specs.Runs.{PutsAtMost, SameProgram, IsCarriedOut, output_at, world_on}
-use Rattle.jfluid_cli.specs.Selections.{IsSelected, RunsProgram}
-use Rattle.jfluid_cli.specs.Top.{IsProgram, report_of}
+use Rattle.jfluid_cli.specs.Runs.{PutsAtMost, RunsProgram, SameProgram, IsCarriedOut, output_at, world_on}
+use Rattle.jfluid_cli.specs.Top.{IsProgram}
 use Rattle.jfluid_cli.specs.Words.{Command, accepted, budget_of, command_of, file_words, plan_word}
-use Rattle.jfluid_cli.proofs.Answered.{root-reported, selected-later}
 use Rattle.jfluid_cli.proofs.OneCommand.{commanded}
-use Rattle.jfluid_cli.proofs.Pairs.{zip-length}
 
 not_both : false ≡ true → ⊥
 not_both e = cc
@@ -40,7 +37,7 @@ nothing-made c none out = record {
   origin = subst (λ (o : Option Kept). IfSome o (HasOrigin (given_of c))) (sym none) tt;
   only = subst (λ (o : Option Kept). IfSome o IsOnlyProgram) (sym none) tt;
   front = subst (λ (o : Option Kept). IfSome o
-      (λ k. PutsAtMost k.vm.value (budget_of (words_of c) k.plan) c.streams.out.taken c.streams.out_after.taken))
+      (λ k. PutsAtMost k.session.value (budget_of (words_of c) k.plan) c.streams.out.taken c.streams.out_after.taken))
       (sym none) tt;
   ended = λ some. absurd (not_both (subst (λ (o : Option Kept). IsSome o) none some));
   nothing = λ _. out.taken;
@@ -132,13 +129,13 @@ carried-memory c none out report = record {
 
 -- what was prepared is a program
 pub of-program : (g : Given) (plan : Plan) (budget : ℕ) (contents : List (List ℕ)) (program : Program)
-    (root : Option ℕ) → IsPrepared g plan budget contents program root → OfProgram g
-of-program g plan budget contents program root is = record {
+    → IsPrepared g plan budget contents program → OfProgram g
+of-program g plan budget contents program is = record {
   command = is.command;
   accepts = is.accepts;
   contents = contents;
   told_as = is.loaded.told_as;
-  holds = (program, root, is.loaded.program_is);
+  holds = (program, is.loaded.program_is);
 }
 
 not-one : (r s : Refusal) (n : ℕ) → r ≡ s → (status_of s ≡ n → ⊥) → status_of r ≡ n → ⊥
@@ -187,113 +184,103 @@ carried-input c r none out report calm of why = record {
   untold = report;
 }
 
--- ---- behind a machine
+-- ---- behind a session
 
 some-kept : (o : Option Kept) (P : Kept → Type 0) → IsSomeAnd o P → (k : Kept) × (o ≡ Some k) × P k
 some-kept None P has = absurd has
 some-kept (Some k) P has = (k, refl, has)
 
-outputs-same : (v w : View) (n m : ℕ) → SameProgram v w → n ≡ m → output_at v n ≡ output_at w m
+outputs-same : (v w : Profiling) (n m : ℕ) → SameProgram v w → n ≡ m → output_at v n ≡ output_at w m
 outputs-same v w n m same at =
     ap (λ (p : Program). output_of (world_on p v.input) n) (sym same.program)
     ∙ (ap (λ (i : List ℕ). output_of (world_on w.program i) n) (sym same.input)
     ∙ ap (output_at w) at)
 
--- what is known of a machine that was made
-pub record IsMade (c : Call) (budget : ℕ) (root : Option ℕ) (made : Kept) : Type 0 where
+-- what is known of a session that was made
+pub record IsMade (c : Call) (budget : ℕ) (made : Kept) : Type 0 where
   pub program : Program
-  pub prepared : IsPrepared (given_of c) made.plan budget made.classes program root
-  pub runs : RunsProgram program made.input made.vm.value
+  pub prepared : IsPrepared (given_of c) made.plan budget made.classes program
+  pub runs : RunsProgram program made.input made.session.value
   pub input : IfSome (given_of c).left (λ all. made.input ≡ all)
   pub short : length made.input ≤ most_input
   pub ended : IsAtEnd c.input_after.left
-  pub selected : IsSelected root made.vm.value
 
 -- the plan that is kept is the command's
-plan-is : (c : Call) (budget : ℕ) (root : Option ℕ) (made k : Kept) (is : IsMade c budget root made)
+plan-is : (c : Call) (budget : ℕ) (made k : Kept) (is : IsMade c budget made)
     → IsSameRun made k → k.plan ≡ is.prepared.command.plan
-plan-is c budget root made k is same = same.plan ∙ is.prepared.plan_is
+plan-is c budget made k is same = same.plan ∙ is.prepared.plan_is
 
-command-is : (c : Call) (budget : ℕ) (root : Option ℕ) (made k : Kept) (is : IsMade c budget root made)
+command-is : (c : Call) (budget : ℕ) (made k : Kept) (is : IsMade c budget made)
     → IsSameRun made k → command_of (words_of c) k.plan ≡ Some is.prepared.command
-command-is c budget root made k is same =
-    ap (λ (p : Plan). command_of (words_of c) p) (plan-is c budget root made k is same)
+command-is c budget made k is same =
+    ap (λ (p : Plan). command_of (words_of c) p) (plan-is c budget made k is same)
     ∙ commanded (given_of c) is.prepared.command is.prepared.accepts
 
-budget-is : (c : Call) (budget : ℕ) (root : Option ℕ) (made k : Kept) → IsMade c budget root made
+budget-is : (c : Call) (budget : ℕ) (made k : Kept) → IsMade c budget made
     → IsSameRun made k → budget ≡ budget_of (words_of c) k.plan
-budget-is c budget root made k is same =
+budget-is c budget made k is same =
     is.prepared.budget_is
     ∙ sym (ap (λ (o : Option Command). option_map_or (λ (x : Command). x.budget) o 0)
-    (command-is c budget root made k is same))
+    (command-is c budget made k is same))
 
-made-origin : (c : Call) (budget : ℕ) (root : Option ℕ) (made k : Kept)
-    → IsMade c budget root made → IsSameRun made k → HasOrigin (given_of c) k
-made-origin c budget root made k is same =
-    let program_is : is.program ≡ k.vm.value.program =
+made-origin : (c : Call) (budget : ℕ) (made k : Kept)
+    → IsMade c budget made → IsSameRun made k → HasOrigin (given_of c) k
+made-origin c budget made k is same =
+    let program_is : is.program ≡ k.session.value.program =
     sym (same.program.program ∙ is.runs.program_is) in
     let command : Command = is.prepared.command in
     record {
       command = command;
       accepts = is.prepared.accepts;
-      plan = plan-is c budget root made k is same;
+      plan = plan-is c budget made k is same;
       told_as = subst (AreToldAs c.told command.files) (sym same.classes) is.prepared.loaded.told_as;
-      root = root;
       program =
-          subst (λ (xs : List (List ℕ)). IsProgram (asked_by command) xs k.vm.value.program root)
+          subst (λ (xs : List (List ℕ)). IsProgram (asked_by command) xs k.session.value.program)
           (sym same.classes)
-          (subst (λ (p : Program). IsProgram (asked_by command) made.classes p root) program_is
+          (subst (λ (p : Program). IsProgram (asked_by command) made.classes p) program_is
           is.prepared.loaded.program_is);
-      selected = selected-later root made.vm.value k.vm.value same.program is.selected;
       input = subst (λ (bytes : List ℕ). IfSome c.input.left (λ all. bytes ≡ all)) (sym same.input) is.input;
       short = subst (λ (bytes : List ℕ). length bytes ≤ most_input) (sym same.input) is.short;
-      machine_input = same.program.input ∙ (is.runs.input_is ∙ sym same.input);
+      session_input = same.program.input ∙ (is.runs.input_is ∙ sym same.input);
     }
 
-made-only : (c : Call) (budget : ℕ) (root : Option ℕ) (made k : Kept)
-    → IsMade c budget root made → IsSameRun made k → IsOnlyProgram k
-made-only c budget root made k is same =
-    subst (λ (xs : List (List ℕ)). SpellAlone xs (classes_for xs k.vm.value.program)) (sym same.classes)
+made-only : (c : Call) (budget : ℕ) (made k : Kept)
+    → IsMade c budget made → IsSameRun made k → IsOnlyProgram k
+made-only c budget made k is same =
+    subst (λ (xs : List (List ℕ)). SpellAlone xs (classes_for xs k.session.value.program)) (sym same.classes)
     (subst (λ (p : Program). SpellAlone made.classes (classes_for made.classes p))
     (sym (same.program.program ∙ is.runs.program_is)) is.prepared.loaded.alone)
 
-made-true : (c : Call) (budget : ℕ) (root : Option ℕ) (made k : Kept)
-    → IsMade c budget root made → c.kept ≡ Some k → IsSameRun made k
-    → PutsAtMost made.vm.value budget c.streams.out.taken c.streams.out_after.taken
+made-true : (c : Call) (budget : ℕ) (made k : Kept)
+    → IsMade c budget made → c.kept ≡ Some k → IsSameRun made k
+    → PutsAtMost made.session.value budget c.streams.out.taken c.streams.out_after.taken
     → IsTrueOf c
-made-true c budget root made k is kept same front = record {
+made-true c budget made k is kept same front = record {
   origin = subst (λ (o : Option Kept). IfSome o (HasOrigin (given_of c))) (sym kept)
-      (made-origin c budget root made k is same);
+      (made-origin c budget made k is same);
   only = subst (λ (o : Option Kept). IfSome o IsOnlyProgram) (sym kept)
-      (made-only c budget root made k is same);
+      (made-only c budget made k is same);
   front = subst (λ (o : Option Kept). IfSome o
-      (λ x. PutsAtMost x.vm.value (budget_of (words_of c) x.plan) c.streams.out.taken c.streams.out_after.taken))
+      (λ x. PutsAtMost x.session.value (budget_of (words_of c) x.plan) c.streams.out.taken c.streams.out_after.taken))
       (sym kept)
       (subst (PutsFront c.streams.out.taken c.streams.out_after.taken)
-      (outputs-same made.vm.value k.vm.value budget (budget_of (words_of c) k.plan) same.program
-      (budget-is c budget root made k is same)) front);
+      (outputs-same made.session.value k.session.value budget (budget_of (words_of c) k.plan) same.program
+      (budget-is c budget made k is same)) front);
   ended = λ _. is.ended;
   nothing = λ none. absurd
       (let e : (let o : Option Kept = Some k in o ≡ None) = sym kept ∙ none in cc);
 }
 
-made-run : (c : Call) (budget : ℕ) (root : Option ℕ) (made k : Kept) (status : ℕ)
-    → IsMade c budget root made → IsSameRun made k
-    → IsRun budget (report_of root) c.streams status k
+made-run : (c : Call) (budget : ℕ) (made k : Kept) (status : ℕ)
+    → IsMade c budget made → IsSameRun made k
+    → IsRun budget c.streams status k
     → IsRunAsked (words_of c) c.streams status k
-made-run c budget root made k status is same ran =
-    let command : Command = is.prepared.command in
+made-run c budget made k status is same ran =
     record {
-      output = subst (λ (n : ℕ). IsCarriedOut k.vm.value n c.streams.out.taken c.streams.out_after.taken)
-          (budget-is c budget root made k is same) ran.output;
+      output = subst (λ (n : ℕ). IsCarriedOut k.session.value n c.streams.out.taken c.streams.out_after.taken)
+          (budget-is c budget made k is same) ran.output;
       calm = ran.calm;
-      report = subst (λ (text : List ℕ). IsReported k.vm.value text c.streams.report c.streams.report_after
-          status)
-          (root-reported (words_of c) k.plan command made.classes root is.program k.vm.value
-          (command-is c budget root made k is same)
-          (zip-length _ command.files made.classes is.prepared.loaded.told_as)
-          is.prepared.loaded.program_is.runs (same.program.program ∙ is.runs.program_is))
-          ran.report;
+      report = ran.report;
     }
 
 -- a run that stopped
@@ -318,35 +305,35 @@ stopped-refused c k r of kept calm calm_input stopped = elim stopped.why [
   | inr memory ↦ subst (IsRefused c) (sym memory) (memory-refused c)
 ]
 
-pub carried-run : (c : Call) (budget : ℕ) (root : Option ℕ) (made : Kept)
-    (r : Result ℕ Refusal) → IsMade c budget root made → IsSomeAnd c.kept (IsSameRun made)
-    → MatchResult r (λ status. IsSomeAnd c.kept (IsRun budget (report_of root) c.streams status))
+pub carried-run : (c : Call) (budget : ℕ) (made : Kept)
+    (r : Result ℕ Refusal) → IsMade c budget made → IsSomeAnd c.kept (IsSameRun made)
+    → MatchResult r (λ status. IsSomeAnd c.kept (IsRun budget c.streams status))
     (IsStopped c.streams)
-    → PutsAtMost made.vm.value budget c.streams.out.taken c.streams.out_after.taken
+    → PutsAtMost made.session.value budget c.streams.out.taken c.streams.out_after.taken
     → c.files_after.faults ≡ c.files.faults → c.input_after.faults ≡ c.input.faults → IsCarried c r
-carried-run c budget root made (Ok status) is same ran front calm calm_input =
+carried-run c budget made (Ok status) is same ran front calm calm_input =
     let k = some-kept c.kept (IsSameRun made) same in
-    let here : IsRun budget (report_of root) c.streams status k.0 =
-    subst (λ (o : Option Kept). IsSomeAnd o (IsRun budget (report_of root) c.streams status)) k.1 ran in
+    let here : IsRun budget c.streams status k.0 =
+    subst (λ (o : Option Kept). IsSomeAnd o (IsRun budget c.streams status)) k.1 ran in
     record {
-      always = made-true c budget root made k.0 is k.1 k.2 front;
+      always = made-true c budget made k.0 is k.1 k.2 front;
       ran = record {
         made =
             subst (λ (o : Option Kept). IsSomeAnd o (IsRunAsked (words_of c) c.streams status)) (sym k.1)
-            (made-run c budget root made k.0 status is k.2 here);
+            (made-run c budget made k.0 status is k.2 here);
         calm = calm;
         calm_input = calm_input;
       };
       refused = tt;
       untold = tt;
     }
-carried-run c budget root made (Err r) is same stopped front calm calm_input =
+carried-run c budget made (Err r) is same stopped front calm calm_input =
     let k = some-kept c.kept (IsSameRun made) same in
     record {
-      always = made-true c budget root made k.0 is k.1 k.2 front;
+      always = made-true c budget made k.0 is k.1 k.2 front;
       ran = tt;
       refused = stopped-refused c k.0 r
-          (of-program (given_of c) made.plan budget made.classes is.program root is.prepared) k.1 calm calm_input
+          (of-program (given_of c) made.plan budget made.classes is.program is.prepared) k.1 calm calm_input
           stopped;
       untold = stopped.untold;
     }

@@ -2,16 +2,13 @@
 use Rattle.std.proofs.Common.{◌≡◌, ℕ, ◌+◌, ◌<◌, ◌≤◌, List, Option, sym, ap, ◌∙◌, arith, inl, inr}
 use Rattle.std.specs.Prelude.{min, Result, Ok}
 use Rattle.jf_bytes.specs.Streams.{Rose, greatest}
-use Rattle.const_pool.specs.declared.class.ClassFile.{ClassFile}
-use Rattle.plan_text.specs.declared.plan.Plan.{Plan}
 use Rattle.jvm_model.specs.declared.program.Program.{Program}
 use Rattle.jvm_model.specs.declared.state.State.{State}
 use Rattle.admit_check.specs.declared.error.AdmitError.{AdmitError}
-use Rattle.small_program.specs.Admission.{Runs}
 use Rattle.jvm_model.specs.Originals.{original}
 use Rattle.jvm_model.specs.Run.{ending_of}
 use Rattle.jvm_model.proofs.Growth.{run-stays}
-use Rattle.small_machine.specs.View.{View, world}
+use Rattle.profile_session.specs.Sessions.{Profiling, world_of}
 use Rattle.jfluid_cli.specs.Runs.{ending_at, IsCarriedOut, world_on}
 use Rattle.jfluid_cli.specs.Top.{IsCalm}
 
@@ -24,14 +21,14 @@ calm_not_rose old new calm rose =
     absurd (omega arith)
 
 -- the run has the same ending at the budget
-pub ends_as : (v : View) (budget : ℕ) (old new : Option (List ℕ)) → IsCarriedOut v budget old new
+pub ends_as : (v : Profiling) (budget : ℕ) (old new : Option (List ℕ)) → IsCarriedOut v budget old new
     → ending_at v v.clock ≡ ending_at v budget
 ends_as v budget old new carried =
     elim carried.stop [
       | inl (at, on) ↦ ap (ending_at v) at
       | inr ended ↦ ap (λ (s : State). s.ending)
-          (sym (run-stays (world v)
-          (original (world v).program) v.clock budget carried.within ended.ended))
+          (sym (run-stays (world_of v)
+          (original v.program) v.clock budget carried.within ended.ended))
     ]
 
 -- ---- the program
@@ -40,9 +37,8 @@ same_program : (x y : Program) → (let r : Result Program AdmitError = Ok x in 
 same_program x y e = cc e
 
 -- an answer has one program
-pub one-program : (plan : Plan) (answer : Result Program AdmitError) (cs ds : List ClassFile) (p q : Program)
-    (r s : Option ℕ) → Runs plan answer cs p r → Runs plan answer ds q s → p ≡ q
-one-program plan answer cs ds p q r s left right = same_program p q (sym left.admitted ∙ right.admitted)
+pub one-program : (answer : Result Program AdmitError) (p q : Program) → answer ≡ Ok p → answer ≡ Ok q → p ≡ q
+one-program answer p q left right = same_program p q (sym left ∙ right)
 
 pub ending_of_same : (p q : Program) (x y : List ℕ) (budget : ℕ) → p ≡ q → x ≡ y
     → ending_of (world_on p x) budget ≡ ending_of (world_on q y) budget

@@ -5,9 +5,6 @@ use Rattle.jf_bytes.specs.Streams.{Told, Rose}
 use Rattle.const_pool.specs.declared.class.ClassFile.{ClassFile}
 use Rattle.jvm_model.specs.declared.program.Program.{Program}
 use Rattle.admit_check.specs.declared.error.AdmitError.{AdmitError}
-use Rattle.small_program.specs.declared.admission.Refused.{Refused}
-use Rattle.small_program.specs.declared.admission.Refused.TheVariants as refused
-use Rattle.small_program.specs.Admission.{IsRefusedFor}
 use Rattle.plan_text.specs.declared.plan.Plan.{Plan}
 use Rattle.plan_text.specs.declared.plan.PlanError.{PlanError}
 use Rattle.plan_text.specs.declared.plan.PlanError.TheVariants as plan
@@ -15,7 +12,7 @@ use Rattle.command_line.specs.Chosen.{Chosen, chosen}
 use Rattle.command_line.specs.Words.{Read}
 use Rattle.jfluid_cli.specs.declared.refusal.Refusal.{Refusal}
 use Rattle.jfluid_cli.specs.declared.refusal.Refusal.TheVariants as refusal
-use Rattle.jfluid_cli.specs.declared.refusal.Refusal.TheVariants.{NotRead, NotAdmitted, NotBuiltPlan, PlanNotFetched, NotFetched, NoMemory}
+use Rattle.jfluid_cli.specs.declared.refusal.Refusal.TheVariants.{NotRead, NotAdmitted, PlanNotFetched, NotFetched, NoMemory}
 use Rattle.jfluid_cli.specs.Refusals.{status_of, refusal_of}
 use Rattle.jfluid_cli.specs.Asking.{Asked, asked_by, IsPlanFor}
 use Rattle.jfluid_cli.specs.Causes.{Given, Accepts, Because, OfClasses}
@@ -37,7 +34,6 @@ due-words g refusal.NoMemory is = record { cause = tt; early = refl }
 due-words g (refusal.Plan fault) is = absurd is
 due-words g (NotRead at fault) is = absurd is
 due-words g (NotAdmitted fault) is = absurd is
-due-words g NotBuiltPlan is = absurd is
 due-words g refusal.InputFailed is = absurd is
 due-words g refusal.OutFailed is = absurd is
 due-words g PlanNotFetched is = absurd is
@@ -136,8 +132,8 @@ due-unread g asked fronts r f (inr memory) = subst (IsEarly g) (sym memory) (due
 
 -- the classes of what was fetched are refused
 of-classes : (g : Given) (asked : Asked) (fronts : List (List ℕ)) (classes : List ClassFile)
-    (why : Refused) → IsFetchedFor g asked fronts → SpellAlone fronts classes
-    → IsRefusedFor asked.plan (answer_for asked classes) classes why → OfClasses g why
+    (why : AdmitError) → IsFetchedFor g asked fronts → SpellAlone fronts classes
+    → answer_for asked classes ≡ Err why → OfClasses g why
 of-classes g asked fronts classes why f alone is =
     let have = told-contents g.told f.command.files fronts f.fetched in
     let whole : have.contents ≡ fronts =
@@ -154,16 +150,9 @@ of-classes g asked fronts classes why f alone is =
 
 pub due-fault : (g : Given) (asked : Asked) (fronts : List (List ℕ)) (classes : List ClassFile)
     (fault : AdmitError) → IsFetchedFor g asked fronts → SpellAlone fronts classes
-    → IsRefusedFor asked.plan (answer_for asked classes) classes (refused.Fault fault)
-    → IsEarly g (NotAdmitted fault)
+    → answer_for asked classes ≡ Err fault → IsEarly g (NotAdmitted fault)
 due-fault g asked fronts classes fault f alone is =
-    due g (NotAdmitted fault) refl (of-classes g asked fronts classes (refused.Fault fault) f alone is)
-
-pub due-unbuilt : (g : Given) (asked : Asked) (fronts : List (List ℕ)) (classes : List ClassFile)
-    → IsFetchedFor g asked fronts → SpellAlone fronts classes
-    → IsRefusedFor asked.plan (answer_for asked classes) classes refused.NotBuiltPlan → IsEarly g NotBuiltPlan
-due-unbuilt g asked fronts classes f alone is =
-    due g NotBuiltPlan refl (of-classes g asked fronts classes refused.NotBuiltPlan f alone is)
+    due g (NotAdmitted fault) refl (of-classes g asked fronts classes fault f alone is)
 
 -- what was fetched for a command, and what it asks for
 pub fetched : (g : Given) (k : Command) (told : Option Told) (fronts deref : List (List ℕ)) → Accepts g k
@@ -178,10 +167,10 @@ fetched g k told fronts deref accepts same fronts_are is = record {
 
 -- what was fetched and read is what the files tell
 pub loaded : (told : Option Told) (k : Command) (fronts deref : List (List ℕ))
-    (program : Program) (root : Option ℕ) → AreFetched told k.files fronts → fronts ≡ deref
-    → IsProgram (asked_by k) deref program root → SpellAlone deref (classes_for deref program)
-    → IsLoaded told k fronts program root
-loaded told k fronts deref program root fronts_are is fits alone =
+    (program : Program) → AreFetched told k.files fronts → fronts ≡ deref
+    → IsProgram (asked_by k) deref program → SpellAlone deref (classes_for deref program)
+    → IsLoaded told k fronts program
+loaded told k fronts deref program fronts_are is fits alone =
     let have = told-contents told k.files fronts fronts_are in
     let here : SpellAlone fronts (classes_for fronts program) =
     subst (λ (xs : List (List ℕ)). SpellAlone xs (classes_for xs program)) (sym is) alone in
@@ -190,7 +179,7 @@ loaded told k fronts deref program root fronts_are is fits alone =
     (files-alone fronts (classes_for fronts program) here) in
     record {
       told_as = subst (AreToldAs told k.files) whole have.told_as;
-      program_is = subst (λ (xs : List (List ℕ)). IsProgram (asked_by k) xs program root) (sym is) fits;
+      program_is = subst (λ (xs : List (List ℕ)). IsProgram (asked_by k) xs program) (sym is) fits;
       alone = here;
     }
 

@@ -13,7 +13,7 @@ use Rattle.jvm_model.specs.Run.{ending_of}
 use Rattle.command_line.specs.Words.{Read}
 use Rattle.jfluid_cli.specs.declared.kept.Kept.{Kept}
 use Rattle.jfluid_cli.specs.declared.refusal.Refusal.{Refusal}
-use Rattle.jfluid_cli.specs.declared.refusal.Refusal.TheVariants.{Clap, Words, Plan as BadPlan, NotRead, NotAdmitted, NotBuiltPlan, InputFailed, OutFailed, PlanNotFetched, NotFetched, NoMemory, InputTooLong}
+use Rattle.jfluid_cli.specs.declared.refusal.Refusal.TheVariants.{Clap, Words, Plan as BadPlan, NotRead, NotAdmitted, InputFailed, OutFailed, PlanNotFetched, NotFetched, NoMemory, InputTooLong}
 use Rattle.jfluid_cli.specs.Calls.{Call, given_of, words_of, IsRunAsked, IsTrueOf, IsRefused, IsAnswered, PutsLine, CalmFiles, CalmInput, AllCalm}
 use Rattle.jfluid_cli.specs.Asking.{asked_by, HasBadRoot}
 use Rattle.jfluid_cli.specs.Causes.{HasBadPlan, HasLongInput, IsAccepted, IsUnfit, OfWords}
@@ -23,7 +23,7 @@ use Rattle.jfluid_cli.specs.Stages.{IsCarried, IsWordsRefusal}
 use Rattle.jfluid_cli.specs.Origins.{HasOrigin, IsOnlyProgram}
 use Rattle.jfluid_cli.specs.Refusals.{status_of, refusal_line, IsNameless}
 use Rattle.jfluid_cli.specs.Runs.{ending_at, world_on}
-use Rattle.jfluid_cli.specs.Top.{IsProgram, RunAs, answer_for, is_among, is_run, is_status, status_of_ending}
+use Rattle.jfluid_cli.specs.Top.{IsProgram, answer_for, is_among, is_run, is_status, status_of_ending}
 use Rattle.jfluid_cli.specs.Words.{Command, accepted, budget_of, command_of, file_words, plan_word, words_in}
 use Rattle.jfluid_cli.proofs.Carried.{carried-early, files-said, memory-refused, plan-said}
 use Rattle.jfluid_cli.proofs.Early.{due-words, no-fault}
@@ -51,22 +51,22 @@ kept-command c k p o a =
     o.accepts a.admitted.accepts
 
 kept-ends : (c : Call) (k : Kept) (p : Program) (budget : ℕ) → HasOrigin (given_of c) k → IsOnlyProgram k
-    → (a : IsAccepted (given_of c) p) → ending_at k.vm.value budget ≡ ending_of (world_on p a.input) budget
+    → (a : IsAccepted (given_of c) p) → ending_at k.session.value budget ≡ ending_of (world_on p a.input) budget
 kept-ends c k p budget o alone a =
     let d = a.admitted in
     let same : o.command ≡ d.command = kept-command c k p o a in
     let one : k.classes ≡ d.contents =
     same-contents c.told o.command d.command d.files k.classes d.contents same d.telling o.told_as d.told_as in
-    let own : List ClassFile = classes_for k.classes k.vm.value.program in
-    let is : IsProgram (asked_by d.command) k.classes p d.root =
-    subst (λ (xs : List (List ℕ)). IsProgram (asked_by d.command) xs p d.root) (sym one) d.program_is in
+    let own : List ClassFile = classes_for k.classes k.session.value.program in
+    let is : IsProgram (asked_by d.command) k.classes p =
+    subst (λ (xs : List (List ℕ)). IsProgram (asked_by d.command) xs p) (sym one) d.program_is in
     let classes : classes_for k.classes p ≡ own =
     one-spelling k.classes own (classes_for k.classes p) alone is.files in
-    ending_of_same k.vm.value.program p k.vm.value.input a.input budget
-    (one-program d.command.plan (answer_for (asked_by d.command) own) own own k.vm.value.program p o.root d.root
-    (subst (λ (x : Command). RunAs (asked_by x) own k.vm.value.program o.root) same o.program.runs)
-    (subst (λ (cs : List ClassFile). RunAs (asked_by d.command) cs p d.root) classes is.runs))
-    (o.machine_input ∙ kept-input (given_of c) k a.input o a.input_is)
+    ending_of_same k.session.value.program p k.session.value.input a.input budget
+    (one-program (answer_for (asked_by d.command) own) k.session.value.program p
+    (subst (λ (x : Command). answer_for (asked_by x) own ≡ Ok k.session.value.program) same o.program.admitted)
+    (subst (λ (cs : List ClassFile). answer_for (asked_by d.command) cs ≡ Ok p) classes is.admitted))
+    (o.session_input ∙ kept-input (given_of c) k a.input o a.input_is)
 
 -- something is kept
 held : (o : Option Kept) (P Q : Kept → Type 0) → IsSome o → IfSome o P → IfSome o Q → (k : Kept)
@@ -94,7 +94,7 @@ run-complete c status k p o alone ran a calm = elim (cases_eq status 8) [
       kept-budget c k o ∙ ap (λ (x : Command). x.budget) (kept-command c k p o a) in
       ran.report.ending other
       ∙ ap status_of_ending
-      (ends_as k.vm.value budget c.streams.out.taken c.streams.out_after.taken ran.output
+      (ends_as k.session.value budget c.streams.out.taken c.streams.out_after.taken ran.output
       ∙ (kept-ends c k p budget o alone a ∙ ap (λ (n : ℕ). ending_of (world_on p a.input) n) same)))
 ]
 
@@ -319,7 +319,6 @@ not-seven words Words is seven = absurd cc
 not-seven words (BadPlan fault) is seven = absurd cc
 not-seven words (NotRead at fault) is seven = absurd cc
 not-seven words (NotAdmitted fault) is seven = absurd cc
-not-seven words NotBuiltPlan is seven = absurd cc
 not-seven words InputFailed is seven = absurd cc
 not-seven words OutFailed is seven = absurd cc
 not-seven words NoMemory is seven = absurd cc

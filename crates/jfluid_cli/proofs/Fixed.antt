@@ -5,13 +5,12 @@ use Rattle.std.proofs.lemmas.Option.{same_Some, none-some}
 use Rattle.jf_bytes.specs.Streams.{Told}
 use Rattle.plan_text.specs.declared.plan.Plan.{Plan}
 use Rattle.jvm_model.specs.declared.program.Program.{Program}
-use Rattle.small_program.specs.declared.admission.Refused.TheVariants as refused
 use Rattle.command_line.specs.Chosen.{IsOwnPlan}
 use Rattle.command_line.specs.Input.{most_input}
 use Rattle.command_line.specs.Words.{Read}
 use Rattle.jfluid_cli.specs.declared.kept.Kept.{Kept}
 use Rattle.jfluid_cli.specs.declared.refusal.Refusal.{Refusal}
-use Rattle.jfluid_cli.specs.declared.refusal.Refusal.TheVariants.{Clap, Words, Plan as BadPlan, NotRead, NotAdmitted, NotBuiltPlan, InputFailed, OutFailed, PlanNotFetched, NotFetched, NoMemory, InputTooLong}
+use Rattle.jfluid_cli.specs.declared.refusal.Refusal.TheVariants.{Clap, Words, Plan as BadPlan, NotRead, NotAdmitted, InputFailed, OutFailed, PlanNotFetched, NotFetched, NoMemory, InputTooLong}
 use Rattle.jfluid_cli.specs.Asking.{asked_by, HasBadRoot, IsPlanBy, IsPlanFor}
 use Rattle.jfluid_cli.specs.Causes.{Given, Accepts, HasLongInput, IsAccepted, IsAdmitted, IsLong, IsUnfit, OfProgram, OfWords, Because}
 use Rattle.jfluid_cli.specs.Contents.{AreToldAs}
@@ -21,7 +20,7 @@ use Rattle.jfluid_cli.specs.Top.{HasNoProgram, IsProgram, is_among}
 use Rattle.jfluid_cli.specs.Words.{Command, accepted}
 use Rattle.jfluid_cli.proofs.Accepted.{accepted-claps, accepted-refused}
 use Rattle.jfluid_cli.proofs.OneCommand.{not-misplanned, one-command}
-use Rattle.jfluid_cli.proofs.Spelled.{none-faulty, none-spelled, other-fault, other-plan}
+use Rattle.jfluid_cli.proofs.Spelled.{none-faulty, none-spelled}
 
 -- by the status of a refusal
 pub by-status : (r : Refusal) (P : Type 0) → (status_of r ≡ 2 → P) → (status_of r ≡ 3 → P)
@@ -32,7 +31,6 @@ by-status Words P two three five six seven nine eleven = two refl
 by-status (BadPlan fault) P two three five six seven nine eleven = two refl
 by-status (NotRead at fault) P two three five six seven nine eleven = three refl
 by-status (NotAdmitted fault) P two three five six seven nine eleven = three refl
-by-status NotBuiltPlan P two three five six seven nine eleven = three refl
 by-status InputFailed P two three five six seven nine eleven = five refl
 by-status OutFailed P two three five six seven nine eleven = six refl
 by-status PlanNotFetched P two three five six seven nine eleven = seven refl
@@ -58,7 +56,6 @@ read-or g Words cause = inl (inl refl)
 read-or g (BadPlan fault) cause = inl (inl refl)
 read-or g (NotRead at fault) cause = inr (read-by g cause.command cause.accepts)
 read-or g (NotAdmitted fault) cause = inr (read-by g cause.command cause.accepts)
-read-or g NotBuiltPlan cause = inr (read-by g cause.command cause.accepts)
 read-or g InputFailed cause = inr (read-by g cause.command cause.accepts)
 read-or g OutFailed cause = inr (read-by g cause.command cause.accepts)
 read-or g PlanNotFetched cause = inr (cause.0, cause.1)
@@ -76,7 +73,6 @@ accepted-or g Words cause = inl (inl refl)
 accepted-or g (BadPlan fault) cause = inl (inl refl)
 accepted-or g (NotRead at fault) cause = inr (inr (cause.command, cause.accepts))
 accepted-or g (NotAdmitted fault) cause = inr (inr (cause.command, cause.accepts))
-accepted-or g NotBuiltPlan cause = inr (inr (cause.command, cause.accepts))
 accepted-or g InputFailed cause = inr (inr (cause.command, cause.accepts))
 accepted-or g OutFailed cause = inr (inr (cause.command, cause.accepts))
 accepted-or g PlanNotFetched cause = inr (inl refl)
@@ -97,7 +93,6 @@ two-refused g (BadPlan fault) k tells cause two accepts =
     not-misplanned g cause.0 k tells cause.1 (inl (fault, cause.2)) accepts
 two-refused g (NotRead at fault) k tells cause two accepts = absurd cc
 two-refused g (NotAdmitted fault) k tells cause two accepts = absurd cc
-two-refused g NotBuiltPlan k tells cause two accepts = absurd cc
 two-refused g InputFailed k tells cause two accepts = absurd cc
 two-refused g OutFailed k tells cause two accepts = absurd cc
 two-refused g PlanNotFetched k tells cause two accepts = absurd cc
@@ -165,9 +160,9 @@ none-admitted g k contents p accepts told_as none a =
     let same : k ≡ a.command = one-command g k a.command (tells g.told a.files a.telling) accepts a.accepts in
     let one : contents ≡ a.contents =
     same-contents g.told k a.command a.files contents a.contents same a.telling told_as a.told_as in
-    none p a.root
-    (subst (λ (xs : List (List ℕ)). IsProgram (asked_by k) xs p a.root) (sym one)
-    (subst (λ (x : Command). IsProgram (asked_by x) a.contents p a.root) (sym same) a.program_is))
+    none p
+    (subst (λ (xs : List (List ℕ)). IsProgram (asked_by k) xs p) (sym one)
+    (subst (λ (x : Command). IsProgram (asked_by x) a.contents p) (sym same) a.program_is))
 
 -- 3 comes only where no program is told
 pub three-refused : (g : Given) (r : Refusal) (p : Program) → Because g r → status_of r ≡ 3 → IsAdmitted g p → ⊥
@@ -176,10 +171,7 @@ three-refused g (NotRead at fault) p cause three a =
     (none-faulty (asked_by cause.command) cause.contents at fault cause.holds) a
 three-refused g (NotAdmitted fault) p cause three a =
     none-admitted g cause.command cause.contents p cause.accepts cause.told_as
-    (none-spelled (asked_by cause.command) cause.contents (refused.Fault fault) cause.holds (other-fault fault)) a
-three-refused g NotBuiltPlan p cause three a =
-    none-admitted g cause.command cause.contents p cause.accepts cause.told_as
-    (none-spelled (asked_by cause.command) cause.contents refused.NotBuiltPlan cause.holds other-plan) a
+    (none-spelled (asked_by cause.command) cause.contents fault cause.holds) a
 three-refused g (Clap text) p cause three a = absurd cc
 three-refused g Words p cause three a = absurd cc
 three-refused g (BadPlan fault) p cause three a = absurd cc
@@ -201,7 +193,6 @@ program-told g Words cause late = absurd cc
 program-told g (BadPlan fault) cause late = absurd cc
 program-told g (NotRead at fault) cause late = absurd cc
 program-told g (NotAdmitted fault) cause late = absurd cc
-program-told g NotBuiltPlan cause late = absurd cc
 program-told g PlanNotFetched cause late = absurd cc
 program-told g (NotFetched at) cause late = absurd cc
 program-told g NoMemory cause late = absurd cc
@@ -213,9 +204,9 @@ not-unfit g of u =
     one-command g of.command u.command (tells g.told u.files u.telling) of.accepts u.accepts in
     let one : of.contents ≡ u.contents =
     same-contents g.told of.command u.command u.files of.contents u.contents same u.telling of.told_as u.told_as in
-    u.none of.holds.0 of.holds.1
-    (subst (λ (xs : List (List ℕ)). IsProgram (asked_by u.command) xs of.holds.0 of.holds.1) one
-    (subst (λ (x : Command). IsProgram (asked_by x) of.contents of.holds.0 of.holds.1) same of.holds.2))
+    u.none of.holds.0
+    (subst (λ (xs : List (List ℕ)). IsProgram (asked_by u.command) xs of.holds.0) one
+    (subst (λ (x : Command). IsProgram (asked_by x) of.contents of.holds.0) same of.holds.1))
 
 -- ---- the input
 
@@ -227,7 +218,6 @@ long-told g Words cause eleven = absurd cc
 long-told g (BadPlan fault) cause eleven = absurd cc
 long-told g (NotRead at fault) cause eleven = absurd cc
 long-told g (NotAdmitted fault) cause eleven = absurd cc
-long-told g NotBuiltPlan cause eleven = absurd cc
 long-told g InputFailed cause eleven = absurd cc
 long-told g OutFailed cause eleven = absurd cc
 long-told g PlanNotFetched cause eleven = absurd cc
@@ -259,5 +249,5 @@ kept-program g k o = record {
   accepts = o.accepts;
   contents = k.classes;
   told_as = o.told_as;
-  holds = (k.vm.value.program, o.root, o.program);
+  holds = (k.session.value.program, o.program);
 }

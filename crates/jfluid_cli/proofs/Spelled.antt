@@ -7,15 +7,11 @@ use Rattle.class_reader.specs.Files.{IsFile}
 use Rattle.class_reader.proofs.Files.{one_class, no_first_fault}
 use Rattle.jvm_model.specs.declared.program.Program.{Program}
 use Rattle.admit_check.specs.declared.error.AdmitError.{AdmitError}
-use Rattle.small_program.specs.declared.admission.Refused.{Refused}
-use Rattle.small_program.specs.declared.admission.Refused.TheVariants as refused
-use Rattle.small_program.specs.Admission.{selected, HasUnbuiltPlan, IsRefusedFor, Runs, RunsPlanned}
-use Rattle.plan_text.specs.declared.plan.Plan.{Plan}
 use Rattle.jfluid_cli.specs.declared.refusal.Refusal.{Refusal}
 use Rattle.jfluid_cli.specs.Asking.{Asked}
 use Rattle.jfluid_cli.specs.Stages.{IsUnread, IsReadRefusal}
 use Rattle.jfluid_cli.specs.Contents.{AreFiles, IsFaultAt, SpellsAlone, SpellAlone, classes_for}
-use Rattle.jfluid_cli.specs.Top.{IsProgram, HasRefused, HasNoProgram, RunAs, answer_for}
+use Rattle.jfluid_cli.specs.Top.{IsProgram, HasRefused, HasNoProgram, answer_for}
 use Rattle.jfluid_cli.proofs.Pairs.{zip-weaken, zip-length, zip-at}
 
 -- ---- one content
@@ -76,13 +72,13 @@ begins contents classes p alone first =
     ap (λ (n : ℕ). take n p.classes) (zip-length SpellsAlone contents classes alone) ∙ first
 
 pub spelled-program : (a : Asked) (contents : List (List ℕ)) (classes : List ClassFile) (p : Program)
-    (root : Option ℕ) → SpellAlone contents classes → take (length classes) p.classes ≡ classes
-    → RunAs a classes p root → IsProgram a contents p root
-spelled-program a contents classes p root alone first runs =
+    → SpellAlone contents classes → take (length classes) p.classes ≡ classes
+    → answer_for a classes ≡ Ok p → IsProgram a contents p
+spelled-program a contents classes p alone first admitted =
     let same : classes_for contents p ≡ classes = begins contents classes p alone first in
     record {
       files = subst (AreFiles contents) (sym same) (files-alone contents classes alone);
-      runs = subst (λ (cs : List ClassFile). RunAs a cs p root) (sym same) runs;
+      admitted = subst (λ (cs : List ClassFile). answer_for a cs ≡ Ok p) (sym same) admitted;
     }
 
 pub spelled-alone : (contents : List (List ℕ)) (classes : List ClassFile) (p : Program)
@@ -93,54 +89,25 @@ spelled-alone contents classes p alone first =
 
 -- ---- no program
 
-same-ok : (x y : Program) → ◌≡◌ {A = Result Program AdmitError} (Ok x) (Ok y) → x ≡ y
-same-ok x y e = cc e
-
 not-ok : (x : Program) (fault : AdmitError) → ◌≡◌ {A = Result Program AdmitError} (Ok x) (Err fault) → ⊥
 not-ok x fault e = cc e
 
--- what runs with its plan has no plan that it does not run with
-not-unbuilt : (plan : Plan) (a : Result Program AdmitError) (classes : List ClassFile) (p : Program) (root : Option ℕ)
-    → Runs plan a classes p root → HasUnbuiltPlan plan a classes → ⊥
-not-unbuilt plan a classes p root runs unbuilt =
-    let same : p ≡ unbuilt.program = same-ok p unbuilt.program (sym runs.admitted ∙ unbuilt.admitted) in
-    let is : root ≡ selected unbuilt.program.acts =
-    sym runs.root_is ∙ ap (λ (q : Program). selected q.acts) same in
-    unbuilt.unbuilt (subst (λ (o : Option ℕ). RunsPlanned plan classes o) is runs.planned)
-
--- what runs is not refused but for want of memory
-not-both : (plan : Plan) (a : Result Program AdmitError) (classes : List ClassFile) (p : Program) (root : Option ℕ)
-    (why : Refused) → Runs plan a classes p root → IsRefusedFor plan a classes why → why ≡ refused.NoMemory
-not-both plan a classes p root (refused.Fault fault) runs is =
-    absurd (not-ok p fault (sym runs.admitted ∙ is))
-not-both plan a classes p root refused.NotBuiltPlan runs is =
-    absurd (not-unbuilt plan a classes p root runs is)
-not-both plan a classes p root refused.NoMemory runs is = refl
-
-pub other-fault : (fault : AdmitError) → refused.Fault fault ≡ refused.NoMemory → ⊥
-other-fault fault e = cc e
-
-pub other-plan : refused.NotBuiltPlan ≡ refused.NoMemory → ⊥
-other-plan e = cc e
-
 -- classes that are refused are no program
-pub none-refused : (a : Asked) (contents : List (List ℕ)) (classes : List ClassFile) (why : Refused)
-    → SpellAlone contents classes → IsRefusedFor a.plan (answer_for a classes) classes why
-    → (why ≡ refused.NoMemory → ⊥) → HasNoProgram a contents
-none-refused a contents classes why alone refused other p root program =
+none-refused : (a : Asked) (contents : List (List ℕ)) (classes : List ClassFile) (fault : AdmitError)
+    → SpellAlone contents classes → answer_for a classes ≡ Err fault → HasNoProgram a contents
+none-refused a contents classes fault alone refused p program =
     let same : classes_for contents p ≡ classes =
     one-spelling contents classes (classes_for contents p) alone program.files in
-    other (not-both a.plan (answer_for a classes) classes p root why
-    (subst (λ (cs : List ClassFile). RunAs a cs p root) same program.runs) refused)
+    not-ok p fault (sym (subst (λ (cs : List ClassFile). answer_for a cs ≡ Ok p) same program.admitted) ∙ refused)
 
-pub none-spelled : (a : Asked) (contents : List (List ℕ)) (why : Refused) → HasRefused a why contents
-    → (why ≡ refused.NoMemory → ⊥) → HasNoProgram a contents
-none-spelled a contents why has other =
-    none-refused a contents has.0 why (zip-weaken IsFile SpellsAlone contents has.0 spells-alone has.1) has.2 other
+pub none-spelled : (a : Asked) (contents : List (List ℕ)) (fault : AdmitError) → HasRefused a fault contents
+    → HasNoProgram a contents
+none-spelled a contents fault has =
+    none-refused a contents has.0 fault (zip-weaken IsFile SpellsAlone contents has.0 spells-alone has.1) has.2
 
 -- contents with a fault are no program
 pub none-faulty : (a : Asked) (contents : List (List ℕ)) (at : ℕ) (fault : ReadError)
     → IsFaultAt contents at fault → HasNoProgram a contents
-none-faulty a contents at fault is p root program =
+none-faulty a contents at fault is p program =
     let here = zip-at IsFile contents (classes_for contents p) at is.bytes program.files is.there in
     no_first_fault is.bytes here.other fault here.holds is.first

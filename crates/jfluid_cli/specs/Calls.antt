@@ -6,7 +6,7 @@ use Rattle.jf_bytes.specs.Streams.{Told, PutsAll, PutsFront, Rose}
 use Rattle.command_line.specs.Input.{TakesOneMore}
 use Rattle.jvm_model.specs.declared.program.Program.{Program}
 use Rattle.jvm_model.specs.Run.{ending_of}
-use Rattle.small_machine.specs.View.{View}
+use Rattle.profile_session.specs.Sessions.{Profiling}
 use Rattle.jfluid_cli.specs.declared.kept.Kept.{Kept}
 use Rattle.jfluid_cli.specs.declared.refusal.Refusal.{Refusal}
 use Rattle.jfluid_cli.specs.declared.refusal.Refusal.TheVariants.{PlanNotFetched, NotFetched}
@@ -16,7 +16,7 @@ use Rattle.jfluid_cli.specs.Origins.{HasOrigin, IsOnlyProgram}
 use Rattle.jfluid_cli.specs.Refusals.{status_of, refusal_line}
 use Rattle.jfluid_cli.specs.Runs.{IsCarriedOut, PutsAtMost, ending_at, world_on}
 use Rattle.jfluid_cli.specs.Sinks.{SinkView, SourceView, FilesView, Streams, PutsOrRose}
-use Rattle.jfluid_cli.specs.Top.{IsCalm, is_run, is_refused, is_unadmitted, is_status, reported_of, status_of_ending}
+use Rattle.jfluid_cli.specs.Top.{IsCalm, is_run, is_refused, is_unadmitted, is_status, report_of, status_of_ending}
 use Rattle.jfluid_cli.specs.Words.{accepted, budget_of, file_words, plan_word, words_in}
 
 -- ---- a call
@@ -51,31 +51,30 @@ pub record IsTrueOf (c : Call) : Type 0 where
   pub front :
       let s = c.streams in
       IfSome c.kept
-      (λ k. PutsAtMost k.vm.value (budget_of (words_of c) k.plan) s.out.taken s.out_after.taken)
+      (λ k. PutsAtMost k.session.value (budget_of (words_of c) k.plan) s.out.taken s.out_after.taken)
   pub nothing : c.kept ≡ None → c.streams.out_after.taken ≡ c.streams.out.taken
 
 -- ---- a run
 
 -- The report of a run was put, with the status of its ending, or the put failed, with status 8.
-pub record IsReported (v : View) (text : List ℕ) (old new : SinkView) (status : ℕ) : Type 0 where
+pub record IsReported (v : Profiling) (old new : SinkView) (status : ℕ) : Type 0 where
   pub is_one : is_run status ≡ true
   pub known : is_status status ≡ true
   pub ending : status ≢ 8 → status ≡ status_of_ending (ending_at v v.clock)
-  pub reported : status ≢ 8 → PutsAll old.taken new.taken text
+  pub reported : status ≢ 8 → PutsAll old.taken new.taken (report_of v)
   pub calm : status ≢ 8 → new.faults ≡ old.faults
-  pub reported_in_part : status ≡ 8 → PutsFront old.taken new.taken text
+  pub reported_in_part : status ≡ 8 → PutsFront old.taken new.taken (report_of v)
   pub not_reported : status ≡ 8 → Rose old.faults new.faults
 
 -- The run of what is kept was carried out up to its end or the budget; what was put is its output.
-pub record IsRun (budget : ℕ) (text : View → List ℕ) (s : Streams) (status : ℕ) (k : Kept) : Type 0
-  where
-    pub output : IsCarriedOut k.vm.value budget s.out.taken s.out_after.taken
-    pub calm : s.out_after.faults ≡ s.out.faults
-    pub report : IsReported k.vm.value (text k.vm.value) s.report s.report_after status
+pub record IsRun (budget : ℕ) (s : Streams) (status : ℕ) (k : Kept) : Type 0 where
+  pub output : IsCarriedOut k.session.value budget s.out.taken s.out_after.taken
+  pub calm : s.out_after.faults ≡ s.out.faults
+  pub report : IsReported k.session.value s.report s.report_after status
 
 -- the run that the words ask for with the plan that is kept
 abbrev pub IsRunAsked : List (List ℕ) → Streams → ℕ → Kept → Type 0
-IsRunAsked words s status k = IsRun (budget_of words k.plan) (reported_of words k.plan) s status k
+IsRunAsked words s status k = IsRun (budget_of words k.plan) s status k
 
 -- The run of the words, with nothing else failed.
 pub record IsRunOf (c : Call) (status : ℕ) : Type 0 where

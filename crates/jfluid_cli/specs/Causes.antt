@@ -6,8 +6,7 @@ use Rattle.command_line.specs.Input.{most_input}
 use Rattle.command_line.specs.Words.{Read}
 use Rattle.jfluid_cli.specs.declared.refusal.Refusal.{Refusal}
 use Rattle.jfluid_cli.specs.declared.refusal.Refusal.TheVariants as refusal
-use Rattle.small_program.specs.declared.admission.Refused.{Refused}
-use Rattle.small_program.specs.declared.admission.Refused.TheVariants as refused
+use Rattle.admit_check.specs.declared.error.AdmitError.{AdmitError}
 use Rattle.jfluid_cli.specs.Asking.{asked_by, IsPlanFor, IsFaultOfPlan, HasNoMain, IsMisplanned}
 use Rattle.jfluid_cli.specs.Contents.{AreToldAs, IsFaultAt}
 use Rattle.jfluid_cli.specs.Top.{IsProgram, HasProgram, HasRefused, HasNoProgram}
@@ -36,8 +35,7 @@ pub record IsAdmitted (g : Given) (program : Program) : Type 0 where
   pub telling : g.told ≡ Some files
   pub contents : List (List ℕ)
   pub told_as : AreToldAs (Some files) command.files contents
-  pub root : Option ℕ
-  pub program_is : IsProgram (asked_by command) contents program root
+  pub program_is : IsProgram (asked_by command) contents program
 
 -- And the input is within its limit.
 pub record IsAccepted (g : Given) (program : Program) : Type 0 where
@@ -89,9 +87,9 @@ pub record OfFiles (g : Given) (P : Command → List (List ℕ) → Type 0) : Ty
   pub told_as : AreToldAs g.told command.files contents
   pub holds : P command contents
 
--- classes are told that are refused so
-abbrev pub OfClasses : Given → Refused → Type 0
-OfClasses g refused = OfFiles g (λ k. HasRefused (asked_by k) refused)
+-- classes are told that are not admitted, for this fault
+abbrev pub OfClasses : Given → AdmitError → Type 0
+OfClasses g fault = OfFiles g (λ k. HasRefused (asked_by k) fault)
 
 -- a program is told
 abbrev pub OfProgram : Given → Type 0
@@ -112,8 +110,7 @@ Because g (refusal.Clap text) = AreClaps g.words
 Because g refusal.Words = AreRefused g.words ⊎ OfWords g (HasNoMain g.told)
 Because g (refusal.Plan fault) = OfWords g (λ words. IsFaultOfPlan g.told words fault)
 Because g (refusal.NotRead at fault) = OfFiles g (λ k contents. IsFaultAt contents at fault)
-Because g (refusal.NotAdmitted fault) = OfClasses g (refused.Fault fault)
-Because g refusal.NotBuiltPlan = OfClasses g refused.NotBuiltPlan
+Because g (refusal.NotAdmitted fault) = OfClasses g fault
 Because g refusal.InputFailed = OfProgram g
 Because g refusal.OutFailed = OfProgram g
 Because g refusal.PlanNotFetched = OfWords g (λ words. IsSome words.plan)

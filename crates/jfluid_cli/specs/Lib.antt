@@ -1,12 +1,12 @@
 pub mod Sinks
 pub mod Refusals
 pub mod Runs
+pub mod Actions
 pub mod Words
 pub mod Contents
 pub mod Top
 pub mod Causes
 pub mod Origins
-pub mod Selections
 pub mod Asking
 pub mod Calls
 pub mod Stages

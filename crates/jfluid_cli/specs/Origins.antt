@@ -1,31 +1,27 @@
 -- Where what is kept came from.
-use Rattle.std.specs.Prelude.{◌≡◌, ◌≤◌, ℕ, length, Option, IfSome}
+use Rattle.std.specs.Prelude.{◌≡◌, ◌≤◌, ℕ, length, IfSome}
 use Rattle.command_line.specs.Input.{most_input}
 use Rattle.jfluid_cli.specs.declared.kept.Kept.{Kept}
 use Rattle.jfluid_cli.specs.Asking.{asked_by}
 use Rattle.jfluid_cli.specs.Causes.{Given, Accepts}
 use Rattle.jfluid_cli.specs.Contents.{AreToldAs, SpellAlone, classes_for}
-use Rattle.jfluid_cli.specs.Selections.{IsSelected}
 use Rattle.jfluid_cli.specs.Words.{Command}
 use Rattle.jfluid_cli.specs.Top.{IsProgram}
 
 -- The kept plan is that of the words, read of the told file where they name one. The kept class
 -- files are what the files tell under the words, in their order; they are the program that the kept
--- machine runs, in the versions for the plan's root, on the kept input, which is all that the source
--- told.
+-- session runs, with the plan's actions, on the kept input, which is all that the source told.
 pub record HasOrigin (g : Given) (k : Kept) : Type 0 where
   pub command : Command
   pub accepts : Accepts g command
   pub plan : k.plan ≡ command.plan
   pub told_as : AreToldAs g.told command.files k.classes
-  pub root : Option ℕ
-  pub program : IsProgram (asked_by command) k.classes k.vm.value.program root
-  pub selected : IsSelected root k.vm.value
+  pub program : IsProgram (asked_by command) k.classes k.session.value.program
   pub input : IfSome g.left (λ all. k.input ≡ all)
   pub short : length k.input ≤ most_input
-  pub machine_input : k.vm.value.input ≡ k.input
+  pub session_input : k.session.value.input ≡ k.input
 
 -- Each of the contents that are kept spells the class at its position of the program that runs, and
 -- no other, and has no fault.
 abbrev pub IsOnlyProgram : Kept → Type 0
-IsOnlyProgram k = SpellAlone k.classes (classes_for k.classes k.vm.value.program)
+IsOnlyProgram k = SpellAlone k.classes (classes_for k.classes k.session.value.program)

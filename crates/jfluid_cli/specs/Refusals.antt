@@ -18,10 +18,9 @@ use Rattle.plan_text.specs.declared.plan.LineCause.{LineCause}
 use Rattle.plan_text.specs.declared.plan.LineCause.TheVariants as line
 use Rattle.plan_text.specs.declared.plan.PlanError.{PlanError}
 use Rattle.plan_text.specs.declared.plan.PlanError.TheVariants as plan
-use Rattle.small_program.specs.Admission.{class_in}
 use Rattle.jfluid_cli.specs.Contents.{word_at}
 use Rattle.jfluid_cli.specs.declared.refusal.Refusal.{Refusal}
-use Rattle.jfluid_cli.specs.declared.refusal.Refusal.TheVariants.{Clap, Words, Plan, NotRead, NotAdmitted, NotBuiltPlan, InputFailed, OutFailed, PlanNotFetched, NotFetched, NoMemory, InputTooLong}
+use Rattle.jfluid_cli.specs.declared.refusal.Refusal.TheVariants.{Clap, Words, Plan, NotRead, NotAdmitted, InputFailed, OutFailed, PlanNotFetched, NotFetched, NoMemory, InputTooLong}
 
 abbrev pub status_of : Refusal → ℕ
 status_of (Clap text) = 2
@@ -29,7 +28,6 @@ status_of Words = 2
 status_of (Plan why) = 2
 status_of (NotRead at why) = 3
 status_of (NotAdmitted why) = 3
-status_of NotBuiltPlan = 3
 status_of InputFailed = 5
 status_of OutFailed = 6
 status_of PlanNotFetched = 7
@@ -46,6 +44,19 @@ refusal_of (plan.AlreadySelected number) = Plan (plan.AlreadySelected number)
 refusal_of (plan.NotSelected number) = Plan (plan.NotSelected number)
 refusal_of (plan.TooMany number) = Plan (plan.TooMany number)
 refusal_of plan.NoMemory = NoMemory
+
+-- why classes with this fault are no program; want of memory is no fault of them
+abbrev pub refusal_for : AdmitError → Refusal
+refusal_for (admit.ReservedName class) = NotAdmitted (admit.ReservedName class)
+refusal_for (admit.Duplicate class) = NotAdmitted (admit.Duplicate class)
+refusal_for (admit.BadShape class why) = NotAdmitted (admit.BadShape class why)
+refusal_for (admit.BadCode class method at why) = NotAdmitted (admit.BadCode class method at why)
+refusal_for (admit.FloatingPoint class at) = NotAdmitted (admit.FloatingPoint class at)
+refusal_for (admit.NotProfilable class method why) = NotAdmitted (admit.NotProfilable class method why)
+refusal_for (admit.TooManyMethods count) = NotAdmitted (admit.TooManyMethods count)
+refusal_for admit.NoMain = NotAdmitted admit.NoMain
+refusal_for (admit.NoSuchRoot action) = NotAdmitted (admit.NoSuchRoot action)
+refusal_for admit.NoMemory = NoMemory
 
 -- what is told of a fault: its name and its number
 abbrev pub cause_of : ReadError → List ℕ
@@ -134,6 +145,20 @@ admission_cause admit.NoMemory = codes "NoMemory"
 abbrev pub told_of_file : List ℕ → List ℕ → List ℕ
 told_of_file file cause = codes "jfluid: " ++ (file ++ (codes ": " ++ (cause ++ codes "\n")))
 
+-- the position of the class that has the fault; what is looked at behind the last class is none of
+-- a class
+abbrev pub class_in : AdmitError → Option ℕ
+class_in (admit.ReservedName class) = Some class
+class_in (admit.Duplicate class) = Some class
+class_in (admit.BadShape class why) = Some class
+class_in (admit.BadCode class method at why) = Some class
+class_in (admit.FloatingPoint class at) = Some class
+class_in (admit.NotProfilable class method why) = Some class
+class_in (admit.TooManyMethods count) = None
+class_in admit.NoMain = None
+class_in (admit.NoSuchRoot action) = None
+class_in admit.NoMemory = None
+
 -- a fault of a class is told of its file
 abbrev pub told_of : List (List ℕ) → Option ℕ → List ℕ → List ℕ
 told_of files (Some at) cause = told_of_file (word_at files at) cause
@@ -150,7 +175,6 @@ refusal_line Words named files = codes "jfluid: words refused\n"
 refusal_line (Plan why) named files = codes "jfluid: plan: " ++ (plan_cause why ++ codes "\n")
 refusal_line (NotRead at why) named files = told_of_file (word_at files at) (cause_of why)
 refusal_line (NotAdmitted why) named files = told_of files (class_in why) (admission_cause why)
-refusal_line NotBuiltPlan named files = codes "jfluid: NotBuiltPlan\n"
 refusal_line InputFailed named files = codes "jfluid: input failed\n"
 refusal_line OutFailed named files = codes "jfluid: output failed\n"
 refusal_line PlanNotFetched named files = told_of_fetch (unwrap_or named [])

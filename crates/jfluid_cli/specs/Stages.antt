@@ -25,7 +25,7 @@ use Rattle.jfluid_cli.specs.Sinks.{FilesView, SourceView, Streams, IsUntold}
 use Rattle.jfluid_cli.specs.Top.{IsProgram, is_among}
 use Rattle.jfluid_cli.specs.Words.{Command, accepted, AreClaps, AreRefused}
 
--- ---- before a machine is made
+-- ---- before a session is made
 
 -- the statuses of a refusal before the input is taken
 abbrev pub is_early : ℕ → Bool
@@ -80,19 +80,19 @@ pub record IsFetchedFor (g : Given) (asked : Asked) (fronts : List (List ℕ)) :
 
 -- What was loaded for a command: the contents that the files tell, which spell this program alone.
 pub record IsLoaded (told : Option Told) (k : Command) (contents : List (List ℕ))
-    (program : Program) (root : Option ℕ) : Type 0 where
+    (program : Program) : Type 0 where
   pub told_as : AreToldAs told k.files contents
-  pub program_is : IsProgram (asked_by k) contents program root
+  pub program_is : IsProgram (asked_by k) contents program
   pub alone : SpellAlone contents (classes_for contents program)
 
 -- What was prepared for words: what they ask for with their plan, and its program.
 pub record IsPrepared (g : Given) (plan : Plan) (budget : ℕ) (contents : List (List ℕ))
-    (program : Program) (root : Option ℕ) : Type 0 where
+    (program : Program) : Type 0 where
   pub command : Command
   pub accepts : Accepts g command
   pub plan_is : plan ≡ command.plan
   pub budget_is : budget ≡ command.budget
-  pub loaded : IsLoaded g.told command contents program root
+  pub loaded : IsLoaded g.told command contents program
 
 -- A fetch fails only where the count rose, and the last failed name is then that of the file.
 pub record HasFetchCause (named : Option (List ℕ)) (files : List (List ℕ)) (old new : FilesView)
@@ -140,11 +140,11 @@ IsInputRefusal old new r =
     × IsLong old.left × TakesOneMore old.left new.left × (new.faults ≡ old.faults))
     ⊎ ((r ≡ NoMemory) × (new.faults ≡ old.faults)))
 
--- ---- behind a machine
+-- ---- behind a session
 
 -- What was made goes on.
 pub record IsSameRun (made k : Kept) : Type 0 where
-  pub program : SameProgram made.vm.value k.vm.value
+  pub program : SameProgram made.session.value k.session.value
   pub classes : k.classes ≡ made.classes
   pub plan : k.plan ≡ made.plan
   pub input : k.input ≡ made.input

@@ -1,6 +1,5 @@
 -- What the status of a call means, which contents are a program, and what is reported of a run.
 use Rattle.std.specs.Prelude.{◌≡◌, ℕ, ◌<◌, Bool, false, List, [], ◌∷◌, Option, Some, None, Result, Ok, Err, ◌==◌}
-use Rattle.std.specs.Option.{option_and_then}
 use Rattle.std.specs.List.{list_any}
 use Rattle.jf_bytes.specs.Streams.{greatest}
 use Rattle.const_pool.specs.declared.class.ClassFile.{ClassFile}
@@ -9,17 +8,17 @@ use Rattle.jvm_model.specs.declared.ending.Ending.TheVariants.{Returned, Exited,
 use Rattle.jvm_model.specs.declared.program.Program.{Program}
 use Rattle.admit_check.specs.declared.error.AdmitError.{AdmitError}
 use Rattle.admit_check.specs.Admission.{admission_of}
-use Rattle.small_program.specs.declared.admission.Refused.{Refused}
-use Rattle.small_program.specs.Admission.{selected, Runs, IsRefusedFor}
 use Rattle.plan_text.specs.declared.plan.Plan.{Plan}
-use Rattle.jfluid_cli.specs.Asking.{Asked, asked_by}
-use Rattle.small_machine.specs.View.{View, world}
+use Rattle.jfluid_cli.specs.Asking.{Asked}
+use Rattle.profile_session.specs.Sessions.{Profiling}
 use Rattle.jfluid_cli.specs.Contents.{AreFiles, classes_for}
-use Rattle.jfluid_cli.specs.Words.{Command, command_of}
-use Rattle.jfluid_cli.specs.Runs.{ending_at}
+use Rattle.jfluid_cli.specs.Runs.{acts_until, world_on}
 use Rattle.profile_report.specs.Reports.{report_text}
 use Rattle.jvm_model.specs.Projection.{projection}
-use Rattle.jfluid_cli.specs.Selections.{acts_for, swaps_for}
+use Rattle.jvm_model.specs.Originals.{original}
+use Rattle.jvm_model.specs.Run.{ending_of}
+use Rattle.jvm_model.specs.Swaps.{swaps_in}
+use Rattle.jvm_model.specs.Targets.{operations_of}
 
 -- ---- statuses
 
@@ -56,59 +55,43 @@ is_status = is_among (0 ∷ 1 ∷ 2 ∷ 3 ∷ 4 ∷ 5 ∷ 6 ∷ 7 ∷ 8 ∷ 9 �
 abbrev pub answer_for : Asked → List ClassFile → Result Program AdmitError
 answer_for a classes = admission_of classes a.main a.plan
 
--- These classes run so far with the plan, as this program with this root.
-abbrev pub RunAs : Asked → List ClassFile → Program → Option ℕ → Type 0
-RunAs a classes program root = Runs a.plan (answer_for a classes) classes program root
-
--- The contents are files of classes that run so far, as the first ones of this program with this
--- root.
-pub record IsProgram (a : Asked) (contents : List (List ℕ)) (program : Program) (root : Option ℕ)
-    : Type 0 where
+-- The contents are files of classes that are admitted, as the first ones of this program.
+pub record IsProgram (a : Asked) (contents : List (List ℕ)) (program : Program) : Type 0 where
   pub files : AreFiles contents (classes_for contents program)
-  pub runs : RunAs a (classes_for contents program) program root
+  pub admitted : answer_for a (classes_for contents program) ≡ Ok program
 
 -- some program is spelled
 abbrev pub HasProgram : Asked → List (List ℕ) → Type 0
-HasProgram a contents = (program : Program) × (root : Option ℕ) × IsProgram a contents program root
+HasProgram a contents = (program : Program) × IsProgram a contents program
 
--- classes are spelled that are refused so
-abbrev pub HasRefused : Asked → Refused → List (List ℕ) → Type 0
-HasRefused a refused contents =
-    (classes : List ClassFile)
-    × AreFiles contents classes × IsRefusedFor a.plan (answer_for a classes) classes refused
+-- classes are spelled that are not admitted, for this fault
+abbrev pub HasRefused : Asked → AdmitError → List (List ℕ) → Type 0
+HasRefused a fault contents =
+    (classes : List ClassFile) × AreFiles contents classes × (answer_for a classes ≡ Err fault)
 
 -- no program is spelled
 abbrev pub HasNoProgram : Asked → List (List ℕ) → Type 0
-HasNoProgram a contents =
-    (program : Program) (root : Option ℕ) → IsProgram a contents program root → ⊥
+HasNoProgram a contents = (program : Program) → IsProgram a contents program → ⊥
 
 -- ---- the report
 
--- what is reported of a machine's run, with the tree that is projected on the activations of the
--- root
-abbrev pub report_of : Option ℕ → View → List ℕ
-report_of root v =
-    let contexts = projection (acts_for root) (world v) v.clock in
-    report_text v.program (ending_at v v.clock) v.clock (swaps_for root) false contexts
+-- how often a class was swapped in the start and so many steps
+abbrev pub swaps_until : Program → List ℕ → ℕ → ℕ
+swaps_until p input n =
+    let w = world_on p input in
+    length (swaps_in (acts_until n p.acts) w (original p) (operations_of p) n)
 
--- the root of an admitted program
-abbrev pub root_of_answer : Result Program AdmitError → Option ℕ
-root_of_answer (Ok program) = selected program.acts
-root_of_answer (Err fault) = None
+-- what is reported of a program's run on an input after so many steps: its ending, the steps, the
+-- swaps, and the tree that is projected on the activations of the roots, under the actions so far
+abbrev pub report_on : Program → List ℕ → ℕ → List ℕ
+report_on p input n =
+    let w = world_on p input in
+    let contexts = projection (acts_until n p.acts) w n in
+    report_text p (ending_of w n) n (swaps_until p input n) false contexts
 
--- the root that a command names in the classes of its files, with which the program begins
-abbrev pub root_by : Command → Program → Option ℕ
-root_by command program =
-    root_of_answer (answer_for (asked_by command) (classes_for command.files program))
-
--- the root that the words name with this plan
-abbrev pub root_of : List (List ℕ) → Plan → Program → Option ℕ
-root_of words plan program =
-    option_and_then (λ command. root_by command program) (command_of words plan)
-
--- what is reported of the run of these words with this plan
-abbrev pub reported_of : List (List ℕ) → Plan → View → List ℕ
-reported_of words plan v = report_of (root_of words plan v.program) v
+-- what is reported of a session's run
+abbrev pub report_of : Profiling → List ℕ
+report_of s = report_on s.program s.input s.clock
 
 -- ---- counts of faults
 

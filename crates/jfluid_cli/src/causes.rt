@@ -2,13 +2,32 @@
 
 ghost use Rattle.std.specs.Prelude.{◌≡◌, IfOk};
 ghost use Rattle.std.specs.String.{string_bytes};
-ghost use Rattle.jfluid_cli.specs.Refusals.{admission_cause as cause_told, code_word as code_told};
+ghost use Rattle.jfluid_cli.specs.Refusals.{admission_cause as cause_told, class_in as class_of, code_word as code_told};
 ghost use Rattle.jfluid_cli.specs.Refusals.{place_text as place_told, shape_word as shape_told};
 ghost use Rattle.jfluid_cli.specs.Refusals.{limit_word as limit_told};
 
 use admit_check::{AdmitError, CodeCause, Place, ShapeCause};
 use inject_events::Cause;
 use std::alloc::{AllocError, Global};
+
+/// The position of the class that has the fault, or None where it is one of what is looked at behind
+/// the last class. What tells a fault of a class names its file.
+pub fn class_in(fault: AdmitError) -> Option<u32>
+    ensures { result ≡ class_of fault }
+{
+    match fault {
+        AdmitError::ReservedName(class)
+        | AdmitError::Duplicate(class)
+        | AdmitError::BadShape(class, _)
+        | AdmitError::BadCode(class, ..)
+        | AdmitError::FloatingPoint(class, _)
+        | AdmitError::NotProfilable(class, ..) => Some(class),
+        AdmitError::TooManyMethods(_)
+        | AdmitError::NoMain
+        | AdmitError::NoSuchRoot(_)
+        | AdmitError::NoMemory => None,
+    }
+}
 
 /// The name of what is wrong with a class's shape.
 fn shape_word(cause: ShapeCause) -> &'static str

@@ -1,11 +1,12 @@
 //! Reads the plan, and fetches, reads and admits the class files.
 
-ghost use Rattle.std.specs.Prelude.{◌≡◌, ◌≢◌, ◌≤◌, length, Some, ℕ, List, Option, IfOk, IfErr, IsOk};
+ghost use Rattle.std.specs.Prelude.{◌≡◌, ◌≢◌, ◌≤◌, length, [], Some, ℕ, List, Option, IfOk, IfErr, IsOk};
 ghost use Rattle.std.specs.List.{AllByRecursion};
 ghost use Rattle.const_pool.specs.ClassFile.{IsClassFile};
 ghost use Rattle.plan_text.specs.Bounds.{IsWithin};
 ghost use Rattle.plan_text.specs.Numbers.{greatest_steps};
 ghost use Rattle.command_line.specs.Words.{IsSound, most_files, read_in, texts};
+ghost use Rattle.jfluid_cli.specs.Actions.{AlternateRoots, CanBeTaken};
 ghost use Rattle.jfluid_cli.specs.Asking.{asked_for};
 ghost use Rattle.jfluid_cli.specs.Causes.{Given};
 ghost use Rattle.jfluid_cli.specs.Contents.{AreFetched, IsFrontFor, SpellsAlone, SpellAlone, classes_for};
@@ -15,16 +16,17 @@ ghost use Rattle.jfluid_cli.specs.Stages.{AreReadWith, IsFetchedFor, IsFetchFaul
 ghost use Rattle.jfluid_cli.specs.Stages.{IsReadRefusal, IsPrepared, IsEarly, HasFetchCause};
 ghost use Rattle.jfluid_cli.specs.Top.{IsProgram};
 ghost use Rattle.jfluid_cli.specs.Words.{accepted};
-ghost use Rattle.small_program.specs.Runnable.{IsRunnable};
+ghost use Rattle.program_fit.specs.Runnable.{IsAdmitted};
 
 use crate::plans::plan_of;
 use crate::refusal::{Refusal, word_at};
+use admit_check::{AdmitError, admit};
 use class_reader::{MOST_BYTES, ReadError, read_class};
 use command_line::{Words, command_of};
 use const_pool::ClassFile;
 use jf_bytes::{FetchError, Files, Seq, Text16};
+use jvm_model::Program;
 use plan_text::Plan;
-use small_program::{Admitted, Refused, admit};
 use std::alloc::Global;
 
 // ---- reading
@@ -68,14 +70,15 @@ fn read_program(
     contents: &[Seq<u8>],
     main: &Text16,
     plan: &Plan,
-) -> Result<Admitted, Refusal>
+) -> Result<Program, Refusal>
     requires few { length contents.now ≤ most_files }
     requires within { IsWithin plan.now }
+    requires alternate { AlternateRoots [] plan.now.actions }
     ensures ok { IfOk result (λ p.
-        IsProgram (asked_for main.now plan.now) contents.now p.program p.root) }
-    ensures alone { IfOk result (λ p.
-        SpellAlone contents.now (classes_for contents.now p.program)) }
-    ensures runnable { IfOk result (λ p. IsRunnable p.program p.root) }
+        IsProgram (asked_for main.now plan.now) contents.now p) }
+    ensures alone { IfOk result (λ p. SpellAlone contents.now (classes_for contents.now p)) }
+    ensures admitted { IfOk result IsAdmitted }
+    ensures acts { IfOk result (λ p. CanBeTaken p.acts) }
     ensures early { (g : Given) → IsFetchedFor g (asked_for main.now plan.now) contents.now →
         IfErr result (IsEarly g) }
     ensures calm { IfErr result (λ e. status_of e ≢ 7) }
@@ -85,10 +88,9 @@ fn read_program(
         Err(refusal) => return Err(refusal),
     };
     match admit(alloc, classes, main, plan) {
-        Ok(admitted) => Ok(admitted),
-        Err(Refused::Fault(fault)) => Err(Refusal::NotAdmitted(fault)),
-        Err(Refused::NotBuiltPlan) => Err(Refusal::NotBuiltPlan),
-        Err(Refused::NoMemory) => Err(Refusal::NoMemory),
+        Ok(program) => Ok(program),
+        Err(AdmitError::NoMemory) => Err(Refusal::NoMemory),
+        Err(fault) => Err(Refusal::NotAdmitted(fault)),
     }
 }
 
@@ -144,7 +146,7 @@ fn fetch_all<F: Files>(
 #[derive(Drop)]
 struct Found {
     contents: Seq<Seq<u8>>,
-    program: Admitted,
+    program: Program,
     budget: u64,
 }
 
@@ -154,7 +156,7 @@ struct Found {
 pub struct Loaded {
     pub plan: Plan,
     pub contents: Seq<Seq<u8>>,
-    pub program: Admitted,
+    pub program: Program,
     pub budget: u64,
 }
 
@@ -167,11 +169,13 @@ fn load<F: Files>(
 ) -> Result<Found, Refusal>
     requires sound { IsSound (read_in words.now) }
     requires within { IsWithin plan.now }
+    requires alternate { AlternateRoots [] plan.now.actions }
     ensures ok { (g : Given) → AreReadWith g (read_in words.now) plan.now →
-        g.told ≡ F.contents files.old → IfOk result (λ l. let p = l.program in
-        IsPrepared g plan.now l.budget l.contents p.program p.root) }
+        g.told ≡ F.contents files.old → IfOk result (λ l.
+        IsPrepared g plan.now l.budget l.contents l.program) }
     ensures small { IfOk result (λ l. l.budget ≤ greatest_steps) }
-    ensures runnable { IfOk result (λ l. IsRunnable l.program.program l.program.root) }
+    ensures admitted { IfOk result (λ l. IsAdmitted l.program) }
+    ensures acts { IfOk result (λ l. CanBeTaken l.program.acts) }
     ensures early { (g : Given) → AreReadWith g (read_in words.now) plan.now →
         g.told ≡ F.contents files.old → IfErr result (IsEarly g) }
     ensures calm { IsOk result → F.faults files.new ≡ F.faults files.old }
@@ -201,10 +205,11 @@ fn load<F: Files>(
 pub fn prepare<F: Files>(alloc: Global, words: &Words<'_>, files: &mut F) -> Result<Loaded, Refusal>
     requires sound { IsSound (read_in words.now) }
     ensures ok { (g : Given) → accepted g.words ≡ Some (read_in words.now) →
-        g.told ≡ F.contents files.old → IfOk result (λ l. let p = l.program in
-        IsPrepared g l.plan l.budget l.contents p.program p.root) }
+        g.told ≡ F.contents files.old → IfOk result (λ l.
+        IsPrepared g l.plan l.budget l.contents l.program) }
     ensures small { IfOk result (λ l. l.budget ≤ greatest_steps) }
-    ensures runnable { IfOk result (λ l. IsRunnable l.program.program l.program.root) }
+    ensures admitted { IfOk result (λ l. IsAdmitted l.program) }
+    ensures acts { IfOk result (λ l. CanBeTaken l.program.acts) }
     ensures early { (g : Given) → accepted g.words ≡ Some (read_in words.now) →
         g.told ≡ F.contents files.old → IfErr result (IsEarly g) }
     ensures calm { IsOk result → F.faults files.new ≡ F.faults files.old }

@@ -1,11 +1,12 @@
 //! The plan of the words: of the file that they name, of their word for a root, or the silent one.
 
-ghost use Rattle.std.specs.Prelude.{◌≡◌, ℕ, List, Ok, Some, IfOk, IfErr, IsOk};
+ghost use Rattle.std.specs.Prelude.{◌≡◌, ℕ, List, [], Ok, Some, IfOk, IfErr, IsOk};
 ghost use Rattle.jf_bytes.specs.Streams.{IsFetched};
 ghost use Rattle.plan_text.specs.Bounds.{IsWithin};
 ghost use Rattle.plan_text.specs.Lines.{IsPlanRead, most_bytes};
 ghost use Rattle.command_line.specs.Chosen.{IsOwnPlan};
 ghost use Rattle.command_line.specs.Words.{read_in, text};
+ghost use Rattle.jfluid_cli.specs.Actions.{AlternateRoots};
 ghost use Rattle.jfluid_cli.specs.Asking.{IsToldPlan, IsPlanFor};
 ghost use Rattle.jfluid_cli.specs.Refusals.{refusal_of};
 ghost use Rattle.jfluid_cli.specs.Sinks.{files_view};
@@ -103,6 +104,7 @@ pub fn plan_of<F: Files>(alloc: Global, words: &Words<'_>, files: &mut F) -> Res
     ensures planned { IfOk result (λ plan.
         IsPlanFor (F.contents files.old) (read_in words.now) (Ok plan)) }
     ensures within { IfOk result IsWithin }
+    ensures alternate { IfOk result (λ plan. AlternateRoots [] plan.actions) }
     ensures stay { F.contents files.new ≡ F.contents files.old }
     ensures calm { IsOk result → F.faults files.new ≡ F.faults files.old }
     ensures refused { IfErr result (IsPlanRefusal (F.contents files.old) (read_in words.now)) }

@@ -9,12 +9,11 @@ ghost use Rattle.jfluid_cli.specs.Refusals.{status_of, cause_of, refusal_line, t
 ghost use Rattle.jfluid_cli.specs.Refusals.{line_word as line_told, plan_cause as plan_told};
 ghost use Rattle.jfluid_cli.specs.Sinks.{PutsOrRose, sink_view};
 
-use crate::causes::admission_cause;
+use crate::causes::{admission_cause, class_in};
 use admit_check::AdmitError;
 use class_reader::ReadError;
 use jf_bytes::Sink;
 use plan_text::{LineCause, PlanError};
-use small_program::class_in;
 use std::alloc::{AllocError, Global};
 
 /// Why the program gives no report. Each has a status, and a line that is put to the report.
@@ -31,10 +30,6 @@ pub enum Refusal {
     NotRead(u32, ReadError),
     /// The program is not admitted, and this is its first fault: status 3.
     NotAdmitted(AdmitError),
-    /// The plan has actions other than one that selects a root before the first step; or
-    /// there is a root, and the program has several classes, or its class is not small, or the root is a
-    /// method of a built-in class: status 3.
-    NotBuiltPlan,
     /// A take of the input failed: status 5.
     InputFailed,
     /// A put of the program's output failed: status 6.
@@ -56,7 +51,7 @@ impl Refusal {
     {
         match self {
             Refusal::Clap(_) | Refusal::Words | Refusal::Plan(_) => 2,
-            Refusal::NotRead(..) | Refusal::NotAdmitted(_) | Refusal::NotBuiltPlan => 3,
+            Refusal::NotRead(..) | Refusal::NotAdmitted(_) => 3,
             Refusal::InputFailed => 5,
             Refusal::OutFailed => 6,
             Refusal::PlanNotFetched | Refusal::NotFetched(_) => 7,
@@ -192,7 +187,6 @@ fn line(
         Refusal::Plan(fault) => plan_line(alloc, fault),
         Refusal::NotRead(at, fault) => fault_line(alloc, *fault, word_at(files, *at)),
         Refusal::NotAdmitted(fault) => admission_line(alloc, *fault, files),
-        Refusal::NotBuiltPlan => String::from_str(alloc, "jfluid: NotBuiltPlan\n"),
         Refusal::InputFailed => String::from_str(alloc, "jfluid: input failed\n"),
         Refusal::OutFailed => String::from_str(alloc, "jfluid: output failed\n"),
         Refusal::PlanNotFetched => fetch_line(alloc, plan_word(plan)),

@@ -4,12 +4,12 @@ ghost use Rattle.std.specs.Prelude.{◌≡◌, ◌≤◌, ◌<◌, ◌⊎◌, �
 ghost use Rattle.plan_text.specs.Numbers.{greatest_steps};
 ghost use Rattle.command_line.specs.Raw.{AreTexts};
 ghost use Rattle.command_line.specs.Words.{IsSound, read_in, texts};
+ghost use Rattle.profile_session.specs.Answers.{Gathers};
+ghost use Rattle.jfluid_cli.specs.Actions.{CanBeTaken};
 ghost use Rattle.jfluid_cli.specs.Calls.{Call, IsReported, IsRun, IsAnswered};
 ghost use Rattle.jfluid_cli.specs.Stages.{IsStopped, IsSameRun, IsCarried};
-ghost use Rattle.jfluid_cli.specs.Runs.{IsFresh, IsTold, is_ended_at, IsGoing, PutsAtMost};
-ghost use Rattle.jfluid_cli.specs.Selections.{IsSelected};
+ghost use Rattle.jfluid_cli.specs.Runs.{IsFresh, IsGoing, IsPlanned, PutsAtMost, SameProgram};
 ghost use Rattle.jfluid_cli.specs.Sinks.{Streams, IsUntold, sink_view, source_view, files_view};
-ghost use Rattle.jfluid_cli.specs.Top.{report_of};
 ghost use Rattle.jfluid_cli.specs.Words.{accepted};
 
 use crate::input::take;
@@ -21,35 +21,32 @@ use crate::reporting::give_report;
 use crate::running::{Stop, run_all};
 use crate::words::{read, texts_in};
 use command_line::Words;
-use context_tree::Tree;
 use jf_bytes::{Files, NoMemory, Seq, Sink, Source};
-use small_machine::Vm;
+use profile_session::Session;
 use std::alloc::Global;
 
 /// Answers for a run that was carried out, or that stopped.
 fn answer<P: Sink>(
     alloc: Global,
     outcome: Result<(), Stop>,
-    vm: &Vm,
-    tree: &mut Tree,
-    root: Option<u32>,
+    session: &mut Session,
     out: &mut P,
 ) -> Result<u8, Refusal>
-    requires going { OnOk outcome (IsGoing vm.now) }
-    requires told { OnOk outcome (IsTold tree.old vm.now) }
-    requires selected { IsSelected root vm.now }
-    requires first { OnOk outcome ((m : ℕ) → m < vm.now.clock → is_ended_at vm.now m ≡ false) }
+    requires going { OnOk outcome (IsGoing session.old) }
+    requires planned { OnOk outcome (IsPlanned session.old) }
     ensures carried_out { IfOk result (λ _. IsOk outcome) }
+    ensures gathered { OnOk result (Gathers session.old session.new) }
+    ensures same { SameProgram session.old session.new }
     ensures reported { let old = sink_view (P.taken out.old) (P.faults out.old) in
         let new = sink_view (P.taken out.new) (P.faults out.new) in
         MatchResult result
-        (IsReported vm.now (report_of root vm.now) old new)
+        (IsReported session.new old new)
         (λ e. IsUntold old new) }
     ensures stopped { IfErr result (λ e.
         ((e ≡ Refusal.OutFailed) × (outcome ≡ Err Stop.OutFailed)) ⊎ (e ≡ Refusal.NoMemory)) }
 {
     match outcome {
-        Ok(()) => give_report(alloc, vm, tree, root, out),
+        Ok(()) => give_report(alloc, session, out),
         Err(Stop::OutFailed) => Err(Refusal::OutFailed),
         Err(Stop::NoMemory) => Err(Refusal::NoMemory),
     }
@@ -59,14 +56,13 @@ fn answer<P: Sink>(
 fn run_made<O: Sink, P: Sink>(
     alloc: Global,
     made_of: Kept,
-    root: Option<u32>,
     budget: u64,
     out: &mut O,
     report: &mut P,
     kept: &mut Option<Kept>,
 ) -> Result<u8, Refusal>
-    requires fresh { IsFresh made_of.vm.value }
-    requires selected { IsSelected root made_of.vm.value }
+    requires fresh { IsFresh made_of.session.value }
+    requires acts { CanBeTaken made_of.session.value.program.acts }
     requires small { budget ≤ greatest_steps }
     ensures same { IsSomeAnd kept.new (IsSameRun made_of) }
     ensures run { let s : Streams = record {
@@ -76,15 +72,14 @@ fn run_made<O: Sink, P: Sink>(
       report_after = sink_view (P.taken report.new) (P.faults report.new);
     } in
         MatchResult result
-        (λ status. IsSomeAnd kept.new (IsRun budget (report_of root) s status))
+        (λ status. IsSomeAnd kept.new (IsRun budget s status))
         (IsStopped s) }
-    ensures front { PutsAtMost made_of.vm.value budget (O.taken out.old) (O.taken out.new) }
+    ensures front { PutsAtMost made_of.session.value budget (O.taken out.old) (O.taken out.new) }
 {
     let mut ran = made_of;
-    let mut tree = Tree::new(alloc);
-    let vm = &mut *ran.vm;
-    let outcome = run_all(vm, &mut tree, out, budget);
-    let answered = answer(alloc, outcome, vm, &mut tree, root, report);
+    let session = &mut *ran.session;
+    let outcome = run_all(session, out, budget);
+    let answered = answer(alloc, outcome, session, report);
     *kept = Some(ran);
     answered
 }
@@ -127,12 +122,11 @@ fn carry_out<F: Files, I: Source, O: Sink, P: Sink>(
         Ok(bytes) => bytes,
         Err(refusal) => return Err(refusal),
     };
-    let root = loaded.program.root;
     let budget = loaded.budget;
     let Ok(made_of) = make(alloc, loaded, bytes) else {
         return Err(Refusal::NoMemory);
     };
-    run_made(alloc, made_of, root, budget, out, report, kept)
+    run_made(alloc, made_of, budget, out, report, kept)
 }
 
 /// Answers for words that are texts.
@@ -217,15 +211,17 @@ fn answer_words<F: Files, I: Source, O: Sink, P: Sink>(
 ///
 /// The main class is M, with slashes for dots, else the plan's; the budget is N, else the plan's,
 /// else 100,000,000; the heap is the plan's, else 4,194,304 slots. `--root R` is a plan that selects R
-/// before the first step: class, dot, name and descriptor, as in `P1.f(I)I`. The activations of the
-/// selected method and what they call are profiled: the class is rewritten before the start, and the
-/// report has the tree of calling contexts, which is empty without it. So far a program runs with a
-/// plan of no other actions; with a root it is one small class. Nothing is put to
-/// `images`. What was run is left in `kept`.
+/// before the first step: class, dot, name and descriptor, as in `P1.f(I)I`. A plan selects and
+/// deselects methods at the moments that it names, before the start or behind so many steps. The
+/// activations that begin in a method while it is selected are profiled with what they call: the
+/// classes that they need are rewritten while the program runs, and the report has the tree of their
+/// calling contexts, which is empty without any. The output is put after the start and after each
+/// slice of steps, which ends at the next action, after 65,536 steps, or at the budget. Nothing is put
+/// to `images`. What was run is left in `kept`.
 ///
 /// The statuses are 0, the run returned, or the program called System.exit, with the budget's last step
 /// at the latest; 1, it ended uncaught; 2, the words or the plan are refused; 3, a file is no class
-/// file, the program is not admitted, or it does not run with its plan so far; 4, the budget was spent
+/// file, or the program is not admitted; 4, the budget was spent
 /// before the run ended; 5, a take of input failed; 6, a put of output failed; 7, the plan or a file
 /// could not be fetched; 8, a put of the report failed; 9, no memory was left; 10, the code is
 /// unverifiable; 11, there are more than 16,777,216 bytes of input. With 2, 3, 5, 6, 7, 9 and 11 a

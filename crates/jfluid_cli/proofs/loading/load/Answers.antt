@@ -27,15 +27,14 @@ returns-in-Ok-read_program-clause-ok g c = λ given with_plan told.
     let words = read_in c.args.words.now in
     let of = chosen_in c.in-Some.command in
     let command : Command = command_with words c.args.plan.now of in
-    let p = c.in-Ok-read_program.program in
     record {
       command = command;
       accepts = made-command given words c.args.plan.now of with_plan c.in-Some.ensures.chosen;
       plan_is = refl;
       budget_is = refl;
-      loaded = subst (λ (t : Option Told). IsLoaded t command c.in-Ok.contents p.program p.root) (sym told)
+      loaded = subst (λ (t : Option Told). IsLoaded t command c.in-Ok.contents c.in-Ok-read_program.program) (sym told)
           (loaded (g.F.Files.contents c.args.files.now) command c.in-Ok.contents c.as_slice.result.now
-          p.program p.root (subst (λ (names : List (List ℕ)). AreFetched (g.F.Files.contents c.args.files.now) names c.in-Ok.contents)
+          c.in-Ok-read_program.program (subst (λ (names : List (List ℕ)). AreFetched (g.F.Files.contents c.args.files.now) names c.in-Ok.contents)
           (ap texts c.deref.ensures.value) c.in-Ok.ensures.found) (sym c.as_slice.ensures) c.in-Ok-read_program.ensures.ok
           c.in-Ok-read_program.ensures.alone);
     }

@@ -1,8 +1,9 @@
 use Rattle.std.proofs.Common.{subst, arith, length, ◌≤◌}
-use Rattle.small_program.specs.Admission.{IsRefusedFor}
 use Rattle.jfluid_cli.specs.Asking.{asked_for}
 use Rattle.jfluid_cli.specs.Contents.{SpellsAlone}
-use Rattle.jfluid_cli.proofs.Early.{due-unread, due-fault, due-unbuilt}
+use Rattle.jfluid_cli.proofs.Early.{due-unread, due-fault}
+use Rattle.jfluid_cli.proofs.Admitted.{acts-in-order, first-classes}
+use Rattle.jfluid_cli.proofs.Alternating.{acts-alternating}
 use Rattle.jfluid_cli.proofs.Pairs.{zip-length}
 use Rattle.jfluid_cli.proofs.Spelled.{spelled-program, spelled-alone}
 use Rattle.jfluid_cli.proofs.loading.read_program.Goals as goal
@@ -28,25 +29,29 @@ returns-in-Err-clause-early c g f =
 pub returns-in-Ok-admit-clause-ok : goal.returns-in-Ok-admit-clause-ok
 returns-in-Ok-admit-clause-ok c =
     spelled-program (asked_for c.args.main.now c.args.plan.now) c.args.contents.now c.in-Ok.classes
-    c.in-Ok-admit.admitted.program c.in-Ok-admit.admitted.root c.in-Ok.ensures.found
-    c.in-Ok-admit.ensures.same c.in-Ok-admit.ensures.runs
+    c.in-Ok-admit.program c.in-Ok.ensures.found
+    (first-classes c.in-Ok.classes c.args.main.now c.in-Ok-admit.program c.in-Ok-admit.ensures.sound) c.in-Ok-admit.ensures.admitted
 
 pub returns-in-Ok-admit-clause-alone : goal.returns-in-Ok-admit-clause-alone
 returns-in-Ok-admit-clause-alone c =
-    spelled-alone c.args.contents.now c.in-Ok.classes c.in-Ok-admit.admitted.program
-    c.in-Ok.ensures.found c.in-Ok-admit.ensures.same
+    spelled-alone c.args.contents.now c.in-Ok.classes c.in-Ok-admit.program c.in-Ok.ensures.found
+    (first-classes c.in-Ok.classes c.args.main.now c.in-Ok-admit.program c.in-Ok-admit.ensures.sound)
+
+pub returns-in-Ok-admit-clause-admitted : goal.returns-in-Ok-admit-clause-admitted
+returns-in-Ok-admit-clause-admitted c =
+    record { classes = c.in-Ok.classes; name = c.args.main.now; is = c.in-Ok-admit.ensures.sound }
+
+pub returns-in-Ok-admit-clause-acts : goal.returns-in-Ok-admit-clause-acts
+returns-in-Ok-admit-clause-acts c = record {
+  in_order = acts-in-order c.in-Ok.classes c.args.main.now c.args.plan.now c.in-Ok-admit.program
+      c.requires.within.rising c.in-Ok-admit.ensures.admitted;
+  alternate = acts-alternating c.in-Ok.classes c.args.main.now c.args.plan.now c.in-Ok-admit.program
+      c.requires.alternate c.in-Ok-admit.ensures.admitted;
+}
 
 -- ---- what does not
 
-pub returns-in-Err-Fault-clause-early : goal.returns-in-Err-Fault-clause-early
-returns-in-Err-Fault-clause-early c g f =
+pub returns-in-Err-admit-clause-early : goal.returns-in-Err-admit-clause-early
+returns-in-Err-admit-clause-early c g f =
     due-fault g (asked_for c.args.main.now c.args.plan.now) c.args.contents.now c.in-Ok.classes
-    c.in-Err-Fault.fault f c.in-Ok.ensures.found
-    (subst (IsRefusedFor c.args.plan.now _ c.in-Ok.classes) c.in-Err-Fault.field-0-is c.in-Err-Fault.ensures.refused)
-
-pub returns-in-Err-NotBuiltPlan-clause-early : goal.returns-in-Err-NotBuiltPlan-clause-early
-returns-in-Err-NotBuiltPlan-clause-early c g f =
-    due-unbuilt g (asked_for c.args.main.now c.args.plan.now) c.args.contents.now c.in-Ok.classes f
-    c.in-Ok.ensures.found
-    (subst (IsRefusedFor c.args.plan.now _ c.in-Ok.classes) c.in-Err-NotBuiltPlan.field-0-is
-    c.in-Err-NotBuiltPlan.ensures.refused)
+    c.in-Err-admit.fault f c.in-Ok.ensures.found ?

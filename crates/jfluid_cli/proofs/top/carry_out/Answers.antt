@@ -3,8 +3,10 @@ use Rattle.std.specs.Prelude.{IfSome}
 use Rattle.plan_text.specs.declared.plan.Plan.{Plan}
 use Rattle.command_line.specs.Input.{most_input}
 use Rattle.command_line.specs.Words.{read_in}
+use Rattle.jvm_model.specs.declared.program.Program.{Program}
+use Rattle.jfluid_cli.specs.Actions.{CanBeTaken}
 use Rattle.jfluid_cli.specs.Causes.{Given}
-use Rattle.jfluid_cli.specs.Selections.{RunsProgram}
+use Rattle.jfluid_cli.specs.Runs.{RunsProgram}
 use Rattle.jfluid_cli.specs.Stages.{IsPrepared}
 use Rattle.jfluid_cli.proofs.Carried.{carried-refused, carried-input, carried-memory, carried-run, of-program}
 use Rattle.jfluid_cli.proofs.top.carry_out.Goals as goal
@@ -23,7 +25,7 @@ returns-in-Err-take g c =
       carried = λ list read. carried-input _ c.in-Err-take.refusal c.requires.empty
           (record { taken = refl; faults = refl }) (record { taken = refl; faults = refl })
           (c.in-Ok.ensures.calm refl)
-          (of-program _ l.plan l.budget l.contents l.program.program l.program.root (c.in-Ok.ensures.ok _ read refl))
+          (of-program _ l.plan l.budget l.contents l.program (c.in-Ok.ensures.ok _ read refl))
           c.in-Err-take.ensures.refused;
     }
 
@@ -32,6 +34,10 @@ returns-in_default g c = record {
   carried = λ list read. carried-memory _ c.requires.empty
       (record { taken = refl; faults = refl }) (record { taken = refl; faults = refl });
 }
+
+pub run_made-requires-clause-acts : goal.run_made-requires-clause-acts
+run_made-requires-clause-acts g c =
+    subst (λ (p : Program). CanBeTaken p.acts) (sym c.in-Ok-make.ensures.runs.program_is) c.in-Ok.ensures.acts
 
 pub returns : goal.returns
 returns g c =
@@ -44,21 +50,19 @@ returns g c =
             told = g.F.Files.contents c.args.files.now;
             left = g.I.Source.left c.args.input.now;
           } in
-          carried-run _ l.budget l.program.root made c.run_made.result
+          carried-run _ l.budget made c.run_made.result
           (record {
-            program = l.program.program;
-            prepared = subst (λ (p : Plan). IsPrepared given p l.budget made.classes l.program.program l.program.root)
+            program = l.program;
+            prepared = subst (λ (p : Plan). IsPrepared given p l.budget made.classes l.program)
                 (sym c.in-Ok-make.ensures.plan)
-                (subst (λ (contents : List (List ℕ)). IsPrepared given l.plan l.budget contents l.program.program
-                l.program.root) (sym c.in-Ok-make.ensures.classes) (c.in-Ok.ensures.ok given read refl));
-            runs = subst (λ (bytes : List ℕ). RunsProgram l.program.program bytes made.vm.value)
+                (subst (λ (contents : List (List ℕ)). IsPrepared given l.plan l.budget contents l.program) (sym c.in-Ok-make.ensures.classes) (c.in-Ok.ensures.ok given read refl));
+            runs = subst (λ (bytes : List ℕ). RunsProgram l.program bytes made.session.value)
                 (sym c.in-Ok-make.ensures.input) c.in-Ok-make.ensures.runs;
             input = subst (λ (bytes : List ℕ). IfSome given.left (λ all. bytes ≡ all))
                 (sym c.in-Ok-make.ensures.input) c.in-Ok-take.ensures.all;
             short = subst (λ (bytes : List ℕ). length bytes ≤ most_input)
                 (sym c.in-Ok-make.ensures.input) c.in-Ok-take.ensures.short;
             ended = c.in-Ok-take.ensures.ended refl;
-            selected = c.in-Ok-make.ensures.selected;
           })
           c.run_made.ensures.same c.run_made.ensures.run c.run_made.ensures.front
           (c.in-Ok.ensures.calm refl) (c.in-Ok-take.ensures.calm refl));

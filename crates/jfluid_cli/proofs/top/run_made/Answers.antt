@@ -1,13 +1,6 @@
 use Rattle.jfluid_cli.specs.Sinks.{Streams}
-use Rattle.jfluid_cli.specs.Top.{report_of}
-use Rattle.jfluid_cli.proofs.Answered.{first-end, run-answer}
+use Rattle.jfluid_cli.proofs.Answered.{run-answer}
 use Rattle.jfluid_cli.proofs.top.run_made.Goals as goal
-
-pub answer-answered-requires-clause-first : goal.answer-answered-requires-clause-first
-answer-answered-requires-clause-first g c =
-    first-end c.run_all-outcome.result c.run_all-outcome.new.vm c.args.budget
-    (g.O.Sink.taken c.args.out.now)
-    (g.O.Sink.taken c.run_all-outcome.new.out) c.run_all-outcome.ensures.carried_out
 
 pub returns-clause-run : goal.returns-clause-run
 returns-clause-run g c =
@@ -30,7 +23,8 @@ returns-clause-run g c =
       };
     } in
     run-answer c.answer-answered.result c.run_all-outcome.result s c.args.budget
-    (report_of c.args.root) (record c.args.made_of { vm = record c.args.made_of.vm { value = c.run_all-outcome.new.vm } })
-    c.answer-answered.ensures.carried_out c.answer-answered.ensures.reported
+    c.run_all-outcome.new.session
+    (record c.args.made_of { session = record c.args.made_of.session { value = c.answer-answered.new.session } })
+    c.answer-answered.ensures.carried_out c.answer-answered.ensures.gathered c.answer-answered.ensures.reported
     c.answer-answered.ensures.stopped c.run_all-outcome.ensures.carried_out
     c.run_all-outcome.ensures.cause

@@ -1,3 +1,0 @@
-pub mod Admission
-pub mod Runnable
-pub mod Shapes
