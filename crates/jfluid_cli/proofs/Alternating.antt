@@ -10,8 +10,6 @@ use Rattle.std.proofs.lemmas.Bool.{cases_Bool, eq-eqb, eqb-true, ne_eqb, or_from
 use Rattle.std.proofs.lemmas.Option.{same_Some, none-some}
 use Rattle.std.proofs.lemmas.Str.{IsUtf8-from_is_utf8, is_utf8-from_IsUtf8}
 use Rattle.const_pool.specs.declared.class.ClassFile.{ClassFile}
-use Rattle.plan_text.specs.declared.lines.Word.{Word}
-use Rattle.plan_text.specs.declared.lines.Word.TheVariants.{Main, Arg, Budget, Heap, At}
 use Rattle.plan_text.specs.declared.plan.Action.{Action}
 use Rattle.plan_text.specs.declared.plan.Plan.{Plan}
 use Rattle.plan_text.specs.declared.plan.LineCause.TheVariants as cause
@@ -104,12 +102,12 @@ ordered-fine number plan moment (Some select) word r fine is = acted-fine number
 
 option-fine : {A : Type 0} (o : Option A) (r : Answer) (Without : Type 0) (With : A → Type 0) → (Without → IsFine r)
     → ((x : A) → With x → IsFine r) → MatchOption o Without With → IsFine r
-option-fine None r Without With none some is = none is
-option-fine (Some x) r Without With none some is = some x is
+option-fine None r Without With first second is = first is
+option-fine (Some x) r Without With first second is = second x is
 
 bool-fine : (b : Bool) (r : Answer) (Yes No : Type 0) → (Yes → IsFine r) → (No → IsFine r) → MatchBool b Yes No → IsFine r
-bool-fine true r Yes No yes no is = yes is
-bool-fine false r Yes No yes no is = no is
+bool-fine true r Yes No first second is = first is
+bool-fine false r Yes No first second is = second is
 
 timed-fine : (number : ℕ) (plan : Plan) (rest : List ℕ) (r : Answer) → AlternateRoots [] plan.actions
     → IsTimed number plan rest r → IsFine r
@@ -147,15 +145,29 @@ heap-fine number plan (Some slots) fine = by (is_some plan.heap) where
   by true = tt
   by false = fine
 
-worded-fine : (number : ℕ) (plan : Plan) (word : Option Word) (rest : List ℕ) (r : Answer) → AlternateRoots [] plan.actions
-    → IsWorded number plan word rest r → IsFine r
-worded-fine number plan None rest r fine is = is-fine r _ is tt
-worded-fine number plan (Some Main) rest r fine is = is-fine r _ is (main-fine number plan rest fine)
-worded-fine number plan (Some Arg) rest r fine is = is-fine r _ is (arg-fine number plan rest fine)
-worded-fine number plan (Some Budget) rest r fine is =
-    is-fine r _ is (budget-fine number plan (number_of greatest_steps rest) fine)
-worded-fine number plan (Some Heap) rest r fine is = is-fine r _ is (heap-fine number plan (heap_of rest) fine)
-worded-fine number plan (Some At) rest r fine is = timed-fine number plan rest r fine is
+-- by the word that a line begins with
+by-word : {W : Type 0} (main arg budget heap action : W) (a b c d e : Bool) (Is : Option W → Type 0) (F : Type 0)
+    → Is (cond a (Some main) (cond b (Some arg) (cond c (Some budget) (cond d (Some heap) (cond e (Some action) None)))))
+    → (Is (Some main) → F) → (Is (Some arg) → F) → (Is (Some budget) → F) → (Is (Some heap) → F) → (Is (Some action) → F)
+    → (Is None → F) → F
+by-word main arg budget heap action true b c d e Is F is one two three four five six = one is
+by-word main arg budget heap action false true c d e Is F is one two three four five six = two is
+by-word main arg budget heap action false false true d e Is F is one two three four five six = three is
+by-word main arg budget heap action false false false true e Is F is one two three four five six = four is
+by-word main arg budget heap action false false false false true Is F is one two three four five six = five is
+by-word main arg budget heap action false false false false false Is F is one two three four five six = six is
+
+worded-fine : (number : ℕ) (plan : Plan) (word rest : List ℕ) (r : Answer) → AlternateRoots [] plan.actions
+    → IsWorded number plan (word_of word) rest r → IsFine r
+worded-fine number plan word rest r fine is =
+    by-word _ _ _ _ _ (bytes_eq word (codes "main")) (bytes_eq word (codes "arg")) (bytes_eq word (codes "budget"))
+    (bytes_eq word (codes "heap")) (bytes_eq word (codes "at")) (λ w. IsWorded number plan w rest r) (IsFine r) is
+    (λ e. is-fine r _ e (main-fine number plan rest fine))
+    (λ e. is-fine r _ e (arg-fine number plan rest fine))
+    (λ e. is-fine r _ e (budget-fine number plan (number_of greatest_steps rest) fine))
+    (λ e. is-fine r _ e (heap-fine number plan (heap_of rest) fine))
+    (λ e. timed-fine number plan rest r fine e)
+    (λ e. is-fine r _ e tt)
 
 said-fine : (number : ℕ) (plan : Plan) (line : List ℕ) (r : Answer) → AlternateRoots [] plan.actions
     → IsSaid number plan line r → IsFine r
@@ -163,7 +175,7 @@ said-fine number plan line r fine =
     bool-fine (is_silent line) r _ _ (λ e. is-fine r _ e fine)
     (bool-fine (bytes_eq line (codes "arg")) r _ _ (λ e. is-fine r _ e (arg-fine number plan [] fine))
     (option-fine (halves line) r _ _ (λ e. is-fine r _ e tt)
-    (λ parts. worded-fine number plan (word_of parts.0) parts.1 r fine)))
+    (λ parts. worded-fine number plan parts.0 parts.1 r fine)))
 
 line-fine : (number : ℕ) (plan : Plan) (line : List ℕ) (r : Answer) → AlternateRoots [] plan.actions
     → IsLine number plan line r → IsFine r

@@ -1,10 +1,11 @@
 -- Why nothing is made: each refusal before the input is taken, from what the readers say of the contents.
-use Rattle.std.proofs.Common.{◌≡◌, ℕ, ◌<◌, List, length, take, Option, Some, None, refl, sym, ap, subst, ◌∙◌, true, inl, inr, Err}
-use Rattle.std.specs.Prelude.{option_map, slice_get}
+use Rattle.std.proofs.Common.{◌≡◌, ℕ, ◌<◌, List, length, take, Option, Some, None, refl, sym, ap, subst, ◌∙◌, Bool, true, false, cond, inl, inr, Err}
+use Rattle.std.specs.Prelude.{◌≢◌, option_map, slice_get}
 use Rattle.jf_bytes.specs.Streams.{Told, Rose}
 use Rattle.const_pool.specs.declared.class.ClassFile.{ClassFile}
 use Rattle.jvm_model.specs.declared.program.Program.{Program}
 use Rattle.admit_check.specs.declared.error.AdmitError.{AdmitError}
+use Rattle.admit_check.specs.declared.error.AdmitError.TheVariants as admit
 use Rattle.plan_text.specs.declared.plan.Plan.{Plan}
 use Rattle.plan_text.specs.declared.plan.PlanError.{PlanError}
 use Rattle.plan_text.specs.declared.plan.PlanError.TheVariants as plan
@@ -13,7 +14,7 @@ use Rattle.command_line.specs.Words.{Read}
 use Rattle.jfluid_cli.specs.declared.refusal.Refusal.{Refusal}
 use Rattle.jfluid_cli.specs.declared.refusal.Refusal.TheVariants as refusal
 use Rattle.jfluid_cli.specs.declared.refusal.Refusal.TheVariants.{NotRead, NotAdmitted, PlanNotFetched, NotFetched, NoMemory}
-use Rattle.jfluid_cli.specs.Refusals.{status_of, refusal_of}
+use Rattle.jfluid_cli.specs.Refusals.{is_memory, refusal_for, refusal_of, status_of}
 use Rattle.jfluid_cli.specs.Asking.{Asked, asked_by, IsPlanFor}
 use Rattle.jfluid_cli.specs.Causes.{Given, Accepts, Because, OfClasses}
 use Rattle.jfluid_cli.specs.Contents.{AreFetched, AreToldAs, SpellAlone, classes_for}
@@ -153,6 +154,26 @@ pub due-fault : (g : Given) (asked : Asked) (fronts : List (List ℕ)) (classes 
     → answer_for asked classes ≡ Err fault → IsEarly g (NotAdmitted fault)
 due-fault g asked fronts classes fault f alone is =
     due g (NotAdmitted fault) refl (of-classes g asked fronts classes fault f alone is)
+
+not-both : false ≡ true → ⊥
+not-both e = cc
+
+-- a fault of admission that is no want of memory
+pub due-admission : (g : Given) (asked : Asked) (fronts : List (List ℕ)) (classes : List ClassFile)
+    (fault : AdmitError) → IsFetchedFor g asked fronts → SpellAlone fronts classes
+    → (fault ≢ admit.NoMemory → answer_for asked classes ≡ Err fault) → IsEarly g (refusal_for fault)
+due-admission g asked fronts classes fault f alone is = by (is_memory fault) refl where
+  by : (b : Bool) → is_memory fault ≡ b → IsEarly g (cond b NoMemory (NotAdmitted fault))
+  by true memory = due-memory g
+  by false other =
+      due-fault g asked fronts classes fault f alone
+      (is (λ same. not-both (sym other ∙ ap is_memory same)))
+
+pub admission-calm : (fault : AdmitError) → status_of (refusal_for fault) ≢ 7
+admission-calm fault = by (is_memory fault) where
+  by : (b : Bool) → status_of (cond b NoMemory (NotAdmitted fault)) ≢ 7
+  by true = λ e. cc e
+  by false = λ e. cc e
 
 -- what was fetched for a command, and what it asks for
 pub fetched : (g : Given) (k : Command) (told : Option Told) (fronts deref : List (List ℕ)) → Accepts g k

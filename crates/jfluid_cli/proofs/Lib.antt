@@ -17,5 +17,6 @@ pub mod Answered
 pub mod Carried
 pub mod Fixed
 pub mod Finished
+pub mod Profiled
 pub mod Reported
 mod WorkedWords

@@ -1,9 +1,10 @@
 -- A method has one name: two roots that name the same method of a program are the same.
-use Rattle.std.proofs.Common.{◌≡◌, ℕ, zero, suc, ◌+◌, ◌≤◌, Bool, true, false, cond, List, [], ◌∷◌, Option, Some, None, refl, sym, ap, subst, ◌∙◌, arith}
+use Rattle.std.proofs.Common.{◌≡◌, ℕ, zero, suc, ◌+◌, ◌≤◌, Bool, true, false, cond, List, [], ◌∷◌, Option, Some, None, get_or, refl, sym, ap, subst, ◌∙◌, arith}
 use Rattle.std.specs.Prelude.{slice_get, position, ◌==◌, ◌&&◌}
 use Rattle.std.specs.Option.{option_and_then, option_map_or}
 use Rattle.std.proofs.lemmas.Bool.{and_from, and_parts, eqb-true}
-use Rattle.std.proofs.lemmas.Option.{same_Some, none-some}
+use Rattle.std.proofs.lemmas.Option.{same_Some, none-some, slice_get-get_or}
+use Rattle.std.proofs.lemmas.List.Quantifiers.{position-Some}
 use Rattle.std.proofs.lemmas.Slice.Eq.{bytes_eq-Decides}
 use Rattle.const_pool.specs.declared.class.ClassFile.{ClassFile}
 use Rattle.const_pool.specs.declared.class.Member.{Member}
@@ -15,8 +16,7 @@ use Rattle.jvm_model.specs.declared.program.MethodPlace.{MethodPlace}
 use Rattle.jvm_model.specs.declared.program.Program.{Program}
 use Rattle.jvm_model.specs.Descriptors.{same_text}
 use Rattle.jvm_model.specs.Methods.{is_member, method_from, method_named, same_text_at}
-use Rattle.jvm_model.specs.Programs.{class_at, class_named, declared_method, has_name, name_of, number_from, number_of_method, same_place}
-use Rattle.admit_check.proofs.FitFiles.{position-there}
+use Rattle.jvm_model.specs.Programs.{class_at, class_named, declared_method, has_name, name_of, no_class, number_from, number_of_method, same_place}
 use Rattle.admit_check.specs.Admission.{root_in}
 
 -- ---- texts
@@ -116,6 +116,12 @@ number-found n k class at (x ∷ rest) i e is =
         record { place = found.place; there = found.there; class_is = found.class_is; position_is = found.position_is }
 
 -- ---- roots
+
+position-there : (test : ClassFile → Bool) (cs : List ClassFile) (k : ℕ) → position test cs ≡ Some k
+    → (c : ClassFile) × (slice_get cs k ≡ Some c) × (test c ≡ true)
+position-there test cs k e =
+    let found = position-Some test cs k no_class e in
+    (get_or cs k no_class, slice_get-get_or cs k no_class found.0, found.1)
 
 -- Where a root's method stands.
 record StandsAt (p : Program) (r : RootName) (method : ℕ) : Type 0 where

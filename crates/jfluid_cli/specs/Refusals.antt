@@ -1,5 +1,5 @@
 -- The refusals of the program: their statuses, and the line that is put to the report.
-use Rattle.std.specs.Prelude.{◌≡◌, ℕ, List, [], ◌++◌, Option, Some, None, codes, unwrap_or}
+use Rattle.std.specs.Prelude.{◌≡◌, ℕ, Bool, true, false, List, [], ◌++◌, Option, Some, None, codes, unwrap_or, if◌then◌else◌}
 use Rattle.std.specs.String.{string_bytes}
 use Rattle.std.specs.Fmt.{decimal}
 use Rattle.class_reader.specs.declared.error.ReadError.{ReadError}
@@ -46,17 +46,20 @@ refusal_of (plan.TooMany number) = Plan (plan.TooMany number)
 refusal_of plan.NoMemory = NoMemory
 
 -- why classes with this fault are no program; want of memory is no fault of them
+abbrev pub is_memory : AdmitError → Bool
+is_memory admit.NoMemory = true
+is_memory (admit.ReservedName class) = false
+is_memory (admit.Duplicate class) = false
+is_memory (admit.BadShape class why) = false
+is_memory (admit.BadCode class method at why) = false
+is_memory (admit.FloatingPoint class at) = false
+is_memory (admit.NotProfilable class method why) = false
+is_memory (admit.TooManyMethods count) = false
+is_memory admit.NoMain = false
+is_memory (admit.NoSuchRoot action) = false
+
 abbrev pub refusal_for : AdmitError → Refusal
-refusal_for (admit.ReservedName class) = NotAdmitted (admit.ReservedName class)
-refusal_for (admit.Duplicate class) = NotAdmitted (admit.Duplicate class)
-refusal_for (admit.BadShape class why) = NotAdmitted (admit.BadShape class why)
-refusal_for (admit.BadCode class method at why) = NotAdmitted (admit.BadCode class method at why)
-refusal_for (admit.FloatingPoint class at) = NotAdmitted (admit.FloatingPoint class at)
-refusal_for (admit.NotProfilable class method why) = NotAdmitted (admit.NotProfilable class method why)
-refusal_for (admit.TooManyMethods count) = NotAdmitted (admit.TooManyMethods count)
-refusal_for admit.NoMain = NotAdmitted admit.NoMain
-refusal_for (admit.NoSuchRoot action) = NotAdmitted (admit.NoSuchRoot action)
-refusal_for admit.NoMemory = NoMemory
+refusal_for why = if is_memory why then NoMemory else NotAdmitted why
 
 -- what is told of a fault: its name and its number
 abbrev pub cause_of : ReadError → List ℕ

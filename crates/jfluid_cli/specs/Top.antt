@@ -1,5 +1,5 @@
 -- What the status of a call means, which contents are a program, and what is reported of a run.
-use Rattle.std.specs.Prelude.{◌≡◌, ℕ, ◌<◌, Bool, false, List, [], ◌∷◌, Option, Some, None, Result, Ok, Err, ◌==◌}
+use Rattle.std.specs.Prelude.{◌≡◌, ℕ, ◌<◌, Bool, false, List, [], ◌∷◌, length, Option, Some, None, Result, Ok, Err, ◌==◌}
 use Rattle.std.specs.List.{list_any}
 use Rattle.jf_bytes.specs.Streams.{greatest}
 use Rattle.const_pool.specs.declared.class.ClassFile.{ClassFile}
@@ -8,7 +8,6 @@ use Rattle.jvm_model.specs.declared.ending.Ending.TheVariants.{Returned, Exited,
 use Rattle.jvm_model.specs.declared.program.Program.{Program}
 use Rattle.admit_check.specs.declared.error.AdmitError.{AdmitError}
 use Rattle.admit_check.specs.Admission.{admission_of}
-use Rattle.plan_text.specs.declared.plan.Plan.{Plan}
 use Rattle.jfluid_cli.specs.Asking.{Asked}
 use Rattle.profile_session.specs.Sessions.{Profiling}
 use Rattle.jfluid_cli.specs.Contents.{AreFiles, classes_for}

@@ -10,7 +10,7 @@ ghost use Rattle.jfluid_cli.specs.Actions.{AlternateRoots, CanBeTaken};
 ghost use Rattle.jfluid_cli.specs.Asking.{asked_for};
 ghost use Rattle.jfluid_cli.specs.Causes.{Given};
 ghost use Rattle.jfluid_cli.specs.Contents.{AreFetched, IsFrontFor, SpellsAlone, SpellAlone, classes_for};
-ghost use Rattle.jfluid_cli.specs.Refusals.{status_of};
+ghost use Rattle.jfluid_cli.specs.Refusals.{is_memory as of_memory, refusal_for as refusal_of_fault, status_of};
 ghost use Rattle.jfluid_cli.specs.Sinks.{files_view};
 ghost use Rattle.jfluid_cli.specs.Stages.{AreReadWith, IsFetchedFor, IsFetchFault, IsFetchRefusal, IsUnread};
 ghost use Rattle.jfluid_cli.specs.Stages.{IsReadRefusal, IsPrepared, IsEarly, HasFetchCause};
@@ -64,6 +64,35 @@ fn read_all(alloc: Global, contents: &[Seq<u8>]) -> Result<Seq<ClassFile>, Refus
     Ok(classes)
 }
 
+/// Whether the fault is want of memory.
+fn is_memory(fault: AdmitError) -> bool
+    ensures { result ≡ of_memory fault }
+{
+    match fault {
+        AdmitError::NoMemory => true,
+        AdmitError::ReservedName(_)
+        | AdmitError::Duplicate(_)
+        | AdmitError::BadShape(..)
+        | AdmitError::BadCode(..)
+        | AdmitError::FloatingPoint(..)
+        | AdmitError::NotProfilable(..)
+        | AdmitError::TooManyMethods(_)
+        | AdmitError::NoMain
+        | AdmitError::NoSuchRoot(_) => false,
+    }
+}
+
+/// Why classes are not admitted: for a fault of theirs, or for want of memory.
+fn refusal_for(fault: AdmitError) -> Refusal
+    ensures { result ≡ refusal_of_fault fault }
+{
+    if is_memory(fault) {
+        Refusal::NoMemory
+    } else {
+        Refusal::NotAdmitted(fault)
+    }
+}
+
 /// Reads class files and admits them, with this main class and plan.
 fn read_program(
     alloc: Global,
@@ -89,8 +118,7 @@ fn read_program(
     };
     match admit(alloc, classes, main, plan) {
         Ok(program) => Ok(program),
-        Err(AdmitError::NoMemory) => Err(Refusal::NoMemory),
-        Err(fault) => Err(Refusal::NotAdmitted(fault)),
+        Err(fault) => Err(refusal_for(fault)),
     }
 }
 

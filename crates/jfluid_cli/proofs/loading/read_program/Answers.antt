@@ -1,7 +1,11 @@
-use Rattle.std.proofs.Common.{subst, arith, length, ◌≤◌}
+use Rattle.std.proofs.Common.{subst, sym, arith, length, ◌≤◌}
+use Rattle.std.specs.Prelude.{◌≢◌}
+use Rattle.jfluid_cli.specs.declared.refusal.Refusal.{Refusal}
+use Rattle.jfluid_cli.specs.Refusals.{status_of}
+use Rattle.jfluid_cli.specs.Stages.{IsEarly}
 use Rattle.jfluid_cli.specs.Asking.{asked_for}
 use Rattle.jfluid_cli.specs.Contents.{SpellsAlone}
-use Rattle.jfluid_cli.proofs.Early.{due-unread, due-fault}
+use Rattle.jfluid_cli.proofs.Early.{admission-calm, due-admission, due-unread}
 use Rattle.jfluid_cli.proofs.Admitted.{acts-in-order, first-classes}
 use Rattle.jfluid_cli.proofs.Alternating.{acts-alternating}
 use Rattle.jfluid_cli.proofs.Pairs.{zip-length}
@@ -53,5 +57,10 @@ returns-in-Ok-admit-clause-acts c = record {
 
 pub returns-in-Err-admit-clause-early : goal.returns-in-Err-admit-clause-early
 returns-in-Err-admit-clause-early c g f =
-    due-fault g (asked_for c.args.main.now c.args.plan.now) c.args.contents.now c.in-Ok.classes
-    c.in-Err-admit.fault f c.in-Ok.ensures.found ?
+    subst (IsEarly g) (sym c.refusal_for.ensures)
+    (due-admission g (asked_for c.args.main.now c.args.plan.now) c.args.contents.now c.in-Ok.classes
+    c.in-Err-admit.fault f c.in-Ok.ensures.found c.in-Err-admit.ensures.admitted)
+
+pub returns-in-Err-admit-clause-calm : goal.returns-in-Err-admit-clause-calm
+returns-in-Err-admit-clause-calm c =
+    subst (λ (e : Refusal). status_of e ≢ 7) (sym c.refusal_for.ensures) (admission-calm c.in-Err-admit.fault)
