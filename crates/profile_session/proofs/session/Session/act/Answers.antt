@@ -1,7 +1,7 @@
 use Rattle.std.proofs.Common.{◌≡◌, ◌≤◌, refl, sym, ap, subst, ◌∙◌, true, false}
 use Rattle.jvm_model.specs.declared.event.Act.{Act}
 use Rattle.profile_session.specs.Sessions.{Profiling, is_over, is_selected_in, profiling_in}
-use Rattle.profile_session.proofs.Sessions.{accepts, acted-stands, refused, ungathered}
+use Rattle.profile_session.proofs.Sessions.{accepts, act-world, acted-stands, breaks-off, refused, ungathered}
 use Rattle.profile_session.proofs.session.Session.act.Goals as goal
 
 pub returns-in-Some-clause-err : goal.returns-in-Some-clause-err
@@ -34,3 +34,10 @@ returns-clause-ok c =
     let a : Act = record { moment = c.clock-moment.result; select = c.args.select; method = c.args.method } in
     accepts c.self.inside.parts c.act.new.self c.args.self.now g a now going c.clock-moment.ensures c.is_selected.result (c.is_selected.ensures whole)
     (sym c.refusal.ensures ∙ c.in_default.is) c.in-Ok.ensures
+
+pub returns-in_default-act-clause-err : goal.returns-in_default-act-clause-err
+returns-in_default-act-clause-err c =
+    let whole = sym (ap (λ (v : Profiling). v.broken) c.self.view_is) ∙ c.if-self.false in
+    let a : Act = record { moment = c.clock-moment.result; select = c.args.select; method = c.args.method } in
+    breaks-off c.self.inside.parts c.act.new.self c.args.self.now c.self.inside.broken c.self.inside.gathered c.self.inside.gathered c.self.view_is whole
+    (sym (c.is_over.ensures whole) ∙ c.if-is_over.false) (act-world c.self.inside.parts c.act.new.self a c.act.result c.act.ensures)
