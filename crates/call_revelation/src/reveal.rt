@@ -27,8 +27,8 @@ use jvm_named::MethodNumbers;
 use std::alloc::Global;
 
 /// What is selected, entered and loaded, with what each event needs of it: where methods stand and the methods of each class; the
-/// classes below each; the code that was read, and the classes that its calls name; which methods are entered, by a flag; the targets of what is entered; and the marks
-/// that were shown last, with the methods whose mark may be another one now.
+/// classes below each; the code that was read, and the classes that its calls name; which methods are entered, by a flag; the targets
+/// of what is entered; and the marks that were shown last, with the methods whose mark may be another one now.
 #[derive(Drop)]
 pub struct Reveal {
     pub methods: Seq<MethodPlace>,
