@@ -48,7 +48,14 @@ impl Reveal {
             return Ok(found);
         };
         let namings = namings.as_slice();
-        add_all_begun(linker, &self.numbers, &self.lineage, namings, &mut found)?;
+        add_all_begun(
+            alloc,
+            linker,
+            &self.numbers,
+            &self.lineage,
+            namings,
+            &mut found,
+        )?;
         Ok(found)
     }
 
@@ -66,6 +73,9 @@ impl Reveal {
         ensures shown { self.new.shown ≡ self.old.shown }
     {
         self.book.read(alloc, linker, method)?;
+        let lineage = &self.lineage;
+        self.named
+            .add_read(alloc, linker, lineage, &self.book, method)?;
         let found = self.begun_in(alloc, linker, method)?;
         add_more(&mut self.stale, found.as_slice())?;
         add_more(&mut self.targets, found.as_slice())?;
