@@ -1,16 +1,16 @@
 -- The actions of a plan that a session has taken, from one moment to the next.
-use Rattle.std.proofs.Common.{◌≡◌, ℕ, zero, suc, ◌+◌, ◌<◌, ◌≤◌, Bool, true, false, cond, List, [], ◌∷◌, ◌++◌, length, take, drop, Option, Some, None, refl, sym, ap, subst, ◌∙◌, arith, inl, inr, add-one, get_or}
-use Rattle.std.specs.Prelude.{◌⊎◌, ◌≢◌, filter, slice_get, nat_lt, ◌==◌, ◌||◌, IfSome}
+use Rattle.std.proofs.Common.{◌≡◌, ℕ, zero, suc, ◌+◌, ◌<◌, ◌≤◌, Bool, true, false, cond, List, [], ◌∷◌, ◌++◌, length, take, drop, Option, Some, None, refl, sym, ap, subst, ◌∙◌, arith, inl, inr, get_or}
+use Rattle.std.specs.Prelude.{◌⊎◌, ◌≢◌, filter, slice_get, nat_lt, ◌==◌, IfSome}
 use Rattle.std.specs.List.{AllByRecursion}
 use Rattle.std.proofs.lemmas.Bool.{cases_lt, eq-eqb, ne_eqb, lt-ltb, le-ltb, or_from, or_left, or_right}
-use Rattle.std.proofs.lemmas.List.{take-append-drop, take_more, drop_more, drop_all}
+use Rattle.std.proofs.lemmas.List.{take-append-drop, take_more, drop_more}
 use Rattle.std.proofs.lemmas.List.Elements.{filter-append}
-use Rattle.std.proofs.lemmas.Option.{slice_get_within, slice_get-get_or, slice_get_past, same_Some, none-some}
+use Rattle.std.proofs.lemmas.Option.{slice_get_within, slice_get-get_or, slice_get_past, same_Some}
 use Rattle.jvm_model.specs.declared.event.Act.{Act}
 use Rattle.jvm_model.specs.Calls.{AreFrom}
 use Rattle.profile_session.specs.Sessions.{Profiling, CanActNow, with_act}
 use Rattle.jfluid_cli.specs.Actions.{IsAlong, IsDue, IsLater, IsToCome, Takes}
-use Rattle.jfluid_cli.specs.Runs.{IsFresh, IsPlanned, RanFor, acts_until, at_step, is_taken_by}
+use Rattle.jfluid_cli.specs.Runs.{IsFresh, IsPlanned, at_step, is_taken_by}
 use Rattle.jfluid_cli.proofs.Pairs.{all-push}
 
 -- ---- lists

@@ -1,5 +1,5 @@
 -- What is known of a program that was admitted with a plan.
-use Rattle.std.proofs.Common.{◌≡◌, ℕ, ◌+◌, ◌≤◌, false, true, List, [], ◌∷◌, length, take, Option, Some, None, Result, Ok, Err, refl, sym, ap, subst, ◌∙◌, arith}
+use Rattle.std.proofs.Common.{◌≡◌, ℕ, ◌+◌, ◌≤◌, List, [], ◌∷◌, length, take, Option, Some, None, Result, Ok, Err, refl, sym, ap, subst, ◌∙◌, arith}
 use Rattle.std.specs.List.{AllByRecursion, AllZip}
 use Rattle.std.specs.Option.{option_map}
 use Rattle.std.proofs.lemmas.List.{take_at}
@@ -13,7 +13,7 @@ use Rattle.jvm_model.specs.declared.program.Program.{Program}
 use Rattle.jvm_model.specs.Calls.{AreFrom}
 use Rattle.jvm_model.specs.SoundPrograms.{main_in}
 use Rattle.admit_check.specs.declared.error.AdmitError.{AdmitError}
-use Rattle.admit_check.specs.Admission.{IsAdmittedProgram, act_of, act_with, acts_from, admission, admission_of, classes_fault, completed, count_fault, program_with, root_in, unless_fault, with_acts, with_main}
+use Rattle.admit_check.specs.Admission.{IsAdmittedProgram, act_of, act_with, acts_from, admission_of, classes_fault, completed, count_fault, program_with, root_in, unless_fault, with_acts, with_main}
 
 -- its first classes are those that were given
 pub first-classes : (classes : List ClassFile) (name : List ℕ) (p : Program) → IsAdmittedProgram classes name p
@@ -64,14 +64,14 @@ acts-zip p at [] acts e = subst (AllZip (IsActOf p) []) (let same : [] ≡ acts 
 acts-zip p at (a ∷ rest) acts e =
     by (act_of p a) refl (acts_from p (at + 1) rest) refl (λ more is. acts-zip p (at + 1) rest more is) e
   where
-  by : (o : Option Act) → act_of p a ≡ o → (r : Result (List Act) AdmitError) → acts_from p (at + 1) rest ≡ r
-      → ((more : List Act) → acts_from p (at + 1) rest ≡ Ok more → AllZip (IsActOf p) rest more)
-      → act_with o at r ≡ Ok acts → AllZip (IsActOf p) (a ∷ rest) acts
-  by (Some act) found (Ok more) is later e =
-      subst (AllZip (IsActOf p) (a ∷ rest)) (let same : act ∷ more ≡ acts = cc e in same)
-      (found, later more is)
-  by (Some act) found (Err fault) is later e = absurd cc
-  by None found r is later e = absurd cc
+    by : (o : Option Act) → act_of p a ≡ o → (r : Result (List Act) AdmitError) → acts_from p (at + 1) rest ≡ r
+        → ((more : List Act) → acts_from p (at + 1) rest ≡ Ok more → AllZip (IsActOf p) rest more)
+        → act_with o at r ≡ Ok acts → AllZip (IsActOf p) (a ∷ rest) acts
+    by (Some act) found (Ok more) is later e =
+        subst (AllZip (IsActOf p) (a ∷ rest)) (let same : act ∷ more ≡ acts = cc e in same)
+        (found, later more is)
+    by (Some act) found (Err fault) is later e = absurd cc
+    by None found r is later e = absurd cc
 
 -- the acts of an admitted program, one for each action of its plan
 pub plan-acts : (classes : List ClassFile) (name : List ℕ) (plan : Plan) (p : Program)
@@ -94,8 +94,7 @@ in-order p least [] [] zip rising from = tt
 in-order p least [] (act ∷ acts) zip rising from = absurd zip
 in-order p least (a ∷ rest) [] zip rising from = absurd zip
 in-order p least (a ∷ rest) (act ∷ acts) zip rising from =
-    let same : a.moment ≡ act.moment = sym (moment-of p a act zip.0) in
-    (
+    let same : a.moment ≡ act.moment = sym (moment-of p a act zip.0) in (
       subst (λ n. least ≤ n) same from.0,
       in-order p act.moment rest acts zip.1 rising.1
           (subst (λ n. AllByRecursion (λ (later : Action). n ≤ later.moment) rest) same rising.0),

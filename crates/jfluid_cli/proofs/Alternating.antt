@@ -1,13 +1,13 @@
 -- The actions of a plan select what is not selected, and deselect what is.
-use Rattle.std.proofs.Common.{◌≡◌, ℕ, zero, suc, ◌+◌, Bool, true, false, cond, List, [], ◌∷◌, ◌++◌, length, take, Option, Some, None, Result, Ok, Err, refl, sym, ap, subst, ◌∙◌, arith, inl, inr}
-use Rattle.std.specs.Prelude.{◌⊎◌, MatchOption, filter, is_some, not, slice_get, nat_le, nat_lt, codes, ◌==◌, ◌&&◌, ◌||◌}
+use Rattle.std.proofs.Common.{◌≡◌, ℕ, ◌+◌, Bool, true, false, cond, List, [], ◌∷◌, ◌++◌, length, Option, Some, None, Result, Ok, Err, refl, sym, ap, subst, ◌∙◌, inl, inr}
+use Rattle.std.specs.Prelude.{MatchOption, filter, is_some, not, nat_le, nat_lt, codes, ◌==◌, ◌&&◌, ◌||◌}
 use Rattle.std.specs.Bool.{MatchBool}
 use Rattle.std.specs.List.{AllZip, list_any}
 use Rattle.std.specs.Option.{option_map}
 use Rattle.std.specs.Result.{MatchResult}
-use Rattle.std.specs.Str.{IsUtf8, bytes_eq, is_utf8}
+use Rattle.std.specs.Str.{bytes_eq, is_utf8}
 use Rattle.std.proofs.lemmas.Bool.{cases_Bool, eq-eqb, eqb-true, ne_eqb, or_from, or_left}
-use Rattle.std.proofs.lemmas.Option.{same_Some, none-some}
+use Rattle.std.proofs.lemmas.Option.{same_Some}
 use Rattle.std.proofs.lemmas.Str.{IsUtf8-from_is_utf8, is_utf8-from_IsUtf8}
 use Rattle.const_pool.specs.declared.class.ClassFile.{ClassFile}
 use Rattle.plan_text.specs.declared.plan.Action.{Action}
@@ -45,9 +45,11 @@ one-behind earlier [] a before is = (subst (λ (list : List Action). selected_af
     append-none : (list : List Action) → list ++ [] ≡ list
     append-none [] = refl
     append-none (x ∷ list) = ap (λ ys. x ∷ ys) (append-none list)
-one-behind earlier (x ∷ actions) a before is =
-    (before.0, one-behind (earlier ++ x ∷ []) actions a before.1
-    (subst (λ (list : List Action). selected_after false a.root list ≡ not a.select) (shift earlier x actions) is))
+one-behind earlier (x ∷ actions) a before is = (
+  before.0,
+  one-behind (earlier ++ x ∷ []) actions a before.1
+      (subst (λ (list : List Action). selected_after false a.root list ≡ not a.select) (shift earlier x actions) is),
+)
   where
     shift : (list : List Action) (x : Action) (bs : List Action) → list ++ x ∷ bs ≡ (list ++ x ∷ []) ++ bs
     shift [] x bs = refl
@@ -302,8 +304,7 @@ acts-alternate p earlier before [] [] front zip fine = tt
 acts-alternate p earlier before [] (act ∷ acts) front zip fine = absurd zip
 acts-alternate p earlier before (a ∷ rest) [] front zip fine = absurd zip
 acts-alternate p earlier before (a ∷ rest) (act ∷ acts) front zip fine =
-    let of = act-is p a act zip.0 in
-    (
+    let of = act-is p a act zip.0 in (
       selected-alike p a.root act.method of.0 earlier before front [] false refl
           ∙ (fine.0 ∙ ap not (sym of.1)),
       acts-alternate p (earlier ++ a ∷ []) (before ++ act ∷ []) rest acts

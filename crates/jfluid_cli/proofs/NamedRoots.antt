@@ -9,7 +9,7 @@ use Rattle.std.proofs.lemmas.Slice.Eq.{bytes_eq-Decides}
 use Rattle.const_pool.specs.declared.class.ClassFile.{ClassFile}
 use Rattle.const_pool.specs.declared.class.Member.{Member}
 use Rattle.const_pool.specs.declared.pool.Const.{Const}
-use Rattle.const_pool.specs.References.{NameAndType, name_type_of, named_class, named_text}
+use Rattle.const_pool.specs.References.{NameAndType, name_type_of, named_text}
 use Rattle.plan_text.specs.declared.plan.RootName.{RootName}
 use Rattle.plan_text.specs.Lines.{same_root}
 use Rattle.jvm_model.specs.declared.program.MethodPlace.{MethodPlace}
@@ -69,8 +69,7 @@ member-one : (pool : List Const) (wanted other : NameAndType) (m : Member) → i
     → is_member pool other m ≡ true → (wanted.name ≡ other.name) × (wanted.descriptor ≡ other.descriptor)
 member-one pool wanted other m left right =
     let l = and_parts (same_text_at pool m.name wanted.name) (same_text_at pool m.descriptor wanted.descriptor) left in
-    let r = and_parts (same_text_at pool m.name other.name) (same_text_at pool m.descriptor other.descriptor) right in
-    (
+    let r = and_parts (same_text_at pool m.name other.name) (same_text_at pool m.descriptor other.descriptor) right in (
       same-text-is (named_text pool m.name) wanted.name other.name l.0 r.0,
       same-text-is (named_text pool m.descriptor) wanted.descriptor other.descriptor l.1 r.1,
     )

@@ -1,5 +1,5 @@
 -- Where what is kept came from.
-use Rattle.std.specs.Prelude.{◌≡◌, ◌≤◌, ℕ, length, IfSome}
+use Rattle.std.specs.Prelude.{◌≡◌, ◌≤◌, length, IfSome}
 use Rattle.command_line.specs.Input.{most_input}
 use Rattle.jfluid_cli.specs.declared.kept.Kept.{Kept}
 use Rattle.jfluid_cli.specs.Asking.{asked_by}

@@ -221,12 +221,11 @@ fn answer_words<F: Files, I: Source, O: Sink, P: Sink>(
 ///
 /// The statuses are 0, the run returned, or the program called System.exit, with the budget's last step
 /// at the latest; 1, it ended uncaught; 2, the words or the plan are refused; 3, a file is no class
-/// file, or the program is not admitted; 4, the budget was spent
-/// before the run ended; 5, a take of input failed; 6, a put of output failed; 7, the plan or a file
-/// could not be fetched; 8, a put of the report failed; 9, no memory was left; 10, the code is
-/// unverifiable; 11, there are more than 16,777,216 bytes of input. With 2, 3, 5, 6, 7, 9 and 11 a
-/// line on `report` says it, and names the file that is at fault; where clap refuses the words, or
-/// they ask for help, it is clap's text.
+/// file, or the program is not admitted; 4, the budget was spent before the run ended; 5, a take of
+/// input failed; 6, a put of output failed; 7, the plan or a file could not be fetched; 8, a put of the
+/// report failed; 9, no memory was left; 10, the code is unverifiable; 11, there are more than
+/// 16,777,216 bytes of input. With 2, 3, 5, 6, 7, 9 and 11 a line on `report` says it, and names the
+/// file that is at fault; where clap refuses the words, or they ask for help, it is clap's text.
 pub fn jfluid<F: Files, I: Source, O: Sink, P: Sink, G: Sink>(
     alloc: Global,
     words: Result<Seq<Seq<u8>>, NoMemory>,

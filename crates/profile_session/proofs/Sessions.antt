@@ -1,5 +1,6 @@
 -- What a session's calls owe.
 use Rattle.std.proofs.Common.{◌≡◌, ℕ, ◌+◌, ◌≤◌, ◌<◌, Bool, true, false, not, Some, None, List, [], ◌∷◌, ◌++◌, map, Option, is_some, if◌then◌else◌, refl, sym, ap, ap₂, subst, ◌∙◌, arith, add-one}
+use Rattle.std.specs.Prelude.{MatchResult, Result, Ok, Err}
 use Rattle.std.specs.List.{AllByRecursion, enumerate_from}
 use Rattle.jvm_model.specs.declared.ending.Ending.{Ending}
 use Rattle.jvm_model.specs.declared.event.Act.{Act}
@@ -34,9 +35,9 @@ use Rattle.profile_session.specs.declared.swap.Swap.{Swap}
 use Rattle.profile_session.specs.declared.answer.ActError.{ActError}
 use Rattle.profile_session.specs.declared.answer.ActError.TheVariants as act
 use Rattle.profile_session.specs.Advances.{Makes}
-use Rattle.profile_session.specs.Answers.{Accepts, Advances, Gathers, LendsNoTree, Onward, RefusesAct, RefusesTree, refusal_of, run_by}
+use Rattle.profile_session.specs.Answers.{Accepts, Advances, BreaksOff, Gathers, LendsNoTree, Onward, RefusesAct, RefusesTree, refusal_of, run_by}
 use Rattle.profile_session.specs.Keeping.{Kept, at_point, first_kept, kept_act, kept_before, kept_by-zero, mark_seen, marks_seen, revealed}
-use Rattle.profile_session.specs.Parts.{Acts, AreFit, AreOf, Brings, IsProfiling, calls_in, kept_in, loaded_in, profile_in, revealed_in, seen_by}
+use Rattle.profile_session.specs.Parts.{Acts, AreFit, AreOf, Brings, IsProfiling, IsSameRun, calls_in, kept_in, loaded_in, profile_in, revealed_in, seen_by}
 use Rattle.profile_session.specs.Sessions.{AreSwapsOf, Holds, IsTreeOf, Profiling, Stands, ending_in, entries_of, is_over, is_selected_in, mark_in_session, profiling_in, run_of, standing_of, step_of, swaps_of, with_act, world_of}
 use Rattle.profile_session.specs.Standing.{AtRest, next_step, told_before}
 use Rattle.profile_session.proofs.Acting.{acted, from-last}
@@ -164,6 +165,18 @@ gathers x new b g whole brings = record {
   whole = whole;
   same = brought-same x new false true brings ∙ ap (λ b. profiling_in b true x) (sym whole);
 }
+
+-- a call that breaks keeps the program and the input
+pub make-world : {E : Type 0} (x new : Parts) (steps : ℕ) (r : Result Bool E) → MatchResult r (λ ended. Makes x steps ended new) (λ e. IsSameRun x new) → world new.vm ≡ world x.vm
+make-world x new steps (Ok ended) m = m.world_is
+make-world x new steps (Err e) m = m
+
+pub act-world : {A E : Type 0} (x new : Parts) (a : Act) (r : Result A E) → MatchResult r (λ ok. Acts x a new) (λ e. IsSameRun x new) → world new.vm ≡ world x.vm
+act-world x new a (Ok ok) m = ap world m.vm
+act-world x new a (Err e) m = m
+
+pub breaks-off : (x new : Parts) (v : Profiling) (b g h : Bool) → profiling_in b g x ≡ v → v.broken ≡ false → is_over v ≡ false → world new.vm ≡ world x.vm → BreaksOff v (profiling_in true h new)
+breaks-off x new v b g h now whole going same = record { breaks = record { whole = whole; broken = refl; same = same ∙ ap world_of now }; going = going }
 
 -- what is lent is of the session before it was gathered
 pub shown-before : (v : Profiling) (b : Bool) (t : Profile) → (let q : Profiling = record v { gathered = b } in IsTreeOf q t) → IsTreeOf v t

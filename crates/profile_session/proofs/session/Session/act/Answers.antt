@@ -1,7 +1,7 @@
 use Rattle.std.proofs.Common.{◌≡◌, ◌≤◌, refl, sym, ap, subst, ◌∙◌, true, false}
 use Rattle.jvm_model.specs.declared.event.Act.{Act}
 use Rattle.profile_session.specs.Sessions.{Profiling, is_over, is_selected_in, profiling_in}
-use Rattle.profile_session.proofs.Sessions.{accepts, acted-stands, refused, ungathered}
+use Rattle.profile_session.proofs.Sessions.{accepts, act-world, acted-stands, breaks-off, refused, ungathered}
 use Rattle.profile_session.proofs.session.Session.act.Goals as goal
 
 pub returns-in-Some-clause-err : goal.returns-in-Some-clause-err
@@ -21,7 +21,7 @@ invariant_of-self-2 c same =
     let whole = sym (ap (λ (v : Profiling). v.broken) c.self.view_is) ∙ c.if-self.false in
     let going = sym (c.is_over.ensures whole) ∙ c.if-is_over.false in
     let a : Act = record { moment = c.clock-moment.result; select = c.args.select; method = c.args.method } in
-    ungathered c.act.new.self (acted-stands c.self.inside.parts c.act.new.self a (c.self.invariant c.if-self.false).stands c.clock-moment.ensures.clock
+    ungathered c.act.new.self (acted-stands c.self.inside.parts c.act.new.self a (c.self.invariant c.if-self.false).stands c.clock-moment.ensures
     (λ yes. subst (λ (v : Profiling). 1 ≤ v.clock) (sym c.self.view_is) (c.requires whole going (sym (ap (λ (v : Profiling). v.started) c.self.view_is) ∙ yes)))
     c.in-Ok.ensures)
 
@@ -32,5 +32,12 @@ returns-clause-ok c =
     let g = c.self.inside.gathered in
     let now : profiling_in false g c.self.inside.parts ≡ c.args.self.now = ap (λ b. profiling_in b g c.self.inside.parts) (sym c.if-self.false) ∙ c.self.view_is in
     let a : Act = record { moment = c.clock-moment.result; select = c.args.select; method = c.args.method } in
-    accepts c.self.inside.parts c.act.new.self c.args.self.now g a now going c.clock-moment.ensures.clock c.is_selected.result (c.is_selected.ensures whole)
+    accepts c.self.inside.parts c.act.new.self c.args.self.now g a now going c.clock-moment.ensures c.is_selected.result (c.is_selected.ensures whole)
     (sym c.refusal.ensures ∙ c.in_default.is) c.in-Ok.ensures
+
+pub returns-in_default-act-clause-err : goal.returns-in_default-act-clause-err
+returns-in_default-act-clause-err c =
+    let whole = sym (ap (λ (v : Profiling). v.broken) c.self.view_is) ∙ c.if-self.false in
+    let a : Act = record { moment = c.clock-moment.result; select = c.args.select; method = c.args.method } in
+    breaks-off c.self.inside.parts c.act.new.self c.args.self.now c.self.inside.broken c.self.inside.gathered c.self.inside.gathered c.self.view_is whole
+    (sym (c.is_over.ensures whole) ∙ c.if-is_over.false) (act-world c.self.inside.parts c.act.new.self a c.act.result c.act.ensures)

@@ -1,7 +1,7 @@
 use Rattle.std.proofs.Common.{◌≡◌, refl, sym, ap, subst, ◌∙◌, true, false}
 use Rattle.profile_session.specs.Answers.{Advances}
 use Rattle.profile_session.specs.Sessions.{Profiling, is_over, profiling_in}
-use Rattle.profile_session.proofs.Sessions.{made-by, made-stands, over-in, ungathered}
+use Rattle.profile_session.proofs.Sessions.{breaks-off, made-by, made-stands, make-world, over-in, ungathered}
 use Rattle.profile_session.proofs.session.Session.advance.Goals as goal
 
 pub returns-then-is_over : goal.returns-then-is_over
@@ -27,3 +27,9 @@ returns c =
     (subst (λ r. Advances (profiling_in false g c.self.inside.parts) c.args.steps r (profiling_in false false c.make.new.self)) (sym c.run_by.ensures)
     (made-by c.self.inside.parts c.make.new.self g c.args.steps c.in-Ok.ended (c.self.invariant c.if-self.false).stands
     (ap is_over now ∙ (sym (c.is_over.ensures whole) ∙ c.if-is_over.false)) c.in-Ok.ensures))
+
+pub returns-in_default : goal.returns-in_default
+returns-in_default c =
+    let whole = sym (ap (λ (v : Profiling). v.broken) c.self.view_is) ∙ c.if-self.false in
+    breaks-off c.self.inside.parts c.make.new.self c.args.self.now c.self.inside.broken c.self.inside.gathered c.self.inside.gathered c.self.view_is whole
+    (sym (c.is_over.ensures whole) ∙ c.if-is_over.false) (make-world c.self.inside.parts c.make.new.self c.args.steps c.make.result c.make.ensures)

@@ -5,7 +5,7 @@ use Rattle.profile_session.proofs.Sessions.{gathered-holds, gathers}
 use Rattle.profile_session.proofs.session.Session.gather.Goals as goal
 
 pub bring-requires : goal.bring-requires
-bring-requires c = (c.self.invariant c.if-self.false).stands.rests.is.fit
+bring-requires c = record { fit = (c.self.invariant c.if-self.false).stands.rests.is.fit }
 
 pub invariant_of-self-2 : goal.invariant_of-self-2
 invariant_of-self-2 c whole = gathered-holds c.self.inside.parts c.bring.new.self (c.self.invariant c.if-self.false).stands c.in-Ok.ensures

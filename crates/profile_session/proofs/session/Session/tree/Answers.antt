@@ -4,15 +4,19 @@ use Rattle.profile_session.proofs.Sessions.{lends-none, shown-before}
 use Rattle.profile_session.proofs.session.Session.tree.Goals as goal
 
 pub shown-requires-clause-whole : goal.shown-requires-clause-whole
-shown-requires-clause-whole c = ap (λ (v : Profiling). v.broken) c.in-Ok.ensures.same ∙ c.in-Ok.ensures.whole
+shown-requires-clause-whole c = ap (λ (v : Profiling). v.broken) c.in-Ok.ensures.ok.same ∙ c.in-Ok.ensures.ok.whole
 
 pub shown-requires-clause-gathered : goal.shown-requires-clause-gathered
-shown-requires-clause-gathered c = ap (λ (v : Profiling). v.gathered) c.in-Ok.ensures.same
+shown-requires-clause-gathered c = ap (λ (v : Profiling). v.gathered) c.in-Ok.ensures.ok.same
 
-pub returns-in-Ok-clause-tree : goal.returns-in-Ok-clause-tree
-returns-in-Ok-clause-tree c =
-    shown-before c.args.self.now true c.shown.result.tree.now
-    (subst (λ (v : Profiling). IsTreeOf v c.shown.result.tree.now) c.in-Ok.ensures.same c.shown.ensures.tree)
+pub returns-in-Ok : goal.returns-in-Ok
+returns-in-Ok c =
+    let same = c.in-Ok.ensures.ok.same in
+    record {
+      tree = shown-before c.args.self.now true c.shown.result.tree.now (subst (λ (v : Profiling). IsTreeOf v c.shown.result.tree.now) same c.shown.ensures.tree);
+      program = c.shown.ensures.program ∙ ap (λ (v : Profiling). v.program) same;
+      err = tt;
+    }
 
-pub returns-in-Err-clause-err : goal.returns-in-Err-clause-err
-returns-in-Err-clause-err c = lends-none c.args.self.now c.gather.new.self c.in-Err.error c.in-Err.ensures
+pub returns-in-Err : goal.returns-in-Err
+returns-in-Err c = record { tree = tt; program = tt; err = lends-none c.args.self.now c.gather.new.self c.in-Err.error c.in-Err.ensures.err }
