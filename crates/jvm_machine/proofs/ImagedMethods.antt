@@ -28,7 +28,7 @@ use Rattle.jvm_model.specs.declared.event.Mark.TheVariants.{Off, Plain, Root}
 use Rattle.jvm_model.specs.declared.program.MethodPlace.{MethodPlace}
 use Rattle.jvm_model.specs.declared.program.Program.{Program}
 use Rattle.jvm_model.specs.Data.{Operation}
-use Rattle.jvm_model.specs.Images.{AreMemberImages, IsImage, IsMarkedMember, IsMemberImage, IsOriginal, IsRewritten, all_off, next_number, number_behind}
+use Rattle.jvm_model.specs.Images.{AreMemberImages, IsImage, IsMarkedMember, IsMemberImage, IsOriginal, IsRewritten, all_off, is_off, next_number, number_behind}
 use Rattle.jvm_model.specs.Lines.{operation_of}
 use Rattle.jvm_model.specs.Methods.{code_among, code_of, method_code}
 use Rattle.jvm_model.specs.StandsFor.{mark_at}
@@ -49,6 +49,7 @@ use Rattle.jvm_steps.specs.Prepared.{HasShortCode, HasShortCodes}
 use Rattle.jvm_steps.specs.Standing.{AreMethodImages, IsMethodImage}
 use Rattle.jvm_steps.proofs.MethodImages.{code-is}
 use Rattle.jvm_machine.specs.Installs.{IsFormed, IsImageOf}
+use Rattle.jvm_machine.proofs.EntryMarks.{rewritten-pool, version-mark}
 use Rattle.jvm_machine.proofs.Fresh.{original-plain}
 use Rattle.jvm_machine.proofs.Numbered.{each-of}
 
@@ -247,18 +248,21 @@ module _ (p : Program) (is_formed : IsFormed p) (closed : HasClosedCodes p) (cla
 
   -- ---- each version has its mark
 
-  mark-by : (at number k : ℕ) (mark : Mark) (code : CodeAttribute) → mark_at marks at ≡ mark → HasCodeFor c number mark image homes at code
-      → (version_by p k image mark code (homes_at homes at) (method_code image at)).prepared.mark ≡ mark
-  mark-by at number k Off code e has =
-      ap (λ (o : Option (Option Homes)). (version_by p k image Off code (option_flatten o) (method_code image at)).prepared.mark) has.housed ∙ original-plain p k
-  mark-by at number k Plain code e has =
-      ap₂ (λ (o : Option (Option Homes)) new. (version_by p k image Plain code (option_flatten o) new).prepared.mark) has.housed has.coded
-  mark-by at number k Root code e has =
-      ap₂ (λ (o : Option (Option Homes)) new. (version_by p k image Root code (option_flatten o) new).prepared.mark) has.housed has.coded
+  module _ (few : length image.pool < 2 ^ 16) where
+    marked-by : (at number k : ℕ) (mark : Mark) (code : CodeAttribute) → is_off mark ≡ false → HasVersion c number mark image homes at code
+        → (version_by p k image code (homes_at homes at) (method_code image at)).prepared.mark ≡ mark
+    marked-by at number k mark code on has =
+        ap₂ (λ (o : Option (Option Homes)) new. (version_by p k image code (option_flatten o) new).prepared.mark) has.housed has.coded
+        ∙ version-mark c image number mark code has.new has.moved (rewritten-pool c (first_number p class) marks image homes at has.moved is.imaged has.housed) few on has.version
 
-  pub version-marked : (at k : ℕ) (code : CodeAttribute) → method_code c at ≡ Some code → (class_version p image marks homes at code k).prepared.mark ≡ mark_at marks at
-  version-marked at k code coded =
-      let has = code-there at code coded in
-      let mark : mark_at marks at ≡ has.mark = ap (λ o. unwrap_or o Off) has.marked in
-      ap (λ a. (version_by p k image a code (homes_at homes at) (method_code image at)).prepared.mark) mark
-      ∙ (mark-by at (number_behind (first_number p class) c.methods at) k has.mark code mark has.has ∙ sym mark)
+    mark-by : (at number k : ℕ) (mark : Mark) (code : CodeAttribute) → HasCodeFor c number mark image homes at code
+        → (version_by p k image code (homes_at homes at) (method_code image at)).prepared.mark ≡ mark
+    mark-by at number k Off code has =
+        ap (λ (o : Option (Option Homes)). (version_by p k image code (option_flatten o) (method_code image at)).prepared.mark) has.housed ∙ original-plain p k
+    mark-by at number k Plain code has = marked-by at number k Plain code refl has
+    mark-by at number k Root code has = marked-by at number k Root code refl has
+
+    pub version-marked : (at k : ℕ) (code : CodeAttribute) → method_code c at ≡ Some code → (class_version p image homes at code k).prepared.mark ≡ mark_at marks at
+    version-marked at k code coded =
+        let has = code-there at code coded in
+        mark-by at (number_behind (first_number p class) c.methods at) k has.mark code has.has ∙ sym (ap (λ o. unwrap_or o Off) has.marked)

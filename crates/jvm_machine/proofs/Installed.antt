@@ -100,10 +100,10 @@ module _ (started broken : Bool) (clock : ℕ) (hand : Hand) (s : State) (loaded
   -- ---- those of a class
 
   module _ (w : Setup) (fs : List PlacedFrame) (pinned : IsPinned fs s.stack) (is : IsMachine w loaded hand (view w) s) (formed : IsFormed w.world.program) (class : ℕ) (marks : List Mark)
-      (image : ClassFile) (homes : List (Option Homes)) (of : IsImageOf w.world.program class marks image homes) (after : Setup) (world : after.world ≡ w.world)
-      (adds : Adds fs (class_versions w.world.program class image marks homes) w.versions after.versions) where
-    each : AllByRecursion (IsOfProgram w.world.program) (class_versions w.world.program class image marks homes)
-    each = versions-of w.world.program is.has.closed class image marks homes (method-images w.world.program formed is.has.closed class marks image homes of)
+      (image : ClassFile) (homes : List (Option Homes)) (of : IsImageOf w.world.program class marks image homes) (few : length image.pool < 2 ^ 16) (after : Setup) (world : after.world ≡ w.world)
+      (adds : Adds fs (class_versions w.world.program class image homes) w.versions after.versions) where
+    each : AllByRecursion (IsOfProgram w.world.program) (class_versions w.world.program class image homes)
+    each = versions-of w.world.program is.has.closed class image homes (method-images w.world.program formed is.has.closed class marks image homes of)
 
     whole-after : record w { versions = after.versions } ≡ after
     whole-after = ap (λ (x : World). let z : Setup = record { world = x; versions = after.versions } in z) (sym world)
@@ -111,19 +111,19 @@ module _ (started broken : Bool) (clock : ℕ) (hand : Hand) (s : State) (loaded
     pub installed-machine : IsMachine after loaded hand (view after) s
     installed-machine =
         subst (λ (z : Setup). IsMachine z loaded hand (view z) s) whole-after
-        (all-machine fs (class_versions w.world.program class image marks homes) w after.versions each adds pinned is)
+        (all-machine fs (class_versions w.world.program class image homes) w after.versions each adds pinned is)
 
     then-marks : marks_of after.versions ≡ marks_over class marks w.world.program.methods (marks_of w.versions)
     then-marks =
-        marks-all fs (class_versions w.world.program class image marks homes) w is.homes after.versions is.has each adds
+        marks-all fs (class_versions w.world.program class image homes) w is.homes after.versions is.has each adds
         ∙ class-marks w.world.program formed.methods class of.file of.there image marks homes
-        (version-marked w.world.program formed is.has.closed class marks image homes of) (marks_of w.versions) (length-map w.versions.current (mark_of w.versions) ∙ is.has.are.count)
+        (version-marked w.world.program formed is.has.closed class marks image homes of few) (marks_of w.versions) (length-map w.versions.current (mark_of w.versions) ∙ is.has.are.count)
 
     pub installed-seen : view after ≡ with_class class marks (view w)
     installed-seen =
         ap view (sym whole-after)
         ∙ ap₂ (λ ms live. record (view w) { marks = ms; live = live }) then-marks
-        (all-helds fs (class_versions w.world.program class image marks homes) w after.versions each adds pinned is)
+        (all-helds fs (class_versions w.world.program class image homes) w after.versions each adds pinned is)
 
 -- ---- whatever the answer is
 

@@ -8,6 +8,7 @@ pub mod Fresh
 pub mod Loaded
 pub mod Numbered
 pub mod MarkedClasses
+pub mod EntryMarks
 pub mod ImagedMethods
 pub mod Installed
 pub mod QuietSteps

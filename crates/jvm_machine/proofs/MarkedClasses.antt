@@ -152,10 +152,10 @@ original-own p k = at (slice_get p.methods k) where
   at None = refl
   at (Some place) = within place (class_at p place.class)
 
-method-by : (p : Program) (k : ℕ) (image : ClassFile) (mark : Mark) (old : CodeAttribute) (h : Option Homes) (new : Option CodeAttribute) → (version_by p k image mark old h new).method ≡ k
-method-by p k image mark old (Some h) (Some new) = refl
-method-by p k image mark old (Some h) None = original-own p k
-method-by p k image mark old None new = original-own p k
+method-by : (p : Program) (k : ℕ) (image : ClassFile) (old : CodeAttribute) (h : Option Homes) (new : Option CodeAttribute) → (version_by p k image old h new).method ≡ k
+method-by p k image old (Some h) (Some new) = refl
+method-by p k image old (Some h) None = original-own p k
+method-by p k image old None new = original-own p k
 
 -- it is set, if there is one
 abbrev set_by : Option Version → List Mark → List Mark
@@ -170,36 +170,36 @@ set-length None old = refl
 set-length (Some x) old = length-set old x.method x.prepared.mark
 
 module _ (p : Program) (methods : p.methods ≡ numbered p.classes) (class : ℕ) (c : ClassFile) (there : class_at p class ≡ Some c) (image : ClassFile) (marks : List Mark) (homes : List (Option Homes))
-    (marked : (at k : ℕ) (code : CodeAttribute) → method_code c at ≡ Some code → (class_version p image marks homes at code k).prepared.mark ≡ mark_at marks at) where
+    (marked : (at k : ℕ) (code : CodeAttribute) → method_code c at ≡ Some code → (class_version p image homes at code k).prepared.mark ≡ mark_at marks at) where
   abbrev place_at : ℕ → MethodPlace
   place_at at = record { class = class; position = at }
 
   -- it is that of the method there
   set-at-place : (at k : ℕ) (m : Member) (old : List Mark) → slice_get c.methods at ≡ Some m → place_of_method p k ≡ Some (place_at at) → k < length old
-      → slice_get (set_by (member_version p class image marks homes at m) old) k ≡ Some (mark_at marks at)
+      → slice_get (set_by (member_version p class image homes at m) old) k ≡ Some (mark_at marks at)
   set-at-place at k m old member found lt =
       let code = method-there p methods k (place_at at) c found there in
       let coded : code_of m ≡ Some code.0 = sym (ap (option_and_then code_of) member) ∙ code.1 in
       let number : number_of_method p class at ≡ Some k = number-of p methods k class at found in
-      let x : Version = class_version p image marks homes at code.0 k in
-      let one : member_version p class image marks homes at m ≡ Some x =
-      ap (option_and_then (λ old. option_map (class_version p image marks homes at old) (number_of_method p class at))) coded
-      ∙ ap (option_map (class_version p image marks homes at code.0)) number in
+      let x : Version = class_version p image homes at code.0 k in
+      let one : member_version p class image homes at m ≡ Some x =
+      ap (option_and_then (λ old. option_map (class_version p image homes at old) (number_of_method p class at))) coded
+      ∙ ap (option_map (class_version p image homes at code.0)) number in
       ap (λ o. slice_get (set_by o old) k) one
-      ∙ (ap (λ i. slice_get (slice_set old i x.prepared.mark) k) (method-by p k image (mark_at marks at) code.0 (homes_at homes at) (method_code image at))
+      ∙ (ap (λ i. slice_get (slice_set old i x.prepared.mark) k) (method-by p k image code.0 (homes_at homes at) (method_code image at))
       ∙ (set-here old k x.prepared.mark lt ∙ ap (λ a. let o : Option Mark = Some a in o) (marked at k code.0 code.1)))
 
   -- and no other method's
   set-elsewhere : (at k : ℕ) (m : Member) (old : List Mark) → (place_of_method p k ≡ Some (place_at at) → ⊥)
-      → slice_get (set_by (member_version p class image marks homes at m) old) k ≡ slice_get old k
+      → slice_get (set_by (member_version p class image homes at m) old) k ≡ slice_get old k
   set-elsewhere at k m old other = by (code_of m) where
-    of : (code : CodeAttribute) (o : Option ℕ) → number_of_method p class at ≡ o → slice_get (set_by (option_map (class_version p image marks homes at code) o) old) k ≡ slice_get old k
+    of : (code : CodeAttribute) (o : Option ℕ) → number_of_method p class at ≡ o → slice_get (set_by (option_map (class_version p image homes at code) o) old) k ≡ slice_get old k
     of code None is = refl
     of code (Some n) is =
-        set-apart old (class_version p image marks homes at code n).method k (class_version p image marks homes at code n).prepared.mark
-        (λ same. other (ap (place_of_method p) (same ∙ method-by p n image (mark_at marks at) code (homes_at homes at) (method_code image at)) ∙ place-of p class at n is))
+        set-apart old (class_version p image homes at code n).method k (class_version p image homes at code n).prepared.mark
+        (λ same. other (ap (place_of_method p) (same ∙ method-by p n image code (homes_at homes at) (method_code image at)) ∙ place-of p class at n is))
 
-    by : (o : Option CodeAttribute) → slice_get (set_by (option_and_then (λ old. option_map (class_version p image marks homes at old) (number_of_method p class at)) o) old) k ≡ slice_get old k
+    by : (o : Option CodeAttribute) → slice_get (set_by (option_and_then (λ old. option_map (class_version p image homes at old) (number_of_method p class at)) o) old) k ≡ slice_get old k
     by None = refl
     by (Some code) = of code (number_of_method p class at) refl
 
@@ -210,7 +210,7 @@ module _ (p : Program) (methods : p.methods ≡ numbered p.classes) (class : ℕ
   same-place place at e f = ap₂ (λ a b. let q : MethodPlace = record { class = a; position = b } in q) e f
 
   from : (at : ℕ) (ms : List Member) → ((k : ℕ) → slice_get ms k ≡ slice_get c.methods (at + k)) → (old : List Mark) (k : ℕ) (place : MethodPlace) → place_of_method p k ≡ Some place → k < length old
-      → slice_get (added_marks (versions_from p class image marks homes at ms) old) k ≡ then_mark at place (slice_get old k)
+      → slice_get (added_marks (versions_from p class image homes at ms) old) k ≡ then_mark at place (slice_get old k)
   from at [] stand old k place found lt = by (place.class == class) refl (nat_le at place.position) refl where
     by : (b : Bool) → (place.class == class) ≡ b → (d : Bool) → nat_le at place.position ≡ d → slice_get old k ≡ cond (b && d) (Some (mark_at marks place.position)) (slice_get old k)
     by false e d f = refl
@@ -223,14 +223,14 @@ module _ (p : Program) (methods : p.methods ≡ numbered p.classes) (class : ℕ
         let none : slice_get c.methods place.position ≡ None = ap (slice_get c.methods) (sym sum) ∙ sym (stand (place.position - at)) in
         absurd (none-some code.0 (sym (ap (option_and_then code_of) none) ∙ code.1))
   from at (m ∷ rest) stand old k place found lt =
-      ap (λ l. slice_get l k) (added-alone (member_version p class image marks homes at m) (versions_from p class image marks homes (at + 1) rest) old)
+      ap (λ l. slice_get l k) (added-alone (member_version p class image homes at m) (versions_from p class image homes (at + 1) rest) old)
       ∙ (from (at + 1) rest (λ i. let next : at + suc i ≡ at + 1 + i = omega arith in stand (suc i) ∙ ap (slice_get c.methods) next)
-      (set_by (member_version p class image marks homes at m) old) k place found
-      (let many : length (set_by (member_version p class image marks homes at m) old) ≡ length old = set-length (member_version p class image marks homes at m) old in omega (arith, many, lt))
+      (set_by (member_version p class image homes at m) old) k place found
+      (let many : length (set_by (member_version p class image homes at m) old) ≡ length old = set-length (member_version p class image homes at m) old in omega (arith, many, lt))
       ∙ by (place.class == class) refl (nat_le at place.position) refl (nat_le (at + 1) place.position) refl)
     where
       after : List Mark
-      after = set_by (member_version p class image marks homes at m) old
+      after = set_by (member_version p class image homes at m) old
 
       first : slice_get c.methods at ≡ Some m
       first = let here : at ≡ at + 0 = omega arith in ap (slice_get c.methods) here ∙ sym (stand 0)
@@ -274,16 +274,16 @@ module _ (p : Program) (methods : p.methods ≡ numbered p.classes) (class : ℕ
   there-is (x ∷ xs) zero lt = (x, refl)
   there-is (x ∷ xs) (suc k) lt = there-is xs k (omega arith)
 
-  pub class-marks : (old : List Mark) → length old ≡ length p.methods → added_marks (class_versions p class image marks homes) old ≡ marks_over class marks p.methods old
+  pub class-marks : (old : List Mark) → length old ≡ length p.methods → added_marks (class_versions p class image homes) old ≡ marks_over class marks p.methods old
   class-marks old many =
-      ap (λ (o : Option ClassFile). added_marks (option_map_or (λ (c : ClassFile). versions_from p class image marks homes 0 c.methods) o []) old) there
-      ∙ same-list (added_marks (versions_from p class image marks homes 0 c.methods) old) (marks_over class marks p.methods old)
-      (added-length (versions_from p class image marks homes 0 c.methods) old ∙ sym (over-length p.methods old many)) each
+      ap (λ (o : Option ClassFile). added_marks (option_map_or (λ (c : ClassFile). versions_from p class image homes 0 c.methods) o []) old) there
+      ∙ same-list (added_marks (versions_from p class image homes 0 c.methods) old) (marks_over class marks p.methods old)
+      (added-length (versions_from p class image homes 0 c.methods) old ∙ sym (over-length p.methods old many)) each
     where
-      each : (k : ℕ) → k < length (added_marks (versions_from p class image marks homes 0 c.methods) old)
-          → slice_get (added_marks (versions_from p class image marks homes 0 c.methods) old) k ≡ slice_get (marks_over class marks p.methods old) k
+      each : (k : ℕ) → k < length (added_marks (versions_from p class image homes 0 c.methods) old)
+          → slice_get (added_marks (versions_from p class image homes 0 c.methods) old) k ≡ slice_get (marks_over class marks p.methods old) k
       each k lt =
-          let len = added-length (versions_from p class image marks homes 0 c.methods) old in
+          let len = added-length (versions_from p class image homes 0 c.methods) old in
           let within : k < length old = omega (arith, lt, len) in
           let place = there-is p.methods k (omega (arith, within, many)) in
           let was = there-is old k within in

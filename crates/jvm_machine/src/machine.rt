@@ -259,12 +259,13 @@ impl Vm {
         requires whole { self.old.broken ≡ false }
         requires formed { IsFormed self.old.program }
         requires image { IsImageOf self.old.program class marks.now image homes.now }
+        requires pool { length image.pool < 2 ^ 16 }
         ensures ok { OnOk result (self.new ≡ with_class class marks.now self.old) }
         ensures err { OnErr result (self.new ≡ self.old) }
     {
         let frames = &self.parts.frames;
         self.originals
-            .install(self.alloc, class, &image, marks, homes, frames)
+            .install(self.alloc, class, &image, homes, frames)
     }
 
     /// The number of steps that were begun after the start.

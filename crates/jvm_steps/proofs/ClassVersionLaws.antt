@@ -101,27 +101,27 @@ original-keeps p k =
 -- ---- one method
 
 -- its lines are lines of a class
-keeps-by : (p : Program) (k : ℕ) (image : ClassFile) (mark : Mark) (old : CodeAttribute) (homes : Option Homes) (new : Option CodeAttribute) → HasOwnLines (version_by p k image mark old homes new)
-keeps-by p k image mark old (Some homes) (Some new) = rewritten-lines k mark image new homes (length old.code)
-keeps-by p k image mark old (Some homes) None = original-keeps p k
-keeps-by p k image mark old None new = original-keeps p k
+keeps-by : (p : Program) (k : ℕ) (image : ClassFile) (old : CodeAttribute) (homes : Option Homes) (new : Option CodeAttribute) → HasOwnLines (version_by p k image old homes new)
+keeps-by p k image old (Some homes) (Some new) = rewritten-lines k image new homes (length old.code)
+keeps-by p k image old (Some homes) None = original-keeps p k
+keeps-by p k image old None new = original-keeps p k
 
 module _ (p : Program) (closed : HasClosedCodes p) (class : ℕ) (image : ClassFile) (homes : List (Option Homes)) (are : AreMethodImages p class image homes)
     (c : ClassFile) (there : class_at p class ≡ Some c) where
-  of-by : (at k : ℕ) (mark : Mark) (old : CodeAttribute) (h : Option Homes) (new : Option CodeAttribute) → method_code c at ≡ Some old → number_of_method p class at ≡ Some k
-      → homes_at homes at ≡ h → method_code image at ≡ new → IsOfProgram p (version_by p k image mark old h new)
-  of-by at k mark old (Some h) (Some new) coded numbered housed imaged =
+  of-by : (at k : ℕ) (old : CodeAttribute) (h : Option Homes) (new : Option CodeAttribute) → method_code c at ≡ Some old → number_of_method p class at ≡ Some k
+      → homes_at homes at ≡ h → method_code image at ≡ new → IsOfProgram p (version_by p k image old h new)
+  of-by at k old (Some h) (Some new) coded numbered housed imaged =
       let is : IsMethodImage c image old new h = are c at old new h there coded housed imaged in
       let place : MethodPlace = record { class = class; position = at } in
       let found = place-of p class at k numbered in
       record {
         home = home_of h;
-        version = method-image p k place c image old found there coded is.count is.number is.mark mark new h is.version is.can is.named (closed k old (code-is p k place c image old found there coded));
+        version = method-image p k place c image old found there coded is.count is.number is.mark new h is.version is.can is.named (closed k old (code-is p k place c image old found there coded));
         own = number-below p class at k numbered;
-        lines = λ at. rewritten-own k mark image new h (length old.code) at;
+        lines = λ at. rewritten-own k image new h (length old.code) at;
       }
-  of-by at k mark old (Some h) None coded numbered housed imaged = original-of p k (number-below p class at k numbered)
-  of-by at k mark old None new coded numbered housed imaged = original-of p k (number-below p class at k numbered)
+  of-by at k old (Some h) None coded numbered housed imaged = original-of p k (number-below p class at k numbered)
+  of-by at k old None new coded numbered housed imaged = original-of p k (number-below p class at k numbered)
 
 -- ---- all of them
 
@@ -138,60 +138,60 @@ module _ (P : Version → Type 0) where
   if-coded f None each = tt
   if-coded f (Some old) each = each old refl
 
-pub versions-keep : (p : Program) (class : ℕ) (image : ClassFile) (marks : List Mark) (homes : List (Option Homes)) → AllByRecursion HasOwnLines (class_versions p class image marks homes)
-versions-keep p class image marks homes = by (class_at p class) where
-  from : (at : ℕ) (ms : List Member) → AllByRecursion HasOwnLines (versions_from p class image marks homes at ms)
+pub versions-keep : (p : Program) (class : ℕ) (image : ClassFile) (homes : List (Option Homes)) → AllByRecursion HasOwnLines (class_versions p class image homes)
+versions-keep p class image homes = by (class_at p class) where
+  from : (at : ℕ) (ms : List Member) → AllByRecursion HasOwnLines (versions_from p class image homes at ms)
   from at [] = tt
   from at (m ∷ rest) =
-      all-alone HasOwnLines (member_version p class image marks homes at m) (versions_from p class image marks homes (at + 1) rest)
-      (if-coded HasOwnLines (λ old. option_map (class_version p image marks homes at old) (number_of_method p class at)) (code_of m)
-      (λ old coded. if-numbered HasOwnLines (class_version p image marks homes at old) (number_of_method p class at)
-      (λ k numbered. keeps-by p k image (mark_at marks at) old (homes_at homes at) (method_code image at))))
+      all-alone HasOwnLines (member_version p class image homes at m) (versions_from p class image homes (at + 1) rest)
+      (if-coded HasOwnLines (λ old. option_map (class_version p image homes at old) (number_of_method p class at)) (code_of m)
+      (λ old coded. if-numbered HasOwnLines (class_version p image homes at old) (number_of_method p class at)
+      (λ k numbered. keeps-by p k image old (homes_at homes at) (method_code image at))))
       (from (at + 1) rest)
 
-  by : (o : Option ClassFile) → AllByRecursion HasOwnLines (option_map_or (λ (c : ClassFile). versions_from p class image marks homes 0 c.methods) o [])
+  by : (o : Option ClassFile) → AllByRecursion HasOwnLines (option_map_or (λ (c : ClassFile). versions_from p class image homes 0 c.methods) o [])
   by None = tt
   by (Some c) = from 0 c.methods
 
-pub versions-of : (p : Program) → HasClosedCodes p → (class : ℕ) (image : ClassFile) (marks : List Mark) (homes : List (Option Homes)) → AreMethodImages p class image homes
-    → AllByRecursion (IsOfProgram p) (class_versions p class image marks homes)
-versions-of p closed class image marks homes are = by (class_at p class) refl where
+pub versions-of : (p : Program) → HasClosedCodes p → (class : ℕ) (image : ClassFile) (homes : List (Option Homes)) → AreMethodImages p class image homes
+    → AllByRecursion (IsOfProgram p) (class_versions p class image homes)
+versions-of p closed class image homes are = by (class_at p class) refl where
   from : (c : ClassFile) → class_at p class ≡ Some c → (at : ℕ) (ms : List Member) → ((k : ℕ) (m : Member) → slice_get ms k ≡ Some m → slice_get c.methods (at + k) ≡ Some m)
-      → AllByRecursion (IsOfProgram p) (versions_from p class image marks homes at ms)
+      → AllByRecursion (IsOfProgram p) (versions_from p class image homes at ms)
   from c there at [] stand = tt
   from c there at (m ∷ rest) stand =
       let here : at + 0 ≡ at = omega arith in
       let stands : slice_get c.methods at ≡ Some m = ap (slice_get c.methods) (sym here) ∙ stand 0 m refl in
-      all-alone (IsOfProgram p) (member_version p class image marks homes at m) (versions_from p class image marks homes (at + 1) rest)
-      (if-coded (IsOfProgram p) (λ old. option_map (class_version p image marks homes at old) (number_of_method p class at)) (code_of m)
-      (λ old coded. if-numbered (IsOfProgram p) (class_version p image marks homes at old) (number_of_method p class at)
-      (λ k numbered. of-by p closed class image homes are c there at k (mark_at marks at) old (homes_at homes at) (method_code image at) (ap (option_and_then code_of) stands ∙ coded) numbered refl refl)))
+      all-alone (IsOfProgram p) (member_version p class image homes at m) (versions_from p class image homes (at + 1) rest)
+      (if-coded (IsOfProgram p) (λ old. option_map (class_version p image homes at old) (number_of_method p class at)) (code_of m)
+      (λ old coded. if-numbered (IsOfProgram p) (class_version p image homes at old) (number_of_method p class at)
+      (λ k numbered. of-by p closed class image homes are c there at k old (homes_at homes at) (method_code image at) (ap (option_and_then code_of) stands ∙ coded) numbered refl refl)))
       (from c there (at + 1) rest (λ k x found. let next : at + 1 + k ≡ at + suc k = omega arith in ap (slice_get c.methods) next ∙ stand (suc k) x found))
 
-  by : (o : Option ClassFile) → class_at p class ≡ o → AllByRecursion (IsOfProgram p) (option_map_or (λ (c : ClassFile). versions_from p class image marks homes 0 c.methods) o [])
+  by : (o : Option ClassFile) → class_at p class ≡ o → AllByRecursion (IsOfProgram p) (option_map_or (λ (c : ClassFile). versions_from p class image homes 0 c.methods) o [])
   by None there = tt
   by (Some c) there = from c there 0 c.methods (λ k m found. let same : 0 + k ≡ k = omega arith in ap (slice_get c.methods) same ∙ found)
 
 -- each is of a method of the program
-method-by : (p : Program) (k : ℕ) (image : ClassFile) (mark : Mark) (old : CodeAttribute) (homes : Option Homes) (new : Option CodeAttribute) → (version_by p k image mark old homes new).method ≡ k
-method-by p k image mark old (Some homes) (Some new) = refl
-method-by p k image mark old (Some homes) None = own p (places_of p) k
-method-by p k image mark old None new = own p (places_of p) k
+method-by : (p : Program) (k : ℕ) (image : ClassFile) (old : CodeAttribute) (homes : Option Homes) (new : Option CodeAttribute) → (version_by p k image old homes new).method ≡ k
+method-by p k image old (Some homes) (Some new) = refl
+method-by p k image old (Some homes) None = own p (places_of p) k
+method-by p k image old None new = own p (places_of p) k
 
-pub versions-below : (p : Program) (class : ℕ) (image : ClassFile) (marks : List Mark) (homes : List (Option Homes)) → AllByRecursion (λ (x : Version). x.method < length p.methods) (class_versions p class image marks homes)
-versions-below p class image marks homes = by (class_at p class) where
+pub versions-below : (p : Program) (class : ℕ) (image : ClassFile) (homes : List (Option Homes)) → AllByRecursion (λ (x : Version). x.method < length p.methods) (class_versions p class image homes)
+versions-below p class image homes = by (class_at p class) where
   Below : Version → Type 0
   Below x = x.method < length p.methods
 
-  from : (at : ℕ) (ms : List Member) → AllByRecursion Below (versions_from p class image marks homes at ms)
+  from : (at : ℕ) (ms : List Member) → AllByRecursion Below (versions_from p class image homes at ms)
   from at [] = tt
   from at (m ∷ rest) =
-      all-alone Below (member_version p class image marks homes at m) (versions_from p class image marks homes (at + 1) rest)
-      (if-coded Below (λ old. option_map (class_version p image marks homes at old) (number_of_method p class at)) (code_of m)
-      (λ old coded. if-numbered Below (class_version p image marks homes at old) (number_of_method p class at)
-      (λ k numbered. subst (λ n. n < length p.methods) (sym (method-by p k image (mark_at marks at) old (homes_at homes at) (method_code image at))) (number-below p class at k numbered))))
+      all-alone Below (member_version p class image homes at m) (versions_from p class image homes (at + 1) rest)
+      (if-coded Below (λ old. option_map (class_version p image homes at old) (number_of_method p class at)) (code_of m)
+      (λ old coded. if-numbered Below (class_version p image homes at old) (number_of_method p class at)
+      (λ k numbered. subst (λ n. n < length p.methods) (sym (method-by p k image old (homes_at homes at) (method_code image at))) (number-below p class at k numbered))))
       (from (at + 1) rest)
 
-  by : (o : Option ClassFile) → AllByRecursion Below (option_map_or (λ (c : ClassFile). versions_from p class image marks homes 0 c.methods) o [])
+  by : (o : Option ClassFile) → AllByRecursion Below (option_map_or (λ (c : ClassFile). versions_from p class image homes 0 c.methods) o [])
   by None = tt
   by (Some c) = from 0 c.methods

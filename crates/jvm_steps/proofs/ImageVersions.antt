@@ -69,9 +69,9 @@ module _ (p : Program) (norm : ℕ → ℕ → ℕ) (method : ℕ) (c image : Cl
   handlers-are : new.handlers ≡ map (moved_handler laid.homes) old.handlers ++ catch_all laid.homes (length old.code) ∷ []
   handlers-are = ap (λ (k : CodeAttribute). k.handlers) version.code
 
-  pub image-version : (seen : Mark) → IsVersionOf p norm (rewritten_version method seen image new homes (length old.code)) (home_of homes)
-  image-version seen =
-      subst (λ (hs : Homes). IsVersionOf p norm (rewritten_version method seen image new hs (length old.code)) (home_of hs)) (sym version.moved)
-      (rewritten-is p norm method seen c image leave old new instrs laid
+  pub image-version : IsVersionOf p norm (rewritten_version method image new homes (length old.code)) (home_of homes)
+  image-version =
+      subst (λ (hs : Homes). IsVersionOf p norm (rewritten_version method image new hs (length old.code)) (home_of hs)) (sym version.moved)
+      (rewritten-is p norm method c image leave old new instrs laid
       (laid-rewritten p norm method c image (entry_probe count number mark) leave (unwind_code count number) old new instrs version.reads.instrs are-groups can.near can.short can.does at
       code-is (catch_all laid.homes (length old.code)) handlers-are named handled places))

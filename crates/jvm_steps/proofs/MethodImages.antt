@@ -42,9 +42,9 @@ module _ (p : Program) (method : ℕ) (here : MethodPlace) (c image : ClassFile)
   handlers-is =
       ap (λ (o : Option (List Catcher)). unwrap_or o []) (by-class method_handlers ∙ ap (option_map (λ (code : CodeAttribute). map (catcher_of c) code.handlers)) coded)
 
-  pub method-image : (count number : ℕ) (mark seen : Mark) (new : CodeAttribute) (homes : Homes) (version : IsVersion count number mark old new homes) → CanBeLaid count number mark c image old version.reading
+  pub method-image : (count number : ℕ) (mark : Mark) (new : CodeAttribute) (homes : Homes) (version : IsVersion count number mark old new homes) → CanBeLaid count number mark c image old version.reading
       → AllByRecursion (NamesClass c image) old.handlers → IsClosedCode old
-      → IsVersionOf p (norm_of (is_place_in p)) (rewritten_version method seen image new homes (length old.code)) (home_of homes)
-  method-image count number mark seen new homes version can named closed =
+      → IsVersionOf p (norm_of (is_place_in p)) (rewritten_version method image new homes (length old.code)) (home_of homes)
+  method-image count number mark new homes version can named closed =
       image-version p (norm_of (is_place_in p)) method c image count number mark old new homes version can at-is handlers-is named
-      (places-of p method old code-is version.reading.instrs version.reads.instrs closed.reads can.some) seen
+      (places-of p method old code-is version.reading.instrs version.reads.instrs closed.reads can.some)

@@ -44,21 +44,21 @@ module _ (P : Line → Type 0) (image : ClassFile) (each : (i : Instr) → IfSom
   started code homes len None = tt
   started code homes len (Some at) = chosen (nat_lt at len) _ (placed code at (place_in homes at))
 
-  pub lines-each : (method : ℕ) (mark : Mark) (code : CodeAttribute) (homes : Homes) (len place : ℕ) → IfSome (line_in place (rewritten_version method mark image code homes len)) P
-  lines-each method mark code homes len place =
+  pub lines-each : (method : ℕ) (code : CodeAttribute) (homes : Homes) (len place : ℕ) → IfSome (line_in place (rewritten_version method image code homes len)) P
+  lines-each method code homes len place =
       ⊎_elim
       (λ (lt : place < length code.code). subst (λ (o : Option (Option Line)). IfSome (option_flatten o) P) (sym (tabled-at (homed_line image code.code homes len) (length code.code) place lt))
       (started code.code homes len (start_in homes place)))
       (λ (le : length code.code ≤ place). subst (λ (o : Option (Option Line)). IfSome (option_flatten o) P) (sym (tabled-past (homed_line image code.code homes len) (length code.code) place le)) tt)
       (cases_lt place (length code.code))
 
-pub rewritten-lines : (method : ℕ) (mark : Mark) (image : ClassFile) (code : CodeAttribute) (homes : Homes) (len : ℕ) → HasOwnLines (rewritten_version method mark image code homes len)
-rewritten-lines method mark image code homes len = record {
-  families = λ place. lines-each KeepsFamily image (λ i. made-with image i (option_map action_of (operation_of image i))) (λ own line h. h) method mark code homes len place;
-  dimensions = λ place. lines-each Fits image (λ i. fits-with image i (operation_of image i) (by-family image i.op i.arg (family_of i.op))) (λ own line h. h) method mark code homes len place;
+pub rewritten-lines : (method : ℕ) (image : ClassFile) (code : CodeAttribute) (homes : Homes) (len : ℕ) → HasOwnLines (rewritten_version method image code homes len)
+rewritten-lines method image code homes len = record {
+  families = λ place. lines-each KeepsFamily image (λ i. made-with image i (option_map action_of (operation_of image i))) (λ own line h. h) method code homes len place;
+  dimensions = λ place. lines-each Fits image (λ i. fits-with image i (operation_of image i) (by-family image i.op i.arg (family_of i.op))) (λ own line h. h) method code homes len place;
 }
 
-pub rewritten-own : (method : ℕ) (mark : Mark) (image : ClassFile) (code : CodeAttribute) (homes : Homes) (len place : ℕ) → IfSome (line_in place (rewritten_version method mark image code homes len)) IsOwnLine
-rewritten-own method mark image code homes len place =
+pub rewritten-own : (method : ℕ) (image : ClassFile) (code : CodeAttribute) (homes : Homes) (len place : ℕ) → IfSome (line_in place (rewritten_version method image code homes len)) IsOwnLine
+rewritten-own method image code homes len place =
     lines-each IsOwnLine image (λ i. own-tie (line_of image i) (instruction_of image i) (tied-instruction image i))
-    (λ own line h. record { action = h.action; next = h.next; alone = h.alone; within = h.within }) method mark code homes len place
+    (λ own line h. record { action = h.action; next = h.next; alone = h.alone; within = h.within }) method code homes len place

@@ -106,7 +106,7 @@ pub record IsRewritten (p : Program) (norm : ℕ → ℕ → ℕ) (method : ℕ)
   pub only : (k : ℕ) (i : Instruction) → homed_instruction image laid.code laid.homes (length old.code) k ≡ Some i → HasOperation p method i.operation
   pub rises : (a b : ℕ) → IsPlace norm method a → IsPlace norm method b → a < b → home_of laid.homes a < home_of laid.homes b
 
-module _ (p : Program) (norm : ℕ → ℕ → ℕ) (method : ℕ) (mark : Mark) (c image : ClassFile) (leave : List ℕ) (old new : CodeAttribute) (instrs : List Instr) (laid : Laid)
+module _ (p : Program) (norm : ℕ → ℕ → ℕ) (method : ℕ) (c image : ClassFile) (leave : List ℕ) (old new : CodeAttribute) (instrs : List Instr) (laid : Laid)
     (is : IsRewritten p norm method c image leave old new instrs laid) where
   abbrev h : ℕ → ℕ
   h = home_of laid.homes
@@ -115,7 +115,7 @@ module _ (p : Program) (norm : ℕ → ℕ → ℕ) (method : ℕ) (mark : Mark)
   len = length old.code
 
   abbrev x : Version
-  x = rewritten_version method mark image new laid.homes len
+  x = rewritten_version method image new laid.homes len
 
   lines-are : homed_lines image new.code laid.homes len ≡ homed_lines image laid.code laid.homes len
   lines-are = ap (λ code. homed_lines image code laid.homes len) is.code

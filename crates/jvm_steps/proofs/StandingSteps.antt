@@ -214,18 +214,18 @@ made-set_up w p same made few fit closed =
     subst IsSetUp (sym whole)
     (original-set_up w.world (subst IsFit (sym same) fit) (subst HasClosedCodes (sym same) closed) (subst (λ (q : Program). length q.methods ≤ 4294967296) (sym same) few))
 
-module _ (w : Setup) (class : ℕ) (image : ClassFile) (marks : List Mark) (homes : List (Option Homes)) (are : AreMethodImages w.world.program class image homes) (fs : List PlacedFrame)
-    (after : Setup) (same : after.world ≡ w.world) (adds : Adds fs (class_versions w.world.program class image marks homes) w.versions after.versions) where
-  each-of : HasClosedCodes w.world.program → AllByRecursion (IsOfProgram w.world.program) (class_versions w.world.program class image marks homes)
-  each-of closed = versions-of w.world.program closed class image marks homes are
+module _ (w : Setup) (class : ℕ) (image : ClassFile) (homes : List (Option Homes)) (are : AreMethodImages w.world.program class image homes) (fs : List PlacedFrame)
+    (after : Setup) (same : after.world ≡ w.world) (adds : Adds fs (class_versions w.world.program class image homes) w.versions after.versions) where
+  each-of : HasClosedCodes w.world.program → AllByRecursion (IsOfProgram w.world.program) (class_versions w.world.program class image homes)
+  each-of closed = versions-of w.world.program closed class image homes are
 
   whole : with_table after.versions w ≡ after
   whole = ap (λ (x : World). let u : Setup = record { world = x; versions = after.versions } in u) (sym same)
 
   pub installed-set_up : IsSetUp w → IsSetUp after
-  installed-set_up set = subst IsSetUp whole (set-up-all fs (class_versions w.world.program class image marks homes) w after.versions (each-of set.has.closed) adds set)
+  installed-set_up set = subst IsSetUp whole (set-up-all fs (class_versions w.world.program class image homes) w after.versions (each-of set.has.closed) adds set)
 
   pub installed-stands : (clock : ℕ) (s : State) → IsPinned fs s.stack → IsRunOf w clock s → IsRunOf after clock s
   installed-stands clock s pinned is =
       subst (λ (u : Setup). IsRunOf u clock s) whole
-      (run-of-all fs (class_versions w.world.program class image marks homes) w after.versions clock s (each-of is.has.closed) adds pinned is)
+      (run-of-all fs (class_versions w.world.program class image homes) w after.versions clock s (each-of is.has.closed) adds pinned is)

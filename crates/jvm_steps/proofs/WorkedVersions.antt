@@ -60,7 +60,7 @@ world_of code = record {
 -- its original code, and rewritten code with its homes
 abbrev both : CodeAttribute → CodeAttribute → Homes → Versions
 both old new homes = record {
-  slots = Some (original_version (world_of old).program 0) ∷ Some (rewritten_version 0 Plain (class_with new) new homes (length old.code)) ∷ [];
+  slots = Some (original_version (world_of old).program 0) ∷ Some (rewritten_version 0 (class_with new) new homes (length old.code)) ∷ [];
   current = 1 ∷ [];
 }
 

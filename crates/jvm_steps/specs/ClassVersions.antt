@@ -1,4 +1,4 @@
--- The versions of a class's methods for an image of the class: where homes tell of a method the version that it has in the image, with its mark, else its original code.
+-- The versions of a class's methods for an image of the class: where homes tell of a method the version that it has in the image, else its original code.
 use Rattle.std.specs.Prelude.{ℕ, ◌+◌, List, [], ◌∷◌, ◌++◌, length, slice_get, Option, Some}
 use Rattle.std.specs.List.{AllByRecursion}
 use Rattle.std.specs.List.Sorted.{IsStrictlyIncreasing}
@@ -7,11 +7,9 @@ use Rattle.const_pool.specs.declared.class.ClassFile.{ClassFile}
 use Rattle.const_pool.specs.declared.class.CodeAttribute.{CodeAttribute}
 use Rattle.const_pool.specs.declared.class.Member.{Member}
 use Rattle.code_model.specs.declared.laying.Homes.{Homes}
-use Rattle.jvm_model.specs.declared.event.Mark.{Mark}
 use Rattle.jvm_model.specs.declared.program.Program.{Program}
 use Rattle.jvm_model.specs.Methods.{code_of, method_code}
 use Rattle.jvm_model.specs.Programs.{class_at, number_of_method}
-use Rattle.jvm_model.specs.StandsFor.{mark_at}
 use Rattle.jvm_steps.specs.Tables.{Version}
 use Rattle.jvm_steps.specs.Entries.{original_version}
 use Rattle.jvm_steps.specs.Prepared.{HasShortCodes}
@@ -19,34 +17,34 @@ use Rattle.jvm_steps.specs.Rewritten.{rewritten_version}
 
 -- ---- one method
 
--- a method with this original code, this number and this mark
-abbrev pub version_by : Program → ℕ → ClassFile → Mark → CodeAttribute → Option Homes → Option CodeAttribute → Version
-version_by p k image mark old (Some homes) (Some new) = rewritten_version k mark image new homes (length old.code)
-version_by p k image mark old _ _ = original_version p k
+-- a method with this original code and this number
+abbrev pub version_by : Program → ℕ → ClassFile → CodeAttribute → Option Homes → Option CodeAttribute → Version
+version_by p k image old (Some homes) (Some new) = rewritten_version k image new homes (length old.code)
+version_by p k image old _ _ = original_version p k
 
 -- at this position of its class
 abbrev pub homes_at : List (Option Homes) → ℕ → Option Homes
 homes_at homes at = option_flatten (slice_get homes at)
 
-abbrev pub class_version : Program → ClassFile → List Mark → List (Option Homes) → ℕ → CodeAttribute → ℕ → Version
-class_version p image marks homes at old k = version_by p k image (mark_at marks at) old (homes_at homes at) (method_code image at)
+abbrev pub class_version : Program → ClassFile → List (Option Homes) → ℕ → CodeAttribute → ℕ → Version
+class_version p image homes at old k = version_by p k image old (homes_at homes at) (method_code image at)
 
 -- ---- all that have Code
 
 abbrev pub alone : Option Version → List Version
 alone x = option_map_or (λ version. version ∷ []) x []
 
-abbrev pub member_version : Program → ℕ → ClassFile → List Mark → List (Option Homes) → ℕ → Member → Option Version
-member_version p class image marks homes at m =
-    option_and_then (λ old. option_map (class_version p image marks homes at old) (number_of_method p class at)) (code_of m)
+abbrev pub member_version : Program → ℕ → ClassFile → List (Option Homes) → ℕ → Member → Option Version
+member_version p class image homes at m =
+    option_and_then (λ old. option_map (class_version p image homes at old) (number_of_method p class at)) (code_of m)
 
 -- from this position on
-abbrev pub versions_from : Program → ℕ → ClassFile → List Mark → List (Option Homes) → ℕ → List Member → List Version
-versions_from p class image marks homes at [] = []
-versions_from p class image marks homes at (m ∷ rest) = alone (member_version p class image marks homes at m) ++ versions_from p class image marks homes (at + 1) rest
+abbrev pub versions_from : Program → ℕ → ClassFile → List (Option Homes) → ℕ → List Member → List Version
+versions_from p class image homes at [] = []
+versions_from p class image homes at (m ∷ rest) = alone (member_version p class image homes at m) ++ versions_from p class image homes (at + 1) rest
 
-abbrev pub class_versions : Program → ℕ → ClassFile → List Mark → List (Option Homes) → List Version
-class_versions p class image marks homes = option_map_or (λ (c : ClassFile). versions_from p class image marks homes 0 c.methods) (class_at p class) []
+abbrev pub class_versions : Program → ℕ → ClassFile → List (Option Homes) → List Version
+class_versions p class image homes = option_map_or (λ (c : ClassFile). versions_from p class image homes 0 c.methods) (class_at p class) []
 
 -- ---- what that needs
 

@@ -3,7 +3,6 @@
 ghost use Rattle.std.specs.Prelude.{◌≡◌, ◌<◌, ◌^◌, ◌++◌, length, slice_get, IfOk, OnOk};
 ghost use Rattle.std.specs.Option.{option_and_then, option_copied, option_flatten, IfSome};
 ghost use Rattle.jvm_model.specs.Methods.{code_of, method_code};
-ghost use Rattle.jvm_model.specs.StandsFor.{mark_at};
 ghost use Rattle.jvm_named.specs.Numbers.{AreNumbers};
 ghost use Rattle.jvm_steps.specs.ClassVersions.{AreRising, FitsImage, class_version, class_versions};
 ghost use Rattle.jvm_steps.specs.ClassVersions.{alone, homes_at, member_version};
@@ -17,7 +16,7 @@ use crate::versions::Version;
 use code_model::Homes;
 use const_pool::{ClassFile, CodeAttribute, Member};
 use jf_bytes::{NoMemory, Seq};
-use jvm_model::{Mark, Program};
+use jvm_model::Program;
 use jvm_named::MethodNumbers;
 use std::alloc::Global;
 
@@ -28,16 +27,6 @@ fn homes_at(homes: &[Option<Homes>], at: usize) -> Option<&Homes>
     ensures { option_copied result ≡ homes_at homes.now at }
 {
     homes.get(at)?.as_ref()
-}
-
-/// The mark of the method at a position; Off where there is none.
-fn mark_at(marks: &[Mark], at: usize) -> Mark
-    ensures { result ≡ mark_at marks.now at }
-{
-    match marks.get(at) {
-        Some(mark) => *mark,
-        None => Mark::Off,
-    }
 }
 
 /// The code of the method at a position of an image.
@@ -52,7 +41,6 @@ fn class_version(
     alloc: Global,
     program: &Program,
     image: &ClassFile,
-    marks: &[Mark],
     homes: &[Option<Homes>],
     at: usize,
     old: &CodeAttribute,
@@ -62,7 +50,7 @@ fn class_version(
     requires image { FitsImage image.now homes.now }
     requires short { length old.now.code < 2 ^ 16 }
     ensures { IfOk result (λ version. version
-        ≡ class_version program.now image.now marks.now homes.now at old.now method) }
+        ≡ class_version program.now image.now homes.now at old.now method) }
 {
     let Some(homes) = homes_at(homes, at) else {
         return original_version(alloc, program, method);
@@ -73,7 +61,6 @@ fn class_version(
     rewritten_version(
         alloc,
         method,
-        mark_at(marks, at),
         image,
         code,
         homes,
@@ -88,7 +75,6 @@ fn member_version(
     numbers: &MethodNumbers,
     class: u32,
     image: &ClassFile,
-    marks: &[Mark],
     homes: &[Option<Homes>],
     at: u16,
     member: &Member,
@@ -98,7 +84,7 @@ fn member_version(
     requires image { FitsImage image.now homes.now }
     requires short { IfSome (code_of member.now) (λ code. length code.code < 2 ^ 16) }
     ensures { IfOk result (λ version. version
-        ≡ member_version program.now class image.now marks.now homes.now at member.now) }
+        ≡ member_version program.now class image.now homes.now at member.now) }
 {
     let Some(old) = code_of(member) else {
         return Ok(None);
@@ -110,7 +96,6 @@ fn member_version(
         alloc,
         program,
         image,
-        marks,
         homes,
         at as usize,
         old,
@@ -139,7 +124,6 @@ fn versions_of(
     class: u32,
     file: &ClassFile,
     image: &ClassFile,
-    marks: &[Mark],
     homes: &[Option<Homes>],
 ) -> Result<Seq<Version>, NoMemory>
     requires fits { FitsOriginals program.now }
@@ -148,12 +132,12 @@ fn versions_of(
     requires short { HasShortCodes file.now }
     requires few { length file.now.methods < 2 ^ 16 }
     ensures { IfOk result (λ versions. versions
-        ≡ versions_from program.now class image.now marks.now homes.now 0 file.now.methods) }
+        ≡ versions_from program.now class image.now homes.now 0 file.now.methods) }
 {
     let mut versions = Seq::new(alloc);
     for (at, member) in file.methods.as_slice().iter().enumerate() {
         let version = member_version(
-            alloc, program, numbers, class, image, marks, homes, at as u16, member,
+            alloc, program, numbers, class, image, homes, at as u16, member,
         )?;
         push_some(&mut versions, version)?;
     }
@@ -167,17 +151,16 @@ pub fn class_versions(
     numbers: &MethodNumbers,
     class: u32,
     image: &ClassFile,
-    marks: &[Mark],
     homes: &[Option<Homes>],
 ) -> Result<Seq<Version>, NoMemory>
     requires fits { FitsOriginals program.now }
     requires numbers { AreNumbers program.now numbers.now }
     requires image { FitsImage image.now homes.now }
     ensures { IfOk result (λ versions. versions
-        ≡ class_versions program.now class image.now marks.now homes.now) }
+        ≡ class_versions program.now class image.now homes.now) }
 {
     let Some(file) = program.classes.get(class as usize) else {
         return Ok(Seq::new(alloc));
     };
-    versions_of(alloc, program, numbers, class, file, image, marks, homes)
+    versions_of(alloc, program, numbers, class, file, image, homes)
 }

@@ -30,6 +30,7 @@ mod parts;
 mod pausing;
 mod plain;
 mod preparing;
+mod probes;
 mod raising;
 mod resolving;
 mod returning;

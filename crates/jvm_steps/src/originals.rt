@@ -409,20 +409,19 @@ impl Originals {
     // ---- versions
 
     /// Adds the versions of a class's methods for an image of the class, in which they begin from then on: where homes tell of
-    /// a method the version that it has in the image, with its mark, else its original code. Frames keep the versions that they run; a former
+    /// a method the version that it has in the image, with the probes that stand there, else its original code. Frames keep the versions that they run; a former
     /// version that none runs is dropped. After want of memory nothing has changed.
     pub fn install(
         &mut self,
         alloc: Global,
         class: u32,
         image: &ClassFile,
-        marks: &[Mark],
         homes: &[Option<Homes>],
         frames: &Frames,
     ) -> Result<(), NoMemory>
         requires { FitsImage image.now homes.now }
         ensures ok { let w = self.old.setup in OnOk result (Adds frames.now.frames
-            (class_versions w.world.program class image.now marks.now homes.now) w.versions
+            (class_versions w.world.program class image.now homes.now) w.versions
             self.new.setup.versions) }
         ensures err { OnErr result (self.new.setup.versions ≡ self.old.setup.versions) }
         ensures world { self.new.setup.world ≡ self.old.setup.world }
@@ -435,7 +434,7 @@ impl Originals {
             → IsRunOf w clock s → IsRunOf self.new.setup clock s) }
     {
         let program = self.linker.program();
-        let more = class_versions(alloc, program, &self.numbers, class, image, marks, homes)?;
+        let more = class_versions(alloc, program, &self.numbers, class, image, homes)?;
         self.versions.add_all(more, frames)
     }
 

@@ -9,11 +9,11 @@ ghost use Rattle.jvm_steps.specs.Rewritten.{rewritten_version};
 
 use crate::line::Line;
 use crate::preparing::{code_line, handlers_of};
+use crate::probes::entry_mark;
 use crate::versions::{Catching, PreparedCode, Version};
 use code_model::Homes;
 use const_pool::{ClassFile, CodeAttribute};
 use jf_bytes::{NoMemory, Seq};
-use jvm_model::Mark;
 use method_versions::Held;
 use std::alloc::Global;
 
@@ -129,11 +129,10 @@ fn own_handlers(handlers: Seq<Catching>) -> Seq<Catching>
     own
 }
 
-/// Prepares the rewritten code of a method, with the probes of this mark; the original code has so many bytes.
+/// Prepares the rewritten code of a method; the original code has so many bytes.
 pub fn rewritten_version(
     alloc: Global,
     method: u32,
-    mark: Mark,
     image: &ClassFile,
     code: &CodeAttribute,
     homes: &Homes,
@@ -143,8 +142,9 @@ pub fn rewritten_version(
     requires starts { IsStrictlyIncreasing homes.now.from }
     requires homes { IsStrictlyIncreasing homes.now.home }
     ensures { IfOk result (λ version. version
-        ≡ rewritten_version method mark image.now code.now homes.now len) }
+        ≡ rewritten_version method image.now code.now homes.now len) }
 {
+    let mark = entry_mark(alloc, image, code.code.as_slice())?;
     let handlers = handlers_of(alloc, image, code.handlers.as_slice())?;
     let lines = homed_lines(alloc, image, code.code.as_slice(), homes, len)?;
     Ok(Held {

@@ -22,14 +22,14 @@ invariant_of-self c =
     (seen c.install.new.self.setup (state_of c.self.inside.markers c.self.inside.parts) c.self.inside.started c.self.inside.broken c.self.inside.clock c.self.inside.hand) (state_of c.self.inside.markers c.self.inside.parts)) (sym c.install.ensures.loaded)
     (either-way (IsMachine c.install.new.self.setup c.self.inside.originals.loaded c.self.inside.hand
     (seen c.install.new.self.setup (state_of c.self.inside.markers c.self.inside.parts) c.self.inside.started c.self.inside.broken c.self.inside.clock c.self.inside.hand) (state_of c.self.inside.markers c.self.inside.parts)) c.install.result
-    (on-ok-then (Adds c.self.inside.parts.frames.frames (class_versions c.self.inside.originals.setup.world.program c.args.class c.args.image c.args.marks.now c.args.homes.now)
+    (on-ok-then (Adds c.self.inside.parts.frames.frames (class_versions c.self.inside.originals.setup.world.program c.args.class c.args.image c.args.homes.now)
     c.self.inside.originals.setup.versions c.install.new.self.setup.versions) (IsMachine c.install.new.self.setup c.self.inside.originals.loaded c.self.inside.hand
     (seen c.install.new.self.setup (state_of c.self.inside.markers c.self.inside.parts) c.self.inside.started c.self.inside.broken c.self.inside.clock c.self.inside.hand) (state_of c.self.inside.markers c.self.inside.parts)) c.install.result
     (installed-machine c.self.inside.started c.self.inside.broken c.self.inside.clock c.self.inside.hand (state_of c.self.inside.markers c.self.inside.parts) c.self.inside.originals.loaded
     (ap (λ (v : View). v.broken) c.self.view_is ∙ c.requires.whole) c.self.inside.originals.setup c.self.inside.parts.frames.frames
     (parts-pinned c.self.inside.markers c.self.inside.parts) c.self.invariant (subst (λ (v : View). IsFormed v.program) (sym c.self.view_is) c.requires.formed)
     c.args.class c.args.marks.now c.args.image c.args.homes.now (subst (λ (v : View). IsImageOf v.program c.args.class c.args.marks.now c.args.image c.args.homes.now) (sym c.self.view_is) c.requires.image)
-    c.install.new.self.setup c.install.ensures.world) c.install.ensures.ok)
+    c.requires.pool c.install.new.self.setup c.install.ensures.world) c.install.ensures.ok)
     (on-err-then (c.install.new.self.setup.versions ≡ c.self.inside.originals.setup.versions) (IsMachine c.install.new.self.setup c.self.inside.originals.loaded c.self.inside.hand
     (seen c.install.new.self.setup (state_of c.self.inside.markers c.self.inside.parts) c.self.inside.started c.self.inside.broken c.self.inside.clock c.self.inside.hand) (state_of c.self.inside.markers c.self.inside.parts)) c.install.result
     (λ versions. subst (λ (w : Setup). IsMachine w c.self.inside.originals.loaded c.self.inside.hand
@@ -38,13 +38,13 @@ invariant_of-self c =
 
 pub returns-clause-ok : goal.returns-clause-ok
 returns-clause-ok c =
-    on-ok-then (Adds c.self.inside.parts.frames.frames (class_versions c.self.inside.originals.setup.world.program c.args.class c.args.image c.args.marks.now c.args.homes.now)
+    on-ok-then (Adds c.self.inside.parts.frames.frames (class_versions c.self.inside.originals.setup.world.program c.args.class c.args.image c.args.homes.now)
     c.self.inside.originals.setup.versions c.install.new.self.setup.versions) ((seen c.install.new.self.setup (state_of c.self.inside.markers c.self.inside.parts) c.self.inside.started c.self.inside.broken c.self.inside.clock c.self.inside.hand) ≡ with_class c.args.class c.args.marks.now c.args.self.now) c.install.result
     (λ adds. installed-seen c.self.inside.started c.self.inside.broken c.self.inside.clock c.self.inside.hand (state_of c.self.inside.markers c.self.inside.parts) c.self.inside.originals.loaded
     (ap (λ (v : View). v.broken) c.self.view_is ∙ c.requires.whole) c.self.inside.originals.setup c.self.inside.parts.frames.frames
     (parts-pinned c.self.inside.markers c.self.inside.parts) c.self.invariant (subst (λ (v : View). IsFormed v.program) (sym c.self.view_is) c.requires.formed)
     c.args.class c.args.marks.now c.args.image c.args.homes.now (subst (λ (v : View). IsImageOf v.program c.args.class c.args.marks.now c.args.image c.args.homes.now) (sym c.self.view_is) c.requires.image)
-    c.install.new.self.setup c.install.ensures.world adds
+    c.requires.pool c.install.new.self.setup c.install.ensures.world adds
     ∙ ap (with_class c.args.class c.args.marks.now) c.self.view_is) c.install.ensures.ok
 
 pub returns-clause-err : goal.returns-clause-err

@@ -17,19 +17,19 @@ use Rattle.jvm_steps.proofs.originals.Originals.install.Goals as goal
 pub add_all-requires : goal.add_all-requires
 add_all-requires c =
     let p : Program = c.self.inside.linker.program in
-    let made : c.in_ok-more.more ≡ class_versions p c.args.class c.args.image.now c.args.marks.now c.args.homes.now =
-    c.in_ok-more.ensures ∙ ap (λ (q : Program). class_versions q c.args.class c.args.image.now c.args.marks.now c.args.homes.now) c.program-program.ensures in
+    let made : c.in_ok-more.more ≡ class_versions p c.args.class c.args.image.now c.args.homes.now =
+    c.in_ok-more.ensures ∙ ap (λ (q : Program). class_versions q c.args.class c.args.image.now c.args.homes.now) c.program-program.ensures in
     subst (λ n. AreOfMethods n c.in_ok-more.more) (sym c.self.invariant.count)
-    (subst (λ xs. AreOfMethods (length p.methods) xs) (sym made) (versions-below p c.args.class c.args.image.now c.args.marks.now c.args.homes.now))
+    (subst (λ xs. AreOfMethods (length p.methods) xs) (sym made) (versions-below p c.args.class c.args.image.now c.args.homes.now))
 
 pub invariant_of-self : goal.invariant_of-self
 invariant_of-self c =
     let p : Program = c.self.inside.linker.program in
-    let made : c.in_ok-more.more ≡ class_versions p c.args.class c.args.image.now c.args.marks.now c.args.homes.now =
-    c.in_ok-more.ensures ∙ ap (λ (q : Program). class_versions q c.args.class c.args.image.now c.args.marks.now c.args.homes.now) c.program-program.ensures in
+    let made : c.in_ok-more.more ≡ class_versions p c.args.class c.args.image.now c.args.homes.now =
+    c.in_ok-more.ensures ∙ ap (λ (q : Program). class_versions q c.args.class c.args.image.now c.args.homes.now) c.program-program.ensures in
     let was = c.self.invariant in
     let fs = c.args.frames.now.frames in
-    let own = subst (λ xs. AllByRecursion HasOwnLines xs) (sym made) (versions-keep p c.args.class c.args.image.now c.args.marks.now c.args.homes.now) in
+    let own = subst (λ xs. AllByRecursion HasOwnLines xs) (sym made) (versions-keep p c.args.class c.args.image.now c.args.homes.now) in
     either c.add_all.result c.add_all.ensures.ok c.add_all.ensures.err
     (λ adds. record {
       fits = was.fits;
@@ -49,29 +49,29 @@ invariant_of-self c =
 pub returns-clause-set_up : goal.returns-clause-set_up
 returns-clause-set_up c =
     let p : Program = c.self.inside.linker.program in
-    let made : c.in_ok-more.more ≡ class_versions p c.args.class c.args.image.now c.args.marks.now c.args.homes.now =
-    c.in_ok-more.ensures ∙ ap (λ (q : Program). class_versions q c.args.class c.args.image.now c.args.marks.now c.args.homes.now) c.program-program.ensures in
+    let made : c.in_ok-more.more ≡ class_versions p c.args.class c.args.image.now c.args.homes.now =
+    c.in_ok-more.ensures ∙ ap (λ (q : Program). class_versions q c.args.class c.args.image.now c.args.homes.now) c.program-program.ensures in
     let fs = c.args.frames.now.frames in
     let before : Setup = record { world = world_in p c.self.inside.input; versions = c.self.inside.versions } in
     let after : Setup = record { world = world_in p c.self.inside.input; versions = c.add_all.new.self } in
     let same : before ≡ c.args.self.now.setup = ap (λ (o : Linked). o.setup) c.self.view_is in
     on_ok_weaker c.add_all.result
     (λ adds. subst (λ (w : Setup). AreMethodImages w.world.program c.args.class c.args.image.now c.args.homes.now → IsSetUp w → IsSetUp after) same
-    (λ are set. installed-set_up before c.args.class c.args.image.now c.args.marks.now c.args.homes.now are fs after refl
+    (λ are set. installed-set_up before c.args.class c.args.image.now c.args.homes.now are fs after refl
     (subst (λ xs. Adds fs xs before.versions after.versions) made adds) set))
     c.add_all.ensures.ok
 
 pub returns-clause-stands : goal.returns-clause-stands
 returns-clause-stands c =
     let p : Program = c.self.inside.linker.program in
-    let made : c.in_ok-more.more ≡ class_versions p c.args.class c.args.image.now c.args.marks.now c.args.homes.now =
-    c.in_ok-more.ensures ∙ ap (λ (q : Program). class_versions q c.args.class c.args.image.now c.args.marks.now c.args.homes.now) c.program-program.ensures in
+    let made : c.in_ok-more.more ≡ class_versions p c.args.class c.args.image.now c.args.homes.now =
+    c.in_ok-more.ensures ∙ ap (λ (q : Program). class_versions q c.args.class c.args.image.now c.args.homes.now) c.program-program.ensures in
     let fs = c.args.frames.now.frames in
     let before : Setup = record { world = world_in p c.self.inside.input; versions = c.self.inside.versions } in
     let after : Setup = record { world = world_in p c.self.inside.input; versions = c.add_all.new.self } in
     let same : before ≡ c.args.self.now.setup = ap (λ (o : Linked). o.setup) c.self.view_is in
     on_ok_weaker c.add_all.result
     (λ adds. subst (λ (w : Setup). AreMethodImages w.world.program c.args.class c.args.image.now c.args.homes.now → (clock : ℕ) (s : State) → IsPinned fs s.stack → IsRunOf w clock s → IsRunOf after clock s) same
-    (λ are clock s pinned is. installed-stands before c.args.class c.args.image.now c.args.marks.now c.args.homes.now are fs after refl
+    (λ are clock s pinned is. installed-stands before c.args.class c.args.image.now c.args.homes.now are fs after refl
     (subst (λ xs. Adds fs xs before.versions after.versions) made adds) clock s pinned is))
     c.add_all.ensures.ok
