@@ -9,6 +9,10 @@ pub mod Loaded
 pub mod Numbered
 pub mod MarkedClasses
 pub mod EntryMarks
+pub mod ReturnCodes
+pub mod VersionProbes
+pub mod BeforeReturns
+pub mod ToldProbes
 pub mod ImagedMethods
 pub mod Installed
 pub mod QuietSteps

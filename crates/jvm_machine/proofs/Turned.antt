@@ -14,7 +14,10 @@ use Rattle.jvm_model.specs.Pauses.{begin_kind, unless_off, end_due, Stop, stop_b
 use Rattle.jvm_machine.specs.View.{View, has_ended, is_resting, begun, to_come, next_stop, next_event, rested, stopped, IsGoingOn}
 use Rattle.jvm_machine.specs.declared.turn.Turn.TheVariants.{Ended, Settled}
 use Rattle.jvm_machine.specs.Advances.{Stops, told_in}
+use Rattle.jvm_machine.specs.declared.advancing.Telling.TheVariants as telling
+use Rattle.jvm_machine.specs.Probes.{IfLeaves}
 use Rattle.jvm_machine.specs.Turns.{Turns, turn_by}
+use Rattle.jvm_machine.proofs.ToldProbes.{from-probe}
 
 -- ---- at a stop something is told, unless nothing is due
 
@@ -76,8 +79,8 @@ rests-then old new due is none =
     let nothing = nothing-due old new due is none in
     ap is_resting (is.stepped ∙ ap (told_in (begun old)) nothing)
 
-pub turned : (old new : View) (due : Due) → old.broken ≡ false → IsGoingOn old → Stops old due new → Turns old (turn_by (told_at due new.clock new.live) (has_ended new)) new
-turned old new due whole going is = by (told_at due new.clock new.live) refl where
+pub turned : (old new : View) (due : Due) → old.broken ≡ false → IsGoingOn old → Stops old due new → IfLeaves (telling.Due due) new → Turns old (turn_by (told_at due new.clock new.live) (has_ended new)) new
+turned old new due whole going is leaves = by (told_at due new.clock new.live) refl where
   ended : (b : Bool) → has_ended new ≡ b → due ≡ Nothing → Turns old (if b then Ended else Settled) new
   ended true e nothing = record {
     whole = whole;
@@ -110,4 +113,5 @@ turned old new due whole going is = by (told_at due new.clock new.live) refl whe
     loads = is.loads;
     next = sym (told-next old new due is) ∙ e;
     stepped = stopped-by due refl event e;
+    probe = from-probe old new due is leaves event e;
   }

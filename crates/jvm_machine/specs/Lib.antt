@@ -1,4 +1,5 @@
 pub mod View
+pub mod Probes
 pub mod Turns
 pub mod Several
 pub mod Machine

@@ -4,6 +4,7 @@ use Rattle.jvm_model.specs.declared.due.Due.TheVariants.{Nothing}
 use Rattle.jvm_model.specs.declared.event.Event.{Event}
 use Rattle.jvm_machine.specs.declared.turn.Turn.{Turn}
 use Rattle.jvm_machine.specs.declared.turn.Turn.TheVariants.{Settled, Loaded, Probe, Ended, Broken, NoMemory}
+use Rattle.jvm_machine.specs.Probes.{ComesFromProbe}
 use Rattle.jvm_machine.specs.View.{IsGoingOn, View, begun, has_ended, is_resting, loads_next, next_event, next_stop, rested, stopped}
 
 -- the classes that the step has loaded are told, one or more, in order; it has not gone on
@@ -15,13 +16,14 @@ pub record TellsLoads (old : View) (classes : List ℕ) (new : View) : Type 0 wh
   pub loads : loads_next (begun old) ≡ classes
   pub stepped : new ≡ record (begun old) { passed = 1 }
 
--- the next event of the step is told, by a probe that the current frame has passed
+-- the next event of the step is told, by a probe that stands in the current version where its frame does
 pub record Tells (old : View) (event : Event) (new : View) : Type 0 where
   pub whole : old.broken ≡ false
   pub went_on : IsGoingOn old
   pub loads : loads_next (begun old) ≡ []
   pub next : next_event (begun old) ≡ Some event
   pub stepped : new ≡ stopped (begun old)
+  pub probe : ComesFromProbe new event
 
 -- the step is done: its classes and all its events were told, and the run goes on
 pub record Settles (old new : View) : Type 0 where

@@ -11,6 +11,7 @@ ghost use Rattle.jvm_steps.specs.Prepared.{FitsOriginals};
 ghost use Rattle.jvm_steps.specs.Runs.{IsCalm};
 ghost use Rattle.jvm_machine.specs.Advances.{Advances, broken_in};
 ghost use Rattle.jvm_machine.specs.Installs.{IsFormed, IsImageOf, with_class};
+ghost use Rattle.jvm_machine.specs.Probes.{IfLeaves};
 ghost use Rattle.jvm_machine.specs.Turns.{Turns, turn_by};
 ghost use Rattle.jvm_machine.specs.Several.{Passes, RunsOn, is_settled};
 ghost use Rattle.jvm_machine.specs.View.{IsGoingOn, has_ended, is_resting, made, run_state};
@@ -117,6 +118,7 @@ impl Vm {
         requires going { IsGoingOn self.old }
         requires below { self.old.clock < 2 ^ 63 }
         ensures ok { IfOk result (λ telling. Advances self.old telling self.new) }
+        ensures leaves { IfOk result (λ telling. IfLeaves telling self.new) }
         ensures whole { OnOk result (self.new.broken ≡ false) }
         ensures err { OnErr result (self.new ≡ broken_in self.old self.new) }
     {

@@ -58,14 +58,7 @@ fn class_version(
     let Some(code) = image_code(image, at) else {
         return original_version(alloc, program, method);
     };
-    rewritten_version(
-        alloc,
-        method,
-        image,
-        code,
-        homes,
-        old.code.len() as u16,
-    )
+    rewritten_version(alloc, method, image, code, homes, old.code.len() as u16)
 }
 
 /// The same of the method at a position of a class, where it has Code.
@@ -92,15 +85,7 @@ fn member_version(
     let Some(method) = numbers.number(class, at) else {
         return Ok(None);
     };
-    let version = class_version(
-        alloc,
-        program,
-        image,
-        homes,
-        at as usize,
-        old,
-        method,
-    )?;
+    let version = class_version(alloc, program, image, homes, at as usize, old, method)?;
     Ok(Some(version))
 }
 

@@ -6,6 +6,7 @@ use Rattle.jvm_steps.proofs.StandingSteps.{parts-pinned}
 use Rattle.jvm_machine.specs.Advances.{TellsClasses}
 use Rattle.jvm_machine.specs.Machine.{IsMachine, seen}
 use Rattle.jvm_machine.specs.View.{View}
+use Rattle.jvm_machine.proofs.BeforeReturns.{leaves-by, some-left}
 use Rattle.jvm_machine.proofs.Exits.{broken-machine, broken-seen, can-run, goes-there, is-attempted, on-err, one_passed, tells-start, tells-step}
 use Rattle.jvm_machine.proofs.machine.Vm.advance.Goals as goal
 
@@ -133,3 +134,17 @@ returns-clause-ok c =
     c.in_ok-gone.ensures.left c.in_ok-gone.ensures.sound c.in_ok-gone.ensures.starts c.in_ok-gone.ensures.hands c.release.new.self.loaded (c.release.ensures.loaded ∙ c.in_ok-gone.ensures.linked)
     c.go.new.parts.frames.frames (parts-pinned c.go.new.markers c.go.new.parts) c.release.new.self.setup (c.release.ensures.world ∙ ap (λ (x : Setup). x.world) c.go.ensures.world)
     (subst (λ (x : Setup). Releases c.go.new.parts.frames.frames x.versions c.release.new.self.setup.versions) c.go.ensures.world c.release.ensures.released) c.left-self-inside.result c.left-self-inside.ensures).0
+
+pub returns-clause-leaves : goal.returns-clause-leaves
+returns-clause-leaves c =
+    leaves-by c.release.new.self.setup c.release.new.self.loaded c.left-self-inside.result c.clock_in-self-inside.result (state_of c.go.new.markers c.go.new.parts) c.in-Some.gone c.left-self-inside.ensures
+    (some-left c.in_ok-gone.gone c.in-Some.gone c.in-Some.is c.in_ok-gone.ensures.left)
+    (goes-there c.self.inside.originals.setup c.self.inside.hand c.self.inside.started c.self.inside.broken c.self.inside.clock (state_of c.self.inside.markers c.self.inside.parts) c.self.inside.originals.loaded
+    (ap (λ (v : View). v.broken) c.self.view_is ∙ c.requires.whole) c.self.invariant c.args.self.now c.self.view_is c.is_resting-resting.result c.is_resting-resting.ensures
+    c.clock_in-self-inside.result c.clock_in-self-inside.ensures
+    c.take_up.new.originals.setup c.take_up.ensures.world c.in_ok-taken.taken.loads c.in_ok-taken.ensures.loads c.in_ok-taken.taken.hand c.in_ok-taken.ensures.hand
+    (state_of c.take_up.new.markers c.take_up.new.parts) c.in_ok-taken.ensures.state
+    (sym c.if-not-is_empty.ensures) c.in_ok-gone.gone c.in-Some.gone c.in-Some.is c.in_ok-gone.ensures.some (state_of c.go.new.markers c.go.new.parts)
+    c.in_ok-gone.ensures.left c.in_ok-gone.ensures.sound c.in_ok-gone.ensures.starts c.in_ok-gone.ensures.hands c.release.new.self.loaded (c.release.ensures.loaded ∙ c.in_ok-gone.ensures.linked)
+    c.go.new.parts.frames.frames (parts-pinned c.go.new.markers c.go.new.parts) c.release.new.self.setup (c.release.ensures.world ∙ ap (λ (x : Setup). x.world) c.go.ensures.world)
+    (subst (λ (x : Setup). Releases c.go.new.parts.frames.frames x.versions c.release.new.self.setup.versions) c.go.ensures.world c.release.ensures.released) c.left-self-inside.result c.left-self-inside.ensures).1

@@ -1,5 +1,6 @@
 use Rattle.std.proofs.Common.{sym, ap, subst, ◌∙◌}
 use Rattle.jvm_machine.specs.Advances.{Advances}
+use Rattle.jvm_machine.specs.Probes.{IfLeaves}
 use Rattle.jvm_machine.specs.Turns.{Turns}
 use Rattle.jvm_machine.specs.View.{View}
 use Rattle.jvm_machine.proofs.Shown.{over-ends}
@@ -23,7 +24,8 @@ returns-in-Ok-Due c =
     let whole = sym (ap (λ (v : View). v.broken) c.self.view_is) ∙ c.if-self.false in
     subst (λ t. Turns c.args.self.now t c.advance.new.self) (sym c.turn.ensures)
     (turned c.args.self.now c.advance.new.self c.in-Ok-Due.due whole (sym (c.if-is_over.ensures whole))
-    (subst (λ t. Advances c.args.self.now t c.advance.new.self) c.in-Ok-Due.field-0-is c.in-Ok-Due.ensures.ok))
+    (subst (λ t. Advances c.args.self.now t c.advance.new.self) c.in-Ok-Due.field-0-is c.in-Ok-Due.ensures.ok)
+    (subst (λ t. IfLeaves t c.advance.new.self) c.in-Ok-Due.field-0-is c.in-Ok-Due.ensures.leaves))
 
 pub returns-in-Err : goal.returns-in-Err
 returns-in-Err c =
