@@ -15,10 +15,9 @@ use Rattle.jvm_model.specs.Naming as model
 use Rattle.jvm_model.specs.Targets.{begun_by, coded, initializers, loaded_class_named, selections}
 use Rattle.jvm_model.specs.InvocationRules.{selected_by}
 use Rattle.call_revelation.specs.declared.lineage.Lineage.{Lineage}
-use Rattle.call_revelation.specs.Lineages.{IsLineage, begun_named, initializer_in, number_of, selecting, selection_of}
-use Rattle.call_revelation.specs.Tables.{list_at}
+use Rattle.call_revelation.specs.Lineages.{IsClosed, IsLineage, begun_named, initializer_in, number_of, selecting, selection_of}
 use Rattle.call_revelation.proofs.Adding.{made-flat}
-use Rattle.call_revelation.proofs.Choosing.{chosen-alike}
+use Rattle.call_revelation.proofs.Choosing.{chosen-alike, tested-alike}
 
 false_true : false ≡ true → ⊥
 false_true e = cc
@@ -45,13 +44,13 @@ selected-alike : (p : Program) (interface : Bool) (m : MemberPlace) (x : ℕ)
 selected-alike p true m x = numbered-alike p (selected p x true m)
 selected-alike p false m x = numbered-alike p (selected p x false m)
 
-pub selections-of : (p : Program) (v : Lineage) (class : ℕ) (interface : Bool) (m0 : MemberPlace) → IsLineage p v → class < length p.classes
-    → (m : ℕ) → is_among m (filter_map (selection_of p v.loaded interface m0) (list_at v.below.items class))
-    ≡ is_among m (selections p v.loaded class (selecting interface) m0)
-selections-of p v class interface m0 is within m =
-    chosen-alike v.loaded (list_at v.below.items class) (λ lower. is_subtype p lower class) (λ x. number_of p (selected p x interface m0))
+pub selections-of : (p : Program) (v : Lineage) (class : ℕ) (interface : Bool) (m0 : MemberPlace) (lower : List ℕ) → IsLineage p v → class < length p.classes
+    → is_among class lower ≡ true → IsClosed v.below.items lower
+    → (m : ℕ) → is_among m (filter_map (selection_of p v.loaded interface class m0) lower) ≡ is_among m (selections p v.loaded class (selecting interface) m0)
+selections-of p v class interface m0 lower is within own closed m =
+    tested-alike v.loaded lower (λ x. is_subtype p x class) (λ x. number_of p (selected p x interface m0))
     (λ x. coded p (selected_by p (selecting interface) m0 x)) (selected-alike p interface m0)
-    (λ x h. is.below class x h) (λ x there sub. is.whole class x within there sub) m
+    (λ x there sub. is.whole class x lower within there sub own closed) m
 
 -- a method that was found is one of the class
 found-within : (c : ClassFile) (wanted : NameAndType) (n at : ℕ) (methods : List Member) → method_from c.pool wanted n methods ≡ Some at → at < n + length methods

@@ -19,6 +19,7 @@ use Rattle.jvm_named.specs.Numbers.{AreNumbers}
 use Rattle.jvm_steps.specs.Prepared.{HasShortCodes}
 use Rattle.call_revelation.specs.declared.reveal.Reveal.{Reveal}
 use Rattle.call_revelation.specs.Books.{IsBookOf}
+use Rattle.call_revelation.specs.CalledClasses.{AreHanded}
 use Rattle.call_revelation.specs.Lineages.{IsLineage}
 use Rattle.call_revelation.specs.Ranks.{flag_at}
 use Rattle.call_revelation.specs.Reveals.{AreOwned, IsRevelation, mark_at, mark_by, now_of, nothing_revealed, owned_from}
@@ -127,8 +128,8 @@ pub record IsEmpty (p : Program) (r : Reveal) : Type 0 where
   pub shown : r.shown ≡ replicate (length p.methods) Off
 
 pub first-revelation : (p : Program) (r : Reveal) → p.methods ≡ numbered p.classes → IsFit p → AllByRecursion HasShortCodes p.classes → AreNumbers p r.numbers
-    → IsLineage p r.lineage → IsBookOf p r.book → IsEmpty p r → IsRevelation p r
-first-revelation p r is fit short numbers lineage book empty = record {
+    → IsLineage p r.lineage → IsBookOf p r.book → AreHanded p r.lineage.loaded r.named → IsEmpty p r → IsRevelation p r
+first-revelation p r is fit short numbers lineage book named empty = record {
   kept = record {
     fit = fit;
     short = short;
@@ -142,6 +143,8 @@ first-revelation p r is fit short numbers lineage book empty = record {
     marked = ap length empty.shown ∙ replicate-length (length p.methods) Off;
     booked = λ m h. absurd (false_true (sym (ap (is_among m) empty.entered) ∙ h));
     callers = λ m h. absurd (false_true (sym (ap (is_among m) empty.entered) ∙ h));
+    named = named;
+    called = λ m h. absurd (false_true (sym (ap (is_among m) empty.entered) ∙ h));
   };
   targets = λ m.
       ap (is_among m) empty.targets ∙ sym (ap (λ l. is_target p (operations_of p) r.lineage.loaded l m) empty.entered);

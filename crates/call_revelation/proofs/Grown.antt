@@ -5,20 +5,25 @@ use Rattle.jvm_model.specs.declared.program.Program.{Program}
 use Rattle.jvm_model.specs.Load.{is_among}
 use Rattle.call_revelation.specs.declared.book.Book.{Book}
 use Rattle.call_revelation.specs.declared.lineage.Lineage.{Lineage}
+use Rattle.call_revelation.specs.declared.named.Named.{Named}
 use Rattle.call_revelation.specs.declared.reveal.Reveal.{Reveal}
 use Rattle.call_revelation.specs.Books.{IsBookOf, code_at}
+use Rattle.call_revelation.specs.CalledClasses.{AreHanded}
 use Rattle.call_revelation.specs.Lineages.{IsLineage}
 use Rattle.call_revelation.specs.Reveals.{IsFront, IsGrown, IsKept, IsRevelation, now_of}
+use Rattle.call_revelation.proofs.CalledLemmas.{fewer-handed}
 use Rattle.call_revelation.proofs.Fronts.{front-among, front-self, front-take, front-then}
 
 false_true : false ≡ true → ⊥
 false_true e = cc
 
-pub grown-self : (p : Program) (r : Reveal) → IsLineage p r.lineage → IsBookOf p r.book → IsGrown p r r
-grown-self p r lineage book = record {
-  lineage = lineage;
-  book = book;
+pub grown-self : (p : Program) (r : Reveal) → IsKept p r → IsGrown p r r
+grown-self p r is = record {
+  lineage = is.lineage;
+  book = is.book;
   codes = λ m h. h;
+  named = is.named;
+  called = λ class h. h;
   loaded = front-self r.lineage.loaded;
   targets = front-self r.targets;
   stale = front-self r.stale;
@@ -30,18 +35,22 @@ grown-then p a b c first second = record {
   lineage = second.lineage;
   book = second.book;
   codes = λ m h. second.codes m (first.codes m h);
+  named = second.named;
+  called = λ class h. second.called class (first.called class h);
   loaded = front-then a.lineage.loaded b.lineage.loaded c.lineage.loaded first.loaded second.loaded;
   targets = front-then a.targets b.targets c.targets first.targets second.targets;
   stale = front-then a.stale b.stale c.stale first.stale second.stale;
-  same = second.same ∙ ap (λ (r : Reveal). record r { lineage = c.lineage; book = c.book; targets = c.targets; stale = c.stale }) first.same;
+  same = second.same ∙ ap (λ (r : Reveal). record r { lineage = c.lineage; book = c.book; named = c.named; targets = c.targets; stale = c.stale }) first.same;
 }
 
 pub grown-lineage : (p : Program) (old new : Reveal) → IsKept p old → new ≡ (record old { lineage = new.lineage }) → IsLineage p new.lineage
-    → IsFront old.lineage.loaded new.lineage.loaded → IsGrown p old new
-grown-lineage p old new kept same lineage front = subst (IsGrown p old) (sym same) (record {
+    → IsFront old.lineage.loaded new.lineage.loaded → AreHanded p new.lineage.loaded old.named → IsGrown p old new
+grown-lineage p old new kept same lineage front handed = subst (IsGrown p old) (sym same) (record {
   lineage = lineage;
   book = kept.book;
   codes = λ m h. h;
+  named = handed;
+  called = λ class h. h;
   loaded = front;
   targets = front-self old.targets;
   stale = front-self old.stale;
@@ -54,6 +63,23 @@ grown-book p old book kept booked codes = record {
   lineage = kept.lineage;
   book = booked;
   codes = codes;
+  named = kept.named;
+  called = λ class h. h;
+  loaded = front-self old.lineage.loaded;
+  targets = front-self old.targets;
+  stale = front-self old.stale;
+  same = refl;
+}
+
+-- calls name more classes, or a class has more above it
+pub grown-named : (p : Program) (old : Reveal) (named : Named) → IsKept p old → AreHanded p old.lineage.loaded named
+    → ((class : ℕ) → is_among class old.named.classes ≡ true → is_among class named.classes ≡ true) → IsGrown p old (record old { named = named })
+grown-named p old named kept handed more = record {
+  lineage = kept.lineage;
+  book = kept.book;
+  codes = λ m h. h;
+  named = handed;
+  called = more;
   loaded = front-self old.lineage.loaded;
   targets = front-self old.targets;
   stale = front-self old.stale;
@@ -68,6 +94,8 @@ grown-more p old mid targets stale grown first second =
       lineage = grown.lineage;
       book = grown.book;
       codes = λ m h. h;
+      named = grown.named;
+      called = λ class h. h;
       loaded = front-self mid.lineage.loaded;
       targets = first;
       stale = second;
@@ -85,11 +113,12 @@ not-before a b m front none = by (is_among m a) refl
 abbrev pub cut_lineage : Lineage → List ℕ → Lineage
 cut_lineage v loaded = record { loaded = loaded; below = v.below }
 
-module _ (p : Program) (old : Reveal) (is : IsRevelation p old) (lineage : Lineage) (book : Book) (stale : List ℕ)
+module _ (p : Program) (old : Reveal) (is : IsRevelation p old) (lineage : Lineage) (book : Book) (named : Named) (stale : List ℕ)
     (lined : IsLineage p lineage) (front : IsFront old.lineage.loaded lineage.loaded) (booked : IsBookOf p book)
-    (codes : (m : ℕ) → is_some (code_at old.book.codes m) ≡ true → is_some (code_at book.codes m) ≡ true) (staled : IsFront old.stale stale) where
+    (codes : (m : ℕ) → is_some (code_at old.book.codes m) ≡ true → is_some (code_at book.codes m) ≡ true) (handed : AreHanded p lineage.loaded named)
+    (called : (class : ℕ) → is_among class old.named.classes ≡ true → is_among class named.classes ≡ true) (staled : IsFront old.stale stale) where
   abbrev back : Reveal
-  back = record old { lineage = cut_lineage lineage old.lineage.loaded; book = book; stale = stale }
+  back = record old { lineage = cut_lineage lineage old.lineage.loaded; book = book; named = named; stale = stale }
 
   pub cut-back : IsRevelation p back
   cut-back = record {
@@ -101,8 +130,7 @@ module _ (p : Program) (old : Reveal) (is : IsRevelation p old) (lineage : Linea
       own = is.kept.own;
       lineage = record {
         places = lined.places;
-        below = lined.below;
-        whole = λ class lower within there sub. lined.whole class lower within (front-among old.lineage.loaded lineage.loaded lower front there) sub;
+        whole = λ class lower classes within there. lined.whole class lower classes within (front-among old.lineage.loaded lineage.loaded lower front there);
       };
       book = booked;
       flags = is.kept.flags;
@@ -110,6 +138,8 @@ module _ (p : Program) (old : Reveal) (is : IsRevelation p old) (lineage : Linea
       marked = is.kept.marked;
       booked = λ m h. codes m (is.kept.booked m h);
       callers = is.kept.callers;
+      named = fewer-handed p old.lineage.loaded lineage.loaded named (λ x h. front-among old.lineage.loaded lineage.loaded x front h) handed;
+      called = λ m h class there. called class (is.kept.called m h class there);
     };
     targets = is.targets;
     shown = λ m none. is.shown m (not-before old.stale stale m staled none);
@@ -119,21 +149,21 @@ module _ (p : Program) (old : Reveal) (is : IsRevelation p old) (lineage : Linea
 pub gone-back : (p : Program) (old new : Reveal) → IsRevelation p old → IsGrown p old new
     → IsRevelation p (record new { lineage = cut_lineage new.lineage (take (length old.lineage.loaded) new.lineage.loaded); targets = take (length old.targets) new.targets })
 gone-back p old new is grown =
-    let rest : IsRevelation p (record old { lineage = cut_lineage new.lineage old.lineage.loaded; book = new.book; stale = new.stale }) =
-    cut-back p old is new.lineage new.book new.stale grown.lineage grown.loaded grown.book grown.codes grown.stale in
+    let rest : IsRevelation p (record old { lineage = cut_lineage new.lineage old.lineage.loaded; book = new.book; named = new.named; stale = new.stale }) =
+    cut-back p old is new.lineage new.book new.named new.stale grown.lineage grown.loaded grown.book grown.codes grown.named grown.called grown.stale in
     subst (IsRevelation p) (back-is) rest
   where
-    back-is : (record old { lineage = cut_lineage new.lineage old.lineage.loaded; book = new.book; stale = new.stale })
+    back-is : (record old { lineage = cut_lineage new.lineage old.lineage.loaded; book = new.book; named = new.named; stale = new.stale })
         ≡ (record new { lineage = cut_lineage new.lineage (take (length old.lineage.loaded) new.lineage.loaded); targets = take (length old.targets) new.targets })
     back-is =
-        ap (λ (l : List ℕ). record old { lineage = cut_lineage new.lineage l; book = new.book; stale = new.stale }) (sym (front-take old.lineage.loaded new.lineage.loaded grown.loaded))
-        ∙ (ap (λ (t : List ℕ). record old { lineage = cut_lineage new.lineage (take (length old.lineage.loaded) new.lineage.loaded); book = new.book; targets = t; stale = new.stale })
+        ap (λ (l : List ℕ). record old { lineage = cut_lineage new.lineage l; book = new.book; named = new.named; stale = new.stale }) (sym (front-take old.lineage.loaded new.lineage.loaded grown.loaded))
+        ∙ (ap (λ (t : List ℕ). record old { lineage = cut_lineage new.lineage (take (length old.lineage.loaded) new.lineage.loaded); book = new.book; named = new.named; targets = t; stale = new.stale })
         (sym (front-take old.targets new.targets grown.targets))
         ∙ sym (ap (λ (r : Reveal). record r { lineage = cut_lineage new.lineage (take (length old.lineage.loaded) new.lineage.loaded); targets = take (length old.targets) new.targets }) grown.same))
 
 -- nothing else is another
 pub back-same : (old new : Reveal) (lineage : Lineage) (targets : List ℕ) → lineage.loaded ≡ old.lineage.loaded
-    → new ≡ (record old { lineage = new.lineage; book = new.book; targets = new.targets; stale = new.stale })
+    → new ≡ (record old { lineage = new.lineage; book = new.book; named = new.named; targets = new.targets; stale = new.stale })
     → now_of (record new { lineage = lineage; targets = targets }) ≡ now_of old
 back-same old new lineage targets loaded same =
     ap (λ (r : Reveal). now_of (record r { lineage = lineage; targets = targets })) same

@@ -24,11 +24,15 @@ append-nothing : (xs : List ℕ) → xs ++ [] ≡ xs
 append-nothing [] = refl
 append-nothing (x ∷ xs) = ap (λ l. x ∷ l) (append-nothing xs)
 
+ordered-above : (p : Program) (loaded rest : List ℕ) → IsLoadOrder p loaded rest → HasSupertypes p loaded
+ordered-above p loaded [] order = order
+ordered-above p loaded (class ∷ rest) order = order.0
+
 pub loading-first : (l : LinkerView) (r : Reveal) (classes : List ℕ) → IsRevelation l.program r → IsAhead l r → IsLoadOrder l.program r.lineage.loaded classes
     → AllByRecursion (IsLoaded l) classes → AreLoading l r r classes classes
 loading-first l r classes is ahead order linked = record {
   revelation = is;
-  grown = grown-self l.program r is.kept.lineage is.kept.book;
+  grown = grown-self l.program r is.kept;
   ahead = ahead;
   loaded = refl;
   order = order;
@@ -50,6 +54,10 @@ module _ (l : LinkerView) (first now : Reveal) (classes : List ℕ) (i : ℕ) (w
 
   pub next-above : HasSupertypes l.program now.lineage.loaded
   next-above = in-order.0
+
+  -- and with the class
+  pub next-all : HasSupertypes l.program (now.lineage.loaded ++ class ∷ [])
+  next-all = ordered-above l.program (now.lineage.loaded ++ class ∷ []) (drop (i + 1) classes) in-order.2
 
   pub next-fresh : is_among class now.lineage.loaded ≡ false
   next-fresh = in-order.1

@@ -3,6 +3,7 @@ pub mod Choosing
 pub mod TableLemmas
 pub mod RankLemmas
 pub mod InLoadOrder
+pub mod SubtypeSteps
 pub mod LineageLemmas
 pub mod BegunLemmas
 pub mod LineNamings
@@ -13,6 +14,7 @@ pub mod CallerLemmas
 pub mod TargetLemmas
 pub mod NamingLemmas
 pub mod LoadStep
+pub mod CalledLemmas
 pub mod BookLemmas
 pub mod Fronts
 pub mod Grown

@@ -1,15 +1,18 @@
--- A class more in the lists of its supertypes.
+-- A class more in the lists of those by which one comes to it.
 use Rattle.std.proofs.Common.{◌≡◌, ℕ, zero, suc, ◌<◌, ◌≤◌, Bool, true, false, List, [], ◌∷◌, ◌++◌, length, get_or, ap, sym, subst, refl, ◌∙◌, arith, inl, inr}
+use Rattle.std.specs.List.{AllByRecursion}
 use Rattle.std.specs.Prelude.{◌⊎◌, replicate, Some, None, nat_lt, slice_get, ◌==◌, if◌then◌else◌}
 use Rattle.std.proofs.lemmas.Bool.{ltb-false, ltb-true}
 use Rattle.jvm_model.specs.declared.program.Program.{Program}
 use Rattle.jvm_model.specs.Load.{is_among}
-use Rattle.jvm_model.specs.Lookup.{is_subtype}
+use Rattle.jvm_model.specs.Lookup.{interfaces_of, is_subtype, superclass_of}
+use Rattle.jvm_model.specs.Sound.{HasSupertypes}
 use Rattle.class_index.specs.Orders.{with_class}
 use Rattle.call_revelation.specs.declared.lineage.Lineage.{Lineage}
-use Rattle.call_revelation.specs.Lineages.{AreBelow, IsLineage, IsNoted, noted}
+use Rattle.call_revelation.specs.Lineages.{IsClosed, IsLed, IsLineage, IsNoted, LeadTo, direct, noted}
 use Rattle.call_revelation.specs.Tables.{list_at, with_item}
 use Rattle.call_revelation.proofs.Adding.{among-append, either, equal, itself, or-false, or-first, or-later}
+use Rattle.call_revelation.proofs.SubtypeSteps.{direct-within, step}
 use Rattle.call_revelation.proofs.TableLemmas.{at-other, at-same, length-with, nothing_past}
 
 false_true : false ≡ true → ⊥
@@ -114,53 +117,103 @@ among-with m a x h = by (is_among x a) h
           | inr k ↦ inr (equal m x (sym (or-false (m == x)) ∙ k))
         ]
 
-module _ (p : Program) (class : ℕ) (supertypes : List ℕ) (are : (upper : ℕ) → is_among upper supertypes ≡ is_subtype p class upper) where
-  noted-below : (before after : List (List ℕ)) → AreBelow p before → IsNoted class supertypes before after → AreBelow p after
-  noted-below before after sound is k x h =
-      elim (is.only k x h) [
-        | inl a ↦ sound k x a
-        | inr b ↦ ap (λ y. is_subtype p y k) b.0 ∙ (sym (are k) ∙ b.1)
-      ]
-
-  -- where memory ran out nothing is loaded more
-  pub lineage-kept : (before after : Lineage) → IsNoted class supertypes before.below.items after.below.items → after.loaded ≡ before.loaded
-      → IsLineage p before → IsLineage p after
-  lineage-kept before after is same v = record {
-    places = is.places ∙ v.places;
-    below = noted-below before.below.items after.below.items v.below is;
-    whole = λ k x within there sub. is.more k x (v.whole k x within (ap (is_among x) (sym same) ∙ there) sub);
-  }
-
-  pub lineage-more : (before after : Lineage) → IsNoted class supertypes before.below.items after.below.items
-      → after.below.items ≡ noted class before.below.items supertypes → after.loaded ≡ with_class before.loaded class
-      → IsLineage p before → IsLineage p after
-  lineage-more before after is noted_is loaded v = record {
-    places = is.places ∙ v.places;
-    below = noted-below before.below.items after.below.items v.below is;
-    whole = λ k x within there sub. elim (among-with x before.loaded class (ap (is_among x) (sym loaded) ∙ there)) [
-      | inl old ↦ is.more k x (v.whole k x within old sub)
-      | inr new ↦
-          ap (λ y. is_among y (list_at after.below.items k)) new
-          ∙ (ap (λ l. is_among class (list_at l k)) noted_is
-          ∙ noted-there class before.below.items supertypes k (subst (λ n. k < n) (sym v.places) within)
-          (inr (are k ∙ (ap (λ y. is_subtype p y k) (sym new) ∙ sub))))
-    ];
-  }
-
 length-replicate : (n : ℕ) → length (replicate {A = List ℕ} n []) ≡ n
 length-replicate zero = refl
 length-replicate (suc n) = ap suc (length-replicate n)
 
--- with nothing loaded nothing is at or below a class
-empty-at : (n class : ℕ) → list_at {A = ℕ} (replicate n []) class ≡ []
-empty-at zero class = refl
-empty-at (suc n) zero = refl
-empty-at (suc n) (suc class) = empty-at n class
+-- a class that another one names is loaded before it
+pub loaded-before : (p : Program) (loaded : List ℕ) (class : ℕ) → HasSupertypes p (loaded ++ class ∷ []) → (d : ℕ) → is_among d (direct p class) ≡ true
+    → (d == class) ≡ false → is_among d loaded ≡ true
+loaded-before p loaded class above d there other =
+    elim (either (is_among d loaded) (is_among d (class ∷ [])) (sym (among-append d loaded (class ∷ [])) ∙ in-all)) [
+      | inl a ↦ a
+      | inr b ↦ absurd (false_true (sym other ∙ (sym (or-false (d == class)) ∙ b)))
+    ]
+  where
+    itself-loaded : is_among class (loaded ++ class ∷ []) ≡ true
+    itself-loaded =
+        among-append class loaded (class ∷ []) ∙ or-later (is_among class loaded) (is_among class (class ∷ [])) (or-first (class == class) false (itself class))
+
+    of-all : (xs : List ℕ) → AllByRecursion (λ x. is_among x (loaded ++ class ∷ []) ≡ true) xs → is_among d xs ≡ true → is_among d (loaded ++ class ∷ []) ≡ true
+    of-all [] each h = absurd (false_true h)
+    of-all (x ∷ xs) each h =
+        elim (either (d == x) (is_among d xs) h) [
+          | inl same ↦ ap (λ y. is_among y (loaded ++ class ∷ [])) (equal d x same) ∙ each.0
+          | inr behind ↦ of-all xs each.1 behind
+        ]
+
+    in-all : is_among d (loaded ++ class ∷ []) ≡ true
+    in-all =
+        elim (either (is_among d (interfaces_of p class)) (is_among d (superclass_of p class)) (sym (among-append d (interfaces_of p class) (superclass_of p class)) ∙ there)) [
+          | inl a ↦ of-all (interfaces_of p class) (above.interfaces class itself-loaded) a
+          | inr b ↦ of-all (superclass_of p class) (above.superclass class itself-loaded) b
+        ]
+
+-- closed over more it is closed over less
+pub fewer-followed : (lower : ℕ) (uppers : List ℕ) (before after : List (List ℕ)) (classes : List ℕ) → IsNoted lower uppers before after
+    → IsClosed after classes → IsClosed before classes
+fewer-followed lower uppers before after classes is closed k x there within = closed k x there (is.more k x within)
+
+-- where memory ran out nothing is loaded more
+pub lineage-kept : (p : Program) (class : ℕ) (uppers : List ℕ) (before after : Lineage) → IsNoted class uppers before.below.items after.below.items
+    → after.loaded ≡ before.loaded → IsLineage p before → IsLineage p after
+lineage-kept p class uppers before after is same v = record {
+  places = is.places ∙ v.places;
+  whole = λ k x classes within there sub own closed. v.whole k x classes within (ap (is_among x) (sym same) ∙ there) sub own
+      (fewer-followed class uppers before.below.items after.below.items classes is closed);
+}
+
+pub lineage-more : (p : Program) (class : ℕ) (uppers : List ℕ) (before after : Lineage) → LeadTo p before.loaded class uppers
+    → IsNoted class uppers before.below.items after.below.items → after.below.items ≡ noted class before.below.items uppers
+    → after.loaded ≡ with_class before.loaded class → IsLineage p before → IsLineage p after
+lineage-more p class uppers before after lead is noted_is loaded v = record {
+  places = is.places ∙ v.places;
+  whole = λ k x classes within there sub own closed. elim (among-with x before.loaded class (ap (is_among x) (sym loaded) ∙ there)) [
+    | inl old ↦ v.whole k x classes within old sub own (fewer-followed class uppers before.below.items after.below.items classes is closed)
+    | inr new ↦ ap (λ y. is_among y classes) new ∙ came k classes within (ap (λ y. is_subtype p y k) (sym new) ∙ sub) own closed
+  ];
+}
+  where
+    stands : (k : ℕ) → k < length p.classes → is_among k uppers ≡ true → is_among class (list_at after.below.items k) ≡ true
+    stands k within there =
+        ap (λ l. is_among class (list_at l k)) noted_is
+        ∙ noted-there class before.below.items uppers k (subst (λ n. k < n) (sym v.places) within) (inr there)
+
+    came : (k : ℕ) (classes : List ℕ) → k < length p.classes → is_subtype p class k ≡ true → is_among k classes ≡ true → IsClosed after.below.items classes
+        → is_among class classes ≡ true
+    came k classes within sub own closed = by (lead k within sub)
+      where
+        led : IsLed p before.loaded uppers k → (s : ℕ) → is_among s classes ≡ true → s < length p.classes → is_among s uppers ≡ true → is_among class classes ≡ true
+        led l s there small among = closed s class there (stands s small among)
+
+        by : (class ≡ k) ⊎ IsLed p before.loaded uppers k → is_among class classes ≡ true
+        by (inl same) = ap (λ y. is_among y classes) same ∙ own
+        by (inr l) = elim l.leads [
+          | inl it ↦ led l l.by (ap (λ y. is_among y classes) it ∙ own) l.within l.there
+          | inr below ↦ led l l.by
+              (v.whole k l.by classes within below.0 below.1 own (fewer-followed class uppers before.below.items after.below.items classes is closed))
+              l.within l.there
+        ]
+
+-- all that stand above a class lead to it
+pub all-lead : (p : Program) (loaded : List ℕ) (class : ℕ) (supertypes : List ℕ) → ((upper : ℕ) → is_among upper supertypes ≡ is_subtype p class upper)
+    → LeadTo p loaded class supertypes
+all-lead p loaded class supertypes are upper within sub = inr (record { by = upper; there = are upper ∙ sub; within = within; leads = inl refl })
+
+-- those that it names itself do where they are loaded
+pub direct-lead : (p : Program) (loaded : List ℕ) (class : ℕ) → HasSupertypes p (loaded ++ class ∷ []) → LeadTo p loaded class (direct p class)
+direct-lead p loaded class above upper within sub =
+    elim (step p class upper sub) [
+      | inl same ↦ inl same
+      | inr s ↦ inr (record { by = s.by; there = s.there; within = direct-within p class s.by s.there;
+          leads = inr (loaded-before p loaded class above s.by s.there s.other, s.above) })
+    ]
+
+pub nothing-noted : (p : Program) (items : List (List ℕ)) → items ≡ replicate (length p.classes) [] → length items ≡ length p.classes
+nothing-noted p items empty = ap length empty ∙ length-replicate (length p.classes)
 
 pub nothing-loaded : (p : Program) (v : Lineage) → v.loaded ≡ [] → v.below.items ≡ replicate (length p.classes) [] → IsLineage p v
 nothing-loaded p v none empty = record {
-  places = ap length empty ∙ length-replicate (length p.classes);
-  below = λ class lower h.
-      absurd (false_true (sym (ap (is_among lower) (ap (λ l. list_at l class) empty ∙ empty-at (length p.classes) class)) ∙ h));
-  whole = λ class lower within there sub. absurd (false_true (sym (ap (is_among lower) none) ∙ there));
+  places = nothing-noted p v.below.items empty;
+  whole = λ class lower classes within there sub own closed. absurd (false_true (sym (ap (is_among lower) none) ∙ there));
 }

@@ -2,7 +2,7 @@
 use Rattle.std.proofs.Common.{◌≡◌, ℕ, zero, suc, Bool, true, false, List, [], ◌∷◌, ◌++◌, map, ap, sym, subst, refl, ◌∙◌, inl, inr}
 use Rattle.std.specs.Prelude.{flat_map, Option, Some, None, is_some, slice_get, ◌⊎◌, ◌==◌, ◌||◌, if◌then◌else◌}
 use Rattle.std.specs.List.{list_any}
-use Rattle.std.specs.Option.{option_and_then, option_map_or}
+use Rattle.std.specs.Option.{option_and_then, option_map_or, option_to_list}
 use Rattle.jvm_model.specs.declared.program.Program.{Program}
 use Rattle.jvm_model.specs.Load.{is_among}
 use Rattle.jvm_model.specs.Lookup.{is_subtype}
@@ -18,6 +18,7 @@ use Rattle.jvm_named.specs.declared.naming.Naming.{Naming}
 use Rattle.jvm_named.specs.Names.{naming_view}
 use Rattle.call_revelation.specs.declared.uses.Use.{Use}
 use Rattle.call_revelation.specs.Books.{Codes, IsBook, called_by, called_from, called_on, code_at, gathered, is_use, naming_at, of_entered}
+use Rattle.call_revelation.specs.CalledClasses.{HasUppers, called_class}
 use Rattle.call_revelation.specs.Tables.{list_at}
 use Rattle.call_revelation.proofs.Adding.{alike, among-append, either, equal, first-of, from_flat, itself, or-first, or-later, second-of, to_flat}
 use Rattle.call_revelation.proofs.NamingLemmas.{CallsIt, NamesIt, called-gains, gain-from, gain-of, gained-either, target-of}
@@ -80,6 +81,14 @@ map-get f [] i x e = absurd (none-some x e)
 map-get f (y ∷ xs) zero x e = ap (λ z. Some (f z)) (some-some y x e)
 map-get f (y ∷ xs) (suc i) x e = map-get f xs i x e
 
+pub flat-at : {A : Type 0} (f : A → List ℕ) (xs : List A) (i : ℕ) (x : A) (m : ℕ) → slice_get xs i ≡ Some x → is_among m (f x) ≡ true
+    → is_among m (flat_map f xs) ≡ true
+flat-at f [] i x m e h = absurd (none-some x e)
+flat-at f (y ∷ xs) zero x m e h =
+    among-append m (f y) (flat_map f xs) ∙ or-first (is_among m (f y)) (is_among m (flat_map f xs)) (ap (λ z. is_among m (f z)) (some-some y x e) ∙ h)
+flat-at f (y ∷ xs) (suc i) x m e h =
+    among-append m (f y) (flat_map f xs) ∙ or-later (is_among m (f y)) (is_among m (flat_map f xs)) (flat-at f xs i x m e h)
+
 pub record IsMapped (A B : Type 0) (f : A → B) (xs : List A) (i : ℕ) (y : B) : Type 0 where
   pub item : A
   pub there : slice_get xs i ≡ Some item
@@ -135,12 +144,12 @@ module _ (p : Program) (codes : Codes) (waiting calls : List (List Use)) (book :
 
   module _ (loaded : List ℕ) (new : ℕ) (above : HasSupertypes p loaded) (fresh : is_among new loaded ≡ false)
       (booked : (caller : ℕ) → is_among caller entered ≡ true → is_some (code_at codes caller) ≡ true)
-      (supertypes : List ℕ) (are : (class : ℕ) → is_among class supertypes ≡ is_subtype p new class) (m : ℕ) where
+      (uppers : List ℕ) (whole : HasUppers p entered new uppers) (m : ℕ) where
     abbrev all : List ℕ
     all = loaded ++ new ∷ []
 
     abbrev called : List ℕ
-    called = flat_map (called_from p loaded new entered codes calls) supertypes
+    called = flat_map (called_from p loaded new entered codes calls) uppers
 
     abbrev waited : List ℕ
     waited = flat_map (of_entered entered codes (begun_by p all)) (list_at waiting new)
@@ -185,7 +194,7 @@ module _ (p : Program) (codes : Codes) (waiting calls : List (List Use)) (book :
 
     from-called : is_among m called ≡ true → is_target p (operations_of p) all entered m ≡ true
     from-called h =
-        let i = from_flat (called_from p loaded new entered codes calls) supertypes m h in
+        let i = from_flat (called_from p loaded new entered codes calls) uppers m h in
         by i.item (is_among i.item loaded) refl i.within
       where
         by : (class : ℕ) (b : Bool) → is_among class loaded ≡ b
@@ -248,6 +257,10 @@ module _ (p : Program) (codes : Codes) (waiting calls : List (List Use)) (book :
     is-named : (n : model.Naming) (class : ℕ) → class_named p (model.resolved_name n) ≡ Some class → is_named p class (model.resolved_name n) ≡ true
     is-named n class e = ap (λ o. option_map_or (λ found. found == class) o false) e ∙ itself class
 
+    read-there : (caller i : ℕ) (ns : List Naming) (n : Naming) → code_at codes caller ≡ Some ns → slice_get ns i ≡ Some n
+        → slice_get (namings_of (operations_of p caller)) i ≡ Some (naming_view n)
+    read-there caller i ns n c e = subst (λ l. slice_get l i ≡ Some (naming_view n)) (book.read caller ns c) (map-get naming_view ns i n e)
+
     is-gathered : (caller i : ℕ) (ns : List Naming) (n : Naming) → is_among caller entered ≡ true → code_at codes caller ≡ Some ns → slice_get ns i ≡ Some n
         → NamesIt p loaded new (naming_view n) m ⊎ CallsIt p loaded new (naming_view n) m → (is_among m called || is_among m waited) ≡ true
     is-gathered caller i ns n there c e (inl it) =
@@ -258,8 +271,12 @@ module _ (p : Program) (codes : Codes) (waiting calls : List (List Use)) (book :
     is-gathered caller i ns n there c e (inr it) =
         let k = known (naming_view n) it.class it.named in
         or-first (is_among m called) (is_among m waited)
-        (to_flat (called_from p loaded new entered codes calls) supertypes it.class m
-        (are it.class ∙ is-above (naming_view n) it.class it.called)
+        (to_flat (called_from p loaded new entered codes calls) uppers it.class m
+        (whole caller it.class there
+        (flat-at (called_class p) (namings_of (operations_of p caller)) i (naming_view n) it.class (read-there caller i ns n c e)
+        (ap (λ b. is_among it.class (if b then option_to_list (class_named p (model.resolved_name (naming_view n))) else [])) it.call
+        ∙ (ap (λ o. is_among it.class (option_to_list o)) k.named ∙ or-first (it.class == it.class) false (itself it.class))))
+        (is-above (naming_view n) it.class it.called))
         (ap (λ b. is_among m (if b then flat_map (of_entered entered codes (called_by p new it.class)) (list_at calls it.class) else [])) k.there
         ∙ any-flat (of_entered entered codes (called_by p new it.class)) (is_use caller i) (list_at calls it.class) m
         (book.called caller i ns n c e it.call it.class k.named)
@@ -292,20 +309,20 @@ module _ (p : Program) (codes : Codes) (waiting calls : List (List Use)) (book :
         → (b ≡ true → is_target p (operations_of p) all entered m ≡ true) → is_target p (operations_of p) all entered m ≡ true
     gathered-or a b h first second = elim (either a b h) [ inl x ↦ first x | inr y ↦ second y ]
 
-    is-gathered-all : is_among m (gathered p loaded new entered codes waiting calls supertypes) ≡ (is_among m called || is_among m waited)
+    is-gathered-all : is_among m (gathered p loaded new entered codes waiting calls uppers) ≡ (is_among m called || is_among m waited)
     is-gathered-all = among-append m called waited
 
     law : is_target p (operations_of p) all entered m ≡ (before || is_gained p (operations_of p) loaded new entered m)
     law = load-targets p (operations_of p) loaded new above fresh m entered
 
     pub load-step : is_target p (operations_of p) all entered m
-        ≡ (is_target p (operations_of p) loaded entered m || is_among m (gathered p loaded new entered codes waiting calls supertypes))
+        ≡ (is_target p (operations_of p) loaded entered m || is_among m (gathered p loaded new entered codes waiting calls uppers))
     load-step =
-        alike (is_target p (operations_of p) all entered m) (before || is_among m (gathered p loaded new entered codes waiting calls supertypes))
+        alike (is_target p (operations_of p) all entered m) (before || is_among m (gathered p loaded new entered codes waiting calls uppers))
         (λ t. elim (either before (is_gained p (operations_of p) loaded new entered m) (sym law ∙ t)) [
-          | inl x ↦ or-first before (is_among m (gathered p loaded new entered codes waiting calls supertypes)) x
-          | inr y ↦ or-later before (is_among m (gathered p loaded new entered codes waiting calls supertypes)) (is-gathered-all ∙ gained-gathered y)
+          | inl x ↦ or-first before (is_among m (gathered p loaded new entered codes waiting calls uppers)) x
+          | inr y ↦ or-later before (is_among m (gathered p loaded new entered codes waiting calls uppers)) (is-gathered-all ∙ gained-gathered y)
         ])
-        (λ t. gathered-or before (is_among m (gathered p loaded new entered codes waiting calls supertypes)) t
+        (λ t. gathered-or before (is_among m (gathered p loaded new entered codes waiting calls uppers)) t
         (λ x. law ∙ or-first before (is_gained p (operations_of p) loaded new entered m) x)
         (λ y. gathered-or (is_among m called) (is_among m waited) (sym is-gathered-all ∙ y) from-called from-waiting))

@@ -5,7 +5,6 @@ use Rattle.std.specs.Option.{option_map_or}
 use Rattle.jvm_model.specs.declared.program.MethodPlace.{MethodPlace}
 use Rattle.jvm_model.specs.declared.program.Program.{Program}
 use Rattle.jvm_model.specs.Load.{is_among}
-use Rattle.jvm_model.specs.Lookup.{is_subtype}
 use Rattle.jvm_model.specs.Points.{has_class, is_target}
 use Rattle.jvm_model.specs.Programs.{place_of_method}
 use Rattle.jvm_model.specs.Revealed.{mark_of, without_method}
@@ -14,8 +13,10 @@ use Rattle.jvm_model.specs.Targets.{operations_of, targets_in}
 use Rattle.class_linker.specs.Linkers.{IsLoaded, LinkerView}
 use Rattle.call_revelation.specs.declared.book.Book.{Book}
 use Rattle.call_revelation.specs.declared.lineage.Lineage.{Lineage}
+use Rattle.call_revelation.specs.declared.named.Named.{Named}
 use Rattle.call_revelation.specs.declared.reveal.Reveal.{Reveal}
 use Rattle.call_revelation.specs.Books.{IsBookOf, code_at, gathered}
+use Rattle.call_revelation.specs.CalledClasses.{AreHanded, HasCalled, HasUppers}
 use Rattle.call_revelation.specs.Lineages.{IsLineage}
 use Rattle.call_revelation.specs.Ranks.{flag_at}
 use Rattle.call_revelation.specs.Reveals.{IsAhead, IsFront, IsKept, IsRevelation, is_placed, mark_by, mark_kept, now_of}
@@ -47,8 +48,8 @@ class-kept p loaded new m has place e =
     among-append place.class loaded (new ∷ []) ∙ or-first (is_among place.class loaded) (is_among place.class (new ∷ [])) (has place e)
 
 pub kept-loaded : (p : Program) (r : Reveal) (new : ℕ) (lineage : Lineage) → IsKept p r → IsLineage p lineage → lineage.loaded ≡ r.lineage.loaded ++ new ∷ []
-    → IsKept p (record r { lineage = lineage })
-kept-loaded p r new lineage is lined loaded = record {
+    → AreHanded p (r.lineage.loaded ++ new ∷ []) r.named → IsKept p (record r { lineage = lineage })
+kept-loaded p r new lineage is lined loaded handed = record {
   fit = is.fit;
   short = is.short;
   methods = is.methods;
@@ -61,6 +62,8 @@ kept-loaded p r new lineage is lined loaded = record {
   marked = is.marked;
   booked = is.booked;
   callers = λ m h. subst (λ l. HasClass p l m) (sym loaded) (class-kept p r.lineage.loaded new m (is.callers m h));
+  named = subst (λ l. AreHanded p l r.named) (sym loaded) handed;
+  called = is.called;
 }
 
 -- neither targets nor what is stale matter
@@ -78,6 +81,8 @@ kept-other p r targets stale is = record {
   marked = is.marked;
   booked = is.booked;
   callers = is.callers;
+  named = is.named;
+  called = is.called;
 }
 
 -- more was read
@@ -96,7 +101,33 @@ kept-read p r book is booked codes = record {
   marked = is.marked;
   booked = λ m h. codes m (is.booked m h);
   callers = is.callers;
+  named = is.named;
+  called = is.called;
 }
+
+-- calls name more classes, or a class has more above it
+pub kept-named : (p : Program) (r : Reveal) (named : Named) → IsKept p r → AreHanded p r.lineage.loaded named
+    → ((class : ℕ) → is_among class r.named.classes ≡ true → is_among class named.classes ≡ true) → IsKept p (record r { named = named })
+kept-named p r named is handed more = record {
+  fit = is.fit;
+  short = is.short;
+  methods = is.methods;
+  numbers = is.numbers;
+  own = is.own;
+  lineage = is.lineage;
+  book = is.book;
+  flags = is.flags;
+  flagged = is.flagged;
+  marked = is.marked;
+  booked = is.booked;
+  callers = is.callers;
+  named = handed;
+  called = λ m h class there. more class (is.called m h class there);
+}
+
+pub named-more : (p : Program) (r : Reveal) (named : Named) → IsRevelation p r → AreHanded p r.lineage.loaded named
+    → ((class : ℕ) → is_among class r.named.classes ≡ true → is_among class named.classes ≡ true) → IsRevelation p (record r { named = named })
+named-more p r named is handed more = record { kept = kept-named p r named is.kept handed more; targets = is.targets; shown = is.shown }
 
 pub ahead-more : (l : LinkerView) (r : Reveal) (new : ℕ) (next : Reveal) → IsAhead l r → IsLoaded l new → next.lineage.loaded ≡ r.lineage.loaded ++ new ∷ []
     → IsAhead l next
@@ -128,16 +159,16 @@ other-class p own loaded new m owned none = by (place_of_method p m) refl
 
 module _ (p : Program) (r : Reveal) (is : IsRevelation p r) (new : ℕ) (above : HasSupertypes p r.lineage.loaded) (fresh : is_among new r.lineage.loaded ≡ false)
     (lineage : Lineage) (lined : IsLineage p lineage) (loaded : lineage.loaded ≡ r.lineage.loaded ++ new ∷ [])
-    (supertypes : List ℕ) (are : (upper : ℕ) → is_among upper supertypes ≡ is_subtype p new upper)
+    (handed : AreHanded p (r.lineage.loaded ++ new ∷ []) r.named) (uppers : List ℕ) (whole : HasUppers p r.entered new uppers)
     (found targets stale first : List ℕ)
     (adds : (m : ℕ) → is_among m found
-    ≡ is_among m (gathered p r.lineage.loaded new r.entered r.book.codes r.book.waiting.items r.book.calls.items supertypes))
+    ≡ is_among m (gathered p r.lineage.loaded new r.entered r.book.codes r.book.waiting.items r.book.calls.items uppers))
     (targeted : Adds r.targets targets found) (staled : Adds r.stale first found) (owned : Adds first stale (list_at r.own.items new)) where
   -- the targets with the class
   target-more : (m : ℕ) → is_target p (operations_of p) (r.lineage.loaded ++ new ∷ []) r.entered m
       ≡ (is_target p (operations_of p) r.lineage.loaded r.entered m || is_among m found)
   target-more m =
-      load-step p r.book.codes r.book.waiting.items r.book.calls.items is.kept.book r.entered r.lineage.loaded new above fresh is.kept.booked supertypes are m
+      load-step p r.book.codes r.book.waiting.items r.book.calls.items is.kept.book r.entered r.lineage.loaded new above fresh is.kept.booked uppers whole m
       ∙ ap (λ t. is_target p (operations_of p) r.lineage.loaded r.entered m || t) (sym (adds m))
 
   not-stale : (m : ℕ) → is_among m stale ≡ false → (is_among m r.stale ≡ false) × ((is_among m found ≡ false) × (is_among m (list_at r.own.items new) ≡ false))
@@ -157,7 +188,7 @@ module _ (p : Program) (r : Reveal) (is : IsRevelation p r) (new : ℕ) (above :
 
   pub loaded-more : IsRevelation p (record r { lineage = lineage; targets = targets; stale = stale })
   loaded-more = record {
-    kept = kept-other p (record r { lineage = lineage }) targets stale (kept-loaded p r new lineage is.kept lined loaded);
+    kept = kept-other p (record r { lineage = lineage }) targets stale (kept-loaded p r new lineage is.kept lined loaded handed);
     targets = λ m.
         targeted m ∙ (ap (λ t. t || is_among m found) (is.targets m)
         ∙ (sym (target-more m) ∙ ap (λ l. is_target p (operations_of p) l r.entered m) (sym loaded)));
@@ -170,7 +201,7 @@ module _ (p : Program) (r : Reveal) (is : IsRevelation p r) (new : ℕ) (above :
 
 module _ (p : Program) (r : Reveal) (is : IsRevelation p r) (method : ℕ) (within : method < length p.methods) (has : HasClass p r.lineage.loaded method)
     (book : Book) (booked : IsBookOf p book) (codes : (m : ℕ) → is_some (code_at r.book.codes m) ≡ true → is_some (code_at book.codes m) ≡ true)
-    (read : is_some (code_at book.codes method) ≡ true) (found targets stale : List ℕ)
+    (read : is_some (code_at book.codes method) ≡ true) (calls : HasCalled p r.named method) (found targets stale : List ℕ)
     (adds : (m : ℕ) → is_among m found ≡ is_among m (targets_in p r.lineage.loaded (operations_of p method)))
     (targeted : Adds r.targets targets found) (staled : Adds r.stale stale found) where
   abbrev entered : List ℕ
@@ -218,6 +249,8 @@ module _ (p : Program) (r : Reveal) (is : IsRevelation p r) (method : ℕ) (with
       marked = is.kept.marked;
       booked = λ m h. if-entered (λ k. is_some (code_at book.codes k) ≡ true) m h read (λ there. codes m (is.kept.booked m there));
       callers = λ m h. if-entered (λ k. HasClass p r.lineage.loaded k) m h has (λ there. is.kept.callers m there);
+      named = is.kept.named;
+      called = λ m h. if-entered (λ k. HasCalled p r.named k) m h calls (λ there. is.kept.called m there);
     };
     targets = λ m. targeted m ∙ (ap (λ t. t || is_among m found) (is.targets m) ∙ sym (target-too m));
     shown = λ m none.
@@ -247,6 +280,8 @@ reselected p r is selected stale same = record {
     marked = is.kept.marked;
     booked = is.kept.booked;
     callers = is.kept.callers;
+    named = is.kept.named;
+    called = is.kept.called;
   };
   targets = is.targets;
   shown = λ m none.
@@ -299,6 +334,8 @@ quieted p r is flags stale long off staled = record {
     marked = is.kept.marked;
     booked = λ m h. absurd (false_true h);
     callers = λ m h. absurd (false_true h);
+    named = is.kept.named;
+    called = λ m h. absurd (false_true h);
   };
   targets = λ m. refl;
   shown = λ m none.

@@ -319,6 +319,8 @@ module _ (p : Program) (r : Reveal) (is : IsRevelation p r) where
       marked = marks-length r r.stale r.shown ∙ is.kept.marked;
       booked = is.kept.booked;
       callers = is.kept.callers;
+      named = is.kept.named;
+      called = is.kept.called;
     };
     targets = is.targets;
     shown = λ m none. shown-each m;

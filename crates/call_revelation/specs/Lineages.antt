@@ -1,11 +1,11 @@
--- The loaded classes, and for each class those at or below it.
-use Rattle.std.specs.Prelude.{◌≡◌, ◌⊎◌, ℕ, ◌<◌, Bool, true, List, [], ◌∷◌, length, Option, None, if◌then◌else◌}
+-- The loaded classes, and how one comes from a class to those at or below it.
+use Rattle.std.specs.Prelude.{◌≡◌, ◌⊎◌, ℕ, ◌<◌, Bool, true, List, [], ◌∷◌, ◌++◌, length, Option, None, if◌then◌else◌}
 use Rattle.std.specs.Option.{option_and_then}
 use Rattle.jvm_model.specs.declared.program.Program.{Program}
 use Rattle.jvm_model.specs.InvocationRules.{Selecting, Virtual, OfInterface}
 use Rattle.jvm_model.specs.KindNumbers.{user_count}
 use Rattle.jvm_model.specs.Load.{is_among}
-use Rattle.jvm_model.specs.Lookup.{MemberPlace, is_subtype}
+use Rattle.jvm_model.specs.Lookup.{MemberPlace, interfaces_of, is_subtype, superclass_of}
 use Rattle.jvm_model.specs.Naming as model
 use Rattle.jvm_model.specs.Programs.{initializer_of, number_of_method}
 use Rattle.jvm_model.specs.Selection.{selected}
@@ -15,16 +15,34 @@ use Rattle.jvm_named.specs.Numbers.{AreNumbers, Row}
 use Rattle.call_revelation.specs.declared.lineage.Lineage.{Lineage}
 use Rattle.call_revelation.specs.Tables.{list_at, with_item}
 
--- what stands in the list of a class is at or below it
-abbrev pub AreBelow : Program → List (List ℕ) → Type 0
-AreBelow p below = (class lower : ℕ) → is_among lower (list_at below class) ≡ true → is_subtype p lower class ≡ true
+-- what stands in the lists of the first ones is among the others
+abbrev pub AreFollowed : List (List ℕ) → List ℕ → List ℕ → Type 0
+AreFollowed below first others = (class lower : ℕ) → is_among class first ≡ true → is_among lower (list_at below class) ≡ true → is_among lower others ≡ true
 
--- each class has a list, and in it all loaded classes at or below it
+-- with a class they have all that stands in its list
+abbrev pub IsClosed : List (List ℕ) → List ℕ → Type 0
+IsClosed below classes = AreFollowed below classes classes
+
+-- Each class has a list, and from list to list one comes from a class to all that are loaded at or below it.
 pub record IsLineage (p : Program) (v : Lineage) : Type 0 where
   pub places : length v.below.items ≡ length p.classes
-  pub below : AreBelow p v.below.items
-  pub whole : (class lower : ℕ) → class < length p.classes → is_among lower v.loaded ≡ true → is_subtype p lower class ≡ true
-      → is_among lower (list_at v.below.items class) ≡ true
+  pub whole : (class lower : ℕ) (classes : List ℕ) → class < length p.classes → is_among lower v.loaded ≡ true → is_subtype p lower class ≡ true
+      → is_among class classes ≡ true → IsClosed v.below.items classes → is_among lower classes ≡ true
+
+-- the classes that a class names above itself
+abbrev pub direct : Program → ℕ → List ℕ
+direct p class = interfaces_of p class ++ superclass_of p class
+
+-- one of these is the class, or is loaded and below it
+pub record IsLed (p : Program) (loaded uppers : List ℕ) (class : ℕ) : Type 0 where
+  pub by : ℕ
+  pub there : is_among by uppers ≡ true
+  pub within : by < length p.classes
+  pub leads : (by ≡ class) ⊎ ((is_among by loaded ≡ true) × (is_subtype p by class ≡ true))
+
+-- by these one comes to whatever is above a class
+abbrev pub LeadTo : Program → List ℕ → ℕ → List ℕ → Type 0
+LeadTo p loaded class uppers = (upper : ℕ) → upper < length p.classes → is_subtype p class upper ≡ true → (class ≡ upper) ⊎ IsLed p loaded uppers upper
 
 -- a class more in the lists of these
 abbrev pub noted : ℕ → List (List ℕ) → List ℕ → List (List ℕ)
@@ -55,9 +73,13 @@ selecting _ = Virtual
 abbrev pub number_of : Program → Option MemberPlace → Option ℕ
 number_of p found = option_and_then (λ (m : MemberPlace). number_of_method p m.class m.position) found
 
--- what is selected from a class, where it is loaded
-abbrev pub selection_of : Program → List ℕ → Bool → MemberPlace → ℕ → Option ℕ
-selection_of p loaded interface m lower = if is_among lower loaded then number_of p (selected p lower interface m) else None
+-- what is selected from a class at or below this one
+abbrev pub selected_below : Program → Bool → ℕ → MemberPlace → ℕ → Option ℕ
+selected_below p interface class m lower = if is_subtype p lower class then number_of p (selected p lower interface m) else None
+
+-- the same where it is loaded
+abbrev pub selection_of : Program → List ℕ → Bool → ℕ → MemberPlace → ℕ → Option ℕ
+selection_of p loaded interface class m lower = if is_among lower loaded then selected_below p interface class m lower else None
 
 -- the static initializer of a class that is loaded
 abbrev pub initializer_in : Program → List ℕ → ℕ → Option ℕ

@@ -20,6 +20,7 @@ use Rattle.class_linker.specs.Linkers.{IsLoaded, LinkerView}
 use Rattle.jvm_named.specs.Numbers.{AreNumbers}
 use Rattle.call_revelation.specs.declared.reveal.Reveal.{Reveal}
 use Rattle.call_revelation.specs.Books.{IsBookOf, code_at}
+use Rattle.call_revelation.specs.CalledClasses.{AreHanded, HasCalled}
 use Rattle.call_revelation.specs.Lineages.{IsLineage}
 use Rattle.call_revelation.specs.Ranks.{flag_at, rank_of}
 use Rattle.call_revelation.specs.Tables.{list_at, with_item}
@@ -75,7 +76,8 @@ with_marks r (m ∷ rest) shown = with_marks r rest (slice_set shown m (mark_kep
 
 -- ---- what holds of it
 
--- What is kept of methods, classes and code is of this program. A flag means entered; what is entered was read, and its class is loaded.
+-- What is kept of methods, classes and code is of this program. A flag means entered; what is entered was read, its class is loaded,
+-- and the classes that its calls name are kept.
 pub record IsKept (p : Program) (r : Reveal) : Type 0 where
   pub fit : IsFit p
   pub short : AllByRecursion HasShortCodes p.classes
@@ -89,6 +91,8 @@ pub record IsKept (p : Program) (r : Reveal) : Type 0 where
   pub marked : length r.shown ≡ length p.methods
   pub booked : (m : ℕ) → is_among m r.entered ≡ true → is_some (code_at r.book.codes m) ≡ true
   pub callers : (m : ℕ) → is_among m r.entered ≡ true → HasClass p r.lineage.loaded m
+  pub named : AreHanded p r.lineage.loaded r.named
+  pub called : (m : ℕ) → is_among m r.entered ≡ true → HasCalled p r.named m
 
 -- So it is, and the targets are those of what is entered over what is loaded. A method that is not stale was shown with its mark.
 pub record IsRevelation (p : Program) (r : Reveal) : Type 0 where
@@ -108,15 +112,18 @@ pub record IsFront (xs ys : List ℕ) : Type 0 where
   pub rest : List ℕ
   pub is : ys ≡ xs ++ rest
 
--- The book and the lineage are those of the program, and more was read and loaded; there are more targets, and more that is stale.
+-- The book, the lineage and the classes that calls name are those of the program, and more was read, named and loaded; there are more
+-- targets, and more that is stale.
 pub record IsGrown (p : Program) (old new : Reveal) : Type 0 where
   pub lineage : IsLineage p new.lineage
   pub book : IsBookOf p new.book
   pub codes : (m : ℕ) → is_some (code_at old.book.codes m) ≡ true → is_some (code_at new.book.codes m) ≡ true
+  pub named : AreHanded p new.lineage.loaded new.named
+  pub called : (class : ℕ) → is_among class old.named.classes ≡ true → is_among class new.named.classes ≡ true
   pub loaded : IsFront old.lineage.loaded new.lineage.loaded
   pub targets : IsFront old.targets new.targets
   pub stale : IsFront old.stale new.stale
-  pub same : new ≡ (record old { lineage = new.lineage; book = new.book; targets = new.targets; stale = new.stale })
+  pub same : new ≡ (record old { lineage = new.lineage; book = new.book; named = new.named; targets = new.targets; stale = new.stale })
 
 -- so far these classes were loaded in order, and the rest is to come
 pub record AreLoading (l : LinkerView) (first now : Reveal) (classes rest : List ℕ) : Type 0 where

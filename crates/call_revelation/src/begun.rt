@@ -15,7 +15,7 @@ ghost use Rattle.jvm_named.specs.Names.{naming_view};
 ghost use Rattle.jvm_named.specs.Numbers.{AreNumbers};
 ghost use Rattle.call_revelation.specs.Lineages.{AreKnown, begun_at, begun_named, initializer_in};
 ghost use Rattle.call_revelation.specs.Lineages.{number_of, selecting, selection_of};
-ghost use Rattle.call_revelation.specs.Tables.{Adds, list_at};
+ghost use Rattle.call_revelation.specs.Tables.{Adds};
 ghost use Rattle.jvm_model.specs.Targets.{begun_by, begun_field, begun_on, begun_static};
 ghost use Rattle.jvm_model.specs.Targets.{initializers, selections};
 
@@ -28,6 +28,7 @@ use class_index::Order;
 use class_linker::Linker;
 use jf_bytes::{NoMemory, Text16};
 use jvm_named::{MemberName, MethodNumbers, Naming, Place, resolved_name};
+use std::alloc::Global;
 
 // ---- of one method or class
 
@@ -78,30 +79,32 @@ fn add_initializers(
     add_initializers_of(linker, numbers, lineage, supertypes, found)
 }
 
-/// What is selected for a method from these classes, where they are loaded.
+/// What is selected for a method from these classes, where they are loaded and at or below this one.
 fn add_selections_of(
     linker: &Linker,
     numbers: &MethodNumbers,
     lineage: &Lineage,
     interface: bool,
+    class: u32,
     m: Place,
     classes: &[u32],
     found: &mut Order,
 ) -> Result<(), NoMemory>
     requires { AreKnown linker.now numbers.now lineage.now }
     ensures { OnOk result (found.new ≡ with_classes found.old (filter_map
-        (selection_of linker.now.program lineage.now.loaded interface (at_place m)) classes.now)) }
+        (selection_of linker.now.program lineage.now.loaded interface class (at_place m))
+        classes.now)) }
 {
     for lower in classes {
-        if let Some(number) = selection_of(linker, numbers, lineage, interface, m, *lower) {
-            found.add(number)?;
-        }
+        let number = selection_of(linker, numbers, lineage, interface, class, m, *lower);
+        add_number(found, number)?;
     }
     Ok(())
 }
 
 /// What is selected for a method from each loaded subtype of a class.
 fn add_selections(
+    alloc: Global,
     linker: &Linker,
     numbers: &MethodNumbers,
     lineage: &Lineage,
@@ -116,14 +119,16 @@ fn add_selections(
         (selections linker.now.program lineage.now.loaded class (selecting interface)
         (at_place m))) }
 {
-    let lower = lineage.below(class);
-    add_selections_of(linker, numbers, lineage, interface, m, lower, found)
+    let lower = lineage.at_or_below(alloc, class)?;
+    let lower = lower.as_slice();
+    add_selections_of(linker, numbers, lineage, interface, class, m, lower, found)
 }
 
 // ---- by instruction
 
 /// invokevirtual and invokeinterface, where the named class is this one.
 fn add_begun_on(
+    alloc: Global,
     linker: &Linker,
     numbers: &MethodNumbers,
     lineage: &Lineage,
@@ -139,7 +144,7 @@ fn add_begun_on(
         class (selecting interface) (reference_of member.now))) }
 {
     match method_found(linker, class, interface, false, member) {
-        Some(m) => add_selections(linker, numbers, lineage, interface, class, m, found),
+        Some(m) => add_selections(alloc, linker, numbers, lineage, interface, class, m, found),
         None => Ok(()),
     }
 }
@@ -251,6 +256,7 @@ fn add_field_on(
 
 /// What an instruction begins, where the class that it names is this one. It is not asked of invokespecial.
 fn add_begun_at(
+    alloc: Global,
     linker: &Linker,
     numbers: &MethodNumbers,
     lineage: &Lineage,
@@ -273,6 +279,7 @@ fn add_begun_at(
         }
         Naming::Invokevirtual(method) => {
             add_begun_on(
+                alloc,
                 linker,
                 numbers,
                 lineage,
@@ -284,6 +291,7 @@ fn add_begun_at(
         }
         Naming::Invokeinterface(method) => {
             add_begun_on(
+                alloc,
                 linker,
                 numbers,
                 lineage,
@@ -299,6 +307,7 @@ fn add_begun_at(
 
 /// The same of the class that it names, where that is loaded.
 fn add_begun_named(
+    alloc: Global,
     linker: &Linker,
     numbers: &MethodNumbers,
     lineage: &Lineage,
@@ -310,13 +319,14 @@ fn add_begun_named(
         lineage.now.loaded (naming_view naming.now))) }
 {
     match loaded_class(linker, lineage, resolved_name(naming)) {
-        Some(class) => add_begun_at(linker, numbers, lineage, class, naming, found),
+        Some(class) => add_begun_at(alloc, linker, numbers, lineage, class, naming, found),
         None => Ok(()),
     }
 }
 
 /// Adds the numbers of all methods with Code that an instruction can begin.
 pub fn add_begun(
+    alloc: Global,
     linker: &Linker,
     numbers: &MethodNumbers,
     lineage: &Lineage,
@@ -334,6 +344,6 @@ pub fn add_begun(
             let member = method.member();
             add_special(linker, numbers, lineage, caller, *interface, member, found)
         }
-        _ => add_begun_named(linker, numbers, lineage, naming, found),
+        _ => add_begun_named(alloc, linker, numbers, lineage, naming, found),
     }
 }

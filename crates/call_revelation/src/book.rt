@@ -31,7 +31,7 @@ pub struct Book {
 }
 
 /// The class that an instruction names, where the program has one.
-fn class_of(linker: &Linker, naming: &Naming) -> Option<u32>
+pub fn class_of(linker: &Linker, naming: &Naming) -> Option<u32>
     ensures { result ≡ class_named linker.now.program (resolved_name (naming_view naming.now)) }
 {
     linker.index().class_named(resolved_name(naming).units())

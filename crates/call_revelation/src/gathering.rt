@@ -33,7 +33,7 @@ fn add_classes(lineage: &mut Lineage, linker: &Linker, classes: &[u32]) -> Resul
         ≡ with_classes lineage.old.loaded classes.now) }
 {
     for class in classes {
-        lineage.add(linker, *class)?;
+        lineage.add(*class, linker.supertypes(*class))?;
     }
     Ok(())
 }
@@ -51,6 +51,7 @@ fn lineage_of(alloc: Global, linker: &Linker) -> Result<Lineage, NoMemory>
 
 /// What these instructions begin.
 pub fn add_all_begun(
+    alloc: Global,
     linker: &Linker,
     numbers: &MethodNumbers,
     lineage: &Lineage,
@@ -64,7 +65,7 @@ pub fn add_all_begun(
         (flat_map (begun_by linker.now.program lineage.now.loaded) (map naming_view namings.now))) }
 {
     for naming in namings {
-        add_begun(linker, numbers, lineage, naming, found)?;
+        add_begun(alloc, linker, numbers, lineage, naming, found)?;
     }
     Ok(())
 }
@@ -114,7 +115,8 @@ fn gathered(alloc: Global, method: u32, linker: &Linker) -> Result<Order, NoMemo
     let lineage = lineage_of(alloc, linker)?;
     let namings = namings_of(alloc, linker.program(), method)?;
     let mut found = Order::new(alloc);
-    add_all_begun(linker, &numbers, &lineage, namings.as_slice(), &mut found)?;
+    let namings = namings.as_slice();
+    add_all_begun(alloc, linker, &numbers, &lineage, namings, &mut found)?;
     Ok(found)
 }
 

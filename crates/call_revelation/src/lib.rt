@@ -12,6 +12,7 @@ mod lineage;
 mod load_order;
 mod loading;
 mod lookup;
+mod named;
 mod namings;
 mod ranks;
 mod reveal;

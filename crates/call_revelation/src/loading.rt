@@ -13,7 +13,8 @@ ghost use Rattle.class_linker.specs.Linkers.{IsLoaded};
 ghost use Rattle.jvm_named.specs.Names.{naming_view};
 ghost use Rattle.call_revelation.specs.Books.{Begins, called_by, called_from};
 ghost use Rattle.call_revelation.specs.Books.{gathered, naming_at, of_entered};
-ghost use Rattle.call_revelation.specs.Lineages.{IsLineage};
+ghost use Rattle.call_revelation.specs.CalledClasses.{AreHanded};
+ghost use Rattle.call_revelation.specs.Lineages.{IsLineage, LeadTo, direct};
 ghost use Rattle.call_revelation.specs.Reveals.{IsAhead, IsFront, IsGrown, IsKept, IsRevelation};
 ghost use Rattle.call_revelation.specs.Ranks.{flag_at};
 ghost use Rattle.call_revelation.specs.Reveals.{now_of};
@@ -22,6 +23,7 @@ ghost use Rattle.call_revelation.specs.Tables.{Adds, list_at};
 use crate::begun::add_begun;
 use crate::gains::add_called;
 use crate::growing::add_more;
+use crate::lineage::direct_supertypes;
 use crate::reveal::{Reveal, own_of};
 use crate::uses::Use;
 use class_index::Order;
@@ -144,14 +146,22 @@ impl Reveal {
     // ---- instructions that name the new one
 
     /// What an instruction begins, where it stands in an entered method.
-    fn add_waiting(&self, linker: &Linker, u: Use, found: &mut Order) -> Result<(), NoMemory>
+    fn add_waiting(
+        &self,
+        alloc: Global,
+        linker: &Linker,
+        u: Use,
+        found: &mut Order,
+    ) -> Result<(), NoMemory>
         requires kept { IsKept linker.now.program self.now }
         requires ahead { IsAhead linker.now self.now }
         ensures { OnOk result (Adds found.old found.new (of_entered self.now.entered
             self.now.book.codes (begun_by linker.now.program self.now.lineage.loaded) u)) }
     {
         match self.entered_naming(u) {
-            Some(naming) => add_begun(linker, &self.numbers, &self.lineage, naming, found),
+            Some(naming) => {
+                add_begun(alloc, linker, &self.numbers, &self.lineage, naming, found)
+            }
             None => Ok(()),
         }
     }
@@ -159,6 +169,7 @@ impl Reveal {
     /// What each of these instructions begins.
     fn add_all_waiting(
         &self,
+        alloc: Global,
         linker: &Linker,
         uses: &[Use],
         found: &mut Order,
@@ -169,40 +180,96 @@ impl Reveal {
             self.now.book.codes (begun_by linker.now.program self.now.lineage.loaded)) uses.now)) }
     {
         for u in uses {
-            self.add_waiting(linker, *u, found)?;
+            self.add_waiting(alloc, linker, *u, found)?;
         }
         Ok(())
     }
 
     // ---- one class more
 
-    /// Keeps that a class is loaded more, with these above it, and gathers what begins by it.
+    /// Keeps that a class is loaded more, below these, and gathers what begins by it.
     fn gain(
         &mut self,
         alloc: Global,
         linker: &Linker,
         new: u32,
-        supertypes: &[u32],
+        direct: &[u32],
     ) -> Result<Order, NoMemory>
         requires kept { IsKept linker.now.program self.old }
         requires ahead { IsAhead linker.now self.old }
         requires new { IsLoaded linker.now new }
         requires fresh { is_among new self.old.lineage.loaded ≡ false }
+        requires led { LeadTo linker.now.program self.old.lineage.loaded new direct.now }
+        requires handed { AreHanded linker.now.program (self.old.lineage.loaded ++ new ∷ [])
+            self.old.named }
         ensures same { self.new ≡ (record self.old { lineage = self.new.lineage }) }
         ensures lineage { IsLineage linker.now.program self.new.lineage }
         ensures front { IsFront self.old.lineage.loaded self.new.lineage.loaded }
+        ensures handed { AreHanded linker.now.program self.new.lineage.loaded self.old.named }
         ensures loaded { OnOk result (self.new.lineage.loaded
             ≡ self.old.lineage.loaded ++ new ∷ []) }
         ensures gathered { IfOk result (λ found. (m : ℕ) → is_among m found
             ≡ is_among m (gathered linker.now.program self.old.lineage.loaded new
             self.old.entered self.old.book.codes self.old.book.waiting.items
-            self.old.book.calls.items supertypes.now)) }
+            self.old.book.calls.items
+            (list_at self.old.named.above.items new))) }
     {
         let mut found = Order::new(alloc);
-        self.add_calls_above(linker, new, supertypes, &mut found)?;
-        self.lineage.add(linker, new)?;
-        self.add_all_waiting(linker, self.book.waiting(new), &mut found)?;
+        self.add_calls_above(linker, new, self.named.above(new), &mut found)?;
+        self.lineage.add(new, direct)?;
+        self.add_all_waiting(alloc, linker, self.book.waiting(new), &mut found)?;
         Ok(found)
+    }
+
+    /// Keeps which classes that calls name are at or above a class that is below these and is loaded next.
+    fn name_uppers(
+        &mut self,
+        alloc: Global,
+        linker: &Linker,
+        new: u32,
+        direct: &[u32],
+    ) -> Result<(), NoMemory>
+        requires kept { IsKept linker.now.program self.old }
+        requires fresh { is_among new self.old.lineage.loaded ≡ false }
+        requires next { HasSupertypes linker.now.program (self.old.lineage.loaded ++ new ∷ []) }
+        requires direct { direct.now ≡ direct linker.now.program new }
+        ensures same { self.new ≡ (record self.old { named = self.new.named }) }
+        ensures classes { self.new.named.classes ≡ self.old.named.classes }
+        ensures before { AreHanded linker.now.program self.old.lineage.loaded self.new.named }
+        ensures handed { OnOk result (AreHanded linker.now.program
+            (self.old.lineage.loaded ++ new ∷ []) self.new.named) }
+    {
+        let uppers = self.named.uppers(alloc, direct, new)?;
+        self.named.keep(new, uppers);
+        Ok(())
+    }
+
+    /// Keeps that a class is loaded more, below these, where it is known what is at or above it.
+    fn load_named(
+        &mut self,
+        alloc: Global,
+        linker: &Linker,
+        new: u32,
+        direct: &[u32],
+    ) -> Result<(), NoMemory>
+        requires revelation { IsRevelation linker.now.program self.old }
+        requires ahead { IsAhead linker.now self.old }
+        requires new { IsLoaded linker.now new }
+        requires fresh { is_among new self.old.lineage.loaded ≡ false }
+        requires above { HasSupertypes linker.now.program self.old.lineage.loaded }
+        requires led { LeadTo linker.now.program self.old.lineage.loaded new direct.now }
+        requires handed { AreHanded linker.now.program (self.old.lineage.loaded ++ new ∷ [])
+            self.old.named }
+        ensures grown { IsGrown linker.now.program self.old self.new }
+        ensures loaded { OnOk result (self.new.lineage.loaded
+            ≡ self.old.lineage.loaded ++ new ∷ []) }
+        ensures revelation { OnOk result (IsRevelation linker.now.program self.new) }
+    {
+        let found = self.gain(alloc, linker, new, direct)?;
+        add_more(&mut self.stale, found.as_slice())?;
+        add_more(&mut self.stale, own_of(self.own.as_slice(), new))?;
+        add_more(&mut self.targets, found.as_slice())?;
+        Ok(())
     }
 
     /// Keeps that a class is loaded more.
@@ -212,16 +279,15 @@ impl Reveal {
         requires new { IsLoaded linker.now new }
         requires fresh { is_among new self.old.lineage.loaded ≡ false }
         requires above { HasSupertypes linker.now.program self.old.lineage.loaded }
+        requires next { HasSupertypes linker.now.program (self.old.lineage.loaded ++ new ∷ []) }
         ensures grown { IsGrown linker.now.program self.old self.new }
         ensures loaded { OnOk result (self.new.lineage.loaded
             ≡ self.old.lineage.loaded ++ new ∷ []) }
         ensures revelation { OnOk result (IsRevelation linker.now.program self.new) }
     {
-        let found = self.gain(alloc, linker, new, linker.supertypes(new))?;
-        add_more(&mut self.stale, found.as_slice())?;
-        add_more(&mut self.stale, own_of(self.own.as_slice(), new))?;
-        add_more(&mut self.targets, found.as_slice())?;
-        Ok(())
+        let direct = direct_supertypes(alloc, linker, new)?;
+        self.name_uppers(alloc, linker, new, direct.as_slice())?;
+        self.load_named(alloc, linker, new, direct.as_slice())
     }
 
     /// Keeps that these classes are loaded more.

@@ -9,7 +9,7 @@ ghost use Rattle.jvm_model.specs.Selection.{is_static, selected};
 ghost use Rattle.class_linker.specs.Linkers.{IsLoaded};
 ghost use Rattle.jvm_named.specs.Members.{at_place, reference_of};
 ghost use Rattle.jvm_named.specs.Numbers.{AreNumbers};
-ghost use Rattle.call_revelation.specs.Lineages.{initializer_in, number_of, selection_of};
+ghost use Rattle.call_revelation.specs.Lineages.{initializer_in, number_of, selected_below, selection_of};
 ghost use Rattle.jvm_model.specs.Targets.{class_with_methods, found_where, loaded_class_named};
 ghost use Rattle.call_revelation.specs.Lineages.{AreKnown};
 
@@ -154,21 +154,42 @@ pub fn selected_number(
     numbers.number(class, position)
 }
 
-/// The same, where the class is loaded.
+/// The same, where the receiver's class is at or below this one.
+fn selected_below(
+    linker: &Linker,
+    numbers: &MethodNumbers,
+    interface: bool,
+    class: u32,
+    m: Place,
+    lower: u32,
+) -> Option<u32>
+    requires numbers { AreNumbers linker.now.program numbers.now }
+    requires loaded { IsLoaded linker.now lower }
+    ensures { result ≡ selected_below linker.now.program interface class (at_place m) lower }
+{
+    if linker.is_subtype(lower, class) {
+        selected_number(linker, numbers, interface, m, lower)
+    } else {
+        None
+    }
+}
+
+/// The same, where that is loaded.
 pub fn selection_of(
     linker: &Linker,
     numbers: &MethodNumbers,
     lineage: &Lineage,
     interface: bool,
+    class: u32,
     m: Place,
     lower: u32,
 ) -> Option<u32>
     requires { AreKnown linker.now numbers.now lineage.now }
-    ensures { result ≡ selection_of linker.now.program lineage.now.loaded interface
+    ensures { result ≡ selection_of linker.now.program lineage.now.loaded interface class
         (at_place m) lower }
 {
     if lineage.loaded.has(lower) {
-        selected_number(linker, numbers, interface, m, lower)
+        selected_below(linker, numbers, interface, class, m, lower)
     } else {
         None
     }

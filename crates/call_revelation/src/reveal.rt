@@ -17,6 +17,7 @@ ghost use Rattle.call_revelation.specs.Tables.{list_at};
 
 use crate::book::Book;
 use crate::lineage::Lineage;
+use crate::named::Named;
 use crate::selection::Selection;
 use crate::tables::{add_item, no_lists, repeated};
 use class_index::Order;
@@ -26,7 +27,7 @@ use jvm_named::MethodNumbers;
 use std::alloc::Global;
 
 /// What is selected, entered and loaded, with what each event needs of it: where methods stand and the methods of each class; the
-/// classes below each; the code that was read; which methods are entered, by a flag; the targets of what is entered; and the marks
+/// classes below each; the code that was read, and the classes that its calls name; which methods are entered, by a flag; the targets of what is entered; and the marks
 /// that were shown last, with the methods whose mark may be another one now.
 #[derive(Drop)]
 pub struct Reveal {
@@ -35,6 +36,7 @@ pub struct Reveal {
     pub own: Vec<Seq<u32>>,
     pub lineage: Lineage,
     pub book: Book,
+    pub named: Named,
     pub selected: Selection,
     pub entered: Stack<u32>,
     pub flags: Seq<bool>,
@@ -83,6 +85,7 @@ impl Reveal {
         let own = owned(alloc, places, classes)?;
         let lineage = Lineage::new(alloc, classes)?;
         let book = Book::new(alloc, places.len(), classes)?;
+        let named = Named::new(alloc, classes)?;
         let selected = Selection::new(alloc, places.len())?;
         let flags = repeated(alloc, false, places.len())?;
         let shown = repeated(alloc, Mark::Off, places.len())?;
@@ -92,6 +95,7 @@ impl Reveal {
             own,
             lineage,
             book,
+            named,
             selected,
             entered: Stack::new(alloc),
             flags,

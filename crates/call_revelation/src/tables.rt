@@ -60,6 +60,15 @@ pub fn add_item<T: Drop>(lists: &mut [Seq<T>], number: usize, item: T) -> Result
     Ok(())
 }
 
+/// Puts a list in the place of the one with this number, where there is one.
+pub fn put_list<T: Drop>(lists: &mut [Seq<T>], number: usize, list: Seq<T>)
+    ensures { lists.new ≡ slice_set lists.old number list }
+{
+    if number < lists.len() {
+        lists[number] = list;
+    }
+}
+
 /// Adds an item, if there is one.
 pub fn add_some<T: Drop>(items: &mut Seq<T>, item: Option<T>) -> Result<(), NoMemory>
     ensures { OnOk result (items.new ≡ items.old ++ option_to_list item) }

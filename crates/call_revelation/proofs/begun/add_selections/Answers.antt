@@ -5,7 +5,7 @@ use Rattle.jvm_model.specs.Targets.{selections}
 use Rattle.class_index.specs.Orders.{with_classes}
 use Rattle.jvm_named.specs.Members.{at_place}
 use Rattle.call_revelation.specs.Lineages.{selecting, selection_of}
-use Rattle.call_revelation.specs.Tables.{Adds, list_at}
+use Rattle.call_revelation.specs.Tables.{Adds}
 use Rattle.call_revelation.proofs.Adding.{adds-alike, adds-equal}
 use Rattle.call_revelation.proofs.BegunLemmas.{selections-of}
 use Rattle.call_revelation.proofs.begun.add_selections.Goals as goal
@@ -17,9 +17,11 @@ returns c =
     let m = at_place c.args.m in
     let old = c.args.found.now in
     let new = c.add_selections_of.new.found in
-    let made = filter_map (selection_of p v.loaded c.args.interface m) (list_at v.below.items c.args.class) in
+    let lower = c.in_ok-lower.lower in
+    let made = filter_map (selection_of p v.loaded c.args.interface c.args.class m) lower in
     let begun = selections p v.loaded c.args.class (selecting c.args.interface) m in
-    let to : new ≡ with_classes old (filter_map (selection_of p v.loaded c.args.interface m) c.below-lower.result.now) → Adds old new begun =
-    λ e. adds-alike old new made begun (selections-of p v c.args.class c.args.interface m c.requires.known.lineage c.requires.class)
-    (adds-equal old new made (e ∙ ap (λ l. with_classes old (filter_map (selection_of p v.loaded c.args.interface m) l)) c.below-lower.ensures)) in
+    let to : new ≡ with_classes old (filter_map (selection_of p v.loaded c.args.interface c.args.class m) c.as_slice-lower.result.now) → Adds old new begun =
+    λ e. adds-alike old new made begun
+    (selections-of p v c.args.class c.args.interface m lower c.requires.known.lineage c.requires.class c.in_ok-lower.ensures.own c.in_ok-lower.ensures.closed)
+    (adds-equal old new made (e ∙ ap (λ l. with_classes old (filter_map (selection_of p v.loaded c.args.interface c.args.class m) l)) c.as_slice-lower.ensures)) in
     on_ok_weaker c.add_selections_of.result to c.add_selections_of.ensures

@@ -5,5 +5,5 @@ use Rattle.call_revelation.proofs.lineage.note.Given as goal
 
 abbrev pub invariant-loop-above : goal.invariant-loop-above
 invariant-loop-above l =
-    (noted l.class l.below (drop l.above-index l.supertypes) ≡ noted l.class l.initial.below l.supertypes)
-    × IsNoted l.class l.supertypes l.initial.below l.below
+    (noted l.class l.lists (drop l.above-index l.classes) ≡ noted l.class l.initial.lists l.classes)
+    × IsNoted l.class l.classes l.initial.lists l.lists

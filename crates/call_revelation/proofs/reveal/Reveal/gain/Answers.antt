@@ -1,15 +1,16 @@
-use Rattle.std.proofs.Common.{is_ok, subst, ◌∙◌}
+use Rattle.std.proofs.Common.{false, is_ok, refl, subst, ◌∙◌}
 use Rattle.std.specs.Prelude.{flat_map}
 use Rattle.jvm_model.specs.Targets.{begun_by}
-use Rattle.call_revelation.specs.Books.{of_entered}
-use Rattle.call_revelation.specs.Tables.{Adds}
+use Rattle.call_revelation.specs.Books.{called_from, of_entered}
+use Rattle.call_revelation.specs.Tables.{Adds, list_at}
 use Rattle.call_revelation.proofs.Callers.{gathered-both}
+use Rattle.call_revelation.proofs.CalledLemmas.{handed-with}
 use Rattle.call_revelation.proofs.Fronts.{fresh-with, front-if}
 use Rattle.call_revelation.proofs.Marking.{ahead-more, kept-loaded}
 use Rattle.call_revelation.proofs.reveal.Reveal.gain.Goals as goal
 
 pub returns-in_err-add-clause-lineage : goal.returns-in_err-add-clause-lineage
-returns-in_err-add-clause-lineage c = c.add.ensures.lineage c.requires.kept.lineage
+returns-in_err-add-clause-lineage c = c.add.ensures.lineage c.args.linker.now.program c.requires.led c.requires.kept.lineage
 
 pub returns-in_err-add-clause-front : goal.returns-in_err-add-clause-front
 returns-in_err-add-clause-front c =
@@ -17,8 +18,8 @@ returns-in_err-add-clause-front c =
 
 pub add_all_waiting-requires-clause-kept : goal.add_all_waiting-requires-clause-kept
 add_all_waiting-requires-clause-kept c =
-    kept-loaded c.args.linker.now.program c.args.self.now c.args.new c.add.new.self c.requires.kept (c.add.ensures.lineage c.requires.kept.lineage)
-    (c.in_ok-add.ensures.loaded ∙ fresh-with c.args.self.now.lineage.loaded c.args.new c.requires.fresh)
+    kept-loaded c.args.linker.now.program c.args.self.now c.args.new c.add.new.self c.requires.kept (c.add.ensures.lineage c.args.linker.now.program c.requires.led c.requires.kept.lineage)
+    (c.in_ok-add.ensures.loaded ∙ fresh-with c.args.self.now.lineage.loaded c.args.new c.requires.fresh) c.requires.handed
 
 pub add_all_waiting-requires-clause-ahead : goal.add_all_waiting-requires-clause-ahead
 add_all_waiting-requires-clause-ahead c =
@@ -26,26 +27,44 @@ add_all_waiting-requires-clause-ahead c =
     (c.in_ok-add.ensures.loaded ∙ fresh-with c.args.self.now.lineage.loaded c.args.new c.requires.fresh)
 
 pub returns-in_err-add_all_waiting-clause-lineage : goal.returns-in_err-add_all_waiting-clause-lineage
-returns-in_err-add_all_waiting-clause-lineage c = c.add.ensures.lineage c.requires.kept.lineage
+returns-in_err-add_all_waiting-clause-lineage c = c.add.ensures.lineage c.args.linker.now.program c.requires.led c.requires.kept.lineage
 
 pub returns-in_err-add_all_waiting-clause-front : goal.returns-in_err-add_all_waiting-clause-front
 returns-in_err-add_all_waiting-clause-front c =
     front-if (is_ok c.add.result) c.args.self.now.lineage.loaded c.add.new.self.loaded c.args.new c.add.ensures.loaded
 
 pub returns-clause-lineage : goal.returns-clause-lineage
-returns-clause-lineage c = c.add.ensures.lineage c.requires.kept.lineage
+returns-clause-lineage c = c.add.ensures.lineage c.args.linker.now.program c.requires.led c.requires.kept.lineage
 
 pub returns-clause-front : goal.returns-clause-front
 returns-clause-front c =
     front-if (is_ok c.add.result) c.args.self.now.lineage.loaded c.add.new.self.loaded c.args.new c.add.ensures.loaded
+
+pub returns-in_err-add_calls_above-clause-handed : goal.returns-in_err-add_calls_above-clause-handed
+returns-in_err-add_calls_above-clause-handed c =
+    handed-with c.args.linker.now.program c.args.self.now.lineage.loaded c.args.self.now.lineage.loaded c.args.self.now.named c.args.new false refl c.requires.handed
+
+pub returns-in_err-add-clause-handed : goal.returns-in_err-add-clause-handed
+returns-in_err-add-clause-handed c =
+    handed-with c.args.linker.now.program c.args.self.now.lineage.loaded c.add.new.self.loaded c.args.self.now.named c.args.new (is_ok c.add.result) c.add.ensures.loaded c.requires.handed
+
+pub returns-in_err-add_all_waiting-clause-handed : goal.returns-in_err-add_all_waiting-clause-handed
+returns-in_err-add_all_waiting-clause-handed c =
+    handed-with c.args.linker.now.program c.args.self.now.lineage.loaded c.add.new.self.loaded c.args.self.now.named c.args.new (is_ok c.add.result) c.add.ensures.loaded c.requires.handed
+
+pub returns-clause-handed : goal.returns-clause-handed
+returns-clause-handed c =
+    handed-with c.args.linker.now.program c.args.self.now.lineage.loaded c.add.new.self.loaded c.args.self.now.named c.args.new (is_ok c.add.result) c.add.ensures.loaded c.requires.handed
 
 pub returns-clause-gathered : goal.returns-clause-gathered
 returns-clause-gathered c =
     let p = c.args.linker.now.program in
     let r = c.args.self.now in
     let all = c.add.new.self.loaded in
-    gathered-both p r.lineage.loaded c.args.new r.entered r.book.codes r.book.waiting.items r.book.calls.items c.args.supertypes.now all c.new-found.result
+    let uppers = list_at r.named.above.items c.args.new in
+    gathered-both p r.lineage.loaded c.args.new r.entered r.book.codes r.book.waiting.items r.book.calls.items uppers all c.new-found.result
     c.add_calls_above.new.found c.add_all_waiting.new.found c.new-found.ensures
-    (c.in_ok-add.ensures.loaded ∙ fresh-with r.lineage.loaded c.args.new c.requires.fresh) c.in_ok-add_calls_above.ensures
+    (c.in_ok-add.ensures.loaded ∙ fresh-with r.lineage.loaded c.args.new c.requires.fresh) (subst (λ l. Adds c.new-found.result c.add_calls_above.new.found (flat_map (called_from p r.lineage.loaded c.args.new r.entered r.book.codes r.book.calls.items) l))
+    c.above.ensures c.in_ok-add_calls_above.ensures)
     (subst (λ us. Adds c.add_calls_above.new.found c.add_all_waiting.new.found (flat_map (of_entered r.entered r.book.codes (begun_by p all)) us))
     c.waiting.ensures c.in_ok-add_all_waiting.ensures)

@@ -1,5 +1,5 @@
 use Rattle.call_revelation.proofs.Grown.{grown-then}
-use Rattle.call_revelation.proofs.InTurn.{loading-first, loading-next, next-above, next-fresh, next-linked}
+use Rattle.call_revelation.proofs.InTurn.{loading-first, loading-next, next-above, next-all, next-fresh, next-linked}
 use Rattle.call_revelation.proofs.reveal.Reveal.load_all.Goals as goal
 
 pub loop-class-init : goal.loop-class-init
@@ -23,6 +23,10 @@ load_class-requires-clause-fresh c =
 pub load_class-requires-clause-above : goal.load_class-requires-clause-above
 load_class-requires-clause-above c =
     next-above c.args.linker.now c.args.self.now c.loop-class.self c.args.classes.now c.loop-class.class-index c.loop-class-test.true c.loop-class.invariant
+
+pub load_class-requires-clause-next : goal.load_class-requires-clause-next
+load_class-requires-clause-next c =
+    next-all c.args.linker.now c.args.self.now c.loop-class.self c.args.classes.now c.loop-class.class-index c.loop-class-test.true c.loop-class.invariant
 
 pub returns-in_err-load_class-clause-grown : goal.returns-in_err-load_class-clause-grown
 returns-in_err-load_class-clause-grown c =

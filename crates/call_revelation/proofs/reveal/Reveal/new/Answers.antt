@@ -5,6 +5,7 @@ use Rattle.jvm_model.specs.declared.program.MethodPlace.{MethodPlace}
 use Rattle.call_revelation.specs.Reveals.{owned_from}
 use Rattle.call_revelation.proofs.CodedMethods.{few-coded}
 use Rattle.call_revelation.proofs.BookLemmas.{nothing-read}
+use Rattle.call_revelation.proofs.CalledLemmas.{nothing-named}
 use Rattle.call_revelation.proofs.First.{first-revelation}
 use Rattle.call_revelation.proofs.LineageLemmas.{nothing-loaded}
 use Rattle.call_revelation.proofs.reveal.Reveal.new.Goals as goal
@@ -22,6 +23,8 @@ returns-clause-revelation c =
     (c.in_ok-book.ensures.codes ∙ ap (λ (l : List MethodPlace). replicate (length l) None) places)
     (c.in_ok-book.ensures.waiting ∙ ap (λ n. replicate n []) c.len-classes.ensures)
     (c.in_ok-book.ensures.calls ∙ ap (λ n. replicate n []) c.len-classes.ensures))
+    (nothing-named p c.in_ok-named.named c.in_ok-named.ensures.classes (c.in_ok-named.ensures.above ∙ ap (λ n. replicate n []) c.len-classes.ensures)
+    c.in_ok-lineage.lineage.loaded)
     (record {
       methods = c.in_ok-methods.ensures ∙ places;
       own = c.in_ok-own.ensures ∙ ap₂ (λ (l : List MethodPlace) (n : ℕ). owned_from 0 l (replicate n [])) places c.len-classes.ensures;
