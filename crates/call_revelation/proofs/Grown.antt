@@ -86,6 +86,22 @@ grown-named p old named kept handed more = record {
   same = refl;
 }
 
+pub grown-read : (p : Program) (old : Reveal) (book : Book) (named : Named) → IsKept p old → IsBookOf p book
+    → ((m : ℕ) → is_some (code_at old.book.codes m) ≡ true → is_some (code_at book.codes m) ≡ true) → AreHanded p old.lineage.loaded named
+    → ((class : ℕ) → is_among class old.named.classes ≡ true → is_among class named.classes ≡ true)
+    → IsGrown p old (record old { book = book; named = named })
+grown-read p old book named kept booked codes handed more = record {
+  lineage = kept.lineage;
+  book = booked;
+  codes = codes;
+  named = handed;
+  called = more;
+  loaded = front-self old.lineage.loaded;
+  targets = front-self old.targets;
+  stale = front-self old.stale;
+  same = refl;
+}
+
 -- more targets, and more that is stale
 pub grown-more : (p : Program) (old mid : Reveal) (targets stale : List ℕ) → IsGrown p old mid → IsFront mid.targets targets → IsFront mid.stale stale
     → IsGrown p old (record mid { targets = targets; stale = stale })

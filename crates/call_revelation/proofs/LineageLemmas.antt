@@ -1,5 +1,5 @@
 -- A class more in the lists of those by which one comes to it.
-use Rattle.std.proofs.Common.{◌≡◌, ℕ, zero, suc, ◌<◌, ◌≤◌, Bool, true, false, List, [], ◌∷◌, ◌++◌, length, get_or, ap, sym, subst, refl, ◌∙◌, arith, inl, inr}
+use Rattle.std.proofs.Common.{◌≡◌, ℕ, zero, suc, ◌<◌, ◌≤◌, Bool, true, false, List, [], ◌∷◌, ◌++◌, length, get_or, take, ◌+◌, ap, sym, subst, refl, ◌∙◌, arith, inl, inr}
 use Rattle.std.specs.List.{AllByRecursion}
 use Rattle.std.specs.Prelude.{◌⊎◌, replicate, Some, None, nat_lt, slice_get, ◌==◌, if◌then◌else◌}
 use Rattle.std.proofs.lemmas.Bool.{ltb-false, ltb-true}
@@ -9,9 +9,11 @@ use Rattle.jvm_model.specs.Lookup.{interfaces_of, is_subtype, superclass_of}
 use Rattle.jvm_model.specs.Sound.{HasSupertypes}
 use Rattle.class_index.specs.Orders.{with_class}
 use Rattle.call_revelation.specs.declared.lineage.Lineage.{Lineage}
-use Rattle.call_revelation.specs.Lineages.{IsClosed, IsLed, IsLineage, IsNoted, LeadTo, direct, noted}
-use Rattle.call_revelation.specs.Tables.{list_at, with_item}
+use Rattle.call_revelation.specs.Lineages.{AreFollowed, IsClosed, IsLed, IsLineage, IsNoted, LeadTo, direct, noted}
+use Rattle.call_revelation.specs.Reveals.{IsFront}
+use Rattle.call_revelation.specs.Tables.{Adds, list_at, with_item}
 use Rattle.call_revelation.proofs.Adding.{among-append, either, equal, itself, or-false, or-first, or-later}
+use Rattle.call_revelation.proofs.Fronts.{front-among}
 use Rattle.call_revelation.proofs.SubtypeSteps.{direct-within, step}
 use Rattle.call_revelation.proofs.TableLemmas.{at-other, at-same, length-with, nothing_past}
 
@@ -217,3 +219,32 @@ nothing-loaded p v none empty = record {
   places = nothing-noted p v.below.items empty;
   whole = λ class lower classes within there sub own closed. absurd (false_true (sym (ap (is_among lower) none) ∙ there));
 }
+
+-- ---- a walk down
+
+take-next : (xs more : List ℕ) (at next class : ℕ) → slice_get xs at ≡ Some next → is_among class (take (suc at) (xs ++ more)) ≡ true
+    → (is_among class (take at xs) ≡ true) ⊎ (class ≡ next)
+take-next [] more at next class e h = absurd (none-some next e)
+take-next (x ∷ xs) more zero next class e h =
+    elim (either (class == x) false h) [
+      | inl same ↦ inr (equal class x same ∙ some-some x next e)
+      | inr none ↦ absurd (false_true none)
+    ]
+take-next (x ∷ xs) more (suc at) next class e h =
+    elim (either (class == x) (is_among class (take (suc at) (xs ++ more))) h) [
+      | inl same ↦ inl (or-first (class == x) (is_among class (take at xs)) same)
+      | inr behind ↦ elim (take-next xs more at next class e behind) [
+        | inl a ↦ inl (or-later (class == x) (is_among class (take at xs)) a)
+        | inr b ↦ inr b
+      ]
+    ]
+
+-- what stands in the list of the next one was added
+pub followed-next : (below : List (List ℕ)) (found new : List ℕ) (at next : ℕ) → slice_get found at ≡ Some next → IsFront found new
+    → Adds found new (list_at below next) → AreFollowed below (take at found) found → AreFollowed below (take (at + 1) new) new
+followed-next below found new at next there front adds before class lower among within =
+    elim (take-next found front.rest at next class there
+    (sym (ap (λ l. is_among class (take (suc at) l)) front.is) ∙ (ap (λ n. is_among class (take n new)) (let e : suc at ≡ at + 1 = omega arith in e) ∙ among))) [
+      | inl a ↦ front-among found new lower front (before class lower a within)
+      | inr same ↦ adds lower ∙ or-later (is_among lower found) (is_among lower (list_at below next)) (ap (λ k. is_among lower (list_at below k)) (sym same) ∙ within)
+    ]

@@ -30,9 +30,13 @@ pub record AreHanded (p : Program) (loaded : List ℕ) (v : Named) : Type 0 wher
   pub whole : (lower upper : ℕ) → upper < length p.classes → is_among lower loaded ≡ true → is_subtype p lower upper ≡ true
       → is_among upper v.classes ≡ true → is_among upper (list_at v.above.items lower) ≡ true
 
+-- the class, where calls name it
+abbrev pub own_of : Named → ℕ → List ℕ
+own_of v class = if is_among class v.classes then class ∷ [] else []
+
 -- those that calls name at or above a class that is below these
 abbrev pub uppers_of : Named → List ℕ → ℕ → List ℕ
-uppers_of v direct class = (if is_among class v.classes then class ∷ [] else []) ++ flat_map (list_at v.above.items) direct
+uppers_of v direct class = own_of v class ++ flat_map (list_at v.above.items) direct
 
 -- whatever calls of entered methods name at or above the new class is one of these
 abbrev pub HasUppers : Program → List ℕ → ℕ → List ℕ → Type 0

@@ -7,7 +7,6 @@ ghost use Rattle.jvm_model.specs.Revealed.{with_method_entered, with_none_entere
 ghost use Rattle.jvm_model.specs.Sound.{HasClass};
 ghost use Rattle.jvm_model.specs.Targets.{operations_of, targets_in};
 ghost use Rattle.call_revelation.specs.Books.{code_at};
-ghost use Rattle.call_revelation.specs.CalledClasses.{AreHanded, HasCalled};
 ghost use Rattle.call_revelation.specs.Reveals.{IsAhead, IsFront, IsGrown, IsKept, IsRevelation};
 ghost use Rattle.call_revelation.specs.Ranks.{flag_at};
 ghost use Rattle.call_revelation.specs.Reveals.{now_of};
@@ -60,28 +59,6 @@ impl Reveal {
         Ok(found)
     }
 
-    /// Keeps which classes the calls of a method name that was read.
-    fn name_classes(
-        &mut self,
-        alloc: Global,
-        linker: &Linker,
-        method: u32,
-    ) -> Result<(), NoMemory>
-        requires kept { IsKept linker.now.program self.old }
-        ensures same { self.new ≡ (record self.old { named = self.new.named }) }
-        ensures handed { AreHanded linker.now.program self.old.lineage.loaded self.new.named }
-        ensures more { (class : ℕ) → is_among class self.old.named.classes ≡ true →
-            is_among class self.new.named.classes ≡ true }
-        ensures called { is_some (code_at self.old.book.codes method) ≡ true →
-            OnOk result (HasCalled linker.now.program self.new.named method) }
-    {
-        let Some(namings) = self.book.namings(method) else {
-            return Ok(());
-        };
-        let namings = namings.as_slice();
-        self.named.add_all_called(alloc, linker, &self.lineage, namings)
-    }
-
     /// Keeps that a method is entered which was not.
     fn enter(&mut self, alloc: Global, linker: &Linker, method: u32) -> Result<(), NoMemory>
         requires revelation { IsRevelation linker.now.program self.old }
@@ -96,7 +73,8 @@ impl Reveal {
         ensures shown { self.new.shown ≡ self.old.shown }
     {
         self.book.read(alloc, linker, method)?;
-        self.name_classes(alloc, linker, method)?;
+        let lineage = &self.lineage;
+        self.named.add_read(alloc, linker, lineage, &self.book, method)?;
         let found = self.begun_in(alloc, linker, method)?;
         add_more(&mut self.stale, found.as_slice())?;
         add_more(&mut self.targets, found.as_slice())?;

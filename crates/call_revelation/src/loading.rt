@@ -14,7 +14,7 @@ ghost use Rattle.jvm_named.specs.Names.{naming_view};
 ghost use Rattle.call_revelation.specs.Books.{Begins, called_by, called_from};
 ghost use Rattle.call_revelation.specs.Books.{gathered, naming_at, of_entered};
 ghost use Rattle.call_revelation.specs.CalledClasses.{AreHanded};
-ghost use Rattle.call_revelation.specs.Lineages.{IsLineage, LeadTo, direct};
+ghost use Rattle.call_revelation.specs.Lineages.{IsLineage, LeadTo};
 ghost use Rattle.call_revelation.specs.Reveals.{IsAhead, IsFront, IsGrown, IsKept, IsRevelation};
 ghost use Rattle.call_revelation.specs.Ranks.{flag_at};
 ghost use Rattle.call_revelation.specs.Reveals.{now_of};
@@ -221,29 +221,6 @@ impl Reveal {
         Ok(found)
     }
 
-    /// Keeps which classes that calls name are at or above a class that is below these and is loaded next.
-    fn name_uppers(
-        &mut self,
-        alloc: Global,
-        linker: &Linker,
-        new: u32,
-        direct: &[u32],
-    ) -> Result<(), NoMemory>
-        requires kept { IsKept linker.now.program self.old }
-        requires fresh { is_among new self.old.lineage.loaded ≡ false }
-        requires next { HasSupertypes linker.now.program (self.old.lineage.loaded ++ new ∷ []) }
-        requires direct { direct.now ≡ direct linker.now.program new }
-        ensures same { self.new ≡ (record self.old { named = self.new.named }) }
-        ensures classes { self.new.named.classes ≡ self.old.named.classes }
-        ensures before { AreHanded linker.now.program self.old.lineage.loaded self.new.named }
-        ensures handed { OnOk result (AreHanded linker.now.program
-            (self.old.lineage.loaded ++ new ∷ []) self.new.named) }
-    {
-        let uppers = self.named.uppers(alloc, direct, new)?;
-        self.named.keep(new, uppers);
-        Ok(())
-    }
-
     /// Keeps that a class is loaded more, below these, where it is known what is at or above it.
     fn load_named(
         &mut self,
@@ -286,7 +263,8 @@ impl Reveal {
         ensures revelation { OnOk result (IsRevelation linker.now.program self.new) }
     {
         let direct = direct_supertypes(alloc, linker, new)?;
-        self.name_uppers(alloc, linker, new, direct.as_slice())?;
+        let uppers = self.named.uppers(alloc, direct.as_slice(), new)?;
+        self.named.keep(new, uppers);
         self.load_named(alloc, linker, new, direct.as_slice())
     }
 

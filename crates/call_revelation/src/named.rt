@@ -1,17 +1,17 @@
 //! The classes that calls of entered methods name, and which of them are at or above a loaded class.
 
-ghost use Rattle.std.specs.Prelude.{◌≡◌, [], if◌then◌else◌, flat_map, is_ok, map, replicate, slice_set, true, IfOk, OnOk, ℕ};
+ghost use Rattle.std.specs.Prelude.{◌≡◌, [], if◌then◌else◌, flat_map, is_ok, is_some, map, replicate, slice_set, true, IfOk, OnOk, ℕ};
 ghost use Rattle.std.specs.Option.{option_to_list};
 ghost use Rattle.jvm_model.specs.declared.program.Program.{Program};
 ghost use Rattle.jvm_model.specs.Load.{is_among};
 ghost use Rattle.class_index.specs.Orders.{with_class, with_classes};
 ghost use Rattle.jvm_named.specs.Names.{naming_view};
-ghost use Rattle.call_revelation.specs.Books.{is_call};
+ghost use Rattle.call_revelation.specs.Books.{IsBookOf, code_at, is_call};
 ghost use Rattle.call_revelation.specs.Lineages.{IsLineage};
-ghost use Rattle.call_revelation.specs.CalledClasses.{AreHanded, called_class, uppers_of};
+ghost use Rattle.call_revelation.specs.CalledClasses.{AreHanded, HasCalled, called_class, own_of, uppers_of};
 ghost use Rattle.call_revelation.specs.Tables.{Adds, list_at};
 
-use crate::book::class_of;
+use crate::book::{Book, class_of};
 use crate::lineage::{Lineage, note};
 use crate::tables::{no_lists, put_list};
 use class_index::Order;
@@ -102,7 +102,7 @@ impl Named {
     }
 
     /// The same of all these.
-    pub fn add_all_called(
+    fn add_all_called(
         &mut self,
         alloc: Global,
         linker: &Linker,
@@ -120,6 +120,30 @@ impl Named {
             self.add_called(alloc, linker, lineage, naming)?;
         }
         Ok(())
+    }
+
+    /// The same of all that a method names that was read.
+    pub fn add_read(
+        &mut self,
+        alloc: Global,
+        linker: &Linker,
+        lineage: &Lineage,
+        book: &Book,
+        method: u32,
+    ) -> Result<(), NoMemory>
+        requires book { IsBookOf linker.now.program book.now }
+        requires read { is_some (code_at book.now.codes method) ≡ true }
+        ensures called { OnOk result (HasCalled linker.now.program self.new method) }
+        ensures more { (class : ℕ) → is_among class self.old.classes ≡ true →
+            is_among class self.new.classes ≡ true }
+        ensures handed { (p : Program) → IsLineage p lineage.now →
+            AreHanded p lineage.now.loaded self.old → AreHanded p lineage.now.loaded self.new }
+    {
+        let Some(namings) = book.namings(method) else {
+            return Ok(());
+        };
+        let namings = namings.as_slice();
+        self.add_all_called(alloc, linker, lineage, namings)
     }
 
     // ---- a class more
@@ -145,15 +169,24 @@ impl Named {
         Ok(())
     }
 
+    /// The class, if calls name it.
+    fn own(&self, alloc: Global, class: u32) -> Result<Order, NoMemory>
+        ensures { IfOk result (λ found. found ≡ own_of self.now class) }
+    {
+        let mut found = Order::new(alloc);
+        if self.classes.has(class) {
+            found.add(class)?;
+            return Ok(found);
+        }
+        Ok(found)
+    }
+
     /// Those at or above a class that is below these.
     pub fn uppers(&self, alloc: Global, direct: &[u32], class: u32) -> Result<Seq<u32>, NoMemory>
         ensures { IfOk result (λ uppers. (upper : ℕ) →
             is_among upper uppers ≡ is_among upper (uppers_of self.now direct.now class)) }
     {
-        let mut found = Order::new(alloc);
-        if self.classes.has(class) {
-            found.add(class)?;
-        }
+        let mut found = self.own(alloc, class)?;
         self.add_above(direct, &mut found)?;
         let uppers = Seq::from_slice(alloc, found.as_slice())?;
         Ok(uppers)

@@ -1,2 +1,20 @@
+use Rattle.std.proofs.Common.{ap, sym, ◌∙◌}
+use Rattle.std.specs.Prelude.{slice_get}
+use Rattle.class_index.specs.Orders.{with_classes}
+use Rattle.call_revelation.specs.Tables.{list_at}
+use Rattle.call_revelation.proofs.Adding.{adds-equal}
+use Rattle.call_revelation.proofs.Fronts.{front-among}
+use Rattle.call_revelation.proofs.LineageLemmas.{followed-next}
 use Rattle.call_revelation.proofs.lineage.Lineage.at_or_below.Goals as goal
 
+pub loop-at-preserved : goal.loop-at-preserved
+loop-at-preserved c =
+    let below = c.args.self.now.below.items in
+    let found = c.loop-at.found in
+    let new = c.add_more.new.order in
+    let next = c.in-Some.next.now in (
+      front-among found new c.args.class c.add_more.ensures.front c.loop-at.invariant.0,
+      followed-next below found new c.loop-at.at next
+          (ap (λ l. slice_get l c.loop-at.at) (sym c.as_slice.ensures) ∙ sym c.in-Some.ensures.lookup) c.add_more.ensures.front
+          (adds-equal found new (list_at below next) (c.in_ok-add_more.ensures.added ∙ ap (with_classes found) c.below-lower.ensures)) c.loop-at.invariant.1,
+    )
