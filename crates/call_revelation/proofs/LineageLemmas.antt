@@ -91,7 +91,7 @@ among-get (y ∷ xs) zero within = or-first (y == y) (is_among y xs) (itself y)
 among-get (y ∷ xs) (suc i) within = or-later (get_or xs i 0 == y) (is_among (get_or xs i 0) xs) (among-get xs i (omega (arith, within)))
 
 -- each of the lists has it
-noted-there : (lower : ℕ) (below : List (List ℕ)) (classes : List ℕ) (k : ℕ) → k < length below
+pub noted-there : (lower : ℕ) (below : List (List ℕ)) (classes : List ℕ) (k : ℕ) → k < length below
     → (is_among lower (list_at below k) ≡ true) ⊎ (is_among k classes ≡ true) → is_among lower (list_at (noted lower below classes) k) ≡ true
 noted-there lower below [] k within (inl h) = h
 noted-there lower below [] k within (inr h) = absurd (false_true h)
@@ -222,29 +222,31 @@ nothing-loaded p v none empty = record {
 
 -- ---- a walk down
 
-take-next : (xs more : List ℕ) (at next class : ℕ) → slice_get xs at ≡ Some next → is_among class (take (suc at) (xs ++ more)) ≡ true
-    → (is_among class (take at xs) ≡ true) ⊎ (class ≡ next)
-take-next [] more at next class e h = absurd (none-some next e)
-take-next (x ∷ xs) more zero next class e h =
+take-next : (xs more : List ℕ) (at d class : ℕ) → at < length xs → is_among class (take (suc at) (xs ++ more)) ≡ true
+    → (is_among class (take at xs) ≡ true) ⊎ (class ≡ get_or xs at d)
+take-next [] more at d class within h = absurd (omega (arith, within))
+take-next (x ∷ xs) more zero d class within h =
     elim (either (class == x) false h) [
-      | inl same ↦ inr (equal class x same ∙ some-some x next e)
+      | inl same ↦ inr (equal class x same)
       | inr none ↦ absurd (false_true none)
     ]
-take-next (x ∷ xs) more (suc at) next class e h =
+take-next (x ∷ xs) more (suc at) d class within h =
     elim (either (class == x) (is_among class (take (suc at) (xs ++ more))) h) [
       | inl same ↦ inl (or-first (class == x) (is_among class (take at xs)) same)
-      | inr behind ↦ elim (take-next xs more at next class e behind) [
+      | inr behind ↦ elim (take-next xs more at d class (omega (arith, within)) behind) [
         | inl a ↦ inl (or-later (class == x) (is_among class (take at xs)) a)
         | inr b ↦ inr b
       ]
     ]
 
 -- what stands in the list of the next one was added
-pub followed-next : (below : List (List ℕ)) (found new : List ℕ) (at next : ℕ) → slice_get found at ≡ Some next → IsFront found new
+pub followed-next : (below : List (List ℕ)) (found new : List ℕ) (at d next : ℕ) → at < length found → next ≡ get_or found at d → IsFront found new
     → Adds found new (list_at below next) → AreFollowed below (take at found) found → AreFollowed below (take (at + 1) new) new
-followed-next below found new at next there front adds before class lower among within =
-    elim (take-next found front.rest at next class there
+followed-next below found new at d next small there front adds before class lower among within =
+    elim (take-next found front.rest at d class small
     (sym (ap (λ l. is_among class (take (suc at) l)) front.is) ∙ (ap (λ n. is_among class (take n new)) (let e : suc at ≡ at + 1 = omega arith in e) ∙ among))) [
       | inl a ↦ front-among found new lower front (before class lower a within)
-      | inr same ↦ adds lower ∙ or-later (is_among lower found) (is_among lower (list_at below next)) (ap (λ k. is_among lower (list_at below k)) (sym same) ∙ within)
+      | inr same ↦
+          adds lower ∙ or-later (is_among lower found) (is_among lower (list_at below next))
+          (ap (λ k. is_among lower (list_at below k)) (there ∙ sym same) ∙ within)
     ]

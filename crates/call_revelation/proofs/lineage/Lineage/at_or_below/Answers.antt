@@ -1,5 +1,5 @@
-use Rattle.std.proofs.Common.{ap, sym, ◌∙◌}
-use Rattle.std.specs.Prelude.{slice_get}
+use Rattle.std.proofs.Common.{◌<◌, ap, get_or, length, subst, sym, ◌∙◌}
+use Rattle.std.proofs.lemmas.Bool.{ltb-true}
 use Rattle.class_index.specs.Orders.{with_classes}
 use Rattle.call_revelation.specs.Tables.{list_at}
 use Rattle.call_revelation.proofs.Adding.{adds-equal}
@@ -14,7 +14,8 @@ loop-at-preserved c =
     let new = c.add_more.new.order in
     let next = c.in-Some.next.now in (
       front-among found new c.args.class c.add_more.ensures.front c.loop-at.invariant.0,
-      followed-next below found new c.loop-at.at next
-          (ap (λ l. slice_get l c.loop-at.at) (sym c.as_slice.ensures) ∙ sym c.in-Some.ensures.lookup) c.add_more.ensures.front
+      followed-next below found new c.loop-at.at next next
+          (subst (λ l. c.loop-at.at < length l) c.as_slice.ensures (ltb-true c.loop-at.at (length c.as_slice.result.now) (sym c.in-Some.ensures.lookup.0)))
+          (c.in-Some.ensures.lookup.1 ∙ ap (λ l. get_or l c.loop-at.at next) c.as_slice.ensures) c.add_more.ensures.front
           (adds-equal found new (list_at below next) (c.in_ok-add_more.ensures.added ∙ ap (with_classes found) c.below-lower.ensures)) c.loop-at.invariant.1,
     )

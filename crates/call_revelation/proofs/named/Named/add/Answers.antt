@@ -1,10 +1,30 @@
-use Rattle.std.proofs.Common.{◌≡◌, ◌∙◌, ap, sym, subst, arith}
+use Rattle.std.proofs.Common.{◌≡◌, ◌∙◌, ap, refl, sym, subst, arith}
 use Rattle.std.specs.Vec.{with_items}
 use Rattle.std.proofs.lemmas.List.{with_items_is}
 use Rattle.jvm_model.specs.Load.{is_among}
 use Rattle.call_revelation.specs.Lineages.{IsClosed, IsNoted, noted}
-use Rattle.call_revelation.proofs.CalledLemmas.{handed-noted}
+use Rattle.call_revelation.proofs.CalledLemmas.{handed-kept, handed-noted}
 use Rattle.call_revelation.proofs.named.Named.add.Goals as goal
+
+pub returns-in_err-note-clause-handed : goal.returns-in_err-note-clause-handed
+returns-in_err-note-clause-handed c = λ p lined handed.
+    let old = c.args.self.now.above in
+    let new = c.note.new.lists in
+    let xs = c.as_slice.result.now in
+    let only = subst (λ l. IsNoted c.args.class xs l new) c.as_mut_slice.ensures.value c.note.ensures.only in
+    let is : (with_items old new).items ≡ new = with_items_is old new (omega (arith, only.places, old.ok.0)) in
+    handed-kept p c.args.lineage.now.loaded c.args.self.now (record { classes = c.args.self.now.classes; above = with_items old new }) c.args.class xs
+    (subst (IsNoted c.args.class xs old.items) (sym is) only) refl handed
+
+pub returns-in_err-add-clause-handed : goal.returns-in_err-add-clause-handed
+returns-in_err-add-clause-handed c = λ p lined handed.
+    let old = c.args.self.now.above in
+    let new = c.note.new.lists in
+    let xs = c.as_slice.result.now in
+    let only = subst (λ l. IsNoted c.args.class xs l new) c.as_mut_slice.ensures.value c.note.ensures.only in
+    let is : (with_items old new).items ≡ new = with_items_is old new (omega (arith, only.places, old.ok.0)) in
+    handed-kept p c.args.lineage.now.loaded c.args.self.now (record { classes = c.add.new.self; above = with_items old new }) c.args.class xs
+    (subst (IsNoted c.args.class xs old.items) (sym is) only) c.in_err-add.ensures handed
 
 pub returns-clause-handed : goal.returns-clause-handed
 returns-clause-handed c = λ p lined handed.
