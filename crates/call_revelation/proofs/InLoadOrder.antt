@@ -1,5 +1,5 @@
 -- Places that rise, and the classes that stand there.
-use Rattle.std.proofs.Common.{◌≡◌, ℕ, zero, suc, ◌+◌, ◌-◌, ◌<◌, ◌≤◌, Bool, true, false, List, [], ◌∷◌, length, ap, ap₂, sym, subst, refl, ◌∙◌, arith, inl, inr}
+use Rattle.std.proofs.Common.{◌≡◌, ℕ, zero, suc, ◌+◌, ◌-◌, ◌<◌, ◌≤◌, Bool, true, false, List, [], ◌∷◌, length, ap, sym, refl, ◌∙◌, arith, inl, inr}
 use Rattle.std.specs.Prelude.{Option, Some, None, filter, filter_map, slice_get, ◌==◌, ◌||◌, if◌then◌else◌}
 use Rattle.std.specs.List.{AllByRecursion, AllPairs, Contains, cons_option, slice_index_or}
 use Rattle.std.specs.List.Sorted.{IsStrictlyIncreasing}
@@ -7,7 +7,7 @@ use Rattle.std.specs.Option.{option_map_or}
 use Rattle.std.proofs.lemmas.List.Kept.{AllPairs-from_increasing}
 use Rattle.jvm_model.specs.Load.{is_among}
 use Rattle.call_revelation.specs.Tables.{IsRising}
-use Rattle.call_revelation.proofs.Adding.{alike, either, equal, itself, neither, or-first, or-later}
+use Rattle.call_revelation.proofs.Adding.{either, equal, itself, neither, or-first, or-later}
 
 false_true : false ≡ true → ⊥
 false_true e = cc

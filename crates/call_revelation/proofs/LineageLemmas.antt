@@ -207,8 +207,12 @@ pub direct-lead : (p : Program) (loaded : List ℕ) (class : ℕ) → HasSuperty
 direct-lead p loaded class above upper within sub =
     elim (step p class upper sub) [
       | inl same ↦ inl same
-      | inr s ↦ inr (record { by = s.by; there = s.there; within = direct-within p class s.by s.there;
-          leads = inr (loaded-before p loaded class above s.by s.there s.other, s.above) })
+      | inr s ↦ inr (record {
+        by = s.by;
+        there = s.there;
+        within = direct-within p class s.by s.there;
+        leads = inr (loaded-before p loaded class above s.by s.there s.other, s.above);
+      })
     ]
 
 pub nothing-noted : (p : Program) (items : List (List ℕ)) → items ≡ replicate (length p.classes) [] → length items ≡ length p.classes

@@ -1,13 +1,13 @@
 -- Places of classes in load order, and flags of methods.
-use Rattle.std.proofs.Common.{◌≡◌, ℕ, zero, suc, ◌<◌, ◌≤◌, Bool, true, false, List, [], ◌∷◌, ◌++◌, length, take, ap, sym, subst, refl, ◌∙◌, arith, inl, inr}
+use Rattle.std.proofs.Common.{◌≡◌, ℕ, zero, suc, ◌<◌, Bool, true, false, List, [], ◌∷◌, ◌++◌, length, take, ap, sym, refl, ◌∙◌, inl, inr}
 use Rattle.std.specs.Prelude.{Option, Some, None, is_some, not, replicate, slice_get, slice_set, unwrap_or, ◌==◌, ◌&&◌, ◌||◌, ◌⊎◌, if◌then◌else◌}
-use Rattle.std.specs.Option.{option_and_then, option_map}
+use Rattle.std.specs.Option.{option_map}
 use Rattle.jvm_model.specs.Load.{is_among}
 use Rattle.jvm_model.specs.Revealed.{without_method}
 use Rattle.call_revelation.specs.Ranks.{AreDistinct, AreFlagged, IsRanked, flag_at, rank_of}
 use Rattle.call_revelation.specs.Tables.{IsPadded}
-use Rattle.call_revelation.proofs.Adding.{among-filter, either, equal, itself, or-first, or-later}
-use Rattle.call_revelation.proofs.TableLemmas.{set-length, set-other, set-same}
+use Rattle.call_revelation.proofs.Adding.{among-filter, equal, itself, or-first, or-later}
+use Rattle.call_revelation.proofs.TableLemmas.{set-other, set-same}
 
 false_true : false ≡ true → ⊥
 false_true e = cc

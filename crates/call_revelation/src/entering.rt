@@ -74,7 +74,8 @@ impl Reveal {
     {
         self.book.read(alloc, linker, method)?;
         let lineage = &self.lineage;
-        self.named.add_read(alloc, linker, lineage, &self.book, method)?;
+        self.named
+            .add_read(alloc, linker, lineage, &self.book, method)?;
         let found = self.begun_in(alloc, linker, method)?;
         add_more(&mut self.stale, found.as_slice())?;
         add_more(&mut self.targets, found.as_slice())?;

@@ -35,11 +35,7 @@ pub fn note(lists: &mut [Seq<u32>], classes: &[u32], class: u32) -> Result<(), N
 }
 
 /// The superinterfaces of a class that it names itself, and its superclass.
-pub fn direct_supertypes(
-    alloc: Global,
-    linker: &Linker,
-    class: u32,
-) -> Result<Seq<u32>, NoMemory>
+pub fn direct_supertypes(alloc: Global, linker: &Linker, class: u32) -> Result<Seq<u32>, NoMemory>
     ensures { IfOk result (λ classes. classes ≡ direct linker.now.program class) }
 {
     let mut classes = linker.index().interfaces_of(alloc, class)?;

@@ -1,4 +1,4 @@
-use Rattle.std.proofs.Common.{◌≡◌, ◌∷◌, ◌++◌, [], ap, false, length, rules, subst, sym, ◌∙◌}
+use Rattle.std.proofs.Common.{◌≡◌, false, length, rules, subst, sym}
 use Rattle.std.specs.Prelude.{slice_set}
 use Rattle.jvm_model.specs.Load.{is_among}
 use Rattle.call_revelation.specs.Ranks.{IsRanked}

@@ -3,7 +3,7 @@ use Rattle.class_index.specs.Orders.{with_classes}
 use Rattle.call_revelation.specs.Reveals.{IsGrown, IsRevelation}
 use Rattle.call_revelation.proofs.Adding.{adds-equal}
 use Rattle.call_revelation.proofs.Fronts.{front-self}
-use Rattle.call_revelation.proofs.Grown.{grown-book, grown-more, grown-read, if-err}
+use Rattle.call_revelation.proofs.Grown.{grown-more, grown-read, if-err}
 use Rattle.call_revelation.proofs.Marking.{entered-more, kept-named, kept-read, named-more}
 use Rattle.call_revelation.proofs.reveal.Reveal.enter.Goals as goal
 

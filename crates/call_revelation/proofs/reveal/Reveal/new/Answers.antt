@@ -30,8 +30,8 @@ returns-clause-revelation c =
       own = c.in_ok-own.ensures ∙ ap₂ (λ (l : List MethodPlace) (n : ℕ). owned_from 0 l (replicate n [])) places c.len-classes.ensures;
       loaded = c.in_ok-lineage.ensures.loaded;
       selected = c.in_ok-selected.ensures;
-      entered = c.new-5.ensures;
+      entered = c.new-6.ensures;
       flags = c.in_ok-flags.ensures ∙ ap (λ (l : List MethodPlace). replicate (length l) false) places;
-      targets = c.new-6.ensures;
+      targets = c.new-7.ensures;
       shown = c.in_ok-shown.ensures ∙ ap (λ (l : List MethodPlace). replicate (length l) Off) places;
     })
