@@ -63,8 +63,19 @@ acted-by x y act acts n is =
       profile = n.profile;
       calls = n.calls;
       vm = n.vm ∙ ap (λ r. let v : View = record x.vm { marks = marks_of x.vm.program r } in v) (sym n.now);
-      fit = record { whole = f.whole; revelation = f.revelation; imageable = f.imageable; root = f.root; marks = f.marks; depth = f.depth; shallow = f.shallow; few = f.few; order = f.order; last = f.last;
-          room = f.room };
+      fit = record {
+        whole = f.whole;
+        revelation = f.revelation;
+        imageable = f.imageable;
+        root = f.root;
+        marks = f.marks;
+        depth = f.depth;
+        shallow = f.shallow;
+        few = f.few;
+        order = f.order;
+        last = f.last;
+        room = f.room;
+      };
       shown = n.shown;
       started = n.started;
       acts = is ∙ ap (λ l. l ++ act ∷ []) n.acts;

@@ -57,9 +57,10 @@ members-coded : (f : ℕ → Mark) (n : ℕ) (l : List Member) → ((i : ℕ) (m
     → MarkedHaveCode (map (λ (e : ℕ × Member). f e.0) (enumerate_from n l)) l
 members-coded f n [] each = tt
 members-coded f n (m ∷ l) each =
-    let e : n + 0 ≡ n = omega arith in
-    (λ on. each 0 m refl (ap (λ k. is_off (f k)) e ∙ on),
-    members-coded f (n + 1) l (λ i x found on. let q : n + suc i ≡ n + 1 + i = omega arith in each (suc i) x found (ap (λ k. is_off (f k)) q ∙ on)))
+    let e : n + 0 ≡ n = omega arith in (
+      λ on. each 0 m refl (ap (λ k. is_off (f k)) e ∙ on),
+      members-coded f (n + 1) l (λ i x found on. let q : n + suc i ≡ n + 1 + i = omega arith in each (suc i) x found (ap (λ k. is_off (f k)) q ∙ on)),
+    )
 
 pub marks-coded : (p : Program) (r : Revealed) → p.methods ≡ numbered p.classes → (class : ℕ) → MarkedHaveCode (marks_for p r class) (class_in p class).methods
 marks-coded p r are class =

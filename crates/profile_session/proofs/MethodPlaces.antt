@@ -152,8 +152,9 @@ in-numbered : (c : ℕ) (cs : List ClassFile) (i : ℕ) (x : MethodPlace) → sl
 in-numbered c [] i x found = absurd (let no : None ≡ Some x = found in cc)
 in-numbered c (y ∷ cs) i x found =
     elim (in-coded c 0 y.methods (numbered_from (c + 1) cs) i x found) [
-    inl here ↦ first here.0 here.1
-    | inr there ↦ later (in-numbered (c + 1) cs there.0 x there.1) ]
+      | inl here ↦ first here.0 here.1
+      | inr there ↦ later (in-numbered (c + 1) cs there.0 x there.1)
+    ]
   where
     first : x.class ≡ c → IsMember y.methods 0 x.position → IsNumbered c (y ∷ cs) x
     first e is =

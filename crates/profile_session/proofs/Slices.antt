@@ -215,8 +215,19 @@ flagged x r =
     let f = r.is.fit in
     record {
       is = record {
-        fit = record { whole = f.whole; revelation = f.revelation; imageable = f.imageable; root = f.root; marks = f.marks; depth = f.depth; shallow = f.shallow; few = f.few; order = f.order;
-            last = f.last; room = f.room };
+        fit = record {
+          whole = f.whole;
+          revelation = f.revelation;
+          imageable = f.imageable;
+          root = f.root;
+          marks = f.marks;
+          depth = f.depth;
+          shallow = f.shallow;
+          few = f.few;
+          order = f.order;
+          last = f.last;
+          room = f.room;
+        };
         shown = r.is.shown;
         whole = r.is.whole;
         from = r.is.from;
@@ -232,8 +243,17 @@ making-first x steps last next r going flag last_is next_is =
     let at : next ≡ next_step x.vm = next_is ∙ ap (λ b. if b then x.vm.clock + 1 else 0) flag in
     let up = next-clock x in
     let from = clock-next x r in
-    record { rests = flagged x r; world_is = refl; acts = refl; flag = refl; going = going; next_is = at; later = omega (arith, at, from); last_is = last_is;
-      low = omega (arith, at, up, last_is) }
+    record {
+      rests = flagged x r;
+      world_is = refl;
+      acts = refl;
+      flag = refl;
+      going = going;
+      next_is = at;
+      later = omega (arith, at, from);
+      last_is = last_is;
+      low = omega (arith, at, up, last_is);
+    }
 
 pub making-next : (first x new : Parts) (steps last next : ℕ) → Making first steps last next x → next ≤ last → Sliced x (last + 1 - next) false new → Making first steps last (new.vm.clock + 1) new
 making-next first x new steps last next m le s =

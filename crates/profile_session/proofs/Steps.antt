@@ -375,20 +375,23 @@ module _ (w : World) (is : IsWhole w.program) (acts : List Act) (from : AreFrom 
       → (new : View) → new ≡ record (stopped v) { marks = marks } → InStep acts w (es ++ e ∷ []) later new × (events_left new ≡ events_left (stopped v))
   goes-on es k v e later marks s told is_later marked events lives new is_new =
       let tells : events_left v ≡ e ∷ events_left (stopped v) = stop-tells v e told in
-      subst (λ (x : View). InStep acts w (es ++ e ∷ []) later x × (events_left x ≡ events_left (stopped v))) (sym is_new) (record {
-        same = s.same;
-        whole = s.whole;
-        going = s.going;
-        started = s.started;
-        kept = ap₂ (λ k es. fold (kept_event p) k es) is_later events ∙ (ap (fold (kept_event p) k) (sym tells) ∙ s.kept);
-        told = ap (λ l. (es ++ e ∷ []) ++ l) events ∙ (append_assoc es (e ∷ []) (events_left (stopped v)) ∙ (ap (λ l. es ++ l) (sym tells) ∙ s.told));
-        lives = lives ∙ (stop-lives v ∙ s.lives);
-        marks = marked;
-        loaded = ap (λ (k : Kept). k.seen.loaded) is_later ∙ (ap (λ (s : Seen). s.loaded) (event-seen p k e) ∙ s.loaded);
-        order = stays-ordered v s.order;
-        none = s.none;
-        moments = s.moments;
-      }, events)
+      subst (λ (x : View). InStep acts w (es ++ e ∷ []) later x × (events_left x ≡ events_left (stopped v))) (sym is_new) (
+        record {
+          same = s.same;
+          whole = s.whole;
+          going = s.going;
+          started = s.started;
+          kept = ap₂ (λ k es. fold (kept_event p) k es) is_later events ∙ (ap (fold (kept_event p) k) (sym tells) ∙ s.kept);
+          told = ap (λ l. (es ++ e ∷ []) ++ l) events ∙ (append_assoc es (e ∷ []) (events_left (stopped v)) ∙ (ap (λ l. es ++ l) (sym tells) ∙ s.told));
+          lives = lives ∙ (stop-lives v ∙ s.lives);
+          marks = marked;
+          loaded = ap (λ (k : Kept). k.seen.loaded) is_later ∙ (ap (λ (s : Seen). s.loaded) (event-seen p k e) ∙ s.loaded);
+          order = stays-ordered v s.order;
+          none = s.none;
+          moments = s.moments;
+        },
+        events,
+      )
 
   -- behind an event that opens a path, with the images installed
   pub opened : (es : List Event) (k : Kept) (v : View) (e : Event) → InStep acts w es k v → next_event v ≡ Some e → opens k.seen.open e.kind ≡ true → (new : View)

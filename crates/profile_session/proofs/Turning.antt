@@ -150,8 +150,10 @@ module _ (w : World) (is : IsWhole w.program) (acts : List Act) (from : AreFrom 
           loaded = sym (ap (λ (s : Seen). s.loaded) (load-seen p mid.clock k classes)) ∙ (there.loaded ∙ sym state);
           order = subst (IsLoadOrder p []) (sym state) (run-order w (revealable w is) mid.clock);
         };
-        behind = λ new e. (subst (InStep acts w (es ++ []) later) (sym e) (subst (λ es. InStep acts w es later (record mid { marks = marks_seen p later.seen })) (sym (append-nil es)) there),
-            ap is_resting e ∙ ap (λ (v : View). is_resting (record v { marks = marks_seen p later.seen })) t.stepped);
+        behind = λ new e. (
+          subst (InStep acts w (es ++ []) later) (sym e) (subst (λ es. InStep acts w es later (record mid { marks = marks_seen p later.seen })) (sym (append-nil es)) there),
+          ap is_resting e ∙ ap (λ (v : View). is_resting (record v { marks = marks_seen p later.seen })) t.stepped,
+        );
       }
 
   tell-heard : (es : List Event) (k : Kept) (old mid : View) (e : Event) → Stands acts w es k old → IsGoingOn old → Tells old e mid → Heard old es k (Probe e) mid
@@ -169,9 +171,11 @@ module _ (w : World) (is : IsWhole w.program) (acts : List Act) (from : AreFrom 
           few = (let f = fewer es k v e s t.next in omega (arith, f, clock));
         };
         behind = λ new e'.
-            let there = event-heard es k v mid e s t.next t.stepped new e' in
-            (there.0, ap is_resting e' ∙ (ap (λ (v : View). is_resting (record v { marks = marks_seen p (kept_event p k e).seen })) t.stepped ∙ stopped-busy v e t.next),
-            ap (λ l. suc (length l)) there.1 ∙ sym (ap length (stop-tells v e t.next)));
+            let there = event-heard es k v mid e s t.next t.stepped new e' in (
+              there.0,
+              ap is_resting e' ∙ (ap (λ (v : View). is_resting (record v { marks = marks_seen p (kept_event p k e).seen })) t.stepped ∙ stopped-busy v e t.next),
+              ap (λ l. suc (length l)) there.1 ∙ sym (ap length (stop-tells v e t.next)),
+            );
       }
 
   pub turn-heard : (es : List Event) (k : Kept) (old mid : View) (turn : Turn) → Stands acts w es k old → IsGoingOn old → Turns old turn mid → is_telling turn ≡ true

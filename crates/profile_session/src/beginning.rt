@@ -33,8 +33,8 @@ pub fn begin(alloc: Global, vm: Vm) -> Result<Parts, NoMemory>
     ensures stands { IfOk result Stands }
     ensures seen { IfOk result (λ x. profiling_in false false x ≡ profiling_of vm.program vm.input) }
 {
-    let reveal = reveal_first(alloc, &vm)?;
     let buffer = Events::new(alloc, 65536)?;
+    let reveal = reveal_first(alloc, &vm)?;
     Ok(Parts {
         alloc,
         vm,

@@ -179,7 +179,8 @@ impl Session {
             moment,
             select,
             method,
-        }) else {
+        })
+        else {
             return Err(ActError::NoMemory);
         };
         self.broken = false;

@@ -113,7 +113,10 @@ fn make(alloc: Global, reveal: &Reveal, program: &Program, class: u32) -> Result
 {
     let count = method_count(program, class);
     let marks = marks_of(alloc, reveal, program, class, count)?;
-    let Image { class: image, homes } = image_for(alloc, program, class, &marks)?;
+    let Image {
+        class: image,
+        homes,
+    } = image_for(alloc, program, class, &marks)?;
     let bytes = write_class(alloc, &image)?;
     Ok(Made {
         marks,
@@ -123,12 +126,7 @@ fn make(alloc: Global, reveal: &Reveal, program: &Program, class: u32) -> Result
 }
 
 /// Makes the image of a class for the marks of now, and redefines the class by its bytes.
-fn swap_class(
-    alloc: Global,
-    vm: &mut Vm,
-    reveal: &Reveal,
-    class: u32,
-) -> Result<Swap, NoMemory>
+fn swap_class(alloc: Global, vm: &mut Vm, reveal: &Reveal, class: u32) -> Result<Swap, NoMemory>
     requires whole { vm.old.broken ≡ false }
     requires revelation { IsRevelation vm.old.program reveal.now }
     requires known { class < length vm.old.program.classes }
@@ -137,7 +135,7 @@ fn swap_class(
         IfOk result (λ swap. swap ≡ swap_now p vm.old.clock (now_of reveal.now) class) }
     ensures vm { let marks = marks_for vm.old.program (now_of reveal.now) class in
         MatchResult result (λ swap. vm.new ≡ with_class class marks vm.old)
-            (λ e. world vm.new ≡ world vm.old) }
+        (λ e. world vm.new ≡ world vm.old) }
 {
     let clock = vm.clock();
     let made = make(alloc, reveal, vm.program(), class)?;

@@ -10,8 +10,12 @@ reveal_first-requires-clause-whole c = ap (λ (v : View). v.broken) c.requires.f
 pub reveal_first-requires-clause-early : goal.reveal_first-requires-clause-early
 reveal_first-requires-clause-early c = ap (λ (v : View). v.started) c.requires.fresh
 
+pub reveal_first-requires-clause-profilable : goal.reveal_first-requires-clause-profilable
+reveal_first-requires-clause-profilable c = c.requires.profilable
+
 pub returns-clause-stands : goal.returns-clause-stands
-returns-clause-stands c = ?
+returns-clause-stands c =
+    begun-stands _ c.requires.fresh c.requires.profilable c.in_ok-reveal.ensures (search rules) (search rules) refl (search rules) (search rules) refl
 
 pub returns-clause-seen : goal.returns-clause-seen
 returns-clause-seen c =
