@@ -27,17 +27,17 @@ fn reveal_first(alloc: Global, vm: &Vm) -> Result<Reveal, NoMemory>
 }
 
 /// The parts of a session on a machine that was just made. Its buffer has 65,536 bytes.
-pub fn begin(alloc: Global, vm: Vm) -> Result<Parts, NoMemory>
-    requires fresh { vm ≡ made vm.program vm.input }
-    requires profilable { CanBeProfiled vm.program }
+pub fn begin(alloc: Global, vm: Box<Vm>) -> Result<Parts, NoMemory>
+    requires fresh { vm.value ≡ made vm.value.program vm.value.input }
+    requires profilable { CanBeProfiled vm.value.program }
     ensures stands { IfOk result Stands }
-    ensures seen { IfOk result (λ x. profiling_in false false x ≡ profiling_of vm.program vm.input) }
+    ensures seen { IfOk result (λ x. profiling_in false false x ≡ profiling_of vm.value.program vm.value.input) }
 {
     let buffer = Events::new(alloc, 65536)?;
     let reveal = reveal_first(alloc, &vm)?;
     Ok(Parts {
         alloc,
-        vm,
+        vm: Box::into_inner(vm),
         reveal,
         tree: Tree::new(alloc),
         buffer,

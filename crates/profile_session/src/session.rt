@@ -60,10 +60,11 @@ fn run_by(ended: bool) -> Run
 
 impl Session {
     /// A session on a machine that was just made: no step was made, no image installed. After an Err the machine is given up.
-    pub fn new(alloc: Global, vm: Vm) -> Result<Session, NoMemory>
-        requires fresh { vm ≡ made vm.program vm.input }
-        requires profilable { CanBeProfiled vm.program }
-        ensures { IfOk result (λ session. session ≡ profiling_of vm.program vm.input) }
+    pub fn new(alloc: Global, vm: Box<Vm>) -> Result<Session, NoMemory>
+        requires fresh { vm.value ≡ made vm.value.program vm.value.input }
+        requires profilable { CanBeProfiled vm.value.program }
+        ensures { IfOk result (λ session. session
+            ≡ profiling_of vm.value.program vm.value.input) }
     {
         let parts = begin(alloc, vm)?;
         Ok(Session {
