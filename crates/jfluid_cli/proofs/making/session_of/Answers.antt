@@ -9,7 +9,7 @@ made-again : (v : View) (p : Program) (input : List ℕ) → v ≡ made p input 
 made-again v p input is = is ∙ sym (ap (λ (x : View). made x.program x.input) is)
 
 pub new-requires-clause-fresh : goal.new-requires-clause-fresh
-new-requires-clause-fresh c = made-again c.in_ok-vm.vm c.args.program c.args.input.items c.in_ok-vm.ensures
+new-requires-clause-fresh c = made-again c.in_ok-vm.vm.value c.args.program c.args.input.items c.in_ok-vm.ensures
 
 pub new-requires-clause-profilable : goal.new-requires-clause-profilable
 new-requires-clause-profilable c =
