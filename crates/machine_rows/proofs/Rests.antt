@@ -1,10 +1,10 @@
 -- Behind a turn that says so no step is in hand.
-use Rattle.std.proofs.Common.{◌≡◌, ℕ, Bool, true, false, [], refl, sym, ap, ◌∙◌, subst}
+use Rattle.std.proofs.Common.{◌≡◌, Bool, true, false, refl, sym, ap, ◌∙◌, subst}
 use Rattle.std.specs.Prelude.{◌&&◌, if◌then◌else◌}
 use Rattle.jvm_machine.specs.declared.turn.Turn.{Turn}
 use Rattle.jvm_machine.specs.declared.turn.Turn.TheVariants as turn
 use Rattle.jvm_machine.specs.Turns.{Turns}
-use Rattle.jvm_machine.specs.View.{View, begun, has_ended, is_resting, made, rested}
+use Rattle.jvm_machine.specs.View.{View, begun, has_ended, is_resting, rested}
 use Rattle.machine_rows.specs.declared.line.Line.{Line}
 use Rattle.machine_rows.specs.declared.line.Line.TheVariants as line
 use Rattle.machine_rows.specs.Played.{IsPlayed}

@@ -2,9 +2,6 @@
 use Rattle.std.specs.Prelude.{◌≡◌, ℕ, true, List, [], ◌∷◌, Some, length}
 use Rattle.class_shape.specs.declared.error.SwapError.{SwapError}
 use Rattle.hotswap.specs.Redefining.{IsRefused}
-use Rattle.jvm_model.specs.declared.program.Program.{Program}
-use Rattle.jvm_model.specs.declared.event.Mark.{Mark}
-use Rattle.jvm_model.specs.declared.ending.Ending.{Ending}
 use Rattle.jvm_machine.specs.declared.turn.Turn.{Turn}
 use Rattle.jvm_machine.specs.Installs.{with_class}
 use Rattle.jvm_machine.specs.Several.{RunsOn}

@@ -1,5 +1,5 @@
 -- What is known of a row's machine while its lines are played.
-use Rattle.std.specs.Prelude.{◌≡◌, ℕ, Bool, false, List, [], Option, Some}
+use Rattle.std.specs.Prelude.{◌≡◌, ℕ, false, List, [], Option, Some}
 use Rattle.const_pool.specs.declared.class.ClassFile.{ClassFile}
 use Rattle.const_pool.specs.ClassFile.{IsClassFile}
 use Rattle.code_model.specs.declared.laying.Homes.{Homes}

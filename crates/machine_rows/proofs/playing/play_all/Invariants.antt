@@ -1,4 +1,4 @@
-use Rattle.std.proofs.Common.{◌≡◌, List, drop, map, true}
+use Rattle.std.proofs.Common.{◌≡◌, drop, map, true}
 use Rattle.jvm_machine.specs.View.{View, is_resting}
 use Rattle.machine_rows.specs.Played.{Plays}
 use Rattle.machine_rows.specs.Ready.{IsReady}
