@@ -1,0 +1,57 @@
+-- The image of a class of an admitted program, from its bytes.
+use Rattle.std.proofs.Common.{◌≡◌, ℕ, zero, suc, ◌<◌, ◌≤◌, List, [], ◌∷◌, length, Option, Some, subst, sym}
+use Rattle.std.specs.Prelude.{slice_get}
+use Rattle.std.specs.List.{AllByRecursion}
+use Rattle.std.proofs.lemmas.Option.{same_Some, slice_get_within}
+use Rattle.const_pool.specs.declared.class.ClassFile.{ClassFile}
+use Rattle.const_pool.specs.ClassFile.{IsClassFile, Spells}
+use Rattle.code_model.specs.declared.laying.Homes.{Homes}
+use Rattle.jvm_model.specs.declared.event.Mark.{Mark}
+use Rattle.jvm_model.specs.declared.program.Program.{Program}
+use Rattle.jvm_model.specs.Images.{IsImage}
+use Rattle.jvm_model.specs.Programs.{class_at}
+use Rattle.jvm_model.specs.Swaps.{first_number}
+use Rattle.class_reader.proofs.Files.{one_class}
+use Rattle.inject_events.specs.Answers.{IsReadableClass, MarkedHaveCode}
+use Rattle.hotswap.specs.Redefining.{SpellsImage}
+use Rattle.jvm_machine.specs.Installs.{IsImageOf}
+use Rattle.program_fit.specs.Runnable.{IsAdmitted}
+use Rattle.machine_rows.specs.Ready.{IsImageFile, IsUnfit}
+
+at : {X : Type 0} (P : X → Type 0) (xs : List X) (i : ℕ) (x : X) → AllByRecursion P xs → slice_get xs i ≡ Some x → P x
+at P [] i x all e = absurd cc
+at P (y ∷ ys) zero x all e = subst P (same_Some y x e) all.0
+at P (y ∷ ys) (suc i) x all e = at P ys i x all.1 e
+
+pub few-methods : (p : Program) → IsAdmitted p → length p.methods ≤ 32768
+few-methods p a = a.is.sound.few
+
+pub readable : (p : Program) (class : ℕ) (c : ClassFile) → IsAdmitted p → class_at p class ≡ Some c → IsReadableClass c
+readable p class c a there = at IsReadableClass p.classes class c a.is.readable there
+
+-- what `instrument` makes of the class
+pub image-file : (p : Program) (class : ℕ) (marks : List Mark) (c image : ClassFile) (homes : List (Option Homes)) → IsAdmitted p → class_at p class ≡ Some c → length marks ≡ length c.methods → MarkedHaveCode marks c.methods
+    → (MarkedHaveCode marks c.methods → IsImage c (first_number p class) marks image homes) → (IsClassFile c → IsClassFile image) → IsImageFile p class marks image homes
+image-file p class marks c image homes a there counted have made formed = record {
+  made = record { file = c; there = there; counted = counted; imaged = made have };
+  formed = formed (at IsClassFile p.classes class c a.is.sound.formed there);
+}
+
+-- its bytes spell nothing else
+spells-only : (p : Program) (class : ℕ) (bytes : List ℕ) (marks : List Mark) (image : ClassFile) (homes : List (Option Homes)) → IsImageFile p class marks image homes → Spells bytes image
+    → SpellsImage p class bytes marks homes
+spells-only p class bytes marks image homes file spelled =
+    λ original other there swap. subst (λ x. IsImageOf p class marks x homes) (one_class bytes image other spelled swap.spelled) file.made
+
+pub spells-image : (p : Program) (class : ℕ) (bytes same : List ℕ) (marks : List Mark) (image : ClassFile) (homes stay : List (Option Homes)) → IsImageFile p class marks image homes → Spells bytes image
+    → same ≡ bytes → stay ≡ homes → SpellsImage p class same marks stay
+spells-image p class bytes same marks image homes stay file spelled e h =
+    subst (λ b. SpellsImage p class b marks stay) (sym e) (subst (λ hs. SpellsImage p class bytes marks hs) (sym h) (spells-only p class bytes marks image homes file spelled))
+
+-- bytes that redefine no class
+pub spells-none : (p : Program) (class : ℕ) (bytes : List ℕ) (marks : List Mark) (homes : List (Option Homes)) → IsUnfit p class bytes → SpellsImage p class bytes marks homes
+spells-none p class bytes marks homes unfit = λ original other there swap. absurd (unfit original other there swap)
+
+-- a class that has an image is one of the program's
+pub image-known : (p : Program) (class : ℕ) (marks : List Mark) (image : ClassFile) (homes : List (Option Homes)) → IsImageFile p class marks image homes → class < length p.classes
+image-known p class marks image homes file = slice_get_within p.classes class file.made.file file.made.there

@@ -1,0 +1,4 @@
+mod Images
+mod Plays
+mod Rests
+mod Stays

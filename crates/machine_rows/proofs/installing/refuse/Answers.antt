@@ -1,0 +1,24 @@
+use Rattle.std.proofs.Common.{[], Ok, ap, ◌∙◌, subst}
+use Rattle.hotswap.specs.Redefining.{IsRefused}
+use Rattle.program_fit.proofs.Runs.{runnable}
+use Rattle.machine_rows.proofs.Images.{spells-none}
+use Rattle.machine_rows.proofs.Stays.{same-ready}
+use Rattle.machine_rows.proofs.installing.refuse.Goals as goal
+
+pub redefine-requires-clause-image : goal.redefine-requires-clause-image
+redefine-requires-clause-image c = spells-none c.args.vm.now.program c.args.class c.args.bytes.now [] [] (c.is_unfit.ensures.unfit (c.in_ok-is_unfit.was ∙ ap Ok c.if-not-branch.false))
+
+pub returns-in-Err-clause-refused : goal.returns-in-Err-clause-refused
+returns-in-Err-clause-refused c = λ e. record {
+  refused = subst (IsRefused c.args.vm.now.program c.args.class c.args.bytes.now) (c.same_refusal.ensures.same e) (c.in-Err.ensures.refused (c.same_refusal.ensures.found e));
+  same = c.in-Err.ensures.err;
+}
+
+pub returns-in-Err-clause-ready : goal.returns-in-Err-clause-ready
+returns-in-Err-clause-ready c = λ e. same-ready c.args.vm.now c.redefine.new.vm c.requires c.in-Err.ensures.err
+
+pub redefine-requires-clause-formed : goal.redefine-requires-clause-formed
+redefine-requires-clause-formed c = (runnable c.args.vm.now.program c.requires.admitted).formed
+
+pub redefine-requires-clause-known : goal.redefine-requires-clause-known
+redefine-requires-clause-known c = c.is_unfit.ensures.known (c.in_ok-is_unfit.was ∙ ap Ok c.if-not-branch.false)

@@ -1,0 +1,21 @@
+//! The verdict on a row.
+
+use crate::making::make;
+use crate::parts::{RowError, fetch_text, lines_of};
+use crate::playing::{Failure, play_all};
+use crate::reading::read_lines;
+use jf_bytes::Files;
+use std::alloc::Global;
+
+/// What of a row came otherwise, if anything did.
+pub fn judge<F: Files>(
+    alloc: Global,
+    row: &str,
+    files: &mut F,
+) -> Result<Option<Failure>, RowError> {
+    let text = fetch_text(alloc, row, files)?;
+    let lines = lines_of(alloc, text.as_str())?;
+    let mut vm = make(alloc, &lines, files)?;
+    let placed = read_lines(alloc, vm.program(), &lines, files)?;
+    Ok(play_all(alloc, &mut *vm, &placed)?)
+}

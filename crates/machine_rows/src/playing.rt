@@ -1,0 +1,173 @@
+//! Plays the lines of a row on a machine.
+
+ghost use Rattle.std.specs.Prelude.{◌≡◌, ◌≢◌, None, Ok, map, true};
+ghost use Rattle.jvm_machine.specs.View.{is_resting};
+ghost use Rattle.jvm_machine.specs.declared.turn.Turn.TheVariants.{NoMemory as of_memory};
+ghost use Rattle.machine_rows.specs.Played.{IsPlayed, IsRun, IsTurned, PlaysAll};
+ghost use Rattle.machine_rows.specs.Ready.{IsFresh, IsReady};
+ghost use Rattle.machine_rows.specs.Resting.{rests_at, rests_behind};
+
+use crate::installing::{install, refuse};
+use crate::line::{Line, Placed};
+use crate::turns::{Difference, is_same_turn};
+use jf_bytes::NoMemory;
+use jvm_machine::{Turn, Vm};
+use jvm_model::Ending;
+use std::alloc::Global;
+use std::fmt;
+
+/// The most steps of a row, and the most of one call.
+const MOST_STEPS: u64 = 1_000_000_000_000;
+
+/// A line of which another thing came.
+#[derive(Drop)]
+pub struct Failure {
+    pub number: usize,
+    pub difference: Difference,
+}
+
+impl fmt::Display for Failure {
+    fn fmt<W: fmt::Write>(&self, f: &mut fmt::Formatter<W>) -> fmt::Result {
+        write!(f, "line {}: {}", self.number, self.difference)
+    }
+}
+
+/// What came in place of the wanted turn.
+fn compared(wanted: &Turn, clock: u64, came: Turn, now: u64) -> Result<Option<Difference>, NoMemory>
+    ensures turn { result ≡ Ok None → came ≡ wanted.now }
+    ensures clock { result ≡ Ok None → now ≡ clock }
+    ensures found { result ≡ Ok None → came ≢ of_memory }
+{
+    if let Turn::NoMemory = came {
+        return Err(NoMemory);
+    }
+    if is_same_turn(wanted, &came) && now == clock {
+        return Ok(None);
+    }
+    Ok(Some(Difference::Turned(came, now)))
+}
+
+/// Asks for one turn.
+fn turn(vm: &mut Vm, wanted: &Turn, clock: u64) -> Result<Option<Difference>, NoMemory>
+    requires { IsReady vm.old }
+    ensures turned { result ≡ Ok None → IsTurned vm.old wanted.now clock vm.new }
+    ensures ready { result ≡ Ok None → IsReady vm.new }
+{
+    if vm.clock() > MOST_STEPS {
+        return Ok(Some(Difference::Exhausted));
+    }
+    let came = vm.step();
+    compared(wanted, clock, came, vm.clock())
+}
+
+/// Asks for several steps, where no step is in hand.
+fn run(
+    vm: &mut Vm,
+    most: u64,
+    wanted: &Turn,
+    clock: u64,
+    resting: bool,
+) -> Result<Option<Difference>, NoMemory>
+    requires ready { IsReady vm.old }
+    requires rests { resting ≡ true → is_resting vm.old ≡ true }
+    ensures ran { result ≡ Ok None → IsRun vm.old most wanted.now clock vm.new }
+    ensures ready { result ≡ Ok None → IsReady vm.new }
+{
+    if vm.clock() > MOST_STEPS || most > MOST_STEPS || most == 0 || !resting {
+        return Ok(Some(Difference::Exhausted));
+    }
+    let came = vm.run_on(most);
+    compared(wanted, clock, came, vm.clock())
+}
+
+fn same_ending(wanted: Ending, came: Option<Ending>) -> Option<Difference>
+    ensures { result ≡ None → came ≡ Some wanted }
+{
+    match came {
+        Some(ending) if ending == wanted => None,
+        other => Some(Difference::Ended(other)),
+    }
+}
+
+fn same_output(wanted: &[u8], came: &[u8]) -> Option<Difference>
+    ensures { result ≡ None → came.now ≡ wanted.now }
+{
+    if came == wanted {
+        return None;
+    }
+    Some(Difference::Printed)
+}
+
+fn same_count(wanted: u32, came: u32) -> Option<Difference>
+    ensures { result ≡ None → came ≡ wanted }
+{
+    if came == wanted {
+        return None;
+    }
+    Some(Difference::Lives(came))
+}
+
+/// Whether no step is in hand behind a turn.
+fn rests_at(turn: &Turn) -> bool
+    ensures { result ≡ rests_at turn.now }
+{
+    match turn {
+        Turn::Settled | Turn::Ended => true,
+        Turn::Probe(_) | Turn::Loaded(_) | Turn::Broken | Turn::NoMemory => false,
+    }
+}
+
+/// Whether no step is in hand behind a line, where it is known whether one was before.
+fn rests_behind(line: &Line, resting: bool) -> bool
+    ensures { result ≡ rests_behind line.now resting }
+{
+    match line {
+        Line::Turned(turn, _) => rests_at(turn),
+        Line::Ran(_, turn, _) => rests_at(turn),
+        Line::Installed(..) | Line::Refused(..) => resting,
+        Line::Ended(_) | Line::Printed(_) | Line::Lives(_) => resting,
+    }
+}
+
+/// Plays a line.
+fn play(
+    alloc: Global,
+    vm: &mut Vm,
+    line: &Line,
+    resting: bool,
+) -> Result<Option<Difference>, NoMemory>
+    requires ready { IsReady vm.old }
+    requires rests { resting ≡ true → is_resting vm.old ≡ true }
+    ensures played { result ≡ Ok None → IsPlayed line.now vm.old vm.new }
+    ensures ready { result ≡ Ok None → IsReady vm.new }
+{
+    match line {
+        Line::Turned(wanted, clock) => turn(vm, wanted, *clock),
+        Line::Ran(most, wanted, clock) => run(vm, *most, wanted, *clock, resting),
+        Line::Installed(class, marks) => install(alloc, vm, *class, marks.as_slice()),
+        Line::Refused(class, bytes, refusal) => {
+            refuse(alloc, vm, *class, bytes.as_slice(), *refusal)
+        }
+        Line::Ended(wanted) => Ok(same_ending(*wanted, vm.ending())),
+        Line::Printed(wanted) => Ok(same_output(wanted.as_slice(), vm.output())),
+        Line::Lives(wanted) => Ok(same_count(*wanted, vm.live())),
+    }
+}
+
+/// Plays the lines of a row, up to the first of which another thing comes.
+pub fn play_all(alloc: Global, vm: &mut Vm, lines: &[Placed]) -> Result<Option<Failure>, NoMemory>
+    requires { IsFresh vm.old }
+    ensures { result ≡ Ok None → PlaysAll (map (λ l. l.line) lines.now) vm.old }
+{
+    let mut resting = true;
+    for placed in lines {
+        if let Some(difference) = play(alloc, vm, &placed.line, resting)? {
+            return Ok(Some(Failure {
+                number: placed.number,
+                difference,
+            }));
+        }
+        resting = rests_behind(&placed.line, resting);
+    }
+    Ok(None)
+}
