@@ -37,8 +37,10 @@ impl Parts {
         if !is_telling(&turn) {
             return Err(NoMemory);
         }
-        self.hear(&turn)?;
-        Ok(turn)
+        match self.hear(&turn) {
+            Ok(()) => Ok(turn),
+            Err(error) => Err(error),
+        }
     }
 
     /// Steps that tell nothing, the turn behind them, and what the session does behind that.
@@ -55,8 +57,10 @@ impl Parts {
         if !is_telling(&turn) {
             return Err(NoMemory);
         }
-        self.hear(&turn)?;
-        Ok(turn)
+        match self.hear(&turn) {
+            Ok(()) => Ok(turn),
+            Err(error) => Err(error),
+        }
     }
 
     /// The rest of the step in hand. Says whether the run has ended in it.

@@ -152,9 +152,10 @@ fn swap_class(alloc: Global, vm: &mut Vm, reveal: &Reveal, class: u32) -> Result
             class,
             image: Seq::from_vec(made.bytes),
         }),
-        // Its bytes spell an image of the class.
-        Err(SwapError::Unreadable(_) | SwapError::NotSameShape(_)) => unreachable!(),
         Err(SwapError::NoMemory) => Err(NoMemory),
+        // Its bytes spell an image of the class.
+        Err(SwapError::Unreadable(_)) => unreachable!(),
+        Err(SwapError::NotSameShape(_)) => unreachable!(),
     }
 }
 

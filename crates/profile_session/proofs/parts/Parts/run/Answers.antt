@@ -1,11 +1,18 @@
-use Rattle.std.proofs.Common.{sym}
+use Rattle.std.proofs.Common.{sym, ◌∙◌}
 use Rattle.profile_session.proofs.Slices.{ran, ran-hearable}
+use Rattle.profile_session.proofs.Worlds.{run-world}
 use Rattle.profile_session.proofs.parts.Parts.run.Goals as goal
+
+pub returns-then-not-is_telling : goal.returns-then-not-is_telling
+returns-then-not-is_telling c = run-world c.args.self.now.vm c.run_on-turn.new.self c.args.most c.run_on-turn.result c.run_on-turn.ensures
 
 pub hear-requires-clause-hearable : goal.hear-requires-clause-hearable
 hear-requires-clause-hearable c =
     ran-hearable c.args.self.now c.args.most c.run_on-turn.result c.run_on-turn.new.self c.requires.rests c.requires.going c.run_on-turn.ensures (sym c.if-not-is_telling.ensures) c.requires.below
 
-pub returns : goal.returns
-returns c =
-    ran c.args.self.now c.hear.new.self c.args.most c.run_on-turn.result c.run_on-turn.new.self c.requires.rests c.requires.going c.run_on-turn.ensures (sym c.if-not-is_telling.ensures) c.in_ok-hear.ensures
+pub returns-in-Ok : goal.returns-in-Ok
+returns-in-Ok c =
+    ran c.args.self.now c.hear.new.self c.args.most c.run_on-turn.result c.run_on-turn.new.self c.requires.rests c.requires.going c.run_on-turn.ensures (sym c.if-not-is_telling.ensures) c.in-Ok.ensures
+
+pub returns-in-Err : goal.returns-in-Err
+returns-in-Err c = c.in-Err.ensures ∙ run-world c.args.self.now.vm c.run_on-turn.new.self c.args.most c.run_on-turn.result c.run_on-turn.ensures

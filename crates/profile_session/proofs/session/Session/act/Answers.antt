@@ -4,6 +4,11 @@ use Rattle.profile_session.specs.Sessions.{Profiling, is_over, is_selected_in, p
 use Rattle.profile_session.proofs.Sessions.{accepts, act-world, acted-stands, breaks-off, refused, ungathered}
 use Rattle.profile_session.proofs.session.Session.act.Goals as goal
 
+pub returns-then-is_over-clause-err : goal.returns-then-is_over-clause-err
+returns-then-is_over-clause-err c =
+    let whole = sym (ap (λ (v : Profiling). v.broken) c.self.view_is) ∙ c.if-self.false in
+    record { whole = whole; over = sym (c.is_over.ensures whole) ∙ c.if-is_over.true; same = refl }
+
 pub returns-in-Some-clause-err : goal.returns-in-Some-clause-err
 returns-in-Some-clause-err c =
     let whole = sym (ap (λ (v : Profiling). v.broken) c.self.view_is) ∙ c.if-self.false in
