@@ -44,7 +44,6 @@ pub mod Told
 pub mod Pauses
 pub mod StepPauses
 pub mod InHand
-pub mod Probed
 pub mod Versions
 pub mod ImageTables
 pub mod Homed
@@ -59,7 +58,6 @@ pub mod StandsFor
 pub mod Agreement
 pub mod Installed
 pub mod Attempts
-pub mod OneClass
 pub mod Quiet
 pub mod Starting
 pub mod Meanings
