@@ -2,7 +2,6 @@
 use Rattle.std.proofs.Common.{◌≡◌, ℕ, zero, suc, ◌+◌, ◌<◌, Bool, true, false, List, [], ◌∷◌, drop, length, refl, sym, ap, ap₂, subst, ◌∙◌, arith}
 use Rattle.std.specs.Prelude.{is_some, not, ◌==◌, ◌&&◌, if◌then◌else◌}
 use Rattle.std.proofs.lemmas.Bool.{and_parts}
-use Rattle.frame_stack.specs.FrameLists.{FramesView}
 use Rattle.jvm_model.specs.declared.due.Due.TheVariants.{Nothing}
 use Rattle.jvm_model.specs.declared.event.Mark.{Mark}
 use Rattle.jvm_model.specs.declared.state.State.{State}
@@ -23,7 +22,7 @@ use Rattle.jvm_steps.specs.declared.hands.Hand.{Hand}
 use Rattle.jvm_steps.specs.declared.markers.Marker.{Marker}
 use Rattle.jvm_steps.specs.declared.parts.Parts.{Parts}
 use Rattle.jvm_steps.specs.Markers.{state_of}
-use Rattle.jvm_steps.specs.Runs.{AreQuiet, IsCalm, Leads, LeadsPlainly, steps_from, steps_from-suc, steps_from-zero}
+use Rattle.jvm_steps.specs.Runs.{AreQuiet, IsCalm, Leads, LeadsAlone, steps_from, steps_from-suc, steps_from-zero}
 use Rattle.jvm_steps.specs.Standing.{IsRunOf, places_of}
 use Rattle.jvm_steps.specs.Versions.{Setup, current_of, mark_of, method_of, text_of}
 use Rattle.jvm_steps.proofs.StandingSteps.{run-of-more}
@@ -176,16 +175,16 @@ module _ (w : Setup) (hand : Hand) (clock : ℕ) (s : State) (is : IsRunOf w clo
           };
         }
 
--- ---- those that the current frame does by itself
+-- ---- those of the current frame and of elements alone
 
 module _ (w : Setup) (loaded : List ℕ) (hand : Hand) (started broken : Bool) (clock : ℕ) (ms : List Marker) (p : Parts) (is : IsMachine w loaded hand (seen w (state_of ms p) started broken clock hand) (state_of ms p))
     (v : View) (view : seen w (state_of ms p) started broken clock hand ≡ v) (begun_is : started ≡ true) (whole : broken ≡ false) (rests : is_resting v ≡ true)
-    (calm : IsCalm (length p.frames.frames) ms p) (n : ℕ) (frames : FramesView) (plain : LeadsPlainly w p.frames.frames n frames.frames) where
+    (calm : IsCalm (length p.frames.frames) ms p) (n : ℕ) (after : Parts) (plain : LeadsAlone w p n after) where
   abbrev s : State
   s = state_of ms p
 
   abbrev new : State
-  new = state_of ms (record p { frames = frames })
+  new = state_of ms after
 
   resting : is_resting (seen w s started broken clock hand) ≡ true
   resting = ap is_resting view ∙ rests
@@ -199,17 +198,17 @@ module _ (w : Setup) (loaded : List ℕ) (hand : Hand) (started broken : Bool) (
   }
 
   going-on : is_some new.ending ≡ false
-  going-on = ap is_some calm.ending
+  going-on = ap is_some (plain.ending ∙ calm.ending)
 
   pub plain-passes : Passes v n (seen w new started broken (clock + n) hand)
   plain-passes =
       subst (λ x. Passes x n (seen w new started broken (clock + n) hand)) view
       (subst (λ b. Passes (seen w s started b clock hand) n (seen w new started b (clock + n) hand)) (sym whole)
       (subst (λ b. Passes (seen w s b false clock hand) n (seen w new b false (clock + n) hand)) (sym begun_is)
-      (quiet-passes w hand clock s run_now resting n new (plain.leads ms p calm) (plain.quiet ms p calm) going-on)))
+      (quiet-passes w hand clock s run_now resting n new (plain.leads ms calm) (plain.quiet ms calm) going-on)))
 
   pub plain-machine : IsMachine w loaded hand (seen w new started broken (clock + n) hand) new
   plain-machine =
       subst (λ b. IsMachine w loaded hand (seen w new started b (clock + n) hand) new) (sym whole)
       (subst (λ b. IsMachine w loaded hand (seen w new b false (clock + n) hand) new) (sym begun_is)
-      (quiet-machine w hand clock s run_now resting n new (plain.leads ms p calm) (plain.quiet ms p calm) going-on loaded (is.whole whole).linked))
+      (quiet-machine w hand clock s run_now resting n new (plain.leads ms calm) (plain.quiet ms calm) going-on loaded ((is.whole whole).linked ∙ sym plain.loaded)))

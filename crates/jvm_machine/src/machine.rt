@@ -211,7 +211,7 @@ impl Vm {
         }
     }
 
-    /// Makes steps that the current frame does by itself, at most so many: how many it has made. Nothing is told of them.
+    /// Makes steps from which nothing follows, at most so many: how many it has made. Nothing is told of them.
     fn pass_plainly(&mut self, most: u64) -> u64
         requires resting { is_resting self.old ≡ true }
         requires below { self.old.clock + most < 2 ^ 63 }
@@ -223,7 +223,7 @@ impl Vm {
         if self.broken || !self.started || !is_calm(&self.parts, &self.markers) {
             return 0;
         }
-        let made = plain_steps(&self.originals, &mut self.parts.frames, most);
+        let made = plain_steps(&self.originals, &mut self.parts, most);
         self.clock += made;
         made
     }

@@ -32,6 +32,9 @@ pub fn told(
         result ≡ told_at due clock (helds (mark_of v) s.stack) }
 {
     let _used = markers.peek(0);
+    if let Due::Nothing = due {
+        return None;
+    }
     let here = where_now(&parts.frames)?;
     let kind = match due {
         Due::Nothing => return None,

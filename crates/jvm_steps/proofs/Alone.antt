@@ -16,7 +16,7 @@ use Rattle.jvm_steps.specs.States.{frame_in, state_with, state_in}
 use Rattle.jvm_steps.specs.Versions.{Setup}
 
 module _ (w : Setup) (line : Line) (p : Parts) where
-  next-is : (x : Outcome) (f : PlacedFrame) (fs : List PlacedFrame) → effect_in x (f ∷ fs) ≡ Next
+  pub next-is : (x : Outcome) (f : PlacedFrame) (fs : List PlacedFrame) → effect_in x (f ∷ fs) ≡ Next
       → state_with (frames_in x (f ∷ fs)) p ≡ comes_to w line (state_with fs p) (frame_in f) x
   next-is (GoesOn l o place) f fs e = by (nat_le (height_of o) f.max_stack) e where
     by : (b : Bool) → cond b Next Bad ≡ Next

@@ -57,7 +57,7 @@ module _ (k : Kind) (r slot : ℕ) (h : HeapView) where
 
 -- ---- loads
 
-loads-at : (a : Access) (r : ℕ) (i : ℤ) (d : Datum) (s : Shared) (l : Locals) (o : Operands) → Some d ≡ element_at a r s.heap
+pub loads-at : (a : Access) (r : ℕ) (i : ℤ) (d : Datum) (s : Shared) (l : Locals) (o : Operands) → Some d ≡ element_at a r s.heap
     → GoesOn l (as_value d ∷ drop 2 o) Next ≡ loads_at a r i s l o
 loads-at (Inside slot) r i d s l o e = ap (λ x. replaces 2 (option_map as_value x) l o) e
 loads-at ToNull r i d s l o e = absurd (none-some d (sym e))

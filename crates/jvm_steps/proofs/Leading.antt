@@ -1,10 +1,13 @@
 -- Steps that lead from one state to another, one after the other.
-use Rattle.std.proofs.Common.{◌≡◌, ℕ, zero, suc, ◌+◌, ◌-◌, false, [], inl, inr, sym, ap, subst, ◌∙◌, arith}
+use Rattle.std.proofs.Common.{◌≡◌, ℕ, zero, suc, ◌+◌, ◌-◌, false, List, [], length, inl, inr, refl, sym, ap, subst, ◌∙◌, arith}
 use Rattle.std.specs.Prelude.{is_some}
 use Rattle.std.proofs.lemmas.Bool.{cases_lt}
 use Rattle.jvm_model.specs.declared.state.State.{State}
 use Rattle.jvm_model.specs.Run.{step}
-use Rattle.jvm_steps.specs.Runs.{AreQuiet, Leads, steps_from, steps_from-zero, steps_from-suc}
+use Rattle.jvm_steps.specs.declared.markers.Marker.{Marker}
+use Rattle.jvm_steps.specs.declared.parts.Parts.{Parts}
+use Rattle.jvm_steps.specs.Markers.{marker_on, state_of}
+use Rattle.jvm_steps.specs.Runs.{AreQuiet, IsCalm, Leads, LeadsAlone, steps_from, steps_from-zero, steps_from-suc}
 use Rattle.jvm_steps.specs.Versions.{Setup, text_of}
 
 module _ (w : Setup) where
@@ -66,3 +69,33 @@ module _ (w : Setup) where
         ∙ (steps-parts n (k - n) old ∙ ap (steps_from w (k - n)) (sym made)) in
         ap (λ (z : State). (step w.world (text_of w.versions) z).changes) state ∙ second (k - n) (omega arith))
   ]
+
+  -- ---- of the current frame and elements alone
+
+  pub alone-none : (p : Parts) → LeadsAlone w p 0 p
+  alone-none p = record {
+    many = refl;
+    ending = refl;
+    thrown = refl;
+    loaded = refl;
+    leads = λ ms calm. leads-none (state_of ms p);
+    quiet = λ ms calm k less. absurd (omega arith);
+  }
+
+  still-calm : (old mid : Parts) (n : ℕ) → LeadsAlone w old n mid → (ms : List Marker) → IsCalm (length old.frames.frames) ms old → IsCalm (length mid.frames.frames) ms mid
+  still-calm old mid n first ms calm = record {
+    ending = first.ending ∙ calm.ending;
+    thrown = first.thrown ∙ calm.thrown;
+    unmarked = ap (λ k. marker_on k ms) first.many ∙ calm.unmarked;
+  }
+
+  pub alone-on : (old mid new : Parts) (n m : ℕ) → LeadsAlone w old n mid → LeadsAlone w mid m new → LeadsAlone w old (n + m) new
+  alone-on old mid new n m first second = record {
+    many = second.many ∙ first.many;
+    ending = second.ending ∙ first.ending;
+    thrown = second.thrown ∙ first.thrown;
+    loaded = second.loaded ∙ first.loaded;
+    leads = λ ms calm. leads-on (state_of ms old) (state_of ms mid) (state_of ms new) n m (first.leads ms calm) (second.leads ms (still-calm old mid n first ms calm));
+    quiet = λ ms calm.
+        quiet-on (state_of ms old) (state_of ms mid) n m (first.leads ms calm).made (first.quiet ms calm) (second.quiet ms (still-calm old mid n first ms calm));
+  }

@@ -11,13 +11,14 @@ use Rattle.jvm_model.specs.Run.{step}
 use Rattle.jvm_basic.specs.declared.effect.Effect.TheVariants.{Next}
 use Rattle.jvm_basic.specs.Outcomes.{Outcome, GoesOn, Raises, Breaks, Leaves, frames_in, with_top, asked, effect_of, after}
 use Rattle.jvm_basic.specs.Rules.{rule_of}
+use Rattle.jvm_steps.specs.declared.line.Action.TheVariants as action
 use Rattle.jvm_steps.specs.declared.line.Line.{Line}
 use Rattle.jvm_steps.specs.declared.markers.Marker.{Marker}
 use Rattle.jvm_steps.specs.declared.parts.Here.{Here}
 use Rattle.jvm_steps.specs.declared.parts.Parts.{Parts}
 use Rattle.jvm_steps.specs.Acts.{acts_by, attempts_line, attempts_on, awaited, awaited_by, awaited_on}
 use Rattle.jvm_steps.specs.Markers.{marker_on, state_of, with_markers}
-use Rattle.jvm_steps.specs.Runs.{IsCalm, IsPlainIn, IsPlainLine, LeadsPlainly, RunsVersion, top_version}
+use Rattle.jvm_steps.specs.Runs.{IsCalm, IsLineIn, IsPlainLine, LeadsPlainly, RunsVersion, top_version}
 use Rattle.jvm_steps.specs.Tables.{Version, version_at}
 use Rattle.jvm_steps.specs.States.{active, frame_in, here_of, state_with}
 use Rattle.jvm_steps.proofs.Alone.{goes-next}
@@ -30,7 +31,7 @@ use Rattle.jvm_steps.specs.Ready.{CanRun}
 
 -- ---- nothing follows
 
-still-framed : (x : Outcome) (f : PlacedFrame) (fs : List PlacedFrame) → has_frame (frames_in x (f ∷ fs)) ≡ true
+pub still-framed : (x : Outcome) (f : PlacedFrame) (fs : List PlacedFrame) → has_frame (frames_in x (f ∷ fs)) ≡ true
 still-framed (GoesOn l o place) f fs = by (nat_le (height_of o) f.max_stack) where
   by : (b : Bool) → has_frame (cond b (with_top l o place (f ∷ fs)) (f ∷ fs)) ≡ true
   by true = refl
@@ -39,7 +40,7 @@ still-framed (Raises class) f fs = refl
 still-framed Breaks f fs = refl
 still-framed Leaves f fs = refl
 
-at-rest : (ending : Option Ending) (thrown : Option ℕ) (framed : Bool) → ending ≡ None → thrown ≡ None → framed ≡ true
+pub at-rest : (ending : Option Ending) (thrown : Option ℕ) (framed : Bool) → ending ≡ None → thrown ≡ None → framed ≡ true
     → (is_some ending || (is_none thrown && framed)) ≡ true
 at-rest (Some e) thrown framed none calm is = refl
 at-rest None (Some r) framed none calm is = absurd cc
@@ -47,7 +48,7 @@ at-rest None None true none calm is = refl
 at-rest None None false none calm is = absurd cc
 
 -- the frames are as many
-still-many : (x : Outcome) (fs : List PlacedFrame) → length (frames_in x fs) ≡ length fs
+pub still-many : (x : Outcome) (fs : List PlacedFrame) → length (frames_in x fs) ≡ length fs
 still-many (GoesOn l o place) [] = refl
 still-many (GoesOn l o place) (f ∷ fs) = by (nat_le (height_of o) f.max_stack) where
   by : (b : Bool) → length (cond b (with_top l o place (f ∷ fs)) (f ∷ fs)) ≡ length (f ∷ fs)
@@ -58,12 +59,12 @@ still-many Breaks fs = refl
 still-many Leaves fs = refl
 
 -- the run goes on with such frames, or rests, where nothing is thrown and no marker stands on them
-framed : (n : ℕ) (ms : List Marker) (fs : List PlacedFrame) → marker_on n ms ≡ None → length fs ≡ n → has_frame fs ≡ true
+pub framed : (n : ℕ) (ms : List Marker) (fs : List PlacedFrame) → marker_on n ms ≡ None → length fs ≡ n → has_frame fs ≡ true
     → (has_frame fs && is_none (marker_on (length fs) ms)) ≡ true
 framed n ms fs none many is =
     ap (λ b. b && is_none (marker_on (length fs) ms)) is ∙ ap is_none (ap (λ k. marker_on k ms) many ∙ none)
 
-goes : (ending : Option Ending) (b : Bool) → ending ≡ None → b ≡ true → (is_none ending && b) ≡ true
+pub goes : (ending : Option Ending) (b : Bool) → ending ≡ None → b ≡ true → (is_none ending && b) ≡ true
 goes None true none is = refl
 goes None false none is = absurd cc
 goes (Some e) b none is = absurd cc
@@ -107,16 +108,16 @@ quiet-at w run line ms p (f ∷ fs) room calm stands e = quiet-step w run line m
 
 -- ---- in the version that is at hand
 
-pub plain-there : (w : Setup) (x : Version) (fs : List PlacedFrame) (line : Line) → RunsVersion w x fs → IsPlainIn x fs line → IsPlainLine w fs line
-plain-there w x [] line runs stands = absurd stands
-plain-there w x (f ∷ fs) line runs stands = (ap (option_and_then (line_in f.place)) runs ∙ stands.0, stands.1)
+pub plain-there : (w : Setup) (x : Version) (fs : List PlacedFrame) (line : Line) → RunsVersion w x fs → IsLineIn x fs line → line.action ≡ action.Local → IsPlainLine w fs line
+plain-there w x [] line runs stands local = absurd stands
+plain-there w x (f ∷ fs) line runs stands local = (ap (option_and_then (line_in f.place)) runs ∙ stands, local)
 
 pub runs-here : (w : Setup) (fs : List PlacedFrame) (here : Here) (x : Version) → here_of fs ≡ Some here → version_at w.versions here.version ≡ Some x → RunsVersion w x fs
 runs-here w [] here x is held = absurd (none-some here is)
 runs-here w (f ∷ fs) here x is held = ap (λ (h : Here). version_at w.versions h.version) (same_Some _ here is) ∙ held
 
 -- a frame stays in its version
-same-version : (x : Outcome) (fs : List PlacedFrame) → top_version (frames_in x fs) ≡ top_version fs
+pub same-version : (x : Outcome) (fs : List PlacedFrame) → top_version (frames_in x fs) ≡ top_version fs
 same-version (GoesOn l o place) [] = refl
 same-version (GoesOn l o place) (f ∷ fs) = by (nat_le (height_of o) f.max_stack) where
   by : (b : Bool) → top_version (cond b (with_top l o place (f ∷ fs)) (f ∷ fs)) ≡ top_version (f ∷ fs)
@@ -130,7 +131,7 @@ pub stays-in : (line : Line) (old new : FramesView) → new ≡ after (rule_of l
 stays-in line old new made =
     ap (λ (s : FramesView). top_version s.frames) made ∙ same-version (asked (rule_of line.instr line.constant line.next) old.frames) old.frames
 
-goes-on : (n : ℕ) (ms : List Marker) (p : Parts) → IsCalm n ms p → is_some p.ending ≡ false
+pub goes-on : (n : ℕ) (ms : List Marker) (p : Parts) → IsCalm n ms p → is_some p.ending ≡ false
 goes-on n ms p calm = ap is_some calm.ending
 
 pub plain-one : (w : Setup) (run : CanRun w) (line : Line) (old new : FramesView) → IsPlainLine w old.frames line
@@ -142,26 +143,4 @@ plain-one w run line old new stands e made = record {
       leads-one w (with_markers ms (state_with old.frames p)) (with_markers ms (state_with new.frames p)) (goes-on (length old.frames) ms p calm)
       (plain-at w run line ms p old.frames old.room new calm stands e made);
   quiet = λ ms p calm. quiet-one w (with_markers ms (state_with old.frames p)) (quiet-at w run line ms p old.frames old.room calm stands e);
-}
-
-pub plain-none : (w : Setup) (fs : List PlacedFrame) → LeadsPlainly w fs 0 fs
-plain-none w fs = record {
-  many = refl;
-  leads = λ ms p calm. leads-none w (with_markers ms (state_with fs p));
-  quiet = λ ms p calm k less. absurd (omega arith);
-}
-
-still-calm : (old mid : List PlacedFrame) → length mid ≡ length old → (ms : List Marker) (p : Parts) → IsCalm (length old) ms p → IsCalm (length mid) ms p
-still-calm old mid many ms p calm = record { ending = calm.ending; thrown = calm.thrown; unmarked = ap (λ k. marker_on k ms) many ∙ calm.unmarked }
-
-pub plain-on : (w : Setup) (old mid new : List PlacedFrame) (n m : ℕ) → LeadsPlainly w old n mid → LeadsPlainly w mid m new
-    → LeadsPlainly w old (n + m) new
-plain-on w old mid new n m first second = record {
-  many = second.many ∙ first.many;
-  leads = λ ms p calm.
-      leads-on w (with_markers ms (state_with old p)) (with_markers ms (state_with mid p)) (with_markers ms (state_with new p)) n m (first.leads ms p calm)
-      (second.leads ms p (still-calm old mid first.many ms p calm));
-  quiet = λ ms p calm.
-      quiet-on w (with_markers ms (state_with old p)) (with_markers ms (state_with mid p)) n m (first.leads ms p calm).made (first.quiet ms p calm)
-      (second.quiet ms p (still-calm old mid first.many ms p calm));
 }

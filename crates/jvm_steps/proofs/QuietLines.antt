@@ -4,18 +4,19 @@ use Rattle.std.specs.Prelude.{nat_le, slice_get}
 use Rattle.std.specs.Option.{IfSome, option_map}
 use Rattle.heap_objects.specs.declared.Value.TheVariants.{Addr}
 use Rattle.frame_stack.specs.Widths.{height_of}
+use Rattle.const_pool.specs.declared.descriptor.Kind.{Kind}
 use Rattle.frame_stack.specs.FrameLists.{PlacedFrame}
 use Rattle.jvm_model.specs.declared.state.Entry.{Entry}
 use Rattle.jvm_model.specs.declared.state.Entry.TheVariants.{Active}
 use Rattle.jvm_model.specs.declared.state.Frame.{Frame}
 use Rattle.jvm_model.specs.declared.state.State.{State}
 use Rattle.jvm_model.specs.Applies.{applies, enters_subroutine, goes, place_of, still, with_frame}
-use Rattle.jvm_model.specs.Data.{Breaks, Done, Exits, GoesOn, Initializes, Instruction, Invokes, Local, Locals, Operands, Operation, Outcome, Raises, Returns, Subroutine, Text, Throws, Turn, Within}
+use Rattle.jvm_model.specs.Data.{Breaks, Done, Exits, GoesOn, Initializes, Instruction, Invokes, LoadElement, Local, Locals, Operands, Operation, Outcome, Raises, Returns, StoreElement, Subroutine, Text, Throws, Turn, Where, Within, Next as Following}
 use Rattle.jvm_model.specs.Does.{does, loads}
 use Rattle.jvm_model.specs.Lines.{targets_of}
 use Rattle.jvm_model.specs.LocalRules.{within}
 use Rattle.jvm_model.specs.Moves.{left, move, moves, settled}
-use Rattle.jvm_model.specs.ObjectRules.{done}
+use Rattle.jvm_model.specs.ObjectRules.{done, loads_element, place_of as element_of, stores_element, storing_of}
 use Rattle.jvm_model.specs.Run.{goes_again, loaded_turn, starts, step, steps_at, steps_by, steps_on, tries, with_loaded}
 use Rattle.jvm_model.proofs.QuietSettles.{stops}
 use Rattle.jvm_basic.specs.declared.effect.Effect.TheVariants.{Next}
@@ -88,6 +89,44 @@ module _ (w : Setup) where
   within-quiet i l s f is =
       let d : Done = done s.shared (within l f.locals f.operands) in
       ap (λ o. (goes_again w.world t i s f o (tries w.world t i s f d)).changes) is.alone ∙ is.quiet
+
+  -- ---- an element
+
+  goes-on-quiet : (i : Instruction) (q : Outcome) (l : Locals) (o : Operands) (to : Where) (s : State) (f : Frame) → q ≡ GoesOn l o to → s.ending ≡ None → s.thrown ≡ None → IsQuiet i q s f
+  goes-on-quiet i q l o to s f is calm nothing =
+      subst (λ x. IsQuiet i x s f) (sym is)
+      (record { alone = refl; quiet = settled-quiet (goes s f i.own l o (place_of i to)) (goes-rests s f i.own l o (place_of i to) calm nothing) })
+
+  load-quiet : (i : Instruction) (k : Kind) (s : State) (f : Frame) → IsQuiet i (loads_element k (element_of f.operands) s.shared f.locals f.operands) (record s { output = s.output ++ [] }) f
+      → (step_by i (LoadElement k) s f).changes ≡ []
+  load-quiet i k s f is =
+      let d : Done = done s.shared (loads_element k (element_of f.operands) s.shared f.locals f.operands) in
+      ap (λ o. (goes_again w.world t i s f o (tries w.world t i s f d)).changes) is.alone ∙ is.quiet
+
+  abbrev stored : Kind → State → Frame → Done
+  stored k s f = stores_element w.world.program k (storing_of k f.operands) s.shared f.locals f.operands
+
+  store-quiet : (i : Instruction) (k : Kind) (s : State) (f : Frame) → (let d = stored k s f in IsQuiet i d.outcome (record s { shared = d.shared; output = s.output ++ d.wrote }) f)
+      → (step_by i (StoreElement k) s f).changes ≡ []
+  store-quiet i k s f is =
+      ap (λ o. (goes_again w.world t i s f o (tries w.world t i s f (stored k s f))).changes) is.alone ∙ is.quiet
+
+  pub line-load-quiet : (line : Line) (k : Kind) (s : State) (f : Frame) (l : Locals) (o : Operands) → line.action ≡ action.LoadElement k
+      → loads_element k (element_of f.operands) s.shared f.locals f.operands ≡ GoesOn l o Following → s.ending ≡ None → s.thrown ≡ None
+      → (steps_at w.world t s f (Some (instruction_in line))).changes ≡ []
+  line-load-quiet line k s f l o loads is calm nothing =
+      subst (λ op. (step_by (instruction_in line) op s f).changes ≡ []) (sym (ap (operation_as line) loads))
+      (load-quiet (instruction_in line) k s f
+      (goes-on-quiet (instruction_in line) (loads_element k (element_of f.operands) s.shared f.locals f.operands) l o Following (record s { output = s.output ++ [] }) f is calm nothing))
+
+  pub line-store-quiet : (line : Line) (k : Kind) (s : State) (f : Frame) (l : Locals) (o : Operands) → line.action ≡ action.StoreElement k
+      → (stored k s f).outcome ≡ GoesOn l o Following → s.ending ≡ None → s.thrown ≡ None
+      → (steps_at w.world t s f (Some (instruction_in line))).changes ≡ []
+  line-store-quiet line k s f l o stores is calm nothing =
+      let d : Done = stored k s f in
+      subst (λ op. (step_by (instruction_in line) op s f).changes ≡ []) (sym (ap (operation_as line) stores))
+      (store-quiet (instruction_in line) k s f
+      (goes-on-quiet (instruction_in line) d.outcome l o Following (record s { shared = d.shared; output = s.output ++ d.wrote }) f is calm nothing))
 
   line-quiet : (line : Line) (s : State) (f : Frame) (fs : List PlacedFrame) → line.action ≡ action.Local → IsOwnLine line
       → effect_in (rule_of line.instr line.constant line.next f.locals f.operands) fs ≡ Next → s.ending ≡ None → s.thrown ≡ None

@@ -1,17 +1,24 @@
 -- Elements of arrays (JVM Specification 6.5): where an array and an index lead, and what becomes of a state by that.
-use Rattle.std.specs.Prelude.{ℕ, ◌∷◌, drop, Option, Some, None, ℤ}
+use Rattle.std.specs.Prelude.{◌≡◌, ℕ, Bool, true, false, ◌∷◌, drop, Option, Some, None, ℤ}
+use Rattle.const_pool.specs.declared.descriptor.Kind.{Kind}
+use Rattle.frame_stack.specs.FrameLists.{top_operands}
 use Rattle.heap_objects.specs.declared.datum.Datum.{Datum}
+use Rattle.heap_objects.specs.declared.datum.Datum.TheVariants as datum
 use Rattle.heap_objects.specs.Heaps.{HeapView, slot_at, with_slot_at}
 use Rattle.jvm_model.specs.declared.state.Frame.{Frame}
 use Rattle.jvm_model.specs.declared.state.State.{State}
 use Rattle.jvm_model.specs.Applies.{goes}
-use Rattle.jvm_model.specs.ObjectRules.{Access, ToNull, ToAnother, Outside, Inside, Storing, refused}
+use Rattle.jvm_model.specs.ObjectRules.{Access, ToNull, ToAnother, Outside, Inside, Storing, access_to, place_of, refused, storing_of}
 use Rattle.jvm_model.specs.Values.{as_value}
+use Rattle.jvm_basic.specs.declared.effect.Effect.TheVariants.{Next}
+use Rattle.jvm_basic.specs.Outcomes.{GoesOn, Rule, after, effect_of}
+use Rattle.jvm_basic.specs.Rules.{replaces}
 use Rattle.jvm_steps.specs.declared.elements.Led.{Led}
 use Rattle.jvm_steps.specs.declared.elements.Led.TheVariants as led
 use Rattle.jvm_steps.specs.declared.elements.Place.{Place}
 use Rattle.jvm_steps.specs.declared.elements.Storing.{Storing as TheStoring}
 use Rattle.jvm_steps.specs.declared.line.Line.{Line}
+use Rattle.jvm_steps.specs.declared.parts.Parts.{Parts}
 use Rattle.jvm_steps.specs.Acts.{acts_asked}
 use Rattle.jvm_steps.specs.Versions.{Setup}
 
@@ -44,3 +51,35 @@ acts_loaded line d s f = goes s f line.instr.at f.locals (as_value d ∷ drop 2 
 abbrev pub acts_stored : Line → ℕ → ℕ → Datum → State → Frame → State
 acts_stored line r slot d s f =
     goes (record s { shared = record s.shared { heap = with_slot_at r slot d s.shared.heap } }) f line.instr.at f.locals (drop 3 f.operands) (Some line.next)
+
+-- ---- where nothing is raised
+
+abbrev pub is_number : Datum → Bool
+is_number (datum.Ref r) = false
+is_number _ = true
+
+abbrev pub drops_three : ℕ → Rule
+drops_three next l o = GoesOn l (drop 3 o) next
+
+-- the element at this place is loaded, and the frame goes on
+pub record IsLoaded (line : Line) (k : Kind) (old new : Parts) : Type 0 where
+  pub array : ℕ
+  pub index : ℤ
+  pub datum : Datum
+  pub at : place_of (top_operands old.frames.frames) ≡ Some (array, index)
+  pub there : element_at (access_to k array index old.shared.heap) array old.shared.heap ≡ Some datum
+  pub goes : effect_of (replaces 2 (Some (as_value datum)) line.next) old.frames ≡ Next
+  pub changed : new ≡ record old { frames = after (replaces 2 (Some (as_value datum)) line.next) old.frames }
+
+-- the number is stored at this place, and the frame goes on
+pub record IsStored (line : Line) (k : Kind) (old new : Parts) : Type 0 where
+  pub storing : Storing
+  pub slot : ℕ
+  pub at : storing_of k (top_operands old.frames.frames) ≡ Some storing
+  pub there : access_to k storing.array storing.index old.shared.heap ≡ Inside slot
+  pub number : is_number storing.datum ≡ true
+  pub goes : effect_of (drops_three line.next) old.frames ≡ Next
+  pub changed : new ≡ record old {
+    frames = after (drops_three line.next) old.frames;
+    shared = record old.shared { heap = with_slot_at storing.array slot storing.datum old.shared.heap };
+  }

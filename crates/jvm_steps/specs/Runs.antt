@@ -8,7 +8,7 @@ use Rattle.jvm_steps.specs.declared.line.Action.TheVariants.{Local}
 use Rattle.jvm_steps.specs.declared.line.Line.{Line}
 use Rattle.jvm_steps.specs.declared.markers.Marker.{Marker}
 use Rattle.jvm_steps.specs.declared.parts.Parts.{Parts}
-use Rattle.jvm_steps.specs.Markers.{marker_on, with_markers}
+use Rattle.jvm_steps.specs.Markers.{marker_on, state_of, with_markers}
 use Rattle.jvm_steps.specs.States.{state_with}
 use Rattle.jvm_steps.specs.Tables.{Version, version_at}
 use Rattle.jvm_steps.specs.Versions.{Setup, text_of, line_at, line_in}
@@ -38,10 +38,10 @@ abbrev pub IsPlainLine : Setup → List PlacedFrame → Line → Type 0
 IsPlainLine w [] line = ⊥
 IsPlainLine w (f ∷ fs) line = (line_at w.versions f.version f.place ≡ Some line) × (line.action ≡ Local)
 
--- the same of a version that is at hand
-abbrev pub IsPlainIn : Version → List PlacedFrame → Line → Type 0
-IsPlainIn x [] line = ⊥
-IsPlainIn x (f ∷ fs) line = (line_in f.place x ≡ Some line) × (line.action ≡ Local)
+-- it stands at this line of a version
+abbrev pub IsLineIn : Version → List PlacedFrame → Line → Type 0
+IsLineIn x [] line = ⊥
+IsLineIn x (f ∷ fs) line = line_in f.place x ≡ Some line
 
 -- the version of the current frame
 abbrev pub top_version : List PlacedFrame → Option ℕ
@@ -67,3 +67,12 @@ pub record LeadsPlainly (w : Setup) (old : List PlacedFrame) (n : ℕ) (new : Li
   pub many : length new ≡ length old
   pub leads : (ms : List Marker) (p : Parts) → IsCalm (length old) ms p → Leads w (with_markers ms (state_with old p)) n (with_markers ms (state_with new p))
   pub quiet : (ms : List Marker) (p : Parts) → IsCalm (length old) ms p → AreQuiet w (with_markers ms (state_with old p)) n
+
+-- So many steps change the current frame and elements of arrays, and nothing else.
+pub record LeadsAlone (w : Setup) (old : Parts) (n : ℕ) (new : Parts) : Type 0 where
+  pub many : length new.frames.frames ≡ length old.frames.frames
+  pub ending : new.ending ≡ old.ending
+  pub thrown : new.thrown ≡ old.thrown
+  pub loaded : new.shared.loaded ≡ old.shared.loaded
+  pub leads : (ms : List Marker) → IsCalm (length old.frames.frames) ms old → Leads w (state_of ms old) n (state_of ms new)
+  pub quiet : (ms : List Marker) → IsCalm (length old.frames.frames) ms old → AreQuiet w (state_of ms old) n

@@ -1,6 +1,6 @@
 //! Elements of arrays: iaload to saload, iastore to sastore (JVM Specification 6.5).
 
-ghost use Rattle.std.specs.Prelude.{◌≡◌, true, IfOk, IsSome, OnOk};
+ghost use Rattle.std.specs.Prelude.{◌≡◌, true, false, IfOk, IsSome, OnOk};
 ghost use Rattle.std.specs.Fmt.{signed_decimal};
 ghost use Rattle.std.specs.Option.{option_map};
 ghost use Rattle.frame_stack.specs.FrameLists.{top_operands};
@@ -11,7 +11,7 @@ ghost use Rattle.jvm_model.specs.ObjectRules.{serves, serves_object, storing_of}
 ghost use Rattle.jvm_steps.specs.Acts.{IsTop, Becomes, acts_load, acts_store, on_parts};
 ghost use Rattle.jvm_steps.specs.Elements.{access_of, acts_loaded, acts_refused, acts_stored};
 ghost use Rattle.jvm_named.specs.Objects.{AreLoaded};
-ghost use Rattle.jvm_steps.specs.Elements.{element_at, place_by, storing_by};
+ghost use Rattle.jvm_steps.specs.Elements.{IsLoaded, IsStored, element_at, is_number, place_by, storing_by};
 ghost use Rattle.jvm_steps.specs.Linked.{linker_in};
 ghost use Rattle.jvm_steps.specs.States.{state_in};
 ghost use Rattle.jvm_steps.specs.Versions.{text_of};
@@ -26,7 +26,7 @@ use const_pool::Kind;
 use frame_stack::Frames;
 use heap_objects::{Datum, Element, Heap, Value, element_of};
 use jf_bytes::{NoMemory, Seq};
-use jvm_basic::{drop_three, recall, replace_two, value_of};
+use jvm_basic::{Effect, drop_three, recall, replace_two, value_of};
 use std::alloc::Global;
 
 /// Where an array and an index lead: the array is null, or the object none that the instruction
@@ -288,4 +288,58 @@ pub fn store_element(
     }
     store(parts, method, line, place.array, slot, storing.datum);
     Ok(())
+}
+
+// ---- where nothing is raised
+
+/// Whether it is a number.
+fn is_number(datum: Datum) -> bool
+    ensures { result ≡ is_number datum }
+{
+    match datum {
+        Datum::Ref(_) => false,
+        Datum::Int(_) | Datum::Long(_) => true,
+    }
+}
+
+/// Loads an element where nothing is raised. False, with nothing changed, where the frame does not go on.
+pub fn pass_load(parts: &mut Parts, line: &Line, kind: Kind) -> bool
+    ensures gone { result ≡ true → IsLoaded line.now kind parts.old parts.new }
+    ensures kept { result ≡ false → parts.new ≡ parts.old }
+{
+    let Some(place) = place_of(&parts.frames) else {
+        return false;
+    };
+    let Some(datum) = element_at(&parts.shared.heap, kind, &place) else {
+        return false;
+    };
+    recall(&parts.frames);
+    let effect = replace_two(&mut parts.frames, value_of(datum), line.next);
+    matches!(effect, Effect::Next)
+}
+
+/// Stores a number where nothing is raised. False, with nothing changed, where the frame does not go on.
+pub fn pass_store(parts: &mut Parts, line: &Line, kind: Kind) -> bool
+    ensures gone { result ≡ true → IsStored line.now kind parts.old parts.new }
+    ensures kept { result ≡ false → parts.new ≡ parts.old }
+{
+    let Some(storing) = storing_of(&parts.frames, kind) else {
+        return false;
+    };
+    if !is_number(storing.datum) {
+        return false;
+    }
+    let Led::Inside(slot) = led_to(&parts.shared.heap, kind, &storing.place) else {
+        return false;
+    };
+    recall(&parts.frames);
+    let effect = drop_three(&mut parts.frames, line.next);
+    if !matches!(effect, Effect::Next) {
+        return false;
+    }
+    parts
+        .shared
+        .heap
+        .put(storing.place.array, slot, storing.datum);
+    true
 }

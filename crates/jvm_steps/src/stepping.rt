@@ -134,7 +134,7 @@ pub fn step(
     Ok(())
 }
 
-/// Steps that the current frame does by itself, at most so many: how many it has made.
+/// Steps from which nothing follows, at most so many: how many it has made.
 fn step_plainly(originals: &Originals, parts: &mut Parts, markers: &Stack<Marker>, most: u64) -> u64
     requires run { CanRun originals.now.setup }
     requires ending { parts.old.ending ≡ None }
@@ -142,12 +142,12 @@ fn step_plainly(originals: &Originals, parts: &mut Parts, markers: &Stack<Marker
     ensures made { Leads originals.now.setup (state_of markers.now parts.old) result
         (state_of markers.now parts.new) }
     ensures ending { parts.new.ending ≡ None }
-    ensures shared { parts.new.shared ≡ parts.old.shared }
+    ensures loaded { parts.new.shared.loaded ≡ parts.old.shared.loaded }
 {
     if parts.thrown.is_some() || !is_unmarked(parts, markers) {
         return 0;
     }
-    plain_steps(originals, &mut parts.frames, most)
+    plain_steps(originals, parts, most)
 }
 
 /// One step or more, at most so many: how many it has made.

@@ -12,7 +12,7 @@ returns-then-is_some-clause-made c = leads-none c.args.originals.now.setup (stat
 pub returns-clause-made : goal.returns-clause-made
 returns-clause-made c =
     let p = c.args.parts.now in
-    c.plain_steps.ensures.made.leads c.args.markers.now p (record {
+    c.plain_steps.ensures.made.leads c.args.markers.now (record {
       ending = c.requires.ending;
       thrown = not-some p.thrown (sym c.is_some.ensures ∙ c.if-is_some.false);
       unmarked = none-of c.args.markers.now (length p.frames.frames) (sym c.is_unmarked.ensures ∙ c.if-not-is_unmarked.false);

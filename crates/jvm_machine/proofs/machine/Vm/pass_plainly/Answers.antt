@@ -15,13 +15,13 @@ pub invariant_of-self : goal.invariant_of-self
 invariant_of-self c =
     plain-machine c.self.inside.originals.setup c.self.inside.originals.loaded c.self.inside.hand c.self.inside.started c.self.inside.broken c.self.inside.clock
     c.self.inside.markers c.self.inside.parts c.self.invariant c.args.self.now c.self.view_is c.if-not-self.false c.if-self.false c.requires.resting
-    (c.is_calm.ensures c.if-not-is_calm.false) c.plain_steps-made.result c.plain_steps-made.new.frames c.plain_steps-made.ensures.made
+    (c.is_calm.ensures c.if-not-is_calm.false) c.plain_steps-made.result c.plain_steps-made.new.parts c.plain_steps-made.ensures.made
 
 pub returns-clause-passes : goal.returns-clause-passes
 returns-clause-passes c =
     plain-passes c.self.inside.originals.setup c.self.inside.originals.loaded c.self.inside.hand c.self.inside.started c.self.inside.broken c.self.inside.clock
     c.self.inside.markers c.self.inside.parts c.self.invariant c.args.self.now c.self.view_is c.if-not-self.false c.if-self.false c.requires.resting
-    (c.is_calm.ensures c.if-not-is_calm.false) c.plain_steps-made.result c.plain_steps-made.new.frames c.plain_steps-made.ensures.made
+    (c.is_calm.ensures c.if-not-is_calm.false) c.plain_steps-made.result c.plain_steps-made.new.parts c.plain_steps-made.ensures.made
 
 pub returns-clause-rests : goal.returns-clause-rests
 returns-clause-rests c = ap is_resting c.self.view_is ∙ c.requires.resting
