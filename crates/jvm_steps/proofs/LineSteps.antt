@@ -73,8 +73,8 @@ module _ (w : Setup) (t : Text) where
   settled-still s none = ap (λ (a : Turn). a.after) (stops w.world t (left s) (still s) none)
 
   -- nothing follows where it is at rest
-  pub rests : (ms : List Marker) (p : Parts) → is_at_rest ms p ≡ true → state_of ms p ≡ (settled w.world t (still (state_of ms p))).after
-  rests ms p is = sym (settled-still (state_of ms p) (by p.ending p.thrown p.frames.frames is)) where
+  pub rest-moves : (ms : List Marker) (p : Parts) → is_at_rest ms p ≡ true → move w.world t (state_of ms p) ≡ None
+  rest-moves ms p is = by p.ending p.thrown p.frames.frames is where
     -- by the top of the stack
     by_top : (f : PlacedFrame) (fs : List PlacedFrame) → is_none (marker_on (length (f ∷ fs)) ms) ≡ true → moves w.world t (state_of ms p) None None (stack_of (map active (f ∷ fs)) ms) ≡ None
     by_top f fs none = ap (moves w.world t (state_of ms p) None None) (top-frame ms f fs (none-of ms (length (f ∷ fs)) none))
@@ -85,6 +85,9 @@ module _ (w : Setup) (t : Text) where
     by None (Some r) fs is = absurd (false≢true is)
     by None None [] is = absurd (false≢true is)
     by None None (f ∷ fs) is = by_top f fs is
+
+  pub rests : (ms : List Marker) (p : Parts) → is_at_rest ms p ≡ true → state_of ms p ≡ (settled w.world t (still (state_of ms p))).after
+  rests ms p is = sym (settled-still (state_of ms p) (rest-moves ms p is))
 
 -- ---- a step
 

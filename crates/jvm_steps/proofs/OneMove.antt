@@ -41,6 +41,13 @@ module _ (w : Setup) (n : ℕ) (s : State) where
       ∙ ap (λ found. option_map_or (λ (next : Turn). pause_by s next.after n next.changes (due_by w s next.changes) (paused_in w (passed_by n next.changes) next.after)) found
       (record { state = s; passed = n; due = Nothing })) e
 
+  -- where no move applies nothing is due
+  pub rest-pauses : move w.world (text_of w.versions) s ≡ None → paused_in w n s ≡ record { state = s; passed = n; due = Nothing }
+  rest-pauses at_rest =
+      paused-move w.world (text_of w.versions) (mark_of w.versions) n s
+      ∙ ap (λ found. option_map_or (λ (next : Turn). pause_by s next.after n next.changes (due_by w s next.changes) (paused_in w (passed_by n next.changes) next.after)) found
+      (record { state = s; passed = n; due = Nothing })) at_rest
+
   -- by the one change, and what is due by it
   unwound-means : (after : State) (d : Due) → end_due kind.Unwind live ≡ d → move w.world (text_of w.versions) s ≡ Some (record { after = after; changes = Unwound ∷ [] }) → left after < left s
       → Means w n s (state_by s after d) (moved_by (Unwound ∷ []) d)

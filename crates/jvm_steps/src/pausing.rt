@@ -9,6 +9,7 @@ ghost use Rattle.jvm_steps.specs.Turning.{resumed, resumed_count};
 use crate::markers::{Marker, marker_on};
 use crate::originals::Originals;
 use crate::parts::{Parts, where_now};
+use crate::stepping::is_at_rest;
 use crate::turning::{Moved, make_move};
 use jf_bytes::{NoMemory, Stack};
 use jvm_model::{Due, EventKind};
@@ -37,6 +38,10 @@ pub fn pause(
         IfOk result (λ due. pause_at (state_of markers.new parts.new) passed.new due
         ≡ paused_in originals.now.setup passed.old s) }
 {
+    // Mostly nothing follows.
+    if is_at_rest(parts, markers) {
+        return Ok(Due::Nothing);
+    }
     loop {
         match make_move(alloc, originals, parts, markers)? {
             Moved::Nothing => return Ok(Due::Nothing),

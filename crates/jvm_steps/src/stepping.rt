@@ -32,7 +32,7 @@ fn is_unmarked(parts: &Parts, markers: &Stack<Marker>) -> bool
 
 /// Whether nothing follows by itself: the run has ended, or nothing is thrown, and there is a frame
 /// with no marker on it.
-fn is_at_rest(parts: &Parts, markers: &Stack<Marker>) -> bool
+pub fn is_at_rest(parts: &Parts, markers: &Stack<Marker>) -> bool
     ensures { result ≡ is_at_rest markers.now parts.now }
 {
     parts.ending.is_some()

@@ -4,7 +4,9 @@ use Rattle.jvm_model.specs.declared.event.EventKind.TheVariants.{Unwind}
 use Rattle.jvm_steps.specs.declared.turning.Moved.TheVariants as moved
 use Rattle.jvm_steps.specs.Markers.{state_of}
 use Rattle.jvm_steps.specs.Turning.{pause_at, paused_in}
-use Rattle.jvm_steps.proofs.OneMove.{means-as}
+use Rattle.jvm_steps.specs.Versions.{text_of}
+use Rattle.jvm_steps.proofs.LineSteps.{rest-moves}
+use Rattle.jvm_steps.proofs.OneMove.{means-as, rest-pauses}
 use Rattle.jvm_steps.proofs.pausing.pause.Goals as goal
 
 pub loop-passed-smaller-in-On : goal.loop-passed-smaller-in-On
@@ -49,3 +51,9 @@ returns-in-Enters c =
     ∙ (sym (means-as c.args.originals.now.setup c.loop-passed.passed (state_of c.loop-passed.markers c.loop-passed.parts) (state_of c.make_move.new.markers c.make_move.new.parts)
     c.in_ok-make_move.field-0 moved.Enters c.in_ok-make_move.ensures.answer c.in_ok-make_move.ensures.state c.in-Enters.is)
     ∙ c.loop-passed.invariant)
+
+pub returns-then-is_at_rest : goal.returns-then-is_at_rest
+returns-then-is_at_rest c =
+    let w = c.args.originals.now.setup in
+    sym (rest-pauses w c.args.passed.now (state_of c.args.markers.now c.args.parts.now)
+    (rest-moves w (text_of w.versions) c.args.markers.now c.args.parts.now (sym c.is_at_rest.ensures ∙ c.if-is_at_rest.true)))
