@@ -22,6 +22,7 @@ pub enum Telling {
 }
 
 /// The clock rises where a step after the start begins.
+#[inline(always)]
 pub fn clock_in(resting: bool, started: bool, clock: u64) -> u64
     requires { clock < 2 ^ 63 }
     ensures { result ≡ clock_in resting started clock }
@@ -33,6 +34,7 @@ pub fn clock_in(resting: bool, started: bool, clock: u64) -> u64
 }
 
 /// What is in hand where a step has stopped: nothing where it is done.
+#[inline(always)]
 pub fn left(gone: Gone) -> Hand
     ensures { result ≡ left_in gone }
 {
@@ -100,6 +102,7 @@ fn take_start(
 }
 
 /// Takes up what is in hand, or begins the start, or the next step.
+#[inline(always)]
 pub fn take_up(
     alloc: Global,
     originals: &mut Originals,

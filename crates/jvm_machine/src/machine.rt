@@ -58,6 +58,7 @@ impl Model for Vm {
 }
 
 /// Whether a turn says no more than that a step is done.
+#[inline(always)]
 fn is_settled(turn: &Turn) -> bool
     ensures { result ≡ is_settled turn.now }
 {
@@ -66,6 +67,7 @@ fn is_settled(turn: &Turn) -> bool
 
 /// Whether the run goes on, nothing is thrown, and no initialization stands on the current frame.
 #[tactic(auto, unfolding(jvm_steps::specs::Markers::marker_on))]
+#[inline(always)]
 fn is_calm(parts: &Parts, markers: &Stack<Marker>) -> bool
     ensures { result ≡ true → IsCalm (length parts.now.frames.frames) markers.now parts.now }
 {
@@ -106,6 +108,7 @@ impl Vm {
     }
 
     /// Whether there is no step in hand.
+    #[inline(always)]
     fn is_resting(&self) -> bool
         ensures { result ≡ is_resting self.now }
     {
@@ -113,6 +116,7 @@ impl Vm {
     }
 
     /// Goes on to what is told next of the step, or to its end.
+    #[inline(always)]
     fn advance(&mut self) -> Result<Telling, NoMemory>
         requires whole { self.old.broken ≡ false }
         requires going { IsGoingOn self.old }
@@ -162,6 +166,7 @@ impl Vm {
     }
 
     /// Whether there is no step in hand, and the run has ended.
+    #[inline(always)]
     fn is_over(&self) -> bool
         ensures { self.now.broken ≡ false → result ≡ (is_resting self.now && has_ended self.now) }
     {
@@ -169,6 +174,7 @@ impl Vm {
     }
 
     /// The event of which the probe has told that the current frame stands behind.
+    #[inline(always)]
     fn event(&self, due: Due) -> Option<Event>
         ensures { result ≡ told_at due self.now.clock self.now.live }
     {
@@ -176,6 +182,7 @@ impl Vm {
     }
 
     /// What this tells: an event, or that the step is done.
+    #[inline(always)]
     fn turn(&self, due: Due) -> Turn
         requires whole { self.now.broken ≡ false }
         requires rests { told_at due self.now.clock self.now.live ≡ None

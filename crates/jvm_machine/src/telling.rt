@@ -21,6 +21,7 @@ fn begin_kind(mark: Mark) -> EventKind
 }
 
 /// What is told where a step has stopped, of the current frame.
+#[inline(always)]
 pub fn told(
     clock: u64,
     due: Due,

@@ -133,6 +133,7 @@ fn act_initializer(
 }
 
 /// Does a line of the current frame, beneath the markers.
+#[inline(always)]
 fn act_marked(
     alloc: Global,
     originals: &Originals,
@@ -158,6 +159,7 @@ fn act_marked(
 
 /// Does the line at which the current frame stands, which names nothing; where there is none the run
 /// ends.
+#[inline(always)]
 fn attempt_line(
     alloc: Global,
     originals: &Originals,
@@ -183,6 +185,7 @@ fn attempt_line(
 // ---- instructions that name something
 
 /// Whether a line names something.
+#[inline(always)]
 fn is_named(line: &Line) -> bool
     ensures { result ≡ is_named line.now.action }
 {
@@ -193,6 +196,7 @@ fn is_named(line: &Line) -> bool
 }
 
 /// Whether the line at which a frame stands does.
+#[inline(always)]
 fn named_at(originals: &Originals, here: Here) -> bool
     ensures { result ≡ named_in (line_at originals.now.setup.versions here.version here.place) }
 {

@@ -54,6 +54,7 @@ pub struct Storing {
 }
 
 /// Whether instructions of a kind serve arrays of these elements.
+#[inline(always)]
 fn serves(kind: Kind, element: Element) -> bool
     ensures { result ≡ serves kind element }
 {
@@ -69,6 +70,7 @@ fn serves(kind: Kind, element: Element) -> bool
 }
 
 /// Whether they serve the object.
+#[inline(always)]
 fn serves_object(heap: &Heap, kind: Kind, object: u32) -> bool
     ensures { result ≡ serves_object kind object heap.now }
 {
@@ -80,6 +82,7 @@ fn serves_object(heap: &Heap, kind: Kind, object: u32) -> bool
 
 /// Whether an object has this slot.
 #[tactic(auto, using(crate::proofs::ElementLemmas::is_slot))]
+#[inline(always)]
 fn has_slot(heap: &Heap, object: u32, slot: u32) -> bool
     ensures { result ≡ has_slot_at object slot heap.now }
 {
@@ -87,6 +90,7 @@ fn has_slot(heap: &Heap, object: u32, slot: u32) -> bool
 }
 
 /// Where an index leads in an array.
+#[inline(always)]
 fn led_in(heap: &Heap, array: u32, index: i32) -> Led
     ensures { access_of result ≡ index_in array index heap.now }
 {
@@ -102,6 +106,7 @@ fn led_in(heap: &Heap, array: u32, index: i32) -> Led
 }
 
 /// Where an instruction of a kind is led.
+#[inline(always)]
 fn led_to(heap: &Heap, kind: Kind, place: &Place) -> Led
     ensures { access_of result ≡ access_to kind place.now.array place.now.index heap.now }
 {
@@ -162,6 +167,7 @@ fn refuse(
 }
 
 /// The array and the index on top.
+#[inline(always)]
 fn place_of(frames: &Frames) -> Option<Place>
     ensures { option_map place_by result ≡ place_of (top_operands frames.now.frames) }
 {
@@ -175,6 +181,7 @@ fn place_of(frames: &Frames) -> Option<Place>
 }
 
 /// The array, the index and the value on top, which elements of a kind may have.
+#[inline(always)]
 fn storing_of(frames: &Frames, kind: Kind) -> Option<Storing>
     ensures { option_map storing_by result ≡ storing_of kind (top_operands frames.now.frames) }
 {
@@ -194,6 +201,7 @@ fn storing_of(frames: &Frames, kind: Kind) -> Option<Storing>
 
 /// The element to which an instruction of a kind is led.
 #[tactic(auto, using(crate::proofs::ElementLemmas::element_in))]
+#[inline(always)]
 fn element_at(heap: &Heap, kind: Kind, place: &Place) -> Option<Datum>
     ensures { let access = access_to kind place.now.array place.now.index heap.now in
         result ≡ element_at access place.now.array heap.now }
@@ -293,6 +301,7 @@ pub fn store_element(
 // ---- where nothing is raised
 
 /// Whether it is a number.
+#[inline(always)]
 fn is_number(datum: Datum) -> bool
     ensures { result ≡ is_number datum }
 {
@@ -303,6 +312,7 @@ fn is_number(datum: Datum) -> bool
 }
 
 /// Loads an element where nothing is raised. False, with nothing changed, where the frame does not go on.
+#[inline(always)]
 pub fn pass_load(parts: &mut Parts, line: &Line, kind: Kind) -> bool
     ensures gone { result ≡ true → IsLoaded line.now kind parts.old parts.new }
     ensures kept { result ≡ false → parts.new ≡ parts.old }
@@ -319,6 +329,7 @@ pub fn pass_load(parts: &mut Parts, line: &Line, kind: Kind) -> bool
 }
 
 /// Stores a number where nothing is raised. False, with nothing changed, where the frame does not go on.
+#[inline(always)]
 pub fn pass_store(parts: &mut Parts, line: &Line, kind: Kind) -> bool
     ensures gone { result ≡ true → IsStored line.now kind parts.old parts.new }
     ensures kept { result ≡ false → parts.new ≡ parts.old }

@@ -38,6 +38,7 @@ pub struct Gone {
 }
 
 /// Whether an end is due.
+#[inline(always)]
 fn is_end(due: Due) -> bool
     ensures { result ≡ is_end due }
 {
@@ -48,6 +49,7 @@ fn is_end(due: Due) -> bool
 }
 
 /// Whether moves alone are left there: a return whose probe has told is still to be attempted.
+#[inline(always)]
 fn is_by_moves(due: Due) -> bool
     ensures { todo_of result ≡ later_of due }
 {
@@ -59,6 +61,7 @@ fn is_by_moves(due: Due) -> bool
 }
 
 /// Where a step has stopped, so many changes behind its begin.
+#[inline(always)]
 fn gone_to(due: Due, passed: u64) -> Gone
     ensures due { result.due ≡ due }
     ensures passed { result.hand.passed ≡ passed }
@@ -78,6 +81,7 @@ fn gone_to(due: Due, passed: u64) -> Gone
 
 /// Goes on with a step up to what is told next. Where classes are still to be loaded they are loaded, nothing else is done, and
 /// None is the answer.
+#[inline(always)]
 pub fn go(
     alloc: Global,
     originals: &mut Originals,

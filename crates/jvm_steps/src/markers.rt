@@ -19,6 +19,7 @@ pub struct Marker {
 
 /// The marker on top of so many frames, if one stands there.
 #[tactic(auto, unfolding(crate::specs::Markers::marker_on))]
+#[inline(always)]
 pub fn marker_on(markers: &Stack<Marker>, depth: u32) -> Option<Marker>
     ensures { result ≡ marker_on depth markers.now }
 {

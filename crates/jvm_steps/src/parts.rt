@@ -27,6 +27,7 @@ pub struct Here {
 }
 
 /// Where the current frame stands, if there is one.
+#[inline(always)]
 pub fn where_now(frames: &Frames) -> Option<Here>
     ensures { result ≡ here_of frames.now.frames }
 {

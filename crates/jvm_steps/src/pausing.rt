@@ -27,7 +27,7 @@ pub fn one_more(passed: u64) -> Result<u64, NoMemory>
 
 /// Makes moves up to where none applies, or to the first of which a probe tells: what is due then. It counts the changes of
 /// the step that are behind it.
-pub fn pause(
+fn pause_on(
     alloc: Global,
     originals: &Originals,
     parts: &mut Parts,
@@ -38,10 +38,6 @@ pub fn pause(
         IfOk result (λ due. pause_at (state_of markers.new parts.new) passed.new due
         ≡ paused_in originals.now.setup passed.old s) }
 {
-    // Mostly nothing follows.
-    if is_at_rest(parts, markers) {
-        return Ok(Due::Nothing);
-    }
     loop {
         match make_move(alloc, originals, parts, markers)? {
             Moved::Nothing => return Ok(Due::Nothing),
@@ -58,6 +54,25 @@ pub fn pause(
             }
         }
     }
+}
+
+/// The same; where nothing follows, as mostly, it is one test.
+#[inline(always)]
+pub fn pause(
+    alloc: Global,
+    originals: &Originals,
+    parts: &mut Parts,
+    markers: &mut Stack<Marker>,
+    passed: &mut u64,
+) -> Result<Due, NoMemory>
+    ensures { let s = state_of markers.old parts.old in
+        IfOk result (λ due. pause_at (state_of markers.new parts.new) passed.new due
+        ≡ paused_in originals.now.setup passed.old s) }
+{
+    if is_at_rest(parts, markers) {
+        return Ok(Due::Nothing);
+    }
+    pause_on(alloc, originals, parts, markers, passed)
 }
 
 // ---- where moves alone are left of a step

@@ -24,6 +24,7 @@ use jvm_model::{Phase, Shared};
 use std::alloc::Global;
 
 /// Whether no marker stands on the current frame.
+#[inline(always)]
 fn is_unmarked(parts: &Parts, markers: &Stack<Marker>) -> bool
     ensures { result ≡ is_unmarked markers.now parts.now }
 {
@@ -32,6 +33,7 @@ fn is_unmarked(parts: &Parts, markers: &Stack<Marker>) -> bool
 
 /// Whether nothing follows by itself: the run has ended, or nothing is thrown, and there is a frame
 /// with no marker on it.
+#[inline(always)]
 pub fn is_at_rest(parts: &Parts, markers: &Stack<Marker>) -> bool
     ensures { result ≡ is_at_rest markers.now parts.now }
 {
@@ -40,6 +42,7 @@ pub fn is_at_rest(parts: &Parts, markers: &Stack<Marker>) -> bool
 }
 
 /// Whether the run has not ended, and there is a frame with no marker on it.
+#[inline(always)]
 pub fn goes_on(parts: &Parts, markers: &Stack<Marker>) -> bool
     ensures { result ≡ goes_on_in markers.now parts.now }
 {
@@ -64,6 +67,7 @@ fn finish(
 }
 
 /// Whether a class is initialized.
+#[inline(always)]
 pub fn is_ready(shared: &Shared, class: u32) -> bool
     ensures { result ≡ is_ready (phase_of shared.now class) }
 {

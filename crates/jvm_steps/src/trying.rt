@@ -32,6 +32,7 @@ use std::alloc::Global;
 // ---- behind an attempt
 
 /// The count with what was changed since there were so many frames.
+#[inline(always)]
 fn count(frames: &Frames, depth: u32, passed: u64) -> Result<u64, NoMemory>
     ensures { IfOk result (λ n. n ≡ passed_by passed (changes_since depth frames.now.frames)) }
 {
@@ -42,6 +43,7 @@ fn count(frames: &Frames, depth: u32, passed: u64) -> Result<u64, NoMemory>
 }
 
 /// Whether a method has begun since then of which a probe tells.
+#[inline(always)]
 fn enters(originals: &Originals, frames: &Frames, depth: u32) -> bool
     ensures { result
         ≡ enters_by originals.now.setup (changes_since depth frames.now.frames) }
@@ -56,6 +58,7 @@ fn enters(originals: &Originals, frames: &Frames, depth: u32) -> bool
 }
 
 /// What follows from an attempt before which there were so many frames, up to what is told next.
+#[inline(always)]
 fn follow(
     alloc: Global,
     originals: &Originals,
@@ -79,6 +82,7 @@ fn follow(
 // ---- before one, and once more
 
 /// Whether the current frame stands at a return of which a probe tells first.
+#[inline(always)]
 fn leaves(originals: &Originals, frames: &Frames) -> bool
     ensures { result ≡ leaves_in originals.now.setup frames.now.frames }
 {
@@ -95,6 +99,7 @@ fn leaves(originals: &Originals, frames: &Frames) -> bool
 }
 
 /// The same, unless it has told.
+#[inline(always)]
 fn tells_leave(originals: &Originals, frames: &Frames, told: bool) -> bool
     ensures { result ≡ (not told && leaves_in originals.now.setup frames.now.frames) }
 {
@@ -102,6 +107,7 @@ fn tells_leave(originals: &Originals, frames: &Frames, told: bool) -> bool
 }
 
 /// Whether nothing is due.
+#[inline(always)]
 fn is_nothing(due: Due) -> bool
     ensures { result ≡ is_nothing due }
 {
@@ -112,6 +118,7 @@ fn is_nothing(due: Due) -> bool
 }
 
 /// Whether the instruction is attempted once more: its class is ready, and nothing else has happened.
+#[inline(always)]
 fn tries_again(parts: &Parts, class: u32, due: Due, same: bool) -> bool
     ensures { result ≡ (is_nothing due && same && is_ready (phase_of parts.now.shared class)
         && goes_on parts.now.ending parts.now.thrown) }
@@ -148,6 +155,7 @@ fn try_again(
 
 /// The same in two parts, and once more where its class is ready behind it. Where classes are still to be loaded they are loaded,
 /// nothing else is done, and None is the answer.
+#[inline(always)]
 fn try_line(
     alloc: Global,
     originals: &mut Originals,
@@ -192,6 +200,7 @@ fn try_line(
 /// Goes on with a step from an attempt, up to what is told next, and counts the changes that are behind it. `told` says that the
 /// leave probe of the current frame has told. Where classes are still to be loaded they are loaded, nothing else is done, and
 /// None is the answer.
+#[inline(always)]
 pub fn go_by_attempt(
     alloc: Global,
     originals: &mut Originals,

@@ -39,6 +39,7 @@ pub enum Moved {
 // ---- marks
 
 /// Whether a version has probes.
+#[inline(always)]
 pub fn is_marked(originals: &Originals, version: usize) -> bool
     ensures { result ≡ not (is_off (mark_of originals.now.setup.versions version)) }
 {

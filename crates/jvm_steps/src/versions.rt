@@ -97,6 +97,7 @@ fn add_each(table: &mut Table<PreparedCode>, more: Seq<Version>, frames: &Frames
 }
 
 /// The version with this number.
+#[inline(always)]
 pub fn version_at(versions: &Versions, version: usize) -> Option<&Version>
     ensures { option_copied result ≡ version_at versions.now version }
 {
@@ -131,6 +132,7 @@ pub fn current_of(versions: &Versions, method: u32) -> usize
 }
 
 /// Whose probes a version has; one that is not held has none.
+#[inline(always)]
 pub fn mark_of(versions: &Versions, version: usize) -> Mark
     ensures { result ≡ mark_of versions.now version }
 {

@@ -3,7 +3,7 @@ use Rattle.std.proofs.Common.{◌≡◌}
 use Rattle.jvm_model.specs.Moves.{left}
 use Rattle.jvm_steps.specs.Markers.{state_of}
 use Rattle.jvm_steps.specs.Turning.{paused_in}
-use Rattle.jvm_steps.proofs.pausing.pause.Given as goal
+use Rattle.jvm_steps.proofs.pausing.pause_on.Given as goal
 
 abbrev pub invariant-loop-passed : goal.invariant-loop-passed
 invariant-loop-passed l =
