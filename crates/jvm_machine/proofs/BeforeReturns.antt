@@ -1,5 +1,5 @@
 -- Where the probe of a return has told, the current frame stands at the return.
-use Rattle.std.proofs.Common.{◌≡◌, ℕ, Bool, true, false, not, List, [], ◌∷◌, Option, Some, None, refl, sym, ap, ap₂, subst, ◌∙◌, inl, inr}
+use Rattle.std.proofs.Common.{◌≡◌, ℕ, Bool, true, false, not, List, [], ◌∷◌, Option, Some, None, refl, sym, ap, subst, ◌∙◌, inl, inr}
 use Rattle.std.specs.Prelude.{◌==◌, ◌&&◌}
 use Rattle.std.specs.List.{AllByRecursion}
 use Rattle.std.specs.Option.{IfSome}
@@ -18,8 +18,8 @@ use Rattle.jvm_model.specs.Pauses.{is_end, later_of}
 use Rattle.jvm_model.specs.Rest.{Attempt, Todo}
 use Rattle.jvm_model.specs.Run.{turn}
 use Rattle.jvm_model.specs.StandsForRun.{at_homes, forgotten, norm_by}
-use Rattle.jvm_model.specs.StepPauses.{Awaits, is_at_return, is_return}
-use Rattle.jvm_model.specs.Told.{Held, held_by, helds}
+use Rattle.jvm_model.specs.StepPauses.{Awaits, is_at_return}
+use Rattle.jvm_model.specs.Told.{held_by, helds}
 use Rattle.jvm_steps.specs.declared.hands.Gone.{Gone}
 use Rattle.jvm_steps.specs.declared.hands.Hand.{Hand}
 use Rattle.jvm_steps.specs.Hands.{HasInHand, IsLeft, todo_of, versioned_in}
@@ -30,7 +30,7 @@ use Rattle.jvm_machine.specs.declared.advancing.Telling.TheVariants as telling
 use Rattle.jvm_machine.specs.Advances.{left_in}
 use Rattle.jvm_machine.specs.Machine.{IsMachine, IsSoundOnce, seen}
 use Rattle.jvm_machine.specs.Probes.{IfLeaves, IsReturn, StandsAtReturn}
-use Rattle.jvm_machine.specs.View.{View, is_resting}
+use Rattle.jvm_machine.specs.View.{is_resting}
 
 told-busy : (b : Bool) → (b && not true) ≡ false
 told-busy true = refl

@@ -25,7 +25,7 @@ use Rattle.jvm_model.specs.Images.{is_off}
 use Rattle.jvm_model.specs.Lines.{code_instruction, instruction_of, method_instruction, operation_of}
 use Rattle.jvm_model.specs.Methods.{method_code}
 use Rattle.jvm_model.specs.Originals.{original}
-use Rattle.jvm_model.specs.Pauses.{begin_kind, end_due, stop_by, stop_from, stop_in, told_at, unless_off}
+use Rattle.jvm_model.specs.Pauses.{begin_kind, end_due, stop_by, stop_from, stop_in, told_at}
 use Rattle.jvm_model.specs.Programs.{class_at, code_of_method, place_of_method}
 use Rattle.jvm_model.specs.StepPauses.{is_return}
 use Rattle.jvm_model.specs.Told.{Held, held_after}

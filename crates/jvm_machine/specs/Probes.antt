@@ -1,5 +1,5 @@
 -- The probe from which an event comes: in the version that a method has for a mark it stands where the activation's frame stands when it tells.
-use Rattle.std.specs.Prelude.{◌≡◌, ℕ, false, true, List, ◌∷◌, length, take, drop, Option, Some}
+use Rattle.std.specs.Prelude.{◌≡◌, ℕ, false, true, List, ◌∷◌, length, take, drop, Some}
 use Rattle.std.specs.Option.{option_map_or}
 use Rattle.const_pool.specs.declared.class.CodeAttribute.{CodeAttribute}
 use Rattle.const_pool.specs.Tail.{enter_index, leave_index, root_index, unwind_index}
@@ -20,7 +20,7 @@ use Rattle.jvm_model.specs.ProgramPlaces.{IsClosedCode}
 use Rattle.jvm_model.specs.Programs.{code_of_method}
 use Rattle.jvm_model.specs.StepPauses.{is_return}
 use Rattle.jvm_model.specs.Told.{Held}
-use Rattle.jvm_model.specs.Versions.{IsVersion, entry_index, probe_bytes}
+use Rattle.jvm_model.specs.Versions.{IsVersion, probe_bytes}
 use Rattle.jvm_steps.specs.Standing.{places_of}
 use Rattle.jvm_machine.specs.declared.advancing.Telling.{Telling}
 use Rattle.jvm_machine.specs.declared.advancing.Telling.TheVariants as telling
