@@ -11,7 +11,7 @@ use Rattle.clap.specs.Kinds.{Kinds, or_else, range_kinds, value_kinds, values_ki
 use Rattle.clap.specs.Walk.{Held, Names, Row, Rule, Step, Text, Waiting, Walk, action_of, arg_by_id, arg_by_index, arg_by_long, arg_by_short, attached_value, finished, has_row, is_empty, is_pending, most_values, next, reacted, settled, subcommand, subcommand_met, takes_several, takes_values, trailing, value, values_or_missing, walk, walk_from, walked, with_default, word_met}
 use Rattle.clap.specs.Simple.{Shape, argument_words, built, entered}
 use Rattle.clap.specs.Takes.{action_passes, built_takes, bundle_passes, bundle_step_passes, count_passes, entered_passes, flag_word_passes, flags_pass, is_valid, level_passes, long_passes, option_passes, other_passes, positional_passes, react_passes, set_passes, settle_passes, short_passes, step_passes, takes, turn_passes, use_passes, walk_passes, word_passes}
-use Rattle.clap.specs.Faults.{action_fault, built_fault, bundle_fault, bundle_step_fault, check_fault, count_fault, default_fault, defaults_fault, entered_fault, fault_of, flag_word_fault, flags_fault, level_fault, long_fault, option_fault, other_fault, positional_fault, react_fault, repeat_fault, set_fault, settle_fault, short_fault, step_fault, stray_fault, turn_fault, use_fault, values_fault, walk_fault, word_fault}
+use Rattle.clap.specs.Faults.{action_fault, built_fault, bundle_fault, bundle_step_fault, check_fault, count_fault, default_fault, defaults_fault, entered_fault, fault_of, flag_word_fault, flags_fault, given_default_fault, level_fault, long_fault, option_fault, other_fault, positional_fault, react_fault, repeat_fault, set_fault, settle_fault, short_fault, step_fault, stray_fault, turn_fault, use_fault, values_fault, walk_fault, word_fault}
 use Rattle.clap.specs.declared.builder.action.ArgAction.{ArgAction}
 use Rattle.clap.specs.declared.builder.action.ArgAction.TheVariants.{Set, Append, SetTrue, SetFalse, Count, Help, HelpShort, HelpLong, Version}
 use Rattle.clap.specs.declared.builder.value_parser.ValueParser.{ValueParser}
@@ -185,26 +185,29 @@ of_walk s names w (word ∷ rest) =
 
 -- ---- after the walk
 
--- no argument has a default
-abbrev no_defaults : List Rule → Bool
-no_defaults = list_all (λ a. is_empty a.defaults)
+-- an argument has no default, or one without a fault
+abbrev good_default : Rule → Bool
+good_default a = is_empty a.defaults || none (given_default_fault a a.defaults)
+
+abbrev good_defaults : List Rule → Bool
+good_defaults = list_all good_default
 
 both : (a b : Bool) → (a && b) ≡ true → (a ≡ true) × (b ≡ true)
 both true b e = (refl, e)
 both false b e = absurd (cc)
 
-silent_default : (has bare : Bool) (ks : Kinds) → bare ≡ true → true ≡ none (if has || bare then [] else ks)
+silent_default : (has bare : Bool) (ks : Kinds) → (bare || none ks) ≡ true → true ≡ none (if has || bare then [] else ks)
 silent_default true bare ks e = refl
 silent_default false true ks e = refl
-silent_default false false ks e = absurd (cc)
+silent_default false false ks e = sym e
 
-of_defaults : (rows : List Row) (rules : List Rule) → no_defaults rules ≡ true → true ≡ none (defaults_fault rows rules)
+of_defaults : (rows : List Row) (rules : List Rule) → good_defaults rules ≡ true → true ≡ none (defaults_fault rows rules)
 unfolding defaults_fault
 of_defaults rows [] e = refl
 of_defaults rows (a ∷ rest) e =
-    let parts = both (is_empty a.defaults) (no_defaults rest) e in
+    let parts = both (good_default a) (good_defaults rest) e in
     two true true (default_fault rows a) (defaults_fault (with_default rows a) rest)
-    (silent_default (has_row a.id rows) (is_empty a.defaults) _ parts.0) (of_defaults (with_default rows a) rest parts.1)
+    (silent_default (has_row a.id rows) (is_empty a.defaults) (given_default_fault a a.defaults) parts.0) (of_defaults (with_default rows a) rest parts.1)
 
 abbrev top : Shape
 top = (built jfluid).top

@@ -2,10 +2,10 @@
 use Rattle.std.proofs.Common.{◌≡◌, ℕ, true, false, List, [], ◌∷◌, Some, None, refl, codes}
 use Rattle.clap.specs.Words.{fault_of}
 use Rattle.clap.specs.Kinds.{Kinds}
-use Rattle.clap.specs.declared.error.kind.ErrorKind.TheVariants.{ArgumentConflict, DisplayHelp, InvalidValue, UnknownArgument}
+use Rattle.clap.specs.declared.error.kind.ErrorKind.TheVariants.{ArgumentConflict, DisplayHelp, InvalidValue, TooManyValues, UnknownArgument}
 unfoldable pub use Rattle.clap.proofs.OnLiterals.{clap_on_literals}
 use Rattle.command_line.specs.Described.{jfluid}
-use Rattle.command_line.specs.Words.{Read, is_refused, is_taken, read_of, said}
+use Rattle.command_line.specs.Words.{Read, generation_of, is_refused, is_taken, read_of, said}
 
 -- clap takes the words, no rule refuses them, and this is read
 record AreReadAs (words : List (List ℕ)) (r : Read) : Type 0 where
@@ -24,7 +24,7 @@ record Fail (words : List (List ℕ)) (kinds : Kinds) : Type 0 where
   kind : fault_of jfluid (codes "jfluid" ∷ words) ≡ kinds
 
 abbrev no_words : Read
-no_words = record { main = None; root = None; budget = None; plan = None; files = [] }
+no_words = record { main = None; root = None; budget = None; plan = None; generated = None; images = false; files = [] }
 
 -- the main class P and the file F
 abbrev usual : Read
@@ -79,6 +79,60 @@ zeros_lead = record { taken = refl; accepted = refl; read = refl }
 greatest_budget : AreReadAs (codes "--main=P" ∷ codes "--budget=1000000000000" ∷ codes "F" ∷ []) (record usual { budget = Some 1000000000000 })
 unfolding clap_on_literals is_taken
 greatest_budget = record { taken = refl; accepted = refl; read = refl }
+
+flag : AreReadAs (codes "--main=P" ∷ codes "--images" ∷ codes "F" ∷ []) (record usual { images = true })
+unfolding clap_on_literals is_taken
+flag = record { taken = refl; accepted = refl; read = refl }
+
+-- ---- of a generated program
+
+-- its main class is GenMain
+abbrev made_of : ℕ → ℕ → Read
+made_of seed size = record no_words { main = Some (codes "GenMain"); generated = Some (generation_of seed size) }
+
+smallest : AreReadAs (codes "--gen" ∷ codes "1" ∷ codes "--size" ∷ codes "1" ∷ []) (made_of 1 1)
+unfolding clap_on_literals is_taken
+smallest = record { taken = refl; accepted = refl; read = refl }
+
+greatest : AreReadAs (codes "--size=200" ∷ codes "--gen=2147483647" ∷ []) (made_of 2147483647 200)
+unfolding clap_on_literals is_taken
+greatest = record { taken = refl; accepted = refl; read = refl }
+
+seed_0_with_a_root : AreReadAs (codes "--gen=0" ∷ codes "--size=2" ∷ codes "--root=r" ∷ codes "--budget=5" ∷ []) (record (made_of 0 2) { root = Some (codes "r"); budget = Some 5 })
+unfolding clap_on_literals is_taken
+seed_0_with_a_root = record { taken = refl; accepted = refl; read = refl }
+
+with_a_plan : AreReadAs (codes "--gen=3" ∷ codes "--size=2" ∷ codes "--plan=p" ∷ []) (record (made_of 3 2) { plan = Some (codes "p") })
+unfolding clap_on_literals is_taken
+with_a_plan = record { taken = refl; accepted = refl; read = refl }
+
+seed_alone : AreRefused (codes "--gen" ∷ codes "1" ∷ [])
+unfolding clap_on_literals is_taken
+seed_alone = record { taken = refl; refused = refl }
+
+size_alone : AreRefused (codes "--main=P" ∷ codes "--size=1" ∷ codes "F" ∷ [])
+unfolding clap_on_literals is_taken
+size_alone = record { taken = refl; refused = refl }
+
+size_0 : AreRefused (codes "--gen=1" ∷ codes "--size=0" ∷ [])
+unfolding clap_on_literals is_taken
+size_0 = record { taken = refl; refused = refl }
+
+size_201 : AreRefused (codes "--gen=1" ∷ codes "--size=201" ∷ [])
+unfolding clap_on_literals is_taken
+size_201 = record { taken = refl; refused = refl }
+
+great_seed : AreRefused (codes "--gen=2147483648" ∷ codes "--size=1" ∷ [])
+unfolding clap_on_literals is_taken
+great_seed = record { taken = refl; refused = refl }
+
+file_beside : AreRefused (codes "--gen=1" ∷ codes "--size=1" ∷ codes "F" ∷ [])
+unfolding clap_on_literals is_taken
+file_beside = record { taken = refl; refused = refl }
+
+main_beside : AreRefused (codes "--gen=1" ∷ codes "--size=1" ∷ codes "--main=P" ∷ [])
+unfolding clap_on_literals is_taken
+main_beside = record { taken = refl; refused = refl }
 
 -- ---- refused by the rules
 
@@ -141,9 +195,13 @@ no_value : Fail (codes "F" ∷ codes "--main" ∷ []) (InvalidValue ∷ [])
 unfolding clap_on_literals is_taken
 no_value = record { refused = refl; kind = refl }
 
-images : Fail (codes "--main=P" ∷ codes "--images" ∷ codes "F" ∷ []) (UnknownArgument ∷ [])
+flag_with_a_value : Fail (codes "--main=P" ∷ codes "--images=x" ∷ codes "F" ∷ []) (TooManyValues ∷ [])
 unfolding clap_on_literals is_taken
-images = record { refused = refl; kind = refl }
+flag_with_a_value = record { refused = refl; kind = refl }
+
+flag_twice : Fail (codes "--images" ∷ codes "--main=P" ∷ codes "--images" ∷ codes "F" ∷ []) (ArgumentConflict ∷ [])
+unfolding clap_on_literals is_taken
+flag_twice = record { refused = refl; kind = refl }
 
 -- no front of an option's name stands for it
 front : Fail (codes "--mai=P" ∷ codes "F" ∷ []) (UnknownArgument ∷ [])

@@ -31,6 +31,9 @@ given_in g = record {
   root = text g.root;
   budget = text g.budget;
   plan = text g.plan;
+  seed = text g.seed;
+  size = text g.size;
+  images = g.images;
   files = texts g.files.items;
 }
 

@@ -10,4 +10,4 @@ mod words;
 pub use chosen::{Command, command_of, own_plan};
 pub use input::{InputError, take_input};
 pub use raw::{Process, RawError, SystemWords, raw_words, texts_of};
-pub use words::{Words, WordsError, read_words};
+pub use words::{Generation, Words, WordsError, read_words};

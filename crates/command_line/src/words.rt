@@ -1,13 +1,19 @@
 //! What the words say, and which of them are refused.
 
-ghost use Rattle.std.specs.Prelude.{◌≡◌, codes, map, IfOk};
+ghost use Rattle.std.specs.Prelude.{◌≡◌, ◌≤◌, codes, map, IfOk, IfSome};
 ghost use Rattle.std.specs.Option.{option_map};
 ghost use Rattle.clap.specs.Words.{found_of, rows_of, all_of, first_of, kind_of};
 ghost use Rattle.command_line.specs.Reading.{IsAccepted, IsMatched, IsRefusal, given_in};
 ghost use Rattle.command_line.specs.Words.{IsRead, IsSound, budget_said, class_said, files_in};
+ghost use Rattle.command_line.specs.Words.{is_used};
 ghost use Rattle.command_line.specs.Words.{read_in, said_in, text, texts};
 ghost use Rattle.command_line.specs.Words.{has_bad_budget as bad_budget, has_bad_files as bad_files};
 ghost use Rattle.command_line.specs.Words.{has_two_plans as two_plans, is_refused as refused};
+ghost use Rattle.command_line.specs.Words.{has_bad_count as bad_count, has_half as half};
+ghost use Rattle.command_line.specs.Words.{has_bad_generation as bad_generation, has_bad_seed as bad_seed};
+ghost use Rattle.command_line.specs.Words.{has_bad_run as bad_run, has_bad_size as bad_size};
+ghost use Rattle.command_line.specs.Words.{has_two_mains as two_mains, main_said};
+ghost use Rattle.command_line.specs.Words.{generation_said, greatest_size, size_of as size_spelled};
 ghost use Rattle.command_line.specs.Words.{lacks_main as no_main};
 ghost use Rattle.command_line.specs.declared.words.WordsError.TheVariants.{NoMemory as out_of_memory};
 
@@ -26,8 +32,26 @@ const MOST_FILES: usize = 1024;
 /// The greatest budget.
 const GREATEST_BUDGET: u64 = 1_000_000_000_000;
 
+/// The greatest seed.
+const GREATEST_SEED: u64 = 2_147_483_647;
+
+/// The greatest size of a generated program.
+const GREATEST_SIZE: u64 = 200;
+
+/// The main class of a generated program.
+const GENERATED_MAIN: &str = "GenMain";
+
+/// Of what a program is generated.
+#[derive(Clone, Copy, Debug, PartialEq, Eq)]
+pub struct Generation {
+    /// 0 to 2,147,483,647.
+    pub seed: u32,
+    /// How many classes there are beside the main class, 1 to 200.
+    pub size: u32,
+}
+
 /// What accepted words say. A root and a plan are never there together, one of main and plan is, and there are 1 to 1,024
-/// files.
+/// files, unless the program is generated: then there is none, and its main class is GenMain.
 #[derive(Debug, Drop)]
 pub struct Words<'a> {
     /// The main class in its internal form (JVM Specification 4.2.1).
@@ -38,6 +62,10 @@ pub struct Words<'a> {
     pub budget: Option<u64>,
     /// The name of the plan's file.
     pub plan: Option<&'a str>,
+    /// Of what the program is generated, if it is.
+    pub generated: Option<Generation>,
+    /// Whether each image is put.
+    pub images: bool,
     /// The names of the class files, in the order of the words.
     pub files: Vec<&'a str>,
 }
@@ -86,6 +114,9 @@ struct Given<'a> {
     root: Option<&'a str>,
     budget: Option<&'a str>,
     plan: Option<&'a str>,
+    seed: Option<&'a str>,
+    size: Option<&'a str>,
+    images: bool,
     files: Vec<&'a str>,
 }
 
@@ -121,6 +152,16 @@ fn value_of<'a>(matches: &ArgMatches<'a>, name: &str) -> Option<&'a str>
     matches.get_str(name)
 }
 
+/// Whether a flag is given. clap has the word true for it then, else the word false.
+fn is_given(matches: &ArgMatches<'_>, name: &str) -> bool
+    ensures { result ≡ is_used (first_of name.now (rows_of (found_of matches.now))) }
+{
+    match value_of(matches, name) {
+        Some(value) => value == "true",
+        None => false,
+    }
+}
+
 /// The files, where there are any.
 #[tactic(auto, using(crate::proofs::Found::all_in_rows))]
 fn found_files<'m, 'a>(matches: &'m ArgMatches<'a>) -> Option<&'m [&'a str]>
@@ -151,6 +192,9 @@ fn given_by<'a>(alloc: Global, matches: &ArgMatches<'a>) -> Result<Given<'a>, Al
         root: value_of(matches, "root"),
         budget: value_of(matches, "budget"),
         plan: value_of(matches, "plan"),
+        seed: value_of(matches, "gen"),
+        size: value_of(matches, "size"),
+        images: is_given(matches, "images"),
         files,
     })
 }
@@ -163,10 +207,21 @@ fn has_two_plans(given: &Given<'_>) -> bool
 }
 
 /// Whether there is no file, or too many.
+fn has_bad_count(given: &Given<'_>) -> bool
+    ensures { result ≡ bad_count (given_in given.now) }
+{
+    given.files.is_empty() || given.files.len() > MOST_FILES
+}
+
+/// Whether there are files of a generated program, or else no file, or too many.
 fn has_bad_files(given: &Given<'_>) -> bool
     ensures { result ≡ bad_files (given_in given.now) }
 {
-    given.files.is_empty() || given.files.len() > MOST_FILES
+    if given.seed.is_some() {
+        !given.files.is_empty()
+    } else {
+        has_bad_count(given)
+    }
 }
 
 /// Whether the word for the budget is no number, or too great.
@@ -179,18 +234,101 @@ fn has_bad_budget(given: &Given<'_>) -> bool
     }
 }
 
+/// The main class as it is named; that of a generated program has a name of its own.
+fn main_of<'a>(given: &Given<'a>) -> Option<&'a str>
+    ensures { text result ≡ main_said (given_in given.now) }
+{
+    match given.seed {
+        Some(_) => Some(GENERATED_MAIN),
+        None => given.main,
+    }
+}
+
 /// Whether no word names a main class, and there is no plan that could.
 fn lacks_main(given: &Given<'_>) -> bool
     ensures { result ≡ no_main (given_in given.now) }
 {
-    given.main.is_none() && given.plan.is_none()
+    main_of(given).is_none() && given.plan.is_none()
 }
+
+/// Whether a rule for every program refuses the words.
+fn has_bad_run(given: &Given<'_>) -> bool
+    ensures { result ≡ bad_run (given_in given.now) }
+{
+    has_two_plans(given) || has_bad_files(given) || has_bad_budget(given) || lacks_main(given)
+}
+
+// ---- generated programs
+
+/// The size that a word spells.
+fn size_of(word: &str) -> Option<u64>
+    ensures value { result ≡ size_spelled word.now }
+    ensures small { IfSome result (λ size. size ≤ greatest_size) }
+{
+    let size = number_of(word, GREATEST_SIZE)?;
+    if 1 <= size { Some(size) } else { None }
+}
+
+/// Whether the word for the seed is no number, or too great.
+fn has_bad_seed(given: &Given<'_>) -> bool
+    ensures { result ≡ bad_seed (given_in given.now) }
+{
+    match given.seed {
+        Some(word) => number_of(word, GREATEST_SEED).is_none(),
+        None => false,
+    }
+}
+
+/// Whether the word for the size is no number, 0, or too great.
+fn has_bad_size(given: &Given<'_>) -> bool
+    ensures { result ≡ bad_size (given_in given.now) }
+{
+    match given.size {
+        Some(word) => size_of(word).is_none(),
+        None => false,
+    }
+}
+
+/// Whether one of seed and size is given without the other.
+fn has_half(given: &Given<'_>) -> bool
+    ensures { result ≡ half (given_in given.now) }
+{
+    given.seed.is_some() && given.size.is_none() || given.seed.is_none() && given.size.is_some()
+}
+
+/// Whether the main class of a generated program is named.
+fn has_two_mains(given: &Given<'_>) -> bool
+    ensures { result ≡ two_mains (given_in given.now) }
+{
+    given.seed.is_some() && given.main.is_some()
+}
+
+/// Whether a rule for generated programs refuses the words.
+fn has_bad_generation(given: &Given<'_>) -> bool
+    ensures { result ≡ bad_generation (given_in given.now) }
+{
+    has_half(given) || has_two_mains(given) || has_bad_seed(given) || has_bad_size(given)
+}
+
+/// Of what the words generate a program.
+fn generation_of(seed: Option<&str>, size: Option<&str>) -> Option<Generation>
+    ensures { result ≡ generation_said (text seed.entry) (text size.entry) }
+{
+    let seed = number_of(seed?, GREATEST_SEED)?;
+    let size = size_of(size?)?;
+    Some(Generation {
+        seed: seed as u32,
+        size: size as u32,
+    })
+}
+
+// ---- what is read
 
 /// Whether a rule of the program's own refuses the words.
 fn is_refused(given: &Given<'_>) -> bool
     ensures { result ≡ refused (given_in given.now) }
 {
-    has_two_plans(given) || has_bad_files(given) || has_bad_budget(given) || lacks_main(given)
+    has_bad_run(given) || has_bad_generation(given)
 }
 
 /// The main class that a word names, with slashes for dots.
@@ -220,22 +358,28 @@ fn accepted<'a>(alloc: Global, given: Given<'a>) -> Result<Words<'a>, WordsError
     if is_refused(&given) {
         return Err(WordsError::Refused);
     }
-    let main = class_of(alloc, given.main)?;
+    let main = class_of(alloc, main_of(&given))?;
     Ok(Words {
         main,
         root: given.root,
         budget: budget_of(given.budget),
         plan: given.plan,
+        generated: generation_of(given.seed, given.size),
+        images: given.images,
         files: given.files,
     })
 }
 
-/// Reads the words, of which the first is the program's name: `[--main M] [--root R] [--budget N] [--plan P] [FILE...]`, as
-/// clap takes options with one value each and any number of files.
+/// Reads the words, of which the first is the program's name:
+/// `[--main M] [--root R] [--budget N] [--plan P] [--images] [--gen SEED --size N] [FILE...]`, as clap takes options with one value
+/// each, a flag, and any number of files.
 ///
 /// Of the words that clap takes, those are refused that have `--root` and `--plan`, no file or more than 1,024, a budget that is
 /// not 1 to 13 digits or is above 1,000,000,000,000, or neither `--main` nor `--plan`. With `--plan` alone only the plan can name
 /// the main class, so `command_of` decides once it was read.
+///
+/// With `--gen` a program is generated, whose main class is GenMain. Then there is `--size`, which is not there without it, and no
+/// file and no `--main`; the seed is a number of 1 to 13 digits of at most 2,147,483,647, and the size one from 1 to 200.
 pub fn read_words<'a, S: AsStr>(alloc: Global, words: &'a [S]) -> Result<Words<'a>, WordsError>
     ensures read { IsRead (map S.text words.entry.now) result }
     ensures sound { IfOk result (λ words. IsSound (read_in words)) }

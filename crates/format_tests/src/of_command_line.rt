@@ -48,7 +48,7 @@ fn answer(alloc: Global, words: &[Seq<u8>]) -> Result<String, Fail> {
 }
 
 // words, how many files follow, and what is answered
-const ROWS: [(&str, usize, &str); 13] = [
+const ROWS: [(&str, usize, &str); 18] = [
     ("jfluid --main a.B", 1, "a/B 100000000 None 1 F"),
     ("jfluid --main=P", 1024, "P 100000000 None 1024 F"),
     ("jfluid --main=P", 1025, "refused"),
@@ -63,6 +63,15 @@ const ROWS: [(&str, usize, &str); 13] = [
     ("jfluid --plan p", 1, "- Some(\"p\") F"),
     ("jfluid --plan p --root r --main P", 1, "refused"),
     ("jfluid --main P F -- --", 0, "P 100000000 None 2 --"),
+    (
+        "jfluid --gen 1 --size 200 --root=r",
+        0,
+        "GenMain 100000000 Some(\"r\") 0 -",
+    ),
+    ("jfluid --gen 1 --size 201", 0, "refused"),
+    ("jfluid --gen 2147483648 --size 1", 0, "refused"),
+    ("jfluid --gen 1 --size 1", 1, "refused"),
+    ("jfluid --gen 1 --size 1 --main P", 0, "refused"),
     (
         "jfluid --main P --main P",
         1,
