@@ -86,9 +86,9 @@ own_files : (seed : Option (List ℕ)) (s : Said) → (if is_some seed then not 
 own_files (Some seed) s fine e = no_files s.files fine
 own_files None s fine e = absurd (cc e)
 
-said_within : {P : ℕ → Type 0} (f : List ℕ → Option ℕ) (word : Option (List ℕ)) → ((w : List ℕ) → IfSome (f w) P) → IfSome (option_and_then f word) P
-said_within f None each = tt
-said_within f (Some w) each = each w
+said_within : (P : ℕ → Type 0) (f : List ℕ → Option ℕ) (word : Option (List ℕ)) → ((w : List ℕ) → IfSome (f w) P) → IfSome (option_and_then f word) P
+said_within P f None each = tt
+said_within P f (Some w) each = each w
 
 none_there : (n : ℕ) → not (n == 0) ≡ false → n ≤ most_files
 none_there zero h = omega arith
@@ -129,7 +129,8 @@ sound s fine =
     record {
       files = (λ none. files.0 (no_seed s.seed s.size half.0 numbers.0 numbers.1 none), files.1);
       generated = generation_within (read_of s) (option_and_then (number_of greatest_seed) s.seed) (option_and_then size_of s.size)
-          (said_within (number_of greatest_seed) s.seed seed_within) (said_within size_of s.size size_within)
+          (said_within (λ n. n ≤ greatest_seed) (number_of greatest_seed) s.seed seed_within)
+          (said_within (λ n. (1 ≤ n) × (n ≤ greatest_size)) size_of s.size size_within)
           (λ e. let there = seed_said s.seed e in (own_main s.seed s.main there, own_files s.seed s first.1 there));
       budget = budget_within s.budget;
       one_plan = first.0;

@@ -1,5 +1,5 @@
 -- Words and plans, with what they ask for together.
-use Rattle.std.proofs.Common.{◌≡◌, [], ◌∷◌, Some, None, refl, codes}
+use Rattle.std.proofs.Common.{◌≡◌, false, [], ◌∷◌, Some, None, refl, codes}
 use Rattle.plan_text.specs.declared.plan.Plan.{Plan}
 use Rattle.plan_text.specs.Lines.{silent_plan}
 use Rattle.command_line.specs.Words.{Read, generation_of}

@@ -48,7 +48,7 @@ fn answer(alloc: Global, words: &[Seq<u8>]) -> Result<String, Fail> {
 }
 
 // words, how many files follow, and what is answered
-const ROWS: [(&str, usize, &str); 18] = [
+const ROWS: [(&str, usize, &str); 19] = [
     ("jfluid --main a.B", 1, "a/B 100000000 None 1 F"),
     ("jfluid --main=P", 1024, "P 100000000 None 1024 F"),
     ("jfluid --main=P", 1025, "refused"),
@@ -77,10 +77,11 @@ const ROWS: [(&str, usize, &str); 18] = [
         1,
         "error: the argument '--main <CLASS>' cannot be used multiple times",
     ),
+    ("jfluid --main P --images", 1, "P 100000000 None 1 F"),
     (
-        "jfluid --images",
+        "jfluid --image",
         1,
-        "error: unexpected argument '--images' found",
+        "error: unexpected argument '--image' found",
     ),
     (
         "jfluid --main P --help",

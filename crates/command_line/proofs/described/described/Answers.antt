@@ -12,5 +12,5 @@ returns c =
     let plan = c.in_ok-command-4.ensures ∙ ap₂ with_rule budget c.option-plan.ensures.rule in
     let seed = c.in_ok-command-5.ensures ∙ ap₂ with_rule plan c.option-seed.ensures.rule in
     let size = c.in_ok-command-6.ensures ∙ ap₂ with_rule seed c.option-size.ensures.rule in
-    let images = c.in_ok-command-7.ensures ∙ ap₂ with_rule size c.flag.ensures.rule in
+    let images = c.in_ok-command-7.ensures ∙ ap₂ with_rule size c.flag-images.ensures.rule in
     IfOk-weaker c.with_arg-8.result _ _ (λ more is. is ∙ ap₂ with_rule images c.files.ensures.rule) c.with_arg-8.ensures
