@@ -1,6 +1,10 @@
 -- What a machine that runs versions keeps to.
-use Rattle.std.specs.Prelude.{◌≡◌, ℕ, Bool, true, false, List, map, ◌⊎◌}
+use Rattle.std.specs.Prelude.{◌≡◌, ℕ, Bool, true, false, not, List, [], ◌∷◌, length, map, ◌⊎◌, ◌==◌, ◌&&◌, ◌||◌}
+use Rattle.std.specs.List.{list_any, range_with_len}
+use Rattle.method_versions.specs.Tables.{is_superseded_in}
 use Rattle.jvm_model.specs.declared.event.Mark.{Mark}
+use Rattle.jvm_model.specs.declared.state.Entry.{Entry}
+use Rattle.jvm_model.specs.declared.state.Entry.TheVariants.{Active, Initializing}
 use Rattle.jvm_model.specs.declared.state.State.{State}
 use Rattle.jvm_model.specs.Run.{starts_with, turn}
 use Rattle.jvm_model.specs.StandsForRun.{StandsFor}
@@ -20,6 +24,7 @@ use Rattle.jvm_machine.specs.View.{View, is_resting, run_state}
 abbrev pub marks_of : Versions → List Mark
 marks_of v = map (mark_of v) v.current
 
+-- what is seen where no version is held needlessly
 abbrev pub seen : Setup → State → Bool → Bool → ℕ → Hand → View
 seen w s started broken clock hand = record {
   program = w.world.program;
@@ -31,7 +36,31 @@ seen w s started broken clock hand = record {
   passed = hand.passed;
   told = hand.told;
   live = helds (mark_of w.versions) s.stack;
+  stale = false;
 }
+
+-- ---- the versions that are held
+
+-- a live activation runs this one
+abbrev pub runs : ℕ → List Entry → Bool
+runs k [] = false
+runs k (Active f ∷ below) = f.version == k || runs k below
+runs k (Initializing class part ∷ below) = runs k below
+
+-- its method begins in another one, and no live activation runs it
+abbrev pub is_stale : Versions → List Entry → ℕ → Bool
+is_stale v stack k = is_superseded_in v.slots v.current k && not (runs k stack)
+
+abbrev pub holds_stale : Versions → List Entry → Bool
+holds_stale v stack = list_any (is_stale v stack) (range_with_len 0 (length v.slots))
+
+-- what is seen
+abbrev pub viewed : Setup → State → Bool → Bool → ℕ → Hand → View
+viewed w s started broken clock hand = record (seen w s started broken clock hand) { stale = holds_stale w.versions s.stack }
+
+-- each version that is held is the one in which its method begins, or a live activation runs it
+abbrev pub IsTidy : Versions → List Entry → Type 0
+IsTidy v stack = (k : ℕ) → is_superseded_in v.slots v.current k ≡ true → runs k stack ≡ true
 
 -- ---- the invariant
 
@@ -69,3 +98,8 @@ pub record IsMachine (w : Setup) (loaded : List ℕ) (hand : Hand) (v : View) (s
   pub has : HasVersions w homes
   pub early : v.started ≡ false → IsEarly v
   pub whole : v.broken ≡ false → IsWhole w homes loaded hand v s
+
+-- and no version is held needlessly
+pub record Keeps (w : Setup) (loaded : List ℕ) (hand : Hand) (started broken : Bool) (clock : ℕ) (s : State) : Type 0 where
+  pub machine : IsMachine w loaded hand (seen w s started broken clock hand) s
+  pub tidy : broken ≡ false → IsTidy w.versions s.stack

@@ -14,7 +14,8 @@ use Rattle.jvm_model.specs.Told.{Held, all_held}
 
 -- A machine of a program, with its input; the marks of the versions in which methods begin now, by the methods' numbers; whether it has made
 -- the start; whether memory has run out; the number of steps begun after the start; how many changes of the step in hand are behind it, its load
--- among them, and whether the probe of the end that comes next has told; and the live activations, each with the mark of its version.
+-- among them, and whether the probe of the end that comes next has told; the live activations, each with the mark of its version; and whether a
+-- version is held in which its method does not begin, and that no live activation runs.
 pub record View : Type 0 where
   pub program : Program
   pub input : List ℕ
@@ -25,6 +26,7 @@ pub record View : Type 0 where
   pub passed : ℕ
   pub told : Bool
   pub live : List Held
+  pub stale : Bool
 
 -- a machine that was just made runs original code
 abbrev pub made : Program → List ℕ → View
@@ -38,6 +40,7 @@ made program input = record {
   passed = 0;
   told = false;
   live = [];
+  stale = false;
 }
 
 abbrev pub world : View → World
