@@ -1,10 +1,12 @@
 -- No version is held needlessly: each is the one in which its method begins, or a live activation runs it.
-use Rattle.std.proofs.Common.{◌≡◌, ℕ, suc, Bool, true, false, List, [], ◌∷◌, ◌++◌, length, map, Option, Some, None, refl, sym, ap, ap₂, subst, ◌∙◌, arith}
+use Rattle.std.proofs.Common.{◌≡◌, ℕ, suc, Bool, true, false, cond, List, [], ◌∷◌, ◌++◌, ◌+◌, length, map, Option, Some, None, refl, sym, ap, ap₂, subst, ◌∙◌, arith}
 use Rattle.std.specs.Prelude.{not, slice_get, ◌==◌, ◌&&◌, ◌||◌, if◌then◌else◌}
 use Rattle.std.specs.List.{list_any, range_with_len, slice_set}
 use Rattle.std.specs.Option.{option_map, option_map_or}
-use Rattle.std.proofs.lemmas.Bool.{false≢true}
+use Rattle.std.proofs.lemmas.Bool.{eq-eqb, eqb-eq, false≢true}
+use Rattle.std.proofs.lemmas.List.Sums.{sum_by-cons}
 use Rattle.frame_stack.specs.FrameLists.{PlacedFrame, pins_of}
+use Rattle.method_versions.proofs.Adding.{set-at, set-other}
 use Rattle.method_versions.specs.Tables.{current_in, held_besides, is_number, is_old, is_superseded_in, method_in}
 use Rattle.jvm_model.specs.declared.event.Mark.{Mark}
 use Rattle.jvm_model.specs.declared.event.Mark.TheVariants.{Off, Root}
@@ -15,7 +17,7 @@ use Rattle.jvm_steps.specs.declared.markers.Marker.{Marker}
 use Rattle.jvm_steps.specs.declared.parts.Parts.{Parts}
 use Rattle.jvm_steps.specs.Markers.{above, beneath, initializing, stack_of, state_of}
 use Rattle.jvm_steps.specs.States.{active}
-use Rattle.jvm_steps.specs.Tables.{Adds, AreAllCurrent, IsAdded, Releases, Version, Versions, version_at}
+use Rattle.jvm_steps.specs.Tables.{Adds, AreAllCurrent, AreOfMethods, IsAdded, Releases, Version, Versions, version_at}
 use Rattle.jvm_machine.specs.Machine.{IsTidy, holds_stale, is_stale, runs}
 
 -- ---- what is seen then
@@ -47,6 +49,112 @@ runs-behind : (k : ℕ) (ms : List Marker) (stack : List Entry) → runs k (map 
 runs-behind k [] stack = refl
 runs-behind k (m ∷ ms) stack = runs-behind k ms stack
 
-none-runs : (k : ℕ) (fs : List PlacedFrame) → (pins_of k fs == 0) ≡ false → runs k (map active fs) ≡ true
-none-runs k [] no = absurd (false≢true (sym no))
-none-runs k (f ∷ fs) no = ?
+-- a frame more in front
+more-pins : (k : ℕ) (f : PlacedFrame) (fs : List PlacedFrame) → (pins_of k (f ∷ fs) == 0) ≡ false → (f.version == k) ≡ false → (pins_of k fs == 0) ≡ false
+more-pins k f fs no other =
+    ap (λ n. n == 0) (ap (λ b. cond b 1 0 + pins_of k fs) (sym other) ∙ sym (sum_by-cons (λ (g : PlacedFrame). cond (g.version == k) 1 0) f fs)) ∙ no
+
+either : {A : Type 0} (b : Bool) → (b ≡ true → A) → (b ≡ false → A) → A
+either true on off = on refl
+either false on off = off refl
+
+-- what frames run, their activations run
+pub pinned-runs : (k : ℕ) (fs : List PlacedFrame) (ms : List Marker) → (pins_of k fs == 0) ≡ false → runs k (stack_of (map active fs) ms) ≡ true
+unfolding stack_of above beneath
+pinned-runs k [] ms no = absurd (false≢true (sym no))
+pinned-runs k (f ∷ fs) ms no =
+    runs-behind k (above (suc (length (map active fs))) ms) (active f ∷ stack_of (map active fs) (beneath (suc (length (map active fs))) ms))
+    ∙ either (f.version == k) (λ on. ap (λ b. b || runs k (stack_of (map active fs) (beneath (suc (length (map active fs))) ms))) on)
+    (λ off.
+    ap (λ b. b || runs k (stack_of (map active fs) (beneath (suc (length (map active fs))) ms))) off
+    ∙ pinned-runs k fs (beneath (suc (length (map active fs))) ms) (more-pins k f fs no off))
+
+-- ---- superseded versions are dropped
+
+module _ (fs : List PlacedFrame) (v after : Versions) (released : Releases fs v after) where
+  abbrev dropped : ℕ → Bool
+  dropped k = is_superseded_in v.slots v.current k && pins_of k fs == 0
+
+  same-now : (k : ℕ) → is_superseded_in after.slots after.current k ≡ is_old v.current k (option_map (λ (x : Version). x.method) (if dropped k then None else version_at v k))
+  same-now k =
+      ap (λ (ks : List ℕ). is_superseded_in after.slots ks k) released.current
+      ∙ ap (λ (o : Option Version). is_old v.current k (option_map (λ (x : Version). x.method) o)) (released.held k)
+
+  pinned-by : (k : ℕ) (a b : Bool) → is_superseded_in v.slots v.current k ≡ a → (pins_of k fs == 0) ≡ b
+      → is_old v.current k (option_map (λ (x : Version). x.method) (if (a && b) then None else version_at v k)) ≡ true → b ≡ false
+  pinned-by k true true old none is = absurd (false≢true is)
+  pinned-by k true false old none is = refl
+  pinned-by k false b old none is = absurd (false≢true (sym old ∙ is))
+
+  pub released-pinned : (k : ℕ) → is_superseded_in after.slots after.current k ≡ true → (pins_of k fs == 0) ≡ false
+  released-pinned k is = pinned-by k (is_superseded_in v.slots v.current k) (pins_of k fs == 0) refl refl (sym (same-now k) ∙ is)
+
+pub tidy-released : (ms : List Marker) (p : Parts) (v after : Versions) → Releases p.frames.frames v after → IsTidy after (state_of ms p).stack
+tidy-released ms p v after released k is = pinned-runs k p.frames.frames ms (released-pinned p.frames.frames v after released k is)
+
+-- ---- versions more
+
+-- which of a method's version it is
+by-eq : (i m : ℕ) (b : Bool) → (i == m) ≡ b → {A : Type 0} → (i ≡ m → A) → ((i ≡ m → ⊥) → A) → A
+by-eq i m true is same other = same (eqb-eq i m is)
+by-eq i m false is same other = other (λ e. absurd (false≢true (sym is ∙ eq-eqb i m e)))
+
+module _ (stack : List Entry) (fs : List PlacedFrame) (own : (k : ℕ) → (pins_of k fs == 0) ≡ false → runs k stack ≡ true) where
+  module _ (number : ℕ) (x : Version) (old new : Versions) (added : IsAdded fs number x old new) (within : x.method < length old.current) (tidy : IsTidy old stack) (k : ℕ) where
+    former : Option ℕ
+    former = current_in old.current x.method
+
+    is-now : is_superseded_in new.slots new.current k
+        ≡ is_old (slice_set old.current x.method number) k (option_map (λ (y : Version). y.method) (if k == number then Some x else held_besides fs (current_in old.current x.method) k (version_at old k)))
+    is-now =
+        ap (λ (ks : List ℕ). is_superseded_in new.slots ks k) added.current
+        ∙ ap (λ (o : Option Version). is_old (slice_set old.current x.method number) k (option_map (λ (y : Version). y.method) o)) (added.held k)
+
+    -- the new one is not superseded
+    new-is : (k ≡ number) → is_old (slice_set old.current x.method number) k (Some x.method) ≡ true → runs k stack ≡ true
+    new-is same is =
+        absurd (false≢true (sym (ap (λ o. not (is_number k o)) (set-at old.current x.method number within) ∙ ap not (eq-eqb number k (sym same))) ∙ is))
+
+    -- the former one is run by a frame
+    former-is : (m : ℕ) (b : Bool) → (pins_of k fs == 0) ≡ b → is_number k (current_in old.current x.method) ≡ true
+        → is_old (slice_set old.current x.method number) k (option_map (λ (y : Version). y.method) (if is_number k (current_in old.current x.method) && b then None else version_at old k)) ≡ true → runs k stack ≡ true
+    former-is m true unpinned old_is is =
+        absurd (false≢true (sym (ap (λ c. is_old (slice_set old.current x.method number) k (option_map (λ (y : Version). y.method) (if c && true then None else version_at old k))) old_is) ∙ is))
+    former-is m false pinned old_is is = own k pinned
+
+    -- another one was superseded before
+    other-is : (o : Option Version) → is_number k (current_in old.current x.method) ≡ false → is_old (slice_set old.current x.method number) k (option_map (λ (y : Version). y.method) o) ≡ true
+        → is_old old.current k (option_map (λ (y : Version). y.method) o) ≡ true
+    other-is None no is = is
+    other-is (Some y) no is =
+        by-eq y.method x.method (y.method == x.method) refl
+        (λ same. ap (λ m. not (is_number k (current_in old.current m))) same ∙ ap not no)
+        (λ apart. ap (λ c. not (is_number k c)) (sym (set-other old.current x.method y.method number apart)) ∙ is)
+
+    besides : (c : Bool) → is_number k (current_in old.current x.method) ≡ c
+        → is_old (slice_set old.current x.method number) k (option_map (λ (y : Version). y.method) (held_besides fs (current_in old.current x.method) k (version_at old k))) ≡ true → runs k stack ≡ true
+    besides true old_is is = former-is 0 (pins_of k fs == 0) refl old_is is
+    besides false no is =
+        tidy k (other-is (version_at old k) no
+        (ap (λ c. is_old (slice_set old.current x.method number) k (option_map (λ (y : Version). y.method) (if c && pins_of k fs == 0 then None else version_at old k))) (sym no) ∙ is))
+
+    added-at : (b : Bool) → (k == number) ≡ b
+        → is_old (slice_set old.current x.method number) k (option_map (λ (y : Version). y.method) (if b then Some x else held_besides fs (current_in old.current x.method) k (version_at old k))) ≡ true
+        → runs k stack ≡ true
+    added-at true same is = new-is (eqb-eq k number same) is
+    added-at false other is = besides (is_number k (current_in old.current x.method)) refl is
+
+    -- what is superseded then was superseded before, or it is the former one, which a frame runs
+    added-one : is_superseded_in new.slots new.current k ≡ true → runs k stack ≡ true
+    added-one is = added-at (k == number) refl (sym is-now ∙ is)
+
+  pub tidy-added : (more : List Version) (old new : Versions) → AreOfMethods (length old.current) more → Adds fs more old new → IsTidy old stack → IsTidy new stack
+  tidy-added [] old new each adds tidy = subst (λ (v : Versions). IsTidy v stack) (sym adds) tidy
+  tidy-added (x ∷ more) old new each adds tidy =
+      let count : length adds.1.current ≡ length old.current = ap length adds.2.current ∙ length-set old.current x.method adds.0 in
+      tidy-added more adds.1 new (subst (λ n. AreOfMethods n more) (sym count) each.1) adds.3 (added-one adds.0 x old adds.1 adds.2 each.0 tidy)
+
+-- ---- steps without changes
+
+only : ℕ → ℕ → Mark
+only k v = if v == k then Root else Off
