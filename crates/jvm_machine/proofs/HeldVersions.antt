@@ -18,7 +18,9 @@ use Rattle.jvm_steps.specs.declared.parts.Parts.{Parts}
 use Rattle.jvm_steps.specs.Markers.{above, beneath, initializing, stack_of, state_of}
 use Rattle.jvm_steps.specs.States.{active}
 use Rattle.jvm_steps.specs.Tables.{Adds, AreAllCurrent, AreOfMethods, IsAdded, Releases, Version, Versions, version_at}
-use Rattle.jvm_machine.specs.Machine.{IsTidy, holds_stale, is_stale, runs}
+use Rattle.jvm_steps.specs.declared.hands.Hand.{Hand}
+use Rattle.jvm_steps.specs.Versions.{Setup}
+use Rattle.jvm_machine.specs.Machine.{IsTidy, holds_stale, is_stale, runs, seen, viewed}
 
 -- ---- what is seen then
 
@@ -33,6 +35,12 @@ not-stale false b so = refl
 pub tidy-seen : (v : Versions) (stack : List Entry) → IsTidy v stack → holds_stale v stack ≡ false
 tidy-seen v stack tidy =
     any-none (is_stale v stack) (range_with_len 0 (length v.slots)) (λ k. not-stale (is_superseded_in v.slots v.current k) (runs k stack) (tidy k))
+
+-- no version is seen that is held needlessly
+pub plain-view : (w : Setup) (loaded : List ℕ) (hand : Hand) (started broken : Bool) (clock : ℕ) (s : State) → (broken ≡ false → IsTidy w.versions s.stack)
+    → viewed w s started broken clock hand ≡ seen w s started broken clock hand
+plain-view w loaded hand started true clock s tidy = refl
+plain-view w loaded hand started false clock s tidy = ap (λ b. record (seen w s started false clock hand) { stale = b }) (tidy-seen w.versions s.stack (tidy refl))
 
 -- ---- nothing is superseded
 

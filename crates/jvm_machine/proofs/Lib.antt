@@ -1,4 +1,5 @@
 pub mod Kept
+pub mod HeldVersions
 pub mod Released
 pub mod Going
 pub mod Machines

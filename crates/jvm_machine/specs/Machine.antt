@@ -54,9 +54,10 @@ is_stale v stack k = is_superseded_in v.slots v.current k && not (runs k stack)
 abbrev pub holds_stale : Versions → List Entry → Bool
 holds_stale v stack = list_any (is_stale v stack) (range_with_len 0 (length v.slots))
 
--- what is seen
+-- what is seen; where memory has run out nothing is said of the versions
 abbrev pub viewed : Setup → State → Bool → Bool → ℕ → Hand → View
-viewed w s started broken clock hand = record (seen w s started broken clock hand) { stale = holds_stale w.versions s.stack }
+viewed w s started broken clock hand =
+    record (seen w s started broken clock hand) { stale = not broken && holds_stale w.versions s.stack }
 
 -- each version that is held is the one in which its method begins, or a live activation runs it
 abbrev pub IsTidy : Versions → List Entry → Type 0

@@ -44,17 +44,16 @@ pub struct Vm {
 
 impl Model for Vm {
     ghost use Rattle.jvm_steps.specs.Markers.{state_of};
-    ghost use Rattle.jvm_machine.specs.Machine.{IsMachine, seen};
+    ghost use Rattle.jvm_machine.specs.Machine.{Keeps, viewed};
     ghost use Rattle.jvm_machine.specs.View.{View};
 
     ghost Value = { View };
 
-    ghost view = { λ v. seen v.originals.setup (state_of v.markers v.parts) v.started
+    ghost view = { λ v. viewed v.originals.setup (state_of v.markers v.parts) v.started
         v.broken v.clock v.hand };
 
-    ghost invariant = { λ v. IsMachine v.originals.setup v.originals.loaded v.hand (seen
-        v.originals.setup (state_of v.markers v.parts) v.started v.broken v.clock v.hand)
-        (state_of v.markers v.parts) };
+    ghost invariant = { λ v. Keeps v.originals.setup v.originals.loaded v.hand v.started
+        v.broken v.clock (state_of v.markers v.parts) };
 }
 
 /// Whether a turn says no more than that a step is done.
