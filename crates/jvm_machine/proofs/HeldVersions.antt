@@ -1,15 +1,16 @@
 -- No version is held needlessly: each is the one in which its method begins, or a live activation runs it.
 use Rattle.std.proofs.Common.{◌≡◌, ℕ, suc, Bool, true, false, cond, List, [], ◌∷◌, ◌++◌, ◌+◌, length, map, Option, Some, None, refl, sym, ap, ap₂, subst, ◌∙◌, arith}
-use Rattle.std.specs.Prelude.{not, slice_get, ◌==◌, ◌&&◌, ◌||◌, if◌then◌else◌}
+use Rattle.std.specs.Prelude.{IfNone, not, slice_get, ◌==◌, ◌&&◌, ◌||◌, if◌then◌else◌}
 use Rattle.std.specs.List.{list_any, range_with_len, slice_set}
 use Rattle.std.specs.Option.{option_map, option_map_or}
-use Rattle.std.proofs.lemmas.Bool.{eq-eqb, eqb-eq, false≢true}
+use Rattle.std.proofs.lemmas.Bool.{eq-eqb, eqb-true, false≢true}
 use Rattle.std.proofs.lemmas.List.Sums.{sum_by-cons}
+use Rattle.std.proofs.lemmas.List.{length-set}
 use Rattle.frame_stack.specs.FrameLists.{PlacedFrame, pins_of}
 use Rattle.method_versions.proofs.Adding.{set-at, set-other}
 use Rattle.method_versions.specs.Tables.{current_in, held_besides, is_number, is_old, is_superseded_in, method_in}
 use Rattle.jvm_model.specs.declared.event.Mark.{Mark}
-use Rattle.jvm_model.specs.declared.event.Mark.TheVariants.{Off, Root}
+use Rattle.jvm_model.specs.declared.event.Mark.TheVariants.{Off, Plain, Root}
 use Rattle.jvm_model.specs.declared.state.Entry.{Entry}
 use Rattle.jvm_model.specs.declared.state.Entry.TheVariants.{Active, Initializing}
 use Rattle.jvm_model.specs.declared.state.State.{State}
@@ -18,9 +19,13 @@ use Rattle.jvm_steps.specs.declared.parts.Parts.{Parts}
 use Rattle.jvm_steps.specs.Markers.{above, beneath, initializing, stack_of, state_of}
 use Rattle.jvm_steps.specs.States.{active}
 use Rattle.jvm_steps.specs.Tables.{Adds, AreAllCurrent, AreOfMethods, IsAdded, Releases, Version, Versions, version_at}
+use Rattle.jvm_model.specs.Run.{starts_with, with_loaded}
+use Rattle.jvm_model.specs.Told.{Held, helds}
 use Rattle.jvm_steps.specs.declared.hands.Hand.{Hand}
 use Rattle.jvm_steps.specs.Versions.{Setup}
-use Rattle.jvm_machine.specs.Machine.{IsTidy, holds_stale, is_stale, runs, seen, viewed}
+use Rattle.jvm_machine.specs.Advances.{taken_state}
+use Rattle.jvm_machine.specs.Machine.{IsTidy, Keeps, holds_stale, is_stale, runs, seen, viewed}
+use Rattle.jvm_machine.specs.View.{View}
 
 -- ---- what is seen then
 
@@ -41,6 +46,18 @@ pub plain-view : (w : Setup) (loaded : List ℕ) (hand : Hand) (started broken :
     → viewed w s started broken clock hand ≡ seen w s started broken clock hand
 plain-view w loaded hand started true clock s tidy = refl
 plain-view w loaded hand started false clock s tidy = ap (λ b. record (seen w s started false clock hand) { stale = b }) (tidy-seen w.versions s.stack (tidy refl))
+
+-- what is seen is that
+pub seen-is : {w : Setup} {loaded : List ℕ} {hand : Hand} {started broken : Bool} {clock : ℕ} {s : State} {v : View} (is : Keeps w loaded hand started broken clock s)
+    → viewed w s started broken clock hand ≡ v → seen w s started broken clock hand ≡ v
+seen-is {w} {loaded} {hand} {started} {broken} {clock} {s} is view = sym (plain-view w loaded hand started broken clock s is.tidy) ∙ view
+
+pub as-viewed : (w : Setup) (loaded : List ℕ) (hand : Hand) (clock : ℕ) (s : State) (P : View → Type 0) → IsTidy w.versions s.stack → P (seen w s true false clock hand) → P (viewed w s true false clock hand)
+as-viewed w loaded hand clock s P tidy holds = subst P (sym (plain-view w loaded hand true false clock s (λ whole. tidy))) holds
+
+pub unless-some : {A : Type 0} (o : Option A) → ((a : A) → o ≡ Some a → ⊥) → (P : Type 0) → IfNone o P → P
+unless-some None other P holds = holds
+unless-some (Some a) other P holds = absurd (other a refl)
 
 -- ---- nothing is superseded
 
@@ -104,7 +121,7 @@ tidy-released ms p v after released k is = pinned-runs k p.frames.frames ms (rel
 
 -- which of a method's version it is
 by-eq : (i m : ℕ) (b : Bool) → (i == m) ≡ b → {A : Type 0} → (i ≡ m → A) → ((i ≡ m → ⊥) → A) → A
-by-eq i m true is same other = same (eqb-eq i m is)
+by-eq i m true is same other = same (eqb-true i m is)
 by-eq i m false is same other = other (λ e. absurd (false≢true (sym is ∙ eq-eqb i m e)))
 
 module _ (stack : List Entry) (fs : List PlacedFrame) (own : (k : ℕ) → (pins_of k fs == 0) ≡ false → runs k stack ≡ true) where
@@ -149,7 +166,7 @@ module _ (stack : List Entry) (fs : List PlacedFrame) (own : (k : ℕ) → (pins
     added-at : (b : Bool) → (k == number) ≡ b
         → is_old (slice_set old.current x.method number) k (option_map (λ (y : Version). y.method) (if b then Some x else held_besides fs (current_in old.current x.method) k (version_at old k))) ≡ true
         → runs k stack ≡ true
-    added-at true same is = new-is (eqb-eq k number same) is
+    added-at true same is = new-is (eqb-true k number same) is
     added-at false other is = besides (is_number k (current_in old.current x.method)) refl is
 
     -- what is superseded then was superseded before, or it is the former one, which a frame runs
@@ -162,7 +179,49 @@ module _ (stack : List Entry) (fs : List PlacedFrame) (own : (k : ℕ) → (pins
       let count : length adds.1.current ≡ length old.current = ap length adds.2.current ∙ length-set old.current x.method adds.0 in
       tidy-added more adds.1 new (subst (λ n. AreOfMethods n more) (sym count) each.1) adds.3 (added-one adds.0 x old adds.1 adds.2 each.0 tidy)
 
+-- ---- what is taken up
+
+pub tidy-taken : (w w1 : Setup) (resting started : Bool) (s s1 : State) → w1 ≡ w → s1 ≡ taken_state w.world resting started s → (started ≡ false → s.stack ≡ [])
+    → IsTidy w.versions s.stack → IsTidy w1.versions s1.stack
+tidy-taken w w1 resting started s s1 same there first tidy =
+    subst (λ (u : Setup). IsTidy u.versions s1.stack) (sym same)
+    (subst (λ (z : State). IsTidy w.versions z.stack) (sym there) (by resting started first))
+  where
+    by : (resting started : Bool) → (started ≡ false → s.stack ≡ []) → IsTidy w.versions (taken_state w.world resting started s).stack
+    by true false first = tidy-empty w.versions (starts_with w.world).stack (subst (IsTidy w.versions) (first refl) tidy)
+    by true true first = tidy
+    by false started first = tidy
+
+-- loaded classes are not seen by it
+pub tidy-loaded : (w w1 : Setup) (classes : List ℕ) (s s1 : State) → w1 ≡ w → s1 ≡ with_loaded classes s → IsTidy w.versions s.stack → IsTidy w1.versions s1.stack
+tidy-loaded w w1 classes s s1 same there tidy =
+    subst (λ (u : Setup). IsTidy u.versions s1.stack) (sym same)
+    (subst (λ (z : State). IsTidy w.versions z.stack) (sym there) (by classes))
+  where
+    by : (classes : List ℕ) → IsTidy w.versions (with_loaded classes s).stack
+    by [] = tidy
+    by (c ∷ more) = tidy
+
 -- ---- steps without changes
 
-only : ℕ → ℕ → Mark
+abbrev only : ℕ → ℕ → Mark
 only k v = if v == k then Root else Off
+
+abbrev is-root : Mark → Bool
+is-root Root = true
+is-root Plain = false
+is-root Off = false
+
+root-only : (b : Bool) → is-root (if b then Root else Off) ≡ b
+root-only true = refl
+root-only false = refl
+
+runs-helds : (k : ℕ) (stack : List Entry) → list_any (λ (h : Held). is-root h.mark) (helds (only k) stack) ≡ runs k stack
+runs-helds k [] = refl
+runs-helds k (Active f ∷ below) = ap₂ (λ a b. a || b) (root-only (f.version == k)) (runs-helds k below)
+runs-helds k (Initializing class part ∷ below) = runs-helds k below
+
+-- where the activations are as they were, whatever the marks
+pub tidy-same : (v : Versions) (old new : List Entry) → ((marks : ℕ → Mark) → helds marks new ≡ helds marks old) → IsTidy v old → IsTidy v new
+tidy-same v old new same tidy k is =
+    sym (runs-helds k new) ∙ (ap (λ hs. list_any (λ (h : Held). is-root h.mark) hs) (same (only k)) ∙ (runs-helds k old ∙ tidy k is))

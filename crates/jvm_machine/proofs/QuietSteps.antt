@@ -27,10 +27,11 @@ use Rattle.jvm_steps.specs.Standing.{IsRunOf, places_of}
 use Rattle.jvm_steps.specs.Versions.{Setup, current_of, mark_of, method_of, text_of}
 use Rattle.jvm_steps.proofs.StandingSteps.{run-of-more}
 use Rattle.jvm_steps.proofs.VersionsAgree.{versions-agree}
-use Rattle.jvm_machine.specs.Machine.{IsMachine, Stands, seen}
+use Rattle.jvm_machine.specs.Machine.{IsMachine, IsTidy, Stands, seen}
 use Rattle.jvm_machine.specs.Several.{Passes, more, none}
 use Rattle.jvm_machine.specs.Turns.{Settles}
 use Rattle.jvm_machine.specs.View.{View, advanced, begun, has_ended, is_resting, loads_next, next_stop, rested, to_come, world}
+use Rattle.jvm_machine.proofs.HeldVersions.{tidy-same}
 use Rattle.jvm_machine.proofs.Machines.{not_is, zero_is}
 use Rattle.jvm_machine.proofs.Shown.{stands-shows}
 
@@ -75,9 +76,6 @@ module _ (w : Setup) (s : State) (quiet : (step w.world (text_of w.versions) s).
   abbrev u : Text
   u = text_of w.versions
 
-  abbrev marks : ℕ → Mark
-  marks = mark_of w.versions
-
   nothing-loaded : step_loads w.world u s ≡ []
   nothing-loaded = by (step_loads w.world u s) (sym (ap (λ (a : Turn). a.changes) (step-loads w.world u s)) ∙ quiet) where
     by : (classes : List ℕ) → (loaded_turn classes (step w.world u (with_loaded classes s))).changes ≡ [] → classes ≡ []
@@ -87,8 +85,8 @@ module _ (w : Setup) (s : State) (quiet : (step w.world (text_of w.versions) s).
       first-change c cs e = cc
 
   -- live activations stay as they are
-  quiet-helds : helds marks (step w.world u s).after.stack ≡ helds marks s.stack
-  quiet-helds =
+  quiet-helds : (marks : ℕ → Mark) → helds marks (step w.world u s).after.stack ≡ helds marks s.stack
+  quiet-helds marks =
       let p : Pause = step_pause w.world u marks false 0 s in
       let is = step-paused w.world u marks (ends-by-return w.world) false 0 s (λ told. absurd (let e : false ≡ true = told in cc)) nothing-loaded in
       let stops = ap (stop_in (mark_now marks u) 0 (helds marks s.stack)) (sym quiet) ∙ is.stops in
@@ -120,11 +118,11 @@ module _ (w : Setup) (hand : Hand) (clock : ℕ) (s : State) (is : IsRunOf w clo
   going-then n going =
       sym (ap is_some (stands-shows w (runs n).homes (steps_from w n s) (run w.world (clock + n)) (runs n).stands).ending) ∙ going
 
-  all-helds : (n : ℕ) → AreQuiet w s n → helds (mark_of w.versions) (steps_from w n s).stack ≡ helds (mark_of w.versions) s.stack
-  all-helds zero quiet = ap (λ (z : State). helds (mark_of w.versions) z.stack) (steps_from-zero w s)
-  all-helds (suc n) quiet =
-      ap (λ (z : State). helds (mark_of w.versions) z.stack) (steps_from-suc w n s)
-      ∙ (quiet-helds w (steps_from w n s) (quiet n (omega arith)) ∙ all-helds n (λ k less. quiet k (omega (arith, less))))
+  all-helds : (marks : ℕ → Mark) (n : ℕ) → AreQuiet w s n → helds marks (steps_from w n s).stack ≡ helds marks s.stack
+  all-helds marks zero quiet = ap (λ (z : State). helds marks z.stack) (steps_from-zero w s)
+  all-helds marks (suc n) quiet =
+      ap (λ (z : State). helds marks z.stack) (steps_from-suc w n s)
+      ∙ (quiet-helds w (steps_from w n s) (quiet n (omega arith)) marks ∙ all-helds marks n (λ k less. quiet k (omega (arith, less))))
 
   settles-at : (n : ℕ) → (step w.world (text_of w.versions) (steps_from w n s)).changes ≡ [] → is_some (steps_from w n s).ending ≡ false → is_some (steps_from w (suc n) s).ending ≡ false
       → Settles (later n) (later (suc n))
@@ -151,7 +149,10 @@ module _ (w : Setup) (hand : Hand) (clock : ℕ) (s : State) (is : IsRunOf w clo
     pub quiet-seen : there ≡ later n
     quiet-seen =
         ap (λ live. record v { clock = clock + n; live = live })
-        (ap (λ (z : State). helds (mark_of w.versions) z.stack) leads.made ∙ all-helds n quiet)
+        (ap (λ (z : State). helds (mark_of w.versions) z.stack) leads.made ∙ all-helds (mark_of w.versions) n quiet)
+
+    pub quiet-tidy : IsTidy w.versions s.stack → IsTidy w.versions new.stack
+    quiet-tidy tidy = tidy-same w.versions s.stack new.stack (λ marks. ap (λ (z : State). helds marks z.stack) leads.made ∙ all-helds marks n quiet) tidy
 
     pub quiet-passes : Passes v n there
     quiet-passes =
@@ -212,3 +213,6 @@ module _ (w : Setup) (loaded : List ℕ) (hand : Hand) (started broken : Bool) (
       subst (λ b. IsMachine w loaded hand (seen w new started b (clock + n) hand) new) (sym whole)
       (subst (λ b. IsMachine w loaded hand (seen w new b false (clock + n) hand) new) (sym begun_is)
       (quiet-machine w hand clock s run_now resting n new (plain.leads ms calm) (plain.quiet ms calm) going-on loaded ((is.whole whole).linked ∙ sym plain.loaded)))
+
+  pub plain-tidy : IsTidy w.versions s.stack → IsTidy w.versions new.stack
+  plain-tidy tidy = quiet-tidy w hand clock s run_now resting n new (plain.leads ms calm) (plain.quiet ms calm) going-on tidy
