@@ -1,5 +1,5 @@
 -- No version is held needlessly: each is the one in which its method begins, or a live activation runs it.
-use Rattle.std.proofs.Common.{◌≡◌, ℕ, suc, Bool, true, false, cond, List, [], ◌∷◌, ◌++◌, ◌+◌, length, map, Option, Some, None, refl, sym, ap, ap₂, subst, ◌∙◌, arith}
+use Rattle.std.proofs.Common.{◌≡◌, ℕ, suc, Bool, true, false, cond, List, [], ◌∷◌, ◌++◌, ◌+◌, ◌<◌, length, map, Option, Some, None, refl, sym, ap, ap₂, subst, ◌∙◌, arith}
 use Rattle.std.specs.Prelude.{IfNone, not, slice_get, ◌==◌, ◌&&◌, ◌||◌, if◌then◌else◌}
 use Rattle.std.specs.List.{list_any, range_with_len, slice_set}
 use Rattle.std.specs.Option.{option_map, option_map_or}
@@ -52,6 +52,10 @@ pub seen-is : {w : Setup} {loaded : List ℕ} {hand : Hand} {started broken : Bo
     → viewed w s started broken clock hand ≡ v → seen w s started broken clock hand ≡ v
 seen-is {w} {loaded} {hand} {started} {broken} {clock} {s} is view = sym (plain-view w loaded hand started broken clock s is.tidy) ∙ view
 
+pub never-stale : {w : Setup} {loaded : List ℕ} {hand : Hand} {started broken : Bool} {clock : ℕ} {s : State} {v : View} (is : Keeps w loaded hand started broken clock s)
+    → viewed w s started broken clock hand ≡ v → v.stale ≡ false
+never-stale is view = sym (ap (λ (v : View). v.stale) (seen-is is view))
+
 pub as-viewed : (w : Setup) (loaded : List ℕ) (hand : Hand) (clock : ℕ) (s : State) (P : View → Type 0) → IsTidy w.versions s.stack → P (seen w s true false clock hand) → P (viewed w s true false clock hand)
 as-viewed w loaded hand clock s P tidy holds = subst P (sym (plain-view w loaded hand true false clock s (λ whole. tidy))) holds
 
@@ -76,8 +80,12 @@ runs-behind k (m ∷ ms) stack = runs-behind k ms stack
 
 -- a frame more in front
 more-pins : (k : ℕ) (f : PlacedFrame) (fs : List PlacedFrame) → (pins_of k (f ∷ fs) == 0) ≡ false → (f.version == k) ≡ false → (pins_of k fs == 0) ≡ false
-more-pins k f fs no other =
-    ap (λ n. n == 0) (ap (λ b. cond b 1 0 + pins_of k fs) (sym other) ∙ sym (sum_by-cons (λ (g : PlacedFrame). cond (g.version == k) 1 0) f fs)) ∙ no
+more-pins k f fs pinned other =
+    let all = sum_by-cons (λ (g : PlacedFrame). cond (g.version == k) 1 0) f fs in
+    let one : ℕ = 1 in
+    let here : cond (f.version == k) one 0 ≡ 0 = ap (λ b. cond b one 0) other in
+    let same : pins_of k fs ≡ pins_of k (f ∷ fs) = omega (arith, all, here) in
+    ap (λ n. n == 0) same ∙ pinned
 
 either : {A : Type 0} (b : Bool) → (b ≡ true → A) → (b ≡ false → A) → A
 either true on off = on refl
@@ -86,13 +94,13 @@ either false on off = off refl
 -- what frames run, their activations run
 pub pinned-runs : (k : ℕ) (fs : List PlacedFrame) (ms : List Marker) → (pins_of k fs == 0) ≡ false → runs k (stack_of (map active fs) ms) ≡ true
 unfolding stack_of above beneath
-pinned-runs k [] ms no = absurd (false≢true (sym no))
-pinned-runs k (f ∷ fs) ms no =
+pinned-runs k [] ms pinned = absurd (false≢true (sym pinned))
+pinned-runs k (f ∷ fs) ms pinned =
     runs-behind k (above (suc (length (map active fs))) ms) (active f ∷ stack_of (map active fs) (beneath (suc (length (map active fs))) ms))
     ∙ either (f.version == k) (λ on. ap (λ b. b || runs k (stack_of (map active fs) (beneath (suc (length (map active fs))) ms))) on)
     (λ off.
     ap (λ b. b || runs k (stack_of (map active fs) (beneath (suc (length (map active fs))) ms))) off
-    ∙ pinned-runs k fs (beneath (suc (length (map active fs))) ms) (more-pins k f fs no off))
+    ∙ pinned-runs k fs (beneath (suc (length (map active fs))) ms) (more-pins k f fs pinned off))
 
 -- ---- superseded versions are dropped
 
@@ -150,18 +158,18 @@ module _ (stack : List Entry) (fs : List PlacedFrame) (own : (k : ℕ) → (pins
     -- another one was superseded before
     other-is : (o : Option Version) → is_number k (current_in old.current x.method) ≡ false → is_old (slice_set old.current x.method number) k (option_map (λ (y : Version). y.method) o) ≡ true
         → is_old old.current k (option_map (λ (y : Version). y.method) o) ≡ true
-    other-is None no is = is
-    other-is (Some y) no is =
+    other-is None apart is = is
+    other-is (Some y) apart is =
         by-eq y.method x.method (y.method == x.method) refl
-        (λ same. ap (λ m. not (is_number k (current_in old.current m))) same ∙ ap not no)
-        (λ apart. ap (λ c. not (is_number k c)) (sym (set-other old.current x.method y.method number apart)) ∙ is)
+        (λ same. ap (λ m. not (is_number k (current_in old.current m))) same ∙ ap not apart)
+        (λ unlike. ap (λ c. not (is_number k c)) (sym (set-other old.current x.method y.method number unlike)) ∙ is)
 
     besides : (c : Bool) → is_number k (current_in old.current x.method) ≡ c
         → is_old (slice_set old.current x.method number) k (option_map (λ (y : Version). y.method) (held_besides fs (current_in old.current x.method) k (version_at old k))) ≡ true → runs k stack ≡ true
     besides true old_is is = former-is 0 (pins_of k fs == 0) refl old_is is
-    besides false no is =
-        tidy k (other-is (version_at old k) no
-        (ap (λ c. is_old (slice_set old.current x.method number) k (option_map (λ (y : Version). y.method) (if c && pins_of k fs == 0 then None else version_at old k))) (sym no) ∙ is))
+    besides false apart is =
+        tidy k (other-is (version_at old k) apart
+        (ap (λ c. is_old (slice_set old.current x.method number) k (option_map (λ (y : Version). y.method) (if c && pins_of k fs == 0 then None else version_at old k))) (sym apart) ∙ is))
 
     added-at : (b : Bool) → (k == number) ≡ b
         → is_old (slice_set old.current x.method number) k (option_map (λ (y : Version). y.method) (if b then Some x else held_besides fs (current_in old.current x.method) k (version_at old k))) ≡ true

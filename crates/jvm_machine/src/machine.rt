@@ -122,6 +122,7 @@ impl Vm {
         requires below { self.old.clock < 2 ^ 63 }
         ensures ok { IfOk result (λ telling. Advances self.old telling self.new) }
         ensures leaves { IfOk result (λ telling. IfLeaves telling self.new) }
+        ensures held { self.new.stale ≡ false }
         ensures whole { OnOk result (self.new.broken ≡ false) }
         ensures err { OnErr result (self.new ≡ broken_in self.old self.new) }
     {
@@ -202,7 +203,9 @@ impl Vm {
     /// does no more.
     pub fn step(&mut self) -> Turn
         requires { self.old.clock < 2 ^ 63 }
-        ensures { Turns self.old result self.new }
+        ensures turns { Turns self.old result self.new }
+        // No version is held but those in which methods begin and those that live activations run.
+        ensures held { self.new.stale ≡ false }
     {
         if self.broken {
             return Turn::Broken;

@@ -1,4 +1,4 @@
-use Rattle.std.proofs.Common.{true, false, drop, sym, ap, subst, ◌∙◌}
+use Rattle.std.proofs.Common.{◌≡◌, true, false, drop, sym, ap, subst, ◌∙◌}
 use Rattle.jvm_model.specs.declared.state.State.{State}
 use Rattle.jvm_steps.specs.Markers.{state_of}
 use Rattle.jvm_steps.specs.Turning.{loads_in}
@@ -12,7 +12,7 @@ use Rattle.jvm_machine.specs.Probes.{IfLeaves}
 use Rattle.jvm_machine.specs.View.{View}
 use Rattle.jvm_machine.proofs.BeforeReturns.{leaves-by, some-left}
 use Rattle.jvm_machine.proofs.Exits.{broken-machine, broken-seen, can-run, goes-there, is-attempted, on-err, one_passed, tells-start, tells-step}
-use Rattle.jvm_machine.proofs.HeldVersions.{as-viewed, seen-is, tidy-loaded, tidy-released, tidy-taken, unless-some}
+use Rattle.jvm_machine.proofs.HeldVersions.{as-viewed, seen-is, tidy-loaded, tidy-released, tidy-seen, tidy-taken, unless-some}
 use Rattle.jvm_machine.proofs.machine.Vm.advance.Goals as goal
 
 pub take_up-requires-clause-at_start : goal.take_up-requires-clause-at_start
@@ -121,10 +121,10 @@ invariant_of-self-in_default c = record {
       c.in_ok-gone.gone c.in_default.not-Some c.in_ok-gone.ensures.some (state_of c.go.new.markers c.go.new.parts) c.in_ok-gone.ensures.loads c.in_ok-gone.ensures.sound
       c.go.new.originals.loaded c.in_ok-gone.ensures.linked).1;
   tidy = λ whole. tidy-loaded c.take_up.new.originals.setup c.go.new.originals.setup (loads_in c.take_up.new.originals.setup (state_of c.take_up.new.markers c.take_up.new.parts)) (state_of c.take_up.new.markers c.take_up.new.parts) (state_of c.go.new.markers c.go.new.parts) c.go.ensures.world
-    (unless-some c.in_ok-gone.gone c.in_default.not-Some _ c.in_ok-gone.ensures.loads)
-    (tidy-taken c.self.inside.originals.setup c.take_up.new.originals.setup c.is_resting-resting.result c.self.inside.started
-    (state_of c.self.inside.markers c.self.inside.parts) (state_of c.take_up.new.markers c.take_up.new.parts) c.take_up.ensures.world c.in_ok-taken.ensures.state
-    (λ early. ap (λ (z : State). z.stack) ((c.self.invariant.machine.whole (ap (λ (v : View). v.broken) c.self.view_is ∙ c.requires.whole)).first early).before) (c.self.invariant.tidy (ap (λ (v : View). v.broken) c.self.view_is ∙ c.requires.whole)));
+      (unless-some c.in_ok-gone.gone c.in_default.not-Some _ c.in_ok-gone.ensures.loads)
+      (tidy-taken c.self.inside.originals.setup c.take_up.new.originals.setup c.is_resting-resting.result c.self.inside.started
+      (state_of c.self.inside.markers c.self.inside.parts) (state_of c.take_up.new.markers c.take_up.new.parts) c.take_up.ensures.world c.in_ok-taken.ensures.state
+      (λ early. ap (λ (z : State). z.stack) ((c.self.invariant.machine.whole (ap (λ (v : View). v.broken) c.self.view_is ∙ c.requires.whole)).first early).before) (c.self.invariant.tidy (ap (λ (v : View). v.broken) c.self.view_is ∙ c.requires.whole)));
 }
 
 pub returns-in_default-clause-ok : goal.returns-in_default-clause-ok
@@ -194,3 +194,24 @@ returns-clause-leaves c =
     c.in_ok-gone.ensures.left c.in_ok-gone.ensures.sound c.in_ok-gone.ensures.starts c.in_ok-gone.ensures.hands c.release.new.self.loaded (c.release.ensures.loaded ∙ c.in_ok-gone.ensures.linked)
     c.go.new.parts.frames.frames (parts-pinned c.go.new.markers c.go.new.parts) c.release.new.self.setup (c.release.ensures.world ∙ ap (λ (x : Setup). x.world) c.go.ensures.world)
     (subst (λ (x : Setup). Releases c.go.new.parts.frames.frames x.versions c.release.new.self.setup.versions) c.go.ensures.world c.release.ensures.released) c.left-self-inside.result c.left-self-inside.ensures).1)
+
+pub returns-then-not-is_empty-clause-held : goal.returns-then-not-is_empty-clause-held
+returns-then-not-is_empty-clause-held c =
+    tidy-seen c.take_up.new.originals.setup.versions (state_of c.take_up.new.markers c.take_up.new.parts).stack
+    (tidy-taken c.self.inside.originals.setup c.take_up.new.originals.setup c.is_resting-resting.result c.self.inside.started
+    (state_of c.self.inside.markers c.self.inside.parts) (state_of c.take_up.new.markers c.take_up.new.parts) c.take_up.ensures.world c.in_ok-taken.ensures.state
+    (λ early. ap (λ (z : State). z.stack) ((c.self.invariant.machine.whole (ap (λ (v : View). v.broken) c.self.view_is ∙ c.requires.whole)).first early).before) (c.self.invariant.tidy (ap (λ (v : View). v.broken) c.self.view_is ∙ c.requires.whole)))
+
+pub returns-in_default-clause-held : goal.returns-in_default-clause-held
+returns-in_default-clause-held c =
+    tidy-seen c.go.new.originals.setup.versions (state_of c.go.new.markers c.go.new.parts).stack
+    (tidy-loaded c.take_up.new.originals.setup c.go.new.originals.setup (loads_in c.take_up.new.originals.setup (state_of c.take_up.new.markers c.take_up.new.parts)) (state_of c.take_up.new.markers c.take_up.new.parts) (state_of c.go.new.markers c.go.new.parts) c.go.ensures.world
+    (unless-some c.in_ok-gone.gone c.in_default.not-Some _ c.in_ok-gone.ensures.loads)
+    (tidy-taken c.self.inside.originals.setup c.take_up.new.originals.setup c.is_resting-resting.result c.self.inside.started
+    (state_of c.self.inside.markers c.self.inside.parts) (state_of c.take_up.new.markers c.take_up.new.parts) c.take_up.ensures.world c.in_ok-taken.ensures.state
+    (λ early. ap (λ (z : State). z.stack) ((c.self.invariant.machine.whole (ap (λ (v : View). v.broken) c.self.view_is ∙ c.requires.whole)).first early).before) (c.self.invariant.tidy (ap (λ (v : View). v.broken) c.self.view_is ∙ c.requires.whole))))
+
+pub returns-clause-held : goal.returns-clause-held
+returns-clause-held c =
+    tidy-seen c.release.new.self.setup.versions (state_of c.go.new.markers c.go.new.parts).stack
+    (tidy-released c.go.new.markers c.go.new.parts c.go.new.originals.setup.versions c.release.new.self.setup.versions c.release.ensures.released)

@@ -20,8 +20,8 @@ invariant_of-self c = record {
       (c.is_calm.ensures c.if-not-is_calm.false) c.plain_steps-made.result c.plain_steps-made.new.parts c.plain_steps-made.ensures.made;
   tidy = λ whole.
       plain-tidy c.self.inside.originals.setup c.self.inside.originals.loaded c.self.inside.hand c.self.inside.started c.self.inside.broken c.self.inside.clock
-          c.self.inside.markers c.self.inside.parts c.self.invariant.machine c.args.self.now (seen-is c.self.invariant c.self.view_is) c.if-not-self.false c.if-self.false c.requires.resting
-          (c.is_calm.ensures c.if-not-is_calm.false) c.plain_steps-made.result c.plain_steps-made.new.parts c.plain_steps-made.ensures.made
+      c.self.inside.markers c.self.inside.parts c.self.invariant.machine c.args.self.now (seen-is c.self.invariant c.self.view_is) c.if-not-self.false c.if-self.false c.requires.resting
+      (c.is_calm.ensures c.if-not-is_calm.false) c.plain_steps-made.result c.plain_steps-made.new.parts c.plain_steps-made.ensures.made
       (c.self.invariant.tidy whole);
 }
 

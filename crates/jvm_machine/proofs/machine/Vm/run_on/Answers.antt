@@ -29,7 +29,7 @@ pub loop-turn-preserved : goal.loop-turn-preserved
 loop-turn-preserved c =
     let passes = passes-more c.args.self.now c.loop-turn.self c.pass_plainly-made.new.self c.loop-turn.made c.pass_plainly-made.result c.loop-turn.invariant.0 c.pass_plainly-made.ensures.passes in
     let n = c.loop-turn.made + c.pass_plainly-made.result in
-    let both = one-more c.args.self.now c.pass_plainly-made.new.self c.step-turn.new.self n c.step-turn.result passes c.step-turn.ensures (sym c.is_settled.ensures ∙ c.if-not-is_settled.false) in
+    let both = one-more c.args.self.now c.pass_plainly-made.new.self c.step-turn.new.self n c.step-turn.result passes c.step-turn.ensures.turns (sym c.is_settled.ensures ∙ c.if-not-is_settled.false) in
     let up = settles-clock c.pass_plainly-made.new.self c.step-turn.new.self both.1 in
     let less = c.loop-turn.invariant.1 in
     let le = c.loop-turn.invariant.2 in
@@ -47,12 +47,12 @@ returns-then-not-is_settled c =
     let less = c.loop-turn.invariant.1 in
     let within = c.pass_plainly-made.ensures.within in
     runs-on c.args.self.now c.loop-turn.self c.pass_plainly-made.new.self c.step-turn.new.self c.loop-turn.made c.pass_plainly-made.result c.args.most c.step-turn.result
-    c.loop-turn.invariant.0 c.pass_plainly-made.ensures.passes c.step-turn.ensures
+    c.loop-turn.invariant.0 c.pass_plainly-made.ensures.passes c.step-turn.ensures.turns
     (omega (arith, less, within)) (λ settled. absurd (let e : false ≡ true = sym c.if-not-is_settled.true ∙ (c.is_settled.ensures ∙ settled) in cc))
 
 pub returns-then-made-most : goal.returns-then-made-most
 returns-then-made-most c =
     let most = c.if-made-most.true in
     runs-on c.args.self.now c.loop-turn.self c.pass_plainly-made.new.self c.step-turn.new.self c.loop-turn.made c.pass_plainly-made.result c.args.most c.step-turn.result
-    c.loop-turn.invariant.0 c.pass_plainly-made.ensures.passes c.step-turn.ensures
+    c.loop-turn.invariant.0 c.pass_plainly-made.ensures.passes c.step-turn.ensures.turns
     (omega (arith, most)) (λ settled. most)
