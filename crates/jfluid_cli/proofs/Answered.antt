@@ -30,6 +30,7 @@ gathered-out old new budget o n gathers out =
         | inr ended ↦ inr (record { ended = ended.ended; before = ended.before })
       ];
       put = out.put;
+      live = out.live;
     })
 
 -- what was run and reported, or stopped

@@ -38,7 +38,7 @@ use Rattle.profile_session.specs.Advances.{Makes}
 use Rattle.profile_session.specs.Answers.{Accepts, Advances, BreaksOff, Gathers, LendsNoTree, Onward, RefusesAct, RefusesTree, refusal_of, run_by}
 use Rattle.profile_session.specs.Keeping.{Kept, at_point, first_kept, kept_act, kept_before, kept_by-zero, mark_seen, marks_seen, revealed}
 use Rattle.profile_session.specs.Parts.{Acts, AreFit, AreOf, Brings, IsProfiling, IsSameRun, calls_in, kept_in, loaded_in, profile_in, revealed_in, seen_by}
-use Rattle.profile_session.specs.Sessions.{AreSwapsOf, Holds, IsTreeOf, Profiling, Stands, ending_in, entries_of, is_over, is_selected_in, mark_in_session, profiling_in, run_of, standing_of, step_of, swaps_of, with_act, world_of}
+use Rattle.profile_session.specs.Sessions.{AreSwapsOf, Holds, IsTreeOf, LiveRunOn, Profiling, Stands, ending_in, entries_of, is_over, is_selected_in, mark_in_session, profiling_in, run_of, standing_of, step_of, swaps_of, with_act, world_of}
 use Rattle.profile_session.specs.Standing.{AtRest, next_step, told_before}
 use Rattle.profile_session.proofs.Acting.{acted, from-last}
 use Rattle.profile_session.proofs.Advancing.{profile-clock, still-of}
@@ -56,16 +56,23 @@ over-in x b g s = ap (λ (s : State). is_some s.ending) (run-in x b g s)
 pub made-stands : (x new : Parts) (steps : ℕ) (ended : Bool) → Makes x steps ended new → Stands new
 made-stands x new steps ended m = record { rests = m.rests; started = m.flag ∙ sym m.started }
 
+-- what is live runs the version in which it began
+pub live-in : (x : Parts) (b g : Bool) → Stands x → LiveRunOn (profiling_in b g x)
+live-in x b g s =
+    s.rests.stands.lives
+    ∙ ap (λ b. held_in (marking_of x.acts (world x.vm)) (trace_before (world x.vm) (if b then x.vm.clock + 1 else 0))) (sym s.started)
+
 pub made-by : (x new : Parts) (g : Bool) (steps : ℕ) (ended : Bool) → Stands x → is_over (profiling_in false g x) ≡ false → Makes x steps ended new
     → Advances (profiling_in false g x) steps (run_by ended) (profiling_in false false new)
 made-by x new g steps ended s going m = by ended m where
   onward : (ended : Bool) → Makes x steps ended new → Onward (profiling_in false g x) steps (profiling_in false false new)
   onward ended m = record {
     same = ap₂ (λ (w : World) b. let v : Profiling = record (profiling_in false false new) { program = w.program; input = w.input; started = b } in v) m.world_is m.flag
-        ∙ ap (λ acts. let v : Profiling = record (profiling_in false false x) { acts = acts; started = true; clock = new.vm.clock } in v) m.acts;
+        ∙ ap (λ acts. let v : Profiling = record (profiling_in false false x) { acts = acts; started = true; clock = new.vm.clock; live = new.vm.live } in v) m.acts;
     later = m.later;
     within = m.within;
     first = subst (λ w. (k : ℕ) → k < new.vm.clock → is_some (ending_of w k) ≡ false) m.world_is m.rests.stands.going;
+    live = live-in new false false (made-stands x new steps ended m);
   }
 
   over : (ended : Bool) → Makes x steps ended new → is_over (profiling_in false false new) ≡ ended
@@ -243,14 +250,15 @@ other-is false true is = refl
 other-is true true is = absurd (let h : Some act.AlreadySelected ≡ None = is in cc)
 other-is false false is = absurd (let h : Some act.NotSelected ≡ None = is in cc)
 
-pub accepts : (x new : Parts) (v : Profiling) (g : Bool) (a : Act) → profiling_in false g x ≡ v → is_over v ≡ false → a.moment ≡ x.vm.clock → (selected : Bool)
+pub accepts : (x new : Parts) (v : Profiling) (g : Bool) (a : Act) → Stands new → profiling_in false g x ≡ v → is_over v ≡ false → a.moment ≡ x.vm.clock → (selected : Bool)
     → selected ≡ is_selected_in v a.method → refusal_of a.select selected ≡ None → Acts x a new → Accepts v a.select a.method (profiling_in false false new)
-accepts x new v g a now going moment selected at none is = record {
+accepts x new v g a stands now going moment selected at none is = record {
   whole = sym (ap (λ (v : Profiling). v.broken) now);
   going = going;
   other = sym at ∙ other-is a.select selected none;
-  same = ap₂ (λ (v : View) started. let q : Profiling = record (profiling_in false false new) { program = v.program; input = v.input; started = started; clock = v.clock } in q) is.vm is.started
+  same = ap₂ (λ (v : View) started. let q : Profiling = record (profiling_in false false new) { program = v.program; input = v.input; started = started; clock = v.clock; live = v.live } in q) is.vm is.started
       ∙ (ap (λ acts. let q : Profiling = record (profiling_in false false x) { acts = acts } in q) is.acts
       ∙ (ap (λ n. let q : Profiling = record (profiling_in false false x) { acts = x.acts ++ record { moment = n; select = a.select; method = a.method } ∷ [] } in q) moment
       ∙ ap (with_act a.select a.method) now));
+  live = live-in new false false stands;
 }

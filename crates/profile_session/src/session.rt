@@ -21,7 +21,8 @@ use std::marker::Model;
 
 /// A program that is run and profiled. A clause sees its program and input, the accepted actions with their moments, whether it was
 /// advanced, and the number of steps: the state of the run, what is marked, the swap list and the tree follow from these, since its
-/// machine stands for the run. It sees too whether the tree was gathered behind the last of its steps and actions.
+/// machine stands for the run. It sees too whether the tree was gathered behind the last of its steps and actions, and the live
+/// activations of the machine, each with the mark of the version that it runs.
 #[derive(Drop)]
 pub struct Session {
     parts: Parts,
@@ -140,6 +141,7 @@ impl Session {
     }
 
     /// Makes so many steps, or those up to the one in which the run ends. The first advance makes the start too, also with no steps.
+    /// What is live runs on in the version in which it began, whatever is swapped on the way.
     pub fn advance(&mut self, steps: u64) -> Run
         requires { self.old.broken ≡ false → self.old.clock + steps ≤ 1000000000000 }
         ensures { Advances self.old steps result self.new }
