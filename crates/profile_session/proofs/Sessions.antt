@@ -6,17 +6,17 @@ use Rattle.jvm_model.specs.declared.ending.Ending.{Ending}
 use Rattle.jvm_model.specs.declared.event.Act.{Act}
 use Rattle.jvm_model.specs.declared.event.Event.{Event}
 use Rattle.jvm_model.specs.declared.event.Mark.{Mark}
-use Rattle.jvm_model.specs.declared.event.Mark.TheVariants.{Off}
+use Rattle.jvm_model.specs.declared.event.Mark.TheVariants.{Off, Plain, Root}
 use Rattle.jvm_model.specs.declared.program.MethodPlace.{MethodPlace}
 use Rattle.jvm_model.specs.declared.program.Program.{Program}
 use Rattle.jvm_model.specs.declared.state.State.{State}
 use Rattle.jvm_model.specs.Activations.{trace_before}
 use Rattle.jvm_model.specs.Calls.{AreFrom}
-use Rattle.jvm_model.specs.Data.{World}
+use Rattle.jvm_model.specs.Data.{Operation, World}
 use Rattle.jvm_model.specs.EventLists.{events_of}
 use Rattle.jvm_model.specs.Load.{is_among}
 use Rattle.jvm_model.specs.Originals.{original}
-use Rattle.jvm_model.specs.Points.{chosen, has_class, mark_in, marking_of, nothing, standing_in}
+use Rattle.jvm_model.specs.Points.{Standing, chosen, has_class, is_target, mark_in, marking_of, nothing, standing_in}
 use Rattle.jvm_model.specs.Projection.{projection}
 use Rattle.jvm_model.specs.Revealed.{Revealed, mark_of, marks_of}
 use Rattle.jvm_model.specs.Run.{before, ending_of, run}
@@ -38,7 +38,7 @@ use Rattle.profile_session.specs.Advances.{Makes}
 use Rattle.profile_session.specs.Answers.{Accepts, Advances, BreaksOff, Gathers, LendsNoTree, Onward, RefusesAct, RefusesTree, refusal_of, run_by}
 use Rattle.profile_session.specs.Keeping.{Kept, at_point, first_kept, kept_act, kept_before, kept_by-zero, mark_seen, marks_seen, revealed}
 use Rattle.profile_session.specs.Parts.{Acts, AreFit, AreOf, Brings, IsProfiling, IsSameRun, calls_in, kept_in, loaded_in, profile_in, revealed_in, seen_by}
-use Rattle.profile_session.specs.Sessions.{AreSwapsOf, Holds, IsTreeOf, LiveRunOn, Profiling, Stands, ending_in, entries_of, is_over, is_selected_in, mark_in_session, profiling_in, run_of, standing_of, step_of, swaps_of, with_act, world_of}
+use Rattle.profile_session.specs.Sessions.{AreSwapsOf, Holds, IsQuiet, IsTreeOf, LiveRunOn, Profiling, Stands, ending_in, entries_of, is_over, is_selected_in, mark_in_session, profiling_in, run_of, standing_of, step_of, swaps_of, with_act, world_of}
 use Rattle.profile_session.specs.Standing.{AtRest, next_step, told_before}
 use Rattle.profile_session.proofs.Acting.{acted, from-last}
 use Rattle.profile_session.proofs.Advancing.{profile-clock, still-of}
@@ -104,6 +104,17 @@ pub mark-is : (x : Parts) (b g : Bool) (method : ℕ) → Stands x → mark_of x
 mark-is x b g method s =
     ap (λ (k : Kept). mark_seen x.vm.program k.seen method) (kept-is x b g s)
     ∙ marks-stand (world x.vm) s.rests.is.whole x.acts s.rests.is.from (step_of (profiling_in b g x)) method
+
+-- where it was quiet no method is marked
+pub quiet-mark : (p : Program) (code : ℕ → List Operation) (s : Standing) (method : ℕ) → IsQuiet s → mark_in p code s method ≡ Off
+quiet-mark p code s method quiet =
+    ap₂ (λ selected entered. if has_class p s.loaded method then (if is_among method selected then Root else if is_target p code s.loaded entered method then Plain else Off) else Off)
+    quiet.selected quiet.entered
+    ∙ off (has_class p s.loaded method)
+  where
+    off : (b : Bool) → (if b then (if is_among method [] then Root else if is_target p code s.loaded [] method then Plain else Off) else Off) ≡ Off
+    off true = refl
+    off false = refl
 
 pub swaps-of : (x : Parts) (b g : Bool) → Stands x → x.swaps ≡ swaps_of (profiling_in b g x)
 swaps-of x b g s = ap (λ (k : Kept). k.swaps) (kept-is x b g s) ∙ swaps-are (world x.vm) s.rests.is.whole x.acts s.rests.is.from (step_of (profiling_in b g x))

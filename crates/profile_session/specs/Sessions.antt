@@ -69,6 +69,11 @@ step_of v = if v.started then v.clock + 1 else 0
 abbrev pub standing_of : Profiling → Standing
 standing_of v = standing_in v.acts (world_of v) (original v.program) (step_of v)
 
+-- the last point was quiet: nothing is selected, and nothing is entered any more
+pub record IsQuiet (s : Standing) : Type 0 where
+  pub selected : s.selected ≡ []
+  pub entered : s.entered ≡ []
+
 abbrev pub is_selected_in : Profiling → ℕ → Bool
 is_selected_in v method = is_among method (standing_of v).selected
 

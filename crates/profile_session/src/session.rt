@@ -5,9 +5,10 @@ ghost use Rattle.jvm_machine.specs.View.{made};
 ghost use Rattle.profile_session.specs.Answers.{Accepts, Advances, Gathers, LendsNoTree};
 ghost use Rattle.profile_session.specs.Answers.{RefusesAct, RefusesTree, refusal_of, run_by};
 ghost use Rattle.profile_session.specs.Beginning.{CanBeProfiled};
-ghost use Rattle.profile_session.specs.Sessions.{AreSwapsOf, CanActNow, IsTreeOf, ending_in};
+ghost use Rattle.profile_session.specs.Sessions.{AreSwapsOf, CanActNow, IsQuiet, IsTreeOf, ending_in};
 ghost use Rattle.profile_session.specs.Sessions.{entries_of, is_over, is_selected_in};
-ghost use Rattle.profile_session.specs.Sessions.{mark_in_session, profiling_of, run_of, swaps_of};
+ghost use Rattle.profile_session.specs.Sessions.{mark_in_session, profiling_of, run_of, standing_of, swaps_of};
+ghost use Rattle.jvm_model.specs.declared.event.Mark.TheVariants as Mark;
 
 use crate::answer::{ActError, Run, Shown};
 use crate::beginning::begin;
@@ -117,9 +118,11 @@ impl Session {
         self.parts.swaps.as_slice()
     }
 
-    /// The mark of a method at the last point so far. Of a method whose class is not loaded it is Off.
+    /// The mark of a method at the last point so far. Of a method whose class is not loaded it is Off, and of each where that point was
+    /// quiet: behind it all methods begin in their originals.
     pub fn mark(&self, method: u32) -> Mark
-        ensures { self.now.broken ≡ false → result ≡ mark_in_session self.now method }
+        ensures last { self.now.broken ≡ false → result ≡ mark_in_session self.now method }
+        ensures quiet { self.now.broken ≡ false → IsQuiet (standing_of self.now) → result ≡ Mark.Off }
     {
         let _whole = self.broken;
         self.parts.reveal.mark(method)
