@@ -1,44 +1,35 @@
 -- What a session's calls owe.
-use Rattle.std.proofs.Common.{◌≡◌, ℕ, ◌+◌, ◌≤◌, ◌<◌, Bool, true, false, not, Some, None, List, [], ◌∷◌, ◌++◌, map, Option, is_some, if◌then◌else◌, refl, sym, ap, ap₂, subst, ◌∙◌, arith, add-one}
+use Rattle.std.proofs.Common.{◌≡◌, ℕ, ◌+◌, ◌≤◌, ◌<◌, Bool, true, false, not, Some, None, List, [], ◌∷◌, ◌++◌, is_some, if◌then◌else◌, refl, sym, ap, ap₂, subst, ◌∙◌, arith, add-one}
 use Rattle.std.specs.Prelude.{MatchResult, Result, Ok, Err}
-use Rattle.std.specs.List.{AllByRecursion, enumerate_from}
-use Rattle.jvm_model.specs.declared.ending.Ending.{Ending}
+use Rattle.std.specs.List.{AllByRecursion}
 use Rattle.jvm_model.specs.declared.event.Act.{Act}
-use Rattle.jvm_model.specs.declared.event.Event.{Event}
-use Rattle.jvm_model.specs.declared.event.Mark.{Mark}
 use Rattle.jvm_model.specs.declared.event.Mark.TheVariants.{Off, Plain, Root}
-use Rattle.jvm_model.specs.declared.program.MethodPlace.{MethodPlace}
 use Rattle.jvm_model.specs.declared.program.Program.{Program}
 use Rattle.jvm_model.specs.declared.state.State.{State}
 use Rattle.jvm_model.specs.Activations.{trace_before}
 use Rattle.jvm_model.specs.Calls.{AreFrom}
 use Rattle.jvm_model.specs.Data.{Operation, World}
-use Rattle.jvm_model.specs.EventLists.{events_of}
 use Rattle.jvm_model.specs.Load.{is_among}
 use Rattle.jvm_model.specs.Originals.{original}
-use Rattle.jvm_model.specs.Points.{Standing, chosen, has_class, is_target, mark_in, marking_of, nothing, standing_in}
-use Rattle.jvm_model.specs.Projection.{projection}
-use Rattle.jvm_model.specs.Revealed.{Revealed, mark_of, marks_of}
+use Rattle.jvm_model.specs.Points.{Standing, has_class, is_target, mark_in, marking_of, nothing, standing_in}
+use Rattle.jvm_model.specs.Revealed.{mark_of}
 use Rattle.jvm_model.specs.Run.{before, ending_of, run}
 use Rattle.jvm_model.specs.Swaps.{points_before}
-use Rattle.jvm_model.specs.Targets.{operations_of}
 use Rattle.jvm_model.specs.Told.{held_in}
 use Rattle.jvm_model.specs.Whole.{IsWhole}
-use Rattle.context_tree.specs.Counts.{AreInOrder}
-use Rattle.context_tree.specs.Profiles.{Profile, blank, credited, profile_of}
-use Rattle.context_tree.specs.Seen.{Matches, Seen, seen_act}
+use Rattle.context_tree.specs.Profiles.{Profile, credited, profile_of}
+use Rattle.context_tree.specs.Seen.{Matches, seen_act}
 use Rattle.context_tree.proofs.Credits.{credits-add}
 use Rattle.context_tree.proofs.Headline.{session-whole, tree-whole}
-use Rattle.jvm_machine.specs.View.{View, has_ended, is_resting, made, run_state, world}
+use Rattle.jvm_machine.specs.View.{View, has_ended, run_state, world}
 use Rattle.profile_session.specs.declared.parts.Parts.{Parts}
-use Rattle.profile_session.specs.declared.swap.Swap.{Swap}
 use Rattle.profile_session.specs.declared.answer.ActError.{ActError}
 use Rattle.profile_session.specs.declared.answer.ActError.TheVariants as act
 use Rattle.profile_session.specs.Advances.{Makes}
 use Rattle.profile_session.specs.Answers.{Accepts, Advances, BreaksOff, Gathers, LendsNoTree, Onward, RefusesAct, RefusesTree, refusal_of, run_by}
-use Rattle.profile_session.specs.Keeping.{Kept, at_point, first_kept, kept_act, kept_before, kept_by-zero, mark_seen, marks_seen, revealed}
-use Rattle.profile_session.specs.Parts.{Acts, AreFit, AreOf, Brings, IsProfiling, IsSameRun, calls_in, kept_in, loaded_in, profile_in, revealed_in, seen_by}
-use Rattle.profile_session.specs.Sessions.{AreSwapsOf, Holds, IsQuiet, IsTreeOf, LiveRunOn, Profiling, Stands, ending_in, entries_of, is_over, is_selected_in, mark_in_session, profiling_in, run_of, standing_of, step_of, swaps_of, with_act, world_of}
+use Rattle.profile_session.specs.Keeping.{Kept, at_point, kept_act, kept_before, mark_seen, marks_seen}
+use Rattle.profile_session.specs.Parts.{Acts, AreFit, Brings, IsSameRun, calls_in, kept_in, profile_in, revealed_in, seen_by}
+use Rattle.profile_session.specs.Sessions.{AreSwapsOf, Holds, IsQuiet, IsTreeOf, LiveRunOn, Profiling, Stands, entries_of, is_over, is_selected_in, mark_in_session, profiling_in, run_of, standing_of, step_of, swaps_of, with_act, world_of}
 use Rattle.profile_session.specs.Standing.{AtRest, next_step, told_before}
 use Rattle.profile_session.proofs.Acting.{acted, from-last}
 use Rattle.profile_session.proofs.Advancing.{profile-clock, still-of}

@@ -122,7 +122,8 @@ impl Session {
     /// quiet: behind it all methods begin in their originals.
     pub fn mark(&self, method: u32) -> Mark
         ensures last { self.now.broken ≡ false → result ≡ mark_in_session self.now method }
-        ensures quiet { self.now.broken ≡ false → IsQuiet (standing_of self.now) → result ≡ Mark.Off }
+        ensures quiet { self.now.broken ≡ false → IsQuiet (standing_of self.now)
+            → result ≡ Mark.Off }
     {
         let _whole = self.broken;
         self.parts.reveal.mark(method)

@@ -1,4 +1,4 @@
-use Rattle.std.proofs.Common.{sym, ap, ◌∙◌}
+use Rattle.std.proofs.Common.{ap, ◌∙◌}
 use Rattle.jvm_model.specs.Targets.{operations_of}
 use Rattle.profile_session.specs.Sessions.{Profiling, mark_in_session, standing_of}
 use Rattle.profile_session.proofs.Sessions.{mark-is, quiet-mark}
