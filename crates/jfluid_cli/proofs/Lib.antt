@@ -20,3 +20,4 @@ pub mod Finished
 pub mod Profiled
 pub mod Reported
 mod WorkedWords
+pub mod Records

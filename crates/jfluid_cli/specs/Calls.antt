@@ -12,12 +12,13 @@ use Rattle.jfluid_cli.specs.declared.refusal.Refusal.{Refusal}
 use Rattle.jfluid_cli.specs.declared.refusal.Refusal.TheVariants.{PlanNotFetched, NotFetched}
 use Rattle.jfluid_cli.specs.Asking.{HasBadRoot}
 use Rattle.jfluid_cli.specs.Causes.{Given, HasBadPlan, HasLongInput, IsAccepted, IsUnfit, OfWords, Because}
+use Rattle.jfluid_cli.specs.Images.{IsImaged, IsUnimaged, images_of}
 use Rattle.jfluid_cli.specs.Origins.{HasOrigin, IsOnlyProgram}
 use Rattle.jfluid_cli.specs.Refusals.{status_of, refusal_line}
 use Rattle.jfluid_cli.specs.Runs.{IsCarriedOut, PutsAtMost, ending_at, world_on}
-use Rattle.jfluid_cli.specs.Sinks.{SinkView, SourceView, FilesView, Streams, PutsOrRose}
+use Rattle.jfluid_cli.specs.Sinks.{SinkView, SourceView, FilesView, Streams, IsUntold, PutsOrRose}
 use Rattle.jfluid_cli.specs.Top.{IsCalm, is_run, is_refused, is_unadmitted, is_status, report_of, status_of_ending}
-use Rattle.jfluid_cli.specs.Words.{accepted, budget_of, file_words, plan_word, words_in}
+use Rattle.jfluid_cli.specs.Words.{accepted, asks_images, budget_of, file_words, plan_word, words_in}
 
 -- ---- a call
 
@@ -41,6 +42,10 @@ given_of c = record { words = words_of c; told = c.told; left = c.input.left }
 
 -- ---- with every status
 
+-- what was put to images is a front of those that are asked for
+abbrev pub PutsImages : Bool → Profiling → Streams → Type 0
+PutsImages asked v s = PutsFront s.images.taken s.images_after.taken (images_of asked v)
+
 pub record IsTrueOf (c : Call) : Type 0 where
   -- what is kept came from words, files and input, and is all that the files spell
   pub origin : IfSome c.kept (HasOrigin (given_of c))
@@ -53,6 +58,10 @@ pub record IsTrueOf (c : Call) : Type 0 where
       IfSome c.kept
       (λ k. PutsAtMost k.session.value (budget_of (words_of c) k.plan) s.out.taken s.out_after.taken)
   pub nothing : c.kept ≡ None → c.streams.out_after.taken ≡ c.streams.out.taken
+  -- a front of the images that are asked for was put, and nothing where none are or nothing was made
+  pub images : IfSome c.kept (λ k. PutsImages (asks_images (words_of c)) k.session.value c.streams)
+  pub unasked : asks_images (words_of c) ≡ false → IsUntold c.streams.images c.streams.images_after
+  pub unimaged : c.kept ≡ None → IsUntold c.streams.images c.streams.images_after
 
 -- ---- a run
 
@@ -66,15 +75,22 @@ pub record IsReported (v : Profiling) (old new : SinkView) (status : ℕ) : Type
   pub reported_in_part : status ≡ 8 → PutsFront old.taken new.taken (report_of v)
   pub not_reported : status ≡ 8 → Rose old.faults new.faults
 
+-- The images of a run that are asked for were put, and behind them its report; or a put of them
+-- failed, with status 8, and nothing is on the report.
+abbrev pub IsShown : Bool → Profiling → (images images_after report report_after : SinkView) → ℕ → Type 0
+IsShown asked v images images_after report report_after status =
+    (IsImaged asked v images images_after × IsReported v report report_after status)
+    ⊎ ((status ≡ 8) × IsUnimaged asked v images images_after × IsUntold report report_after)
+
 -- The run of what is kept was carried out up to its end or the budget; what was put is its output.
-pub record IsRun (budget : ℕ) (s : Streams) (status : ℕ) (k : Kept) : Type 0 where
+pub record IsRun (asked : Bool) (budget : ℕ) (s : Streams) (status : ℕ) (k : Kept) : Type 0 where
   pub output : IsCarriedOut k.session.value budget s.out.taken s.out_after.taken
   pub calm : s.out_after.faults ≡ s.out.faults
-  pub report : IsReported k.session.value s.report s.report_after status
+  pub shown : IsShown asked k.session.value s.images s.images_after s.report s.report_after status
 
 -- the run that the words ask for with the plan that is kept
 abbrev pub IsRunAsked : List (List ℕ) → Streams → ℕ → Kept → Type 0
-IsRunAsked words s status k = IsRun (budget_of words k.plan) s status k
+IsRunAsked words s status k = IsRun (asks_images words) (budget_of words k.plan) s status k
 
 -- The run of the words, with nothing else failed.
 pub record IsRunOf (c : Call) (status : ℕ) : Type 0 where
@@ -127,6 +143,7 @@ pub record AllCalm (c : Call) : Type 0 where
   pub input : CalmInput c
   pub out : IsCalm c.streams.out.faults c.streams.out_after.faults
   pub report : IsCalm c.streams.report.faults c.streams.report_after.faults
+  pub images : IsCalm c.streams.images.faults c.streams.images_after.faults
 
 -- What a call answers.
 pub record IsAnswered (c : Call) (status : ℕ) : Type 0 where

@@ -47,7 +47,7 @@ fn text_of(alloc: Global, session: &Session) -> Result<Vec<u8>, NoMemory>
 }
 
 /// Brings the tree of a session to its clock.
-fn gather(session: &mut Session) -> Result<(), NoMemory>
+pub fn gather(session: &mut Session) -> Result<(), NoMemory>
     ensures ok { OnOk result (Gathers session.old session.new) }
     ensures same { SameProgram session.old session.new }
 {
@@ -57,25 +57,18 @@ fn gather(session: &mut Session) -> Result<(), NoMemory>
     }
 }
 
-/// Puts the report of a session, and answers the status of its run, or 8 where the put failed.
-pub fn give_report<P: Sink>(
-    alloc: Global,
-    session: &mut Session,
-    out: &mut P,
-) -> Result<u8, Refusal>
-    requires going { IsGoing session.old }
-    requires planned { IsPlanned session.old }
-    ensures gathered { OnOk result (Gathers session.old session.new) }
-    ensures same { SameProgram session.old session.new }
+/// Puts the report of a session whose tree was gathered, and answers the status of its run, or 8
+/// where the put failed.
+pub fn give_report<P: Sink>(alloc: Global, session: &Session, out: &mut P) -> Result<u8, Refusal>
+    requires going { IsGoing session.now }
+    requires gathered { session.now.gathered ≡ true }
+    requires planned { IsPlanned session.now }
     ensures reported { let old = sink_view (P.taken out.old) (P.faults out.old) in
         let new = sink_view (P.taken out.new) (P.faults out.new) in
         MatchResult result
-        (IsReported session.new old new)
+        (IsReported session.now old new)
         (λ e. (e ≡ Refusal.NoMemory) × IsUntold old new) }
 {
-    let Ok(()) = gather(session) else {
-        return Err(Refusal::NoMemory);
-    };
     let Ok(text) = text_of(alloc, session) else {
         return Err(Refusal::NoMemory);
     };
