@@ -21,3 +21,4 @@ pub mod Profiled
 pub mod Reported
 mod WorkedWords
 pub mod Records
+pub mod Shown
