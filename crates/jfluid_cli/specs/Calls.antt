@@ -1,5 +1,5 @@
 -- What a call of the program leaves: all that it promises.
-use Rattle.std.specs.Prelude.{◌≡◌, ◌≢◌, ℕ, ◌⊎◌, true, false, List, Option, Some, None, Result, slice_get, IfSome, IsErr, IsSome, IsSomeAnd}
+use Rattle.std.specs.Prelude.{◌≡◌, ◌≢◌, ℕ, ◌⊎◌, Bool, true, false, List, Option, Some, None, Result, slice_get, IfSome, IsErr, IsSome, IsSomeAnd}
 use Rattle.jf_bytes.specs.declared.error.NoMemory.{NoMemory}
 use Rattle.std.specs.Io.KnownBytes.{IsAtEnd}
 use Rattle.jf_bytes.specs.Streams.{Told, PutsAll, PutsFront, Rose}
