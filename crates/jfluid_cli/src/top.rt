@@ -149,7 +149,16 @@ fn carry_out<F: Files, I: Source, O: Sink, P: Sink, G: Sink>(
     let Ok(made_of) = make(alloc, loaded, bytes) else {
         return Err(Refusal::NoMemory);
     };
-    run_made(alloc, made_of, budget, words.images, out, report, images, kept)
+    run_made(
+        alloc,
+        made_of,
+        budget,
+        words.images,
+        out,
+        report,
+        images,
+        kept,
+    )
 }
 
 /// Answers for words that are texts.
@@ -234,28 +243,30 @@ fn answer_words<F: Files, I: Source, O: Sink, P: Sink, G: Sink>(
 }
 
 /// Does what the words `jfluid [--main M] [--root R] [--budget N] [--plan P] [--images] [FILE...]`
-/// say, as the system gave them: reads the plan P, fetches the class files, reads them, both in the order of the
-/// words, admits them, takes the input to its end, runs the main class for at most so many steps,
-/// puts what the program writes to `out` and the report to `report`, and answers the exit status.
+/// say, as the system gave them: reads the plan P, fetches the class files, reads them, both in the
+/// order of the words, admits them, takes the input to its end, runs the main class for at most so
+/// many steps, puts what the program writes to `out` and the report to `report`, and answers the
+/// exit status.
 ///
 /// The main class is M, with slashes for dots, else the plan's; the budget is N, else the plan's,
-/// else 100,000,000; the heap is the plan's, else 4,194,304 slots. `--root R` is a plan that selects R
-/// before the first step: class, dot, name and descriptor, as in `P1.f(I)I`. A plan selects and
-/// deselects methods at the moments that it names, before the start or behind so many steps. The
-/// activations that begin in a method while it is selected are profiled with what they call: the
-/// classes that they need are rewritten while the program runs, and the report has the tree of their
-/// calling contexts, which is empty without any. The output is put after the start and after each
-/// slice of steps, which ends at the next action, after 65,536 steps, or at the budget. With
-/// `--images` each rewritten class is put to `images` behind the run: the clock, the length and the
-/// bytes of its image, in the order of the swaps. What was run is left in `kept`.
+/// else 100,000,000; the heap is the plan's, else 4,194,304 slots. `--root R` is a plan that
+/// selects R before the first step: class, dot, name and descriptor, as in `P1.f(I)I`. A plan
+/// selects and deselects methods at the moments that it names, before the start or behind so many
+/// steps. The activations that begin in a method while it is selected are profiled with what they
+/// call: the classes that they need are rewritten while the program runs, and the report has the
+/// tree of their calling contexts, which is empty without any. The output is put after the start
+/// and after each slice of steps, which ends at the next action, after 65,536 steps, or at the
+/// budget. With `--images` each rewritten class is put to `images` behind the run: the clock, the
+/// length and the bytes of its image, in the order of the swaps. What was run is left in `kept`.
 ///
-/// The statuses are 0, the run returned, or the program called System.exit, with the budget's last step
-/// at the latest; 1, it ended uncaught; 2, the words or the plan are refused; 3, a file is no class
-/// file, or the program is not admitted; 4, the budget was spent before the run ended; 5, a take of
-/// input failed; 6, a put of output failed; 7, the plan or a file could not be fetched; 8, a put of
-/// images or of the report failed; 9, no memory was left; 10, the code is unverifiable; 11, there are more than
-/// 16,777,216 bytes of input. With 2, 3, 5, 6, 7, 9 and 11 a line on `report` says it, and names the
-/// file that is at fault; where clap refuses the words, or they ask for help, it is clap's text.
+/// The statuses are 0, the run returned, or the program called System.exit, with the budget's last
+/// step at the latest; 1, it ended uncaught; 2, the words or the plan are refused; 3, a file is no
+/// class file, or the program is not admitted; 4, the budget was spent before the run ended; 5, a
+/// take of input failed; 6, a put of output failed; 7, the plan or a file could not be fetched; 8,
+/// a put of images or of the report failed; 9, no memory was left; 10, the code is unverifiable;
+/// 11, there are more than 16,777,216 bytes of input. With 2, 3, 5, 6, 7, 9 and 11 a line on
+/// `report` says it, and names the file that is at fault; where clap refuses the words, or they ask
+/// for help, it is clap's text.
 pub fn jfluid<F: Files, I: Source, O: Sink, P: Sink, G: Sink>(
     alloc: Global,
     words: Result<Seq<Seq<u8>>, NoMemory>,
