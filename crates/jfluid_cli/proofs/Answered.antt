@@ -35,21 +35,21 @@ gathered-out old new budget o n gathers out =
 
 -- what was run and reported, or stopped
 pub run-answer : {A : Type 0} (r : Result ℕ Refusal) (outcome : Result A Stop) (s : Streams)
-    (asked : Bool) (budget : ℕ) (ran : Profiling) (k : Kept)
+    (summary asked : Bool) (budget : ℕ) (ran : Profiling) (k : Kept)
     → IfOk r (λ _. IsOk outcome) → OnOk r (Gathers ran k.session.value)
-    → MatchResult r (IsShown asked k.session.value s.images s.images_after s.report s.report_after)
+    → MatchResult r (IsShown summary asked k.session.value s.images s.images_after s.report s.report_after)
     (λ e. IsUntold s.report s.report_after)
     → IfErr r (λ e. ((e ≡ OutFailed) × (outcome ≡ Err stop.OutFailed)) ⊎ (e ≡ NoMemory))
     → OnOk outcome (IsCarriedOut ran budget s.out.taken s.out_after.taken)
     → StopCause s.out.faults s.out_after.faults outcome
-    → MatchResult r (λ status. IsRun asked budget s status k) (IsStopped s)
-run-answer (Ok status) (Ok x) s asked budget ran k ok gathers shown why carried calm = record {
+    → MatchResult r (λ status. IsRun summary asked budget s status k) (IsStopped s)
+run-answer (Ok status) (Ok x) s summary asked budget ran k ok gathers shown why carried calm = record {
   output = gathered-out ran k.session.value budget s.out.taken s.out_after.taken gathers carried;
   calm = calm;
   shown = shown;
 }
-run-answer (Ok status) (Err e) s asked budget ran k ok gathers shown why carried calm = absurd (not_ok ok)
-run-answer (Err r) outcome s asked budget ran k ok gathers untold why carried cause =
+run-answer (Ok status) (Err e) s summary asked budget ran k ok gathers shown why carried calm = absurd (not_ok ok)
+run-answer (Err r) outcome s summary asked budget ran k ok gathers untold why carried cause =
     record { why = by_cause why; untold = untold }
   where
     by_cause : ((r ≡ OutFailed) × (outcome ≡ Err stop.OutFailed)) ⊎ (r ≡ NoMemory)

@@ -1,6 +1,6 @@
 -- What a call leaves before a refusal's line is put.
 use Rattle.std.proofs.Common.{◌≡◌, ℕ, ◌≤◌, Bool, true, false, List, [], length, Option, Some, None, refl, sym, ap, subst, ◌∙◌, inl, inr}
-use Rattle.std.specs.Prelude.{Result, Ok, Err, IfSome, IsSome, IsSomeAnd, MatchResult}
+use Rattle.std.specs.Prelude.{Result, Ok, Err, is_some, IfSome, IsSome, IsSomeAnd, MatchResult}
 use Rattle.std.specs.Io.KnownBytes.{IsAtEnd}
 use Rattle.std.specs.Option.{option_map_or, option_and_then}
 use Rattle.jf_bytes.specs.Streams.{PutsFront}
@@ -15,15 +15,15 @@ use Rattle.jfluid_cli.specs.declared.refusal.Refusal.{Refusal}
 use Rattle.jfluid_cli.specs.declared.refusal.Refusal.TheVariants.{NoMemory}
 use Rattle.jfluid_cli.specs.Calls.{Call, given_of, words_of, IsRun, IsRunAsked, IsTrueOf, IsRefused, PutsImages}
 use Rattle.jfluid_cli.specs.Asking.{asked_by}
-use Rattle.jfluid_cli.specs.Causes.{Given, OfProgram}
+use Rattle.jfluid_cli.specs.Causes.{Given, AreContentsOf, OfProgram}
 use Rattle.jfluid_cli.specs.Sinks.{SourceView, Streams, IsUntold}
-use Rattle.jfluid_cli.specs.Contents.{AreToldAs, SpellAlone, classes_for}
+use Rattle.jfluid_cli.specs.Contents.{SpellAlone, classes_for}
 use Rattle.jfluid_cli.specs.Stages.{IsEarly, IsInputRefusal, IsPrepared, HasFetchCause, is_early, IsStopped, IsSameRun, IsCarried}
 use Rattle.jfluid_cli.specs.Origins.{HasOrigin, IsOnlyProgram}
 use Rattle.jfluid_cli.specs.Refusals.{status_of}
 use Rattle.jfluid_cli.specs.Runs.{PutsAtMost, RunsProgram, SameProgram, IsCarriedOut, output_at, world_on}
 use Rattle.jfluid_cli.specs.Top.{IsProgram}
-use Rattle.jfluid_cli.specs.Words.{Command, accepted, asks_images, budget_of, command_of, file_words, plan_word}
+use Rattle.jfluid_cli.specs.Words.{Command, accepted, asks_images, budget_of, command_of, file_words, is_generated, plan_word}
 use Rattle.jfluid_cli.proofs.OneCommand.{commanded}
 
 not_both : false ≡ true → ⊥
@@ -240,7 +240,7 @@ made-origin c budget made k is same =
       command = command;
       accepts = is.prepared.accepts;
       plan = plan-is c budget made k is same;
-      told_as = subst (AreToldAs c.told command.files) (sym same.classes) is.prepared.loaded.told_as;
+      told_as = subst (AreContentsOf c.told command) (sym same.classes) is.prepared.loaded.told_as;
       program =
           subst (λ (xs : List (List ℕ)). IsProgram (asked_by command) xs k.session.value.program)
           (sym same.classes)
@@ -287,7 +287,7 @@ made-true c budget made k is kept same front images unasked = record {
 
 made-run : (c : Call) (budget : ℕ) (made k : Kept) (status : ℕ)
     → IsMade c budget made → IsSameRun made k
-    → IsRun (asks_images (words_of c)) budget c.streams status k
+    → IsRun (is_generated (words_of c)) (asks_images (words_of c)) budget c.streams status k
     → IsRunAsked (words_of c) c.streams status k
 made-run c budget made k status is same ran =
     record {
@@ -327,7 +327,7 @@ kept-images o k asked s is = subst (λ (x : Option Kept). IsSomeAnd x (λ y. Put
 -- with the images that the words ask for
 run-asked : (c : Call) (budget : ℕ) (made : Kept)
     (r : Result ℕ Refusal) → IsMade c budget made → IsSomeAnd c.kept (IsSameRun made)
-    → MatchResult r (λ status. IsSomeAnd c.kept (IsRun (asks_images (words_of c)) budget c.streams status))
+    → MatchResult r (λ status. IsSomeAnd c.kept (IsRun (is_generated (words_of c)) (asks_images (words_of c)) budget c.streams status))
     (IsStopped c.streams)
     → PutsAtMost made.session.value budget c.streams.out.taken c.streams.out_after.taken
     → IsSomeAnd c.kept (λ x. PutsImages (asks_images (words_of c)) x.session.value c.streams)
@@ -336,8 +336,9 @@ run-asked : (c : Call) (budget : ℕ) (made : Kept)
 run-asked c budget made (Ok status) is same ran front images unasked calm calm_input =
     let k = some-kept c.kept (IsSameRun made) same in
     let asked = asks_images (words_of c) in
-    let here : IsRun asked budget c.streams status k.0 =
-    subst (λ (o : Option Kept). IsSomeAnd o (IsRun asked budget c.streams status)) k.1 ran in
+    let summary = is_generated (words_of c) in
+    let here : IsRun summary asked budget c.streams status k.0 =
+    subst (λ (o : Option Kept). IsSomeAnd o (IsRun summary asked budget c.streams status)) k.1 ran in
     record {
       always = made-true c budget made k.0 is k.1 k.2 front (kept-images c.kept k.0 asked c.streams k.1 images) unasked;
       ran = record {
@@ -366,18 +367,25 @@ run-asked c budget made (Err r) is same stopped front images unasked calm calm_i
 images-said : (words : List (List ℕ)) (r : Read) → accepted words ≡ Some r → asks_images words ≡ r.images
 images-said words r e = ap (λ (o : Option Read). option_map_or (λ (x : Read). x.images) o false) e
 
-pub carried-run : (c : Call) (budget : ℕ) (made : Kept) (r : Result ℕ Refusal) (words : Read)
-    → accepted (words_of c) ≡ Some words → IsMade c budget made → IsSomeAnd c.kept (IsSameRun made)
-    → MatchResult r (λ status. IsSomeAnd c.kept (IsRun words.images budget c.streams status))
+-- and, where they generate the program, for sums
+pub generation-said : (words : List (List ℕ)) (r : Read) → accepted words ≡ Some r → is_generated words ≡ is_some r.generated
+generation-said words r e = ap (λ (o : Option Read). option_map_or (λ (x : Read). is_some x.generated) o false) e
+
+pub carried-run : (c : Call) (summary : Bool) (budget : ℕ) (made : Kept) (r : Result ℕ Refusal) (words : Read)
+    → accepted (words_of c) ≡ Some words → summary ≡ is_some words.generated
+    → IsMade c budget made → IsSomeAnd c.kept (IsSameRun made)
+    → MatchResult r (λ status. IsSomeAnd c.kept (IsRun summary words.images budget c.streams status))
     (IsStopped c.streams)
     → PutsAtMost made.session.value budget c.streams.out.taken c.streams.out_after.taken
     → IsSomeAnd c.kept (λ x. PutsImages words.images x.session.value c.streams)
     → (words.images ≡ false → IsUntold c.streams.images c.streams.images_after)
     → c.files_after.faults ≡ c.files.faults → c.input_after.faults ≡ c.input.faults → IsCarried c r
-carried-run c budget made r words read is same ran front images unasked =
+carried-run c summary budget made r words read sums is same ran front images unasked =
     let said : words.images ≡ asks_images (words_of c) = sym (images-said (words_of c) words read) in
+    let sums_said : summary ≡ is_generated (words_of c) = sums ∙ sym (generation-said (words_of c) words read) in
     run-asked c budget made r is same
-    (subst (λ (asked : Bool). MatchResult r (λ status. IsSomeAnd c.kept (IsRun asked budget c.streams status)) (IsStopped c.streams)) said ran)
+    (subst (λ (s : Bool). MatchResult r (λ status. IsSomeAnd c.kept (IsRun s (asks_images (words_of c)) budget c.streams status)) (IsStopped c.streams)) sums_said
+    (subst (λ (asked : Bool). MatchResult r (λ status. IsSomeAnd c.kept (IsRun summary asked budget c.streams status)) (IsStopped c.streams)) said ran))
     front
     (subst (λ (asked : Bool). IsSomeAnd c.kept (λ x. PutsImages asked x.session.value c.streams)) said images)
     (subst (λ (asked : Bool). asked ≡ false → IsUntold c.streams.images c.streams.images_after) said unasked)

@@ -30,6 +30,7 @@ use Rattle.jfluid_cli.proofs.Carried.{carried-early, files-said, memory-refused,
 use Rattle.jfluid_cli.proofs.Early.{due-words, no-fault}
 use Rattle.jfluid_cli.proofs.Fixed.{by-status, read-or, accepted-or, two-refused, not-rooted, not-named, tells, same-contents, three-refused, program-told, not-unfit, long-told, not-long, kept-input, kept-short, kept-program}
 use Rattle.jfluid_cli.proofs.OneCommand.{commanded, not-misplanned, one-command}
+use Rattle.jfluid_cli.proofs.Rootless.{rootless-unfit, three-rootless}
 use Rattle.jfluid_cli.proofs.Spelled.{one-spelling}
 use Rattle.jfluid_cli.proofs.Complete.{calm_not_rose, ends_as, ending_of_same, one-program}
 
@@ -84,7 +85,7 @@ held-and (Some k) P Q R some p q = (k, p, q, some)
 
 reported-complete : (c : Call) (status : ℕ) (k : Kept) (p : Program)
     → HasOrigin (given_of c) k → IsOnlyProgram k → IsRunAsked (words_of c) c.streams status k
-    → (a : IsAccepted (given_of c) p) → AllCalm c → IsReported k.session.value c.streams.report c.streams.report_after status
+    → (a : IsAccepted (given_of c) p) → AllCalm c → IsReported (is_generated (words_of c)) k.session.value c.streams.report c.streams.report_after status
     → status ≡ status_of_ending (ending_of (world_on p a.input) a.admitted.command.budget)
 reported-complete c status k p o alone ran a calm reported = elim (cases_eq status 8) [
   | inl eight ↦ absurd (calm_not_rose c.streams.report.faults c.streams.report_after.faults
@@ -110,15 +111,15 @@ run-complete c status k p o alone ran a calm = elim ran.shown [
 ]
 
 -- its status is that of a run
-shown-known : (asked : Bool) (v : Profiling) (i j r q : SinkView) (status : ℕ) → IsShown asked v i j r q status
+shown-known : (summary asked : Bool) (v : Profiling) (i j r q : SinkView) (status : ℕ) → IsShown summary asked v i j r q status
     → is_status status ≡ true
-shown-known asked v i j r q status (inl (imaged, reported)) = reported.known
-shown-known asked v i j r q status (inr (eight, unimaged, untold)) = ap is_status eight
+shown-known summary asked v i j r q status (inl (imaged, reported)) = reported.known
+shown-known summary asked v i j r q status (inr (eight, unimaged, untold)) = ap is_status eight
 
-shown-run : (asked : Bool) (v : Profiling) (i j r q : SinkView) (status : ℕ) → IsShown asked v i j r q status
+shown-run : (summary asked : Bool) (v : Profiling) (i j r q : SinkView) (status : ℕ) → IsShown summary asked v i j r q status
     → is_run status ≡ true
-shown-run asked v i j r q status (inl (imaged, reported)) = reported.is_one
-shown-run asked v i j r q status (inr (eight, unimaged, untold)) = ap is_run eight
+shown-run summary asked v i j r q status (inl (imaged, reported)) = reported.is_one
+shown-run summary asked v i j r q status (inr (eight, unimaged, untold)) = ap is_run eight
 
 pub answered-run : (c : Call) (status : ℕ) → (IsErr c.words → ⊥) → IsCarried c (Ok status) → IsAnswered c status
 answered-run c status heard carried =
@@ -141,6 +142,9 @@ answered-run c status heard carried =
       plan_only = λ bad calm. absurd
           (not-misplanned g bad.words o.command bad.telling bad.read bad.misplanned o.accepts);
       file_only = λ unfit calm. absurd (not-unfit g (kept-program g k.0 o) unfit);
+      rootless = λ own three. absurd (not_both (ap is_run (sym three) ∙ k.3.report.is_one));
+      rootless_only = λ none some calm. absurd
+          (not-unfit g (kept-program g k.0 o) (rootless-unfit g none some));
       input_only = λ long calm calm_input. absurd (kept-short g k.0 o long);
       complete = λ p a calm. inl (run-complete c status k.0 p o k.2 k.3 a calm);
     }
@@ -254,6 +258,9 @@ answered-refusal c r status unheard is always refused line = record {
   root_only = λ bad. same-status 2 (root-only c r refused bad);
   plan_only = λ bad calm. same-status 2 (plan-only c r refused bad calm);
   file_only = λ unfit calm. same-status 3 (file-only c r refused unfit calm);
+  rootless = λ own three. three-rootless (given_of c) r refused.cause (sym is ∙ three) own;
+  rootless_only = λ none some calm. same-status 3
+      (file-only c r refused (rootless-unfit (given_of c) none some) calm);
   input_only = λ long calm calm_input. same-status 11 (input-only c r always refused long calm calm_input);
   complete = λ p a calm. inr (is ∙ refused-complete c r p refused a calm);
 }

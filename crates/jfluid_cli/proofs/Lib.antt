@@ -16,6 +16,8 @@ pub mod Early
 pub mod Answered
 pub mod Carried
 pub mod Fixed
+pub mod Generating
+pub mod Rootless
 pub mod Finished
 pub mod Profiled
 pub mod Reported

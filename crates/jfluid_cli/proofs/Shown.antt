@@ -8,8 +8,8 @@ use Rattle.jfluid_cli.specs.Images.{IsImaged}
 use Rattle.jfluid_cli.specs.Sinks.{SinkView}
 
 -- the report behind all images
-pub shown-behind : (r : Result ℕ Refusal) (asked : Bool) (v : Profiling) (before after old new : SinkView) (E : Refusal → Type 0)
-    → IsImaged asked v before after → MatchResult r (IsReported v old new) E
-    → MatchResult r (IsShown asked v before after old new) E
-shown-behind (Ok status) asked v before after old new E imaged reported = inl (imaged, reported)
-shown-behind (Err refusal) asked v before after old new E imaged untold = untold
+pub shown-behind : (r : Result ℕ Refusal) (summary asked : Bool) (v : Profiling) (before after old new : SinkView) (E : Refusal → Type 0)
+    → IsImaged asked v before after → MatchResult r (IsReported summary v old new) E
+    → MatchResult r (IsShown summary asked v before after old new) E
+shown-behind (Ok status) summary asked v before after old new E imaged reported = inl (imaged, reported)
+shown-behind (Err refusal) summary asked v before after old new E imaged untold = untold

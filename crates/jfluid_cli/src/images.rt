@@ -92,11 +92,13 @@ fn put_images<G: Sink>(
     put_records(alloc, swaps, images)
 }
 
-/// Puts the images of a session, where they are asked for, and then its report, and answers the
+/// Puts the images of a session, where they are asked for, and then its report, by its tree or by the
+/// sums over it, and answers the
 /// status of its run, or 8 where a put failed.
 pub fn show<G: Sink, P: Sink>(
     alloc: Global,
     session: &mut Session,
+    summary: bool,
     asked: bool,
     images: &mut G,
     report: &mut P,
@@ -110,7 +112,7 @@ pub fn show<G: Sink, P: Sink>(
         let before = sink_view (G.taken images.old) (G.faults images.old) in
         let after = sink_view (G.taken images.new) (G.faults images.new) in
         MatchResult result
-        (IsShown asked session.new before after old new)
+        (IsShown summary asked session.new before after old new)
         (λ e. (e ≡ Refusal.NoMemory) × IsUntold old new) }
     ensures front { let bytes = images_of asked session.new in
         PutsFront (G.taken images.old) (G.taken images.new) bytes }
@@ -122,7 +124,7 @@ pub fn show<G: Sink, P: Sink>(
         return Err(Refusal::NoMemory);
     };
     match put_images(alloc, session, asked, images) {
-        Ok(()) => give_report(alloc, session, report),
+        Ok(()) => give_report(alloc, session, summary, report),
         Err(Unput::Failed) => Ok(8),
         Err(Unput::NoMemory) => Err(Refusal::NoMemory),
     }

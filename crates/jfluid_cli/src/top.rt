@@ -32,6 +32,7 @@ fn answer<P: Sink, G: Sink>(
     alloc: Global,
     outcome: Result<(), Stop>,
     session: &mut Session,
+    summary: bool,
     asked: bool,
     report: &mut P,
     images: &mut G,
@@ -46,7 +47,7 @@ fn answer<P: Sink, G: Sink>(
         let before = sink_view (G.taken images.old) (G.faults images.old) in
         let after = sink_view (G.taken images.new) (G.faults images.new) in
         MatchResult result
-        (IsShown asked session.new before after old new)
+        (IsShown summary asked session.new before after old new)
         (λ e. IsUntold old new) }
     ensures front { let bytes = images_of asked session.new in
         PutsFront (G.taken images.old) (G.taken images.new) bytes }
@@ -57,17 +58,19 @@ fn answer<P: Sink, G: Sink>(
         ((e ≡ Refusal.OutFailed) × (outcome ≡ Err Stop.OutFailed)) ⊎ (e ≡ Refusal.NoMemory)) }
 {
     match outcome {
-        Ok(()) => show(alloc, session, asked, images, report),
+        Ok(()) => show(alloc, session, summary, asked, images, report),
         Err(Stop::OutFailed) => Err(Refusal::OutFailed),
         Err(Stop::NoMemory) => Err(Refusal::NoMemory),
     }
 }
 
-/// Runs what was made up to a budget, and reports on it, behind its images where they are asked for.
+/// Runs what was made up to a budget, and reports on it, by its tree or by the sums over it, behind its
+/// images where they are asked for.
 fn run_made<O: Sink, P: Sink, G: Sink>(
     alloc: Global,
     made_of: Kept,
     budget: u64,
+    summary: bool,
     asked: bool,
     out: &mut O,
     report: &mut P,
@@ -87,7 +90,7 @@ fn run_made<O: Sink, P: Sink, G: Sink>(
       images_after = sink_view (G.taken images.new) (G.faults images.new);
     } in
         MatchResult result
-        (λ status. IsSomeAnd kept.new (IsRun asked budget s status))
+        (λ status. IsSomeAnd kept.new (IsRun summary asked budget s status))
         (IsStopped s) }
     ensures images { IsSomeAnd kept.new (λ k. let bytes = images_of asked k.session.value in
         PutsFront (G.taken images.old) (G.taken images.new) bytes) }
@@ -99,7 +102,7 @@ fn run_made<O: Sink, P: Sink, G: Sink>(
     let mut ran = made_of;
     let session = &mut *ran.session;
     let outcome = run_all(session, out, budget);
-    let answered = answer(alloc, outcome, session, asked, report, images);
+    let answered = answer(alloc, outcome, session, summary, asked, report, images);
     *kept = Some(ran);
     answered
 }
@@ -146,6 +149,7 @@ fn carry_out<F: Files, I: Source, O: Sink, P: Sink, G: Sink>(
         Err(refusal) => return Err(refusal),
     };
     let budget = loaded.budget;
+    let summary = words.generated.is_some();
     let Ok(made_of) = make(alloc, loaded, bytes) else {
         return Err(Refusal::NoMemory);
     };
@@ -153,6 +157,7 @@ fn carry_out<F: Files, I: Source, O: Sink, P: Sink, G: Sink>(
         alloc,
         made_of,
         budget,
+        summary,
         words.images,
         out,
         report,

@@ -52,7 +52,8 @@ returns g c =
             told = g.F.Files.contents c.args.files.now;
             left = g.I.Source.left c.args.input.now;
           } in
-          carried-run _ l.budget made c.run_made.result (read_in c.args.words.now) read
+          carried-run _ c.is_some-summary.result l.budget made c.run_made.result (read_in c.args.words.now) read
+          c.is_some-summary.ensures
           (record {
             program = l.program;
             prepared = subst (λ (p : Plan). IsPrepared given p l.budget made.classes l.program)

@@ -30,7 +30,7 @@ returns-clause-run g c =
         faults = g.G.Sink.faults c.answer-answered.new.images;
       };
     } in
-    run-answer c.answer-answered.result c.run_all-outcome.result s c.args.asked c.args.budget
+    run-answer c.answer-answered.result c.run_all-outcome.result s c.args.summary c.args.asked c.args.budget
     c.run_all-outcome.new.session
     (record c.args.made_of { session = record c.args.made_of.session { value = c.answer-answered.new.session } })
     c.answer-answered.ensures.carried_out c.answer-answered.ensures.gathered c.answer-answered.ensures.shown

@@ -6,7 +6,7 @@ use Rattle.jfluid_cli.specs.Contents.{AreFetched}
 use Rattle.jfluid_cli.specs.Stages.{IsFetchRefusal, IsLoaded}
 use Rattle.jfluid_cli.specs.Words.{Command, command_with}
 use Rattle.jfluid_cli.proofs.Early.{due-fetch, due-mainless, fetched, loaded, made-command}
-use Rattle.jfluid_cli.proofs.loading.load.Goals as goal
+use Rattle.jfluid_cli.proofs.loading.load_files.Goals as goal
 
 pub returns-in_default-clause-early : goal.returns-in_default-clause-early
 returns-in_default-clause-early g c = λ given with_plan told.
@@ -34,7 +34,7 @@ returns-in-Ok-read_program-clause-ok g c = λ given with_plan told.
       budget_is = refl;
       loaded = subst (λ (t : Option Told). IsLoaded t command c.in-Ok.contents c.in-Ok-read_program.program) (sym told)
           (loaded (g.F.Files.contents c.args.files.now) command c.in-Ok.contents c.as_slice.result.now
-          c.in-Ok-read_program.program (subst (λ (names : List (List ℕ)). AreFetched (g.F.Files.contents c.args.files.now) names c.in-Ok.contents)
+          c.in-Ok-read_program.program c.requires.own (subst (λ (names : List (List ℕ)). AreFetched (g.F.Files.contents c.args.files.now) names c.in-Ok.contents)
           (ap texts c.deref.ensures.value) c.in-Ok.ensures.found) (sym c.as_slice.ensures) c.in-Ok-read_program.ensures.ok
           c.in-Ok-read_program.ensures.alone);
     }
@@ -46,7 +46,7 @@ returns-in-Err-read_program-clause-early g c = λ given with_plan told.
     let command : Command = command_with words c.args.plan.now of in
     c.in-Err-read_program.ensures.early given
     (fetched given command (g.F.Files.contents c.args.files.now) c.in-Ok.contents c.as_slice.result.now
-    (made-command given words c.args.plan.now of with_plan c.in-Some.ensures.chosen) told
+    (made-command given words c.args.plan.now of with_plan c.in-Some.ensures.chosen) c.requires.own told
     (subst (λ (names : List (List ℕ)). AreFetched (g.F.Files.contents c.args.files.now) names c.in-Ok.contents)
     (ap texts c.deref.ensures.value) c.in-Ok.ensures.found) (sym c.as_slice.ensures))
 
