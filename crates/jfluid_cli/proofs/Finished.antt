@@ -25,7 +25,7 @@ use Rattle.jfluid_cli.specs.Origins.{HasOrigin, IsOnlyProgram}
 use Rattle.jfluid_cli.specs.Refusals.{status_of, refusal_line, IsNameless}
 use Rattle.jfluid_cli.specs.Runs.{ending_at, world_on}
 use Rattle.jfluid_cli.specs.Top.{IsProgram, answer_for, is_among, is_run, is_status, status_of_ending}
-use Rattle.jfluid_cli.specs.Words.{Command, accepted, asks_images, budget_of, command_of, file_words, plan_word, words_in}
+use Rattle.jfluid_cli.specs.Words.{Command, accepted, asks_images, budget_of, command_of, file_words, is_generated, plan_word, words_in}
 use Rattle.jfluid_cli.proofs.Carried.{carried-early, files-said, memory-refused, plan-said}
 use Rattle.jfluid_cli.proofs.Early.{due-words, no-fault}
 use Rattle.jfluid_cli.proofs.Fixed.{by-status, read-or, accepted-or, two-refused, not-rooted, not-named, tells, same-contents, three-refused, program-told, not-unfit, long-told, not-long, kept-input, kept-short, kept-program}
@@ -128,21 +128,22 @@ answered-run c status heard carried =
     carried.ran.made carried.always.origin carried.always.only in
     let o : HasOrigin g k.0 = k.1 in
     let s = c.streams in
+    let summary = is_generated (words_of c) in
+    let asked = asks_images (words_of c) in
+    let run : is_run status ≡ true =
+    shown-run summary asked k.0.session.value s.images s.images_after s.report s.report_after status k.3.shown in
     record {
       always = carried.always;
-      known = shown-known (asks_images (words_of c)) k.0.session.value s.images s.images_after s.report s.report_after status
-          k.3.shown;
+      known = shown-known summary asked k.0.session.value s.images s.images_after s.report s.report_after status k.3.shown;
       ran = λ _. carried.ran;
-      refused = λ not_run. absurd (not_both (sym not_run
-          ∙ shown-run (asks_images (words_of c)) k.0.session.value s.images s.images_after s.report s.report_after status
-          k.3.shown));
+      refused = λ not_run. absurd (not_both (sym not_run ∙ run));
       unheard = λ none. absurd (heard none);
       words_only = λ none. absurd (none-some o.accepts.words (sym none ∙ o.accepts.read));
       root_only = λ bad. absurd (not-rooted g o.command bad o.accepts);
       plan_only = λ bad calm. absurd
           (not-misplanned g bad.words o.command bad.telling bad.read bad.misplanned o.accepts);
       file_only = λ unfit calm. absurd (not-unfit g (kept-program g k.0 o) unfit);
-      rootless = λ own three. absurd (not_both (ap is_run (sym three) ∙ k.3.report.is_one));
+      rootless = λ own three. absurd (not_both (ap is_run (sym three) ∙ run));
       rootless_only = λ none some calm. absurd
           (not-unfit g (kept-program g k.0 o) (rootless-unfit g none some));
       input_only = λ long calm calm_input. absurd (kept-short g k.0 o long);
