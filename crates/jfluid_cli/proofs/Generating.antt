@@ -149,6 +149,7 @@ generated-by g k a some = by k.generated refl
   where
     same : a.words.generated ≡ k.generated
     same = ap (λ (x : Command). x.generated) (choice-of a.words k.plan k a.asked).with
+
     by : (x : Option Generation) → k.generated ≡ x → (o : Generation) × IsGeneratedOf k o
     by None e = absurd (not-both (sym (ap (λ (y : Option Generation). is_some y) (same ∙ e)) ∙ some))
     by (Some o) e = (o, generated-of g k o a e)

@@ -69,7 +69,7 @@ pub three-rootless : (g : Given) (r : Refusal) → Because g r → status_of r �
 three-rootless g (NotRead at fault) cause three e =
     let k = cause.command in
     let a = cause.accepts in
-    let own = generated-by g k a (generation-said g.words a.words a.read ∙ e) in
+    let own = generated-by g k a (sym (generation-said g.words a.words a.read) ∙ e) in
     let o = own.0 in
     let is : cause.contents ≡ generated_contents o.seed o.size =
     contents-generated g.told k o cause.contents own.1.generated cause.told_as in
@@ -81,7 +81,7 @@ three-rootless g (NotRead at fault) cause three e =
 three-rootless g (NotAdmitted fault) cause three e =
     let k = cause.command in
     let a = cause.accepts in
-    let own = generated-by g k a (generation-said g.words a.words a.read ∙ e) in
+    let own = generated-by g k a (sym (generation-said g.words a.words a.read) ∙ e) in
     let o = own.0 in
     let classes : List ClassFile = generated o.seed o.size in
     let is : cause.contents ≡ generated_contents o.seed o.size =

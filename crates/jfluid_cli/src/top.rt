@@ -264,6 +264,10 @@ fn answer_words<F: Files, I: Source, O: Sink, P: Sink, G: Sink>(
 /// budget. With `--images` each rewritten class is put to `images` behind the run: the clock, the
 /// length and the bytes of its image, in the order of the swaps. What was run is left in `kept`.
 ///
+/// `--gen SEED --size N` stands in place of the FILEs and of `--main`: no file is fetched but the
+/// plan, the program is the generated one, whose main class is GenMain whatever the plan names, and
+/// in place of the tree the report has its sums.
+///
 /// The statuses are 0, the run returned, or the program called System.exit, with the budget's last
 /// step at the latest; 1, it ended uncaught; 2, the words or the plan are refused; 3, a file is no
 /// class file, or the program is not admitted; 4, the budget was spent before the run ended; 5, a
