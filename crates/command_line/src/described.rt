@@ -30,8 +30,7 @@ const BUDGET: &str = "Stops after so many instructions [default: the plan's, els
 
 const PLAN: &str = "A file that says what to run, and which methods to profile when";
 
-const SEED: &str =
-    "Runs a generated program, which this number from 0 to 2147483647 decides, and no files";
+const SEED: &str = "Runs a program that is made from this number, 0 to 2147483647";
 
 const SIZE: &str = "How many classes a generated program has beside GenMain, 1 to 200";
 

@@ -1,12 +1,14 @@
 -- Words that are accepted by themselves, and words that are not.
-use Rattle.std.proofs.Common.{◌≡◌, ℕ, Bool, true, false, cond, List, [], ◌∷◌, Option, Some, None, refl, sym, ap, inl, inr}
+use Rattle.std.proofs.Common.{◌≡◌, ℕ, Bool, true, false, cond, List, [], ◌∷◌, Option, Some, None, refl, sym, ap, subst, inl, inr}
 use Rattle.std.specs.Prelude.{◌⊎◌, not, ◌&&◌}
 use Rattle.std.specs.List.{list_all}
 use Rattle.std.specs.Str.{is_utf8}
 use Rattle.std.proofs.lemmas.Bool.{and_from, and_parts, cases_Bool}
 use Rattle.std.proofs.lemmas.Str.{IsUtf8-from_is_utf8, is_utf8-from_IsUtf8}
 use Rattle.command_line.specs.Raw.{AreTexts}
-use Rattle.command_line.specs.Words.{Read, is_refused, is_taken, read_of, said}
+use Rattle.std.proofs.lemmas.Option.{same_Some}
+use Rattle.command_line.proofs.Sound.{sound}
+use Rattle.command_line.specs.Words.{IsSound, Read, is_refused, is_taken, read_of, said}
 use Rattle.jfluid_cli.specs.Words.{accepted, is_allowed, AreClaps, AreRefused}
 
 all-utf8 : (words : List (List ℕ)) → AreTexts words → list_all is_utf8 words ≡ true
@@ -43,6 +45,25 @@ unfolding accepted is_allowed
 accepted-read words r texts taken fine is =
     passed (list_all is_utf8 words) (is_taken words) (not (is_refused (said words))) (read_of (said words)) r
     (all-utf8 words texts) taken (ap not fine) is
+
+-- the third test passed where something is read, and this is it
+read-there : (a b c : Bool) (read r : Read) → ◌≡◌ {A = Option Read} (cond ((a && b) && c) (Some read) None) (Some r)
+    → (c ≡ true) × (read ≡ r)
+read-there true true true read r e = (refl, same_Some read r e)
+read-there true true false read r e = absurd cc
+read-there true false c read r e = absurd cc
+read-there false b c read r e = absurd cc
+
+not-barred : (b : Bool) → not b ≡ true → b ≡ false
+not-barred true e = absurd cc
+not-barred false e = refl
+
+-- what is read of accepted words is sound
+pub accepted-sound : (words : List (List ℕ)) (r : Read) → accepted words ≡ Some r → IsSound r
+unfolding accepted is_allowed
+accepted-sound words r e =
+    let there = read-there (list_all is_utf8 words) (is_taken words) (not (is_refused (said words))) (read_of (said words)) r e in
+    subst IsSound there.1 (sound (said words) (not-barred (is_refused (said words)) there.0))
 
 pub refused-rule : (words : List (List ℕ)) → is_taken words ≡ true → is_refused (said words) ≡ true → AreRefused words
 unfolding is_allowed

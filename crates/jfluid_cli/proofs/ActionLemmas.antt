@@ -8,6 +8,7 @@ use Rattle.std.proofs.lemmas.List.Elements.{filter-append}
 use Rattle.std.proofs.lemmas.Option.{slice_get_within, slice_get-get_or, slice_get_past, same_Some}
 use Rattle.jvm_model.specs.declared.event.Act.{Act}
 use Rattle.jvm_model.specs.Calls.{AreFrom}
+use Rattle.jvm_model.specs.Told.{Held}
 use Rattle.profile_session.specs.Sessions.{Profiling, CanActNow, with_act}
 use Rattle.jfluid_cli.specs.Actions.{IsAlong, IsDue, IsLater, IsToCome, Takes}
 use Rattle.jfluid_cli.specs.Runs.{IsFresh, IsPlanned, at_step, is_taken_by}
@@ -202,12 +203,12 @@ pub record StaysAlong (new : Profiling) (next : ℕ) : Type 0 where
   pub along : IsAlong new next
   pub planned : IsPlanned new
 
-moved-along : (old : Profiling) (n next : ℕ) → IsAlong old next → IsLater old next → AreFrom 0 old.program.acts
+moved-along : (old : Profiling) (n next : ℕ) (live : List Held) → IsAlong old next → IsLater old next → AreFrom 0 old.program.acts
     → old.clock ≤ n → HasMoved old.clock n → IfSome (slice_get old.program.acts next) (λ a. n ≤ a.moment)
-    → StaysAlong (record old { started = true; clock = n; gathered = false }) next
-moved-along old n next along later order le moved before =
+    → StaysAlong (record old { started = true; clock = n; gathered = false; live = live }) next
+moved-along old n next live along later order le moved before =
     let acts = old.program.acts in
-    let new : Profiling = record old { started = true; clock = n; gathered = false } in
+    let new : Profiling = record old { started = true; clock = n; gathered = false; live = live } in
     let from : AllByRecursion (IsFrom n) (drop next acts) = later-all 0 n next acts order before in
     let above : AllByRecursion (IsFrom (old.clock + 1)) (drop next acts) =
     later-all 0 (old.clock + 1) next acts order (weaker (slice_get acts next) later) in
@@ -237,4 +238,4 @@ pub stays-along : (old new : Profiling) (next : ℕ) → IsAlong old next → Is
     → IfSome (slice_get old.program.acts next) (λ a. new.clock ≤ a.moment) → StaysAlong new next
 stays-along old new next along later order is le moved before =
     subst (λ (s : Profiling). StaysAlong s next) (sym is)
-    (moved-along old new.clock next along later order le moved before)
+    (moved-along old new.clock next new.live along later order le moved before)

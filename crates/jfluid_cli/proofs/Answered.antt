@@ -1,5 +1,5 @@
 -- What a run that was carried out leaves to its answer.
-use Rattle.std.proofs.Common.{◌≡◌, ℕ, true, false, List, Option, sym, subst, inl, inr}
+use Rattle.std.proofs.Common.{◌≡◌, ℕ, Bool, true, false, List, Option, sym, subst, inl, inr}
 use Rattle.std.specs.Prelude.{◌⊎◌, Result, Ok, Err, IfOk, IfErr, IsOk, OnOk, MatchResult}
 use Rattle.jf_bytes.specs.Streams.{Rose}
 use Rattle.profile_session.specs.Answers.{Gathers}
@@ -9,7 +9,7 @@ use Rattle.jfluid_cli.specs.declared.refusal.Refusal.{Refusal}
 use Rattle.jfluid_cli.specs.declared.refusal.Refusal.TheVariants.{OutFailed, NoMemory}
 use Rattle.jfluid_cli.specs.declared.running.Stop.{Stop}
 use Rattle.jfluid_cli.specs.declared.running.Stop.TheVariants as stop
-use Rattle.jfluid_cli.specs.Calls.{IsReported, IsRun}
+use Rattle.jfluid_cli.specs.Calls.{IsRun, IsShown}
 use Rattle.jfluid_cli.specs.Runs.{IsCarriedOut, StopCause}
 use Rattle.jfluid_cli.specs.Sinks.{Streams, IsUntold}
 use Rattle.jfluid_cli.specs.Stages.{IsStopped}
@@ -30,25 +30,26 @@ gathered-out old new budget o n gathers out =
         | inr ended ↦ inr (record { ended = ended.ended; before = ended.before })
       ];
       put = out.put;
+      live = out.live;
     })
 
 -- what was run and reported, or stopped
 pub run-answer : {A : Type 0} (r : Result ℕ Refusal) (outcome : Result A Stop) (s : Streams)
-    (budget : ℕ) (ran : Profiling) (k : Kept)
+    (summary asked : Bool) (budget : ℕ) (ran : Profiling) (k : Kept)
     → IfOk r (λ _. IsOk outcome) → OnOk r (Gathers ran k.session.value)
-    → MatchResult r (IsReported k.session.value s.report s.report_after)
+    → MatchResult r (IsShown summary asked k.session.value s.images s.images_after s.report s.report_after)
     (λ e. IsUntold s.report s.report_after)
     → IfErr r (λ e. ((e ≡ OutFailed) × (outcome ≡ Err stop.OutFailed)) ⊎ (e ≡ NoMemory))
     → OnOk outcome (IsCarriedOut ran budget s.out.taken s.out_after.taken)
     → StopCause s.out.faults s.out_after.faults outcome
-    → MatchResult r (λ status. IsRun budget s status k) (IsStopped s)
-run-answer (Ok status) (Ok x) s budget ran k ok gathers reported why carried calm = record {
+    → MatchResult r (λ status. IsRun summary asked budget s status k) (IsStopped s)
+run-answer (Ok status) (Ok x) s summary asked budget ran k ok gathers shown why carried calm = record {
   output = gathered-out ran k.session.value budget s.out.taken s.out_after.taken gathers carried;
   calm = calm;
-  report = reported;
+  shown = shown;
 }
-run-answer (Ok status) (Err e) s budget ran k ok gathers reported why carried calm = absurd (not_ok ok)
-run-answer (Err r) outcome s budget ran k ok gathers untold why carried cause =
+run-answer (Ok status) (Err e) s summary asked budget ran k ok gathers shown why carried calm = absurd (not_ok ok)
+run-answer (Err r) outcome s summary asked budget ran k ok gathers untold why carried cause =
     record { why = by_cause why; untold = untold }
   where
     by_cause : ((r ≡ OutFailed) × (outcome ≡ Err stop.OutFailed)) ⊎ (r ≡ NoMemory)

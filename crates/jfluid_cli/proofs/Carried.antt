@@ -1,6 +1,6 @@
 -- What a call leaves before a refusal's line is put.
-use Rattle.std.proofs.Common.{◌≡◌, ℕ, ◌≤◌, true, false, List, [], length, Option, Some, None, refl, sym, ap, subst, ◌∙◌, inl, inr}
-use Rattle.std.specs.Prelude.{Result, Ok, Err, IfSome, IsSome, IsSomeAnd, MatchResult}
+use Rattle.std.proofs.Common.{◌≡◌, ℕ, ◌≤◌, Bool, true, false, List, [], length, Option, Some, None, refl, sym, ap, subst, ◌∙◌, inl, inr}
+use Rattle.std.specs.Prelude.{Result, Ok, Err, is_some, IfSome, IsSome, IsSomeAnd, MatchResult}
 use Rattle.std.specs.Io.KnownBytes.{IsAtEnd}
 use Rattle.std.specs.Option.{option_map_or, option_and_then}
 use Rattle.jf_bytes.specs.Streams.{PutsFront}
@@ -13,17 +13,17 @@ use Rattle.command_line.specs.Words.{Read}
 use Rattle.jfluid_cli.specs.declared.kept.Kept.{Kept}
 use Rattle.jfluid_cli.specs.declared.refusal.Refusal.{Refusal}
 use Rattle.jfluid_cli.specs.declared.refusal.Refusal.TheVariants.{NoMemory}
-use Rattle.jfluid_cli.specs.Calls.{Call, given_of, words_of, IsRun, IsRunAsked, IsTrueOf, IsRefused}
+use Rattle.jfluid_cli.specs.Calls.{Call, given_of, words_of, IsRun, IsRunAsked, IsTrueOf, IsRefused, PutsImages}
 use Rattle.jfluid_cli.specs.Asking.{asked_by}
-use Rattle.jfluid_cli.specs.Causes.{Given, OfProgram}
-use Rattle.jfluid_cli.specs.Sinks.{SourceView, IsUntold}
-use Rattle.jfluid_cli.specs.Contents.{AreToldAs, SpellAlone, classes_for}
+use Rattle.jfluid_cli.specs.Causes.{Given, AreContentsOf, OfProgram}
+use Rattle.jfluid_cli.specs.Sinks.{SourceView, Streams, IsUntold}
+use Rattle.jfluid_cli.specs.Contents.{SpellAlone, classes_for}
 use Rattle.jfluid_cli.specs.Stages.{IsEarly, IsInputRefusal, IsPrepared, HasFetchCause, is_early, IsStopped, IsSameRun, IsCarried}
 use Rattle.jfluid_cli.specs.Origins.{HasOrigin, IsOnlyProgram}
 use Rattle.jfluid_cli.specs.Refusals.{status_of}
 use Rattle.jfluid_cli.specs.Runs.{PutsAtMost, RunsProgram, SameProgram, IsCarriedOut, output_at, world_on}
 use Rattle.jfluid_cli.specs.Top.{IsProgram}
-use Rattle.jfluid_cli.specs.Words.{Command, accepted, budget_of, command_of, file_words, plan_word}
+use Rattle.jfluid_cli.specs.Words.{Command, accepted, asks_images, budget_of, command_of, file_words, is_generated, plan_word}
 use Rattle.jfluid_cli.proofs.OneCommand.{commanded}
 
 not_both : false ≡ true → ⊥
@@ -32,8 +32,9 @@ not_both e = cc
 -- ---- where nothing is made
 
 -- nothing is kept, so nothing has to be said of it
-pub nothing-made : (c : Call) → c.kept ≡ None → IsUntold c.streams.out c.streams.out_after → IsTrueOf c
-nothing-made c none out = record {
+pub nothing-made : (c : Call) → c.kept ≡ None → IsUntold c.streams.out c.streams.out_after
+    → IsUntold c.streams.images c.streams.images_after → IsTrueOf c
+nothing-made c none out images = record {
   origin = subst (λ (o : Option Kept). IfSome o (HasOrigin (given_of c))) (sym none) tt;
   only = subst (λ (o : Option Kept). IfSome o IsOnlyProgram) (sym none) tt;
   front = subst (λ (o : Option Kept). IfSome o
@@ -41,6 +42,10 @@ nothing-made c none out = record {
       (sym none) tt;
   ended = λ some. absurd (not_both (subst (λ (o : Option Kept). IsSome o) none some));
   nothing = λ _. out.taken;
+  images = subst (λ (o : Option Kept). IfSome o (λ k. PutsImages (asks_images (words_of c)) k.session.value c.streams))
+      (sym none) tt;
+  unasked = λ _. images;
+  unimaged = λ _. images;
 }
 
 other-early : (s n : ℕ) → is_early n ≡ false → is_early s ≡ true → s ≡ n → ⊥
@@ -68,11 +73,11 @@ refused-early c r none input early fetch = record {
 
 pub carried-early : (c : Call) (r : Refusal) → c.kept ≡ None
     → IsUntold c.streams.out c.streams.out_after → IsUntold c.streams.report c.streams.report_after
-    → c.input_after ≡ c.input → IsEarly (given_of c) r
+    → IsUntold c.streams.images c.streams.images_after → c.input_after ≡ c.input → IsEarly (given_of c) r
     → HasFetchCause (plan_word (words_of c)) (file_words (words_of c)) c.files c.files_after r
     → IsCarried c (Err r)
-carried-early c r none out report input early fetch = record {
-  always = nothing-made c none out;
+carried-early c r none out report images input early fetch = record {
+  always = nothing-made c none out images;
   ran = tt;
   refused = refused-early c r none input early fetch;
   untold = report;
@@ -88,11 +93,11 @@ plan-said words r e = sym (ap (option_and_then (λ (x : Read). x.plan)) e)
 -- refused behind accepted words
 pub carried-refused : (c : Call) (words : Read) (r : Refusal) → accepted (words_of c) ≡ Some words
     → c.kept ≡ None → IsUntold c.streams.out c.streams.out_after
-    → IsUntold c.streams.report c.streams.report_after → c.input_after ≡ c.input
-    → IsEarly (given_of c) r → HasFetchCause words.plan words.files c.files c.files_after r
+    → IsUntold c.streams.report c.streams.report_after → IsUntold c.streams.images c.streams.images_after
+    → c.input_after ≡ c.input → IsEarly (given_of c) r → HasFetchCause words.plan words.files c.files c.files_after r
     → IsCarried c (Err r)
-carried-refused c words r read none out report input early fetch =
-    carried-early c r none out report input early
+carried-refused c words r read none out report images input early fetch =
+    carried-early c r none out report images input early
     (subst (λ (named : Option (List ℕ)). HasFetchCause named (file_words (words_of c)) c.files c.files_after r)
     (plan-said (words_of c) words read)
     (subst (λ (names : List (List ℕ)). HasFetchCause words.plan names c.files c.files_after r)
@@ -117,9 +122,10 @@ memory-refused c = record {
 }
 
 pub carried-memory : (c : Call) → c.kept ≡ None → IsUntold c.streams.out c.streams.out_after
-    → IsUntold c.streams.report c.streams.report_after → IsCarried c (Err NoMemory)
-carried-memory c none out report = record {
-  always = nothing-made c none out;
+    → IsUntold c.streams.report c.streams.report_after → IsUntold c.streams.images c.streams.images_after
+    → IsCarried c (Err NoMemory)
+carried-memory c none out report images = record {
+  always = nothing-made c none out images;
   ran = tt;
   refused = memory-refused c;
   untold = report;
@@ -175,10 +181,11 @@ refused-input c r none calm of (inr (inr (memory, same))) = subst (IsRefused c) 
 
 pub carried-input : (c : Call) (r : Refusal) → c.kept ≡ None
     → IsUntold c.streams.out c.streams.out_after → IsUntold c.streams.report c.streams.report_after
+    → IsUntold c.streams.images c.streams.images_after
     → c.files_after.faults ≡ c.files.faults → OfProgram (given_of c)
     → IsInputRefusal c.input c.input_after r → IsCarried c (Err r)
-carried-input c r none out report calm of why = record {
-  always = nothing-made c none out;
+carried-input c r none out report images calm of why = record {
+  always = nothing-made c none out images;
   ran = tt;
   refused = refused-input c r none calm of why;
   untold = report;
@@ -233,7 +240,7 @@ made-origin c budget made k is same =
       command = command;
       accepts = is.prepared.accepts;
       plan = plan-is c budget made k is same;
-      told_as = subst (AreToldAs c.told command.files) (sym same.classes) is.prepared.loaded.told_as;
+      told_as = subst (AreContentsOf c.told command) (sym same.classes) is.prepared.loaded.told_as;
       program =
           subst (λ (xs : List (List ℕ)). IsProgram (asked_by command) xs k.session.value.program)
           (sym same.classes)
@@ -254,8 +261,10 @@ made-only c budget made k is same =
 made-true : (c : Call) (budget : ℕ) (made k : Kept)
     → IsMade c budget made → c.kept ≡ Some k → IsSameRun made k
     → PutsAtMost made.session.value budget c.streams.out.taken c.streams.out_after.taken
+    → PutsImages (asks_images (words_of c)) k.session.value c.streams
+    → (asks_images (words_of c) ≡ false → IsUntold c.streams.images c.streams.images_after)
     → IsTrueOf c
-made-true c budget made k is kept same front = record {
+made-true c budget made k is kept same front images unasked = record {
   origin = subst (λ (o : Option Kept). IfSome o (HasOrigin (given_of c))) (sym kept)
       (made-origin c budget made k is same);
   only = subst (λ (o : Option Kept). IfSome o IsOnlyProgram) (sym kept)
@@ -269,18 +278,23 @@ made-true c budget made k is kept same front = record {
   ended = λ _. is.ended;
   nothing = λ none. absurd
       (let e : (let o : Option Kept = Some k in o ≡ None) = sym kept ∙ none in cc);
+  images = subst (λ (o : Option Kept). IfSome o (λ x. PutsImages (asks_images (words_of c)) x.session.value c.streams))
+      (sym kept) images;
+  unasked = unasked;
+  unimaged = λ none. absurd
+      (let e : (let o : Option Kept = Some k in o ≡ None) = sym kept ∙ none in cc);
 }
 
 made-run : (c : Call) (budget : ℕ) (made k : Kept) (status : ℕ)
     → IsMade c budget made → IsSameRun made k
-    → IsRun budget c.streams status k
+    → IsRun (is_generated (words_of c)) (asks_images (words_of c)) budget c.streams status k
     → IsRunAsked (words_of c) c.streams status k
 made-run c budget made k status is same ran =
     record {
       output = subst (λ (n : ℕ). IsCarriedOut k.session.value n c.streams.out.taken c.streams.out_after.taken)
           (budget-is c budget made k is same) ran.output;
       calm = ran.calm;
-      report = ran.report;
+      shown = ran.shown;
     }
 
 -- a run that stopped
@@ -305,18 +319,28 @@ stopped-refused c k r of kept calm calm_input stopped = elim stopped.why [
   | inr memory ↦ subst (IsRefused c) (sym memory) (memory-refused c)
 ]
 
-pub carried-run : (c : Call) (budget : ℕ) (made : Kept)
+-- the images of what is kept were put as far as they were
+kept-images : (o : Option Kept) (k : Kept) (asked : Bool) (s : Streams) → o ≡ Some k
+    → IsSomeAnd o (λ x. PutsImages asked x.session.value s) → PutsImages asked k.session.value s
+kept-images o k asked s is = subst (λ (x : Option Kept). IsSomeAnd x (λ y. PutsImages asked y.session.value s)) is
+
+-- with the images that the words ask for
+run-asked : (c : Call) (budget : ℕ) (made : Kept)
     (r : Result ℕ Refusal) → IsMade c budget made → IsSomeAnd c.kept (IsSameRun made)
-    → MatchResult r (λ status. IsSomeAnd c.kept (IsRun budget c.streams status))
+    → MatchResult r (λ status. IsSomeAnd c.kept (IsRun (is_generated (words_of c)) (asks_images (words_of c)) budget c.streams status))
     (IsStopped c.streams)
     → PutsAtMost made.session.value budget c.streams.out.taken c.streams.out_after.taken
+    → IsSomeAnd c.kept (λ x. PutsImages (asks_images (words_of c)) x.session.value c.streams)
+    → (asks_images (words_of c) ≡ false → IsUntold c.streams.images c.streams.images_after)
     → c.files_after.faults ≡ c.files.faults → c.input_after.faults ≡ c.input.faults → IsCarried c r
-carried-run c budget made (Ok status) is same ran front calm calm_input =
+run-asked c budget made (Ok status) is same ran front images unasked calm calm_input =
     let k = some-kept c.kept (IsSameRun made) same in
-    let here : IsRun budget c.streams status k.0 =
-    subst (λ (o : Option Kept). IsSomeAnd o (IsRun budget c.streams status)) k.1 ran in
+    let asked = asks_images (words_of c) in
+    let summary = is_generated (words_of c) in
+    let here : IsRun summary asked budget c.streams status k.0 =
+    subst (λ (o : Option Kept). IsSomeAnd o (IsRun summary asked budget c.streams status)) k.1 ran in
     record {
-      always = made-true c budget made k.0 is k.1 k.2 front;
+      always = made-true c budget made k.0 is k.1 k.2 front (kept-images c.kept k.0 asked c.streams k.1 images) unasked;
       ran = record {
         made =
             subst (λ (o : Option Kept). IsSomeAnd o (IsRunAsked (words_of c) c.streams status)) (sym k.1)
@@ -327,13 +351,41 @@ carried-run c budget made (Ok status) is same ran front calm calm_input =
       refused = tt;
       untold = tt;
     }
-carried-run c budget made (Err r) is same stopped front calm calm_input =
+run-asked c budget made (Err r) is same stopped front images unasked calm calm_input =
     let k = some-kept c.kept (IsSameRun made) same in
+    let asked = asks_images (words_of c) in
     record {
-      always = made-true c budget made k.0 is k.1 k.2 front;
+      always = made-true c budget made k.0 is k.1 k.2 front (kept-images c.kept k.0 asked c.streams k.1 images) unasked;
       ran = tt;
       refused = stopped-refused c k.0 r
           (of-program (given_of c) made.plan budget made.classes is.program is.prepared) k.1 calm calm_input
           stopped;
       untold = stopped.untold;
     }
+
+-- the words that were read ask for the images
+images-said : (words : List (List ℕ)) (r : Read) → accepted words ≡ Some r → asks_images words ≡ r.images
+images-said words r e = ap (λ (o : Option Read). option_map_or (λ (x : Read). x.images) o false) e
+
+-- and, where they generate the program, for sums
+pub generation-said : (words : List (List ℕ)) (r : Read) → accepted words ≡ Some r → is_generated words ≡ is_some r.generated
+generation-said words r e = ap (λ (o : Option Read). option_map_or (λ (x : Read). is_some x.generated) o false) e
+
+pub carried-run : (c : Call) (summary : Bool) (budget : ℕ) (made : Kept) (r : Result ℕ Refusal) (words : Read)
+    → accepted (words_of c) ≡ Some words → summary ≡ is_some words.generated
+    → IsMade c budget made → IsSomeAnd c.kept (IsSameRun made)
+    → MatchResult r (λ status. IsSomeAnd c.kept (IsRun summary words.images budget c.streams status))
+    (IsStopped c.streams)
+    → PutsAtMost made.session.value budget c.streams.out.taken c.streams.out_after.taken
+    → IsSomeAnd c.kept (λ x. PutsImages words.images x.session.value c.streams)
+    → (words.images ≡ false → IsUntold c.streams.images c.streams.images_after)
+    → c.files_after.faults ≡ c.files.faults → c.input_after.faults ≡ c.input.faults → IsCarried c r
+carried-run c summary budget made r words read sums is same ran front images unasked =
+    let said : words.images ≡ asks_images (words_of c) = sym (images-said (words_of c) words read) in
+    let sums_said : summary ≡ is_generated (words_of c) = sums ∙ sym (generation-said (words_of c) words read) in
+    run-asked c budget made r is same
+    (subst (λ (s : Bool). MatchResult r (λ status. IsSomeAnd c.kept (IsRun s (asks_images (words_of c)) budget c.streams status)) (IsStopped c.streams)) sums_said
+    (subst (λ (asked : Bool). MatchResult r (λ status. IsSomeAnd c.kept (IsRun summary asked budget c.streams status)) (IsStopped c.streams)) said ran))
+    front
+    (subst (λ (asked : Bool). IsSomeAnd c.kept (λ x. PutsImages asked x.session.value c.streams)) said images)
+    (subst (λ (asked : Bool). asked ≡ false → IsUntold c.streams.images c.streams.images_after) said unasked)

@@ -11,13 +11,14 @@ use Rattle.plan_text.specs.declared.plan.PlanError.{PlanError}
 use Rattle.plan_text.specs.declared.plan.PlanError.TheVariants as plan
 use Rattle.command_line.specs.Chosen.{Chosen, chosen}
 use Rattle.command_line.specs.Words.{Read}
+use Rattle.command_line.specs.declared.words.Generation.{Generation}
 use Rattle.jfluid_cli.specs.declared.refusal.Refusal.{Refusal}
 use Rattle.jfluid_cli.specs.declared.refusal.Refusal.TheVariants as refusal
 use Rattle.jfluid_cli.specs.declared.refusal.Refusal.TheVariants.{NotRead, NotAdmitted, PlanNotFetched, NotFetched, NoMemory}
 use Rattle.jfluid_cli.specs.Refusals.{is_memory, refusal_for, refusal_of, status_of}
 use Rattle.jfluid_cli.specs.Asking.{Asked, asked_by, IsPlanFor}
-use Rattle.jfluid_cli.specs.Causes.{Given, Accepts, Because, OfClasses}
-use Rattle.jfluid_cli.specs.Contents.{AreFetched, AreToldAs, SpellAlone, classes_for}
+use Rattle.jfluid_cli.specs.Causes.{Given, Accepts, AreContentsOf, Because, OfClasses}
+use Rattle.jfluid_cli.specs.Contents.{AreContentsBy, AreFetched, AreToldAs, SpellAlone, classes_for}
 use Rattle.jfluid_cli.specs.Sinks.{FilesView}
 use Rattle.jfluid_cli.specs.Stages.{AreReadWith, HasFetchCause, IsFetchedFor, IsFetchFault, IsFetchRefusal, IsPlanRefusal, IsReadRefusal, IsWordsRefusal, IsEarly, IsLoaded, is_early}
 use Rattle.jfluid_cli.specs.Top.{IsProgram, HasRefused, answer_for}
@@ -98,8 +99,14 @@ made-command g words p c with_plan is = record {
 
 -- ---- the files
 
+-- the contents of a command that names files are what they tell
+pub told-by : (told : Option Told) (k : Command) (contents : List (List ℕ)) → k.generated ≡ None
+    → AreToldAs told k.files contents → AreContentsOf told k contents
+told-by told k contents own told_as =
+    subst (λ (o : Option Generation). AreContentsBy told o k.files contents) (sym own) told_as
+
 -- where the words are accepted, a refusal is due for its cause
-due : (g : Given) (r : Refusal) → is_early (status_of r) ≡ true → Because g r → IsEarly g r
+pub due : (g : Given) (r : Refusal) → is_early (status_of r) ≡ true → Because g r → IsEarly g r
 due g r early cause = record { cause = cause; early = early }
 
 -- the fetch of a file failed behind those of the earlier ones
@@ -126,7 +133,7 @@ due-unread g asked fronts r f (inl (at, fault, unread, is)) =
       command = f.command;
       accepts = f.accepts;
       contents = have.contents;
-      told_as = have.told_as;
+      told_as = told-by g.told f.command have.contents f.own have.told_as;
       holds = fronts-fault have.contents fronts at fault have.fronts_are is;
     }))
 due-unread g asked fronts r f (inr memory) = subst (IsEarly g) (sym memory) (due-memory g)
@@ -144,7 +151,7 @@ of-classes g asked fronts classes why f alone is =
       command = f.command;
       accepts = f.accepts;
       contents = have.contents;
-      told_as = have.told_as;
+      told_as = told-by g.told f.command have.contents f.own have.told_as;
       holds = subst (λ (a : Asked). HasRefused a why have.contents) (sym f.asked_is)
           (subst (HasRefused asked why) (sym whole) has);
     }
@@ -177,21 +184,22 @@ admission-calm fault = by (is_memory fault) where
 
 -- what was fetched for a command, and what it asks for
 pub fetched : (g : Given) (k : Command) (told : Option Told) (fronts deref : List (List ℕ)) → Accepts g k
-    → g.told ≡ told → AreFetched told k.files fronts → fronts ≡ deref → IsFetchedFor g (asked_by k) deref
-fetched g k told fronts deref accepts same fronts_are is = record {
+    → k.generated ≡ None → g.told ≡ told → AreFetched told k.files fronts → fronts ≡ deref → IsFetchedFor g (asked_by k) deref
+fetched g k told fronts deref accepts own same fronts_are is = record {
   command = k;
   accepts = accepts;
   asked_is = refl;
+  own = own;
   fetched = subst (λ (t : Option Told). AreFetched t k.files deref) (sym same)
       (subst (AreFetched told k.files) is fronts_are);
 }
 
 -- what was fetched and read is what the files tell
 pub loaded : (told : Option Told) (k : Command) (fronts deref : List (List ℕ))
-    (program : Program) → AreFetched told k.files fronts → fronts ≡ deref
+    (program : Program) → k.generated ≡ None → AreFetched told k.files fronts → fronts ≡ deref
     → IsProgram (asked_by k) deref program → SpellAlone deref (classes_for deref program)
     → IsLoaded told k fronts program
-loaded told k fronts deref program fronts_are is fits alone =
+loaded told k fronts deref program own fronts_are is fits alone =
     let have = told-contents told k.files fronts fronts_are in
     let here : SpellAlone fronts (classes_for fronts program) =
     subst (λ (xs : List (List ℕ)). SpellAlone xs (classes_for xs program)) (sym is) alone in
@@ -199,7 +207,7 @@ loaded told k fronts deref program fronts_are is fits alone =
     fronts-files have.contents fronts (classes_for fronts program) have.fronts_are
     (files-alone fronts (classes_for fronts program) here) in
     record {
-      told_as = subst (AreToldAs told k.files) whole have.told_as;
+      told_as = told-by told k fronts own (subst (AreToldAs told k.files) whole have.told_as);
       program_is = subst (λ (xs : List (List ℕ)). IsProgram (asked_by k) xs program) (sym is) fits;
       alone = here;
     }

@@ -1,5 +1,5 @@
 -- What a call answers, from what it left: all but the line follows from the run or the refusal.
-use Rattle.std.proofs.Common.{◌≡◌, ℕ, true, false, List, [], ◌∷◌, Option, Some, None, refl, sym, ap, subst, ◌∙◌, inl, inr}
+use Rattle.std.proofs.Common.{◌≡◌, ℕ, Bool, true, false, List, [], ◌∷◌, Option, Some, None, refl, sym, ap, subst, ◌∙◌, inl, inr}
 use Rattle.std.specs.Prelude.{◌⊎◌, Ok, Err, Result, IfSome, IsErr, IsSome, IsSomeAnd}
 use Rattle.std.specs.Option.{option_map_or}
 use Rattle.std.proofs.lemmas.Bool.{cases_eq}
@@ -11,10 +11,11 @@ use Rattle.plan_text.specs.declared.plan.Plan.{Plan}
 use Rattle.jvm_model.specs.declared.program.Program.{Program}
 use Rattle.jvm_model.specs.Run.{ending_of}
 use Rattle.command_line.specs.Words.{Read}
+use Rattle.profile_session.specs.Sessions.{Profiling}
 use Rattle.jfluid_cli.specs.declared.kept.Kept.{Kept}
 use Rattle.jfluid_cli.specs.declared.refusal.Refusal.{Refusal}
 use Rattle.jfluid_cli.specs.declared.refusal.Refusal.TheVariants.{Clap, Words, Plan as BadPlan, NotRead, NotAdmitted, InputFailed, OutFailed, PlanNotFetched, NotFetched, NoMemory, InputTooLong}
-use Rattle.jfluid_cli.specs.Calls.{Call, given_of, words_of, IsRunAsked, IsTrueOf, IsRefused, IsAnswered, PutsLine, CalmFiles, CalmInput, AllCalm}
+use Rattle.jfluid_cli.specs.Calls.{Call, given_of, words_of, IsReported, IsRunAsked, IsShown, IsTrueOf, IsRefused, IsAnswered, PutsLine, CalmFiles, CalmInput, AllCalm}
 use Rattle.jfluid_cli.specs.Asking.{asked_by, HasBadRoot}
 use Rattle.jfluid_cli.specs.Causes.{HasBadPlan, HasLongInput, IsAccepted, IsUnfit, OfWords}
 use Rattle.jfluid_cli.specs.Contents.{classes_for}
@@ -24,11 +25,12 @@ use Rattle.jfluid_cli.specs.Origins.{HasOrigin, IsOnlyProgram}
 use Rattle.jfluid_cli.specs.Refusals.{status_of, refusal_line, IsNameless}
 use Rattle.jfluid_cli.specs.Runs.{ending_at, world_on}
 use Rattle.jfluid_cli.specs.Top.{IsProgram, answer_for, is_among, is_run, is_status, status_of_ending}
-use Rattle.jfluid_cli.specs.Words.{Command, accepted, budget_of, command_of, file_words, plan_word, words_in}
+use Rattle.jfluid_cli.specs.Words.{Command, accepted, asks_images, budget_of, command_of, file_words, is_generated, plan_word, words_in}
 use Rattle.jfluid_cli.proofs.Carried.{carried-early, files-said, memory-refused, plan-said}
 use Rattle.jfluid_cli.proofs.Early.{due-words, no-fault}
 use Rattle.jfluid_cli.proofs.Fixed.{by-status, read-or, accepted-or, two-refused, not-rooted, not-named, tells, same-contents, three-refused, program-told, not-unfit, long-told, not-long, kept-input, kept-short, kept-program}
 use Rattle.jfluid_cli.proofs.OneCommand.{commanded, not-misplanned, one-command}
+use Rattle.jfluid_cli.proofs.Rootless.{rootless-unfit, three-rootless}
 use Rattle.jfluid_cli.proofs.Spelled.{one-spelling}
 use Rattle.jfluid_cli.proofs.Complete.{calm_not_rose, ends_as, ending_of_same, one-program}
 
@@ -81,22 +83,43 @@ held-and (Some k) P Q R some p q = (k, p, q, some)
 
 -- ---- a run
 
-run-complete : (c : Call) (status : ℕ) (k : Kept) (p : Program)
+reported-complete : (c : Call) (status : ℕ) (k : Kept) (p : Program)
     → HasOrigin (given_of c) k → IsOnlyProgram k → IsRunAsked (words_of c) c.streams status k
-    → (a : IsAccepted (given_of c) p) → AllCalm c
+    → (a : IsAccepted (given_of c) p) → AllCalm c → IsReported (is_generated (words_of c)) k.session.value c.streams.report c.streams.report_after status
     → status ≡ status_of_ending (ending_of (world_on p a.input) a.admitted.command.budget)
-run-complete c status k p o alone ran a calm = elim (cases_eq status 8) [
+reported-complete c status k p o alone ran a calm reported = elim (cases_eq status 8) [
   | inl eight ↦ absurd (calm_not_rose c.streams.report.faults c.streams.report_after.faults
-      calm.report (ran.report.not_reported eight))
+      calm.report (reported.not_reported eight))
   | inr other ↦
       (let budget : ℕ = budget_of (words_of c) k.plan in
       let same : budget ≡ a.admitted.command.budget =
       kept-budget c k o ∙ ap (λ (x : Command). x.budget) (kept-command c k p o a) in
-      ran.report.ending other
+      reported.ending other
       ∙ ap status_of_ending
       (ends_as k.session.value budget c.streams.out.taken c.streams.out_after.taken ran.output
       ∙ (kept-ends c k p budget o alone a ∙ ap (λ (n : ℕ). ending_of (world_on p a.input) n) same)))
 ]
+
+run-complete : (c : Call) (status : ℕ) (k : Kept) (p : Program)
+    → HasOrigin (given_of c) k → IsOnlyProgram k → IsRunAsked (words_of c) c.streams status k
+    → (a : IsAccepted (given_of c) p) → AllCalm c
+    → status ≡ status_of_ending (ending_of (world_on p a.input) a.admitted.command.budget)
+run-complete c status k p o alone ran a calm = elim ran.shown [
+  | inl (imaged, reported) ↦ reported-complete c status k p o alone ran a calm reported
+  | inr (eight, unimaged, untold) ↦ absurd (calm_not_rose c.streams.images.faults c.streams.images_after.faults
+      calm.images unimaged.failed)
+]
+
+-- its status is that of a run
+shown-known : (summary asked : Bool) (v : Profiling) (i j r q : SinkView) (status : ℕ) → IsShown summary asked v i j r q status
+    → is_status status ≡ true
+shown-known summary asked v i j r q status (inl (imaged, reported)) = reported.known
+shown-known summary asked v i j r q status (inr (eight, unimaged, untold)) = ap is_status eight
+
+shown-run : (summary asked : Bool) (v : Profiling) (i j r q : SinkView) (status : ℕ) → IsShown summary asked v i j r q status
+    → is_run status ≡ true
+shown-run summary asked v i j r q status (inl (imaged, reported)) = reported.is_one
+shown-run summary asked v i j r q status (inr (eight, unimaged, untold)) = ap is_run eight
 
 pub answered-run : (c : Call) (status : ℕ) → (IsErr c.words → ⊥) → IsCarried c (Ok status) → IsAnswered c status
 answered-run c status heard carried =
@@ -104,17 +127,25 @@ answered-run c status heard carried =
     let k = held-and c.kept (HasOrigin g) IsOnlyProgram (IsRunAsked (words_of c) c.streams status)
     carried.ran.made carried.always.origin carried.always.only in
     let o : HasOrigin g k.0 = k.1 in
+    let s = c.streams in
+    let summary = is_generated (words_of c) in
+    let asked = asks_images (words_of c) in
+    let run : is_run status ≡ true =
+    shown-run summary asked k.0.session.value s.images s.images_after s.report s.report_after status k.3.shown in
     record {
       always = carried.always;
-      known = k.3.report.known;
+      known = shown-known summary asked k.0.session.value s.images s.images_after s.report s.report_after status k.3.shown;
       ran = λ _. carried.ran;
-      refused = λ not_run. absurd (not_both (sym not_run ∙ k.3.report.is_one));
+      refused = λ not_run. absurd (not_both (sym not_run ∙ run));
       unheard = λ none. absurd (heard none);
       words_only = λ none. absurd (none-some o.accepts.words (sym none ∙ o.accepts.read));
       root_only = λ bad. absurd (not-rooted g o.command bad o.accepts);
       plan_only = λ bad calm. absurd
           (not-misplanned g bad.words o.command bad.telling bad.read bad.misplanned o.accepts);
       file_only = λ unfit calm. absurd (not-unfit g (kept-program g k.0 o) unfit);
+      rootless = λ own three. absurd (not_both (ap is_run (sym three) ∙ run));
+      rootless_only = λ none some calm. absurd
+          (not-unfit g (kept-program g k.0 o) (rootless-unfit g none some));
       input_only = λ long calm calm_input. absurd (kept-short g k.0 o long);
       complete = λ p a calm. inl (run-complete c status k.0 p o k.2 k.3 a calm);
     }
@@ -228,6 +259,9 @@ answered-refusal c r status unheard is always refused line = record {
   root_only = λ bad. same-status 2 (root-only c r refused bad);
   plan_only = λ bad calm. same-status 2 (plan-only c r refused bad calm);
   file_only = λ unfit calm. same-status 3 (file-only c r refused unfit calm);
+  rootless = λ own three. three-rootless (given_of c) r refused.cause (sym is ∙ three) own;
+  rootless_only = λ none some calm. same-status 3
+      (file-only c r refused (rootless-unfit (given_of c) none some) calm);
   input_only = λ long calm calm_input. same-status 11 (input-only c r always refused long calm calm_input);
   complete = λ p a calm. inr (is ∙ refused-complete c r p refused a calm);
 }
@@ -281,6 +315,9 @@ answered-told c after r told status said unheard carried was is named puts =
       front = carried.always.front;
       ended = carried.always.ended;
       nothing = carried.always.nothing;
+      images = carried.always.images;
+      unasked = carried.always.unasked;
+      unimaged = carried.always.unimaged;
     })
     (elim was [
       | inl same ↦ subst (IsRefused d) (sym same) first
@@ -298,15 +335,22 @@ nameless-told r told nameless (inr memory) = subst IsNameless (sym memory) (λ a
 
 -- a call that was refused for its words
 abbrev pub call_before : Result (List (List ℕ)) OutOfMemory → Option Told → FilesView → SourceView → SinkView
-    → SinkView → Option Kept → Call
-call_before words files_told files input out report kept = record {
+    → SinkView → SinkView → Option Kept → Call
+call_before words files_told files input out report images kept = record {
   words = words;
   told = files_told;
   files = files;
   files_after = files;
   input = input;
   input_after = input;
-  streams = record { out = out; out_after = out; report = report; report_after = report };
+  streams = record {
+    out = out;
+    out_after = out;
+    report = report;
+    report_after = report;
+    images = images;
+    images_after = images;
+  };
   kept = kept;
 }
 
@@ -325,14 +369,15 @@ not-seven words NoMemory is seven = absurd cc
 not-seven words InputTooLong is seven = absurd cc
 
 pub answered-words : (words : Result (List (List ℕ)) OutOfMemory) (files_told : Option Told) (files : FilesView)
-    (input : SourceView) (out report after : SinkView) (kept : Option Kept) (r told : Refusal) (status : ℕ)
+    (input : SourceView) (out report images after : SinkView) (kept : Option Kept) (r told : Refusal) (status : ℕ)
     → kept ≡ None → IsWordsRefusal (words_in words) r → IsNameless r → (IsErr words → told ≡ NoMemory)
     → (told ≡ r) ⊎ (told ≡ NoMemory) → status ≡ status_of told → PutsOrRose report after (refusal_line told None [])
-    → IsAnswered (told-after (call_before words files_told files input out report kept) after) status
-answered-words words files_told files input out report after kept r told status none why nameless unheard was is puts =
-    let c : Call = call_before words files_told files input out report kept in
+    → IsAnswered (told-after (call_before words files_told files input out report images kept) after) status
+answered-words words files_told files input out report images after kept r told status none why nameless unheard was is puts =
+    let c : Call = call_before words files_told files input out report images kept in
     answered-told c after r told status (refusal_line told None []) (λ e. is ∙ ap status_of (unheard e))
-    (carried-early c r none (record { taken = refl; faults = refl }) (record { taken = refl; faults = refl }) refl
+    (carried-early c r none (record { taken = refl; faults = refl }) (record { taken = refl; faults = refl })
+    (record { taken = refl; faults = refl }) refl
     (due-words (given_of c) r why)
     (no-fault (plan_word (words_in words)) (file_words (words_in words)) files files r r refl refl
     (not-seven (words_in words) r why)))

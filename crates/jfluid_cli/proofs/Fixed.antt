@@ -8,12 +8,13 @@ use Rattle.jvm_model.specs.declared.program.Program.{Program}
 use Rattle.command_line.specs.Chosen.{IsOwnPlan}
 use Rattle.command_line.specs.Input.{most_input}
 use Rattle.command_line.specs.Words.{Read}
+use Rattle.command_line.specs.declared.words.Generation.{Generation}
 use Rattle.jfluid_cli.specs.declared.kept.Kept.{Kept}
 use Rattle.jfluid_cli.specs.declared.refusal.Refusal.{Refusal}
 use Rattle.jfluid_cli.specs.declared.refusal.Refusal.TheVariants.{Clap, Words, Plan as BadPlan, NotRead, NotAdmitted, InputFailed, OutFailed, PlanNotFetched, NotFetched, NoMemory, InputTooLong}
 use Rattle.jfluid_cli.specs.Asking.{asked_by, HasBadRoot, IsPlanBy, IsPlanFor}
-use Rattle.jfluid_cli.specs.Causes.{Given, Accepts, HasLongInput, IsAccepted, IsAdmitted, IsLong, IsUnfit, OfProgram, OfWords, Because}
-use Rattle.jfluid_cli.specs.Contents.{AreToldAs}
+use Rattle.jfluid_cli.specs.Causes.{Given, Accepts, AreContentsOf, HasLongInput, IsAccepted, IsAdmitted, IsLong, IsUnfit, OfProgram, OfWords, Because}
+use Rattle.jfluid_cli.specs.Contents.{AreContentsBy, AreToldAs}
 use Rattle.jfluid_cli.specs.Origins.{HasOrigin}
 use Rattle.jfluid_cli.specs.Refusals.{status_of}
 use Rattle.jfluid_cli.specs.Top.{HasNoProgram, IsProgram, is_among}
@@ -143,19 +144,25 @@ same-told files (word ∷ words) (x ∷ xs) (y ∷ ys) left right =
 pub tells : (o : Option Told) (files : Told) → o ≡ Some files → IsSome o
 tells o files telling = ap is_some telling
 
--- for the same command the files tell the same contents
+-- and what is generated of the same is
+same-by : (files : Told) (o : Option Generation) (words xs ys : List (List ℕ)) → AreContentsBy (Some files) o words xs
+    → AreContentsBy (Some files) o words ys → xs ≡ ys
+same-by files None words xs ys left right = same-told files words xs ys left right
+same-by files (Some g) words xs ys left right = left ∙ sym right
+
+-- for the same command there are the same contents
 pub same-contents : (told : Option Told) (a b : Command) (files : Told) (left right : List (List ℕ))
-    → a ≡ b → told ≡ Some files → AreToldAs told a.files left
-    → AreToldAs (Some files) b.files right → left ≡ right
+    → a ≡ b → told ≡ Some files → AreContentsOf told a left
+    → AreContentsOf (Some files) b right → left ≡ right
 same-contents told a b files left right same telling first second =
-    same-told files b.files left right
-    (subst (λ (t : Option Told). AreToldAs t b.files left) telling
-    (subst (λ (x : Command). AreToldAs told x.files left) same first))
+    same-by files b.generated b.files left right
+    (subst (λ (t : Option Told). AreContentsOf t b left) telling
+    (subst (λ (x : Command). AreContentsOf told x left) same first))
     second
 
 -- contents of no program are not admitted
 none-admitted : (g : Given) (k : Command) (contents : List (List ℕ)) (p : Program) → Accepts g k
-    → AreToldAs g.told k.files contents → HasNoProgram (asked_by k) contents → IsAdmitted g p → ⊥
+    → AreContentsOf g.told k contents → HasNoProgram (asked_by k) contents → IsAdmitted g p → ⊥
 none-admitted g k contents p accepts told_as none a =
     let same : k ≡ a.command = one-command g k a.command (tells g.told a.files a.telling) accepts a.accepts in
     let one : contents ≡ a.contents =

@@ -16,7 +16,11 @@ pub mod Early
 pub mod Answered
 pub mod Carried
 pub mod Fixed
+pub mod Generating
+pub mod Rootless
 pub mod Finished
 pub mod Profiled
 pub mod Reported
 mod WorkedWords
+pub mod Records
+pub mod Shown

@@ -7,7 +7,7 @@ use Rattle.jvm_model.specs.declared.event.Act.{Act}
 use Rattle.jvm_model.specs.Calls.{AreFrom}
 use Rattle.jvm_model.specs.Load.{is_among}
 use Rattle.jvm_model.specs.Points.{chosen}
-use Rattle.profile_session.specs.Sessions.{Profiling}
+use Rattle.profile_session.specs.Sessions.{LiveRunOn, Profiling}
 use Rattle.jfluid_cli.specs.declared.running.Reached.{Reached}
 use Rattle.jfluid_cli.specs.Runs.{IsPlanned, is_ended_at}
 
@@ -71,17 +71,19 @@ pub record Takes (old new : Profiling) (next : ℕ) : Type 0 where
 
 -- A slice was made, with the actions that were due before it, up to this budget at most.
 pub record GoesOn (old new : Profiling) (budget : ℕ) (r : Reached) : Type 0 where
-  pub same : new ≡ record old { acts = new.acts; started = true; clock = new.clock; gathered = false }
+  pub same : new ≡ record old { acts = new.acts; started = true; clock = new.clock; gathered = false; live = new.live }
   pub some : old.clock < new.clock
   pub most : new.clock ≤ budget
   pub answer : is_ended_at old new.clock ≡ r.ended
   pub first : (m : ℕ) → m < new.clock → is_ended_at old m ≡ false
   pub along : IsAlong new r.next
   pub planned : IsPlanned new
+  pub live : LiveRunOn new
 
 -- The start was made, with the actions of moment 0 before it.
 pub record Begins (old new : Profiling) (r : Reached) : Type 0 where
-  pub same : new ≡ record old { acts = new.acts; started = true; clock = 0; gathered = false }
+  pub same : new ≡ record old { acts = new.acts; started = true; clock = 0; gathered = false; live = new.live }
   pub answer : is_ended_at old 0 ≡ r.ended
   pub along : IsAlong new r.next
   pub planned : IsPlanned new
+  pub live : LiveRunOn new

@@ -1,5 +1,5 @@
 -- What a call of the program leaves: all that it promises.
-use Rattle.std.specs.Prelude.{◌≡◌, ◌≢◌, ℕ, ◌⊎◌, true, false, List, Option, Some, None, Result, slice_get, IfSome, IsErr, IsSome, IsSomeAnd}
+use Rattle.std.specs.Prelude.{◌≡◌, ◌≢◌, ℕ, ◌⊎◌, Bool, true, false, List, Option, Some, None, Result, slice_get, IfSome, IsErr, IsSome, IsSomeAnd}
 use Rattle.jf_bytes.specs.declared.error.NoMemory.{NoMemory}
 use Rattle.std.specs.Io.KnownBytes.{IsAtEnd}
 use Rattle.jf_bytes.specs.Streams.{Told, PutsAll, PutsFront, Rose}
@@ -11,13 +11,14 @@ use Rattle.jfluid_cli.specs.declared.kept.Kept.{Kept}
 use Rattle.jfluid_cli.specs.declared.refusal.Refusal.{Refusal}
 use Rattle.jfluid_cli.specs.declared.refusal.Refusal.TheVariants.{PlanNotFetched, NotFetched}
 use Rattle.jfluid_cli.specs.Asking.{HasBadRoot}
-use Rattle.jfluid_cli.specs.Causes.{Given, HasBadPlan, HasLongInput, IsAccepted, IsUnfit, OfWords, Because}
+use Rattle.jfluid_cli.specs.Causes.{Given, HasBadPlan, HasLongInput, HasNoRoot, IsAccepted, IsUnfit, OfWords, Because}
+use Rattle.jfluid_cli.specs.Images.{IsImaged, IsUnimaged, images_of}
 use Rattle.jfluid_cli.specs.Origins.{HasOrigin, IsOnlyProgram}
 use Rattle.jfluid_cli.specs.Refusals.{status_of, refusal_line}
 use Rattle.jfluid_cli.specs.Runs.{IsCarriedOut, PutsAtMost, ending_at, world_on}
-use Rattle.jfluid_cli.specs.Sinks.{SinkView, SourceView, FilesView, Streams, PutsOrRose}
+use Rattle.jfluid_cli.specs.Sinks.{SinkView, SourceView, FilesView, Streams, IsUntold, PutsOrRose}
 use Rattle.jfluid_cli.specs.Top.{IsCalm, is_run, is_refused, is_unadmitted, is_status, report_of, status_of_ending}
-use Rattle.jfluid_cli.specs.Words.{accepted, budget_of, file_words, plan_word, words_in}
+use Rattle.jfluid_cli.specs.Words.{accepted, asks_images, budget_of, file_words, is_generated, plan_word, words_in}
 
 -- ---- a call
 
@@ -41,6 +42,10 @@ given_of c = record { words = words_of c; told = c.told; left = c.input.left }
 
 -- ---- with every status
 
+-- what was put to images is a front of those that are asked for
+abbrev pub PutsImages : Bool → Profiling → Streams → Type 0
+PutsImages asked v s = PutsFront s.images.taken s.images_after.taken (images_of asked v)
+
 pub record IsTrueOf (c : Call) : Type 0 where
   -- what is kept came from words, files and input, and is all that the files spell
   pub origin : IfSome c.kept (HasOrigin (given_of c))
@@ -53,28 +58,40 @@ pub record IsTrueOf (c : Call) : Type 0 where
       IfSome c.kept
       (λ k. PutsAtMost k.session.value (budget_of (words_of c) k.plan) s.out.taken s.out_after.taken)
   pub nothing : c.kept ≡ None → c.streams.out_after.taken ≡ c.streams.out.taken
+  -- a front of the images that are asked for was put, and nothing where none are or nothing was made
+  pub images : IfSome c.kept (λ k. PutsImages (asks_images (words_of c)) k.session.value c.streams)
+  pub unasked : asks_images (words_of c) ≡ false → IsUntold c.streams.images c.streams.images_after
+  pub unimaged : c.kept ≡ None → IsUntold c.streams.images c.streams.images_after
 
 -- ---- a run
 
--- The report of a run was put, with the status of its ending, or the put failed, with status 8.
-pub record IsReported (v : Profiling) (old new : SinkView) (status : ℕ) : Type 0 where
+-- The report of a run was put, its tree or the sums over it, with the status of its ending, or the put failed, with status 8.
+pub record IsReported (summary : Bool) (v : Profiling) (old new : SinkView) (status : ℕ) : Type 0 where
   pub is_one : is_run status ≡ true
   pub known : is_status status ≡ true
   pub ending : status ≢ 8 → status ≡ status_of_ending (ending_at v v.clock)
-  pub reported : status ≢ 8 → PutsAll old.taken new.taken (report_of v)
+  pub reported : status ≢ 8 → PutsAll old.taken new.taken (report_of summary v)
   pub calm : status ≢ 8 → new.faults ≡ old.faults
-  pub reported_in_part : status ≡ 8 → PutsFront old.taken new.taken (report_of v)
+  pub reported_in_part : status ≡ 8 → PutsFront old.taken new.taken (report_of summary v)
   pub not_reported : status ≡ 8 → Rose old.faults new.faults
 
+-- The images of a run that are asked for were put, and behind them its report; or a put of them
+-- failed, with status 8, and nothing is on the report.
+abbrev pub IsShown : Bool → Bool → Profiling → (images images_after report report_after : SinkView) → ℕ → Type 0
+IsShown summary asked v images images_after report report_after status =
+    (IsImaged asked v images images_after × IsReported summary v report report_after status)
+    ⊎ ((status ≡ 8) × IsUnimaged asked v images images_after × IsUntold report report_after)
+
 -- The run of what is kept was carried out up to its end or the budget; what was put is its output.
-pub record IsRun (budget : ℕ) (s : Streams) (status : ℕ) (k : Kept) : Type 0 where
+pub record IsRun (summary asked : Bool) (budget : ℕ) (s : Streams) (status : ℕ) (k : Kept) : Type 0 where
   pub output : IsCarriedOut k.session.value budget s.out.taken s.out_after.taken
   pub calm : s.out_after.faults ≡ s.out.faults
-  pub report : IsReported k.session.value s.report s.report_after status
+  pub shown : IsShown summary asked k.session.value s.images s.images_after s.report s.report_after status
 
--- the run that the words ask for with the plan that is kept
+-- the run that the words ask for with the plan that is kept; of a generated program sums are reported
 abbrev pub IsRunAsked : List (List ℕ) → Streams → ℕ → Kept → Type 0
-IsRunAsked words s status k = IsRun (budget_of words k.plan) s status k
+IsRunAsked words s status k =
+    IsRun (is_generated words) (asks_images words) (budget_of words k.plan) s status k
 
 -- The run of the words, with nothing else failed.
 pub record IsRunOf (c : Call) (status : ℕ) : Type 0 where
@@ -127,6 +144,7 @@ pub record AllCalm (c : Call) : Type 0 where
   pub input : CalmInput c
   pub out : IsCalm c.streams.out.faults c.streams.out_after.faults
   pub report : IsCalm c.streams.report.faults c.streams.report_after.faults
+  pub images : IsCalm c.streams.images.faults c.streams.images_after.faults
 
 -- What a call answers.
 pub record IsAnswered (c : Call) (status : ℕ) : Type 0 where
@@ -147,8 +165,13 @@ pub record IsAnswered (c : Call) (status : ℕ) : Type 0 where
   pub root_only : OfWords (given_of c) HasBadRoot → (status ≡ 2) ⊎ (status ≡ 9)
   -- and wherever the plan that the files tell is refused, or names no main class and no word does
   pub plan_only : HasBadPlan (given_of c) → CalmFiles c → (status ≡ 2) ⊎ (status ≡ 9)
-  -- 3 wherever words and plan are accepted, and all files are told, but no program
+  -- 3 wherever words and plan are accepted, and all files are told or generated, but no program
   pub file_only : IsUnfit (given_of c) → CalmFiles c → (status ≡ 3) ⊎ (status ≡ 9)
+  -- of words that generate their program 3 only where an action names no method of it with Code
+  pub rootless : is_generated (words_of c) ≡ true → status ≡ 3 → HasNoRoot (given_of c)
+  -- and wherever one does
+  pub rootless_only :
+      HasNoRoot (given_of c) → IsSome c.told → CalmFiles c → (status ≡ 3) ⊎ (status ≡ 9)
   -- 11 wherever a program is told, and more input than the limit
   pub input_only :
       HasLongInput (given_of c) → CalmFiles c → CalmInput c → (status ≡ 11) ⊎ (status ≡ 9)

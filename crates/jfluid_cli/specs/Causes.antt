@@ -1,5 +1,5 @@
 -- What a call is given, when it is accepted, and the cause of each refusal.
-use Rattle.std.specs.Prelude.{◌≡◌, ◌<◌, ◌≤◌, ℕ, ◌⊎◌, List, length, take, Option, Some, Ok, IfSome, IsSome}
+use Rattle.std.specs.Prelude.{◌≡◌, ◌<◌, ◌≤◌, ℕ, ◌⊎◌, List, length, take, Option, Some, None, Ok, slice_get, IfSome, IsSome}
 use Rattle.jf_bytes.specs.Streams.{Told}
 use Rattle.jvm_model.specs.declared.program.Program.{Program}
 use Rattle.command_line.specs.Input.{most_input}
@@ -7,8 +7,12 @@ use Rattle.command_line.specs.Words.{Read}
 use Rattle.jfluid_cli.specs.declared.refusal.Refusal.{Refusal}
 use Rattle.jfluid_cli.specs.declared.refusal.Refusal.TheVariants as refusal
 use Rattle.admit_check.specs.declared.error.AdmitError.{AdmitError}
+use Rattle.admit_check.specs.Admission.{root_in}
+use Rattle.generated_programs.specs.Admitted.{generated_program}
+use Rattle.command_line.specs.declared.words.Generation.{Generation}
+use Rattle.plan_text.specs.declared.plan.Action.{Action}
 use Rattle.jfluid_cli.specs.Asking.{asked_by, IsPlanFor, IsFaultOfPlan, HasNoMain, IsMisplanned}
-use Rattle.jfluid_cli.specs.Contents.{AreToldAs, IsFaultAt}
+use Rattle.jfluid_cli.specs.Contents.{AreContentsBy, AreToldAs, IsFaultAt}
 use Rattle.jfluid_cli.specs.Top.{IsProgram, HasProgram, HasRefused, HasNoProgram}
 use Rattle.jfluid_cli.specs.Words.{Command, accepted, AreClaps, AreRefused, command_for}
 
@@ -17,6 +21,10 @@ pub record Given : Type 0 where
   pub words : List (List ℕ)
   pub told : Option Told
   pub left : Option (List ℕ)
+
+-- the contents of the class files that a command asks for
+abbrev pub AreContentsOf : Option Told → Command → List (List ℕ) → Type 0
+AreContentsOf told k contents = AreContentsBy told k.generated k.files contents
 
 -- ---- what is accepted
 
@@ -27,14 +35,14 @@ pub record Accepts (g : Given) (k : Command) : Type 0 where
   pub planned : IsPlanFor g.told words (Ok k.plan)
   pub asked : command_for words k.plan ≡ Some k
 
--- The words and their plan are accepted, and the files tell this program for them.
+-- The words and their plan are accepted, and the files tell this program for them, or it is generated.
 pub record IsAdmitted (g : Given) (program : Program) : Type 0 where
   pub command : Command
   pub accepts : Accepts g command
   pub files : Told
   pub telling : g.told ≡ Some files
   pub contents : List (List ℕ)
-  pub told_as : AreToldAs (Some files) command.files contents
+  pub told_as : AreContentsOf (Some files) command contents
   pub program_is : IsProgram (asked_by command) contents program
 
 -- And the input is within its limit.
@@ -52,15 +60,33 @@ pub record HasLongInput (g : Given) : Type 0 where
   pub input_is : g.left ≡ Some input
   pub long : most_input < length input
 
--- The words and their plan are accepted, and what the files tell for them is no program.
+-- The words and their plan are accepted, and what the files tell for them, or what is generated, is no
+-- program.
 pub record IsUnfit (g : Given) : Type 0 where
   pub command : Command
   pub accepts : Accepts g command
   pub files : Told
   pub telling : g.told ≡ Some files
   pub contents : List (List ℕ)
-  pub told_as : AreToldAs (Some files) command.files contents
+  pub told_as : AreContentsOf (Some files) command contents
   pub none : HasNoProgram (asked_by command) contents
+
+-- An action selects or deselects what is no method with Code of the program.
+pub record NamesNoMethod (program : Program) (actions : List Action) : Type 0 where
+  pub at : ℕ
+  pub action : Action
+  pub there : slice_get actions at ≡ Some action
+  pub none : root_in program action.root ≡ None
+
+-- The words generate their program, and an action of their plan names no method of it.
+pub record HasNoRoot (g : Given) : Type 0 where
+  pub command : Command
+  pub accepts : Accepts g command
+  pub generation : Generation
+  pub generated : command.generated ≡ Some generation
+  pub unnamed :
+      let plan = command.plan in
+      NamesNoMethod (generated_program generation.seed generation.size plan) plan.actions
 
 -- The words are accepted by themselves, and not with their plan, which the files tell.
 pub record HasBadPlan (g : Given) : Type 0 where
@@ -79,12 +105,12 @@ IsLong left = IfSome left (λ all. most_input < length all)
 abbrev pub OfWords : Given → (Read → Type 0) → Type 0
 OfWords g P = (words : Read) × (accepted g.words ≡ Some words) × P words
 
--- The words are accepted, all of their files are told, and this holds of the contents.
+-- The words are accepted, all of their files are told, or generated, and this holds of the contents.
 pub record OfFiles (g : Given) (P : Command → List (List ℕ) → Type 0) : Type 0 where
   pub command : Command
   pub accepts : Accepts g command
   pub contents : List (List ℕ)
-  pub told_as : AreToldAs g.told command.files contents
+  pub told_as : AreContentsOf g.told command contents
   pub holds : P command contents
 
 -- classes are told that are not admitted, for this fault

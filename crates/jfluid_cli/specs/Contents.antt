@@ -1,11 +1,14 @@
--- The files of a call, in the order of their words: their contents, and the classes that they spell.
-use Rattle.std.specs.Prelude.{◌≡◌, ℕ, List, [], length, take, Option, Some, slice_get, unwrap_or}
+-- The classes of a call: the contents of its files, in the order of their words, or of generated ones,
+-- and the classes that they spell.
+use Rattle.std.specs.Prelude.{◌≡◌, ℕ, List, [], length, take, Option, Some, None, slice_get, unwrap_or}
 use Rattle.std.specs.List.{AllZip}
 use Rattle.jf_bytes.specs.Streams.{Told, IsFetched, IsToldAs}
 use Rattle.const_pool.specs.declared.class.ClassFile.{ClassFile}
 use Rattle.class_reader.specs.declared.error.ReadError.{ReadError}
 use Rattle.class_reader.specs.Files.{IsFile, IsFirstFault, most_bytes}
 use Rattle.jvm_model.specs.declared.program.Program.{Program}
+use Rattle.generated_programs.specs.Admitted.{generated_contents}
+use Rattle.command_line.specs.declared.words.Generation.{Generation}
 
 -- the word of the file at this position
 abbrev pub word_at : List (List ℕ) → ℕ → List ℕ
@@ -16,6 +19,11 @@ word_at words at = unwrap_or (slice_get words at) []
 -- each is what the files tell under its word, and there are as many
 abbrev pub AreToldAs : Option Told → List (List ℕ) → List (List ℕ) → Type 0
 AreToldAs told words contents = AllZip (IsToldAs told) words contents
+
+-- the class files of the generated classes, in their order, or else what the files tell
+abbrev pub AreContentsBy : Option Told → Option Generation → List (List ℕ) → List (List ℕ) → Type 0
+AreContentsBy told None words contents = AreToldAs told words contents
+AreContentsBy told (Some g) words contents = contents ≡ generated_contents g.seed g.size
 
 -- what is fetched of a class file: its contents, or of longer ones a front that shows it
 abbrev pub IsFrontFor : Option Told → List ℕ → List ℕ → Type 0

@@ -8,5 +8,6 @@ pub mod Top
 pub mod Causes
 pub mod Origins
 pub mod Asking
+pub mod Images
 pub mod Calls
 pub mod Stages

@@ -22,12 +22,14 @@ pub record PutsOrRose (old new : SinkView) (bytes : List ℕ) : Type 0 where
   pub front : PutsFront old.taken new.taken bytes
   pub whole : PutsAll old.taken new.taken bytes ⊎ Rose old.faults new.faults
 
--- out and report, before and after
+-- out, report and images, before and after
 pub record Streams : Type 0 where
   pub out : SinkView
   pub out_after : SinkView
   pub report : SinkView
   pub report_after : SinkView
+  pub images : SinkView
+  pub images_after : SinkView
 
 -- ---- the source of input
 

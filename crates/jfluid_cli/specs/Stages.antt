@@ -1,5 +1,5 @@
 -- What the parts of a call owe one another.
-use Rattle.std.specs.Prelude.{◌≡◌, ◌≢◌, ◌<◌, ℕ, ◌⊎◌, Bool, true, List, ◌∷◌, [], length, take, slice_get, Option, Some, Ok, Err, Result, IfOk, IfErr, IsSome}
+use Rattle.std.specs.Prelude.{◌≡◌, ◌≢◌, ◌<◌, ℕ, ◌⊎◌, Bool, true, List, ◌∷◌, [], length, take, slice_get, Option, Some, None, Ok, Err, Result, IfOk, IfErr, IsSome}
 use Rattle.jf_bytes.specs.Streams.{Told, Rose}
 use Rattle.plan_text.specs.declared.plan.Plan.{Plan}
 use Rattle.plan_text.specs.declared.plan.PlanError.{PlanError}
@@ -17,8 +17,8 @@ use Rattle.jfluid_cli.specs.declared.refusal.Refusal.TheVariants as refusal
 use Rattle.jfluid_cli.specs.declared.refusal.Refusal.TheVariants.{NotRead, InputFailed, OutFailed, PlanNotFetched, NotFetched, NoMemory, InputTooLong}
 use Rattle.jfluid_cli.specs.Asking.{Asked, asked_by, IsPlanFor, IsToldPlan}
 use Rattle.jfluid_cli.specs.Calls.{Call, IsTrueOf, IsRunOf, IsRefused}
-use Rattle.jfluid_cli.specs.Causes.{Given, Accepts, IsLong, Because}
-use Rattle.jfluid_cli.specs.Contents.{AreToldAs, AreFetched, IsFaultAt, SpellAlone, classes_for}
+use Rattle.jfluid_cli.specs.Causes.{Given, Accepts, AreContentsOf, IsLong, Because}
+use Rattle.jfluid_cli.specs.Contents.{AreFetched, IsFaultAt, SpellAlone, classes_for}
 use Rattle.jfluid_cli.specs.Refusals.{status_of, refusal_of}
 use Rattle.jfluid_cli.specs.Runs.{SameProgram}
 use Rattle.jfluid_cli.specs.Sinks.{FilesView, SourceView, Streams, IsUntold}
@@ -76,12 +76,14 @@ pub record IsFetchedFor (g : Given) (asked : Asked) (fronts : List (List ℕ)) :
   pub command : Command
   pub accepts : Accepts g command
   pub asked_is : asked_by command ≡ asked
+  pub own : command.generated ≡ None
   pub fetched : AreFetched g.told command.files fronts
 
--- What was loaded for a command: the contents that the files tell, which spell this program alone.
+-- What was loaded for a command: the contents that the files tell, or that are generated, which spell
+-- this program alone.
 pub record IsLoaded (told : Option Told) (k : Command) (contents : List (List ℕ))
     (program : Program) : Type 0 where
-  pub told_as : AreToldAs told k.files contents
+  pub told_as : AreContentsOf told k contents
   pub program_is : IsProgram (asked_by k) contents program
   pub alone : SpellAlone contents (classes_for contents program)
 

@@ -81,16 +81,17 @@ swaps_until p input n =
     length (swaps_in (acts_until n p.acts) w (original p) (operations_of p) n)
 
 -- what is reported of a program's run on an input after so many steps: its ending, the steps, the
--- swaps, and the tree that is projected on the activations of the roots, under the actions so far
-abbrev pub report_on : Program → List ℕ → ℕ → List ℕ
-report_on p input n =
+-- swaps, and the tree that is projected on the activations of the roots, under the actions so far, or
+-- the sums over this tree
+abbrev pub report_on : Bool → Program → List ℕ → ℕ → List ℕ
+report_on summary p input n =
     let w = world_on p input in
     let contexts = projection (acts_until n p.acts) w n in
-    report_text p (ending_of w n) n (swaps_until p input n) false contexts
+    report_text p (ending_of w n) n (swaps_until p input n) summary contexts
 
 -- what is reported of a session's run
-abbrev pub report_of : Profiling → List ℕ
-report_of s = report_on s.program s.input s.clock
+abbrev pub report_of : Bool → Profiling → List ℕ
+report_of summary s = report_on summary s.program s.input s.clock
 
 -- ---- counts of faults
 

@@ -2,6 +2,7 @@
 #![tactic(auto)]
 
 mod causes;
+mod images;
 mod input;
 mod kept;
 mod loading;

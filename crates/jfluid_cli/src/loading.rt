@@ -1,6 +1,6 @@
-//! Reads the plan, and fetches, reads and admits the class files.
+//! Reads the plan, and fetches, reads and admits the class files, or has the program generated.
 
-ghost use Rattle.std.specs.Prelude.{◌≡◌, ◌≢◌, ◌≤◌, length, [], Some, ℕ, List, Option, IfOk, IfErr, IsOk};
+ghost use Rattle.std.specs.Prelude.{◌≡◌, ◌≢◌, ◌≤◌, length, [], Some, None, ℕ, List, Option, IfOk, IfErr, IsOk};
 ghost use Rattle.std.specs.List.{AllByRecursion};
 ghost use Rattle.const_pool.specs.ClassFile.{IsClassFile};
 ghost use Rattle.plan_text.specs.Bounds.{IsWithin};
@@ -22,8 +22,9 @@ use crate::plans::plan_of;
 use crate::refusal::{Refusal, word_at};
 use admit_check::{AdmitError, admit};
 use class_reader::{MOST_BYTES, ReadError, read_class};
-use command_line::{Words, command_of};
+use command_line::{Generation, Words, command_of};
 use const_pool::ClassFile;
+use generated_programs::admit_generated;
 use jf_bytes::{FetchError, Files, Seq, Text16};
 use jvm_model::Program;
 use plan_text::Plan;
@@ -179,7 +180,7 @@ struct Found {
 }
 
 /// What words and their plan ask for: the plan, the contents of the class files, in the order of
-/// their words, their program, and the most steps that it makes.
+/// their words or of the generated classes, their program, and the most steps that it makes.
 #[derive(Drop)]
 pub struct Loaded {
     pub plan: Plan,
@@ -189,13 +190,14 @@ pub struct Loaded {
 }
 
 /// Fetches all class files of words and their plan, and then reads and admits them.
-fn load<F: Files>(
+fn load_files<F: Files>(
     alloc: Global,
     words: &Words<'_>,
     plan: &Plan,
     files: &mut F,
 ) -> Result<Found, Refusal>
     requires sound { IsSound (read_in words.now) }
+    requires own { words.now.generated ≡ None }
     requires within { IsWithin plan.now }
     requires alternate { AlternateRoots [] plan.now.actions }
     ensures ok { (g : Given) → AreReadWith g (read_in words.now) plan.now →
@@ -229,7 +231,70 @@ fn load<F: Files>(
     }
 }
 
-/// Reads the plan of the words, and loads the class files that they ask for with it.
+/// Makes the program that words generate, with the acts of their plan, and the bytes of its classes.
+fn load_generated(
+    alloc: Global,
+    words: &Words<'_>,
+    generation: Generation,
+    plan: &Plan,
+) -> Result<Found, Refusal>
+    requires sound { IsSound (read_in words.now) }
+    requires own { words.now.generated ≡ Some generation }
+    requires within { IsWithin plan.now }
+    requires alternate { AlternateRoots [] plan.now.actions }
+    ensures ok { (g : Given) → AreReadWith g (read_in words.now) plan.now →
+        IfOk result (λ l. IsPrepared g plan.now l.budget l.contents l.program) }
+    ensures small { IfOk result (λ l. l.budget ≤ greatest_steps) }
+    ensures admitted { IfOk result (λ l. IsAdmitted l.program) }
+    ensures acts { IfOk result (λ l. CanBeTaken l.program.acts) }
+    ensures early { (g : Given) → AreReadWith g (read_in words.now) plan.now →
+        IfErr result (IsEarly g) }
+    ensures calm { IfErr result (λ e. status_of e ≢ 7) }
+{
+    let Some(command) = command_of(words, plan) else {
+        return Err(Refusal::Words);
+    };
+    match admit_generated(alloc, generation.seed, generation.size, plan) {
+        Ok(made) => Ok(Found {
+            contents: made.contents,
+            program: made.program,
+            budget: command.budget,
+        }),
+        Err(fault) => Err(refusal_for(fault)),
+    }
+}
+
+/// Loads the class files of words and their plan, or makes the program that they generate.
+fn load<F: Files>(
+    alloc: Global,
+    words: &Words<'_>,
+    plan: &Plan,
+    files: &mut F,
+) -> Result<Found, Refusal>
+    requires sound { IsSound (read_in words.now) }
+    requires within { IsWithin plan.now }
+    requires alternate { AlternateRoots [] plan.now.actions }
+    ensures ok { (g : Given) → AreReadWith g (read_in words.now) plan.now →
+        g.told ≡ F.contents files.old → IfOk result (λ l.
+        IsPrepared g plan.now l.budget l.contents l.program) }
+    ensures small { IfOk result (λ l. l.budget ≤ greatest_steps) }
+    ensures admitted { IfOk result (λ l. IsAdmitted l.program) }
+    ensures acts { IfOk result (λ l. CanBeTaken l.program.acts) }
+    ensures early { (g : Given) → AreReadWith g (read_in words.now) plan.now →
+        g.told ≡ F.contents files.old → IfErr result (IsEarly g) }
+    ensures calm { IsOk result → F.faults files.new ≡ F.faults files.old }
+    ensures cause { let old = files_view (F.faults files.old) (F.last_failed files.old) in
+        let new = files_view (F.faults files.new) (F.last_failed files.new) in
+        let r = read_in words.now in
+        IfErr result (HasFetchCause r.plan r.files old new) }
+{
+    match words.generated {
+        Some(generation) => load_generated(alloc, words, generation, plan),
+        None => load_files(alloc, words, plan, files),
+    }
+}
+
+/// Reads the plan of the words, and loads the classes that they ask for with it.
 pub fn prepare<F: Files>(alloc: Global, words: &Words<'_>, files: &mut F) -> Result<Loaded, Refusal>
     requires sound { IsSound (read_in words.now) }
     ensures ok { (g : Given) → accepted g.words ≡ Some (read_in words.now) →

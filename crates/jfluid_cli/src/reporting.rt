@@ -29,25 +29,25 @@ fn status_of_run(ending: Option<Ending>) -> u8
     }
 }
 
-/// The report of a session whose tree was gathered.
-fn text_of(alloc: Global, session: &Session) -> Result<Vec<u8>, NoMemory>
+/// The report of a session whose tree was gathered, with the tree or the sums over it.
+fn text_of(alloc: Global, session: &Session, summary: bool) -> Result<Vec<u8>, NoMemory>
     requires going { IsGoing session.now }
     requires gathered { session.now.gathered ≡ true }
     requires planned { IsPlanned session.now }
-    ensures { IfOk result (λ text. text.items ≡ report_of session.now) }
+    ensures { IfOk result (λ text. text.items ≡ report_of summary session.now) }
 {
     let facts = Facts {
         ending: session.ending(),
         steps: session.clock(),
         swaps: session.swaps().len() as u64,
-        summary: false,
+        summary,
     };
     let shown = session.shown();
     report(alloc, &facts, shown.tree, shown.program)
 }
 
 /// Brings the tree of a session to its clock.
-fn gather(session: &mut Session) -> Result<(), NoMemory>
+pub fn gather(session: &mut Session) -> Result<(), NoMemory>
     ensures ok { OnOk result (Gathers session.old session.new) }
     ensures same { SameProgram session.old session.new }
 {
@@ -57,26 +57,24 @@ fn gather(session: &mut Session) -> Result<(), NoMemory>
     }
 }
 
-/// Puts the report of a session, and answers the status of its run, or 8 where the put failed.
+/// Puts the report of a session whose tree was gathered, and answers the status of its run, or 8
+/// where the put failed.
 pub fn give_report<P: Sink>(
     alloc: Global,
-    session: &mut Session,
+    session: &Session,
+    summary: bool,
     out: &mut P,
 ) -> Result<u8, Refusal>
-    requires going { IsGoing session.old }
-    requires planned { IsPlanned session.old }
-    ensures gathered { OnOk result (Gathers session.old session.new) }
-    ensures same { SameProgram session.old session.new }
+    requires going { IsGoing session.now }
+    requires gathered { session.now.gathered ≡ true }
+    requires planned { IsPlanned session.now }
     ensures reported { let old = sink_view (P.taken out.old) (P.faults out.old) in
         let new = sink_view (P.taken out.new) (P.faults out.new) in
         MatchResult result
-        (IsReported session.new old new)
+        (IsReported summary session.now old new)
         (λ e. (e ≡ Refusal.NoMemory) × IsUntold old new) }
 {
-    let Ok(()) = gather(session) else {
-        return Err(Refusal::NoMemory);
-    };
-    let Ok(text) = text_of(alloc, session) else {
+    let Ok(text) = text_of(alloc, session, summary) else {
         return Err(Refusal::NoMemory);
     };
     if !put_bytes(out, &text) {

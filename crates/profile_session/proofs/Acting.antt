@@ -1,15 +1,14 @@
 -- An action behind a step, or before the start, changes what is kept as its own point says, and nothing of what was before.
 use Rattle.std.proofs.Common.{◌≡◌, ℕ, zero, suc, ◌+◌, ◌<◌, ◌≤◌, Bool, true, false, ◌==◌, List, [], ◌∷◌, ◌++◌, map, Option, Some, None, slice_get, if◌then◌else◌, refl, sym, ap, ap₂, subst, ◌∙◌, arith, add-one}
-use Rattle.std.specs.Prelude.{fold}
 use Rattle.std.specs.List.{AllByRecursion}
 use Rattle.std.specs.Option.{option_map_or}
 use Rattle.std.proofs.lemmas.Bool.{ne_eqb, eq-eqb}
 use Rattle.jvm_model.specs.declared.event.Act.{Act}
 use Rattle.jvm_model.specs.declared.event.Event.{Event}
 use Rattle.jvm_model.specs.declared.program.Program.{Program}
-use Rattle.jvm_model.specs.Activations.{Activation, Trace, no_trace, trace, trace_before}
+use Rattle.jvm_model.specs.Activations.{Activation, no_trace, trace, trace_before}
 use Rattle.jvm_model.specs.Data.{World}
-use Rattle.jvm_model.specs.EventLists.{Marking, step_events}
+use Rattle.jvm_model.specs.EventLists.{step_events}
 use Rattle.jvm_model.specs.Originals.{original}
 use Rattle.jvm_model.specs.Run.{turn}
 use Rattle.jvm_machine.specs.View.{View}
@@ -19,7 +18,7 @@ use Rattle.jvm_model.specs.Calls.{AreFrom, loads_of}
 use Rattle.jvm_model.specs.Points.{acts_at, acts_behind, marking_of}
 use Rattle.jvm_model.specs.Targets.{operations_of}
 use Rattle.profile_session.specs.Keeping.{Kept, first_kept, kept_act, kept_acts, kept_before, kept_by-zero, kept_by-suc, kept_end, kept_step, kept_told, marks_seen}
-use Rattle.profile_session.specs.Standing.{AtRest, next_step, told_before}
+use Rattle.profile_session.specs.Standing.{AtRest, told_before}
 
 fold-last : (p : Program) (k : Kept) (acts : List Act) (x : Act) → kept_acts p k (acts ++ x ∷ []) ≡ kept_act p (kept_acts p k acts) x
 fold-last p k [] x = refl

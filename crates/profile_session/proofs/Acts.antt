@@ -2,8 +2,6 @@
 use Rattle.std.proofs.Common.{◌≡◌, ℕ, ◌+◌, ◌≤◌, Bool, true, false, not, ◌&&◌, List, [], ◌∷◌, ◌++◌, length, if◌then◌else◌, refl, sym, ap, ap₂, subst, ◌∙◌, arith}
 use Rattle.std.specs.Prelude.{fold}
 use Rattle.jvm_model.specs.declared.event.Act.{Act}
-use Rattle.jvm_model.specs.declared.event.Event.{Event}
-use Rattle.jvm_model.specs.declared.event.Mark.{Mark}
 use Rattle.jvm_model.specs.declared.program.Program.{Program}
 use Rattle.jvm_model.specs.EventLists.{entries}
 use Rattle.jvm_model.specs.Points.{is_empty}
@@ -17,8 +15,8 @@ use Rattle.context_tree.specs.Profiles.{Profile, calls_of, credited, taken}
 use Rattle.context_tree.specs.Seen.{Seen, seen_act}
 use Rattle.context_tree.proofs.EventCalls.{calls_of-credited}
 use Rattle.profile_session.specs.declared.parts.Parts.{Parts}
-use Rattle.profile_session.specs.Keeping.{Kept, at_point, is_idle, revealed}
-use Rattle.profile_session.specs.Parts.{Acts, AreFit, AreShown, Brings, Drains, IsPoint, calls_in, chosen_by, kept_in, profile_in, revealed_in, seen_by}
+use Rattle.profile_session.specs.Keeping.{at_point, is_idle, revealed}
+use Rattle.profile_session.specs.Parts.{Acts, AreFit, Brings, Drains, IsPoint, chosen_by, kept_in, profile_in, revealed_in, seen_by}
 use Rattle.profile_session.proofs.Points.{Reveals, reveals-same}
 
 -- ---- what an action makes of the revelation

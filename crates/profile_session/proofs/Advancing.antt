@@ -1,13 +1,12 @@
 -- The parts of a session behind a turn, and behind several steps.
-use Rattle.std.proofs.Common.{◌≡◌, ℕ, zero, suc, ◌+◌, ◌-◌, ◌<◌, ◌≤◌, Bool, true, false, ◌&&◌, List, [], ◌∷◌, ◌++◌, length, is_some, Result, Ok, Err, IfOk, if◌then◌else◌, refl, sym, ap, ap₂, subst, ◌∙◌, arith, add-one}
+use Rattle.std.proofs.Common.{◌≡◌, ℕ, ◌+◌, ◌-◌, ◌<◌, ◌≤◌, Bool, true, false, List, [], ◌∷◌, ◌++◌, length, if◌then◌else◌, refl, sym, ap, ap₂, subst, ◌∙◌, arith}
 use Rattle.std.specs.Prelude.{fold}
 use Rattle.std.proofs.lemmas.List.{append-nil}
-use Rattle.jvm_model.specs.declared.event.Act.{Act}
 use Rattle.jvm_model.specs.declared.event.Event.{Event}
 use Rattle.jvm_model.specs.declared.program.Program.{Program}
 use Rattle.jvm_model.specs.Calls.{AreFrom}
 use Rattle.jvm_model.specs.Data.{World}
-use Rattle.jvm_model.specs.EventLists.{entries, entries_by}
+use Rattle.jvm_model.specs.EventLists.{entries}
 use Rattle.jvm_model.specs.KindNumbers.{user_count}
 use Rattle.jvm_model.specs.Load.{is_among}
 use Rattle.jvm_model.specs.Points.{has_class}
@@ -17,23 +16,22 @@ use Rattle.jvm_model.specs.Whole.{IsWhole}
 use Rattle.jvm_model.proofs.TracesEntries.{entries-append}
 use Rattle.jvm_machine.specs.declared.turn.Turn.{Turn}
 use Rattle.jvm_machine.specs.declared.turn.Turn.TheVariants.{Settled, Loaded, Probe, Ended, Broken, NoMemory}
-use Rattle.jvm_machine.specs.Several.{Passes, RunsOn, none, more}
+use Rattle.jvm_machine.specs.Several.{more}
 use Rattle.jvm_machine.specs.Turns.{Turns}
-use Rattle.jvm_machine.specs.View.{View, IsGoingOn, advanced, begun, has_ended, is_resting, run_state, world, events_left}
+use Rattle.jvm_machine.specs.View.{View, IsGoingOn, begun, has_ended, is_resting, run_state, world}
 use Rattle.call_revelation.specs.Reveals.{IsRevelation}
-use Rattle.context_tree.specs.Counts.{AreInOrder, opens, path_after}
+use Rattle.context_tree.specs.Counts.{AreInOrder, path_after}
 use Rattle.context_tree.specs.Profiles.{Profile, blank, credited, profile_of, taken, told}
 use Rattle.context_tree.proofs.Credits.{credits-add}
 use Rattle.profile_session.specs.declared.parts.Parts.{Parts}
-use Rattle.profile_session.specs.Advances.{After, Finished, Goes, Loads, Makes, Ran, Sliced, Stays, Tells}
+use Rattle.profile_session.specs.Advances.{After, Stays}
 use Rattle.profile_session.specs.Images.{AreImageable}
 use Rattle.profile_session.specs.Keeping.{Kept, marks_seen}
-use Rattle.profile_session.specs.Parts.{AreFit, AreLoadable, AreOf, AreShown, Hears, IsBusy, IsHearable, IsProfiling, IsTellable, Needs, Rests, calls_in, kept_in, profile_in, revealed_in}
-use Rattle.profile_session.specs.Standing.{AtRest, InStep, Stands, next_step, rests, within}
+use Rattle.profile_session.specs.Parts.{AreFit, AreLoadable, AreOf, Hears, IsBusy, IsHearable, IsProfiling, IsTellable, Needs, Rests, calls_in, kept_in, profile_in, revealed_in}
+use Rattle.profile_session.specs.Standing.{AtRest, InStep, Stands, rests, within}
 use Rattle.profile_session.specs.Turned.{events_in, is_telling, kept_turned}
 use Rattle.profile_session.proofs.Hearing.{open-taken}
 use Rattle.profile_session.proofs.OpenPaths.{path-entry}
-use Rattle.profile_session.proofs.Passing.{passes}
 use Rattle.profile_session.proofs.Steps.{order-later, order-push}
 use Rattle.profile_session.proofs.Telling.{fold-both, taken-clock}
 use Rattle.profile_session.proofs.Turning.{AreLoadedNow, Heard, IsBehind, IsToldNow, Went, begun-is, begun-busy, turn-heard, turn-went}

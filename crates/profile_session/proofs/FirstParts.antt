@@ -2,13 +2,11 @@
 use Rattle.std.proofs.Common.{◌≡◌, ℕ, ◌+◌, ◌≤◌, ◌<◌, Bool, true, false, List, [], ◌∷◌, ◌++◌, map, length, if◌then◌else◌, refl, sym, ap, ap₂, subst, ◌∙◌, arith}
 use Rattle.std.specs.Prelude.{fold}
 use Rattle.std.specs.List.{enumerate_from}
-use Rattle.const_pool.specs.BuiltIn.{built_in_names}
 use Rattle.jvm_model.specs.declared.event.Mark.{Mark}
 use Rattle.jvm_model.specs.declared.event.Mark.TheVariants.{Off}
 use Rattle.jvm_model.specs.declared.program.MethodPlace.{MethodPlace}
 use Rattle.jvm_model.specs.declared.program.Program.{Program}
 use Rattle.jvm_model.specs.declared.state.State.{State}
-use Rattle.jvm_model.specs.Activations.{trace_before}
 use Rattle.jvm_model.specs.Calls.{AreFrom}
 use Rattle.jvm_model.specs.Data.{World}
 use Rattle.jvm_model.specs.EventLists.{entries}
@@ -18,7 +16,6 @@ use Rattle.jvm_model.specs.Points.{has_class, marking_of}
 use Rattle.jvm_model.specs.Revealed.{Revealed, mark_of, marks_of, with_loaded}
 use Rattle.jvm_model.specs.Revelation.{IsLoadOrder}
 use Rattle.jvm_model.specs.Run.{before, run}
-use Rattle.jvm_model.specs.Told.{held_in}
 use Rattle.jvm_model.specs.Whole.{IsWhole}
 use Rattle.jvm_model.proofs.LoadOrder.{before-order}
 use Rattle.jvm_model.proofs.Revealable.{revealable}
@@ -33,10 +30,10 @@ use Rattle.event_buffer.specs.Buffers.{Held, empty, last_clock}
 use Rattle.profile_session.specs.declared.parts.Parts.{Parts}
 use Rattle.profile_session.specs.declared.swap.Swap.{Swap}
 use Rattle.profile_session.specs.Beginning.{CanBeProfiled, IsFirst}
-use Rattle.profile_session.specs.Keeping.{Kept, first_kept, kept_before, kept_by-zero, revealed}
-use Rattle.profile_session.specs.Parts.{AreFit, calls_in, kept_in, linking, profile_in, seen_by}
+use Rattle.profile_session.specs.Keeping.{Kept, first_kept, kept_by-zero, revealed}
+use Rattle.profile_session.specs.Parts.{calls_in, kept_in, linking, profile_in, seen_by}
 use Rattle.profile_session.specs.Sessions.{Stands}
-use Rattle.profile_session.specs.Standing.{AtRest, next_step, told_before}
+use Rattle.profile_session.specs.Standing.{AtRest}
 
 -- ---- what is loaded
 

@@ -1,24 +1,22 @@
 -- What a session does behind a turn is what the turn asks.
-use Rattle.std.proofs.Common.{◌≡◌, ℕ, ◌+◌, ◌≤◌, ◌<◌, Bool, true, false, List, [], ◌∷◌, ◌++◌, length, if◌then◌else◌, refl, sym, ap, ap₂, subst, ◌∙◌, arith}
-use Rattle.std.specs.Prelude.{fold, Result, Ok, Err, MatchResult}
+use Rattle.std.proofs.Common.{◌≡◌, ℕ, ◌+◌, ◌≤◌, Bool, true, false, List, [], ◌∷◌, ◌++◌, if◌then◌else◌, refl, sym, ap, ap₂, subst, ◌∙◌, arith}
+use Rattle.std.specs.Prelude.{Result, Ok, Err, MatchResult}
 use Rattle.jvm_model.specs.declared.event.Event.{Event}
 use Rattle.jvm_model.specs.declared.event.EventKind.{EventKind}
 use Rattle.jvm_model.specs.declared.event.EventKind.TheVariants.{Root, Enter, Leave, Unwind}
 use Rattle.jvm_model.specs.declared.event.Mark.{Mark}
-use Rattle.jvm_model.specs.EventLists.{entries, entries_by}
+use Rattle.jvm_model.specs.EventLists.{entries_by}
 use Rattle.jvm_model.specs.Paths.{is_outside}
 use Rattle.jvm_model.specs.Points.{with_entered}
 use Rattle.jvm_model.specs.Revealed.{Revealed, marks_of, with_loaded, with_method_entered, with_none_entered}
-use Rattle.jvm_machine.specs.declared.turn.Turn.{Turn}
 use Rattle.jvm_machine.specs.declared.turn.Turn.TheVariants.{Settled, Loaded, Probe, Ended}
 use Rattle.jvm_machine.specs.View.{View}
-use Rattle.call_revelation.specs.Reveals.{IsFront}
 use Rattle.context_tree.specs.Counts.{opens, path_after}
 use Rattle.context_tree.specs.Profiles.{Profile, credited, opened, taken, told}
-use Rattle.context_tree.specs.Seen.{Seen, seen_event, seen_load}
+use Rattle.context_tree.specs.Seen.{Seen, seen_event}
 use Rattle.event_buffer.specs.Buffers.{Held}
 use Rattle.profile_session.specs.declared.parts.Parts.{Parts}
-use Rattle.profile_session.specs.Keeping.{Kept, at_point, is_idle, kept_end, kept_event, kept_load, marks_seen}
+use Rattle.profile_session.specs.Keeping.{Kept, at_point, is_idle, kept_load}
 use Rattle.profile_session.specs.Parts.{AreFit, AreLoadable, AreShown, CanLoad, Hears, IsPoint, Takes, calls_in, kept_in, loaded_in, profile_in, revealed_in, seen_by}
 
 -- ---- the open path of a profile

@@ -1,6 +1,6 @@
 -- What redefines a class: the image for the marks of now, and its bytes.
-use Rattle.std.proofs.Common.{◌≡◌, ℕ, zero, suc, ◌+◌, ◌<◌, ◌≤◌, Bool, true, false, List, [], ◌∷◌, map, length, Option, Some, None, slice_get, refl, sym, ap, ap₂, subst, ◌∙◌, arith, zero-add}
-use Rattle.std.specs.Prelude.{is_some, unwrap_or, Result, Ok}
+use Rattle.std.proofs.Common.{◌≡◌, ℕ, zero, suc, ◌+◌, ◌≤◌, true, false, List, [], ◌∷◌, map, length, Option, Some, None, slice_get, refl, sym, ap, ap₂, subst, ◌∙◌, arith, zero-add}
+use Rattle.std.specs.Prelude.{is_some, unwrap_or}
 use Rattle.std.specs.List.{AllByRecursion, enumerate_from, range_with_len}
 use Rattle.std.specs.Option.{option_map_or}
 use Rattle.std.proofs.lemmas.Option.{same_Some}
@@ -8,13 +8,12 @@ use Rattle.const_pool.specs.declared.class.ClassFile.{ClassFile}
 use Rattle.const_pool.specs.declared.class.Member.{Member}
 use Rattle.const_pool.specs.ClassFile.{IsClassFile, Spells, class_bytes}
 use Rattle.class_reader.proofs.Files.{one_class}
-use Rattle.code_model.specs.declared.laying.Homes.{Homes}
 use Rattle.jvm_model.specs.declared.event.Mark.{Mark}
 use Rattle.jvm_model.specs.declared.event.Mark.TheVariants.{Off}
 use Rattle.jvm_model.specs.declared.program.Program.{Program}
 use Rattle.jvm_model.specs.Images.{IsImage, is_off}
 use Rattle.jvm_model.specs.Methods.{code_of}
-use Rattle.jvm_model.specs.Programs.{class_at, no_class, number_of_method, numbered}
+use Rattle.jvm_model.specs.Programs.{no_class, number_of_method, numbered}
 use Rattle.jvm_model.specs.Revealed.{Revealed, mark_of}
 use Rattle.jvm_model.specs.Swaps.{first_number}
 use Rattle.inject_events.specs.declared.image.Image.{Image}
@@ -27,7 +26,7 @@ use Rattle.class_shape.proofs.ImageShapes.{image-shape}
 use Rattle.class_shape.proofs.SwapLaws.{no-swap_fault}
 use Rattle.hotswap.specs.Redefining.{IsRefused, SpellsImage}
 use Rattle.profile_session.specs.declared.swapping.Made.{Made}
-use Rattle.profile_session.specs.Images.{AreImageable, class_in, image_bytes, image_bytes-is, image_for, marks_for}
+use Rattle.profile_session.specs.Images.{AreImageable, class_in, image_bytes-is, image_for, marks_for}
 use Rattle.profile_session.specs.Swapping.{IsImaged, IsMade, mark_at_position}
 use Rattle.profile_session.proofs.MethodPlaces.{number-coded}
 

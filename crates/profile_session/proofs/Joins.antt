@@ -1,5 +1,5 @@
 -- The marks that a session has in force where a step goes on are those that the rule gives at the last point before the step's begin.
-use Rattle.std.proofs.Common.{◌≡◌, ℕ, zero, suc, ◌+◌, ◌≤◌, Bool, true, false, not, ◌&&◌, List, [], ◌∷◌, ◌++◌, map, Option, Some, None, slice_get, unwrap_or, if◌then◌else◌, refl, sym, ap, ap₂, subst, ◌∙◌, arith, add-one, zero-add}
+use Rattle.std.proofs.Common.{◌≡◌, ℕ, zero, suc, ◌+◌, Bool, true, false, not, ◌&&◌, List, [], ◌∷◌, ◌++◌, map, Option, Some, None, slice_get, if◌then◌else◌, refl, sym, ap, ◌∙◌, arith, zero-add}
 use Rattle.std.specs.Prelude.{fold}
 use Rattle.std.specs.List.{enumerate_from}
 use Rattle.std.specs.Option.{option_map_or}
@@ -10,7 +10,6 @@ use Rattle.jvm_model.specs.declared.event.Mark.{Mark}
 use Rattle.jvm_model.specs.declared.event.Mark.TheVariants.{Off, Plain, Root}
 use Rattle.jvm_model.specs.declared.program.MethodPlace.{MethodPlace}
 use Rattle.jvm_model.specs.declared.program.Program.{Program}
-use Rattle.jvm_model.specs.Activations.{no_trace}
 use Rattle.jvm_model.specs.Changes.{EndThenBegin, AreOrdered}
 use Rattle.jvm_model.specs.Data.{Change, Loads, Began, Left, Unwound, Operation, World}
 use Rattle.jvm_model.specs.EventLists.{Marking, step_events}
@@ -26,9 +25,9 @@ use Rattle.context_tree.proofs.Headline.{session-whole}
 use Rattle.jvm_model.specs.Calls.{AreFrom, loads_of}
 use Rattle.context_tree.specs.Counts.{opens}
 use Rattle.jvm_model.specs.Points.{Standing, acts_at, acts_behind, after_change, before_begin, is_empty, is_target, mark_in, marking_of, standing_in}
-use Rattle.context_tree.specs.Seen.{Matches, Seen, first_seen, seen_act, seen_acts, seen_before, seen_before-zero, seen_before-suc, seen_end, seen_event, seen_load}
+use Rattle.context_tree.specs.Seen.{Matches, Seen, seen_acts, seen_before, seen_before-zero, seen_before-suc, seen_end, seen_event, seen_load}
 use Rattle.jvm_model.specs.Targets.{operations_of}
-use Rattle.profile_session.specs.Keeping.{Kept, first_kept, at_point, is_idle, kept_act, kept_acts, kept_before, kept_behind, kept_by, kept_by-zero, kept_by-suc, kept_end, kept_event, kept_load, kept_told, mark_seen, marks_seen, stand}
+use Rattle.profile_session.specs.Keeping.{Kept, first_kept, at_point, kept_act, kept_acts, kept_before, kept_by, kept_by-zero, kept_by-suc, kept_end, kept_event, kept_load, kept_told, mark_seen, marks_seen, stand}
 
 -- ---- what is kept has what is seen
 

@@ -1,5 +1,5 @@
 -- Steps that tell nothing change nothing but the clock.
-use Rattle.std.proofs.Common.{◌≡◌, ℕ, zero, suc, ◌+◌, ◌≤◌, Bool, true, false, not, ◌&&◌, ◌||◌, ◌==◌, List, [], ◌∷◌, ◌++◌, if◌then◌else◌, refl, sym, ap, ap₂, subst, ◌∙◌}
+use Rattle.std.proofs.Common.{◌≡◌, ℕ, zero, suc, ◌+◌, Bool, true, false, not, ◌&&◌, ◌||◌, ◌==◌, List, [], ◌∷◌, ◌++◌, if◌then◌else◌, refl, sym, ap, ap₂, subst, ◌∙◌}
 use Rattle.std.specs.Prelude.{fold, filter}
 use Rattle.std.specs.List.{list_any, enumerate_from}
 use Rattle.std.proofs.lemmas.List.{append-nil}
@@ -24,7 +24,7 @@ use Rattle.jvm_model.specs.Swaps.{differs, same_mark}
 use Rattle.jvm_model.specs.Targets.{operations_of}
 use Rattle.jvm_model.specs.Revealed.{Revealed, changed_of, stand_of}
 use Rattle.profile_session.specs.Keeping.{Kept, at_point, is_idle, kept_before, kept_end, marks_seen, revealed, swapped_now}
-use Rattle.profile_session.specs.Standing.{AtRest, InStep}
+use Rattle.profile_session.specs.Standing.{AtRest}
 use Rattle.profile_session.proofs.Joins.{kept-seen}
 use Rattle.profile_session.proofs.Steps.{begins, settles}
 

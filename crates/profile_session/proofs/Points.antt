@@ -1,10 +1,9 @@
 -- A point of a session's parts: this is revealed now, and the classes whose marks have changed were swapped.
-use Rattle.std.proofs.Common.{◌≡◌, ℕ, ◌+◌, ◌≤◌, Bool, true, false, List, [], ◌∷◌, ◌++◌, length, refl, sym, ap, ap₂, subst, ◌∙◌, ◌<◌, arith}
-use Rattle.std.specs.Prelude.{◌||◌, ◌==◌, Option, Some, None, slice_get}
+use Rattle.std.proofs.Common.{◌≡◌, ℕ, ◌+◌, ◌≤◌, Bool, true, false, List, [], ◌∷◌, ◌++◌, length, refl, sym, ap, ap₂, subst, ◌∙◌, ◌<◌}
+use Rattle.std.specs.Prelude.{◌||◌, ◌==◌, Option, Some, None}
 use Rattle.std.specs.Option.{option_map_or}
 use Rattle.std.proofs.lemmas.List.{append-nil}
 use Rattle.std.proofs.lemmas.Option.{slice_get_within}
-use Rattle.jvm_model.specs.declared.event.Mark.{Mark}
 use Rattle.jvm_model.specs.declared.program.MethodPlace.{MethodPlace}
 use Rattle.jvm_model.specs.declared.program.Program.{Program}
 use Rattle.jvm_model.specs.KindNumbers.{user_count}
@@ -24,8 +23,8 @@ use Rattle.event_buffer.specs.Buffers.{last_clock}
 use Rattle.profile_session.specs.declared.parts.Parts.{Parts}
 use Rattle.profile_session.specs.declared.swap.Swap.{Swap}
 use Rattle.profile_session.specs.Images.{AreImageable}
-use Rattle.profile_session.specs.Keeping.{Kept, at_point, swapped_now}
-use Rattle.profile_session.specs.Parts.{AreFit, AreShown, CanLoad, IsGrown, IsPoint, IsShowable, Shows, calls_in, changed_from, kept_in, linking, loaded_in, profile_in, revealed_in, seen_by}
+use Rattle.profile_session.specs.Keeping.{Kept, swapped_now}
+use Rattle.profile_session.specs.Parts.{AreFit, AreShown, CanLoad, IsGrown, IsPoint, IsShowable, Shows, calls_in, changed_from, linking, loaded_in, profile_in, revealed_in, seen_by}
 use Rattle.profile_session.specs.Swapping.{HasSwapped, with_classes}
 use Rattle.profile_session.proofs.SwappedClasses.{all-swapped, changed-shown}
 

@@ -1,44 +1,35 @@
 -- What a session's calls owe.
-use Rattle.std.proofs.Common.{◌≡◌, ℕ, ◌+◌, ◌≤◌, ◌<◌, Bool, true, false, not, Some, None, List, [], ◌∷◌, ◌++◌, map, Option, is_some, if◌then◌else◌, refl, sym, ap, ap₂, subst, ◌∙◌, arith, add-one}
+use Rattle.std.proofs.Common.{◌≡◌, ℕ, ◌+◌, ◌≤◌, ◌<◌, Bool, true, false, not, Some, None, List, [], ◌∷◌, ◌++◌, is_some, if◌then◌else◌, refl, sym, ap, ap₂, subst, ◌∙◌, arith, add-one}
 use Rattle.std.specs.Prelude.{MatchResult, Result, Ok, Err}
-use Rattle.std.specs.List.{AllByRecursion, enumerate_from}
-use Rattle.jvm_model.specs.declared.ending.Ending.{Ending}
+use Rattle.std.specs.List.{AllByRecursion}
 use Rattle.jvm_model.specs.declared.event.Act.{Act}
-use Rattle.jvm_model.specs.declared.event.Event.{Event}
-use Rattle.jvm_model.specs.declared.event.Mark.{Mark}
-use Rattle.jvm_model.specs.declared.event.Mark.TheVariants.{Off}
-use Rattle.jvm_model.specs.declared.program.MethodPlace.{MethodPlace}
+use Rattle.jvm_model.specs.declared.event.Mark.TheVariants.{Off, Plain, Root}
 use Rattle.jvm_model.specs.declared.program.Program.{Program}
 use Rattle.jvm_model.specs.declared.state.State.{State}
 use Rattle.jvm_model.specs.Activations.{trace_before}
 use Rattle.jvm_model.specs.Calls.{AreFrom}
-use Rattle.jvm_model.specs.Data.{World}
-use Rattle.jvm_model.specs.EventLists.{events_of}
+use Rattle.jvm_model.specs.Data.{Operation, World}
 use Rattle.jvm_model.specs.Load.{is_among}
 use Rattle.jvm_model.specs.Originals.{original}
-use Rattle.jvm_model.specs.Points.{chosen, has_class, mark_in, marking_of, nothing, standing_in}
-use Rattle.jvm_model.specs.Projection.{projection}
-use Rattle.jvm_model.specs.Revealed.{Revealed, mark_of, marks_of}
+use Rattle.jvm_model.specs.Points.{Standing, has_class, is_target, mark_in, marking_of, nothing, standing_in}
+use Rattle.jvm_model.specs.Revealed.{mark_of}
 use Rattle.jvm_model.specs.Run.{before, ending_of, run}
 use Rattle.jvm_model.specs.Swaps.{points_before}
-use Rattle.jvm_model.specs.Targets.{operations_of}
 use Rattle.jvm_model.specs.Told.{held_in}
 use Rattle.jvm_model.specs.Whole.{IsWhole}
-use Rattle.context_tree.specs.Counts.{AreInOrder}
-use Rattle.context_tree.specs.Profiles.{Profile, blank, credited, profile_of}
-use Rattle.context_tree.specs.Seen.{Matches, Seen, seen_act}
+use Rattle.context_tree.specs.Profiles.{Profile, credited, profile_of}
+use Rattle.context_tree.specs.Seen.{Matches, seen_act}
 use Rattle.context_tree.proofs.Credits.{credits-add}
 use Rattle.context_tree.proofs.Headline.{session-whole, tree-whole}
-use Rattle.jvm_machine.specs.View.{View, has_ended, is_resting, made, run_state, world}
+use Rattle.jvm_machine.specs.View.{View, has_ended, run_state, world}
 use Rattle.profile_session.specs.declared.parts.Parts.{Parts}
-use Rattle.profile_session.specs.declared.swap.Swap.{Swap}
 use Rattle.profile_session.specs.declared.answer.ActError.{ActError}
 use Rattle.profile_session.specs.declared.answer.ActError.TheVariants as act
 use Rattle.profile_session.specs.Advances.{Makes}
 use Rattle.profile_session.specs.Answers.{Accepts, Advances, BreaksOff, Gathers, LendsNoTree, Onward, RefusesAct, RefusesTree, refusal_of, run_by}
-use Rattle.profile_session.specs.Keeping.{Kept, at_point, first_kept, kept_act, kept_before, kept_by-zero, mark_seen, marks_seen, revealed}
-use Rattle.profile_session.specs.Parts.{Acts, AreFit, AreOf, Brings, IsProfiling, IsSameRun, calls_in, kept_in, loaded_in, profile_in, revealed_in, seen_by}
-use Rattle.profile_session.specs.Sessions.{AreSwapsOf, Holds, IsTreeOf, Profiling, Stands, ending_in, entries_of, is_over, is_selected_in, mark_in_session, profiling_in, run_of, standing_of, step_of, swaps_of, with_act, world_of}
+use Rattle.profile_session.specs.Keeping.{Kept, at_point, kept_act, kept_before, mark_seen, marks_seen}
+use Rattle.profile_session.specs.Parts.{Acts, AreFit, Brings, IsSameRun, calls_in, kept_in, profile_in, revealed_in, seen_by}
+use Rattle.profile_session.specs.Sessions.{AreSwapsOf, Holds, IsQuiet, IsTreeOf, LiveRunOn, Profiling, Stands, entries_of, is_over, is_selected_in, mark_in_session, profiling_in, run_of, standing_of, step_of, swaps_of, with_act, world_of}
 use Rattle.profile_session.specs.Standing.{AtRest, next_step, told_before}
 use Rattle.profile_session.proofs.Acting.{acted, from-last}
 use Rattle.profile_session.proofs.Advancing.{profile-clock, still-of}
@@ -56,16 +47,23 @@ over-in x b g s = ap (λ (s : State). is_some s.ending) (run-in x b g s)
 pub made-stands : (x new : Parts) (steps : ℕ) (ended : Bool) → Makes x steps ended new → Stands new
 made-stands x new steps ended m = record { rests = m.rests; started = m.flag ∙ sym m.started }
 
+-- what is live runs the version in which it began
+pub live-in : (x : Parts) (b g : Bool) → Stands x → LiveRunOn (profiling_in b g x)
+live-in x b g s =
+    s.rests.stands.lives
+    ∙ ap (λ b. held_in (marking_of x.acts (world x.vm)) (trace_before (world x.vm) (if b then x.vm.clock + 1 else 0))) (sym s.started)
+
 pub made-by : (x new : Parts) (g : Bool) (steps : ℕ) (ended : Bool) → Stands x → is_over (profiling_in false g x) ≡ false → Makes x steps ended new
     → Advances (profiling_in false g x) steps (run_by ended) (profiling_in false false new)
 made-by x new g steps ended s going m = by ended m where
   onward : (ended : Bool) → Makes x steps ended new → Onward (profiling_in false g x) steps (profiling_in false false new)
   onward ended m = record {
     same = ap₂ (λ (w : World) b. let v : Profiling = record (profiling_in false false new) { program = w.program; input = w.input; started = b } in v) m.world_is m.flag
-        ∙ ap (λ acts. let v : Profiling = record (profiling_in false false x) { acts = acts; started = true; clock = new.vm.clock } in v) m.acts;
+        ∙ ap (λ acts. let v : Profiling = record (profiling_in false false x) { acts = acts; started = true; clock = new.vm.clock; live = new.vm.live } in v) m.acts;
     later = m.later;
     within = m.within;
     first = subst (λ w. (k : ℕ) → k < new.vm.clock → is_some (ending_of w k) ≡ false) m.world_is m.rests.stands.going;
+    live = live-in new false false (made-stands x new steps ended m);
   }
 
   over : (ended : Bool) → Makes x steps ended new → is_over (profiling_in false false new) ≡ ended
@@ -97,6 +95,17 @@ pub mark-is : (x : Parts) (b g : Bool) (method : ℕ) → Stands x → mark_of x
 mark-is x b g method s =
     ap (λ (k : Kept). mark_seen x.vm.program k.seen method) (kept-is x b g s)
     ∙ marks-stand (world x.vm) s.rests.is.whole x.acts s.rests.is.from (step_of (profiling_in b g x)) method
+
+-- where it was quiet no method is marked
+pub quiet-mark : (p : Program) (code : ℕ → List Operation) (s : Standing) (method : ℕ) → IsQuiet s → mark_in p code s method ≡ Off
+quiet-mark p code s method quiet =
+    ap₂ (λ selected entered. if has_class p s.loaded method then (if is_among method selected then Root else if is_target p code s.loaded entered method then Plain else Off) else Off)
+    quiet.selected quiet.entered
+    ∙ off (has_class p s.loaded method)
+  where
+    off : (b : Bool) → (if b then (if is_among method [] then Root else if is_target p code s.loaded [] method then Plain else Off) else Off) ≡ Off
+    off true = refl
+    off false = refl
 
 pub swaps-of : (x : Parts) (b g : Bool) → Stands x → x.swaps ≡ swaps_of (profiling_in b g x)
 swaps-of x b g s = ap (λ (k : Kept). k.swaps) (kept-is x b g s) ∙ swaps-are (world x.vm) s.rests.is.whole x.acts s.rests.is.from (step_of (profiling_in b g x))
@@ -243,14 +252,15 @@ other-is false true is = refl
 other-is true true is = absurd (let h : Some act.AlreadySelected ≡ None = is in cc)
 other-is false false is = absurd (let h : Some act.NotSelected ≡ None = is in cc)
 
-pub accepts : (x new : Parts) (v : Profiling) (g : Bool) (a : Act) → profiling_in false g x ≡ v → is_over v ≡ false → a.moment ≡ x.vm.clock → (selected : Bool)
+pub accepts : (x new : Parts) (v : Profiling) (g : Bool) (a : Act) → Stands new → profiling_in false g x ≡ v → is_over v ≡ false → a.moment ≡ x.vm.clock → (selected : Bool)
     → selected ≡ is_selected_in v a.method → refusal_of a.select selected ≡ None → Acts x a new → Accepts v a.select a.method (profiling_in false false new)
-accepts x new v g a now going moment selected at none is = record {
+accepts x new v g a stands now going moment selected at none is = record {
   whole = sym (ap (λ (v : Profiling). v.broken) now);
   going = going;
   other = sym at ∙ other-is a.select selected none;
-  same = ap₂ (λ (v : View) started. let q : Profiling = record (profiling_in false false new) { program = v.program; input = v.input; started = started; clock = v.clock } in q) is.vm is.started
+  same = ap₂ (λ (v : View) started. let q : Profiling = record (profiling_in false false new) { program = v.program; input = v.input; started = started; clock = v.clock; live = v.live } in q) is.vm is.started
       ∙ (ap (λ acts. let q : Profiling = record (profiling_in false false x) { acts = acts } in q) is.acts
       ∙ (ap (λ n. let q : Profiling = record (profiling_in false false x) { acts = x.acts ++ record { moment = n; select = a.select; method = a.method } ∷ [] } in q) moment
       ∙ ap (with_act a.select a.method) now));
+  live = live-in new false false stands;
 }

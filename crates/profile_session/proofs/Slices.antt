@@ -1,17 +1,16 @@
 -- Steps that tell nothing, slices, and as many steps as are asked for.
-use Rattle.std.proofs.Common.{◌≡◌, ℕ, zero, suc, ◌+◌, ◌-◌, ◌<◌, ◌≤◌, Bool, true, false, ◌&&◌, List, length, is_some, Result, Ok, Err, if◌then◌else◌, refl, sym, ap, ap₂, subst, ◌∙◌, arith, add-one}
-use Rattle.jvm_model.specs.declared.event.Event.{Event}
+use Rattle.std.proofs.Common.{◌≡◌, ℕ, suc, ◌+◌, ◌-◌, ◌<◌, ◌≤◌, Bool, true, false, ◌&&◌, length, Result, Ok, Err, if◌then◌else◌, refl, sym, ap, subst, ◌∙◌, arith}
 use Rattle.jvm_model.specs.Revealed.{marks_of}
 use Rattle.jvm_model.specs.Whole.{IsWhole}
 use Rattle.jvm_machine.specs.declared.turn.Turn.{Turn}
-use Rattle.jvm_machine.specs.declared.turn.Turn.TheVariants.{Settled, Loaded, Probe, Ended, Broken, NoMemory}
+use Rattle.jvm_machine.specs.declared.turn.Turn.TheVariants.{Settled}
 use Rattle.jvm_machine.specs.Several.{Passes, RunsOn, none, more}
 use Rattle.jvm_machine.specs.Turns.{Turns}
 use Rattle.jvm_machine.specs.View.{View, IsGoingOn, advanced, begun, has_ended, is_resting, world, events_left}
 use Rattle.profile_session.specs.declared.parts.Parts.{Parts}
-use Rattle.profile_session.specs.Advances.{After, Finished, Goes, Loads, Makes, Ran, Sliced, Stays, Tells}
+use Rattle.profile_session.specs.Advances.{After, Finished, Goes, Makes, Ran, Sliced, Stays, Tells}
 use Rattle.std.specs.Prelude.{MatchResult}
-use Rattle.profile_session.specs.Parts.{AreFit, AreOf, Hears, IsBusy, IsHearable, IsProfiling, IsSameRun, Rests, kept_in, profile_in, revealed_in}
+use Rattle.profile_session.specs.Parts.{Hears, IsBusy, IsHearable, IsSameRun, Rests, kept_in, revealed_in}
 use Rattle.profile_session.specs.Standing.{AtRest, next_step, rests, within}
 use Rattle.profile_session.specs.Turned.{is_telling}
 use Rattle.profile_session.proofs.Advancing.{after, clock-rises, fits, hearable, same-world, still-of}

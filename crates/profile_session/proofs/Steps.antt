@@ -1,5 +1,5 @@
 -- Each turn of the machine, and what the session does behind it, keeps what stands.
-use Rattle.std.proofs.Common.{◌≡◌, ℕ, zero, suc, ◌+◌, ◌<◌, ◌≤◌, Bool, true, false, not, ◌&&◌, ◌==◌, List, [], ◌∷◌, ◌++◌, map, drop, length, Option, Some, None, if◌then◌else◌, refl, sym, ap, ap₂, subst, ◌∙◌, is_some, arith, add-one, append_assoc}
+use Rattle.std.proofs.Common.{◌≡◌, ℕ, zero, suc, ◌+◌, ◌<◌, ◌≤◌, Bool, true, false, not, ◌&&◌, ◌==◌, List, [], ◌∷◌, ◌++◌, drop, length, Some, None, if◌then◌else◌, refl, sym, ap, ap₂, subst, ◌∙◌, is_some, arith, add-one, append_assoc}
 use Rattle.std.specs.Prelude.{fold, filter}
 use Rattle.std.specs.List.{AllByRecursion}
 use Rattle.std.proofs.lemmas.Bool.{and_parts, eqb-true, eqb-false, ne_eqb}
@@ -15,11 +15,11 @@ use Rattle.jvm_model.specs.EventLists.{Marking, events_of, events_of-zero, event
 use Rattle.jvm_model.specs.Originals.{original}
 use Rattle.jvm_model.specs.declared.due.Due.{Due}
 use Rattle.jvm_model.specs.declared.due.Due.TheVariants.{Nothing, Ends, Begins}
-use Rattle.jvm_model.specs.Pauses.{begin_kind, IsStop, end_due, Stop, passed_by, stop_by, stop_in, stop_from, change_due, told_at, told_from, is_end}
+use Rattle.jvm_model.specs.Pauses.{begin_kind, end_due, Stop, passed_by, stop_by, stop_in, stop_from, told_at, told_from}
 use Rattle.jvm_model.specs.Run.{before, run, turn}
 use Rattle.jvm_model.specs.Rest.{loads_first}
 use Rattle.jvm_machine.specs.Turns.{TellsLoads}
-use Rattle.jvm_machine.specs.View.{View, IsGoingOn, has_ended, run_state, world, advanced, begun, is_resting, to_come, loads_next, next_stop, next_event, stopped, rested, events_left, live_then}
+use Rattle.jvm_machine.specs.View.{View, IsGoingOn, has_ended, world, advanced, begun, is_resting, to_come, loads_next, next_stop, next_event, stopped, rested, events_left, live_then}
 use Rattle.jvm_model.specs.StandsFor.{mark_at}
 use Rattle.jvm_model.specs.Told.{Held, held_after, held_in, all_held, changes_told}
 use Rattle.jvm_model.specs.declared.event.EventKind.{EventKind}
@@ -38,9 +38,9 @@ use Rattle.jvm_model.specs.Targets.{operations_of}
 use Rattle.jvm_model.specs.Calls.{AreFrom, loads_of}
 use Rattle.context_tree.specs.Counts.{AreInOrder, opens}
 use Rattle.jvm_model.specs.Points.{with_entered, acts_behind, marking_of}
-use Rattle.context_tree.specs.Seen.{Seen, seen_event, seen_load}
-use Rattle.profile_session.specs.Keeping.{Kept, at_point, kept_acts, kept_before, kept_behind, kept_by-suc, kept_end, kept_event, kept_load, kept_told, marks_seen}
-use Rattle.profile_session.specs.Standing.{AtRest, InStep, Stands, next_step, told_before}
+use Rattle.context_tree.specs.Seen.{Seen, seen_event}
+use Rattle.profile_session.specs.Keeping.{Kept, at_point, kept_acts, kept_before, kept_behind, kept_by-suc, kept_end, kept_event, kept_load, marks_seen}
+use Rattle.profile_session.specs.Standing.{AtRest, InStep, next_step, told_before}
 use Rattle.profile_session.proofs.Joins.{event-seen, first-of, in-force, kept-seen, load-seen}
 
 pub zero-is : (n : ℕ) → (n == 0) ≡ true → n ≡ 0

@@ -1,28 +1,26 @@
 -- The bytes in each entry of the swap list spell the image of its class for its marks.
-use Rattle.std.proofs.Common.{◌≡◌, ℕ, zero, suc, ◌+◌, Bool, true, false, not, ◌&&◌, ◌||◌, ◌==◌, List, [], ◌∷◌, ◌++◌, length, map, Option, Some, None, slice_get, if◌then◌else◌, refl, sym, ap, ap₂, subst, ◌∙◌, arith}
+use Rattle.std.proofs.Common.{◌≡◌, ℕ, ◌+◌, Bool, true, false, not, ◌&&◌, ◌==◌, List, [], ◌∷◌, ◌++◌, length, map, Option, Some, if◌then◌else◌, refl, sym, ap, subst, ◌∙◌}
 use Rattle.std.specs.Prelude.{filter, unwrap_or, Ok}
-use Rattle.std.specs.List.{AllByRecursion, enumerate_from, list_any}
+use Rattle.std.specs.List.{AllByRecursion}
 use Rattle.std.proofs.lemmas.Bool.{and_parts, eqb-true}
 use Rattle.const_pool.specs.declared.class.ClassFile.{ClassFile}
-use Rattle.const_pool.specs.ClassFile.{IsClassFile, Spells, class_bytes}
-use Rattle.jvm_model.specs.declared.event.Mark.{Mark}
+use Rattle.const_pool.specs.ClassFile.{IsClassFile, class_bytes}
 use Rattle.jvm_model.specs.declared.program.MethodPlace.{MethodPlace}
 use Rattle.jvm_model.specs.declared.program.Program.{Program}
-use Rattle.jvm_model.specs.Images.{IsImage}
 use Rattle.jvm_model.specs.Points.{Standing, mark_in}
-use Rattle.jvm_model.specs.Programs.{class_at, no_class, numbered}
+use Rattle.jvm_model.specs.Programs.{class_at, no_class}
 use Rattle.jvm_model.specs.Revealed.{Revealed, revealed_in}
 use Rattle.jvm_model.specs.Swaps.{HasBytes, Point, Swapped, differs, first_number, same_mark, swapped, swapped_at, swaps_from}
 use Rattle.jvm_model.specs.Targets.{operations_of}
 use Rattle.inject_events.specs.declared.image.Image.{Image}
 use Rattle.inject_events.specs.Answers.{IsProfilable, IsReadableClass, MarkedHaveCode}
-use Rattle.inject_events.specs.Rewriting.{image_of, refused_of}
+use Rattle.inject_events.specs.Rewriting.{image_of}
 use Rattle.inject_events.proofs.Formed.{IsClassFile-image}
 use Rattle.inject_events.proofs.Images.{IsImage-answer}
 use Rattle.inject_events.proofs.Profilable.{refused_of-profilable}
-use Rattle.profile_session.specs.Images.{AreImageable, class_in, image_bytes, image_bytes-is, image_for, marks_for}
+use Rattle.profile_session.specs.Images.{AreImageable, class_in, image_bytes, image_bytes-is, marks_for}
 use Rattle.profile_session.specs.Keeping.{swap_of}
-use Rattle.profile_session.specs.Sessions.{AreSwapsOf, IsSwapOf}
+use Rattle.profile_session.specs.Sessions.{AreSwapsOf}
 use Rattle.profile_session.proofs.Imaging.{all-at, marks-coded, marks-count}
 use Rattle.profile_session.proofs.MethodPlaces.{class-of}
 use Rattle.profile_session.proofs.SwappedClasses.{pair-with}

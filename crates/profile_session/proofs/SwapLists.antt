@@ -36,9 +36,8 @@ use Rattle.jvm_model.specs.Suited.{Suits, AreSuited, StaySuited}
 use Rattle.context_tree.specs.Counts.{opens}
 use Rattle.jvm_model.specs.Points.{Standing, acts_at, acts_behind, after_act, after_acts, chosen, marking_of, settled, standing_in, standing_in-zero, standing_in-suc, after_change, after_changes, is_profiled, nothing, with_entered}
 use Rattle.context_tree.specs.Seen.{Matches, Seen, open_of, seen_act, seen_end, seen_event}
-use Rattle.jvm_model.specs.Swaps.{Point, Swapped, act_points, points_before, points_in, points_in-zero, points_in-suc, step_points, change_point, change_points, point, differs, last_standing, swapped_at, swaps_from}
+use Rattle.jvm_model.specs.Swaps.{Point, Swapped, act_points, points_before, points_in, points_in-zero, points_in-suc, step_points, change_point, change_points, point, last_standing, swapped_at, swaps_from}
 use Rattle.jvm_model.specs.Targets.{operations_of}
-use Rattle.profile_session.specs.declared.swap.Swap.{Swap}
 use Rattle.jvm_model.specs.Revealed.{Revealed, changed_of, revealed_in}
 use Rattle.profile_session.specs.Images.{marks_for}
 use Rattle.profile_session.specs.Keeping.{Kept, at_point, first_kept, is_idle, kept_act, kept_acts, kept_before, kept_by-zero, kept_by-suc, kept_end, kept_event, kept_load, kept_told, revealed, swap_of, swapped_now}

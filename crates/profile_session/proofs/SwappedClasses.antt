@@ -1,5 +1,5 @@
 -- Where each class whose marks have changed is swapped, all methods have the marks of now.
-use Rattle.std.proofs.Common.{◌≡◌, ℕ, zero, suc, ◌+◌, Bool, true, false, not, ◌&&◌, ◌||◌, ◌==◌, List, [], ◌∷◌, ◌++◌, map, Option, Some, None, slice_get, if◌then◌else◌, refl, sym, ap, ap₂, subst, ◌∙◌, ◌<◌, ◌≤◌, length, drop, get_or, append_assoc, arith, add-one, zero-add}
+use Rattle.std.proofs.Common.{◌≡◌, ℕ, zero, suc, ◌+◌, Bool, true, false, not, ◌&&◌, ◌||◌, ◌==◌, List, [], ◌∷◌, ◌++◌, map, Some, None, slice_get, if◌then◌else◌, refl, sym, ap, ap₂, subst, ◌∙◌, ◌<◌, ◌≤◌, length, drop, get_or, append_assoc, arith, add-one, zero-add}
 use Rattle.std.specs.Prelude.{filter}
 use Rattle.std.specs.List.{list_any, enumerate_from}
 use Rattle.std.specs.Option.{option_map_or}
@@ -25,7 +25,7 @@ use Rattle.profile_session.specs.declared.swap.Swap.{Swap}
 use Rattle.profile_session.specs.Images.{class_in, marks_for}
 use Rattle.profile_session.specs.Keeping.{swap_now, swapped_now}
 use Rattle.profile_session.specs.Parts.{changed_from, differs_from}
-use Rattle.profile_session.specs.Swapping.{AreKnown, HasSwapped, mark_at_position, with_classes}
+use Rattle.profile_session.specs.Swapping.{AreKnown, HasSwapped, with_classes}
 use Rattle.profile_session.proofs.MethodPlaces.{class-of, number-back, within-class}
 
 -- ---- lists over numbered places

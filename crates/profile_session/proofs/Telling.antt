@@ -1,7 +1,6 @@
 -- Events go to the buffer, and from there to the tree.
-use Rattle.std.proofs.Common.{◌≡◌, ℕ, suc, Bool, true, false, if◌then◌else◌, ◌+◌, ◌-◌, ◌≤◌, ◌<◌, List, [], ◌∷◌, ◌++◌, length, Option, Some, None, slice_get, refl, sym, ap, ap₂, subst, ◌∙◌, arith, append_assoc}
+use Rattle.std.proofs.Common.{◌≡◌, ℕ, Bool, true, false, if◌then◌else◌, ◌+◌, ◌-◌, ◌≤◌, ◌<◌, List, [], ◌∷◌, ◌++◌, length, Some, None, slice_get, refl, sym, ap, ap₂, subst, ◌∙◌, arith}
 use Rattle.std.specs.Prelude.{fold, ◌^◌}
-use Rattle.std.proofs.lemmas.List.{append-nil}
 use Rattle.jvm_model.specs.declared.event.Event.{Event}
 use Rattle.jvm_model.specs.declared.event.EventKind.{EventKind}
 use Rattle.jvm_model.specs.declared.event.EventKind.TheVariants.{Root, Enter, Leave, Unwind}
@@ -13,7 +12,7 @@ use Rattle.jvm_model.proofs.TracesEntries.{entries-append}
 use Rattle.context_tree.specs.Counts.{AreInOrder, path_after}
 use Rattle.context_tree.specs.Profiles.{Profile, calls_of, credited, opened, taken, told}
 use Rattle.context_tree.proofs.EventCalls.{calls_of-taken}
-use Rattle.event_buffer.specs.Buffers.{Held, clock_behind, last_clock, pushed, rest_of}
+use Rattle.event_buffer.specs.Buffers.{Held, last_clock, pushed, rest_of}
 use Rattle.profile_session.specs.declared.parts.Parts.{Parts}
 use Rattle.call_revelation.specs.Reveals.{IsRevelation}
 use Rattle.profile_session.specs.Images.{AreImageable}

@@ -1,10 +1,9 @@
 -- What stands behind each turn, once the session has done what it asks.
-use Rattle.std.proofs.Common.{◌≡◌, ℕ, zero, suc, ◌+◌, ◌<◌, ◌≤◌, Bool, true, false, ◌&&◌, List, [], ◌∷◌, ◌++◌, length, Option, Some, None, is_some, if◌then◌else◌, refl, sym, ap, ap₂, subst, ◌∙◌, arith, add-one}
+use Rattle.std.proofs.Common.{◌≡◌, ℕ, suc, ◌+◌, ◌<◌, ◌≤◌, Bool, true, false, List, [], ◌∷◌, ◌++◌, length, Some, if◌then◌else◌, refl, sym, ap, ap₂, subst, ◌∙◌, arith}
 use Rattle.std.proofs.lemmas.List.{append-nil}
 use Rattle.jvm_model.specs.declared.due.Due.TheVariants.{Nothing}
 use Rattle.jvm_model.specs.declared.event.Act.{Act}
 use Rattle.jvm_model.specs.declared.event.Event.{Event}
-use Rattle.jvm_model.specs.declared.event.Mark.{Mark}
 use Rattle.jvm_model.specs.declared.program.Program.{Program}
 use Rattle.jvm_model.specs.declared.state.State.{State}
 use Rattle.jvm_model.specs.Calls.{AreFrom}
@@ -23,10 +22,10 @@ use Rattle.context_tree.specs.Counts.{opens}
 use Rattle.context_tree.specs.Seen.{Seen, seen_event}
 use Rattle.jvm_machine.specs.declared.turn.Turn.{Turn}
 use Rattle.jvm_machine.specs.declared.turn.Turn.TheVariants.{Settled, Loaded, Probe, Ended, Broken, NoMemory}
-use Rattle.jvm_machine.specs.Turns.{Ends, Tells, TellsLoads, Turns, after_last}
-use Rattle.jvm_machine.specs.View.{View, IsGoingOn, has_ended, run_state, world, advanced, begun, is_resting, loads_next, next_stop, next_event, stopped, rested, to_come, events_left}
+use Rattle.jvm_machine.specs.Turns.{Tells, TellsLoads, Turns, after_last}
+use Rattle.jvm_machine.specs.View.{View, IsGoingOn, run_state, world, advanced, begun, is_resting, loads_next, next_stop, next_event, stopped, rested, to_come, events_left}
 use Rattle.profile_session.specs.Keeping.{Kept, at_point, kept_end, kept_event, kept_load, marks_seen}
-use Rattle.profile_session.specs.Standing.{AtRest, InStep, Stands, rests, within, next_step}
+use Rattle.profile_session.specs.Standing.{AtRest, InStep, Stands, rests, within}
 use Rattle.profile_session.specs.Turned.{events_in, is_telling, kept_turned}
 use Rattle.profile_session.proofs.Begun.{AllBegin, called-begin, drop-begin, from-stop}
 use Rattle.profile_session.proofs.Joins.{load-seen}

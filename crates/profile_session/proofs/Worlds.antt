@@ -1,6 +1,5 @@
 -- No turn of a machine changes its program or its input.
 use Rattle.std.proofs.Common.{◌≡◌, ℕ, Bool, true, false, ◌&&◌, if◌then◌else◌, refl, ap, ◌∙◌}
-use Rattle.jvm_model.specs.Data.{World}
 use Rattle.jvm_machine.specs.declared.turn.Turn.{Turn}
 use Rattle.jvm_machine.specs.declared.turn.Turn.TheVariants.{Settled, Loaded, Probe, Ended, Broken, NoMemory}
 use Rattle.jvm_machine.specs.Several.{Passes, RunsOn, none, more}

@@ -5,14 +5,15 @@ use Rattle.profile_session.specs.declared.answer.ActError.{ActError}
 use Rattle.profile_session.specs.declared.answer.ActError.TheVariants as act
 use Rattle.profile_session.specs.declared.answer.Run.{Run}
 use Rattle.profile_session.specs.declared.answer.Run.TheVariants as run
-use Rattle.profile_session.specs.Sessions.{Profiling, is_over, is_selected_in, with_act, world_of}
+use Rattle.profile_session.specs.Sessions.{LiveRunOn, Profiling, is_over, is_selected_in, with_act, world_of}
 
--- Some steps further, each of which was made while the run went on.
+-- Some steps further, each of which was made while the run went on; what is live runs the version in which it began.
 pub record Onward (old : Profiling) (steps : ℕ) (new : Profiling) : Type 0 where
-  pub same : new ≡ record old { started = true; clock = new.clock; gathered = false }
+  pub same : new ≡ record old { started = true; clock = new.clock; gathered = false; live = new.live }
   pub later : old.clock ≤ new.clock
   pub within : new.clock ≤ old.clock + steps
   pub first : (m : ℕ) → m < new.clock → is_some (ending_of (world_of old) m) ≡ false
+  pub live : LiveRunOn new
 
 -- all steps were made and no ending stands
 pub record IsStill (old : Profiling) (steps : ℕ) (new : Profiling) : Type 0 where
@@ -57,12 +58,13 @@ run_by false = run.Still
 
 -- ---- actions
 
--- accepted: no ending stands, the method was not selected, or was, and the action is the last one now
+-- accepted: no ending stands, the method was not selected, or was, and the action is the last one now; its swaps move nothing that is live
 pub record Accepts (old : Profiling) (select : Bool) (method : ℕ) (new : Profiling) : Type 0 where
   pub whole : old.broken ≡ false
   pub going : is_over old ≡ false
   pub other : is_selected_in old method ≡ not select
   pub same : new ≡ with_act select method old
+  pub live : LiveRunOn new
 
 pub record IsOver (old new : Profiling) : Type 0 where
   pub whole : old.broken ≡ false

@@ -5,22 +5,24 @@ use Rattle.jvm_model.specs.declared.event.Mark.{Mark}
 use Rattle.jvm_model.specs.declared.ending.Ending.{Ending}
 use Rattle.jvm_model.specs.declared.program.Program.{Program}
 use Rattle.jvm_model.specs.declared.state.State.{State}
+use Rattle.jvm_model.specs.Activations.{trace_before}
 use Rattle.jvm_model.specs.Data.{World}
 use Rattle.jvm_model.specs.Load.{is_among}
 use Rattle.jvm_model.specs.Originals.{original}
-use Rattle.jvm_model.specs.Points.{Standing, mark_in, nothing, standing_in}
+use Rattle.jvm_model.specs.Points.{Standing, mark_in, marking_of, nothing, standing_in}
 use Rattle.jvm_model.specs.Projection.{projection}
 use Rattle.jvm_model.specs.Run.{before, run}
 use Rattle.jvm_model.specs.Swaps.{HasBytes, Swapped, points_before, swaps_from}
 use Rattle.jvm_model.specs.Targets.{operations_of}
+use Rattle.jvm_model.specs.Told.{Held, held_in}
 use Rattle.context_tree.specs.Profiles.{Profile}
 use Rattle.profile_session.specs.declared.parts.Parts.{Parts}
 use Rattle.profile_session.specs.declared.swap.Swap.{Swap}
 use Rattle.profile_session.specs.Keeping.{swap_of}
 use Rattle.profile_session.specs.Parts.{Rests}
 
--- Its program and input; the accepted actions, each with its moment; whether it was advanced; whether memory has run out; the number of steps; and
--- whether its tree was gathered behind all of them.
+-- Its program and input; the accepted actions, each with its moment; whether it was advanced; whether memory has run out; the number of steps;
+-- whether its tree was gathered behind all of them; and the live activations of its machine, each with the mark of the version that it runs.
 pub record Profiling : Type 0 where
   pub program : Program
   pub input : List ℕ
@@ -29,6 +31,7 @@ pub record Profiling : Type 0 where
   pub broken : Bool
   pub clock : ℕ
   pub gathered : Bool
+  pub live : List Held
 
 -- a new one
 abbrev pub profiling_of : Program → List ℕ → Profiling
@@ -40,6 +43,7 @@ profiling_of program input = record {
   broken = false;
   clock = 0;
   gathered = false;
+  live = [];
 }
 
 abbrev pub world_of : Profiling → World
@@ -64,6 +68,11 @@ step_of v = if v.started then v.clock + 1 else 0
 -- what stands at the last point so far
 abbrev pub standing_of : Profiling → Standing
 standing_of v = standing_in v.acts (world_of v) (original v.program) (step_of v)
+
+-- the last point was quiet: nothing is selected, and nothing is entered any more
+pub record IsQuiet (s : Standing) : Type 0 where
+  pub selected : s.selected ≡ []
+  pub entered : s.entered ≡ []
 
 abbrev pub is_selected_in : Profiling → ℕ → Bool
 is_selected_in v method = is_among method (standing_of v).selected
@@ -90,9 +99,19 @@ AreSwapsOf p [] [] = Unit {0}
 AreSwapsOf p (entry ∷ entries) (swap ∷ swaps) = IsSwapOf p entry swap × AreSwapsOf p entries swaps
 AreSwapsOf p _ _ = ⊥
 
+-- ---- live activations
+
+-- those of the run, the current one first, each with the mark that its method had at the last point before it began
+abbrev pub live_of : Profiling → List Held
+live_of v = held_in (marking_of v.acts (world_of v)) (trace_before (world_of v) (step_of v))
+
+-- So they run on, each in the version in which it began, whatever was swapped since.
+abbrev pub LiveRunOn : Profiling → Type 0
+LiveRunOn v = v.live ≡ live_of v
+
 -- ---- actions
 
--- an action is accepted now
+-- an action is accepted now; what is live stays in its versions
 abbrev pub act_now : Bool → ℕ → Profiling → Act
 act_now select method v = record { moment = v.clock; select = select; method = method }
 
@@ -121,6 +140,7 @@ profiling_in broken gathered x = record {
   broken = broken;
   clock = x.vm.clock;
   gathered = gathered;
+  live = x.vm.live;
 }
 
 -- they rest at a step of the run under the accepted actions

@@ -1,5 +1,5 @@
 -- What holds of a session: between steps, and within one.
-use Rattle.std.specs.Prelude.{◌≡◌, ◌≤◌, ◌<◌, is_some, ℕ, ◌+◌, zero, suc, Bool, true, false, fold, List, [], ◌++◌, if◌then◌else◌}
+use Rattle.std.specs.Prelude.{◌≡◌, ◌≤◌, ◌<◌, is_some, ℕ, ◌+◌, zero, suc, true, false, fold, List, [], ◌++◌, if◌then◌else◌}
 use Rattle.std.specs.List.{AllByRecursion}
 use Rattle.jvm_model.specs.declared.event.Act.{Act}
 use Rattle.jvm_model.specs.declared.event.Event.{Event}

@@ -1,5 +1,5 @@
 -- What a turn of the machine makes of what is kept and told.
-use Rattle.std.specs.Prelude.{ℕ, Bool, true, false, List, [], ◌∷◌, ◌++◌}
+use Rattle.std.specs.Prelude.{ℕ, Bool, true, false, List, [], ◌∷◌}
 use Rattle.jvm_model.specs.declared.event.Event.{Event}
 use Rattle.jvm_model.specs.declared.program.Program.{Program}
 use Rattle.jvm_machine.specs.declared.turn.Turn.{Turn}

@@ -31,7 +31,8 @@ pub fn begin(alloc: Global, vm: Box<Vm>) -> Result<Parts, NoMemory>
     requires fresh { vm.value ≡ made vm.value.program vm.value.input }
     requires profilable { CanBeProfiled vm.value.program }
     ensures stands { IfOk result Stands }
-    ensures seen { IfOk result (λ x. profiling_in false false x ≡ profiling_of vm.value.program vm.value.input) }
+    ensures seen { IfOk result (λ x. profiling_in false false x
+        ≡ profiling_of vm.value.program vm.value.input) }
 {
     let buffer = Events::new(alloc, 65536)?;
     let reveal = reveal_first(alloc, &vm)?;

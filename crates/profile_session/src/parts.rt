@@ -120,7 +120,8 @@ impl Parts {
         requires shown { AreShown self.old }
         requires loadable { CanLoad self.old }
         ensures { let now = with_loaded (loaded_in self.old) (revealed_in self.old) in
-            MatchResult result (λ ok. IsPoint self.old now self.new) (λ e. IsSameRun self.old self.new) }
+            MatchResult result (λ ok. IsPoint self.old now self.new)
+            (λ e. IsSameRun self.old self.new) }
     {
         self.reveal.loaded(self.alloc, self.vm.linker())?;
         self.show()?;
@@ -147,7 +148,8 @@ impl Parts {
         requires loaded { self.old.reveal.lineage.loaded ≡ loaded_in self.old }
         requires class { has_class self.old.vm.program self.old.reveal.lineage.loaded method ≡ true }
         ensures { let now = with_method_entered method (revealed_in self.old) in
-            MatchResult result (λ ok. IsPoint self.old now self.new) (λ e. IsSameRun self.old self.new) }
+            MatchResult result (λ ok. IsPoint self.old now self.new)
+            (λ e. IsSameRun self.old self.new) }
     {
         self.reveal.entered(self.alloc, self.vm.linker(), method)?;
         self.show()?;
@@ -159,7 +161,8 @@ impl Parts {
         requires fit { AreFit self.old }
         requires shown { AreShown self.old }
         ensures { let now = with_none_entered (revealed_in self.old) in
-            MatchResult result (λ ok. IsPoint self.old now self.new) (λ e. IsSameRun self.old self.new) }
+            MatchResult result (λ ok. IsPoint self.old now self.new)
+            (λ e. IsSameRun self.old self.new) }
     {
         self.reveal.quiet()?;
         self.show()?;

@@ -5,9 +5,10 @@ ghost use Rattle.jvm_machine.specs.View.{made};
 ghost use Rattle.profile_session.specs.Answers.{Accepts, Advances, Gathers, LendsNoTree};
 ghost use Rattle.profile_session.specs.Answers.{RefusesAct, RefusesTree, refusal_of, run_by};
 ghost use Rattle.profile_session.specs.Beginning.{CanBeProfiled};
-ghost use Rattle.profile_session.specs.Sessions.{AreSwapsOf, CanActNow, IsTreeOf, ending_in};
+ghost use Rattle.profile_session.specs.Sessions.{AreSwapsOf, CanActNow, IsQuiet, IsTreeOf, ending_in};
 ghost use Rattle.profile_session.specs.Sessions.{entries_of, is_over, is_selected_in};
-ghost use Rattle.profile_session.specs.Sessions.{mark_in_session, profiling_of, run_of, swaps_of};
+ghost use Rattle.profile_session.specs.Sessions.{mark_in_session, profiling_of, run_of, standing_of, swaps_of};
+ghost use Rattle.jvm_model.specs.declared.event.Mark.TheVariants as Mark;
 
 use crate::answer::{ActError, Run, Shown};
 use crate::beginning::begin;
@@ -21,7 +22,8 @@ use std::marker::Model;
 
 /// A program that is run and profiled. A clause sees its program and input, the accepted actions with their moments, whether it was
 /// advanced, and the number of steps: the state of the run, what is marked, the swap list and the tree follow from these, since its
-/// machine stands for the run. It sees too whether the tree was gathered behind the last of its steps and actions.
+/// machine stands for the run. It sees too whether the tree was gathered behind the last of its steps and actions, and the live
+/// activations of the machine, each with the mark of the version that it runs.
 #[derive(Drop)]
 pub struct Session {
     parts: Parts,
@@ -116,9 +118,12 @@ impl Session {
         self.parts.swaps.as_slice()
     }
 
-    /// The mark of a method at the last point so far. Of a method whose class is not loaded it is Off.
+    /// The mark of a method at the last point so far. Of a method whose class is not loaded it is Off, and of each where that point was
+    /// quiet: behind it all methods begin in their originals.
     pub fn mark(&self, method: u32) -> Mark
-        ensures { self.now.broken ≡ false → result ≡ mark_in_session self.now method }
+        ensures last { self.now.broken ≡ false → result ≡ mark_in_session self.now method }
+        ensures quiet { self.now.broken ≡ false → IsQuiet (standing_of self.now)
+            → result ≡ Mark.Off }
     {
         let _whole = self.broken;
         self.parts.reveal.mark(method)
@@ -140,6 +145,7 @@ impl Session {
     }
 
     /// Makes so many steps, or those up to the one in which the run ends. The first advance makes the start too, also with no steps.
+    /// What is live runs on in the version in which it began, whatever is swapped on the way.
     pub fn advance(&mut self, steps: u64) -> Run
         requires { self.old.broken ≡ false → self.old.clock + steps ≤ 1000000000000 }
         ensures { Advances self.old steps result self.new }

@@ -11,3 +11,5 @@ mod programs;
 mod rows;
 
 pub use generator::generate;
+pub use names::class_text;
+pub use rows::{Choices, ClassName, ClassRow, Instruction, MemberName, MethodRow};

@@ -19,7 +19,7 @@ pub(crate) fn text_of(alloc: Global, text: &str) -> Result<Text16, NoMemory>
 }
 
 /// The name of a class, with slashes.
-pub(crate) fn class_text(alloc: Global, name: ClassName) -> Result<Text16, NoMemory>
+pub fn class_text(alloc: Global, name: ClassName) -> Result<Text16, NoMemory>
     ensures { IfOk result (λ text. text ≡ class_text name) }
 {
     match name {

@@ -4,7 +4,7 @@ use jf_bytes::Seq;
 
 /// A class that a generated program names.
 #[derive(Clone, Copy, Debug, PartialEq, Eq)]
-pub(crate) enum ClassName {
+pub enum ClassName {
     /// java/lang/Object.
     Object,
     /// java/lang/System.
@@ -19,7 +19,7 @@ pub(crate) enum ClassName {
 
 /// A member with its descriptor.
 #[derive(Clone, Copy, Debug, PartialEq, Eq)]
-pub(crate) enum MemberName {
+pub enum MemberName {
     /// A constructor without parameters.
     Initializer,
     /// The method that a run begins with.
@@ -34,40 +34,44 @@ pub(crate) enum MemberName {
 
 /// An instruction (6.5). The first number is its opcode.
 #[derive(Clone, Copy, Debug, PartialEq, Eq)]
-pub(crate) enum Instruction {
+pub enum Instruction {
     /// It has no operand.
     Plain(u8),
+    /// Behind it stands a byte.
     Byte(u8, u8),
+    /// Behind it stands a number of two bytes.
     Short(u8, u16),
+    /// Behind it stands the index of a class.
     OfClass(u8, ClassName),
+    /// Behind it stands the index of a member of a class.
     OfMember(u8, ClassName, MemberName),
 }
 
 /// A method with its code.
 #[derive(Debug, Drop)]
-pub(crate) struct MethodRow {
-    pub(crate) access: u16,
-    pub(crate) name: MemberName,
-    pub(crate) max_stack: u16,
-    pub(crate) max_locals: u16,
-    pub(crate) code: Seq<Instruction>,
+pub struct MethodRow {
+    pub access: u16,
+    pub name: MemberName,
+    pub max_stack: u16,
+    pub max_locals: u16,
+    pub code: Seq<Instruction>,
 }
 
 /// A class.
 #[derive(Debug, Drop)]
-pub(crate) struct ClassRow {
-    pub(crate) name: ClassName,
-    pub(crate) superclass: ClassName,
-    pub(crate) methods: Seq<MethodRow>,
+pub struct ClassRow {
+    pub name: ClassName,
+    pub superclass: ClassName,
+    pub methods: Seq<MethodRow>,
 }
 
 /// What the draws decide of a class: above which it stands, of which class it makes the left and the right object, and what
 /// the left one's argument is multiplied by and added to.
 #[derive(Clone, Copy, Debug, PartialEq, Eq)]
-pub(crate) struct Choices {
-    pub(crate) superclass: ClassName,
-    pub(crate) left: u32,
-    pub(crate) factor: u16,
-    pub(crate) addend: u16,
-    pub(crate) right: u32,
+pub struct Choices {
+    pub superclass: ClassName,
+    pub left: u32,
+    pub factor: u16,
+    pub addend: u16,
+    pub right: u32,
 }

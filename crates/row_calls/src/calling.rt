@@ -14,9 +14,11 @@ pub struct Answer {
     pub status: u8,
     pub output: Vec<u8>,
     pub report: Vec<u8>,
+    pub images: Vec<u8>,
 }
 
-/// How many bytes the output and the report have room for: above those of a tree of a thousand levels.
+/// How many bytes the output, the report and the images have room for: above those of a tree of a
+/// thousand levels.
 const ROOM: usize = 4_194_304;
 
 /// The numbers of the failing calls of an object.
@@ -126,10 +128,12 @@ fn answer_of(alloc: Global, objects: Objects) -> Result<Answer, NoMemory>
     );
     let output = Vec::from_slice(alloc, out.bytes())?;
     let report = Vec::from_slice(alloc, report.bytes())?;
+    let images = Vec::from_slice(alloc, images.bytes())?;
     Ok(Answer {
         status,
         output,
         report,
+        images,
     })
 }
 

@@ -4,7 +4,7 @@ use Rattle.jf_bytes.specs.Streams.{greatest}
 use Rattle.worked_rows.specs.Lines.{lines_in}
 use Rattle.row_calls.specs.declared.calling.Answer.{Answer}
 use Rattle.worked_rows.specs.declared.comparing.Difference.{Difference}
-use Rattle.worked_rows.specs.declared.comparing.Difference.TheVariants.{Status, Output, Report, Lacks}
+use Rattle.worked_rows.specs.declared.comparing.Difference.TheVariants.{Status, Output, Images, Report, Lacks}
 use Rattle.worked_rows.specs.declared.expected.Expected.{Expected}
 use Rattle.worked_rows.specs.declared.expected.ExpectedReport.{ExpectedReport}
 use Rattle.worked_rows.specs.declared.expected.ExpectedReport.TheVariants.{Whole, Lines}
@@ -38,6 +38,7 @@ abbrev pub TextDiffers : List ℕ → List ℕ → Difference → Type 0
 TextDiffers wanted came (Report line) = (at : ℕ) × IsFirstDifference wanted came at × (line ≡ line_number wanted at)
 TextDiffers wanted came (Status status) = ⊥
 TextDiffers wanted came (Output at) = ⊥
+TextDiffers wanted came (Images at) = ⊥
 TextDiffers wanted came (Lacks line) = ⊥
 
 -- what is told of lines that did not all come: the first that is lacking
@@ -45,6 +46,7 @@ abbrev pub LinesDiffer : List ℕ → List ℕ → Difference → Type 0
 LinesDiffer wanted came (Lacks line) = (lines_found wanted came ≢ length (lines_in wanted)) × (line ≡ min (lines_found wanted came + 1) greatest)
 LinesDiffer wanted came (Status status) = ⊥
 LinesDiffer wanted came (Output at) = ⊥
+LinesDiffer wanted came (Images at) = ⊥
 LinesDiffer wanted came (Report line) = ⊥
 
 -- the report is the whole text, or it has the lines
@@ -65,11 +67,13 @@ status_text status = decimal status ++ codes "\n"
 pub record Agrees (expected : Expected) (answer : Answer) : Type 0 where
   pub status : status_text answer.status ≡ expected.status.items
   pub output : expected.output.items ≡ answer.output.items
+  pub images : expected.images.items ≡ answer.images.items
   pub report : ReportAgrees expected.report answer.report.items
 
 -- what is told where it is not
 abbrev pub Differs : Expected → Answer → Difference → Type 0
 Differs expected answer (Status status) = (status ≡ answer.status) × (status_text status ≢ expected.status.items)
 Differs expected answer (Output at) = IsFirstDifference expected.output.items answer.output.items at
+Differs expected answer (Images at) = IsFirstDifference expected.images.items answer.images.items at
 Differs expected answer (Report line) = ReportDiffers expected.report answer.report.items (Report line)
 Differs expected answer (Lacks line) = ReportDiffers expected.report answer.report.items (Lacks line)

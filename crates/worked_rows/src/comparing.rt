@@ -18,6 +18,9 @@ pub enum Difference {
     /// The offset of the first byte of the output that differs.
     #[error("the output differs at byte {0}")]
     Output(usize),
+    /// The offset of the first byte of the images that differs.
+    #[error("the images differ at byte {0}")]
+    Images(usize),
     /// The number of the first line of the report that differs.
     #[error("the report differs in line {0}")]
     Report(usize),
@@ -114,7 +117,8 @@ fn report_difference(
     }
 }
 
-/// The first of what came that is not what must come: the status, then the output, then the report.
+/// The first of what came that is not what must come: the status, then the output, the images and
+/// the report.
 pub fn compare(
     alloc: Global,
     expected: &Expected,
@@ -130,6 +134,9 @@ pub fn compare(
     }
     if let Some(at) = first_difference(&expected.output, &answer.output) {
         return Ok(Some(Difference::Output(at)));
+    }
+    if let Some(at) = first_difference(&expected.images, &answer.images) {
+        return Ok(Some(Difference::Images(at)));
     }
     report_difference(alloc, &expected.report, &answer.report)
 }

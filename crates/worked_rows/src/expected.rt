@@ -1,7 +1,7 @@
 //! What must come of a row.
 
 ghost use Rattle.std.specs.Prelude.{◌≡◌, IfOk, IfSome};
-ghost use Rattle.worked_rows.specs.Rows.{HasExpected, HasReport};
+ghost use Rattle.worked_rows.specs.Rows.{HasExpected, HasImages, HasReport};
 
 use crate::parts::{RowError, fetch_part};
 use jf_bytes::Files;
@@ -16,13 +16,16 @@ pub enum ExpectedReport {
     Lines(Vec<u8>),
 }
 
-/// What must come of a row: the files `status`, `stdout`, and `report` or else `report_has`.
+/// What must come of a row: the files `status`, `stdout`, `images`, where there is one, and `report`
+/// or else `report_has`.
 #[derive(Drop)]
 pub struct Expected {
     /// The status in decimal digits, and a line feed.
     pub status: Vec<u8>,
     pub output: Vec<u8>,
     pub report: ExpectedReport,
+    /// Without the file nothing must be put.
+    pub images: Vec<u8>,
 }
 
 /// What must come on the report of a row.
@@ -45,6 +48,19 @@ fn read_report<F: Files>(
     }
 }
 
+/// What must be put to the images of a row.
+fn read_images<F: Files>(alloc: Global, row: &str, files: &mut F) -> Result<Vec<u8>, RowError>
+    ensures found { IfOk result (λ images. IfSome (F.contents files.old) (λ told.
+        HasImages told row.now images.items)) }
+    ensures stay { F.contents files.new ≡ F.contents files.old }
+{
+    match fetch_part(alloc, row, "images", files) {
+        Ok(images) => Ok(images),
+        Err(RowError::Missing(_)) => Ok(Vec::new(alloc)),
+        Err(error) => Err(error),
+    }
+}
+
 /// What must come of a row. A row without a status, an output or a report can't be run.
 pub fn read_expected<F: Files>(
     alloc: Global,
@@ -58,9 +74,11 @@ pub fn read_expected<F: Files>(
     let status = fetch_part(alloc, row, "status", files)?;
     let output = fetch_part(alloc, row, "stdout", files)?;
     let report = read_report(alloc, row, files)?;
+    let images = read_images(alloc, row, files)?;
     Ok(Expected {
         status,
         output,
         report,
+        images,
     })
 }

@@ -6,7 +6,7 @@ use Rattle.jfluid_cli.proofs.top.answer_texts.Goals as goal
 
 pub returns-in-Err : goal.returns-in-Err
 returns-in-Err g c = record {
-  answered = answered-words _ _ _ _ _ _ _ _ c.in-Err.refusal c.tell.result c.status.result c.requires.empty
+  answered = answered-words _ _ _ _ _ _ _ _ _ c.in-Err.refusal c.tell.result c.status.result c.requires.empty
       c.in-Err.ensures.refused c.in-Err.ensures.nameless (λ e. absurd (false≢true e)) c.tell.ensures.told
       c.status.ensures c.tell.ensures.line;
 }

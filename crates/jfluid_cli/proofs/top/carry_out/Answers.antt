@@ -14,7 +14,8 @@ use Rattle.jfluid_cli.proofs.top.carry_out.Goals as goal
 pub returns-in-Err : goal.returns-in-Err
 returns-in-Err g c = record {
   carried = λ list read. carried-refused _ (read_in c.args.words.now) c.in-Err.refusal read c.requires.empty
-      (record { taken = refl; faults = refl }) (record { taken = refl; faults = refl }) refl
+      (record { taken = refl; faults = refl }) (record { taken = refl; faults = refl })
+      (record { taken = refl; faults = refl }) refl
       (c.in-Err.ensures.early _ read refl) c.in-Err.ensures.cause;
 }
 
@@ -24,7 +25,7 @@ returns-in-Err-take g c =
     record {
       carried = λ list read. carried-input _ c.in-Err-take.refusal c.requires.empty
           (record { taken = refl; faults = refl }) (record { taken = refl; faults = refl })
-          (c.in-Ok.ensures.calm refl)
+          (record { taken = refl; faults = refl }) (c.in-Ok.ensures.calm refl)
           (of-program _ l.plan l.budget l.contents l.program (c.in-Ok.ensures.ok _ read refl))
           c.in-Err-take.ensures.refused;
     }
@@ -32,7 +33,8 @@ returns-in-Err-take g c =
 pub returns-in_default : goal.returns-in_default
 returns-in_default g c = record {
   carried = λ list read. carried-memory _ c.requires.empty
-      (record { taken = refl; faults = refl }) (record { taken = refl; faults = refl });
+      (record { taken = refl; faults = refl }) (record { taken = refl; faults = refl })
+      (record { taken = refl; faults = refl });
 }
 
 pub run_made-requires-clause-acts : goal.run_made-requires-clause-acts
@@ -50,7 +52,8 @@ returns g c =
             told = g.F.Files.contents c.args.files.now;
             left = g.I.Source.left c.args.input.now;
           } in
-          carried-run _ l.budget made c.run_made.result
+          carried-run _ c.is_some-summary.result l.budget made c.run_made.result (read_in c.args.words.now) read
+          c.is_some-summary.ensures
           (record {
             program = l.program;
             prepared = subst (λ (p : Plan). IsPrepared given p l.budget made.classes l.program)
@@ -64,6 +67,7 @@ returns g c =
                 (sym c.in-Ok-make.ensures.input) c.in-Ok-take.ensures.short;
             ended = c.in-Ok-take.ensures.ended refl;
           })
-          c.run_made.ensures.same c.run_made.ensures.run c.run_made.ensures.front
+          c.run_made.ensures.same c.run_made.ensures.run c.run_made.ensures.front c.run_made.ensures.images
+          c.run_made.ensures.unasked
           (c.in-Ok.ensures.calm refl) (c.in-Ok-take.ensures.calm refl));
     }

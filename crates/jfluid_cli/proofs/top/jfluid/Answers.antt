@@ -39,15 +39,13 @@ answered-given words given contents files files_after input input_after streams 
 
 pub returns-in-Err : goal.returns-in-Err
 returns-in-Err g c = record {
-  answered = answered-words c.args.words _ _ _ _ _ _ _ NoMemory c.tell.result c.status.result refl
+  answered = answered-words c.args.words _ _ _ _ _ _ _ _ NoMemory c.tell.result c.status.result refl
       tt (λ a b xs ys. refl) (λ e. of-memory c.tell.result c.tell.ensures.told) c.tell.ensures.told
       c.status.ensures c.tell.ensures.line;
-  images_stay = refl;
 }
 
 pub returns : goal.returns
 returns g c = record {
   answered = answered-given _ _ _ _ _ _ _ _ _ _ (ap Ok c.as_slice.ensures ∙ sym c.in-Ok.is)
       c.answer_words.ensures.answered;
-  images_stay = refl;
 }

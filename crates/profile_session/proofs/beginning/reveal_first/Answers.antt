@@ -1,4 +1,4 @@
-use Rattle.std.proofs.Common.{◌≡◌, ◌<◌, ap, sym, subst, ◌∙◌, arith, length}
+use Rattle.std.proofs.Common.{◌≡◌, ap, sym, subst, ◌∙◌, arith, length}
 use Rattle.std.specs.List.{AllByRecursion}
 use Rattle.jvm_model.specs.Programs.{numbered}
 use Rattle.jvm_model.specs.Sound.{IsFit}

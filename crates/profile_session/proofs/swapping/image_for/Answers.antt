@@ -1,4 +1,4 @@
-use Rattle.std.proofs.Common.{◌≡◌, sym, ◌∙◌, refl}
+use Rattle.std.proofs.Common.{sym}
 use Rattle.profile_session.proofs.Imaging.{imaged}
 use Rattle.profile_session.proofs.swapping.image_for.Goals as goal
 

@@ -1,7 +1,7 @@
-use Rattle.std.proofs.Common.{◌≡◌, ◌≤◌, sym, ap, subst, ◌∙◌, refl, length}
+use Rattle.std.proofs.Common.{◌≤◌, sym, ap, subst, ◌∙◌, refl, length}
 use Rattle.inject_events.specs.Answers.{MarkedHaveCode}
 use Rattle.call_revelation.specs.Reveals.{now_of}
-use Rattle.profile_session.specs.Images.{class_in, marks_for}
+use Rattle.profile_session.specs.Images.{class_in}
 use Rattle.profile_session.specs.Swapping.{IsImaged}
 use Rattle.profile_session.proofs.Imaging.{few-methods, made-by, marks-are, marks-coded, marks-count}
 use Rattle.profile_session.proofs.swapping.make.Goals as goal

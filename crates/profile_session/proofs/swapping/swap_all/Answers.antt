@@ -1,4 +1,4 @@
-use Rattle.std.proofs.Common.{◌≡◌, sym, ap, subst, ◌∙◌, refl}
+use Rattle.std.proofs.Common.{sym, subst, refl}
 use Rattle.jvm_model.specs.declared.program.Program.{Program}
 use Rattle.call_revelation.specs.Reveals.{IsRevelation, now_of}
 use Rattle.profile_session.specs.Images.{AreImageable}

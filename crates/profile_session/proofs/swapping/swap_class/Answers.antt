@@ -1,11 +1,11 @@
-use Rattle.std.proofs.Common.{◌≡◌, sym, ap, ap₂, subst, ◌∙◌, refl, List}
+use Rattle.std.proofs.Common.{sym, ap, subst, ◌∙◌, List}
 use Rattle.jvm_model.specs.declared.event.Mark.{Mark}
 use Rattle.jvm_model.specs.declared.program.Program.{Program}
 use Rattle.call_revelation.specs.Reveals.{IsRevelation, now_of}
 use Rattle.jvm_machine.specs.Installs.{with_class}
 use Rattle.hotswap.specs.Redefining.{IsRefused, SpellsImage}
 use Rattle.profile_session.specs.Swapping.{IsMade}
-use Rattle.profile_session.specs.Images.{AreImageable, marks_for}
+use Rattle.profile_session.specs.Images.{AreImageable}
 use Rattle.profile_session.proofs.Imaging.{redefined, taken-as}
 use Rattle.profile_session.proofs.swapping.swap_class.Goals as goal
 

@@ -1,4 +1,3 @@
-use Rattle.std.proofs.Common.{sym, subst, ap, ◌∙◌}
 use Rattle.context_tree.specs.Seen.{seen_act}
 use Rattle.profile_session.specs.Keeping.{revealed}
 use Rattle.profile_session.specs.Parts.{kept_in}

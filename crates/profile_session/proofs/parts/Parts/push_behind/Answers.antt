@@ -1,4 +1,4 @@
-use Rattle.std.proofs.Common.{arith, sym, ap, ◌∙◌}
+use Rattle.std.proofs.Common.{arith, ap}
 use Rattle.profile_session.specs.declared.parts.Parts.{Parts}
 use Rattle.profile_session.proofs.Telling.{pushed-behind}
 use Rattle.profile_session.proofs.parts.Parts.push_behind.Goals as goal

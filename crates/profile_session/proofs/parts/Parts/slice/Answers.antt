@@ -1,4 +1,4 @@
-use Rattle.std.proofs.Common.{sym, subst, true, false}
+use Rattle.std.proofs.Common.{subst, true, false}
 use Rattle.profile_session.specs.Advances.{Ran}
 use Rattle.jvm_machine.specs.declared.turn.Turn.TheVariants.{Loaded, Probe, Settled, Ended}
 use Rattle.profile_session.proofs.Slices.{sliced-below, sliced-done, sliced-finish}

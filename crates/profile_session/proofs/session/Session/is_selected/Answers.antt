@@ -1,4 +1,4 @@
-use Rattle.std.proofs.Common.{sym, ap, ◌∙◌}
+use Rattle.std.proofs.Common.{ap, ◌∙◌}
 use Rattle.profile_session.specs.Sessions.{Profiling, is_selected_in}
 use Rattle.profile_session.proofs.Sessions.{selected-is}
 use Rattle.profile_session.proofs.session.Session.is_selected.Goals as goal

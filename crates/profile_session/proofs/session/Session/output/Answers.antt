@@ -1,4 +1,4 @@
-use Rattle.std.proofs.Common.{sym, ap, ◌∙◌}
+use Rattle.std.proofs.Common.{ap, ◌∙◌}
 use Rattle.jvm_model.specs.declared.state.State.{State}
 use Rattle.profile_session.specs.Sessions.{Profiling, run_of}
 use Rattle.profile_session.proofs.Sessions.{run-in}

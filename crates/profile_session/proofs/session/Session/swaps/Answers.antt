@@ -1,4 +1,4 @@
-use Rattle.std.proofs.Common.{sym, ap, ap₂, subst, ◌∙◌}
+use Rattle.std.proofs.Common.{sym, ap, subst, ◌∙◌}
 use Rattle.profile_session.specs.Sessions.{AreSwapsOf, Profiling, entries_of, swaps_of}
 use Rattle.profile_session.proofs.Sessions.{swaps-entries, swaps-of}
 use Rattle.profile_session.proofs.session.Session.swaps.Goals as goal

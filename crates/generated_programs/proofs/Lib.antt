@@ -1,0 +1,16 @@
+pub mod Forms
+pub mod Readings
+pub mod CodeRead
+pub mod FineInstructions
+pub mod MethodCodes
+pub mod FineRows
+pub mod FineMethods
+pub mod FineClasses
+pub mod FewMethods
+pub mod FineNames
+pub mod GeneratedFine
+pub mod GeneratedMain
+pub mod GeneratedAdmitted
+pub mod GeneratedFiles
+pub mod Answered
+pub mod Contents
