@@ -14,3 +14,4 @@ mod Carried
 mod Attempted
 mod ArraysMade
 pub mod Beginning
+pub mod Again

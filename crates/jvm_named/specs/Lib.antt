@@ -11,3 +11,4 @@ pub mod Targets
 pub mod Does
 pub mod Natives
 pub mod Arrays
+pub mod Known

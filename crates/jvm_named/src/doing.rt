@@ -4,6 +4,7 @@ ghost use Rattle.std.specs.Prelude.{◌≡◌, ◌++◌, OnOk};
 ghost use Rattle.jvm_model.specs.Naming.{resolved_name};
 ghost use Rattle.jvm_named.specs.Answers.{Answers, Moves, Shares, wrote_by};
 ghost use Rattle.jvm_named.specs.Attempts.{world_over};
+ghost use Rattle.jvm_named.specs.Known.{IsFoundAs};
 ghost use Rattle.jvm_named.specs.Names.{naming_view};
 ghost use Rattle.jvm_named.specs.Natives.{HasBuiltIn};
 ghost use Rattle.jvm_named.specs.Numbers.{AreNumbers};
@@ -17,6 +18,7 @@ use crate::casts::{cast, tell_instance};
 use crate::class_objects::push_class_object;
 use crate::creation::make_new;
 use crate::fields::{get_field, put_field};
+use crate::known::Found;
 use crate::multi_arrays::make_arrays;
 use crate::naming::Naming;
 use crate::numbers::MethodNumbers;
@@ -28,6 +30,7 @@ use jvm_model::Shared;
 use std::alloc::Global;
 
 /// What the instruction does, with what it names resolved to this kind; of checkcast and instanceof where the operand is not null.
+/// What is found of a member is kept, and taken where it is known.
 #[tactic(auto, using(crate::proofs::Quiet::writes_new, crate::proofs::Quiet::writes_getfield, crate::proofs::Quiet::writes_putfield, crate::proofs::Quiet::writes_getstatic, crate::proofs::Quiet::writes_putstatic, crate::proofs::Quiet::writes_anewarray, crate::proofs::Quiet::writes_arrays, crate::proofs::Quiet::writes_class, crate::proofs::Quiet::shared_getfield, crate::proofs::Quiet::shared_getstatic, crate::proofs::KindLemmas::few_over))]
 pub fn do_resolved(
     alloc: Global,
@@ -39,10 +42,12 @@ pub fn do_resolved(
     output: &mut Seq<u8>,
     naming: &Naming,
     kind: u32,
+    found: &mut Found,
     next: u16,
 ) -> Result<Asked, NoMemory>
     requires linked { linker.now.loaded ≡ shared.old.loaded }
     requires resolved { IsResolved linker.now (resolved_name (naming_view naming.now)) kind }
+    requires found { IsFoundAs found.old linker.now.program kind (naming_view naming.now) }
     requires numbers { AreNumbers linker.now.program numbers.now }
     requires built_in { HasBuiltIn linker.now }
     requires objects { AreLoaded linker.now shared.old.heap }
@@ -57,13 +62,14 @@ pub fn do_resolved(
     ensures output { OnOk result (output.new ≡ output.old ++ wrote_by (does_resolved (world_over
         linker.now input.now) kind (naming_view naming.now) shared.old) frames.old) }
     ensures objects { OnOk result (AreLoaded linker.now shared.new.heap) }
+    ensures found { IsFoundAs found.new linker.now.program kind (naming_view naming.now) }
 {
     match naming {
         Naming::New(_) => make_new(alloc, linker, shared, frames, kind, next),
-        Naming::Getfield(member) => get_field(linker, shared, frames, member, kind, next),
-        Naming::Putfield(member) => put_field(linker, shared, frames, member, kind, next),
-        Naming::Getstatic(member) => get_static(alloc, linker, shared, frames, member, kind, next),
-        Naming::Putstatic(member) => put_static(alloc, linker, shared, frames, member, kind, next),
+        Naming::Getfield(member) => get_field(linker, shared, frames, member, kind, found, next),
+        Naming::Putfield(member) => put_field(linker, shared, frames, member, kind, found, next),
+        Naming::Getstatic(member) => get_static(alloc, linker, shared, frames, member, kind, found, next),
+        Naming::Putstatic(member) => put_static(alloc, linker, shared, frames, member, kind, found, next),
         Naming::Invokevirtual(method) => {
             invoke_virtual(
                 alloc, linker, numbers, shared, frames, input, output, method, kind, next,

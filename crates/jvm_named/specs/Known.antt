@@ -1,0 +1,54 @@
+-- What the names of an instruction came to, as it is kept for its next attempt (JVM Specification 5.4.3). Of all of it only what
+-- is loaded may change, and that only grows; so what is known stays known.
+use Rattle.std.specs.Prelude.{◌≡◌, ℕ, Bool, true, false, Some, Ok}
+use Rattle.const_pool.specs.References.{Reference}
+use Rattle.class_linker.specs.Linkers.{LinkerView}
+use Rattle.jvm_model.specs.declared.program.Program.{Program}
+use Rattle.jvm_model.specs.FieldRules.{slot_of}
+use Rattle.jvm_model.specs.Load.{done, load_of}
+use Rattle.jvm_model.specs.Naming.{Naming, Getfield, Putfield, Getstatic, Putstatic, resolved_name}
+use Rattle.jvm_named.specs.declared.known.Found.{Found}
+use Rattle.jvm_named.specs.declared.known.Found.TheVariants as found
+use Rattle.jvm_named.specs.declared.known.Known.{Known}
+use Rattle.jvm_named.specs.declared.place.Place.{Place}
+use Rattle.jvm_named.specs.Fields.{has_field_at}
+use Rattle.jvm_named.specs.Members.{at_place}
+use Rattle.jvm_named.specs.Objects.{IsResolved}
+use Rattle.jvm_named.specs.Resolved.{field_found}
+
+-- ---- fields
+
+-- an instance field that a name stands for, its slot, and a kind whose objects have it
+pub record IsField (p : Program) (kind : ℕ) (r : Reference) (field : Place) (slot last : ℕ) : Type 0 where
+  pub named : field_found p kind false r ≡ Ok (at_place field)
+  pub stands : slot ≡ slot_of p (at_place field)
+  pub own : has_field_at p (Some last) kind field.class ≡ true
+
+abbrev pub IsFieldOf : Naming → Program → ℕ → Place → ℕ → ℕ → Type 0
+IsFieldOf (Getfield r) p kind field slot last = IsField p kind r field slot last
+IsFieldOf (Putfield r) p kind field slot last = IsField p kind r field slot last
+IsFieldOf n p kind field slot last = Unit {0}
+
+-- a static field that a name stands for
+abbrev pub IsStaticOf : Naming → Program → ℕ → Place → Type 0
+IsStaticOf (Getstatic r) p kind field = field_found p kind true r ≡ Ok (at_place field)
+IsStaticOf (Putstatic r) p kind field = field_found p kind true r ≡ Ok (at_place field)
+IsStaticOf n p kind field = Unit {0}
+
+-- ---- what is known
+
+-- what the member's name came to, where the class's was resolved to this kind: nothing of it is about what is loaded
+abbrev pub IsFoundAs : Found → Program → ℕ → Naming → Type 0
+IsFoundAs found.Nothing p kind n = Unit {0}
+IsFoundAs (found.Field field slot last) p kind n = IsFieldOf n p kind field slot last
+IsFoundAs (found.Static field) p kind n = IsStaticOf n p kind field
+
+-- resolving what the instruction names loads nothing, whether it throws or not
+abbrev pub LoadsNothing : LinkerView → Naming → Type 0
+LoadsNothing l n = (load_of l.program l.loaded (resolved_name n)).loaded ≡ l.loaded
+
+-- the kind that the class's name was resolved to, where resolving it loads nothing, and the member
+pub record IsKnown (l : LinkerView) (n : Naming) (k : Known) : Type 0 where
+  pub resolved : IsResolved l (resolved_name n) k.kind
+  pub loads : load_of l.program l.loaded (resolved_name n) ≡ done l.loaded
+  pub found : IsFoundAs k.found l.program k.kind n
