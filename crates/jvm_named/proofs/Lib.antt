@@ -15,3 +15,4 @@ mod Attempted
 mod ArraysMade
 pub mod Beginning
 pub mod Again
+mod CalleeLemmas

@@ -12,3 +12,4 @@ pub mod Does
 pub mod Natives
 pub mod Arrays
 pub mod Known
+pub mod Callees

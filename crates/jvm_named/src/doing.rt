@@ -72,21 +72,21 @@ pub fn do_resolved(
         Naming::Putstatic(member) => put_static(alloc, linker, shared, frames, member, kind, found, next),
         Naming::Invokevirtual(method) => {
             invoke_virtual(
-                alloc, linker, numbers, shared, frames, input, output, method, kind, next,
+                alloc, linker, numbers, shared, frames, input, output, method, kind, found, next,
             )
         }
         Naming::Invokespecial(caller, method, interface) => invoke_special(
             alloc, linker, numbers, shared, frames, input, output, caller, *interface, method,
-            kind, next,
+            kind, found, next,
         ),
         Naming::Invokestatic(method) => {
             invoke_static(
-                alloc, linker, numbers, shared, frames, input, output, method, kind, next,
+                alloc, linker, numbers, shared, frames, input, output, method, kind, found, next,
             )
         }
         Naming::Invokeinterface(method) => {
             invoke_interface(
-                alloc, linker, numbers, shared, frames, input, output, method, kind, next,
+                alloc, linker, numbers, shared, frames, input, output, method, kind, found, next,
             )
         }
         Naming::Checkcast(name) => Ok(cast(linker, shared, frames, name, kind, next)),

@@ -3,6 +3,29 @@
 
 use crate::place::Place;
 
+/// What is invoked of a method: its code or what is native, each by its number, or what is looked up again.
+#[derive(Clone, Copy, Debug, PartialEq, Eq)]
+pub enum Callee {
+    Code(u32),
+    Native(u16),
+    Other,
+}
+
+/// A method that was found, and what is invoked of it.
+#[derive(Clone, Copy, Debug, PartialEq, Eq)]
+pub struct Chosen {
+    pub place: Place,
+    pub callee: Callee,
+}
+
+/// A method that a name stands for, the kind of the last receiver, and the method that was selected for it.
+#[derive(Clone, Copy, Debug, PartialEq, Eq)]
+pub struct Site {
+    pub method: Place,
+    pub last: u32,
+    pub chosen: Chosen,
+}
+
 /// What a member's name came to, where it was found. It says nothing of which classes are loaded.
 #[derive(Clone, Copy, Debug, PartialEq, Eq)]
 pub enum Found {
@@ -12,6 +35,10 @@ pub enum Found {
     Field(Place, u32, u32),
     /// A static field.
     Static(Place),
+    /// A static method.
+    Fixed(Chosen),
+    /// An instance method.
+    Selected(Site),
 }
 
 /// The kind that the class's name stands for, and what the member's name came to.

@@ -6,6 +6,7 @@
 mod arrays;
 mod asked;
 mod attempting;
+mod callees;
 mod calls;
 mod casts;
 mod class_objects;
@@ -35,7 +36,7 @@ pub use asked::{Asked, Exception, Refusal};
 pub use attempting::{attempt, attempt_known, attempt_loaded, resolved_name};
 pub use constants::set_constants;
 pub use instances::{is_instance, user_count};
-pub use known::{Found, Known};
+pub use known::{Callee, Chosen, Found, Known, Site};
 pub use members::is_static_field;
 pub use naming::{MemberName, MethodName, Naming};
 pub use numbers::MethodNumbers;

@@ -1,0 +1,28 @@
+-- What is invoked of a method that was selected is known by its number.
+use Rattle.std.proofs.Common.{◌≡◌, ℕ, false, List, Option, Some, None, ap, ◌∙◌}
+use Rattle.std.specs.Prelude.{nat_lt, if◌then◌else◌}
+use Rattle.std.specs.Option.{option_map_or}
+use Rattle.heap_objects.specs.declared.datum.Datum.{Datum}
+use Rattle.jvm_model.specs.declared.state.Shared.{Shared}
+use Rattle.jvm_model.specs.Data.{Locals, Operands, World, Invokes, Raises, Breaks}
+use Rattle.jvm_model.specs.InvocationRules.{abstract_method, invokes_number, invokes_selected, reference_to, unsatisfied_link}
+use Rattle.jvm_model.specs.Lookup.{MemberPlace}
+use Rattle.jvm_model.specs.NativeRules.{runs_native, runs_number}
+use Rattle.jvm_model.specs.ObjectRules.{done}
+use Rattle.jvm_model.specs.Programs.{number_of_method}
+use Rattle.jvm_named.specs.Callees.{IsCode, IsNative}
+
+module _ (w : World) (m : MemberPlace) (args : List Datum) (s : Shared) (l : Locals) (below : Operands) where
+  -- a method that has Code
+  pub code-invoked : (n : ℕ) → IsCode w.program m n → invokes_selected w (Some m) args s l below ≡ done s (Invokes n args below)
+  code-invoked n is =
+      ap (λ b. if b then done s (Raises abstract_method None) else invokes_number w m (number_of_method w.program m.class m.position) args s l below) is.concrete
+      ∙ ap (λ o. invokes_number w m o args s l below) is.numbered
+
+  -- a native method of a built-in class, by its number
+  pub native-invoked : (n : ℕ) → IsNative w.program m n → invokes_selected w (Some m) args s l below ≡ runs_number w n args s l below
+  native-invoked n is =
+      ap (λ b. if b then done s (Raises abstract_method None) else invokes_number w m (number_of_method w.program m.class m.position) args s l below) is.concrete
+      ∙ (ap (λ o. invokes_number w m o args s l below) is.codeless
+      ∙ (ap (λ b. if b then done s (Raises unsatisfied_link None) else runs_native w (reference_to w.program m) args s l below) is.built_in
+      ∙ ap (λ o. option_map_or (λ number. runs_number w number args s l below) o (done s (Breaks false))) is.named))
