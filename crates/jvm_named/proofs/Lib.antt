@@ -16,3 +16,4 @@ mod ArraysMade
 pub mod Beginning
 pub mod Again
 mod CalleeLemmas
+mod KnownLemmas

@@ -4,6 +4,7 @@ use Rattle.std.specs.Prelude.{◌≡◌, ℕ, Bool, true, false, Some, Ok}
 use Rattle.const_pool.specs.References.{Reference}
 use Rattle.class_linker.specs.Linkers.{LinkerView}
 use Rattle.jvm_model.specs.declared.program.Program.{Program}
+use Rattle.jvm_model.specs.CreationRules.{has_no_instances, is_text_class}
 use Rattle.jvm_model.specs.FieldRules.{slot_of}
 use Rattle.jvm_model.specs.Load.{done, load_of}
 use Rattle.jvm_model.specs.InvocationRules.{Selecting, Virtual, OfInterface, Special, names_interface, selected_by}
@@ -70,6 +71,13 @@ naming_by Virtual r = Invokevirtual r
 naming_by OfInterface r = Invokeinterface r
 naming_by (Special caller interface) r = Invokespecial caller r interface
 
+-- ---- classes
+
+-- a class of which `new` makes objects, which are texts or not
+pub record IsMade (p : Program) (class : ℕ) (text : Bool) : Type 0 where
+  pub instances : has_no_instances p class ≡ false
+  pub texts : is_text_class p class ≡ text
+
 -- ---- what is known
 
 -- what the member's name came to, where the class's was resolved to this kind: nothing of it is about what is loaded
@@ -79,6 +87,14 @@ IsFoundAs (found.Field field slot last) p kind n = IsFieldOf n p kind field slot
 IsFoundAs (found.Static field) p kind n = IsStaticOf n p kind field
 IsFoundAs (found.Fixed m) p kind n = IsFixedOf n p kind m
 IsFoundAs (found.Selected site) p kind n = IsSiteOf n p kind site
+IsFoundAs (found.Made text) p kind n = IsMade p (class_of_kind p kind) text
+IsFoundAs (found.Below last) p kind n = is_below_kind p (Some last) (Some kind) ≡ true
+
+-- the same where the instruction names no member
+abbrev pub IsClassFound : Found → Program → ℕ → Type 0
+IsClassFound (found.Made text) p kind = IsMade p (class_of_kind p kind) text
+IsClassFound (found.Below last) p kind = is_below_kind p (Some last) (Some kind) ≡ true
+IsClassFound f p kind = Unit {0}
 
 -- resolving what the instruction names loads nothing, whether it throws or not
 abbrev pub LoadsNothing : LinkerView → Naming → Type 0

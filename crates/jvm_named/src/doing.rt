@@ -31,7 +31,7 @@ use std::alloc::Global;
 
 /// What the instruction does, with what it names resolved to this kind; of checkcast and instanceof where the operand is not null.
 /// What is found of a member is kept, and taken where it is known.
-#[tactic(auto, using(crate::proofs::Quiet::writes_new, crate::proofs::Quiet::writes_getfield, crate::proofs::Quiet::writes_putfield, crate::proofs::Quiet::writes_getstatic, crate::proofs::Quiet::writes_putstatic, crate::proofs::Quiet::writes_anewarray, crate::proofs::Quiet::writes_arrays, crate::proofs::Quiet::writes_class, crate::proofs::Quiet::shared_getfield, crate::proofs::Quiet::shared_getstatic, crate::proofs::KindLemmas::few_over))]
+#[tactic(auto, using(crate::proofs::Quiet::writes_new, crate::proofs::Quiet::writes_getfield, crate::proofs::Quiet::writes_putfield, crate::proofs::Quiet::writes_getstatic, crate::proofs::Quiet::writes_putstatic, crate::proofs::Quiet::writes_anewarray, crate::proofs::Quiet::writes_arrays, crate::proofs::Quiet::writes_class, crate::proofs::Quiet::shared_getfield, crate::proofs::Quiet::shared_getstatic, crate::proofs::KindLemmas::few_over, crate::proofs::KnownLemmas::class_found, crate::proofs::KnownLemmas::found_new, crate::proofs::KnownLemmas::found_checkcast, crate::proofs::KnownLemmas::found_instanceof))]
 pub fn do_resolved(
     alloc: Global,
     linker: &Linker,
@@ -65,7 +65,7 @@ pub fn do_resolved(
     ensures found { IsFoundAs found.new linker.now.program kind (naming_view naming.now) }
 {
     match naming {
-        Naming::New(_) => make_new(alloc, linker, shared, frames, kind, next),
+        Naming::New(_) => make_new(alloc, linker, shared, frames, kind, found, next),
         Naming::Getfield(member) => get_field(linker, shared, frames, member, kind, found, next),
         Naming::Putfield(member) => put_field(linker, shared, frames, member, kind, found, next),
         Naming::Getstatic(member) => get_static(alloc, linker, shared, frames, member, kind, found, next),
@@ -89,8 +89,10 @@ pub fn do_resolved(
                 alloc, linker, numbers, shared, frames, input, output, method, kind, found, next,
             )
         }
-        Naming::Checkcast(name) => Ok(cast(linker, shared, frames, name, kind, next)),
-        Naming::Instanceof(name) => Ok(tell_instance(linker, shared, frames, name, kind, next)),
+        Naming::Checkcast(name) => Ok(cast(linker, shared, frames, name, kind, found, next)),
+        Naming::Instanceof(name) => {
+            Ok(tell_instance(linker, shared, frames, name, kind, found, next))
+        }
         Naming::Anewarray(_) => make_array_of(linker, shared, frames, kind, next),
         Naming::Multianewarray(_, dimensions) => {
             make_arrays(alloc, linker, shared, frames, kind, *dimensions, next)

@@ -39,6 +39,10 @@ pub enum Found {
     Fixed(Chosen),
     /// An instance method.
     Selected(Site),
+    /// The class that `new` names has instances; whether they are texts.
+    Made(bool),
+    /// A kind whose objects are of the named one: that of the last object that was.
+    Below(u32),
 }
 
 /// The kind that the class's name stands for, and what the member's name came to.
