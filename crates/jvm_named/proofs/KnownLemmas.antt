@@ -1,10 +1,13 @@
--- What is known of an instruction that names a class and no member.
+-- What is known of an instruction that names a class and no member, and of one that invokes.
 use Rattle.std.proofs.Common.{ℕ, List}
 use Rattle.jvm_model.specs.declared.program.Program.{Program}
+use Rattle.const_pool.specs.References.{Reference}
+use Rattle.jvm_model.specs.InvocationRules.{Selecting, Virtual, OfInterface, Special}
 use Rattle.jvm_model.specs.Naming.{Naming, New, Checkcast, Instanceof}
 use Rattle.jvm_named.specs.declared.known.Found.{Found}
 use Rattle.jvm_named.specs.declared.known.Found.TheVariants as found
-use Rattle.jvm_named.specs.Known.{IsClassFound, IsFoundAs}
+use Rattle.jvm_named.specs.declared.known.Site.{Site}
+use Rattle.jvm_named.specs.Known.{IsClassFound, IsFoundAs, IsSite, IsSiteOf, naming_by}
 
 pub class_found : (f : Found) (p : Program) (kind : ℕ) (n : Naming) → IsFoundAs f p kind n → IsClassFound f p kind
 class_found found.Nothing p kind n is = tt
@@ -42,3 +45,16 @@ module _ (name : List ℕ) (p : Program) (kind : ℕ) where
   found_instanceof (found.Selected site) is = tt
   found_instanceof (found.Made text) is = is
   found_instanceof (found.Below last) is = is
+
+-- ---- invocations, whichever they are
+
+module _ (p : Program) (kind : ℕ) (r : Reference) (site : Site) where
+  pub site_of : (by : Selecting) → IsSite p kind by r site → IsSiteOf (naming_by by r) p kind site
+  site_of Virtual is = is
+  site_of OfInterface is = is
+  site_of (Special caller interface) is = is
+
+  pub of_site : (by : Selecting) → IsSiteOf (naming_by by r) p kind site → IsSite p kind by r site
+  of_site Virtual is = is
+  of_site OfInterface is = is
+  of_site (Special caller interface) is = is

@@ -90,7 +90,7 @@ module _ (w : World) (r : Reference) (s : Shared) (l : Locals) (o : Operands) wh
 
 -- ---- a target that was found
 
-length-data : (count : ℕ) (o : Operands) → count ≤ length o → length (data_in count o) ≡ count
+pub length-data : (count : ℕ) (o : Operands) → count ≤ length o → length (data_in count o) ≡ count
 length-data count o enough =
     let all : length (data_in count o) ≡ length (reverse (take count o)) = length-map (reverse (take count o)) as_datum in
     let back : length (reverse (take count o)) ≡ length (take count o) = length-reverse (take count o) in

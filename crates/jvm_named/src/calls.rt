@@ -196,7 +196,7 @@ fn invoke_instance(
     requires resolved { IsResolved linker.now method.now.class kind }
     requires caller { HasCaller linker.now (selecting_view by) }
     requires found { IsFoundAs found.old linker.now.program kind
-        (naming_by (selecting_view by.entry) method.now) }
+        (naming_by (selecting_view by) method.now) }
     requires numbers { AreNumbers linker.now.program numbers.now }
     requires linked { linker.now.loaded ≡ shared.old.loaded }
     requires built_in { HasBuiltIn linker.now }

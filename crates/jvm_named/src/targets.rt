@@ -249,6 +249,7 @@ fn selected_by(linker: &Linker, by: Selecting<'_>, m: Place, class: u32) -> Opti
 
 /// What is selected for objects of a kind, which is kept.
 #[inline(never)]
+#[tactic(auto, using(crate::proofs::KnownLemmas::site_of))]
 fn select_anew(
     linker: &Linker,
     numbers: &MethodNumbers,
@@ -259,14 +260,14 @@ fn select_anew(
     lower: u32,
     found: &mut Found,
 ) -> Option<Chosen>
-    requires named { method_found linker.now.program kind (names_interface (selecting_view by.entry))
+    requires named { method_found linker.now.program kind (names_interface (selecting_view by))
         false method.now ≡ Ok (at_place m) }
     requires below { is_below_kind linker.now.program (Some lower) (Some kind) ≡ true }
     requires usable { IsUsable linker.now lower }
     requires numbers { AreNumbers linker.now.program numbers.now }
     requires caller { HasCaller linker.now (selecting_view by) }
     requires found { IsFoundAs found.old linker.now.program kind
-        (naming_by (selecting_view by.entry) method.now) }
+        (naming_by (selecting_view by) method.now) }
     ensures chosen { let p = linker.now.program in option_map chosen_place result
         ≡ selected_by p (selecting_view by.entry) (at_place m) (class_of_kind p lower) }
     ensures callee { IfSome result (HasCallee linker.now.program) }
@@ -296,13 +297,13 @@ fn select_again(
     lower: u32,
     found: &mut Found,
 ) -> Option<Chosen>
-    requires site { IsSite linker.now.program kind (selecting_view by.entry) method.now site }
+    requires site { IsSite linker.now.program kind (selecting_view by) method.now site }
     requires below { is_below_kind linker.now.program (Some lower) (Some kind) ≡ true }
     requires usable { IsUsable linker.now lower }
     requires numbers { AreNumbers linker.now.program numbers.now }
     requires caller { HasCaller linker.now (selecting_view by) }
     requires found { IsFoundAs found.old linker.now.program kind
-        (naming_by (selecting_view by.entry) method.now) }
+        (naming_by (selecting_view by) method.now) }
     ensures chosen { let p = linker.now.program in option_map chosen_place result
         ≡ selected_by p (selecting_view by.entry) (at_place site.method) (class_of_kind p lower) }
     ensures callee { IfSome result (HasCallee linker.now.program) }
@@ -337,9 +338,9 @@ fn known_target(
     requires resolved { IsResolved linker.now method.now.class kind }
     requires caller { HasCaller linker.now (selecting_view by) }
     requires numbers { AreNumbers linker.now.program numbers.now }
-    requires site { IsSite linker.now.program kind (selecting_view by.entry) method.now site }
+    requires site { IsSite linker.now.program kind (selecting_view by) method.now site }
     requires found { IsFoundAs found.old linker.now.program kind
-        (naming_by (selecting_view by.entry) method.now) }
+        (naming_by (selecting_view by) method.now) }
     ensures target { let o = top_operands frames.now.frames in found_as (target_in o) result
         ≡ instance_target linker.now.program kind (selecting_view by.entry) method.now heap.now o }
     ensures within { IfOk result (λ t. t.count ≤ length (top_operands frames.now.frames)) }
@@ -378,7 +379,7 @@ fn target_by_name(
     requires caller { HasCaller linker.now (selecting_view by) }
     requires numbers { AreNumbers linker.now.program numbers.now }
     requires found { IsFoundAs found.old linker.now.program kind
-        (naming_by (selecting_view by.entry) method.now) }
+        (naming_by (selecting_view by) method.now) }
     ensures target { let o = top_operands frames.now.frames in found_as (target_in o) result
         ≡ instance_target linker.now.program kind (selecting_view by.entry) method.now heap.now o }
     ensures within { IfOk result (λ t. t.count ≤ length (top_operands frames.now.frames)) }
@@ -405,6 +406,7 @@ fn target_by_name(
 
 /// What an instruction other than invokestatic comes to, where the class of the method's name was resolved to this kind. The
 /// method that is found is kept, with what is selected for the receiver's kind.
+#[tactic(auto, using(crate::proofs::KnownLemmas::of_site))]
 pub fn instance_target(
     linker: &Linker,
     numbers: &MethodNumbers,
@@ -420,7 +422,7 @@ pub fn instance_target(
     requires caller { HasCaller linker.now (selecting_view by) }
     requires numbers { AreNumbers linker.now.program numbers.now }
     requires found { IsFoundAs found.old linker.now.program kind
-        (naming_by (selecting_view by.entry) method.now) }
+        (naming_by (selecting_view by) method.now) }
     ensures target { let o = top_operands frames.now.frames in found_as (target_in o) result
         ≡ instance_target linker.now.program kind (selecting_view by.entry) method.now heap.now o }
     ensures within { IfOk result (λ t. t.count ≤ length (top_operands frames.now.frames)) }

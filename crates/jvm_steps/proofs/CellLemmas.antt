@@ -63,15 +63,21 @@ set-item (x ∷ xs) zero (suc other) known k e = left e
 set-item (x ∷ xs) (suc place) zero known k e = left e
 set-item (x ∷ xs) (suc place) (suc other) known k e = next-place (item_at xs other) other place k known (set-item xs place other known k e)
 
--- in a row that is long enough
-pub item-put : (row old : List (Option Known)) (place : ℕ) (known : Known) → ((other : ℕ) → item_at row other ≡ item_at old other)
-    → KeepsItem place known old (slice_set row place (Some known))
-item-put row old place known same = record {
-  each = λ other k e. subst (λ o. OneOf o other place k known) (same other) (set-item row place other known k e);
-}
+pub item_put : (row : List (Option Known)) (place : ℕ) (known : Known) → KeepsItem place known row (slice_set row place (Some known))
+item_put row place known = record { each = λ other k e. set-item row place other known k e }
 
-pub item-same : (row old : List (Option Known)) (place : ℕ) (known : Known) → ((other : ℕ) → item_at row other ≡ item_at old other) → KeepsItem place known old row
-item-same row old place known same = record { each = λ other k e. left (sym (same other) ∙ e) }
+pub item_same : (row : List (Option Known)) (place : ℕ) (known : Known) → KeepsItem place known row row
+item_same row place known = record { each = λ other k e. left e }
+
+-- with a longer row before
+pub item_kept : (row old : List (Option Known)) (place : ℕ) (known : Known) → ((other : ℕ) → item_at row other ≡ item_at old other) → KeepsItem place known old row
+item_kept row old place known same = record { each = λ other k e. left (sym (same other) ∙ e) }
+
+pub item_behind : (row old new : List (Option Known)) (place : ℕ) (known : Known) → ((other : ℕ) → item_at row other ≡ item_at old other) → KeepsItem place known row new
+    → KeepsItem place known old new
+item_behind row old new place known same keeps = record {
+  each = λ other k e. subst (λ o. OneOf o other place k known) (same other) (keeps.each other k e);
+}
 
 abbrev OneCell : Rows → ℕ → ℕ → ℕ → ℕ → Known → Known → Type 0
 OneCell old v other version place k known = (cell_at old v other ≡ Some k) ⊎ ((v ≡ version) × (other ≡ place) × (k ≡ known))
@@ -97,17 +103,20 @@ set-cell (x ∷ xs) (suc version) zero other place known k row old there keeps e
 set-cell (x ∷ xs) (suc version) (suc v) other place known k row old there keeps e =
     next-row xs x v other version place k known (set-cell xs version v other place known k row old there keeps e)
 
-pub cell-put : (rows : Rows) (version place : ℕ) (known : Known) (row old : List (Option Known)) → slice_get rows version ≡ Some old
+pub cell_put : (rows : Rows) (version place : ℕ) (known : Known) (row old : List (Option Known)) → slice_get rows version ≡ Some old
     → KeepsItem place known old row → Keeps version place known rows (slice_set rows version row)
-cell-put rows version place known row old there keeps = record { each = λ v other k e. set-cell rows version v other place known k row old there keeps e }
+cell_put rows version place known row old there keeps = record { each = λ v other k e. set-cell rows version v other place known k row old there keeps e }
 
-pub cells-same : (new old : Rows) (version place : ℕ) (known : Known) → ((v other : ℕ) → cell_at new v other ≡ cell_at old v other) → Keeps version place known old new
-cells-same new old version place known same = record { each = λ v other k e. left (sym (same v other) ∙ e) }
+pub keeps_same : (rows : Rows) (version place : ℕ) (known : Known) → Keeps version place known rows rows
+keeps_same rows version place known = record { each = λ v other k e. left e }
+
+pub cells_same : (new old : Rows) (version place : ℕ) (known : Known) → ((v other : ℕ) → cell_at new v other ≡ cell_at old v other) → Keeps version place known old new
+cells_same new old version place known same = record { each = λ v other k e. left (sym (same v other) ∙ e) }
 
 -- with rows more before
-pub keeps-behind : (old between new : Rows) (version place : ℕ) (known : Known) → ((v other : ℕ) → cell_at between v other ≡ cell_at old v other)
+pub keeps_behind : (old between new : Rows) (version place : ℕ) (known : Known) → ((v other : ℕ) → cell_at between v other ≡ cell_at old v other)
     → Keeps version place known between new → Keeps version place known old new
-keeps-behind old between new version place known same keeps = record {
+keeps_behind old between new version place known same keeps = record {
   each = λ v other k e. by v other k (keeps.each v other k e);
 }
   where

@@ -22,28 +22,60 @@ impl Model for Cells {
     ghost view = { λ c. c.rows.items };
 }
 
+// ---- a row
+
 /// Makes a row so long that a place stands in it. Nothing is known there.
-fn lengthen(row: &mut Seq<Option<Known>>, place: usize) -> Result<(), NoMemory>
+fn lengthen(row: &mut Seq<Option<Known>>, place: u16) -> Result<(), NoMemory>
     ensures { (other : ℕ) → item_at row.new other ≡ item_at row.old other }
 {
-    let missing = (place + 1).saturating_sub(row.len());
+    let missing = (place as usize + 1).saturating_sub(row.len());
     for _ in 0..missing {
-        row.push(None)?;
+        let Ok(()) = row.push(None) else {
+            return Err(NoMemory);
+        };
     }
     Ok(())
 }
 
+/// Writes what is known at a place of a row that is long enough.
+#[tactic(auto, using(crate::proofs::CellLemmas::item_put, crate::proofs::CellLemmas::item_same))]
+fn set_item(row: &mut Seq<Option<Known>>, place: u16, known: Known)
+    ensures { KeepsItem place known row.old row.new }
+{
+    if (place as usize) < row.len() {
+        row.set(place as usize, Some(known));
+    }
+}
+
 /// Keeps what is known at a place of a row, unless memory runs out.
+#[tactic(auto, using(crate::proofs::CellLemmas::item_behind, crate::proofs::CellLemmas::item_kept))]
 fn put_item(row: &mut Seq<Option<Known>>, place: u16, known: Known)
     ensures { KeepsItem place known row.old row.new }
 {
-    let place = place as usize;
     if lengthen(row, place).is_err() {
         return;
     }
-    if place < row.len() {
-        row.set(place, Some(known));
+    set_item(row, place, known);
+}
+
+// ---- rows
+
+/// Makes a row of a version, where there is none and each version before it has one.
+fn add_row(
+    alloc: Global,
+    rows: &mut Vec<Seq<Option<Known>>>,
+    version: usize,
+) -> Result<(), NoMemory>
+    ensures { (other place : ℕ) → cell_at rows.new.items other place
+        ≡ cell_at rows.old.items other place }
+{
+    if version < rows.len() {
+        return Ok(());
     }
+    let Ok(()) = rows.push(Seq::new(alloc)) else {
+        return Err(NoMemory);
+    };
+    Ok(())
 }
 
 /// Makes so many rows that there is one of a version.
@@ -57,17 +89,15 @@ fn add_rows(
 {
     let missing = version.saturating_sub(rows.len());
     for _ in 0..missing {
-        if rows.push(Seq::new(alloc)).is_err() {
+        let Ok(()) = rows.push(Seq::new(alloc)) else {
             return Err(NoMemory);
-        }
+        };
     }
-    if rows.len() <= version && rows.push(Seq::new(alloc)).is_err() {
-        return Err(NoMemory);
-    }
-    Ok(())
+    add_row(alloc, rows, version)
 }
 
 /// Keeps what is known at a place of a version that has a row.
+#[tactic(auto, using(crate::proofs::CellLemmas::cell_put, crate::proofs::CellLemmas::keeps_same))]
 fn put_cell(rows: &mut [Seq<Option<Known>>], version: usize, place: u16, known: Known)
     ensures { Keeps version place known rows.old rows.new }
 {
@@ -96,13 +126,14 @@ impl Cells {
 
     /// Keeps what is known at a place of a version. Where memory runs out it is not kept.
     #[inline(never)]
+    #[tactic(auto, using(crate::proofs::CellLemmas::cells_same, crate::proofs::CellLemmas::keeps_behind))]
     fn put(&mut self, alloc: Global, version: usize, place: u16, known: Known)
         ensures { Keeps version place known self.old self.new }
     {
         if add_rows(alloc, &mut self.rows, version).is_err() {
             return;
         }
-        put_cell(self.rows.as_mut_slice(), version, place, known);
+        put_cell(&mut self.rows, version, place, known);
     }
 
     /// The same, if anything was learnt.
@@ -116,6 +147,7 @@ impl Cells {
 
     /// The same, where this was known before.
     #[inline(always)]
+    #[tactic(auto, using(crate::proofs::CellLemmas::keeps_same))]
     pub fn renew(
         &mut self,
         alloc: Global,

@@ -332,13 +332,14 @@ impl Originals {
         let numbers = MethodNumbers::new(alloc, &program)?;
         let mut linker = Linker::new(alloc, program)?;
         load_built_in(alloc, &mut linker)?;
+        let cells = Cells::new(alloc);
         Ok(Originals {
             linker,
             numbers,
             input,
             methods,
             versions,
-            cells: Cells::new(alloc),
+            cells,
             exceptions,
         })
     }
@@ -514,7 +515,8 @@ impl Originals {
         let program = self.linker.program();
         let more = class_versions(alloc, program, &self.numbers, class, image, homes)?;
         // A number may be given again.
-        self.cells = Cells::new(alloc);
+        let none = Cells::new(alloc);
+        self.cells = none;
         self.versions.add_all(more, frames)
     }
 
