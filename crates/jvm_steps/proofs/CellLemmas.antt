@@ -207,6 +207,18 @@ pub known-at : (l : LinkerView) (v : Versions) (rows : Rows) (version place : �
 known-at l v rows version place k line are there is =
     subst (λ o. IfNamed o (λ n next. IsKnown l n k)) is (are.each version place k there)
 
+-- what the line's own attempts leave
+pub renewed : (l : LinkerView) (v : Versions) (rows after : Rows) (version place : ℕ) (k : Known) (line : Line) → line_at v version place ≡ Some line
+    → Keeps version place k rows after → AreKnown l v rows → IfNamedBy line.action line.next (λ n next. IsKnown l n k) → AreKnown l v after
+renewed l v rows after version place k line is keeps are one =
+    known-kept l v rows after version place k keeps are (subst (λ o. IfNamed o (λ n next. IsKnown l n k)) (sym is) one)
+
+pub learnt-kept : (l new : LinkerView) (v : Versions) (rows after : Rows) (version place : ℕ) (learnt : Option Known) (line : Line) → line_at v version place ≡ Some line
+    → IsLater l new → AreKnown l v rows → Learns version place learnt rows after
+    → IfSome learnt (λ k. IfNamedBy line.action line.next (λ n next. IsKnown new n k)) → AreKnown new v after
+learnt-kept l new v rows after version place learnt line is later are learns one =
+    known-learnt l new v rows after version place learnt later are learns (learnt-at new v version place line learnt is one)
+
 -- ---- versions that are dropped
 
 pub known-left : (l : LinkerView) (fs : List PlacedFrame) (v after : Versions) (rows : Rows) → Releases fs v after → AreKnown l v rows → AreKnown l after rows

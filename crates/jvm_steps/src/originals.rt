@@ -607,7 +607,7 @@ impl Originals {
         };
         if let Some(before) = self.cells.get(version, place) {
             let mut known = before;
-            let asked = attempt_line_known(
+            let done = attempt_line_known(
                 alloc,
                 &self.linker,
                 &self.numbers,
@@ -619,7 +619,7 @@ impl Originals {
                 output,
             )?;
             self.cells.renew(alloc, version, place, before, known);
-            return Ok(asked);
+            return Ok(done);
         }
         // Where memory runs out nothing is known any more.
         let mut cells = mem::replace(&mut self.cells, Cells::new(alloc));
@@ -686,7 +686,7 @@ impl Originals {
         };
         if let Some(before) = self.cells.get(version, place) {
             let mut known = before;
-            let asked = attempt_line_known(
+            let done = attempt_line_known(
                 alloc,
                 &self.linker,
                 &self.numbers,
@@ -698,7 +698,7 @@ impl Originals {
                 output,
             )?;
             self.cells.renew(alloc, version, place, before, known);
-            return Ok(Some(asked));
+            return Ok(Some(done));
         }
         // Where memory runs out nothing is known any more.
         let mut cells = mem::replace(&mut self.cells, Cells::new(alloc));
