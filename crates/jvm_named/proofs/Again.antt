@@ -138,9 +138,9 @@ loads_none l n k s f linked known =
     (nothing-new l.program s.loaded n (top_operands f.frames) (subst (λ classes. load_of l.program classes (resolved_name n) ≡ done classes) linked known.loads))
 
 -- what is known behind a resolution
-pub known-found : (l : LinkerView) (n : Naming) (k : Known) → Ok k.kind ≡ resolved_kind l.program l.loaded (resolved_name n) → IsResolved l (resolved_name n) k.kind
+pub known_found : (l : LinkerView) (n : Naming) (k : Known) → Ok k.kind ≡ resolved_kind l.program l.loaded (resolved_name n) → IsResolved l (resolved_name n) k.kind
     → LoadsNothing l n → IsFoundAs k.found l.program k.kind n → IsKnown l n k
-known-found l n k found resolved loads as_found = record {
+known_found l n k found resolved loads as_found = record {
   resolved = resolved;
   loads = loads-done l.program l.loaded (resolved_name n) k.kind found loads;
   found = as_found;

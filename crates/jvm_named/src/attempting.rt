@@ -141,6 +141,7 @@ fn skip(frames: &mut Frames, naming: &Naming, next: u16) -> Asked
 }
 
 /// What the instruction does, with what it names found, and what is known of it then.
+#[tactic(auto, using(crate::proofs::Again::known_found))]
 fn do_found(
     alloc: Global,
     linker: &Linker,

@@ -47,3 +47,10 @@ returns-clause-output c =
     writes_by c.do_resolved.result (does_resolved w c.args.known.now.kind n c.args.shared.now) (attempts w n c.args.shared.now f) f
     (done_again c.args.linker.now c.args.input.now n c.args.known.now c.args.shared.now f c.requires.linked c.requires.known does)
     c.do_resolved.new.output c.args.output.now c.do_resolved.ensures.output
+
+pub returns-clause-known : goal.returns-clause-known
+returns-clause-known c = record {
+  resolved = c.requires.known.resolved;
+  loads = c.requires.known.loads;
+  found = c.do_resolved.ensures.found;
+}
