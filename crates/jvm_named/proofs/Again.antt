@@ -2,11 +2,11 @@
 use Rattle.std.proofs.Common.{◌≡◌, ℕ, suc, ◌+◌, Bool, true, false, List, [], ◌∷◌, ◌++◌, ap, sym, subst, refl, ◌∙◌, arith}
 use Rattle.std.proofs.lemmas.List.{append-nil}
 use Rattle.std.proofs.Math.Seq.{drop-length}
-use Rattle.std.specs.Prelude.{Option, Some, None, Ok, Err, drop, length, ◌==◌, if◌then◌else◌}
+use Rattle.std.specs.Prelude.{Option, Some, None, Ok, drop, length, ◌==◌, if◌then◌else◌}
 use Rattle.frame_stack.specs.FrameLists.{FramesView, top_operands}
 use Rattle.jvm_model.specs.declared.program.Program.{Program}
 use Rattle.jvm_model.specs.declared.state.Shared.{Shared}
-use Rattle.jvm_model.specs.Data.{Operands, World}
+use Rattle.jvm_model.specs.Data.{Operands}
 use Rattle.jvm_model.specs.Kinds.{Element, Primitive, Named, kind_named, meaning_of}
 use Rattle.jvm_model.specs.Load.{Fault, Loading, There, Begun, Fresh, behind_needs, by_standing, done, is_among, load_element, load_named, load_needs, load_of, needs_of, standing_of}
 use Rattle.jvm_model.specs.Programs.{class_named}

@@ -1,13 +1,11 @@
 -- What a native method comes to, and what it leaves (JVM Specification 2.11.8, 6.5).
 use Rattle.std.proofs.Common.{◌≡◌, ◌≢◌, ℕ, suc, ◌+◌, ◌-◌, ◌<◌, ◌≤◌, Bool, true, false, List, [], ◌∷◌, ◌++◌, length, drop, Option, Some, None, refl, sym, ap, subst, ◌∙◌, lit<, append_assoc, arith}
 use Rattle.std.specs.Prelude.{◌*◌, Result, Ok, Err, IfOk, OnOk, nat_lt, unwrap_or, slice_get, map, if◌then◌else◌}
-use Rattle.std.specs.Option.{option_map, option_map_or}
+use Rattle.std.specs.Option.{option_map_or}
 use Rattle.std.proofs.lemmas.Bool.{ne_eqb}
 use Rattle.std.proofs.lemmas.Option.{slice_get-get_or, slice_get_past}
 use Rattle.jf_bytes.specs.declared.error.NoMemory.{NoMemory}
 use Rattle.const_pool.specs.BuiltIn.{built_in_names}
-use Rattle.const_pool.specs.References.{Reference}
-use Rattle.base_classes.specs.Natives.{native_number}
 use Rattle.heap_objects.specs.Changes.{changed_if}
 use Rattle.heap_objects.specs.declared.datum.Datum.{Datum}
 use Rattle.heap_objects.specs.declared.Value.{Value}
@@ -27,12 +25,9 @@ use Rattle.native_ops.specs.Making.{heap_after_class}
 use Rattle.jvm_model.specs.declared.state.Shared.{Shared}
 use Rattle.jvm_model.specs.Data.{Locals, Operands, World, Outcome, Throws, Raises, Breaks, Done}
 use Rattle.jvm_model.specs.KindNumbers.{class_of_base, user_count}
-use Rattle.jvm_model.specs.NativeRules.{kinds_in, outcome_of, runs_native, runs_number, seen_by_natives, thrown_by}
-use Rattle.jvm_model.specs.ObjectRules.{done}
+use Rattle.jvm_model.specs.NativeRules.{kinds_in, outcome_of, runs_number, seen_by_natives, thrown_by}
 use Rattle.class_linker.specs.Linkers.{IsLoaded, LinkerView}
 use Rattle.jvm_named.specs.declared.asked.Asked.{Asked}
-use Rattle.jvm_named.specs.declared.asked.Asked.TheVariants.{Refused}
-use Rattle.jvm_named.specs.declared.asked.Refusal.TheVariants.{Breaks as Broken}
 use Rattle.jvm_named.specs.Answers.{answer_of, answer_view, frames_of}
 use Rattle.jvm_named.specs.Does.{Does, IsDone, changed}
 use Rattle.jvm_named.specs.Natives.{HasBuiltIn, outcome_by}

@@ -420,9 +420,7 @@ fn invoke_fixed(
     ensures found { IsFoundAs found.new linker.now.program kind
         (Invokestatic method.now) }
 {
-    match static_target(
-        alloc, linker, numbers, shared, frames, method, kind, found,
-    )? {
+    match static_target(alloc, linker, numbers, shared, frames, method, kind, found)? {
         Ok(target) => invoke_selected(
             alloc,
             linker,

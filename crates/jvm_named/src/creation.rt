@@ -214,8 +214,12 @@ fn make_initialized(
     ensures found { IsClassFound found.new linker.now.program kind }
 {
     match shared.phases.at(class as usize) {
-        Some(Phase::Ready) => make_instance(alloc, linker, shared, frames, kind, class, found, next),
-        Some(Phase::Running) => make_instance(alloc, linker, shared, frames, kind, class, found, next),
+        Some(Phase::Ready) => make_instance(
+            alloc, linker, shared, frames, kind, class, found, next,
+        ),
+        Some(Phase::Running) => make_instance(
+            alloc, linker, shared, frames, kind, class, found, next,
+        ),
         Some(Phase::Fresh) => Ok(Asked::Refused(Refusal::Initializes(class))),
         Some(Phase::Erroneous) => raise_unusable(alloc, linker, class),
         None => raise_unusable(alloc, linker, class),
@@ -244,7 +248,5 @@ pub fn make_new(
     ensures found { IsClassFound found.new linker.now.program kind }
 {
     let class = class_of_kind(linker, kind);
-    make_initialized(
-        alloc, linker, shared, frames, kind, class, found, next,
-    )
+    make_initialized(alloc, linker, shared, frames, kind, class, found, next)
 }

@@ -68,8 +68,12 @@ pub fn do_resolved(
         Naming::New(_) => make_new(alloc, linker, shared, frames, kind, found, next),
         Naming::Getfield(member) => get_field(linker, shared, frames, member, kind, found, next),
         Naming::Putfield(member) => put_field(linker, shared, frames, member, kind, found, next),
-        Naming::Getstatic(member) => get_static(alloc, linker, shared, frames, member, kind, found, next),
-        Naming::Putstatic(member) => put_static(alloc, linker, shared, frames, member, kind, found, next),
+        Naming::Getstatic(member) => get_static(
+            alloc, linker, shared, frames, member, kind, found, next,
+        ),
+        Naming::Putstatic(member) => put_static(
+            alloc, linker, shared, frames, member, kind, found, next,
+        ),
         Naming::Invokevirtual(method) => {
             invoke_virtual(
                 alloc, linker, numbers, shared, frames, input, output, method, kind, found, next,

@@ -166,14 +166,7 @@ fn field_owner(
 
 /// Whether an object has a field that the objects of the last kind have; mostly it is of that kind.
 #[inline(always)]
-fn has_field(
-    linker: &Linker,
-    heap: &Heap,
-    kind: u32,
-    field: Place,
-    last: u32,
-    object: u32,
-) -> bool
+fn has_field(linker: &Linker, heap: &Heap, kind: u32, field: Place, last: u32, object: u32) -> bool
     requires objects { AreLoaded linker.now heap.now }
     requires own { has_field_at linker.now.program (Some last) kind field.class ≡ true }
     ensures { result ≡ has_field_at linker.now.program (kind_at object heap.now) kind field.class }
@@ -328,9 +321,7 @@ fn get_by_name(
         IsFoundAs found.new linker.now.program kind n }
 {
     match field_found(linker, kind, false, member) {
-        Ok(field) => read_field(
-            linker, shared, frames, member, kind, field, found, next,
-        ),
+        Ok(field) => read_field(linker, shared, frames, member, kind, field, found, next),
         Err(refusal) => Ok(Asked::Refused(refusal)),
     }
 }
@@ -527,9 +518,7 @@ fn put_by_name(
         IsFoundAs found.new linker.now.program kind n }
 {
     match field_found(linker, kind, false, member) {
-        Ok(field) => write_field(
-            linker, shared, frames, member, kind, field, found, next,
-        ),
+        Ok(field) => write_field(linker, shared, frames, member, kind, field, found, next),
         Err(refusal) => Ok(Asked::Refused(refusal)),
     }
 }

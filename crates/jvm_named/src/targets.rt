@@ -26,8 +26,8 @@ ghost use Rattle.jvm_named.specs.Targets.{HasCaller, selecting_view, found_as, i
 ghost use Rattle.jvm_named.specs.Targets.{receiver_class, static_target, target_in, unready_by};
 
 use crate::asked::{Exception, Refusal};
-use crate::classes::name_at;
 use crate::callees::callee_of;
+use crate::classes::name_at;
 use crate::instances::{class_of_kind, kind_of_object};
 use crate::known::{Chosen, Found, Site};
 use crate::naming::{MemberName, MethodName};
@@ -316,9 +316,7 @@ fn select_again(
     if let Selecting::Special(_, _) = by {
         return Some(site.chosen);
     }
-    select_anew(
-        linker, numbers, by, method, kind, site.method, lower, found,
-    )
+    select_anew(linker, numbers, by, method, kind, site.method, lower, found)
 }
 
 /// What an instruction other than invokestatic comes to, where the method and a selection are known.
@@ -431,13 +429,9 @@ pub fn instance_target(
         (naming_by (selecting_view by.entry) method.now) }
 {
     if let Found::Selected(site) = *found {
-        return known_target(
-            linker, numbers, heap, frames, by, method, kind, site, found,
-        );
+        return known_target(linker, numbers, heap, frames, by, method, kind, site, found);
     }
-    target_by_name(
-        linker, numbers, heap, frames, by, method, kind, found,
-    )
+    target_by_name(linker, numbers, heap, frames, by, method, kind, found)
 }
 
 // ---- a static method
