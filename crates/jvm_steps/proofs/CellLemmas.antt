@@ -1,5 +1,5 @@
 -- What is known at a place is known there alone, and stays known.
-use Rattle.std.proofs.Common.{◌≡◌, ◌⊎◌, ℕ, zero, suc, Bool, true, false, List, [], ◌∷◌, ◌++◌, Option, Some, None, ap, sym, subst, refl, ◌∙◌}
+use Rattle.std.proofs.Common.{◌≡◌, ◌⊎◌, ℕ, zero, suc, Bool, true, false, List, [], ◌∷◌, ◌++◌, Option, Some, None, ap, sym, subst, refl, ◌∙◌, inl, inr}
 use Rattle.std.specs.Prelude.{◌==◌, ◌&&◌, slice_get, slice_set, if◌then◌else◌}
 use Rattle.std.specs.Option.{IfSome, option_and_then, option_flatten}
 use Rattle.frame_stack.specs.FrameLists.{FramesView, PlacedFrame, pins_of, top_operands}
@@ -52,26 +52,26 @@ abbrev OneOf : {A : Type 0} → Option A → ℕ → ℕ → A → A → Type 0
 OneOf old other place k known = (old ≡ Some k) ⊎ ((other ≡ place) × (k ≡ known))
 
 next-place : (old : Option Known) (other place : ℕ) (k known : Known) → OneOf old other place k known → OneOf old (suc other) (suc place) k known
-next-place old other place k known (left is) = left is
-next-place old other place k known (right is) = right (ap suc is.0, is.1)
+next-place old other place k known (inl is) = inl is
+next-place old other place k known (inr is) = inr (ap suc is.0, is.1)
 
 set-item : (row : List (Option Known)) (place other : ℕ) (known k : Known) → item_at (slice_set row place (Some known)) other ≡ Some k
     → OneOf (item_at row other) other place k known
-set-item [] place other known k e = left e
-set-item (x ∷ xs) zero zero known k e = right (refl, same-known known k e)
-set-item (x ∷ xs) zero (suc other) known k e = left e
-set-item (x ∷ xs) (suc place) zero known k e = left e
+set-item [] place other known k e = inl e
+set-item (x ∷ xs) zero zero known k e = inr (refl, same-known known k e)
+set-item (x ∷ xs) zero (suc other) known k e = inl e
+set-item (x ∷ xs) (suc place) zero known k e = inl e
 set-item (x ∷ xs) (suc place) (suc other) known k e = next-place (item_at xs other) other place k known (set-item xs place other known k e)
 
 pub item_put : (row : List (Option Known)) (place : ℕ) (known : Known) → KeepsItem place known row (slice_set row place (Some known))
 item_put row place known = record { each = λ other k e. set-item row place other known k e }
 
 pub item_same : (row : List (Option Known)) (place : ℕ) (known : Known) → KeepsItem place known row row
-item_same row place known = record { each = λ other k e. left e }
+item_same row place known = record { each = λ other k e. inl e }
 
 -- with a longer row before
 pub item_kept : (row old : List (Option Known)) (place : ℕ) (known : Known) → ((other : ℕ) → item_at row other ≡ item_at old other) → KeepsItem place known old row
-item_kept row old place known same = record { each = λ other k e. left (sym (same other) ∙ e) }
+item_kept row old place known same = record { each = λ other k e. inl (sym (same other) ∙ e) }
 
 pub item_behind : (row old new : List (Option Known)) (place : ℕ) (known : Known) → ((other : ℕ) → item_at row other ≡ item_at old other) → KeepsItem place known row new
     → KeepsItem place known old new
@@ -84,13 +84,13 @@ OneCell old v other version place k known = (cell_at old v other ≡ Some k) ⊎
 
 next-row : (old : Rows) (row : List (Option Known)) (v other version place : ℕ) (k known : Known) → OneCell old v other version place k known
     → OneCell (row ∷ old) (suc v) other (suc version) place k known
-next-row old row v other version place k known (left is) = left is
-next-row old row v other version place k known (right (a, b, c)) = right (ap suc a, b, c)
+next-row old row v other version place k known (inl is) = inl is
+next-row old row v other version place k known (inr (a, b, c)) = inr (ap suc a, b, c)
 
 in-row : (old : List (Option Known)) (rows : Rows) (other place : ℕ) (k known : Known) → OneOf (item_at old other) other place k known
     → OneCell (old ∷ rows) 0 other 0 place k known
-in-row old rows other place k known (left is) = left is
-in-row old rows other place k known (right is) = right (refl, is.0, is.1)
+in-row old rows other place k known (inl is) = inl is
+in-row old rows other place k known (inr is) = inr (refl, is.0, is.1)
 
 set-cell : (rows : Rows) (version v other place : ℕ) (known k : Known) (row old : List (Option Known)) → slice_get rows version ≡ Some old
     → KeepsItem place known old row → cell_at (slice_set rows version row) v other ≡ Some k → OneCell rows v other version place k known
@@ -98,8 +98,8 @@ set-cell [] version v other place known k row old there keeps e = absurd (no-kno
 set-cell (x ∷ xs) zero zero other place known k row old there keeps e =
     subst (λ r. OneCell (r ∷ xs) 0 other 0 place k known) (let same : Some x ≡ Some old → old ≡ x = λ e. cc in same there)
     (in-row old xs other place k known (keeps.each other k e))
-set-cell (x ∷ xs) zero (suc v) other place known k row old there keeps e = left e
-set-cell (x ∷ xs) (suc version) zero other place known k row old there keeps e = left e
+set-cell (x ∷ xs) zero (suc v) other place known k row old there keeps e = inl e
+set-cell (x ∷ xs) (suc version) zero other place known k row old there keeps e = inl e
 set-cell (x ∷ xs) (suc version) (suc v) other place known k row old there keeps e =
     next-row xs x v other version place k known (set-cell xs version v other place known k row old there keeps e)
 
@@ -108,10 +108,10 @@ pub cell_put : (rows : Rows) (version place : ℕ) (known : Known) (row old : Li
 cell_put rows version place known row old there keeps = record { each = λ v other k e. set-cell rows version v other place known k row old there keeps e }
 
 pub keeps_same : (rows : Rows) (version place : ℕ) (known : Known) → Keeps version place known rows rows
-keeps_same rows version place known = record { each = λ v other k e. left e }
+keeps_same rows version place known = record { each = λ v other k e. inl e }
 
 pub cells_same : (new old : Rows) (version place : ℕ) (known : Known) → ((v other : ℕ) → cell_at new v other ≡ cell_at old v other) → Keeps version place known old new
-cells_same new old version place known same = record { each = λ v other k e. left (sym (same v other) ∙ e) }
+cells_same new old version place known same = record { each = λ v other k e. inl (sym (same v other) ∙ e) }
 
 -- with rows more before
 pub keeps_behind : (old between new : Rows) (version place : ℕ) (known : Known) → ((v other : ℕ) → cell_at between v other ≡ cell_at old v other)
@@ -121,8 +121,8 @@ keeps_behind old between new version place known same keeps = record {
 }
   where
     by : (v other : ℕ) (k : Known) → OneCell between v other version place k known → OneCell old v other version place k known
-    by v other k (left is) = left (sym (same v other) ∙ is)
-    by v other k (right is) = right is
+    by v other k (inl is) = inl (sym (same v other) ∙ is)
+    by v other k (inr is) = inr is
 
 -- ---- what is known
 
@@ -136,8 +136,8 @@ known-kept l v old new version place known keeps are one = record {
 }
   where
     by : (version2 other : ℕ) (k : Known) → OneCell old version2 other version place k known → IfNamed (line_at v version2 other) (λ n next. IsKnown l n k)
-    by version2 other k (left is) = are.each version2 other k is
-    by version2 other k (right (same_version, same_place, is)) =
+    by version2 other k (inl is) = are.each version2 other k is
+    by version2 other k (inr (same_version, same_place, is)) =
         subst (λ k. IfNamed (line_at v version2 other) (λ n next. IsKnown l n k)) (sym is)
         (subst (λ at. IfNamed (line_at v version2 at) (λ n next. IsKnown l n known)) (sym same_place)
         (subst (λ u. IfNamed (line_at v u place) (λ n next. IsKnown l n known)) (sym same_version) one))
