@@ -38,7 +38,7 @@ invariant_of-self c = record {
       (sym (sym (ap option_copied c.in-Some.is) ∙ c.line_at.ensures)) c.renew.ensures c.self.invariant.known c.attempt_line_known.ensures.known;
 }
 
-pub invariant_of-self-2 : goal.invariant_of-self-3
+pub invariant_of-self-2 : goal.invariant_of-self-2
 invariant_of-self-2 c = record {
   prepared = subst (λ p. IsPrepared p c.self.inside.methods c.self.inside.versions c.self.inside.exceptions c.self.inside.numbers)
       (sym c.in_ok-asked.ensures.program) c.self.invariant.prepared;
