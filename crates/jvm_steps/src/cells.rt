@@ -148,14 +148,7 @@ impl Cells {
     /// The same, where this was known before.
     #[inline(always)]
     #[tactic(auto, using(crate::proofs::CellLemmas::keeps_same))]
-    pub fn renew(
-        &mut self,
-        alloc: Global,
-        version: usize,
-        place: u16,
-        before: Known,
-        known: Known,
-    )
+    pub fn renew(&mut self, alloc: Global, version: usize, place: u16, before: Known, known: Known)
         ensures { Keeps version place known self.old self.new }
     {
         if known != before {
