@@ -14,3 +14,6 @@ mod Carried
 mod Attempted
 mod ArraysMade
 pub mod Beginning
+pub mod Again
+mod CalleeLemmas
+mod KnownLemmas

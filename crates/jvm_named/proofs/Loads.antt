@@ -91,7 +91,7 @@ by-depth : (p : Program) (depth : ℕ) (path name loaded : List ℕ) → (load_n
 by-depth p zero path name loaded none = absurd (some-none Circular none)
 by-depth p (suc n) path name loaded none = by-element p n path loaded (meaning_of name).element none
 
-loads : (p : Program) (name loaded : List ℕ) → (load_of p loaded name).fault ≡ None → Loads p (meaning_of name).element (load_of p loaded name)
+pub loads : (p : Program) (name loaded : List ℕ) → (load_of p loaded name).fault ≡ None → Loads p (meaning_of name).element (load_of p loaded name)
 loads p name loaded none = by-depth p _ [] name loaded none
 
 -- ---- what a name means

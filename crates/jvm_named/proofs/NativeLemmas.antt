@@ -1,13 +1,11 @@
 -- What a native method comes to, and what it leaves (JVM Specification 2.11.8, 6.5).
 use Rattle.std.proofs.Common.{◌≡◌, ◌≢◌, ℕ, suc, ◌+◌, ◌-◌, ◌<◌, ◌≤◌, Bool, true, false, List, [], ◌∷◌, ◌++◌, length, drop, Option, Some, None, refl, sym, ap, subst, ◌∙◌, lit<, append_assoc, arith}
 use Rattle.std.specs.Prelude.{◌*◌, Result, Ok, Err, IfOk, OnOk, nat_lt, unwrap_or, slice_get, map, if◌then◌else◌}
-use Rattle.std.specs.Option.{option_map, option_map_or}
+use Rattle.std.specs.Option.{option_map_or}
 use Rattle.std.proofs.lemmas.Bool.{ne_eqb}
 use Rattle.std.proofs.lemmas.Option.{slice_get-get_or, slice_get_past}
 use Rattle.jf_bytes.specs.declared.error.NoMemory.{NoMemory}
 use Rattle.const_pool.specs.BuiltIn.{built_in_names}
-use Rattle.const_pool.specs.References.{Reference}
-use Rattle.base_classes.specs.Natives.{native_number}
 use Rattle.heap_objects.specs.Changes.{changed_if}
 use Rattle.heap_objects.specs.declared.datum.Datum.{Datum}
 use Rattle.heap_objects.specs.declared.Value.{Value}
@@ -17,7 +15,7 @@ use Rattle.jvm_basic.specs.Outcomes.{top_locals}
 use Rattle.native_ops.specs.declared.answer.Answer.{Answer}
 use Rattle.native_ops.specs.declared.answer.Answer.TheVariants as answer
 use Rattle.native_ops.specs.declared.answer.Native.{Native}
-use Rattle.native_ops.specs.Calls.{answer_by, is_done, left_by, native_of_answer, world_by}
+use Rattle.native_ops.specs.Calls.{IsAnswer, answer_by, is_done, left_by, native_of_answer, world_by}
 use Rattle.native_ops.specs.KindsViews.{KindsView}
 use Rattle.native_ops.specs.MadeViews.{MadeView}
 use Rattle.native_ops.specs.Worlds as natives
@@ -27,13 +25,9 @@ use Rattle.native_ops.specs.Making.{heap_after_class}
 use Rattle.jvm_model.specs.declared.state.Shared.{Shared}
 use Rattle.jvm_model.specs.Data.{Locals, Operands, World, Outcome, Throws, Raises, Breaks, Done}
 use Rattle.jvm_model.specs.KindNumbers.{class_of_base, user_count}
-use Rattle.jvm_model.specs.NativeRules.{kinds_in, outcome_of, runs_native, runs_number, seen_by_natives, thrown_by}
-use Rattle.jvm_model.specs.ObjectRules.{done}
-use Rattle.jvm_natives.specs.NativeCalls.{IsAnswered, answer_to, left_behind}
+use Rattle.jvm_model.specs.NativeRules.{kinds_in, outcome_of, runs_number, seen_by_natives, thrown_by}
 use Rattle.class_linker.specs.Linkers.{IsLoaded, LinkerView}
 use Rattle.jvm_named.specs.declared.asked.Asked.{Asked}
-use Rattle.jvm_named.specs.declared.asked.Asked.TheVariants.{Refused}
-use Rattle.jvm_named.specs.declared.asked.Refusal.TheVariants.{Breaks as Broken}
 use Rattle.jvm_named.specs.Answers.{answer_of, answer_view, frames_of}
 use Rattle.jvm_named.specs.Does.{Does, IsDone, changed}
 use Rattle.jvm_named.specs.Natives.{HasBuiltIn, outcome_by}
@@ -87,19 +81,12 @@ module _ (l : LinkerView) (has : HasBuiltIn l) where
   }
 
   module _ (kinds : KindsView) (args : List Datum) (w : natives.World) (are : AreLoaded l w.heap) where
-    left-loaded : (b : Bool) (number : ℕ) → AreLoaded l (left_by b number kinds args w).heap
+    pub left-loaded : (b : Bool) (number : ℕ) → AreLoaded l (left_by b number kinds args w).heap
     left-loaded true number = record {
       objects = kinds-kept (IsUsable l) number kinds args w (are-made l has are.root) are.objects;
       root = are.root;
     }
     left-loaded false number = are
-
-    pub native-loaded : (answered : Option Native) (r : Reference) → AreLoaded l (left_behind answered r kinds args w).heap
-    native-loaded answered r = by (native_number r)
-      where
-        by : (n : Option ℕ) → AreLoaded l (option_map_or (λ number. left_by (option_map_or is_done answered false) number kinds args w) n w).heap
-        by None = are
-        by (Some n) = left-loaded (option_map_or is_done answered false) n
 
 -- ---- what is answered
 
@@ -113,23 +100,23 @@ outcome-same answer.Bad l below = refl
 abbrev shared_with : natives.World → Shared → Shared
 shared_with left s = record s { heap = left.heap; made = left.made; read = left.read }
 
--- what the call of the method of these names promises, by what is loaded and by its arguments
-pub record IsCalled (w : World) (r : Reference) (s : Shared) (old : List ℕ) (answered : Option Native) (heap : HeapView) (made : MadeView) (read : ℕ)
+-- what the call of the method of this number promises, by what is loaded and by its arguments
+pub record IsCalled (w : World) (number : ℕ) (s : Shared) (old : List ℕ) (native : Native) (heap : HeapView) (made : MadeView) (read : ℕ)
     (out loaded : List ℕ) (args : List Datum) : Type 0 where
-  pub answer : IsAnswered answered (answer_to r (kinds_in w.program loaded) args (seen_by_natives w s))
-  pub heaped : heap ≡ (left_behind answered r (kinds_in w.program loaded) args (seen_by_natives w s)).heap
-  pub kept : made ≡ (left_behind answered r (kinds_in w.program loaded) args (seen_by_natives w s)).made
-  pub taken : read ≡ (left_behind answered r (kinds_in w.program loaded) args (seen_by_natives w s)).read
-  pub written : out ≡ old ++ (left_behind answered r (kinds_in w.program loaded) args (seen_by_natives w s)).wrote
+  pub answer : IsAnswer native (answer_by number (kinds_in w.program loaded) args (seen_by_natives w s))
+  pub heaped : heap ≡ (left_by (is_done native) number (kinds_in w.program loaded) args (seen_by_natives w s)).heap
+  pub kept : made ≡ (left_by (is_done native) number (kinds_in w.program loaded) args (seen_by_natives w s)).made
+  pub taken : read ≡ (left_by (is_done native) number (kinds_in w.program loaded) args (seen_by_natives w s)).read
+  pub written : out ≡ old ++ (left_by (is_done native) number (kinds_in w.program loaded) args (seen_by_natives w s)).wrote
 
-pub called-with : (w : World) (r : Reference) (s : Shared) (old : List ℕ) (answered : Option Native) (heap : HeapView) (made : MadeView) (read : ℕ)
+pub called-with : (w : World) (number : ℕ) (s : Shared) (old : List ℕ) (native : Native) (heap : HeapView) (made : MadeView) (read : ℕ)
     (out loaded known : List ℕ) (given args : List Datum) → loaded ≡ known → given ≡ args
-    → IsCalled w r s old answered heap made read out loaded given → IsCalled w r s old answered heap made read out known args
-called-with w r s old answered heap made read out loaded known given args linked same is =
-    subst (λ xs. IsCalled w r s old answered heap made read out known xs) same
-    (subst (λ ks. IsCalled w r s old answered heap made read out ks given) linked is)
+    → IsCalled w number s old native heap made read out loaded given → IsCalled w number s old native heap made read out known args
+called-with w number s old native heap made read out loaded known given args linked same is =
+    subst (λ xs. IsCalled w number s old native heap made read out known xs) same
+    (subst (λ ks. IsCalled w number s old native heap made read out ks given) linked is)
 
-module _ (w : World) (r : Reference) (args : List Datum) (s : Shared) (f : FramesView) (old : List ℕ) (count next : ℕ) where
+module _ (w : World) (number : ℕ) (args : List Datum) (s : Shared) (f : FramesView) (old : List ℕ) (count next : ℕ) where
   abbrev kinds : KindsView
   kinds = kinds_in w.program s.loaded
 
@@ -139,12 +126,12 @@ module _ (w : World) (r : Reference) (args : List Datum) (s : Shared) (f : Frame
   abbrev below_in : Operands
   below_in = drop count (top_operands f.frames)
 
-  -- what is left where the method has this number
-  abbrev left_in : Native → Option ℕ → natives.World
-  left_in native n = option_map_or (λ number. left_by (is_done native) number kinds args seen) n seen
+  -- what is left by the call
+  abbrev left_in : Native → natives.World
+  left_in native = left_by (is_done native) number kinds args seen
 
-  abbrev comes_to : Option ℕ → Done
-  comes_to n = option_map_or (λ number. runs_number w number args s (top_locals f.frames) below_in) n (done s (Breaks false))
+  abbrev comes_to : Done
+  comes_to = runs_number w number args s (top_locals f.frames) below_in
 
   -- the outcome is that of the answer
   module _ (native : Native) (q : Outcome) (same : outcome_by native (top_locals f.frames) below_in ≡ q) (moved : FramesView) (asked : Asked)
@@ -157,67 +144,36 @@ module _ (w : World) (r : Reference) (args : List Datum) (s : Shared) (f : Frame
         (changed moved (shared_with left s) (old ++ left.wrote)) asked) same
         (record { answer = answers; frames = goes; shared = refl; output = refl })
 
-  by-number : (native : Native) (n : Option ℕ) (moved : FramesView) (asked : Asked) → is_done native ≡ true
-      → IsAnswered (Some native) (option_map (λ number. answer_by number kinds args seen) n)
+  by-number : (native : Native) (moved : FramesView) (asked : Asked) → is_done native ≡ true
+      → IsAnswer native (answer_by number kinds args seen)
       → answer_view asked ≡ answer_of (λ l o. outcome_by native l (drop count o)) f
       → moved ≡ frames_of (λ l o. outcome_by native l (drop count o)) next f
-      → IsDone (comes_to n) next (changed f s old) (changed moved (shared_with (left_in native n) s) (old ++ (left_in native n).wrote)) asked
-  by-number native None moved asked enough is answers goes = absurd is
-  by-number native (Some n) moved asked enough is answers goes =
-      subst (λ (left : natives.World). IsDone (comes_to (Some n)) next (changed f s old) (changed moved (shared_with left s) (old ++ left.wrote)) asked)
-      (sym (ap (λ b. changed_if b (world_by n kinds args) seen) enough))
-      (with-outcome native (outcome_of (answer_by n kinds args seen) (top_locals f.frames) below_in)
+      → IsDone comes_to next (changed f s old) (changed moved (shared_with (left_in native) s) (old ++ (left_in native).wrote)) asked
+  by-number native moved asked enough is answers goes =
+      subst (λ (left : natives.World). IsDone comes_to next (changed f s old) (changed moved (shared_with left s) (old ++ left.wrote)) asked)
+      (sym (ap (λ b. changed_if b (world_by number kinds args) seen) enough))
+      (with-outcome native (outcome_of (answer_by number kinds args seen) (top_locals f.frames) below_in)
       (ap (λ a. outcome_by a (top_locals f.frames) below_in) (is enough)
-      ∙ outcome-same (answer_by n kinds args seen) (top_locals f.frames) below_in)
-      moved asked answers goes (world_by n kinds args seen))
+      ∙ outcome-same (answer_by number kinds args seen) (top_locals f.frames) below_in)
+      moved asked answers goes (world_by number kinds args seen))
 
-  -- there is such a method, and memory was enough for it
-  pub runs-named : (native : Native) (result : Result Asked NoMemory) (moved : FramesView) (heap : HeapView) (made : MadeView) (read : ℕ) (out : List ℕ)
-      → IsCalled w r s old (Some native) heap made read out s.loaded args
+  -- memory was enough for it
+  pub runs-numbered : (native : Native) (result : Result Asked NoMemory) (moved : FramesView) (heap : HeapView) (made : MadeView) (read : ℕ) (out : List ℕ)
+      → IsCalled w number s old native heap made read out s.loaded args
       → OnOk result (is_done native ≡ true)
       → IfOk result (λ a. answer_view a ≡ answer_of (λ l o. outcome_by native l (drop count o)) f)
       → OnOk result (moved ≡ frames_of (λ l o. outcome_by native l (drop count o)) next f)
-      → Does result (runs_native w (Some r) args s (top_locals f.frames) below_in) next (changed f s old)
-      (changed moved (record s { heap = heap; made = made; read = read }) out)
-  runs-named native (Err e) moved heap made read out is enough answers goes = tt
-  runs-named native (Ok asked) moved heap made read out is enough answers goes =
-      subst (λ (x : HeapView). IsDone rule next (changed f s old) (changed moved (record s { heap = x; made = made; read = read }) out) asked) (sym is.heaped)
-      (subst (λ (x : MadeView). IsDone rule next (changed f s old) (changed moved (record s { heap = left.heap; made = x; read = read }) out) asked) (sym is.kept)
-      (subst (λ (x : ℕ). IsDone rule next (changed f s old) (changed moved (record s { heap = left.heap; made = left.made; read = x }) out) asked) (sym is.taken)
-      (subst (λ (x : List ℕ). IsDone rule next (changed f s old) (changed moved (shared_with left s) x) asked) (sym is.written)
-      (by-number native (native_number r) moved asked enough is.answer answers goes))))
+      → Does result comes_to next (changed f s old) (changed moved (record s { heap = heap; made = made; read = read }) out)
+  runs-numbered native (Err e) moved heap made read out is enough answers goes = tt
+  runs-numbered native (Ok asked) moved heap made read out is enough answers goes =
+      subst (λ (x : HeapView). IsDone comes_to next (changed f s old) (changed moved (record s { heap = x; made = made; read = read }) out) asked) (sym is.heaped)
+      (subst (λ (x : MadeView). IsDone comes_to next (changed f s old) (changed moved (record s { heap = left.heap; made = x; read = read }) out) asked) (sym is.kept)
+      (subst (λ (x : ℕ). IsDone comes_to next (changed f s old) (changed moved (record s { heap = left.heap; made = left.made; read = x }) out) asked) (sym is.taken)
+      (subst (λ (x : List ℕ). IsDone comes_to next (changed f s old) (changed moved (shared_with left s) x) asked) (sym is.written)
+      (by-number native moved asked enough is.answer answers goes))))
     where
-      rule : Done
-      rule = comes_to (native_number r)
-
       left : natives.World
-      left = left_in native (native_number r)
-
-  -- there is none
-  pub runs-unnamed : (heap : HeapView) (made : MadeView) (read : ℕ) (out : List ℕ) → IsCalled w r s old None heap made read out s.loaded args
-      → IsDone (runs_native w (Some r) args s (top_locals f.frames) below_in) next (changed f s old)
-      (changed f (record s { heap = heap; made = made; read = read }) out) (Refused Broken)
-  runs-unnamed heap made read out is = by (native_number r) is.answer is.heaped is.kept is.taken is.written
-    where
-      nothing : (n : ℕ) → Some (answer_by n kinds args seen) ≡ None → ⊥
-      nothing n e = cc
-
-      by : (n : Option ℕ) → option_map (λ number. answer_by number kinds args seen) n ≡ None
-          → heap ≡ (option_map_or (λ number. left_by false number kinds args seen) n seen).heap
-          → made ≡ (option_map_or (λ number. left_by false number kinds args seen) n seen).made
-          → read ≡ (option_map_or (λ number. left_by false number kinds args seen) n seen).read
-          → out ≡ old ++ (option_map_or (λ number. left_by false number kinds args seen) n seen).wrote
-          → IsDone (comes_to n) next (changed f s old) (changed f (record s { heap = heap; made = made; read = read }) out) (Refused Broken)
-      by (Some n) is heaped kept taken written = absurd (nothing n is)
-      by None is heaped kept taken written =
-          subst (λ (x : HeapView). IsDone rule next (changed f s old) (changed f (record s { heap = x; made = made; read = read }) out) (Refused Broken)) (sym heaped)
-          (subst (λ (x : MadeView). IsDone rule next (changed f s old) (changed f (record s { made = x; read = read }) out) (Refused Broken)) (sym kept)
-          (subst (λ (x : ℕ). IsDone rule next (changed f s old) (changed f (record s { read = x }) out) (Refused Broken)) (sym taken)
-          (subst (λ (x : List ℕ). IsDone rule next (changed f s old) (changed f s x) (Refused Broken)) (sym written)
-          (record { answer = refl; frames = refl; shared = refl; output = refl }))))
-        where
-          rule : Done
-          rule = done s (Breaks false)
+      left = left_in native
 
 -- ---- arguments
 

@@ -24,7 +24,7 @@ use Rattle.jvm_named.specs.declared.targets.Target.{Target as TheTarget}
 use Rattle.jvm_named.specs.Answers.{refusal_view}
 use Rattle.jvm_named.specs.Does.{IsDone, changed}
 use Rattle.jvm_named.specs.Objects.{class_at_kind}
-use Rattle.jvm_named.specs.Members.{at_place}
+use Rattle.jvm_named.specs.Callees.{chosen_place}
 use Rattle.jvm_named.specs.Resolved.{invokes_instance, invokes_static_method, method_found}
 use Rattle.jvm_named.specs.Targets.{Target, as_datum, data_in, instance_target, invokes_target, static_target, target_in, unless_unready, unready_by}
 
@@ -90,7 +90,7 @@ module _ (w : World) (r : Reference) (s : Shared) (l : Locals) (o : Operands) wh
 
 -- ---- a target that was found
 
-length-data : (count : ℕ) (o : Operands) → count ≤ length o → length (data_in count o) ≡ count
+pub length-data : (count : ℕ) (o : Operands) → count ≤ length o → length (data_in count o) ≡ count
 length-data count o enough =
     let all : length (data_in count o) ≡ length (reverse (take count o)) = length-map (reverse (take count o)) as_datum in
     let back : length (reverse (take count o)) ≡ length (take count o) = length-reverse (take count o) in
@@ -98,9 +98,9 @@ length-data count o enough =
     omega (arith, all, back, len, enough)
 
 pub does-target : (w : World) (found : Result Target Outcome) (s : Shared) (l : Locals) (o : Operands) (t : TheTarget) → Ok (target_in o t) ≡ found → t.count ≤ length o
-    → invokes_selected w (option_map at_place t.selected) (data_in t.count o) s l (drop t.count o) ≡ invokes_target w found s l o
+    → invokes_selected w (option_map chosen_place t.selected) (data_in t.count o) s l (drop t.count o) ≡ invokes_target w found s l o
 does-target w found s l o t is enough =
-    ap (λ n. invokes_selected w (option_map at_place t.selected) (data_in t.count o) s l (drop n o)) (sym (length-data t.count o enough))
+    ap (λ n. invokes_selected w (option_map chosen_place t.selected) (data_in t.count o) s l (drop n o)) (sym (length-data t.count o enough))
     ∙ ap (λ x. invokes_target w x s l o) is
 
 -- ---- a refusal changes nothing

@@ -11,3 +11,5 @@ pub mod Targets
 pub mod Does
 pub mod Natives
 pub mod Arrays
+pub mod Known
+pub mod Callees

@@ -25,7 +25,7 @@ use Rattle.jvm_named.specs.declared.targets.Target.{Target as TheTarget}
 use Rattle.jvm_named.specs.Objects.{class_at_kind}
 use Rattle.jvm_named.specs.declared.asked.Refusal.{Refusal}
 use Rattle.jvm_named.specs.Answers.{refusal_view}
-use Rattle.jvm_named.specs.Members.{at_place}
+use Rattle.jvm_named.specs.Callees.{chosen_place}
 use Rattle.jvm_named.specs.Resolved.{method_found}
 
 -- ---- arguments
@@ -62,7 +62,7 @@ pub record Target : Type 0 where
   pub args : List Datum
 
 abbrev pub target_in : Operands → TheTarget → Target
-target_in o t = record { selected = option_map at_place t.selected; args = data_in t.count o }
+target_in o t = record { selected = option_map chosen_place t.selected; args = data_in t.count o }
 
 abbrev pub selecting_view : Chosen → Selecting
 selecting_view chosen.Virtual = Virtual

@@ -1,6 +1,6 @@
 //! An attempt of an instruction that names a class or a member.
 
-ghost use Rattle.std.specs.Prelude.{◌≡◌, ◌++◌, is_some, IfOk, IfSome, IfNone, OnOk};
+ghost use Rattle.std.specs.Prelude.{◌≡◌, ◌++◌, is_some, true, IfOk, IfSome, IfNone, OnOk};
 ghost use Rattle.class_linker.specs.Linkers.{IsLoaded};
 ghost use Rattle.frame_stack.specs.FrameLists.{top_operands};
 ghost use Rattle.jvm_model.specs.KindNumbers.{user_count};
@@ -9,7 +9,9 @@ ghost use Rattle.jvm_model.specs.NamingRules.{does_named};
 ghost use Rattle.jvm_named.specs.Answers.{Answers, Moves, Shares, answer_of, answer_view};
 ghost use Rattle.jvm_named.specs.Answers.{answer_by, frames_by, frames_of, shared_by, wrote_by};
 ghost use Rattle.jvm_named.specs.Attempts.{IsFound, attempts, linker_loaded, linker_with};
+ghost use Rattle.jvm_named.specs.Attempts.{loaded_for};
 ghost use Rattle.jvm_named.specs.Attempts.{is_loaded, loads_nothing, shared_loaded, world_over};
+ghost use Rattle.jvm_named.specs.Known.{IsKnown, LoadsNothing};
 ghost use Rattle.jvm_named.specs.Names.{naming_view};
 ghost use Rattle.jvm_named.specs.Natives.{HasBuiltIn};
 ghost use Rattle.jvm_named.specs.Numbers.{AreNumbers};
@@ -18,6 +20,7 @@ ghost use Rattle.jvm_named.specs.Resolved.{skips};
 
 use crate::asked::{Asked, Refusal};
 use crate::doing::do_resolved;
+use crate::known::{Found, Known};
 use crate::moving::{keep, replace};
 use crate::naming::Naming;
 use crate::numbers::MethodNumbers;
@@ -137,7 +140,8 @@ fn skip(frames: &mut Frames, naming: &Naming, next: u16) -> Asked
     }
 }
 
-/// What the instruction does, with what it names found.
+/// What the instruction does, with what it names found, and what is known of it then.
+#[tactic(auto, using(crate::proofs::Again::known_found))]
 fn do_found(
     alloc: Global,
     linker: &Linker,
@@ -149,10 +153,13 @@ fn do_found(
     naming: &Naming,
     found: Option<Result<u32, Refusal>>,
     next: u16,
+    learnt: &mut Option<Known>,
 ) -> Result<Asked, NoMemory>
     requires linked { linker.now.loaded ≡ shared.old.loaded }
     requires found { IsFound linker.now (naming_view naming.now)
         (top_operands frames.old.frames) found }
+    requires loads { resolves (naming_view naming.now) (top_operands frames.old.frames) ≡ true →
+        LoadsNothing linker.now (naming_view naming.now) }
     requires numbers { AreNumbers linker.now.program numbers.now }
     requires built_in { HasBuiltIn linker.now }
     requires objects { AreLoaded linker.now shared.old.heap }
@@ -167,20 +174,29 @@ fn do_found(
     ensures output { OnOk result (output.new ≡ output.old ++ wrote_by (does_named (world_over
         linker.now input.now) (naming_view naming.now) shared.old) frames.old) }
     ensures objects { OnOk result (AreLoaded linker.now shared.new.heap) }
+    ensures learnt { OnOk result (IfSome learnt.new
+        (λ known. IsKnown linker.now (naming_view naming.now) known)) }
 {
+    *learnt = None;
     match found {
         None => Ok(skip(frames, naming, next)),
         Some(Err(refusal)) => Ok(Asked::Refused(refusal)),
-        Some(Ok(kind)) => do_resolved(
-            alloc, linker, numbers, shared, frames, input, output, naming, kind, next,
-        ),
+        Some(Ok(kind)) => {
+            let mut found = Found::Nothing;
+            let asked = do_resolved(
+                alloc, linker, numbers, shared, frames, input, output, naming, kind, &mut found,
+                next,
+            )?;
+            *learnt = Some(Known { kind, found });
+            Ok(asked)
+        }
     }
 }
 
 /// Attempts an instruction that names a class or a member (JVM Specification 5.4.3, 6.5): loads what it names, and does what its rule
 /// says over what is loaded then. `next` is the place behind it, `input` the whole input, and `output` what was written so far. The
 /// built-in classes have to be loaded, the class of each object, and that in which an invokespecial stands; they are then, too. An Err
-/// says that memory ran out, and nothing of what is changed.
+/// says that memory ran out, and nothing of what is changed. What is learnt of the names serves the next attempt.
 pub fn attempt(
     alloc: Global,
     linker: &mut Linker,
@@ -191,6 +207,7 @@ pub fn attempt(
     output: &mut Seq<u8>,
     naming: &Naming,
     next: u16,
+    learnt: &mut Option<Known>,
 ) -> Result<Asked, NoMemory>
     requires linked { linker.old.loaded ≡ shared.old.loaded }
     requires numbers { AreNumbers linker.old.program numbers.now }
@@ -211,10 +228,12 @@ pub fn attempt(
     ensures program { linker.new.program ≡ linker.old.program }
     ensures built_in { OnOk result (HasBuiltIn linker.new) }
     ensures objects { OnOk result (AreLoaded linker.new shared.new.heap) }
+    ensures learnt { OnOk result (IfSome learnt.new
+        (λ known. IsKnown linker.new (naming_view naming.now) known)) }
 {
     let found = find(linker, &mut shared.loaded, frames, naming)?;
     do_found(
-        alloc, linker, numbers, shared, frames, input, output, naming, found, next,
+        alloc, linker, numbers, shared, frames, input, output, naming, found, next, learnt,
     )
 }
 
@@ -230,6 +249,7 @@ pub fn attempt_loaded(
     output: &mut Seq<u8>,
     naming: &Naming,
     next: u16,
+    learnt: &mut Option<Known>,
 ) -> Result<Option<Asked>, NoMemory>
     requires linked { linker.old.loaded ≡ shared.old.loaded }
     requires numbers { AreNumbers linker.old.program numbers.now }
@@ -260,12 +280,64 @@ pub fn attempt_loaded(
     ensures program { linker.new.program ≡ linker.old.program }
     ensures built_in { OnOk result (HasBuiltIn linker.new) }
     ensures objects { OnOk result (AreLoaded linker.new shared.new.heap) }
+    ensures learnt { OnOk result (IfSome learnt.new
+        (λ known. IsKnown linker.new (naming_view naming.now) known)) }
 {
     let Some(found) = find_loaded(linker, &mut shared.loaded, frames, naming)? else {
+        *learnt = None;
         return Ok(None);
     };
     let asked = do_found(
-        alloc, linker, numbers, shared, frames, input, output, naming, found, next,
+        alloc, linker, numbers, shared, frames, input, output, naming, found, next, learnt,
     )?;
     Ok(Some(asked))
+}
+
+// ---- an attempt of what is known
+
+/// Attempts an instruction of whose names it is known what they come to: nothing is loaded, and no name is looked up that is
+/// known. What is known then serves the next attempt.
+#[tactic(auto, using(crate::proofs::Again::loaded_again, crate::proofs::Again::loads_none))]
+pub fn attempt_known(
+    alloc: Global,
+    linker: &Linker,
+    numbers: &MethodNumbers,
+    shared: &mut Shared,
+    frames: &mut Frames,
+    input: &[u8],
+    output: &mut Seq<u8>,
+    naming: &Naming,
+    next: u16,
+    known: &mut Known,
+) -> Result<Asked, NoMemory>
+    requires linked { linker.now.loaded ≡ shared.old.loaded }
+    requires known { IsKnown linker.now (naming_view naming.now) known.old }
+    requires numbers { AreNumbers linker.now.program numbers.now }
+    requires built_in { HasBuiltIn linker.now }
+    requires objects { AreLoaded linker.now shared.old.heap }
+    requires caller { HasLoadedCaller linker.now (naming_view naming.now) }
+    requires dimensions { HasDimensions (naming_view naming.now) }
+    ensures answer { Answers result (attempts (world_over linker.now input.now) (naming_view
+        naming.now) shared.old frames.old) frames.old }
+    ensures frames { Moves result frames.new (attempts (world_over linker.now input.now)
+        (naming_view naming.now) shared.old frames.old) next frames.old }
+    ensures shared { Shares result shared.new (attempts (world_over linker.now input.now)
+        (naming_view naming.now) shared.old frames.old) frames.old }
+    ensures output { OnOk result (output.new ≡ output.old ++ wrote_by (attempts (world_over
+        linker.now input.now) (naming_view naming.now) shared.old frames.old) frames.old) }
+    ensures loaded { linker.now.loaded
+        ≡ loaded_for linker.now.program (naming_view naming.now) shared.old frames.old }
+    ensures loads { let w = world_over linker.now input.now in
+        is_loaded w (naming_view naming.now) shared.old frames.old ≡ true }
+    ensures objects { OnOk result (AreLoaded linker.now shared.new.heap) }
+    ensures known { IsKnown linker.now (naming_view naming.now) known.new }
+{
+    if !resolves(frames, naming) {
+        return Ok(skip(frames, naming, next));
+    }
+    let kind = known.kind;
+    let found = &mut known.found;
+    do_resolved(
+        alloc, linker, numbers, shared, frames, input, output, naming, kind, found, next,
+    )
 }

@@ -1,16 +1,20 @@
 //! invokestatic, invokevirtual, invokeinterface and invokespecial (JVM Specification 5.4.3.3, 5.4.3.4, 6.5), where the class of the
 //! method's name was resolved.
 
-ghost use Rattle.std.specs.Prelude.{◌≡◌, ◌≤◌, ◌++◌, Some, length, drop, OnOk};
+ghost use Rattle.std.specs.Prelude.{◌≡◌, ◌≤◌, ◌++◌, Some, length, drop, IfSome, OnOk};
 ghost use Rattle.std.specs.Option.{option_map};
 ghost use Rattle.frame_stack.specs.FrameLists.{top_operands};
 ghost use Rattle.jvm_basic.specs.Outcomes.{top_locals};
 ghost use Rattle.jvm_model.specs.InvocationRules.{OfInterface, Special, Virtual};
 ghost use Rattle.jvm_model.specs.InvocationRules.{invokes_native, invokes_selected};
 ghost use Rattle.jvm_model.specs.Naming as model;
+ghost use Rattle.jvm_model.specs.Naming.{Invokeinterface, Invokespecial, Invokestatic};
+ghost use Rattle.jvm_model.specs.Naming.{Invokevirtual};
 ghost use Rattle.jvm_named.specs.Answers.{Answers, Moves, Shares, wrote_by};
 ghost use Rattle.jvm_named.specs.Attempts.{world_over};
+ghost use Rattle.jvm_named.specs.Callees.{HasCallee, chosen_place};
 ghost use Rattle.jvm_named.specs.Does.{Does, changed};
+ghost use Rattle.jvm_named.specs.Known.{IsFoundAs, naming_by};
 ghost use Rattle.jvm_named.specs.Natives.{HasBuiltIn};
 ghost use Rattle.jvm_named.specs.Numbers.{AreNumbers};
 ghost use Rattle.jvm_named.specs.Objects.{AreLoaded, HasLoadedCaller, IsResolved};
@@ -20,8 +24,9 @@ ghost use Rattle.jvm_named.specs.Targets.{HasCaller, selecting_view, data_in};
 
 use crate::asked::{Asked, Exception, Refusal};
 use crate::instances::user_count;
+use crate::known::{Callee, Chosen, Found};
 use crate::naming::MethodName;
-use crate::natives::run_native;
+use crate::natives::{run_native, run_numbered};
 use crate::numbers::MethodNumbers;
 use crate::place::Place;
 use crate::targets::{Selecting, instance_target, is_abstract, static_target};
@@ -96,6 +101,46 @@ fn invoke_found(
     }
 }
 
+/// The method that was selected, by what is invoked of it.
+fn invoke_chosen(
+    alloc: Global,
+    linker: &Linker,
+    numbers: &MethodNumbers,
+    shared: &mut Shared,
+    frames: &mut Frames,
+    input: &[u8],
+    output: &mut Seq<u8>,
+    m: Chosen,
+    count: u16,
+    next: u16,
+) -> Result<Asked, NoMemory>
+    requires callee { HasCallee linker.now.program m }
+    requires within { count ≤ length (top_operands frames.old.frames) }
+    requires numbers { AreNumbers linker.now.program numbers.now }
+    requires linked { linker.now.loaded ≡ shared.old.loaded }
+    requires built_in { HasBuiltIn linker.now }
+    requires objects { AreLoaded linker.now shared.old.heap }
+    ensures done { let fs = frames.old.frames in let o = top_operands fs in
+        let rule = invokes_selected (world_over linker.now input.now) (Some (chosen_place m))
+        (data_in count o) shared.old (top_locals fs) (drop count o) in
+        Does result rule next (changed frames.old shared.old output.old)
+        (changed frames.new shared.new output.new) }
+    ensures objects { OnOk result (AreLoaded linker.now shared.new.heap) }
+{
+    match m.callee {
+        Callee::Code(number) => Ok(Asked::Invokes(number, count)),
+        Callee::Native(number) => run_numbered(
+            alloc, linker, shared, frames, input, output, number, count, next,
+        ),
+        Callee::Other => {
+            let place = m.place;
+            invoke_found(
+                alloc, linker, numbers, shared, frames, input, output, place, count, next,
+            )
+        }
+    }
+}
+
 /// The method that was selected, if one was.
 fn invoke_selected(
     alloc: Global,
@@ -105,24 +150,26 @@ fn invoke_selected(
     frames: &mut Frames,
     input: &[u8],
     output: &mut Seq<u8>,
-    selected: Option<Place>,
+    selected: Option<Chosen>,
     count: u16,
     next: u16,
 ) -> Result<Asked, NoMemory>
+    requires callee { IfSome selected (HasCallee linker.now.program) }
     requires within { count ≤ length (top_operands frames.old.frames) }
     requires numbers { AreNumbers linker.now.program numbers.now }
     requires linked { linker.now.loaded ≡ shared.old.loaded }
     requires built_in { HasBuiltIn linker.now }
     requires objects { AreLoaded linker.now shared.old.heap }
     ensures done { let fs = frames.old.frames in let o = top_operands fs in
-        let rule = invokes_selected (world_over linker.now input.now) (option_map at_place selected)
-        (data_in count o) shared.old (top_locals fs) (drop count o) in
+        let rule = invokes_selected (world_over linker.now input.now)
+        (option_map chosen_place selected) (data_in count o) shared.old (top_locals fs)
+        (drop count o) in
         Does result rule next (changed frames.old shared.old output.old)
         (changed frames.new shared.new output.new) }
     ensures objects { OnOk result (AreLoaded linker.now shared.new.heap) }
 {
     match selected {
-        Some(m) => invoke_found(
+        Some(m) => invoke_chosen(
             alloc, linker, numbers, shared, frames, input, output, m, count, next,
         ),
         None => Ok(Asked::Refused(Refusal::Raises(Exception::AbstractMethod, None))),
@@ -143,10 +190,13 @@ fn invoke_instance(
     by: Selecting<'_>,
     method: &MethodName,
     kind: u32,
+    found: &mut Found,
     next: u16,
 ) -> Result<Asked, NoMemory>
     requires resolved { IsResolved linker.now method.now.class kind }
     requires caller { HasCaller linker.now (selecting_view by) }
+    requires found { IsFoundAs found.old linker.now.program kind
+        (naming_by (selecting_view by) method.now) }
     requires numbers { AreNumbers linker.now.program numbers.now }
     requires linked { linker.now.loaded ≡ shared.old.loaded }
     requires built_in { HasBuiltIn linker.now }
@@ -157,8 +207,19 @@ fn invoke_instance(
         Does result rule next (changed frames.old shared.old output.old)
         (changed frames.new shared.new output.new) }
     ensures objects { OnOk result (AreLoaded linker.now shared.new.heap) }
+    ensures found { IsFoundAs found.new linker.now.program kind
+        (naming_by (selecting_view by.entry) method.now) }
 {
-    match instance_target(linker, &shared.heap, frames, by, method, kind) {
+    match instance_target(
+        linker,
+        numbers,
+        &shared.heap,
+        frames,
+        by,
+        method,
+        kind,
+        found,
+    ) {
         Ok(target) => invoke_selected(
             alloc,
             linker,
@@ -186,9 +247,12 @@ pub fn invoke_virtual(
     output: &mut Seq<u8>,
     method: &MethodName,
     kind: u32,
+    found: &mut Found,
     next: u16,
 ) -> Result<Asked, NoMemory>
     requires resolved { IsResolved linker.now method.now.class kind }
+    requires found { IsFoundAs found.old linker.now.program kind
+        (Invokevirtual method.now) }
     requires numbers { AreNumbers linker.now.program numbers.now }
     requires linked { linker.now.loaded ≡ shared.old.loaded }
     requires built_in { HasBuiltIn linker.now }
@@ -202,6 +266,8 @@ pub fn invoke_virtual(
     ensures output { OnOk result (output.new ≡ output.old ++ wrote_by (invokes_instance (world_over
         linker.now input.now) kind Virtual method.now shared.old) frames.old) }
     ensures objects { OnOk result (AreLoaded linker.now shared.new.heap) }
+    ensures found { IsFoundAs found.new linker.now.program kind
+        (Invokevirtual method.now) }
 {
     invoke_instance(
         alloc,
@@ -214,6 +280,7 @@ pub fn invoke_virtual(
         Selecting::Virtual,
         method,
         kind,
+        found,
         next,
     )
 }
@@ -229,9 +296,12 @@ pub fn invoke_interface(
     output: &mut Seq<u8>,
     method: &MethodName,
     kind: u32,
+    found: &mut Found,
     next: u16,
 ) -> Result<Asked, NoMemory>
     requires resolved { IsResolved linker.now method.now.class kind }
+    requires found { IsFoundAs found.old linker.now.program kind
+        (Invokeinterface method.now) }
     requires numbers { AreNumbers linker.now.program numbers.now }
     requires linked { linker.now.loaded ≡ shared.old.loaded }
     requires built_in { HasBuiltIn linker.now }
@@ -245,6 +315,8 @@ pub fn invoke_interface(
     ensures output { OnOk result (output.new ≡ output.old ++ wrote_by (invokes_instance (world_over
         linker.now input.now) kind OfInterface method.now shared.old) frames.old) }
     ensures objects { OnOk result (AreLoaded linker.now shared.new.heap) }
+    ensures found { IsFoundAs found.new linker.now.program kind
+        (Invokeinterface method.now) }
 {
     invoke_instance(
         alloc,
@@ -257,6 +329,7 @@ pub fn invoke_interface(
         Selecting::OfInterface,
         method,
         kind,
+        found,
         next,
     )
 }
@@ -274,11 +347,14 @@ pub fn invoke_special(
     interface: bool,
     method: &MethodName,
     kind: u32,
+    found: &mut Found,
     next: u16,
 ) -> Result<Asked, NoMemory>
     requires resolved { IsResolved linker.now method.now.class kind }
     requires caller { HasLoadedCaller linker.now
         (model.Invokespecial caller.now method.now interface) }
+    requires found { IsFoundAs found.old linker.now.program kind
+        (Invokespecial caller.now method.now interface) }
     requires numbers { AreNumbers linker.now.program numbers.now }
     requires linked { linker.now.loaded ≡ shared.old.loaded }
     requires built_in { HasBuiltIn linker.now }
@@ -293,6 +369,8 @@ pub fn invoke_special(
         ≡ output.old ++ wrote_by (invokes_instance (world_over linker.now input.now) kind
         (Special caller.now interface) method.now shared.old) frames.old) }
     ensures objects { OnOk result (AreLoaded linker.now shared.new.heap) }
+    ensures found { IsFoundAs found.new linker.now.program kind
+        (Invokespecial caller.now method.now interface) }
 {
     invoke_instance(
         alloc,
@@ -305,6 +383,7 @@ pub fn invoke_special(
         Selecting::Special(caller, interface),
         method,
         kind,
+        found,
         next,
     )
 }
@@ -322,9 +401,12 @@ fn invoke_fixed(
     output: &mut Seq<u8>,
     method: &MethodName,
     kind: u32,
+    found: &mut Found,
     next: u16,
 ) -> Result<Asked, NoMemory>
     requires resolved { IsResolved linker.now method.now.class kind }
+    requires found { IsFoundAs found.old linker.now.program kind
+        (Invokestatic method.now) }
     requires numbers { AreNumbers linker.now.program numbers.now }
     requires linked { linker.now.loaded ≡ shared.old.loaded }
     requires built_in { HasBuiltIn linker.now }
@@ -335,8 +417,10 @@ fn invoke_fixed(
         Does result rule next (changed frames.old shared.old output.old)
         (changed frames.new shared.new output.new) }
     ensures objects { OnOk result (AreLoaded linker.now shared.new.heap) }
+    ensures found { IsFoundAs found.new linker.now.program kind
+        (Invokestatic method.now) }
 {
-    match static_target(alloc, linker, shared, frames, method, kind)? {
+    match static_target(alloc, linker, numbers, shared, frames, method, kind, found)? {
         Ok(target) => invoke_selected(
             alloc,
             linker,
@@ -364,9 +448,12 @@ pub fn invoke_static(
     output: &mut Seq<u8>,
     method: &MethodName,
     kind: u32,
+    found: &mut Found,
     next: u16,
 ) -> Result<Asked, NoMemory>
     requires resolved { IsResolved linker.now method.now.class kind }
+    requires found { IsFoundAs found.old linker.now.program kind
+        (Invokestatic method.now) }
     requires numbers { AreNumbers linker.now.program numbers.now }
     requires linked { linker.now.loaded ≡ shared.old.loaded }
     requires built_in { HasBuiltIn linker.now }
@@ -380,8 +467,10 @@ pub fn invoke_static(
     ensures output { OnOk result (output.new ≡ output.old ++ wrote_by (invokes_static_method
         (world_over linker.now input.now) kind method.now shared.old) frames.old) }
     ensures objects { OnOk result (AreLoaded linker.now shared.new.heap) }
+    ensures found { IsFoundAs found.new linker.now.program kind
+        (Invokestatic method.now) }
 {
     invoke_fixed(
-        alloc, linker, numbers, shared, frames, input, output, method, kind, next,
+        alloc, linker, numbers, shared, frames, input, output, method, kind, found, next,
     )
 }

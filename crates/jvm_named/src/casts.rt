@@ -7,10 +7,12 @@ ghost use Rattle.jvm_model.specs.Kinds.{kind_named};
 ghost use Rattle.jvm_model.specs.Naming.{is_instance};
 ghost use Rattle.jvm_model.specs.Values.{ref_of};
 ghost use Rattle.jvm_named.specs.Answers.{answer_of, answer_view, frames_of};
+ghost use Rattle.jvm_named.specs.Known.{IsClassFound};
 ghost use Rattle.jvm_named.specs.Objects.{AreLoaded, IsResolved};
 
 use crate::asked::{Asked, Exception, Refusal};
-use crate::instances::is_instance;
+use crate::instances::kind_of_object;
+use crate::known::Found;
 use crate::moving::{keep, replace};
 use class_linker::Linker;
 use frame_stack::Frames;
@@ -20,13 +22,35 @@ use jvm_basic::ref_of;
 use jvm_model::Shared;
 
 /// Whether an object is of the class, or of the array type, with this name, or of a subtype.
+/// The kind of the last object that was is kept.
 #[tactic(auto, using(crate::proofs::Slots::is_instance_named))]
-pub fn is_of(linker: &Linker, shared: &Shared, name: &Text16, kind: u32, object: u32) -> bool
+pub fn is_of(
+    linker: &Linker,
+    shared: &Shared,
+    name: &Text16,
+    kind: u32,
+    found: &mut Found,
+    object: u32,
+) -> bool
     requires named { kind_named linker.now.program name.now ≡ Some kind }
     requires objects { AreLoaded linker.now shared.now.heap }
-    ensures { result ≡ is_instance linker.now.program shared.now.heap object name.now }
+    requires found { IsClassFound found.old linker.now.program kind }
+    ensures answer { result ≡ is_instance linker.now.program shared.now.heap object name.now }
+    ensures found { IsClassFound found.new linker.now.program kind }
 {
-    is_instance(linker, &shared.heap, object, kind)
+    let Some(lower) = kind_of_object(linker, &shared.heap, object) else {
+        return false;
+    };
+    if let Found::Below(last) = *found
+        && last == lower
+    {
+        return true;
+    }
+    if !linker.subtype(lower, kind) {
+        return false;
+    }
+    *found = Found::Below(lower);
+    true
 }
 
 /// checkcast.
@@ -36,19 +60,22 @@ pub fn cast(
     frames: &mut Frames,
     name: &Text16,
     kind: u32,
+    found: &mut Found,
     next: u16,
 ) -> Asked
     requires resolved { IsResolved linker.now name.now kind }
+    requires found { IsClassFound found.old linker.now.program kind }
     requires objects { AreLoaded linker.now shared.now.heap }
     ensures answer { answer_view result ≡ answer_of (λ l o. casts_to linker.now.program name.now
         (ref_of o) shared.now l o) frames.old }
     ensures frames { frames.new ≡ frames_of (λ l o. casts_to linker.now.program name.now
         (ref_of o) shared.now l o) next frames.old }
+    ensures found { IsClassFound found.new linker.now.program kind }
 {
     let Some(object) = ref_of(frames) else {
         return Asked::Refused(Refusal::Breaks);
     };
-    if is_of(linker, shared, name, kind, object) {
+    if is_of(linker, shared, name, kind, found, object) {
         keep(frames, next)
     } else {
         Asked::Refused(Refusal::Raises(Exception::ClassCast, None))
@@ -69,18 +96,21 @@ pub fn tell_instance(
     frames: &mut Frames,
     name: &Text16,
     kind: u32,
+    found: &mut Found,
     next: u16,
 ) -> Asked
     requires resolved { IsResolved linker.now name.now kind }
+    requires found { IsClassFound found.old linker.now.program kind }
     requires objects { AreLoaded linker.now shared.now.heap }
     ensures answer { answer_view result ≡ answer_of (λ l o. answers linker.now.program name.now
         (ref_of o) shared.now l o) frames.old }
     ensures frames { frames.new ≡ frames_of (λ l o. answers linker.now.program name.now
         (ref_of o) shared.now l o) next frames.old }
+    ensures found { IsClassFound found.new linker.now.program kind }
 {
     let Some(object) = ref_of(frames) else {
         return Asked::Refused(Refusal::Breaks);
     };
-    let answer = is_of(linker, shared, name, kind, object);
+    let answer = is_of(linker, shared, name, kind, found, object);
     replace(frames, int_for(answer), next)
 }

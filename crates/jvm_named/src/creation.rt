@@ -1,19 +1,22 @@
 //! new (JVM Specification 2.3, 2.4, 5.5, 6.5), where the name was resolved.
 
-ghost use Rattle.std.specs.Prelude.{◌≡◌, ◌+◌, [], length, map, IfOk, OnOk};
+ghost use Rattle.std.specs.Prelude.{◌≡◌, ◌+◌, [], true, length, map, IfNone, IfOk, IfSome, OnOk};
 ghost use Rattle.heap_objects.specs.Heaps.{with_instance, with_text};
-ghost use Rattle.jvm_model.specs.CreationRules.{allocates, makes_instance, makes_object, zero_of};
+ghost use Rattle.jvm_model.specs.CreationRules.{allocates, has_no_instances, makes_instance};
+ghost use Rattle.jvm_model.specs.CreationRules.{makes_object, zero_of};
 ghost use Rattle.jvm_model.specs.Layouts.{layout};
 ghost use Rattle.jvm_model.specs.Rules.{initialized};
 ghost use Rattle.jvm_model.specs.SharedState.{class_of_kind};
 ghost use Rattle.class_linker.specs.Linkers.{IsLoaded};
 ghost use Rattle.jvm_named.specs.Answers.{Answers, Moves, Shares};
+ghost use Rattle.jvm_named.specs.Known.{IsClassFound, IsMade};
 ghost use Rattle.jvm_named.specs.Objects.{AreLoaded, IsUsable};
 ghost use Rattle.jvm_named.specs.Resolved.{makes_new};
 
 use crate::asked::{Asked, Exception, Refusal};
 use crate::classes::{has_no_instances, is_text_class};
 use crate::instances::class_of_kind;
+use crate::known::Found;
 use crate::moving::put;
 use crate::statics::raise_unusable;
 use class_linker::Linker;
@@ -119,6 +122,38 @@ fn make_text(
     }
 }
 
+/// What `new` makes of a class that is looked up, which is kept: None where it has no instances, else whether they are texts.
+#[inline(never)]
+fn made_by_name(linker: &Linker, kind: u32, class: u32, found: &mut Found) -> Option<bool>
+    requires class { class ≡ class_of_kind linker.now.program kind }
+    requires found { IsClassFound found.old linker.now.program kind }
+    ensures none { IfNone result (has_no_instances linker.now.program class ≡ true) }
+    ensures some { IfSome result (IsMade linker.now.program class) }
+    ensures found { IsClassFound found.new linker.now.program kind }
+{
+    if has_no_instances(linker, class) {
+        return None;
+    }
+    let text = is_text_class(linker, class);
+    *found = Found::Made(text);
+    Some(text)
+}
+
+/// The same where it is known.
+#[inline(always)]
+fn made_of(linker: &Linker, kind: u32, class: u32, found: &mut Found) -> Option<bool>
+    requires class { class ≡ class_of_kind linker.now.program kind }
+    requires found { IsClassFound found.old linker.now.program kind }
+    ensures none { IfNone result (has_no_instances linker.now.program class ≡ true) }
+    ensures some { IfSome result (IsMade linker.now.program class) }
+    ensures found { IsClassFound found.new linker.now.program kind }
+{
+    if let Found::Made(text) = *found {
+        return Some(text);
+    }
+    made_by_name(linker, kind, class, found)
+}
+
 /// An object of a class, where the class has instances; it is initialized, or is being.
 fn make_instance(
     alloc: Global,
@@ -127,10 +162,13 @@ fn make_instance(
     frames: &mut Frames,
     kind: u32,
     class: u32,
+    found: &mut Found,
     next: u16,
 ) -> Result<Asked, NoMemory>
     requires class { IsLoaded linker.now class }
     requires usable { IsUsable linker.now kind }
+    requires kind { class ≡ class_of_kind linker.now.program kind }
+    requires found { IsClassFound found.old linker.now.program kind }
     requires objects { AreLoaded linker.now shared.old.heap }
     ensures answer { Answers result
         (makes_instance linker.now.program kind class shared.old) frames.old }
@@ -139,14 +177,13 @@ fn make_instance(
     ensures shared { Shares result shared.new
         (makes_instance linker.now.program kind class shared.old) frames.old }
     ensures objects { OnOk result (AreLoaded linker.now shared.new.heap) }
+    ensures found { IsClassFound found.new linker.now.program kind }
 {
-    if has_no_instances(linker, class) {
-        return Ok(Asked::Refused(Refusal::Raises(Exception::Instantiation, None)));
+    match made_of(linker, kind, class, found) {
+        None => Ok(Asked::Refused(Refusal::Raises(Exception::Instantiation, None))),
+        Some(true) => make_text(linker, shared, frames, kind, next),
+        Some(false) => make_fields(alloc, linker, shared, frames, kind, class, next),
     }
-    if is_text_class(linker, class) {
-        return make_text(linker, shared, frames, kind, next);
-    }
-    make_fields(alloc, linker, shared, frames, kind, class, next)
 }
 
 /// The same, once its class is initialized.
@@ -157,10 +194,13 @@ fn make_initialized(
     frames: &mut Frames,
     kind: u32,
     class: u32,
+    found: &mut Found,
     next: u16,
 ) -> Result<Asked, NoMemory>
     requires class { IsLoaded linker.now class }
     requires usable { IsUsable linker.now kind }
+    requires kind { class ≡ class_of_kind linker.now.program kind }
+    requires found { IsClassFound found.old linker.now.program kind }
     requires objects { AreLoaded linker.now shared.old.heap }
     ensures answer { Answers result (λ l o. initialized linker.now.program class shared.old
         (makes_instance linker.now.program kind class shared.old l o)) frames.old }
@@ -171,26 +211,33 @@ fn make_initialized(
         (λ l o. initialized linker.now.program class shared.old
         (makes_instance linker.now.program kind class shared.old l o)) frames.old }
     ensures objects { OnOk result (AreLoaded linker.now shared.new.heap) }
+    ensures found { IsClassFound found.new linker.now.program kind }
 {
     match shared.phases.at(class as usize) {
-        Some(Phase::Ready) => make_instance(alloc, linker, shared, frames, kind, class, next),
-        Some(Phase::Running) => make_instance(alloc, linker, shared, frames, kind, class, next),
+        Some(Phase::Ready) => make_instance(
+            alloc, linker, shared, frames, kind, class, found, next,
+        ),
+        Some(Phase::Running) => make_instance(
+            alloc, linker, shared, frames, kind, class, found, next,
+        ),
         Some(Phase::Fresh) => Ok(Asked::Refused(Refusal::Initializes(class))),
         Some(Phase::Erroneous) => raise_unusable(alloc, linker, class),
         None => raise_unusable(alloc, linker, class),
     }
 }
 
-/// new.
+/// new. What is found of the class is kept, and taken where it is known.
 pub fn make_new(
     alloc: Global,
     linker: &Linker,
     shared: &mut Shared,
     frames: &mut Frames,
     kind: u32,
+    found: &mut Found,
     next: u16,
 ) -> Result<Asked, NoMemory>
     requires usable { IsUsable linker.now kind }
+    requires found { IsClassFound found.old linker.now.program kind }
     requires objects { AreLoaded linker.now shared.old.heap }
     ensures answer { Answers result (makes_new linker.now.program kind shared.old) frames.old }
     ensures frames { Moves result frames.new (makes_new linker.now.program kind shared.old) next
@@ -198,7 +245,8 @@ pub fn make_new(
     ensures shared { Shares result shared.new (makes_new linker.now.program kind shared.old)
         frames.old }
     ensures objects { OnOk result (AreLoaded linker.now shared.new.heap) }
+    ensures found { IsClassFound found.new linker.now.program kind }
 {
     let class = class_of_kind(linker, kind);
-    make_initialized(alloc, linker, shared, frames, kind, class, next)
+    make_initialized(alloc, linker, shared, frames, kind, class, found, next)
 }

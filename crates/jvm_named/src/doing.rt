@@ -4,6 +4,7 @@ ghost use Rattle.std.specs.Prelude.{◌≡◌, ◌++◌, OnOk};
 ghost use Rattle.jvm_model.specs.Naming.{resolved_name};
 ghost use Rattle.jvm_named.specs.Answers.{Answers, Moves, Shares, wrote_by};
 ghost use Rattle.jvm_named.specs.Attempts.{world_over};
+ghost use Rattle.jvm_named.specs.Known.{IsFoundAs};
 ghost use Rattle.jvm_named.specs.Names.{naming_view};
 ghost use Rattle.jvm_named.specs.Natives.{HasBuiltIn};
 ghost use Rattle.jvm_named.specs.Numbers.{AreNumbers};
@@ -17,6 +18,7 @@ use crate::casts::{cast, tell_instance};
 use crate::class_objects::push_class_object;
 use crate::creation::make_new;
 use crate::fields::{get_field, put_field};
+use crate::known::Found;
 use crate::multi_arrays::make_arrays;
 use crate::naming::Naming;
 use crate::numbers::MethodNumbers;
@@ -28,7 +30,8 @@ use jvm_model::Shared;
 use std::alloc::Global;
 
 /// What the instruction does, with what it names resolved to this kind; of checkcast and instanceof where the operand is not null.
-#[tactic(auto, using(crate::proofs::Quiet::writes_new, crate::proofs::Quiet::writes_getfield, crate::proofs::Quiet::writes_putfield, crate::proofs::Quiet::writes_getstatic, crate::proofs::Quiet::writes_putstatic, crate::proofs::Quiet::writes_anewarray, crate::proofs::Quiet::writes_arrays, crate::proofs::Quiet::writes_class, crate::proofs::Quiet::shared_getfield, crate::proofs::Quiet::shared_getstatic, crate::proofs::KindLemmas::few_over))]
+/// What is found of a member is kept, and taken where it is known.
+#[tactic(auto, using(crate::proofs::Quiet::writes_new, crate::proofs::Quiet::writes_getfield, crate::proofs::Quiet::writes_putfield, crate::proofs::Quiet::writes_getstatic, crate::proofs::Quiet::writes_putstatic, crate::proofs::Quiet::writes_anewarray, crate::proofs::Quiet::writes_arrays, crate::proofs::Quiet::writes_class, crate::proofs::Quiet::shared_getfield, crate::proofs::Quiet::shared_getstatic, crate::proofs::KindLemmas::few_over, crate::proofs::KnownLemmas::class_found, crate::proofs::KnownLemmas::found_new, crate::proofs::KnownLemmas::found_checkcast, crate::proofs::KnownLemmas::found_instanceof))]
 pub fn do_resolved(
     alloc: Global,
     linker: &Linker,
@@ -39,10 +42,12 @@ pub fn do_resolved(
     output: &mut Seq<u8>,
     naming: &Naming,
     kind: u32,
+    found: &mut Found,
     next: u16,
 ) -> Result<Asked, NoMemory>
     requires linked { linker.now.loaded ≡ shared.old.loaded }
     requires resolved { IsResolved linker.now (resolved_name (naming_view naming.now)) kind }
+    requires found { IsFoundAs found.old linker.now.program kind (naming_view naming.now) }
     requires numbers { AreNumbers linker.now.program numbers.now }
     requires built_in { HasBuiltIn linker.now }
     requires objects { AreLoaded linker.now shared.old.heap }
@@ -57,34 +62,41 @@ pub fn do_resolved(
     ensures output { OnOk result (output.new ≡ output.old ++ wrote_by (does_resolved (world_over
         linker.now input.now) kind (naming_view naming.now) shared.old) frames.old) }
     ensures objects { OnOk result (AreLoaded linker.now shared.new.heap) }
+    ensures found { IsFoundAs found.new linker.now.program kind (naming_view naming.now) }
 {
     match naming {
-        Naming::New(_) => make_new(alloc, linker, shared, frames, kind, next),
-        Naming::Getfield(member) => get_field(linker, shared, frames, member, kind, next),
-        Naming::Putfield(member) => put_field(linker, shared, frames, member, kind, next),
-        Naming::Getstatic(member) => get_static(alloc, linker, shared, frames, member, kind, next),
-        Naming::Putstatic(member) => put_static(alloc, linker, shared, frames, member, kind, next),
+        Naming::New(_) => make_new(alloc, linker, shared, frames, kind, found, next),
+        Naming::Getfield(member) => get_field(linker, shared, frames, member, kind, found, next),
+        Naming::Putfield(member) => put_field(linker, shared, frames, member, kind, found, next),
+        Naming::Getstatic(member) => get_static(
+            alloc, linker, shared, frames, member, kind, found, next,
+        ),
+        Naming::Putstatic(member) => put_static(
+            alloc, linker, shared, frames, member, kind, found, next,
+        ),
         Naming::Invokevirtual(method) => {
             invoke_virtual(
-                alloc, linker, numbers, shared, frames, input, output, method, kind, next,
+                alloc, linker, numbers, shared, frames, input, output, method, kind, found, next,
             )
         }
         Naming::Invokespecial(caller, method, interface) => invoke_special(
             alloc, linker, numbers, shared, frames, input, output, caller, *interface, method,
-            kind, next,
+            kind, found, next,
         ),
         Naming::Invokestatic(method) => {
             invoke_static(
-                alloc, linker, numbers, shared, frames, input, output, method, kind, next,
+                alloc, linker, numbers, shared, frames, input, output, method, kind, found, next,
             )
         }
         Naming::Invokeinterface(method) => {
             invoke_interface(
-                alloc, linker, numbers, shared, frames, input, output, method, kind, next,
+                alloc, linker, numbers, shared, frames, input, output, method, kind, found, next,
             )
         }
-        Naming::Checkcast(name) => Ok(cast(linker, shared, frames, name, kind, next)),
-        Naming::Instanceof(name) => Ok(tell_instance(linker, shared, frames, name, kind, next)),
+        Naming::Checkcast(name) => Ok(cast(linker, shared, frames, name, kind, found, next)),
+        Naming::Instanceof(name) => {
+            Ok(tell_instance(linker, shared, frames, name, kind, found, next))
+        }
         Naming::Anewarray(_) => make_array_of(linker, shared, frames, kind, next),
         Naming::Multianewarray(_, dimensions) => {
             make_arrays(alloc, linker, shared, frames, kind, *dimensions, next)

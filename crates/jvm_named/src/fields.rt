@@ -1,7 +1,7 @@
 //! getfield and putfield (JVM Specification 2.7, 5.4.3.2, 6.5), where the class of the field's name was resolved.
 
 ghost use Rattle.std.specs.Prelude.{◌≡◌, ◌==◌, count_by, false, is_some};
-ghost use Rattle.std.specs.Prelude.{take, true, IfOk, IfSome, OnOk, Some};
+ghost use Rattle.std.specs.Prelude.{take, true, IfOk, IfSome, Ok, OnOk, Some};
 ghost use Rattle.std.specs.Option.{option_map};
 ghost use Rattle.frame_stack.specs.FrameLists.{top_operands};
 ghost use Rattle.heap_objects.specs.Heaps.{kind_at, slot_at, with_slot_at};
@@ -9,20 +9,22 @@ ghost use Rattle.jvm_model.specs.FieldRules.{field_owner, fields_before, gets_of
 ghost use Rattle.jvm_model.specs.FieldRules.{puts_into, putting_of, slot_of};
 ghost use Rattle.jvm_model.specs.Kinds.{kind_named};
 ghost use Rattle.jvm_model.specs.LocalRules.{replaces};
-ghost use Rattle.jvm_model.specs.Naming.{extends};
+ghost use Rattle.jvm_model.specs.Naming.{Getfield, Putfield, extends};
 ghost use Rattle.jvm_model.specs.Values.{as_value, ref_of};
 ghost use Rattle.class_linker.specs.Linkers.{IsLoaded};
 ghost use Rattle.jvm_named.specs.Answers.{Answers, Moves, Shares, answer_by, answer_of};
-ghost use Rattle.jvm_named.specs.Answers.{answer_view, frames_by, frames_of, shared_by};
+ghost use Rattle.jvm_named.specs.Answers.{answer_view, found_view, frames_by, frames_of, shared_by};
 ghost use Rattle.jvm_named.specs.Fields.{has_field_at, is_of_instances, owner_found};
 ghost use Rattle.jvm_named.specs.Fields.{putting_view, writes};
+ghost use Rattle.jvm_named.specs.Known.{IsFoundAs};
 ghost use Rattle.jvm_named.specs.Members.{at_place, reference_of};
 ghost use Rattle.jvm_named.specs.Objects.{AreLoaded, IsResolved};
-ghost use Rattle.jvm_named.specs.Resolved.{gets_instance, puts_instance};
+ghost use Rattle.jvm_named.specs.Resolved.{field_found, gets_instance, puts_instance};
 
 use crate::asked::{Asked, Exception, Refusal};
 use crate::held::{held_by, narrowed};
 use crate::instances::{class_of_kind, kind_of_object};
+use crate::known::Found;
 use crate::members::field_found;
 use crate::moving::{drop_two, replace};
 use crate::naming::MemberName;
@@ -96,32 +98,40 @@ fn slot_of(linker: &Linker, lower: u32, field: Place) -> Option<u32>
     Some(slot as u32)
 }
 
-/// The class of an object, where it is of the kind that an instruction names and has the field.
-fn owner_class(linker: &Linker, heap: &Heap, kind: u32, field: Place, object: u32) -> Option<u32>
-    requires { AreLoaded linker.now heap.now }
-    ensures has { is_some result
-        ≡ has_field_at linker.now.program (kind_at object heap.now) kind field.class }
-    ensures loaded { IfSome result (λ lower. IsLoaded linker.now lower) }
-    ensures extends { IfSome result
-        (λ lower. extends linker.now.program lower field.class ≡ true) }
-{
-    let found = kind_of_object(linker, heap, object)?;
-    if !linker.subtype(found, kind) {
-        return None;
-    }
-    let lower = class_of_kind(linker, found);
-    if linker.extends(lower, field.class) {
-        Some(lower)
-    } else {
-        None
-    }
-}
-
-/// An object that has a field, and its class.
+/// An object that has a field, its kind and its class.
 #[derive(Clone, Copy)]
 pub struct Owner {
     pub object: u32,
+    pub kind: u32,
     pub class: u32,
+}
+
+/// The object with its kind and class, where it is of the kind that an instruction names and has the field.
+fn owner_of(linker: &Linker, heap: &Heap, kind: u32, field: Place, object: u32) -> Option<Owner>
+    requires { AreLoaded linker.now heap.now }
+    ensures has { is_some result
+        ≡ has_field_at linker.now.program (kind_at object heap.now) kind field.class }
+    ensures object { IfSome result (λ owner. owner.object ≡ object) }
+    ensures own { IfSome result
+        (λ owner. has_field_at linker.now.program (Some owner.kind) kind field.class ≡ true) }
+    ensures loaded { IfSome result (λ owner. IsLoaded linker.now owner.class) }
+    ensures extends { IfSome result
+        (λ owner. extends linker.now.program owner.class field.class ≡ true) }
+{
+    let lower = kind_of_object(linker, heap, object)?;
+    if !linker.subtype(lower, kind) {
+        return None;
+    }
+    let class = class_of_kind(linker, lower);
+    if linker.extends(class, field.class) {
+        Some(Owner {
+            object,
+            kind: lower,
+            class,
+        })
+    } else {
+        None
+    }
 }
 
 /// The object, unless it is null, or has not the field.
@@ -142,13 +152,60 @@ fn field_owner(
     ensures extends { IfOk result
         (λ owner. extends linker.now.program owner.class field.class ≡ true) }
     ensures object { IfOk result (λ owner. (owner.object == 0) ≡ false) }
+    ensures own { IfOk result
+        (λ owner. has_field_at linker.now.program (Some owner.kind) kind field.class ≡ true) }
 {
     if object == 0 {
         return Err(Refusal::Raises(Exception::NullPointer, None));
     }
-    match owner_class(linker, &shared.heap, kind, field, object) {
-        Some(class) => Ok(Owner { object, class }),
+    match owner_of(linker, &shared.heap, kind, field, object) {
+        Some(owner) => Ok(owner),
         None => Err(Refusal::Breaks),
+    }
+}
+
+/// Whether an object has a field that the objects of the last kind have; mostly it is of that kind.
+#[inline(always)]
+fn has_field(linker: &Linker, heap: &Heap, kind: u32, field: Place, last: u32, object: u32) -> bool
+    requires objects { AreLoaded linker.now heap.now }
+    requires own { has_field_at linker.now.program (Some last) kind field.class ≡ true }
+    ensures { result ≡ has_field_at linker.now.program (kind_at object heap.now) kind field.class }
+{
+    let Some(lower) = kind_of_object(linker, heap, object) else {
+        return false;
+    };
+    if lower == last {
+        return true;
+    }
+    linker.subtype(lower, kind) && linker.extends(class_of_kind(linker, lower), field.class)
+}
+
+/// The object, unless it is null, or has not the field; objects of the last kind have it.
+#[inline(always)]
+#[tactic(auto, using(crate::proofs::Slots::has_field_named))]
+fn known_owner(
+    linker: &Linker,
+    shared: &Shared,
+    member: &MemberName,
+    kind: u32,
+    field: Place,
+    last: u32,
+    object: u32,
+) -> Result<u32, Refusal>
+    requires named { kind_named linker.now.program member.now.class ≡ Some kind }
+    requires objects { AreLoaded linker.now shared.now.heap }
+    requires own { has_field_at linker.now.program (Some last) kind field.class ≡ true }
+    ensures owner { found_view result ≡ field_owner linker.now.program shared.now
+        (reference_of member.now) (at_place field) object }
+    ensures object { IfOk result (λ object. (object == 0) ≡ false) }
+{
+    if object == 0 {
+        return Err(Refusal::Raises(Exception::NullPointer, None));
+    }
+    if has_field(linker, &shared.heap, kind, field, last, object) {
+        Ok(object)
+    } else {
+        Err(Refusal::Breaks)
     }
 }
 
@@ -168,7 +225,7 @@ fn read_slot(shared: &Shared, frames: &mut Frames, object: u32, slot: u32, next:
     }
 }
 
-/// The value of the field of the object on top.
+/// The value of the field of the object on top. The slot is kept, and the object's kind.
 fn read_field(
     linker: &Linker,
     shared: &Shared,
@@ -176,10 +233,55 @@ fn read_field(
     member: &MemberName,
     kind: u32,
     field: Place,
+    found: &mut Found,
     next: u16,
 ) -> Result<Asked, NoMemory>
     requires named { kind_named linker.now.program member.now.class ≡ Some kind }
     requires objects { AreLoaded linker.now shared.now.heap }
+    requires field { field_found linker.now.program kind false (reference_of member.now)
+        ≡ Ok (at_place field) }
+    requires found { let n = Getfield (reference_of member.now) in
+        IsFoundAs found.old linker.now.program kind n }
+    ensures answer { Answers result (λ l o. gets_of linker.now.program (reference_of member.now)
+        (at_place field) (ref_of o) shared.now l o) frames.old }
+    ensures frames { Moves result frames.new
+        (λ l o. gets_of linker.now.program (reference_of member.now) (at_place field) (ref_of o)
+        shared.now l o) next frames.old }
+    ensures found { let n = Getfield (reference_of member.now) in
+        IsFoundAs found.new linker.now.program kind n }
+{
+    let Some(object) = ref_of(frames) else {
+        return Ok(Asked::Refused(Refusal::Breaks));
+    };
+    match field_owner(linker, shared, member, kind, field, object) {
+        Ok(owner) => match slot_of(linker, owner.class, field) {
+            Some(slot) => {
+                *found = Found::Field(field, slot, owner.kind);
+                Ok(read_slot(shared, frames, owner.object, slot, next))
+            }
+            None => Err(NoMemory),
+        },
+        Err(refusal) => Ok(Asked::Refused(refusal)),
+    }
+}
+
+/// The same where the field's slot is known, and a kind whose objects have it.
+#[inline(always)]
+fn read_known(
+    linker: &Linker,
+    shared: &Shared,
+    frames: &mut Frames,
+    member: &MemberName,
+    kind: u32,
+    field: Place,
+    slot: u32,
+    last: u32,
+    next: u16,
+) -> Result<Asked, NoMemory>
+    requires named { kind_named linker.now.program member.now.class ≡ Some kind }
+    requires objects { AreLoaded linker.now shared.now.heap }
+    requires slot { slot ≡ slot_of linker.now.program (at_place field) }
+    requires own { has_field_at linker.now.program (Some last) kind field.class ≡ true }
     ensures answer { Answers result (λ l o. gets_of linker.now.program (reference_of member.now)
         (at_place field) (ref_of o) shared.now l o) frames.old }
     ensures frames { Moves result frames.new
@@ -189,36 +291,69 @@ fn read_field(
     let Some(object) = ref_of(frames) else {
         return Ok(Asked::Refused(Refusal::Breaks));
     };
-    match field_owner(linker, shared, member, kind, field, object) {
-        Ok(owner) => match slot_of(linker, owner.class, field) {
-            Some(slot) => Ok(read_slot(shared, frames, owner.object, slot, next)),
-            None => Err(NoMemory),
-        },
+    match known_owner(linker, shared, member, kind, field, last, object) {
+        Ok(owner) => Ok(read_slot(shared, frames, owner, slot, next)),
         Err(refusal) => Ok(Asked::Refused(refusal)),
     }
 }
 
-/// getfield.
+/// getfield of a field that is looked up.
+#[inline(never)]
+fn get_by_name(
+    linker: &Linker,
+    shared: &Shared,
+    frames: &mut Frames,
+    member: &MemberName,
+    kind: u32,
+    found: &mut Found,
+    next: u16,
+) -> Result<Asked, NoMemory>
+    requires resolved { IsResolved linker.now member.now.class kind }
+    requires objects { AreLoaded linker.now shared.now.heap }
+    requires found { let n = Getfield (reference_of member.now) in
+        IsFoundAs found.old linker.now.program kind n }
+    ensures answer { Answers result
+        (gets_instance linker.now.program kind (reference_of member.now) shared.now) frames.old }
+    ensures frames { Moves result frames.new
+        (gets_instance linker.now.program kind (reference_of member.now) shared.now) next
+        frames.old }
+    ensures found { let n = Getfield (reference_of member.now) in
+        IsFoundAs found.new linker.now.program kind n }
+{
+    match field_found(linker, kind, false, member) {
+        Ok(field) => read_field(linker, shared, frames, member, kind, field, found, next),
+        Err(refusal) => Ok(Asked::Refused(refusal)),
+    }
+}
+
+/// getfield. What is found of the field is kept, and taken where it is known.
 pub fn get_field(
     linker: &Linker,
     shared: &Shared,
     frames: &mut Frames,
     member: &MemberName,
     kind: u32,
+    found: &mut Found,
     next: u16,
 ) -> Result<Asked, NoMemory>
     requires resolved { IsResolved linker.now member.now.class kind }
     requires objects { AreLoaded linker.now shared.now.heap }
+    requires found { let n = Getfield (reference_of member.now) in
+        IsFoundAs found.old linker.now.program kind n }
     ensures answer { Answers result
         (gets_instance linker.now.program kind (reference_of member.now) shared.now) frames.old }
     ensures frames { Moves result frames.new
         (gets_instance linker.now.program kind (reference_of member.now) shared.now) next
         frames.old }
+    ensures found { let n = Getfield (reference_of member.now) in
+        IsFoundAs found.new linker.now.program kind n }
 {
-    match field_found(linker, kind, false, member) {
-        Ok(field) => read_field(linker, shared, frames, member, kind, field, next),
-        Err(refusal) => Ok(Asked::Refused(refusal)),
+    if let Found::Field(field, slot, last) = *found {
+        return read_known(
+            linker, shared, frames, member, kind, field, slot, last, next,
+        );
     }
+    get_by_name(linker, shared, frames, member, kind, found, next)
 }
 
 // ---- putfield
@@ -270,7 +405,7 @@ fn write_slot(
     drop_two(frames, next)
 }
 
-/// The value goes into the field of the object below it.
+/// The value goes into the field of the object below it. The slot is kept, and the object's kind.
 fn write_field(
     linker: &Linker,
     shared: &mut Shared,
@@ -278,10 +413,61 @@ fn write_field(
     member: &MemberName,
     kind: u32,
     field: Place,
+    found: &mut Found,
     next: u16,
 ) -> Result<Asked, NoMemory>
     requires named { kind_named linker.now.program member.now.class ≡ Some kind }
     requires objects { AreLoaded linker.now shared.old.heap }
+    requires field { field_found linker.now.program kind false (reference_of member.now)
+        ≡ Ok (at_place field) }
+    requires found { let n = Putfield (reference_of member.now) in
+        IsFoundAs found.old linker.now.program kind n }
+    ensures answer { Answers result
+        (λ l o. puts_into linker.now.program (reference_of member.now) (at_place field)
+        (putting_of (kind_by (reference_of member.now)) o) shared.old l o) frames.old }
+    ensures frames { Moves result frames.new
+        (λ l o. puts_into linker.now.program (reference_of member.now) (at_place field)
+        (putting_of (kind_by (reference_of member.now)) o) shared.old l o) next frames.old }
+    ensures shared { Shares result shared.new
+        (λ l o. puts_into linker.now.program (reference_of member.now) (at_place field)
+        (putting_of (kind_by (reference_of member.now)) o) shared.old l o) frames.old }
+    ensures objects { OnOk result (AreLoaded linker.now shared.new.heap) }
+    ensures found { let n = Putfield (reference_of member.now) in
+        IsFoundAs found.new linker.now.program kind n }
+{
+    let Some(putting) = putting_of(frames, held_by(member.descriptor.units())) else {
+        return Ok(Asked::Refused(Refusal::Breaks));
+    };
+    match field_owner(linker, shared, member, kind, field, putting.object) {
+        Ok(owner) => match slot_of(linker, owner.class, field) {
+            Some(slot) => {
+                let datum = putting.datum;
+                *found = Found::Field(field, slot, owner.kind);
+                Ok(write_slot(shared, frames, owner.object, slot, datum, next))
+            }
+            None => Err(NoMemory),
+        },
+        Err(refusal) => Ok(Asked::Refused(refusal)),
+    }
+}
+
+/// The same where the field's slot is known, and a kind whose objects have it.
+#[inline(always)]
+fn write_known(
+    linker: &Linker,
+    shared: &mut Shared,
+    frames: &mut Frames,
+    member: &MemberName,
+    kind: u32,
+    field: Place,
+    slot: u32,
+    last: u32,
+    next: u16,
+) -> Result<Asked, NoMemory>
+    requires named { kind_named linker.now.program member.now.class ≡ Some kind }
+    requires objects { AreLoaded linker.now shared.old.heap }
+    requires slot { slot ≡ slot_of linker.now.program (at_place field) }
+    requires own { has_field_at linker.now.program (Some last) kind field.class ≡ true }
     ensures answer { Answers result
         (λ l o. puts_into linker.now.program (reference_of member.now) (at_place field)
         (putting_of (kind_by (reference_of member.now)) o) shared.old l o) frames.old }
@@ -296,29 +482,30 @@ fn write_field(
     let Some(putting) = putting_of(frames, held_by(member.descriptor.units())) else {
         return Ok(Asked::Refused(Refusal::Breaks));
     };
-    match field_owner(linker, shared, member, kind, field, putting.object) {
-        Ok(owner) => match slot_of(linker, owner.class, field) {
-            Some(slot) => {
-                let datum = putting.datum;
-                Ok(write_slot(shared, frames, owner.object, slot, datum, next))
-            }
-            None => Err(NoMemory),
-        },
+    match known_owner(linker, shared, member, kind, field, last, putting.object) {
+        Ok(owner) => {
+            let datum = putting.datum;
+            Ok(write_slot(shared, frames, owner, slot, datum, next))
+        }
         Err(refusal) => Ok(Asked::Refused(refusal)),
     }
 }
 
-/// putfield.
-pub fn put_field(
+/// putfield of a field that is looked up.
+#[inline(never)]
+fn put_by_name(
     linker: &Linker,
     shared: &mut Shared,
     frames: &mut Frames,
     member: &MemberName,
     kind: u32,
+    found: &mut Found,
     next: u16,
 ) -> Result<Asked, NoMemory>
     requires resolved { IsResolved linker.now member.now.class kind }
     requires objects { AreLoaded linker.now shared.old.heap }
+    requires found { let n = Putfield (reference_of member.now) in
+        IsFoundAs found.old linker.now.program kind n }
     ensures answer { Answers result
         (puts_instance linker.now.program kind (reference_of member.now) shared.old) frames.old }
     ensures frames { Moves result frames.new
@@ -327,9 +514,44 @@ pub fn put_field(
     ensures shared { Shares result shared.new
         (puts_instance linker.now.program kind (reference_of member.now) shared.old) frames.old }
     ensures objects { OnOk result (AreLoaded linker.now shared.new.heap) }
+    ensures found { let n = Putfield (reference_of member.now) in
+        IsFoundAs found.new linker.now.program kind n }
 {
     match field_found(linker, kind, false, member) {
-        Ok(field) => write_field(linker, shared, frames, member, kind, field, next),
+        Ok(field) => write_field(linker, shared, frames, member, kind, field, found, next),
         Err(refusal) => Ok(Asked::Refused(refusal)),
     }
+}
+
+/// putfield. What is found of the field is kept, and taken where it is known.
+pub fn put_field(
+    linker: &Linker,
+    shared: &mut Shared,
+    frames: &mut Frames,
+    member: &MemberName,
+    kind: u32,
+    found: &mut Found,
+    next: u16,
+) -> Result<Asked, NoMemory>
+    requires resolved { IsResolved linker.now member.now.class kind }
+    requires objects { AreLoaded linker.now shared.old.heap }
+    requires found { let n = Putfield (reference_of member.now) in
+        IsFoundAs found.old linker.now.program kind n }
+    ensures answer { Answers result
+        (puts_instance linker.now.program kind (reference_of member.now) shared.old) frames.old }
+    ensures frames { Moves result frames.new
+        (puts_instance linker.now.program kind (reference_of member.now) shared.old) next
+        frames.old }
+    ensures shared { Shares result shared.new
+        (puts_instance linker.now.program kind (reference_of member.now) shared.old) frames.old }
+    ensures objects { OnOk result (AreLoaded linker.now shared.new.heap) }
+    ensures found { let n = Putfield (reference_of member.now) in
+        IsFoundAs found.new linker.now.program kind n }
+{
+    if let Found::Field(field, slot, last) = *found {
+        return write_known(
+            linker, shared, frames, member, kind, field, slot, last, next,
+        );
+    }
+    put_by_name(linker, shared, frames, member, kind, found, next)
 }

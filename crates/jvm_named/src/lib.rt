@@ -6,6 +6,7 @@
 mod arrays;
 mod asked;
 mod attempting;
+mod callees;
 mod calls;
 mod casts;
 mod class_objects;
@@ -16,6 +17,7 @@ mod doing;
 mod fields;
 mod held;
 mod instances;
+mod known;
 mod members;
 mod moving;
 mod multi_arrays;
@@ -31,9 +33,10 @@ mod targets;
 mod values;
 
 pub use asked::{Asked, Exception, Refusal};
-pub use attempting::{attempt, attempt_loaded, resolved_name};
+pub use attempting::{attempt, attempt_known, attempt_loaded, resolved_name};
 pub use constants::set_constants;
 pub use instances::{is_instance, user_count};
+pub use known::{Callee, Chosen, Found, Known, Site};
 pub use members::is_static_field;
 pub use naming::{MemberName, MethodName, Naming};
 pub use numbers::MethodNumbers;

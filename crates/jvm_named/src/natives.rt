@@ -1,14 +1,16 @@
-//! The native methods of the built-in classes (JVM Specification 2.11.8, 6.5): jvm_natives does them, and the frame goes on, or not, by what
-//! they answer.
+//! The native methods of the built-in classes (JVM Specification 2.11.8, 6.5): native_ops does them by their numbers, and the frame goes
+//! on, or not, by what they answer.
 
-ghost use Rattle.std.specs.Prelude.{◌≡◌, ◌≤◌, Some, length, drop, true, IfOk, OnOk};
-ghost use Rattle.std.specs.Option.{option_map};
+ghost use Rattle.std.specs.Prelude.{◌≡◌, ◌≤◌, length, drop, slice_get, true};
+ghost use Rattle.std.specs.Prelude.{IfOk, IfSome, IsSome, OnOk};
+ghost use Rattle.std.specs.Option.{option_and_then, option_map};
+ghost use Rattle.base_classes.specs.Natives.{native_methods, native_number};
 ghost use Rattle.const_pool.specs.Members.{reference_view};
 ghost use Rattle.frame_stack.specs.FrameLists.{top_operands};
 ghost use Rattle.jvm_basic.specs.Outcomes.{top_locals};
 ghost use Rattle.jvm_model.specs.Data.{GoesOn, Next};
 ghost use Rattle.jvm_model.specs.InvocationRules.{reference_to};
-ghost use Rattle.jvm_model.specs.NativeRules.{runs_native, thrown_by};
+ghost use Rattle.jvm_model.specs.NativeRules.{runs_native, runs_number, thrown_by};
 ghost use Rattle.jvm_model.specs.Values.{as_value, with_value};
 ghost use Rattle.native_ops.specs.Calls.{is_done};
 ghost use Rattle.jvm_named.specs.Answers.{answer_of, answer_view, frames_of, refusal_view};
@@ -23,6 +25,7 @@ use crate::asked::{Asked, Exception, Refusal};
 use crate::creation::RESERVED;
 use crate::moving::{drop_operands, replace_operands};
 use crate::place::Place;
+use base_classes::native_of;
 use class_linker::Linker;
 use const_pool::MemberRef;
 use frame_stack::Frames;
@@ -30,8 +33,8 @@ use heap_objects::{Datum, Value};
 use jf_bytes::{NoMemory, Seq};
 use jvm_basic::value_of;
 use jvm_model::{Program, Shared};
-use jvm_natives::call_native;
-use native_ops::Native;
+use jvm_natives::LinkedKinds;
+use native_ops::{Native, call};
 use std::alloc::Global;
 
 /// How many built-in classes there are.
@@ -148,47 +151,54 @@ fn conclude(frames: &mut Frames, native: Native, count: u16, next: u16) -> Resul
 
 // ---- a native method
 
-/// Does the native method of these names.
-fn run_named(
+/// The number of a native method of a built-in class.
+pub fn native_at(program: &Program, m: Place) -> Option<u16>
+    ensures number { result
+        ≡ option_and_then native_number (reference_to program.now (at_place m)) }
+    ensures stands { IfSome result (λ n. IsSome (slice_get native_methods n)) }
+{
+    let method = reference_to(program, m)?;
+    native_of(method.class, method.name, method.descriptor)
+}
+
+/// Does the native method of this number, with so many operands as its arguments.
+pub fn run_numbered(
     alloc: Global,
     linker: &Linker,
     shared: &mut Shared,
     frames: &mut Frames,
     input: &[u8],
     output: &mut Seq<u8>,
-    method: &MemberRef<'_>,
+    number: u16,
     count: u16,
     next: u16,
 ) -> Result<Asked, NoMemory>
+    requires stands { IsSome (slice_get native_methods number) }
     requires within { count ≤ length (top_operands frames.old.frames) }
     requires linked { linker.now.loaded ≡ shared.old.loaded }
     requires built_in { HasBuiltIn linker.now }
     requires objects { AreLoaded linker.now shared.old.heap }
     ensures done { let fs = frames.old.frames in let o = top_operands fs in
-        let rule = runs_native (world_over linker.now input.now) (Some (reference_view method.now))
-        (data_in count o) shared.old (top_locals fs) (drop count o) in
+        let rule = runs_number (world_over linker.now input.now) number (data_in count o) shared.old
+        (top_locals fs) (drop count o) in
         Does result rule next (changed frames.old shared.old output.old)
         (changed frames.new shared.new output.new) }
     ensures objects { OnOk result (AreLoaded linker.now shared.new.heap) }
 {
     let args = arguments(alloc, frames, count)?;
-    let answered = call_native(
+    let kinds = LinkedKinds { linker };
+    let native = call(
         alloc,
-        linker,
+        number,
+        args.as_slice(),
+        &kinds,
         &mut shared.heap,
         &mut shared.made,
         input,
         &mut shared.read,
         output,
-        method.class,
-        method.name,
-        method.descriptor,
-        args.as_slice(),
     );
-    match answered {
-        Some(native) => conclude(frames, native, count, next),
-        None => Ok(Asked::Refused(Refusal::Breaks)),
-    }
+    conclude(frames, native, count, next)
 }
 
 /// Does a native method of a built-in class, with so many operands as its arguments.
@@ -214,9 +224,9 @@ pub fn run_native(
         (changed frames.new shared.new output.new) }
     ensures objects { OnOk result (AreLoaded linker.now shared.new.heap) }
 {
-    match reference_to(linker.program(), m) {
-        Some(method) => run_named(
-            alloc, linker, shared, frames, input, output, &method, count, next,
+    match native_at(linker.program(), m) {
+        Some(number) => run_numbered(
+            alloc, linker, shared, frames, input, output, number, count, next,
         ),
         None => Ok(Asked::Refused(Refusal::Breaks)),
     }

@@ -7,12 +7,14 @@ ghost use Rattle.jvm_model.specs.Data.{Raises};
 ghost use Rattle.jvm_model.specs.FieldRules.{held_of, kind_by};
 ghost use Rattle.jvm_model.specs.FieldRules.{pushes_static, sets_static, static_field};
 ghost use Rattle.jvm_model.specs.LocalRules.{pushes};
+ghost use Rattle.jvm_model.specs.Naming.{Getstatic, Putstatic};
 ghost use Rattle.jvm_model.specs.Programs.{name_at};
 ghost use Rattle.jvm_model.specs.Rules.{initialized};
 ghost use Rattle.jvm_model.specs.SharedState.{no_class_definition, static_at};
 ghost use Rattle.jvm_model.specs.Values.{as_value};
 ghost use Rattle.jvm_named.specs.Answers.{Answers, Moves, Shares, Stops, answer_by, answer_of};
 ghost use Rattle.jvm_named.specs.Answers.{answer_view, frames_by, frames_of, shared_by};
+ghost use Rattle.jvm_named.specs.Known.{IsFoundAs};
 ghost use Rattle.jvm_named.specs.Members.{at_place, reference_of};
 ghost use Rattle.jvm_named.specs.Objects.{IsUsable};
 ghost use Rattle.jvm_named.specs.Resolved.{gets_static, puts_static};
@@ -20,6 +22,7 @@ ghost use Rattle.jvm_named.specs.Resolved.{gets_static, puts_static};
 use crate::asked::{Asked, Exception, Refusal};
 use crate::classes::name_at;
 use crate::held::{held_by, narrowed};
+use crate::known::Found;
 use crate::members::field_found;
 use crate::moving::{drop_one, put};
 use crate::naming::MemberName;
@@ -97,7 +100,39 @@ fn push_static(
     }
 }
 
-/// getstatic.
+/// getstatic of a field that is looked up.
+#[inline(never)]
+fn get_by_name(
+    alloc: Global,
+    linker: &Linker,
+    shared: &Shared,
+    frames: &mut Frames,
+    member: &MemberName,
+    kind: u32,
+    found: &mut Found,
+    next: u16,
+) -> Result<Asked, NoMemory>
+    requires usable { IsUsable linker.now kind }
+    requires found { let n = Getstatic (reference_of member.now) in
+        IsFoundAs found.old linker.now.program kind n }
+    ensures answer { Answers result
+        (gets_static linker.now.program kind (reference_of member.now) shared.now) frames.old }
+    ensures frames { Moves result frames.new
+        (gets_static linker.now.program kind (reference_of member.now) shared.now) next
+        frames.old }
+    ensures found { let n = Getstatic (reference_of member.now) in
+        IsFoundAs found.new linker.now.program kind n }
+{
+    match field_found(linker, kind, true, member) {
+        Ok(field) => {
+            *found = Found::Static(field);
+            push_static(alloc, linker, shared, frames, field, next)
+        }
+        Err(refusal) => Ok(Asked::Refused(refusal)),
+    }
+}
+
+/// getstatic. What is found of the field is kept, and taken where it is known.
 pub fn get_static(
     alloc: Global,
     linker: &Linker,
@@ -105,19 +140,24 @@ pub fn get_static(
     frames: &mut Frames,
     member: &MemberName,
     kind: u32,
+    found: &mut Found,
     next: u16,
 ) -> Result<Asked, NoMemory>
-    requires { IsUsable linker.now kind }
+    requires usable { IsUsable linker.now kind }
+    requires found { let n = Getstatic (reference_of member.now) in
+        IsFoundAs found.old linker.now.program kind n }
     ensures answer { Answers result
         (gets_static linker.now.program kind (reference_of member.now) shared.now) frames.old }
     ensures frames { Moves result frames.new
         (gets_static linker.now.program kind (reference_of member.now) shared.now) next
         frames.old }
+    ensures found { let n = Getstatic (reference_of member.now) in
+        IsFoundAs found.new linker.now.program kind n }
 {
-    match field_found(linker, kind, true, member) {
-        Ok(field) => push_static(alloc, linker, shared, frames, field, next),
-        Err(refusal) => Ok(Asked::Refused(refusal)),
+    if let Found::Static(field) = *found {
+        return push_static(alloc, linker, shared, frames, field, next);
     }
+    get_by_name(alloc, linker, shared, frames, member, kind, found, next)
 }
 
 // ---- putstatic
@@ -186,17 +226,21 @@ fn put_field(
     }
 }
 
-/// putstatic.
-pub fn put_static(
+/// putstatic of a field that is looked up.
+#[inline(never)]
+fn put_by_name(
     alloc: Global,
     linker: &Linker,
     shared: &mut Shared,
     frames: &mut Frames,
     member: &MemberName,
     kind: u32,
+    found: &mut Found,
     next: u16,
 ) -> Result<Asked, NoMemory>
-    requires { IsUsable linker.now kind }
+    requires usable { IsUsable linker.now kind }
+    requires found { let n = Putstatic (reference_of member.now) in
+        IsFoundAs found.old linker.now.program kind n }
     ensures answer { Answers result
         (puts_static linker.now.program kind (reference_of member.now) shared.old) frames.old }
     ensures frames { Moves result frames.new
@@ -205,12 +249,47 @@ pub fn put_static(
     ensures shared { Shares result shared.new
         (puts_static linker.now.program kind (reference_of member.now) shared.old) frames.old }
     ensures heap { shared.new.heap ≡ shared.old.heap }
+    ensures found { let n = Putstatic (reference_of member.now) in
+        IsFoundAs found.new linker.now.program kind n }
 {
     match field_found(linker, kind, true, member) {
         Ok(field) => {
+            *found = Found::Static(field);
             let held = held_by(member.descriptor.units());
             put_field(alloc, linker, shared, frames, field, held, next)
         }
         Err(refusal) => Ok(Asked::Refused(refusal)),
     }
+}
+
+/// putstatic. What is found of the field is kept, and taken where it is known.
+pub fn put_static(
+    alloc: Global,
+    linker: &Linker,
+    shared: &mut Shared,
+    frames: &mut Frames,
+    member: &MemberName,
+    kind: u32,
+    found: &mut Found,
+    next: u16,
+) -> Result<Asked, NoMemory>
+    requires usable { IsUsable linker.now kind }
+    requires found { let n = Putstatic (reference_of member.now) in
+        IsFoundAs found.old linker.now.program kind n }
+    ensures answer { Answers result
+        (puts_static linker.now.program kind (reference_of member.now) shared.old) frames.old }
+    ensures frames { Moves result frames.new
+        (puts_static linker.now.program kind (reference_of member.now) shared.old) next
+        frames.old }
+    ensures shared { Shares result shared.new
+        (puts_static linker.now.program kind (reference_of member.now) shared.old) frames.old }
+    ensures heap { shared.new.heap ≡ shared.old.heap }
+    ensures found { let n = Putstatic (reference_of member.now) in
+        IsFoundAs found.new linker.now.program kind n }
+{
+    if let Found::Static(field) = *found {
+        let held = held_by(member.descriptor.units());
+        return put_field(alloc, linker, shared, frames, field, held, next);
+    }
+    put_by_name(alloc, linker, shared, frames, member, kind, found, next)
 }

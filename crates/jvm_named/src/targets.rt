@@ -1,31 +1,37 @@
 //! Which method an invocation comes to (JVM Specification 5.4.3.3, 5.4.3.4, 6.5), before anything is changed.
 
-ghost use Rattle.std.specs.Prelude.{◌≡◌, ◌≤◌, ℕ, length, IfOk, Some};
+ghost use Rattle.std.specs.Prelude.{◌≡◌, ◌≤◌, ℕ, false, true, length, IfOk, IfSome, Ok, Some};
 ghost use Rattle.std.specs.Bool.{beq};
 ghost use Rattle.std.specs.Option.{option_and_then, option_map};
 ghost use Rattle.const_pool.specs.References.{name_type_of};
 ghost use Rattle.frame_stack.specs.FrameLists.{top_operands};
 ghost use Rattle.jvm_model.specs.InvocationRules.{names_interface, not_of_class, selected_by};
 ghost use Rattle.jvm_model.specs.Lookup.{resolved_method};
-ghost use Rattle.jvm_model.specs.Naming.{found, where_fitting};
+ghost use Rattle.jvm_model.specs.Naming.{Invokestatic, found, is_below_kind, where_fitting};
 ghost use Rattle.jvm_model.specs.Data.{Raises};
 ghost use Rattle.jvm_model.specs.Programs.{class_named, name_at};
 ghost use Rattle.jvm_model.specs.Selection.{access_of, is_abstract, is_static};
-ghost use Rattle.jvm_model.specs.SharedState.{no_class_definition};
+ghost use Rattle.jvm_model.specs.SharedState.{class_of_kind, no_class_definition};
 ghost use Rattle.jvm_model.specs.SuperCalls.{invoked_special};
 ghost use Rattle.class_index.specs.Members.{place_view};
 ghost use Rattle.class_linker.specs.Linkers.{IsLoaded};
 ghost use Rattle.jvm_named.specs.Answers.{place_found, refusal_view};
-ghost use Rattle.jvm_named.specs.Objects.{AreLoaded, IsResolved, IsUsable};
+ghost use Rattle.jvm_named.specs.Callees.{HasCallee, chosen_place};
+ghost use Rattle.jvm_named.specs.Known.{IsFoundAs, IsSite, naming_by};
 ghost use Rattle.jvm_named.specs.Members.{at_place};
+ghost use Rattle.jvm_named.specs.Numbers.{AreNumbers};
+ghost use Rattle.jvm_named.specs.Objects.{AreLoaded, IsResolved, IsUsable};
 ghost use Rattle.jvm_named.specs.Resolved.{method_found};
 ghost use Rattle.jvm_named.specs.Targets.{HasCaller, selecting_view, found_as, instance_target};
 ghost use Rattle.jvm_named.specs.Targets.{receiver_class, static_target, target_in, unready_by};
 
 use crate::asked::{Exception, Refusal};
+use crate::callees::callee_of;
 use crate::classes::name_at;
 use crate::instances::{class_of_kind, kind_of_object};
+use crate::known::{Chosen, Found, Site};
 use crate::naming::{MemberName, MethodName};
+use crate::numbers::MethodNumbers;
 use crate::place::Place;
 use crate::receivers::{argument_count, receiver_below};
 use crate::resolution::exception_numbered;
@@ -48,7 +54,7 @@ pub enum Selecting<'a> {
 /// The method that was selected, if one was, and how many operands are its arguments.
 #[derive(Clone, Copy)]
 pub struct Target {
-    pub selected: Option<Place>,
+    pub selected: Option<Chosen>,
     pub count: u16,
 }
 
@@ -153,31 +159,54 @@ fn names_interface(by: Selecting<'_>) -> bool
     }
 }
 
-/// The class of a receiver, where it is one that the instruction can take: the name's class was resolved to this kind.
-fn receiver_class(
+/// Whether objects of a kind are of the named one; those of the last kind are.
+#[inline(always)]
+fn is_of_named(linker: &Linker, lower: u32, kind: u32, last: Option<u32>) -> bool
+    requires usable { IsUsable linker.now lower }
+    requires below { IfSome last
+        (λ last. is_below_kind linker.now.program (Some last) (Some kind) ≡ true) }
+    ensures { result ≡ is_below_kind linker.now.program (Some lower) (Some kind) }
+{
+    if let Some(last) = last
+        && last == lower
+    {
+        return true;
+    }
+    linker.subtype(lower, kind)
+}
+
+/// The kind of a receiver, where it is one that the instruction can take: the name's class was resolved to this kind, and objects
+/// of the last kind are of it.
+#[inline(always)]
+fn receiver_kind(
     linker: &Linker,
     heap: &Heap,
     by: Selecting<'_>,
     method: &MethodName,
     kind: u32,
+    last: Option<u32>,
     object: u32,
 ) -> Result<u32, Refusal>
     requires objects { AreLoaded linker.now heap.now }
     requires resolved { IsResolved linker.now method.now.class kind }
-    ensures class { found_as (λ class. class) result
+    requires last { IfSome last
+        (λ last. is_below_kind linker.now.program (Some last) (Some kind) ≡ true) }
+    ensures class { found_as (class_of_kind linker.now.program) result
         ≡ receiver_class linker.now.program (selecting_view by.entry) method.now heap.now object }
-    ensures loaded { IfOk result (λ class. IsLoaded linker.now class) }
+    ensures usable { IfOk result (λ lower. IsUsable linker.now lower) }
+    ensures below { IfOk result
+        (λ lower. is_below_kind linker.now.program (Some lower) (Some kind) ≡ true) }
 {
     if object == 0 {
         return Err(Refusal::Raises(Exception::NullPointer, None));
     }
-    let Some(found) = kind_of_object(linker, heap, object) else {
+    let Some(lower) = kind_of_object(linker, heap, object) else {
         return Err(not_of_class(by));
     };
-    if !linker.subtype(found, kind) {
+    if !is_of_named(linker, lower, kind, last) {
         return Err(not_of_class(by));
     }
-    Ok(class_of_kind(linker, found))
+    Ok(lower)
 }
 
 // ---- selection
@@ -218,21 +247,143 @@ fn selected_by(linker: &Linker, by: Selecting<'_>, m: Place, class: u32) -> Opti
 
 // ---- an instance method
 
-/// What an instruction other than invokestatic comes to, where the class of the method's name was resolved to this kind.
-pub fn instance_target(
+/// What is selected for objects of a kind, which is kept.
+#[inline(never)]
+#[tactic(auto, using(crate::proofs::KnownLemmas::site_of))]
+fn select_anew(
     linker: &Linker,
+    numbers: &MethodNumbers,
+    by: Selecting<'_>,
+    method: &MethodName,
+    kind: u32,
+    m: Place,
+    lower: u32,
+    found: &mut Found,
+) -> Option<Chosen>
+    requires named { method_found linker.now.program kind (names_interface (selecting_view by))
+        false method.now ≡ Ok (at_place m) }
+    requires below { is_below_kind linker.now.program (Some lower) (Some kind) ≡ true }
+    requires usable { IsUsable linker.now lower }
+    requires numbers { AreNumbers linker.now.program numbers.now }
+    requires caller { HasCaller linker.now (selecting_view by) }
+    requires found { IsFoundAs found.old linker.now.program kind
+        (naming_by (selecting_view by) method.now) }
+    ensures chosen { let p = linker.now.program in option_map chosen_place result
+        ≡ selected_by p (selecting_view by.entry) (at_place m) (class_of_kind p lower) }
+    ensures callee { IfSome result (HasCallee linker.now.program) }
+    ensures found { IsFoundAs found.new linker.now.program kind
+        (naming_by (selecting_view by.entry) method.now) }
+{
+    let place = selected_by(linker, by, m, class_of_kind(linker, lower))?;
+    let callee = callee_of(linker, numbers, place);
+    let chosen = Chosen { place, callee };
+    *found = Found::Selected(Site {
+        method: m,
+        last: lower,
+        chosen,
+    });
+    Some(chosen)
+}
+
+/// The same where it is known for the objects of the last kind. invokespecial selects the same for those of every kind.
+#[inline(always)]
+fn select_again(
+    linker: &Linker,
+    numbers: &MethodNumbers,
+    by: Selecting<'_>,
+    method: &MethodName,
+    kind: u32,
+    site: Site,
+    lower: u32,
+    found: &mut Found,
+) -> Option<Chosen>
+    requires site { IsSite linker.now.program kind (selecting_view by) method.now site }
+    requires below { is_below_kind linker.now.program (Some lower) (Some kind) ≡ true }
+    requires usable { IsUsable linker.now lower }
+    requires numbers { AreNumbers linker.now.program numbers.now }
+    requires caller { HasCaller linker.now (selecting_view by) }
+    requires found { IsFoundAs found.old linker.now.program kind
+        (naming_by (selecting_view by) method.now) }
+    ensures chosen { let p = linker.now.program in option_map chosen_place result
+        ≡ selected_by p (selecting_view by.entry) (at_place site.method) (class_of_kind p lower) }
+    ensures callee { IfSome result (HasCallee linker.now.program) }
+    ensures found { IsFoundAs found.new linker.now.program kind
+        (naming_by (selecting_view by.entry) method.now) }
+{
+    if lower == site.last {
+        return Some(site.chosen);
+    }
+    if let Selecting::Special(_, _) = by {
+        return Some(site.chosen);
+    }
+    select_anew(linker, numbers, by, method, kind, site.method, lower, found)
+}
+
+/// What an instruction other than invokestatic comes to, where the method and a selection are known.
+#[inline(always)]
+fn known_target(
+    linker: &Linker,
+    numbers: &MethodNumbers,
     heap: &Heap,
     frames: &Frames,
     by: Selecting<'_>,
     method: &MethodName,
     kind: u32,
+    site: Site,
+    found: &mut Found,
 ) -> Result<Target, Refusal>
     requires objects { AreLoaded linker.now heap.now }
     requires resolved { IsResolved linker.now method.now.class kind }
     requires caller { HasCaller linker.now (selecting_view by) }
+    requires numbers { AreNumbers linker.now.program numbers.now }
+    requires site { IsSite linker.now.program kind (selecting_view by) method.now site }
+    requires found { IsFoundAs found.old linker.now.program kind
+        (naming_by (selecting_view by) method.now) }
     ensures target { let o = top_operands frames.now.frames in found_as (target_in o) result
         ≡ instance_target linker.now.program kind (selecting_view by.entry) method.now heap.now o }
     ensures within { IfOk result (λ t. t.count ≤ length (top_operands frames.now.frames)) }
+    ensures callee { IfOk result (λ t. IfSome t.selected (HasCallee linker.now.program)) }
+    ensures found { IsFoundAs found.new linker.now.program kind
+        (naming_by (selecting_view by.entry) method.now) }
+{
+    let Some(count) = argument_count(true, method, frames) else {
+        return Err(Refusal::Breaks);
+    };
+    let object = receiver_below(frames, count);
+    let last = Some(site.last);
+    match receiver_kind(linker, heap, by, method, kind, last, object) {
+        Ok(lower) => Ok(Target {
+            selected: select_again(linker, numbers, by, method, kind, site, lower, found),
+            count,
+        }),
+        Err(refusal) => Err(refusal),
+    }
+}
+
+/// The same where the method is looked up.
+#[inline(never)]
+fn target_by_name(
+    linker: &Linker,
+    numbers: &MethodNumbers,
+    heap: &Heap,
+    frames: &Frames,
+    by: Selecting<'_>,
+    method: &MethodName,
+    kind: u32,
+    found: &mut Found,
+) -> Result<Target, Refusal>
+    requires objects { AreLoaded linker.now heap.now }
+    requires resolved { IsResolved linker.now method.now.class kind }
+    requires caller { HasCaller linker.now (selecting_view by) }
+    requires numbers { AreNumbers linker.now.program numbers.now }
+    requires found { IsFoundAs found.old linker.now.program kind
+        (naming_by (selecting_view by) method.now) }
+    ensures target { let o = top_operands frames.now.frames in found_as (target_in o) result
+        ≡ instance_target linker.now.program kind (selecting_view by.entry) method.now heap.now o }
+    ensures within { IfOk result (λ t. t.count ≤ length (top_operands frames.now.frames)) }
+    ensures callee { IfOk result (λ t. IfSome t.selected (HasCallee linker.now.program)) }
+    ensures found { IsFoundAs found.new linker.now.program kind
+        (naming_by (selecting_view by.entry) method.now) }
 {
     let m = match method_found(linker, kind, names_interface(by), false, method) {
         Ok(m) => m,
@@ -242,13 +393,45 @@ pub fn instance_target(
         return Err(Refusal::Breaks);
     };
     let object = receiver_below(frames, count);
-    match receiver_class(linker, heap, by, method, kind, object) {
-        Ok(class) => Ok(Target {
-            selected: selected_by(linker, by, m, class),
+    match receiver_kind(linker, heap, by, method, kind, None, object) {
+        Ok(lower) => Ok(Target {
+            selected: select_anew(linker, numbers, by, method, kind, m, lower, found),
             count,
         }),
         Err(refusal) => Err(refusal),
     }
+}
+
+/// What an instruction other than invokestatic comes to, where the class of the method's name was resolved to this kind. The
+/// method that is found is kept, with what is selected for the receiver's kind.
+#[tactic(auto, using(crate::proofs::KnownLemmas::of_site))]
+pub fn instance_target(
+    linker: &Linker,
+    numbers: &MethodNumbers,
+    heap: &Heap,
+    frames: &Frames,
+    by: Selecting<'_>,
+    method: &MethodName,
+    kind: u32,
+    found: &mut Found,
+) -> Result<Target, Refusal>
+    requires objects { AreLoaded linker.now heap.now }
+    requires resolved { IsResolved linker.now method.now.class kind }
+    requires caller { HasCaller linker.now (selecting_view by) }
+    requires numbers { AreNumbers linker.now.program numbers.now }
+    requires found { IsFoundAs found.old linker.now.program kind
+        (naming_by (selecting_view by) method.now) }
+    ensures target { let o = top_operands frames.now.frames in found_as (target_in o) result
+        ≡ instance_target linker.now.program kind (selecting_view by.entry) method.now heap.now o }
+    ensures within { IfOk result (λ t. t.count ≤ length (top_operands frames.now.frames)) }
+    ensures callee { IfOk result (λ t. IfSome t.selected (HasCallee linker.now.program)) }
+    ensures found { IsFoundAs found.new linker.now.program kind
+        (naming_by (selecting_view by.entry) method.now) }
+{
+    if let Found::Selected(site) = *found {
+        return known_target(linker, numbers, heap, frames, by, method, kind, site, found);
+    }
+    target_by_name(linker, numbers, heap, frames, by, method, kind, found)
 }
 
 // ---- a static method
@@ -291,28 +474,65 @@ fn unready(
     }
 }
 
-/// What invokestatic comes to, where the class of the method's name was resolved to this kind.
+/// The method that invokestatic names, as it is known or looked up.
+fn static_found(
+    linker: &Linker,
+    numbers: &MethodNumbers,
+    method: &MethodName,
+    kind: u32,
+    found: &mut Found,
+) -> Result<Chosen, Refusal>
+    requires usable { IsUsable linker.now kind }
+    requires numbers { AreNumbers linker.now.program numbers.now }
+    requires found { IsFoundAs found.old linker.now.program kind (Invokestatic method.now) }
+    ensures method { found_as chosen_place result
+        ≡ method_found linker.now.program kind false true method.now }
+    ensures callee { IfOk result (HasCallee linker.now.program) }
+    ensures found { IsFoundAs found.new linker.now.program kind (Invokestatic method.now) }
+{
+    if let Found::Fixed(m) = *found {
+        return Ok(m);
+    }
+    match method_found(linker, kind, false, true, method) {
+        Ok(place) => {
+            let callee = callee_of(linker, numbers, place);
+            let m = Chosen { place, callee };
+            *found = Found::Fixed(m);
+            Ok(m)
+        }
+        Err(refusal) => Err(refusal),
+    }
+}
+
+/// What invokestatic comes to, where the class of the method's name was resolved to this kind. The method that is found is kept.
 pub fn static_target(
     alloc: Global,
     linker: &Linker,
+    numbers: &MethodNumbers,
     shared: &Shared,
     frames: &Frames,
     method: &MethodName,
     kind: u32,
+    found: &mut Found,
 ) -> Result<Result<Target, Refusal>, NoMemory>
-    requires { IsUsable linker.now kind }
+    requires usable { IsUsable linker.now kind }
+    requires numbers { AreNumbers linker.now.program numbers.now }
+    requires found { IsFoundAs found.old linker.now.program kind (Invokestatic method.now) }
     ensures target { let o = top_operands frames.now.frames in
         IfOk result (λ t. found_as (target_in o) t
         ≡ static_target linker.now.program kind method.now shared.now o) }
     ensures within { IfOk result (λ t.
         IfOk t (λ t. t.count ≤ length (top_operands frames.now.frames))) }
+    ensures callee { IfOk result (λ t.
+        IfOk t (λ t. IfSome t.selected (HasCallee linker.now.program))) }
+    ensures found { IsFoundAs found.new linker.now.program kind (Invokestatic method.now) }
 {
-    let m = match method_found(linker, kind, false, true, method) {
+    let m = match static_found(linker, numbers, method, kind, found) {
         Ok(m) => m,
         Err(refusal) => return Ok(Err(refusal)),
     };
-    let phase = shared.phases.at(m.class as usize);
-    if let Some(refusal) = unready(alloc, linker, m.class, phase)? {
+    let phase = shared.phases.at(m.place.class as usize);
+    if let Some(refusal) = unready(alloc, linker, m.place.class, phase)? {
         return Ok(Err(refusal));
     }
     match argument_count(false, method, frames) {

@@ -1,8 +1,6 @@
-//! The native methods of the built-in classes, on the classes of a run.
+//! The classes of a run, as the native methods of the built-in classes see them.
 #![tactic(auto)]
 
-mod calls;
 mod kinds;
 
-pub use calls::call_native;
 pub use kinds::{LinkedKinds, base_of_class, class_of_base, name_at, user_count};

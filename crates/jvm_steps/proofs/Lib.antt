@@ -61,3 +61,4 @@ mod StartLoads
 mod PausesSound
 mod StartSound
 mod HandLaws
+mod CellLemmas

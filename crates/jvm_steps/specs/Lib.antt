@@ -28,3 +28,5 @@ pub mod Runs
 pub mod OriginalRun
 pub mod ClassVersions
 pub mod Standing
+pub mod Cells
+pub mod Kept

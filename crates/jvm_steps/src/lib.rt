@@ -6,6 +6,7 @@ mod arrays;
 mod asking;
 mod attempting;
 mod beginning;
+mod cells;
 mod class_versions;
 mod descriptor;
 mod elements;

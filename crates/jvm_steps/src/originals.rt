@@ -1,7 +1,7 @@
 //! The original code of a program, prepared: what stands at each offset is looked up once, and is
 //! found by its offset from then on.
 
-ghost use Rattle.std.specs.Prelude.{ℕ, ◌≡◌, ◌<◌, ◌^◌, ◌++◌, length, slice_get, is_some};
+ghost use Rattle.std.specs.Prelude.{ℕ, ◌≡◌, ◌<◌, ◌^◌, ◌++◌, length, slice_get, is_some, true};
 ghost use Rattle.std.specs.Prelude.{IfNone, IfOk, OnErr, OnOk};
 ghost use Rattle.std.specs.Option.{option_and_then, option_copied, option_map, IfSome};
 ghost use Rattle.class_linker.specs.Linkers.{IsLoaded};
@@ -15,10 +15,12 @@ ghost use Rattle.jvm_named.specs.Answers.{Answers, Moves, Shares, found_view, wr
 ghost use Rattle.jvm_named.specs.Answers.{answer_by, answer_view, frames_by, shared_by};
 ghost use Rattle.jvm_named.specs.Attempts.{attempts, is_loaded, loaded_for};
 ghost use Rattle.jvm_named.specs.Attempts.{shared_loaded, world_over};
+ghost use Rattle.jvm_named.specs.Known.{IsKnown};
 ghost use Rattle.jvm_named.specs.Natives.{HasBuiltIn};
 ghost use Rattle.jvm_named.specs.Numbers.{AreNumbers};
 ghost use Rattle.jvm_named.specs.Objects.{AreLoaded, HasDimensions, HasLoadedCaller};
 ghost use Rattle.jvm_steps.specs.Tables.{Adds, AreAllCurrent, Releases, version_at};
+ghost use Rattle.jvm_steps.specs.Kept.{IsLater};
 ghost use Rattle.jvm_steps.specs.Lines.{IfNamed, IfNamedBy};
 ghost use Rattle.jvm_steps.specs.Linked.{linker_in};
 ghost use Rattle.jvm_steps.specs.Prepared.{FitsOriginals, built_in_named, exception_kind};
@@ -32,6 +34,7 @@ ghost use Rattle.jvm_model.specs.ProgramPlaces.{HasClosedCodes};
 ghost use Rattle.jvm_steps.specs.Standing.{AreMethodImages, IsPinned, IsRunOf, IsSetUp};
 ghost use Rattle.jvm_steps.specs.Versions.{line_at};
 
+use crate::cells::Cells;
 use crate::class_versions::class_versions;
 use crate::elements::units_of;
 use crate::line::{Action, Line};
@@ -48,9 +51,12 @@ use const_pool::{ClassFile, Kind};
 use frame_stack::Frames;
 use jf_bytes::{NoMemory, Seq};
 use jvm_model::{Mark, Program, Shared};
-use jvm_named::{Asked, MethodNumbers, Refusal, attempt, attempt_loaded, resolve};
+use jvm_named::{
+    Asked, Known, MethodNumbers, Refusal, attempt, attempt_known, attempt_loaded, resolve,
+};
 use std::alloc::Global;
 use std::marker::Model;
+use std::mem;
 
 /// What is kept of a method: what it takes, and its limits.
 #[derive(Drop)]
@@ -103,8 +109,8 @@ pub struct Exceptions {
     pub string: u32,
 }
 
-/// A program on an input, with its original code prepared, its linker and the numbers of its methods. A clause sees the program, the
-/// input and the loaded classes.
+/// A program on an input, with its original code prepared, its linker, the numbers of its methods and what the names of its lines came
+/// to. A clause sees the program, the input and the loaded classes.
 #[derive(Drop)]
 pub struct Originals {
     linker: Linker,
@@ -112,12 +118,14 @@ pub struct Originals {
     input: Seq<u8>,
     methods: Seq<Method>,
     versions: Versions,
+    cells: Cells,
     exceptions: Exceptions,
 }
 
 impl Model for Originals {
+    ghost use Rattle.jvm_steps.specs.Kept.{IsKept};
     ghost use Rattle.jvm_steps.specs.Linked.{Linked};
-    ghost use Rattle.jvm_steps.specs.Prepared.{IsPrepared, world_in};
+    ghost use Rattle.jvm_steps.specs.Prepared.{world_in};
 
     ghost Value = { Linked };
 
@@ -127,7 +135,7 @@ impl Model for Originals {
     } };
 
     ghost invariant = { λ o.
-        IsPrepared o.linker.program o.methods o.versions o.exceptions o.numbers };
+        IsKept o.linker o.methods o.versions o.cells o.exceptions o.numbers };
 }
 
 /// The name of the built-in class at this place of their order; none has an empty one.
@@ -140,7 +148,9 @@ fn built_in_named(place: u16) -> &'static str
     }
 }
 
-/// Attempts a line that names something; another one does nothing.
+/// Attempts a line that names something, and tells what its names came to; another one does nothing.
+#[inline(never)]
+#[tactic(auto, using(crate::proofs::CellLemmas::later_same, crate::proofs::CellLemmas::later_loaded))]
 fn attempt_line(
     alloc: Global,
     linker: &mut Linker,
@@ -150,6 +160,7 @@ fn attempt_line(
     frames: &mut Frames,
     input: &[u8],
     output: &mut Seq<u8>,
+    learnt: &mut Option<Known>,
 ) -> Result<Asked, NoMemory>
     requires linked { linker.old.loaded ≡ shared.old.loaded }
     requires numbers { AreNumbers linker.old.program numbers.now }
@@ -175,16 +186,24 @@ fn attempt_line(
     ensures built_in { OnOk result (HasBuiltIn linker.new) }
     ensures objects { OnOk result (AreLoaded linker.new shared.new.heap) }
     ensures program { linker.new.program ≡ linker.old.program }
+    ensures later { OnOk result (IsLater linker.old linker.new) }
+    ensures learnt { OnOk result (IfSome learnt.new (λ k.
+        IfNamedBy line.now.action line.now.next (λ n next. IsKnown linker.new n k))) }
 {
     match &line.action {
         Action::Named(naming) => attempt(
-            alloc, linker, numbers, shared, frames, input, output, naming, line.next,
+            alloc, linker, numbers, shared, frames, input, output, naming, line.next, learnt,
         ),
-        _ => Ok(Asked::Refused(Refusal::Breaks)),
+        _ => {
+            *learnt = None;
+            Ok(Asked::Refused(Refusal::Breaks))
+        }
     }
 }
 
 /// The same in two parts: where it loads classes nothing else is done, and None is the answer.
+#[inline(never)]
+#[tactic(auto, using(crate::proofs::CellLemmas::later_same, crate::proofs::CellLemmas::later_loaded))]
 fn attempt_line_loaded(
     alloc: Global,
     linker: &mut Linker,
@@ -194,6 +213,7 @@ fn attempt_line_loaded(
     frames: &mut Frames,
     input: &[u8],
     output: &mut Seq<u8>,
+    learnt: &mut Option<Known>,
 ) -> Result<Option<Asked>, NoMemory>
     requires linked { linker.old.loaded ≡ shared.old.loaded }
     requires numbers { AreNumbers linker.old.program numbers.now }
@@ -228,13 +248,70 @@ fn attempt_line_loaded(
     ensures loaded { IfNamedBy line.now.action line.now.next (λ n next. OnOk result
         (linker.new.loaded ≡ loaded_for linker.old.program n shared.old frames.old)) }
     ensures program { linker.new.program ≡ linker.old.program }
+    ensures later { OnOk result (IsLater linker.old linker.new) }
+    ensures learnt { OnOk result (IfSome learnt.new (λ k.
+        IfNamedBy line.now.action line.now.next (λ n next. IsKnown linker.new n k))) }
 {
     let next = line.next;
     match &line.action {
         Action::Named(naming) => attempt_loaded(
-            alloc, linker, numbers, shared, frames, input, output, naming, next,
+            alloc, linker, numbers, shared, frames, input, output, naming, next, learnt,
         ),
-        _ => Ok(None),
+        _ => {
+            *learnt = None;
+            Ok(None)
+        }
+    }
+}
+
+/// Attempts a line of whose names it is known what they come to; one that names nothing does nothing.
+fn attempt_line_known(
+    alloc: Global,
+    linker: &Linker,
+    numbers: &MethodNumbers,
+    line: &Line,
+    known: &mut Known,
+    shared: &mut Shared,
+    frames: &mut Frames,
+    input: &[u8],
+    output: &mut Seq<u8>,
+) -> Result<Asked, NoMemory>
+    requires linked { linker.now.loaded ≡ shared.old.loaded }
+    requires known { IfNamedBy line.now.action line.now.next
+        (λ n next. IsKnown linker.now n known.old) }
+    requires numbers { AreNumbers linker.now.program numbers.now }
+    requires built_in { HasBuiltIn linker.now }
+    requires objects { AreLoaded linker.now shared.old.heap }
+    requires caller { IfNamedBy line.now.action line.now.next
+        (λ n next. HasLoadedCaller linker.now n) }
+    requires dimensions { IfNamedBy line.now.action line.now.next (λ n next. HasDimensions n) }
+    ensures answer { let w = world_over linker.now input.now in
+        IfNamedBy line.now.action line.now.next (λ n next.
+        Answers result (attempts w n shared.old frames.old) frames.old) }
+    ensures frames { let w = world_over linker.now input.now in
+        IfNamedBy line.now.action line.now.next (λ n next.
+        Moves result frames.new (attempts w n shared.old frames.old) next frames.old) }
+    ensures shared { let w = world_over linker.now input.now in
+        IfNamedBy line.now.action line.now.next (λ n next.
+        Shares result shared.new (attempts w n shared.old frames.old) frames.old) }
+    ensures output { let w = world_over linker.now input.now in
+        IfNamedBy line.now.action line.now.next (λ n next. OnOk result (output.new
+        ≡ output.old ++ wrote_by (attempts w n shared.old frames.old) frames.old)) }
+    ensures loaded { IfNamedBy line.now.action line.now.next (λ n next. OnOk result
+        (linker.now.loaded ≡ loaded_for linker.now.program n shared.old frames.old)) }
+    ensures loads { let w = world_over linker.now input.now in
+        IfNamedBy line.now.action line.now.next (λ n next.
+        is_loaded w n shared.old frames.old ≡ true) }
+    ensures objects { OnOk result (AreLoaded linker.now shared.new.heap) }
+    ensures known { IfNamedBy line.now.action line.now.next
+        (λ n next. IsKnown linker.now n known.new) }
+{
+    let next = line.next;
+    match &line.action {
+        Action::Named(naming) => attempt_known(
+            alloc, linker, numbers, shared, frames, input, output, naming, next, known,
+        ),
+        _ => Ok(Asked::Refused(Refusal::Breaks)),
     }
 }
 
@@ -255,12 +332,14 @@ impl Originals {
         let numbers = MethodNumbers::new(alloc, &program)?;
         let mut linker = Linker::new(alloc, program)?;
         load_built_in(alloc, &mut linker)?;
+        let cells = Cells::new(alloc);
         Ok(Originals {
             linker,
             numbers,
             input,
             methods,
             versions,
+            cells,
             exceptions,
         })
     }
@@ -435,6 +514,9 @@ impl Originals {
     {
         let program = self.linker.program();
         let more = class_versions(alloc, program, &self.numbers, class, image, homes)?;
+        // A number may be given again.
+        let none = Cells::new(alloc);
+        self.cells = none;
         self.versions.add_all(more, frames)
     }
 
@@ -468,7 +550,11 @@ impl Originals {
         ensures world { self.new.setup ≡ self.old.setup }
     {
         let name = main_name(alloc, self.linker.program())?;
-        resolve(&mut self.linker, loaded, &name)
+        // Where memory runs out nothing is known any more.
+        let cells = mem::replace(&mut self.cells, Cells::new(alloc));
+        let found = resolve(&mut self.linker, loaded, &name)?;
+        self.cells = cells;
+        Ok(found)
     }
 
     /// Loads the main class, where nothing but the linker asks for it.
@@ -477,7 +563,10 @@ impl Originals {
             (self.new.loaded ≡ (load_of p self.old.loaded (main_name p)).loaded) }
         ensures world { self.new.setup ≡ self.old.setup }
     {
-        link_main(alloc, &mut self.linker)
+        let cells = mem::replace(&mut self.cells, Cells::new(alloc));
+        link_main(alloc, &mut self.linker)?;
+        self.cells = cells;
+        Ok(())
     }
 
     /// Attempts the line at a place of a version, where it names something. Where it doesn't nothing is done.
@@ -516,7 +605,26 @@ impl Originals {
         let Some(line) = line_at(&self.versions, version, place) else {
             return Ok(Asked::Refused(Refusal::Breaks));
         };
-        attempt_line(
+        if let Some(before) = self.cells.get(version, place) {
+            let mut known = before;
+            let done = attempt_line_known(
+                alloc,
+                &self.linker,
+                &self.numbers,
+                line,
+                &mut known,
+                shared,
+                frames,
+                self.input.as_slice(),
+                output,
+            )?;
+            self.cells.renew(alloc, version, place, before, known);
+            return Ok(done);
+        }
+        // Where memory runs out nothing is known any more.
+        let mut cells = mem::replace(&mut self.cells, Cells::new(alloc));
+        let mut learnt = None;
+        let asked = attempt_line(
             alloc,
             &mut self.linker,
             &self.numbers,
@@ -525,7 +633,11 @@ impl Originals {
             frames,
             self.input.as_slice(),
             output,
-        )
+            &mut learnt,
+        )?;
+        cells.learn(alloc, version, place, learnt);
+        self.cells = cells;
+        Ok(asked)
     }
 
     /// The same in two parts: where it loads classes nothing else is done, and None is the answer.
@@ -572,7 +684,26 @@ impl Originals {
         let Some(line) = line_at(&self.versions, version, place) else {
             return Ok(None);
         };
-        attempt_line_loaded(
+        if let Some(before) = self.cells.get(version, place) {
+            let mut known = before;
+            let done = attempt_line_known(
+                alloc,
+                &self.linker,
+                &self.numbers,
+                line,
+                &mut known,
+                shared,
+                frames,
+                self.input.as_slice(),
+                output,
+            )?;
+            self.cells.renew(alloc, version, place, before, known);
+            return Ok(Some(done));
+        }
+        // Where memory runs out nothing is known any more.
+        let mut cells = mem::replace(&mut self.cells, Cells::new(alloc));
+        let mut learnt = None;
+        let asked = attempt_line_loaded(
             alloc,
             &mut self.linker,
             &self.numbers,
@@ -581,6 +712,10 @@ impl Originals {
             frames,
             self.input.as_slice(),
             output,
-        )
+            &mut learnt,
+        )?;
+        cells.learn(alloc, version, place, learnt);
+        self.cells = cells;
+        Ok(asked)
     }
 }

@@ -1,6 +1,7 @@
 use Rattle.frame_stack.specs.FrameLists.{top_operands}
 use Rattle.jvm_model.specs.Naming.{newly_loaded}
 use Rattle.jvm_named.specs.Names.{naming_view}
+use Rattle.jvm_named.proofs.Again.{loads-in}
 use Rattle.jvm_named.proofs.Attempted.{is_more, objects_later}
 use Rattle.jvm_named.proofs.attempting.attempt_loaded.Goals as goal
 
@@ -21,3 +22,8 @@ do_found-requires-clause-objects c =
     (newly_loaded c.args.linker.now.program c.args.shared.now.loaded (naming_view c.args.naming.now) (top_operands c.args.frames.now.frames))
     c.requires.linked c.in_ok-found.ensures.loaded c.in_ok-found.ensures.linker)
     c.args.shared.now.heap c.requires.objects
+
+pub do_found-requires-clause-loads : goal.do_found-requires-clause-loads
+do_found-requires-clause-loads c =
+    loads-in c.args.linker.now c.find_loaded.new.linker c.args.shared.now.loaded c.find_loaded.new.loaded (naming_view c.args.naming.now)
+    (top_operands c.args.frames.now.frames) c.in_ok-found.ensures.linker c.in_ok-found.ensures.loaded

@@ -4,12 +4,14 @@ use Rattle.std.proofs.lemmas.Result.{on_ok_weaker}
 use Rattle.jvm_model.specs.declared.program.Program.{Program}
 use Rattle.jvm_model.specs.declared.state.State.{State}
 use Rattle.jvm_steps.specs.ClassVersions.{class_versions}
+use Rattle.jvm_steps.specs.Kept.{AreKnown}
 use Rattle.jvm_steps.specs.Linked.{Linked}
 use Rattle.jvm_steps.specs.Prepared.{IsPrepared, world_in}
 use Rattle.jvm_steps.specs.Standing.{AreMethodImages, IsPinned, IsRunOf, IsSetUp}
 use Rattle.jvm_steps.specs.Tables.{Adds, AreOfMethods, Versions}
 use Rattle.jvm_steps.specs.Versions.{HasOwnLines, Setup}
 use Rattle.jvm_steps.proofs.Added.{adds-count, either, has-lines-all}
+use Rattle.jvm_steps.proofs.CellLemmas.{nil-known}
 use Rattle.jvm_steps.proofs.ClassVersionLaws.{versions-below, versions-keep}
 use Rattle.jvm_steps.proofs.StandingSteps.{installed-set_up, installed-stands}
 use Rattle.jvm_steps.proofs.originals.Originals.install.Goals as goal
@@ -19,7 +21,7 @@ add_all-requires c =
     let p : Program = c.self.inside.linker.program in
     let made : c.in_ok-more.more ≡ class_versions p c.args.class c.args.image.now c.args.homes.now =
     c.in_ok-more.ensures ∙ ap (λ (q : Program). class_versions q c.args.class c.args.image.now c.args.homes.now) c.program-program.ensures in
-    subst (λ n. AreOfMethods n c.in_ok-more.more) (sym c.self.invariant.count)
+    subst (λ n. AreOfMethods n c.in_ok-more.more) (sym c.self.invariant.prepared.count)
     (subst (λ xs. AreOfMethods (length p.methods) xs) (sym made) (versions-below p c.args.class c.args.image.now c.args.homes.now))
 
 pub invariant_of-self : goal.invariant_of-self
@@ -27,24 +29,28 @@ invariant_of-self c =
     let p : Program = c.self.inside.linker.program in
     let made : c.in_ok-more.more ≡ class_versions p c.args.class c.args.image.now c.args.homes.now =
     c.in_ok-more.ensures ∙ ap (λ (q : Program). class_versions q c.args.class c.args.image.now c.args.homes.now) c.program-program.ensures in
-    let was = c.self.invariant in
+    let was = c.self.invariant.prepared in
     let fs = c.args.frames.now.frames in
     let own = subst (λ xs. AllByRecursion HasOwnLines xs) (sym made) (versions-keep p c.args.class c.args.image.now c.args.homes.now) in
-    either c.add_all.result c.add_all.ensures.ok c.add_all.ensures.err
-    (λ adds. record {
-      fits = was.fits;
-      few = was.few;
-      numbered = was.numbered;
-      params = was.params;
-      max_stack = was.max_stack;
-      max_locals = was.max_locals;
-      lines = has-lines-all fs c.in_ok-more.more c.self.inside.versions c.add_all.new.self adds own was.lines;
-      count = adds-count fs c.in_ok-more.more c.self.inside.versions c.add_all.new.self adds ∙ was.count;
-      raised = was.raised;
-      string = was.string;
-      numbers = was.numbers;
-    })
-    (λ same. subst (λ (v : Versions). IsPrepared p c.self.inside.methods v c.self.inside.exceptions c.self.inside.numbers) (sym same) was)
+    record {
+      prepared =
+          either c.add_all.result c.add_all.ensures.ok c.add_all.ensures.err
+          (λ adds. record {
+            fits = was.fits;
+            few = was.few;
+            numbered = was.numbered;
+            params = was.params;
+            max_stack = was.max_stack;
+            max_locals = was.max_locals;
+            lines = has-lines-all fs c.in_ok-more.more c.self.inside.versions c.add_all.new.self adds own was.lines;
+            count = adds-count fs c.in_ok-more.more c.self.inside.versions c.add_all.new.self adds ∙ was.count;
+            raised = was.raised;
+            string = was.string;
+            numbers = was.numbers;
+          })
+          (λ same. subst (λ (v : Versions). IsPrepared p c.self.inside.methods v c.self.inside.exceptions c.self.inside.numbers) (sym same) was);
+      known = subst (AreKnown c.self.inside.linker c.add_all.new.self) (sym c.new-none.ensures) (nil-known c.self.inside.linker c.add_all.new.self);
+    }
 
 pub returns-clause-set_up : goal.returns-clause-set_up
 returns-clause-set_up c =

@@ -2,4 +2,4 @@ use Rattle.jvm_steps.proofs.LineFamilies.{keeps-family}
 use Rattle.jvm_steps.proofs.originals.Originals.line.Goals as goal
 
 pub returns-clause-family : goal.returns-clause-family
-returns-clause-family c = keeps-family c.self.inside.versions c.self.invariant.lines c.args.version c.args.place c.line_at.result c.line_at.ensures
+returns-clause-family c = keeps-family c.self.inside.versions c.self.invariant.prepared.lines c.args.version c.args.place c.line_at.result c.line_at.ensures

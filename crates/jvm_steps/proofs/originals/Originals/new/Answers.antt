@@ -1,4 +1,6 @@
-use Rattle.std.proofs.Common.{◌≡◌, ◌<◌, ◌≤◌, ◌^◌, length, arith, rules}
+use Rattle.std.proofs.Common.{◌≡◌, ◌<◌, ◌≤◌, ◌^◌, length, subst, sym, arith, rules}
+use Rattle.jvm_steps.specs.Kept.{AreKnown}
+use Rattle.jvm_steps.proofs.CellLemmas.{nil-known}
 use Rattle.jvm_steps.proofs.BuiltInLoads.{few-coded}
 use Rattle.jvm_steps.proofs.Entries.{IsPrepared-entries, IsPrepared-same}
 use Rattle.jvm_steps.specs.Prepared.{world_in}
@@ -13,9 +15,13 @@ pub invariant_of-result : goal.invariant_of-result
 invariant_of-result c =
     let few : length c.args.program.classes < 2 ^ 24 = omega (arith, c.requires.linkable.count) in
     let same : c.load_built_in.new.linker.program ≡ c.args.program = search rules in
-    IsPrepared-same c.args.program c.load_built_in.new.linker.program c.in_ok-methods.methods c.in_ok-versions.versions c.exceptions_of-exceptions.result c.in_ok-numbers.numbers same
-    (IsPrepared-entries c.args.program c.in_ok-methods.methods c.in_ok-versions.versions c.exceptions_of-exceptions.result c.in_ok-numbers.numbers c.requires few c.requires.methods
-    c.in_ok-methods.ensures c.in_ok-versions.ensures c.exceptions_of-exceptions.ensures.raised c.exceptions_of-exceptions.ensures.string c.in_ok-numbers.ensures)
+    record {
+      prepared =
+          IsPrepared-same c.args.program c.load_built_in.new.linker.program c.in_ok-methods.methods c.in_ok-versions.versions c.exceptions_of-exceptions.result c.in_ok-numbers.numbers same
+          (IsPrepared-entries c.args.program c.in_ok-methods.methods c.in_ok-versions.versions c.exceptions_of-exceptions.result c.in_ok-numbers.numbers c.requires few c.requires.methods
+          c.in_ok-methods.ensures c.in_ok-versions.ensures c.exceptions_of-exceptions.ensures.raised c.exceptions_of-exceptions.ensures.string c.in_ok-numbers.ensures);
+      known = subst (AreKnown c.load_built_in.new.linker c.in_ok-versions.versions) (sym c.new-cells.ensures) (nil-known c.load_built_in.new.linker c.in_ok-versions.versions);
+    }
 
 pub returns-clause-set_up : goal.returns-clause-set_up
 returns-clause-set_up c = λ fit closed.
