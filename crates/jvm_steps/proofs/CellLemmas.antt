@@ -1,7 +1,7 @@
 -- What is known at a place is known there alone, and stays known.
 use Rattle.std.proofs.Common.{◌≡◌, ◌⊎◌, ℕ, zero, suc, Bool, true, false, List, [], ◌∷◌, ◌++◌, Option, Some, None, ap, sym, subst, refl, ◌∙◌, inl, inr}
 use Rattle.std.specs.Prelude.{◌==◌, ◌&&◌, slice_get, slice_set, if◌then◌else◌}
-use Rattle.std.specs.Option.{IfSome, option_and_then, option_flatten}
+use Rattle.std.specs.Option.{IfSome, option_and_then}
 use Rattle.frame_stack.specs.FrameLists.{FramesView, PlacedFrame, pins_of, top_operands}
 use Rattle.method_versions.specs.Tables.{is_superseded_in}
 use Rattle.jvm_model.specs.declared.state.Shared.{Shared}
@@ -16,7 +16,7 @@ use Rattle.jvm_named.proofs.Again.{known-more}
 use Rattle.jvm_steps.specs.Cells.{Keeps, KeepsItem, Learns, Rows, cell_at, item_at}
 use Rattle.jvm_steps.specs.Kept.{AreKnown, IsLater}
 use Rattle.jvm_steps.specs.Lines.{IfNamed, IfNamedBy}
-use Rattle.jvm_steps.specs.Tables.{Releases, Version, Versions, version_at}
+use Rattle.jvm_steps.specs.Tables.{Releases, Versions, version_at}
 use Rattle.jvm_steps.specs.Versions.{line_at, line_in}
 use Rattle.jvm_steps.specs.declared.line.Action.{Action}
 use Rattle.jvm_steps.specs.declared.line.Action.TheVariants as action

@@ -10,12 +10,10 @@ use Rattle.const_pool.specs.declared.class.CodeAttribute.{CodeAttribute}
 use Rattle.const_pool.specs.declared.class.Member.{Member}
 use Rattle.code_model.specs.declared.laying.Homes.{Homes}
 use Rattle.code_model.specs.Layout.{home_of}
-use Rattle.jvm_model.specs.declared.event.Mark.{Mark}
 use Rattle.jvm_model.specs.declared.program.MethodPlace.{MethodPlace}
 use Rattle.jvm_model.specs.declared.program.Program.{Program}
 use Rattle.jvm_model.specs.Methods.{code_of, method_code}
 use Rattle.jvm_model.specs.Programs.{class_at, number_from, number_of_method, place_of_method, same_place}
-use Rattle.jvm_model.specs.StandsFor.{mark_at}
 use Rattle.jvm_steps.specs.Tables.{Version}
 use Rattle.jvm_steps.specs.ClassVersions.{alone, class_version, class_versions, homes_at, member_version, version_by, versions_from}
 use Rattle.jvm_steps.specs.Entries.{no_version, original_version, version_of}

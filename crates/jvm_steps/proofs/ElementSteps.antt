@@ -1,21 +1,18 @@
 -- A load or a store of an element that raises nothing is a step of the run, as one of the current frame alone is: nothing follows from it.
-use Rattle.std.proofs.Common.{◌≡◌, ℕ, ℤ, Bool, true, false, List, [], ◌∷◌, drop, length, map, Option, Some, None, refl, sym, ap, subst, ◌∙◌}
+use Rattle.std.proofs.Common.{◌≡◌, ℕ, Bool, true, false, List, [], ◌∷◌, drop, length, map, Option, Some, None, refl, sym, ap, ◌∙◌}
 use Rattle.std.specs.Prelude.{if◌then◌else◌, is_none, is_some, ◌&&◌}
 use Rattle.std.specs.Option.{option_map}
 use Rattle.std.proofs.lemmas.Bool.{false≢true}
-use Rattle.std.proofs.lemmas.Option.{none-some, same_Some}
 use Rattle.const_pool.specs.declared.descriptor.Kind.{Kind}
 use Rattle.heap_objects.specs.declared.datum.Datum.{Datum}
 use Rattle.heap_objects.specs.declared.datum.Datum.TheVariants as datum
 use Rattle.heap_objects.specs.Heaps.{HeapView, with_slot_at}
 use Rattle.frame_stack.specs.FrameLists.{PlacedFrame, FramesView, has_frame, top_operands}
-use Rattle.jvm_model.specs.declared.state.Entry.{Entry}
-use Rattle.jvm_model.specs.declared.state.Frame.{Frame}
 use Rattle.jvm_model.specs.declared.state.Shared.{Shared}
 use Rattle.jvm_model.specs.declared.state.State.{State}
 use Rattle.jvm_model.specs.Data.{Done, GoesOn, Locals, Next as Following, Operands, Raises}
 use Rattle.jvm_model.specs.declared.program.Program.{Program}
-use Rattle.jvm_model.specs.ObjectRules.{Inside, done, Storing, access_to, fits_array, loads_at, loads_element, place_of, stores_at, stores_element, storing_of}
+use Rattle.jvm_model.specs.ObjectRules.{done, Storing, access_to, fits_array, loads_element, place_of, stores_at, stores_element, storing_of}
 use Rattle.jvm_model.specs.Run.{step, steps_at, steps_on}
 use Rattle.jvm_model.specs.SharedState.{array_store}
 use Rattle.jvm_model.specs.Values.{as_value}
@@ -27,18 +24,18 @@ use Rattle.jvm_steps.specs.declared.line.Line.{Line}
 use Rattle.jvm_steps.specs.declared.markers.Marker.{Marker}
 use Rattle.jvm_steps.specs.declared.parts.Here.{Here}
 use Rattle.jvm_steps.specs.declared.parts.Parts.{Parts}
-use Rattle.jvm_steps.specs.Acts.{acts, acts_asked, acts_by, acts_done, acts_load, acts_store, attempts_on, comes_to, is_named, named_in, on_parts, on_top}
-use Rattle.jvm_steps.specs.Elements.{IsLoaded, IsStored, drops_three, element_at, is_number}
+use Rattle.jvm_steps.specs.Acts.{acts, acts_asked, acts_by, acts_done, attempts_on, is_named, named_in, on_parts, on_top}
+use Rattle.jvm_steps.specs.Elements.{IsLoaded, IsStored, drops_three, is_number}
 use Rattle.jvm_steps.specs.Markers.{marker_on, stack_of, state_of, with_markers}
 use Rattle.jvm_steps.specs.Ready.{CanRun}
 use Rattle.jvm_steps.specs.Runs.{IsCalm, IsLineIn, IsPlainLine, LeadsAlone, RunsVersion, top_version}
 use Rattle.jvm_steps.specs.States.{active, frame_in, here_of, state_in, state_with}
-use Rattle.jvm_steps.specs.Tables.{Version, version_at}
+use Rattle.jvm_steps.specs.Tables.{Version}
 use Rattle.jvm_steps.specs.Versions.{Setup, instruction_in, line_at, line_in, text_of}
 use Rattle.jvm_steps.proofs.Alone.{next-is}
 use Rattle.jvm_steps.proofs.Beneath.{awaits-unnamed, does-beneath, does-there, top-there}
 use Rattle.jvm_steps.proofs.Carried.{goes_within}
-use Rattle.jvm_steps.proofs.ElementActs.{is-loaded, loads-at}
+use Rattle.jvm_steps.proofs.ElementActs.{loads-at}
 use Rattle.jvm_steps.proofs.Leading.{leads-one, quiet-one}
 use Rattle.jvm_steps.proofs.LineSteps.{going-on, rests, step-attempts, top-frame}
 use Rattle.jvm_steps.proofs.PlainSteps.{at-rest, framed, goes, plain-one, same-version, still-framed, still-many}

@@ -1,5 +1,5 @@
 -- What an attempt has changed, by the frames; and the pause behind it.
-use Rattle.std.proofs.Common.{◌≡◌, ◌≤◌, ◌<◌, ℕ, suc, Bool, true, false, List, [], ◌∷◌, ◌++◌, length, map, nat_lt, Option, Some, None, refl, sym, ap, subst, ◌∙◌, arith}
+use Rattle.std.proofs.Common.{◌≡◌, ◌≤◌, ◌<◌, ℕ, suc, Bool, true, false, List, [], ◌∷◌, ◌++◌, length, map, nat_lt, Some, None, refl, sym, ap, subst, ◌∙◌, arith}
 use Rattle.std.specs.Prelude.{not, IfOk, OnOk, Result, Ok, Err}
 use Rattle.std.proofs.lemmas.Bool.{false≢true, le-ltb, lt-ltb, ltb-false}
 use Rattle.std.proofs.lemmas.Option.{same_Some}
@@ -10,11 +10,10 @@ use Rattle.jvm_model.specs.declared.event.EventKind.TheVariants as kind
 use Rattle.jvm_model.specs.declared.event.Mark.{Mark}
 use Rattle.jvm_model.specs.declared.event.Mark.TheVariants.{Off, Plain, Root}
 use Rattle.jvm_model.specs.declared.state.Entry.{Entry}
-use Rattle.jvm_model.specs.declared.state.Entry.TheVariants.{Active, Initializing}
 use Rattle.jvm_model.specs.declared.state.State.{State}
-use Rattle.jvm_model.specs.Applies.{live_in, still}
+use Rattle.jvm_model.specs.Applies.{still}
 use Rattle.jvm_model.specs.Between.{changes_between, compared, followed, top_method}
-use Rattle.jvm_model.specs.Data.{Began, Change, Left, Text}
+use Rattle.jvm_model.specs.Data.{Change, Text}
 use Rattle.jvm_model.specs.Images.{is_off}
 use Rattle.jvm_model.specs.Told.{mark_now}
 use Rattle.jvm_model.specs.Pauses.{Pause, changes_due, passed_by, paused, unless_off}

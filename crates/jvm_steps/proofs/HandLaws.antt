@@ -1,9 +1,8 @@
 -- A step in hand goes on: what is in hand then, and that all of it stays sound.
-use Rattle.std.proofs.Common.{◌≡◌, ℕ, suc, Bool, true, false, List, [], ◌∷◌, length, Option, Some, None, refl, sym, ap, subst, ◌∙◌}
-use Rattle.std.specs.Prelude.{is_some, IfNone, IfOk, OnOk, Result, Ok, Err, ◌==◌, ◌||◌}
+use Rattle.std.proofs.Common.{◌≡◌, ℕ, suc, Bool, true, false, List, Option, Some, None, refl, sym, ap, subst, ◌∙◌}
+use Rattle.std.specs.Prelude.{is_some, IfNone}
 use Rattle.std.specs.Option.{IfSome}
 use Rattle.jvm_model.specs.declared.due.Due.{Due}
-use Rattle.jvm_model.specs.declared.event.Mark.{Mark}
 use Rattle.jvm_model.specs.declared.state.State.{State}
 use Rattle.jvm_model.specs.Data.{Turn}
 use Rattle.jvm_model.specs.InHand.{GoesOn, goes_from, popped}

@@ -5,16 +5,13 @@ use Rattle.std.proofs.lemmas.Option.{same_Some, none-some}
 use Rattle.std.specs.Option.{option_map, IfSome}
 use Rattle.std.specs.Prelude.{◌==◌, is_some, IfNone}
 use Rattle.frame_stack.specs.FrameLists.{PlacedFrame, FramesView, top_operands}
-use Rattle.jvm_model.specs.declared.ending.Ending.{Ending}
-use Rattle.jvm_model.specs.declared.state.Entry.{Entry}
 use Rattle.jvm_model.specs.declared.state.Shared.{Shared}
 use Rattle.jvm_model.specs.declared.state.State.{State}
-use Rattle.jvm_model.specs.Data.{Naming, Instruction}
+use Rattle.jvm_model.specs.Data.{Naming}
 use Rattle.jvm_model.specs.Does.{loads}
 use Rattle.jvm_model.specs.Naming.{newly_loaded}
 use Rattle.jvm_model.specs.Rest.{loads_at, loads_on}
 use Rattle.jvm_model.specs.Run.{with_loaded}
-use Rattle.jvm_named.specs.declared.naming.Naming.{Naming as Kept}
 use Rattle.jvm_named.specs.declared.asked.Asked.{Asked}
 use Rattle.jvm_named.specs.Answers.{answer_by, answer_view, frames_by, shared_by, wrote_by}
 use Rattle.jvm_named.specs.Attempts.{attempts, is_loaded, loaded_for, shared_loaded}
@@ -28,8 +25,8 @@ use Rattle.jvm_steps.specs.declared.parts.Parts.{Parts}
 use Rattle.jvm_steps.specs.Acts.{attempts_on, awaited_in, is_named, named_in}
 use Rattle.jvm_steps.specs.Asked.{concluded, starts_in}
 use Rattle.jvm_steps.specs.Initializing.{begins_class}
-use Rattle.jvm_steps.specs.Lines.{IfNamed, IfNamedBy}
-use Rattle.jvm_steps.specs.Markers.{marker_on, stack_of, state_of, with_markers}
+use Rattle.jvm_steps.specs.Lines.{IfNamed}
+use Rattle.jvm_steps.specs.Markers.{marker_on, stack_of, state_of}
 use Rattle.jvm_steps.specs.States.{active, frame_in, here_of, state_in}
 use Rattle.jvm_steps.specs.Turning.{loads_in, loads_none}
 use Rattle.jvm_steps.specs.Versions.{Setup, instruction_in, line_at, operation_as, text_of}

@@ -13,8 +13,7 @@ use Rattle.jvm_model.specs.declared.state.Frame.{Frame}
 use Rattle.jvm_model.specs.declared.state.State.{State}
 use Rattle.jvm_model.specs.Data.{Change, Instruction, Text, Turn}
 use Rattle.jvm_model.specs.Applies.{live_in}
-use Rattle.jvm_model.specs.Between.{changes_between, followed}
-use Rattle.jvm_model.specs.Does.{loads}
+use Rattle.jvm_model.specs.Between.{changes_between}
 use Rattle.jvm_model.specs.InHand.{popped}
 use Rattle.jvm_model.specs.Moves.{left, move}
 use Rattle.jvm_model.specs.Pauses.{Pause, changes_due, passed_by, pause_by, paused, pauses}
@@ -28,7 +27,7 @@ use Rattle.jvm_model.proofs.SoundTextRuns.{sound-loaded}
 use Rattle.jvm_model.proofs.SoundTextSteps.{GoesTo, moves-go}
 use Rattle.jvm_steps.specs.Acts.{attempts_on, awaited_in}
 use Rattle.jvm_steps.specs.Ready.{CanRun, IsSoundIn, RunsIn}
-use Rattle.jvm_steps.specs.Turning.{goes_by_moves, loads_in, paused_in, resumed, resumed_count}
+use Rattle.jvm_steps.specs.Turning.{goes_by_moves, loads_in, paused_in}
 use Rattle.jvm_steps.specs.Trying.{leaves_at, pause_behind_attempt, tried_in, tries_again}
 use Rattle.jvm_steps.specs.Versions.{Setup, text_of, mark_of}
 use Rattle.jvm_steps.proofs.LineSteps.{IsGoing, behind, going-again}

@@ -1,5 +1,5 @@
 -- What the current frame does by itself is a step of the run: nothing follows from it.
-use Rattle.std.proofs.Common.{◌≡◌, ℕ, suc, ◌+◌, Bool, true, false, cond, List, [], ◌∷◌, length, map, Option, Some, None, refl, sym, ap, ◌∙◌, arith}
+use Rattle.std.proofs.Common.{◌≡◌, ℕ, suc, Bool, true, false, cond, List, [], ◌∷◌, length, map, Option, Some, None, refl, sym, ap, ◌∙◌}
 use Rattle.std.specs.Prelude.{is_some, is_none, nat_le, ◌&&◌, ◌||◌}
 use Rattle.std.specs.Option.{option_and_then}
 use Rattle.std.proofs.lemmas.Option.{none-some, same_Some}
@@ -22,7 +22,7 @@ use Rattle.jvm_steps.specs.Runs.{IsCalm, IsLineIn, IsPlainLine, LeadsPlainly, Ru
 use Rattle.jvm_steps.specs.Tables.{Version, version_at}
 use Rattle.jvm_steps.specs.States.{active, frame_in, here_of, state_with}
 use Rattle.jvm_steps.proofs.Alone.{goes-next}
-use Rattle.jvm_steps.proofs.Leading.{leads-none, leads-one, leads-on, quiet-on, quiet-one}
+use Rattle.jvm_steps.proofs.Leading.{leads-one, quiet-one}
 use Rattle.jvm_steps.proofs.QuietLines.{quiet-step}
 use Rattle.jvm_steps.proofs.Carried.{comes-carried, length-active}
 use Rattle.jvm_steps.proofs.LineSteps.{going-on, rests, step-attempts, top-frame}

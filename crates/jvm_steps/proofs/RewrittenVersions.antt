@@ -13,7 +13,6 @@ use Rattle.code_model.specs.declared.laying.Homes.{Homes}
 use Rattle.code_model.specs.declared.laying.Laid.{Laid}
 use Rattle.code_model.specs.Instructions.{instruction_at}
 use Rattle.code_model.specs.Layout.{home_in, home_of, place_in}
-use Rattle.jvm_model.specs.declared.event.Mark.{Mark}
 use Rattle.jvm_model.specs.declared.program.Program.{Program}
 use Rattle.jvm_model.specs.Data.{Catcher, Instruction}
 use Rattle.jvm_model.specs.Lines.{code_instruction, instruction_of}

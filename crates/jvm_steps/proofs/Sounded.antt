@@ -13,7 +13,7 @@ use Rattle.jvm_model.specs.Data.{Naming, Invokespecial, Local, Return, Operation
 use Rattle.jvm_model.specs.Does.{loads}
 use Rattle.jvm_model.specs.Run.{main_class}
 use Rattle.jvm_model.specs.Sound as sound
-use Rattle.jvm_model.specs.Sound.{CanAttempt, HasClass, IsFit, IsLoaded, IsSoundOutcome, IsSoundShared}
+use Rattle.jvm_model.specs.Sound.{CanAttempt, IsFit, IsLoaded, IsSoundOutcome, IsSoundShared}
 use Rattle.jvm_model.proofs.SoundAttempts.{sound-does}
 use Rattle.jvm_model.proofs.SoundClasses.{among-front}
 use Rattle.jvm_model.proofs.SoundKinds.{has-root}

@@ -1,10 +1,10 @@
 -- Where a step stops that begins with an attempt, by what attempts of the current frame's line have come to.
-use Rattle.std.proofs.Common.{◌≡◌, ℕ, suc, Bool, true, false, cond, List, [], ◌∷◌, ◌++◌, length, map, Option, Some, None, if◌then◌else◌, refl, sym, subst, ap, ◌∙◌, arith}
+use Rattle.std.proofs.Common.{◌≡◌, ℕ, suc, Bool, true, false, List, [], ◌∷◌, ◌++◌, length, map, Option, Some, None, if◌then◌else◌, refl, sym, subst, ap, ◌∙◌, arith}
 use Rattle.std.specs.Option.{IfSome}
 use Rattle.std.specs.Prelude.{is_none, is_some, not, ◌&&◌, ◌==◌}
 use Rattle.std.proofs.lemmas.Bool.{false≢true, eqb-true}
 use Rattle.std.proofs.lemmas.List.{append-nil}
-use Rattle.std.proofs.lemmas.Option.{same_Some, none-some}
+use Rattle.std.proofs.lemmas.Option.{none-some}
 use Rattle.frame_stack.specs.FrameLists.{PlacedFrame, has_frame}
 use Rattle.jvm_model.specs.declared.due.Due.{Due}
 use Rattle.jvm_model.specs.declared.due.Due.TheVariants.{Nothing, Ends, Begins}
@@ -12,13 +12,13 @@ use Rattle.jvm_model.specs.declared.ending.Ending.{Ending}
 use Rattle.jvm_model.specs.declared.event.EventKind.TheVariants as kind
 use Rattle.jvm_model.specs.declared.event.Mark.{Mark}
 use Rattle.jvm_model.specs.declared.state.Entry.{Entry}
-use Rattle.jvm_model.specs.declared.state.Entry.TheVariants.{Active, Initializing}
+use Rattle.jvm_model.specs.declared.state.Entry.TheVariants.{Active}
 use Rattle.jvm_model.specs.declared.state.Frame.{Frame}
 use Rattle.jvm_model.specs.declared.state.Shared.{Shared}
 use Rattle.jvm_model.specs.declared.state.State.{State}
 use Rattle.jvm_model.specs.Applies.{breaks, live_in}
 use Rattle.jvm_model.specs.Between.{changes_between, followed}
-use Rattle.jvm_model.specs.Data.{Breaks, Change, Instruction, Local, Naming, Named, Nop, Operands, Operation, Return, Text, Within}
+use Rattle.jvm_model.specs.Data.{Breaks, Instruction, Local, Naming, Named, Nop, Operands, Operation, Return, Text, Within}
 use Rattle.jvm_model.specs.Does.{does, loads}
 use Rattle.jvm_model.specs.Images.{is_off}
 use Rattle.jvm_model.specs.Rest.{loads_at, loads_on}
@@ -26,17 +26,16 @@ use Rattle.jvm_model.specs.Run.{goes_on, is_ready, starts, with_loaded}
 use Rattle.jvm_model.specs.SharedState.{phase_of}
 use Rattle.jvm_model.specs.Told.{held_by, helds}
 use Rattle.jvm_model.specs.Pauses.{Pause}
-use Rattle.jvm_model.specs.StepPauses.{again_pause, attempted, frame_pause, is_nothing, is_return, leave_due, line_pause, stack_pause, turn_pause}
+use Rattle.jvm_model.specs.StepPauses.{again_pause, attempted, frame_pause, is_nothing, is_return, leave_due, stack_pause, turn_pause}
 use Rattle.jvm_model.proofs.AttemptPauses.{breaks-pause, goes-again, goes-once, leaves, settled-there, stays-once}
 use Rattle.jvm_model.proofs.ChangesBetween.{applies-tell}
 use Rattle.jvm_model.proofs.LoopOfPauses.{paused-move}
-use Rattle.jvm_steps.specs.declared.line.Action.{Action}
 use Rattle.jvm_steps.specs.declared.line.Action.TheVariants as action
 use Rattle.jvm_steps.specs.declared.line.Line.{Line}
 use Rattle.jvm_steps.specs.declared.markers.Marker.{Marker}
 use Rattle.jvm_steps.specs.declared.parts.Parts.{Parts}
 use Rattle.jvm_steps.specs.Acts.{acts, acts_by, acts_named, attempts_line, attempts_on, awaited, awaited_by, awaited_in, awaited_on, goes_on_in}
-use Rattle.jvm_steps.specs.Lines.{action_of, local_action, named_as}
+use Rattle.jvm_steps.specs.Lines.{action_of, local_action}
 use Rattle.jvm_steps.specs.Markers.{initializing, marker_on, stack_of, state_of}
 use Rattle.jvm_steps.specs.Ready.{CanRun, IsSoundIn, IsTied}
 use Rattle.jvm_steps.specs.States.{active, frame_in}

@@ -1,8 +1,7 @@
 -- A move of frames is the same beneath their markers: what it changes, and what is due by it.
-use Rattle.std.proofs.Common.{◌≡◌, ℕ, suc, Bool, true, false, cond, List, [], ◌∷◌, ◌++◌, length, map, Option, Some, None, refl, sym, ap, ap₂, subst, ◌∙◌}
+use Rattle.std.proofs.Common.{◌≡◌, ℕ, suc, Bool, List, [], ◌∷◌, ◌++◌, length, map, Option, Some, None, refl, sym, ap, ap₂, subst, ◌∙◌}
 use Rattle.std.proofs.lemmas.Option.{none-some}
 use Rattle.std.specs.Prelude.{drop, is_some, IfOk, Result}
-use Rattle.std.specs.Option.{option_map_or}
 use Rattle.frame_stack.specs.FrameLists.{FramesView, PlacedFrame, rest_of, without_frame}
 use Rattle.jvm_model.specs.declared.ending.Ending.{Ending}
 use Rattle.jvm_model.specs.declared.event.Mark.{Mark}
@@ -13,10 +12,9 @@ use Rattle.jvm_model.specs.declared.state.Entry.TheVariants.{Active, Initializin
 use Rattle.jvm_model.specs.declared.state.Frame.{Frame}
 use Rattle.jvm_model.specs.declared.state.Shared.{Shared}
 use Rattle.jvm_model.specs.declared.state.State.{State}
-use Rattle.jvm_model.specs.Applies.{has_room}
-use Rattle.jvm_model.specs.Data.{Change, Text, Turn}
+use Rattle.jvm_model.specs.Data.{Text}
 use Rattle.jvm_model.specs.InHand.{popped}
-use Rattle.jvm_model.specs.Moves.{argument_array, caught, handler_for, main_or_end, move, moves}
+use Rattle.jvm_model.specs.Moves.{caught, handler_for, moves}
 use Rattle.jvm_model.specs.SharedState.{class_of}
 use Rattle.jvm_model.specs.Told.{Held, held_by, helds, mark_now}
 use Rattle.jvm_model.specs.Pauses.{changes_due}

@@ -14,7 +14,6 @@ use Rattle.op_table.specs.Opcodes.{row_of, groups}
 use Rattle.code_model.specs.declared.laying.Homes.{Homes}
 use Rattle.code_model.specs.Instructions.{instruction_at}
 use Rattle.code_model.specs.Reading.{read_instruction, behind_opcode_at, operand_at, value_at, index_at, signed_at, number_at, branch_at, target_at, local_at, table_at, run_at, high_at, many_at}
-use Rattle.jvm_model.specs.declared.event.Mark.TheVariants.{Plain}
 use Rattle.jvm_model.specs.declared.state.Entry.{Entry}
 use Rattle.jvm_model.specs.declared.state.Entry.TheVariants.{Active}
 use Rattle.jvm_model.specs.declared.state.State.{State}

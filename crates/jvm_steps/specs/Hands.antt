@@ -1,7 +1,5 @@
 -- What is in hand of a step over versions, between two turns of a machine.
 use Rattle.std.specs.Prelude.{◌≡◌, ℕ, Bool, true, false, List}
-use Rattle.jvm_model.specs.declared.due.Due.{Due}
-use Rattle.jvm_model.specs.declared.event.Mark.{Mark}
 use Rattle.jvm_model.specs.declared.state.State.{State}
 use Rattle.jvm_model.specs.Data.{Turn}
 use Rattle.jvm_model.specs.InHand.{GoesOn, InHand, Versioned}

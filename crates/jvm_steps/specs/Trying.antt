@@ -1,7 +1,6 @@
 -- A step that begins with an attempt, over the frames: what it has changed, and where it stops.
 use Rattle.std.specs.Prelude.{ℕ, Bool, true, false, not, List, [], ◌∷◌, length, Option, Some, None, nat_lt, ◌&&◌, ◌==◌}
 use Rattle.frame_stack.specs.FrameLists.{PlacedFrame}
-use Rattle.jvm_model.specs.declared.event.Mark.{Mark}
 use Rattle.jvm_model.specs.declared.due.Due.{Due}
 use Rattle.jvm_model.specs.declared.due.Due.TheVariants.{Nothing, Ends, Begins}
 use Rattle.jvm_model.specs.declared.state.State.{State}

@@ -1,9 +1,7 @@
 -- Moves over versions with probes, one at a time: what each has done, and up to which the machine makes them before it tells something.
-use Rattle.std.specs.Prelude.{ℕ, suc, Bool, true, false, List, [], ◌∷◌, map, drop, length, slice_get, unwrap_or, is_some, Option, Some, None, ◌==◌}
+use Rattle.std.specs.Prelude.{ℕ, suc, Bool, true, false, List, [], ◌∷◌, map, drop, length, is_some, Option, Some, None, ◌==◌}
 use Rattle.std.specs.Option.{option_map_or}
 use Rattle.frame_stack.specs.FrameLists.{PlacedFrame}
-use Rattle.jvm_model.specs.declared.event.Mark.{Mark}
-use Rattle.jvm_model.specs.declared.event.Mark.TheVariants.{Off}
 use Rattle.jvm_model.specs.declared.state.State.{State}
 use Rattle.jvm_model.specs.Data.{Change, Began, Turn}
 use Rattle.jvm_model.specs.Moves.{move}

@@ -1,4 +1,4 @@
-use Rattle.std.proofs.Common.{◌≡◌, Some, OnOk, sym, subst, ap, ◌∙◌, rules}
+use Rattle.std.proofs.Common.{◌≡◌, Some, sym, subst, ap, ◌∙◌, rules}
 use Rattle.std.specs.Option.{option_copied}
 use Rattle.jvm_named.specs.Objects.{AreLoaded}
 use Rattle.jvm_steps.specs.Cells.{cell_at}
