@@ -1,0 +1,3 @@
+pub mod SceneLemmas
+pub mod HappeningLemmas
+pub mod RowLemmas

@@ -1,0 +1,11 @@
+-- it was entered so often
+use Rattle.std.proofs.Common.{◌≡◌}
+use Rattle.revelation_rows.specs.declared.item.Happening.TheVariants.{Entered}
+use Rattle.revelation_rows.specs.Scenes.{HasHappened}
+use Rattle.revelation_rows.proofs.scenes.enter.Given as goal
+
+abbrev pub invariant-loop : goal.invariant-loop
+invariant-loop g l = record {
+  entered : HasHappened (Entered l.method l.counter) l.fn.scene.now.linker l.fn.scene.now.reveal l.scene.now.linker l.scene.now.reveal;
+  linker : l.scene.now.linker ≡ l.fn.scene.now.linker;
+}
