@@ -3,7 +3,7 @@ use Rattle.std.proofs.Common.{◌≡◌, ◌≢◌, ◌<◌, ◌≤◌, ◌+◌,
 use Rattle.std.specs.Prelude.{Option, get_or, slice_get}
 use Rattle.std.proofs.lemmas.Option.{same_Some}
 use Rattle.jvm_model.specs.declared.program.Program.{Program}
-use Rattle.jvm_model.specs.Revealed.{Revealed, marks_of}
+use Rattle.jvm_model.specs.Revealed.{marks_of}
 use Rattle.class_linker.specs.Linkers.{LinkerView}
 use Rattle.call_revelation.specs.declared.reveal.Reveal.{Reveal}
 use Rattle.call_revelation.specs.Reveals.{now_of}
@@ -15,7 +15,7 @@ use Rattle.revelation_rows.specs.declared.item.Happening.TheVariants.{Deselected
 use Rattle.revelation_rows.specs.declared.item.Item.{Item}
 use Rattle.revelation_rows.specs.declared.item.Item.TheVariants.{Happens, Is}
 use Rattle.revelation_rows.specs.Rows.{Comes, Differs, Passes, Seen, behind, can_be_asked, can_be_told, first, revealed_by, shown_by}
-use Rattle.revelation_rows.specs.Scenes.{GoesOn, HasHappened, IsFresh, IsReady, IsSeen, IsToldOf, StopsAt, marks_shown}
+use Rattle.revelation_rows.specs.Scenes.{ComesTo, GoesOn, HasHappened, IsFresh, IsReady, IsSeen, IsToldOf, StopsAt, marks_shown}
 
 -- ---- one item
 
@@ -29,7 +29,7 @@ shown-behind p (Deselected method) r s now shown = shown
 shown-behind p Quiet r s now shown = shown
 shown-behind p Shown r s now shown = ap (marks_of p) now
 
-pub goes-on : (happening : Happening) (l : LinkerView) (r : Reveal) (next : LinkerView) (after : Reveal) → HasHappened happening l r next after
+goes-on : (happening : Happening) (l : LinkerView) (r : Reveal) (next : LinkerView) (after : Reveal) → HasHappened happening l r next after
     → can_be_asked l.program (now_of r) (Happens happening) ≡ true → GoesOn (Happens happening) l r next after
 goes-on happening l r next after has can = record {
   ready = has.ready;
@@ -40,6 +40,12 @@ goes-on happening l r next after has can = record {
     shown = has.shown ∙ (shown-behind l.program happening r s seen.now seen.shown ∙ ap (λ p. marks_of p (shown_by happening s)) (sym has.program));
   };
 }
+
+-- where it is this one
+pub goes-on-as : (happening said : Happening) (l : LinkerView) (r : Reveal) (next : LinkerView) (after : Reveal) → happening ≡ said
+    → HasHappened said l r next after → can_be_asked l.program (now_of r) (Happens said) ≡ true → GoesOn (Happens happening) l r next after
+goes-on-as happening said l r next after e has can =
+    subst (λ h. GoesOn (Happens h) l r next after) (sym e) (goes-on said l r next after has can)
 
 pub cannot-happen : (happening : Happening) (l : LinkerView) (r : Reveal) → can_be_asked l.program (now_of r) (Happens happening) ≡ false
     → StopsAt (Happens happening) l r NotLoaded

@@ -1,5 +1,5 @@
 -- What a scene keeps to, and what is seen of it.
-use Rattle.std.specs.Prelude.{◌≡◌, ℕ, List, []}
+use Rattle.std.specs.Prelude.{◌≡◌, ℕ, false, List, [], Option, Some, None}
 use Rattle.jvm_model.specs.declared.event.Mark.{Mark}
 use Rattle.jvm_model.specs.declared.program.Program.{Program}
 use Rattle.jvm_model.specs.KindNumbers.{user_count}
@@ -15,7 +15,7 @@ use Rattle.revelation_rows.specs.declared.item.Fact.{Fact}
 use Rattle.revelation_rows.specs.declared.item.Happening.{Happening}
 use Rattle.revelation_rows.specs.declared.item.Happening.TheVariants.{Deselected, Entered, Loaded, Quiet, Selected, Shown}
 use Rattle.revelation_rows.specs.declared.item.Item.{Item}
-use Rattle.revelation_rows.specs.Rows.{Differs, IsTold, Passes, Seen, behind, first, revealed_by}
+use Rattle.revelation_rows.specs.Rows.{Differs, IsTold, Passes, Seen, behind, can_be_told, first, revealed_by}
 
 -- ---- what it keeps to
 
@@ -85,6 +85,16 @@ pub record GoesOn (item : Item) (l : LinkerView) (r : Reveal) (next : LinkerView
   pub passes : (s : Seen) → IsSeen l r s → Passes l.program s item
   pub seen : (s : Seen) → IsSeen l r s → IsSeen next after (behind l.program item s)
 
+-- what is told of a fact: that of its kind, unless it cannot be told
+abbrev pub IsAnswered : LinkerView → Reveal → Fact → Option Fact → Type 0
+IsAnswered l r fact None = can_be_told l.program (now_of r) fact ≡ false
+IsAnswered l r fact (Some came) = IsToldOf l r fact came
+
 -- an item does not pass, which is told
 abbrev pub StopsAt : Item → LinkerView → Reveal → Difference → Type 0
 StopsAt item l r difference = (s : Seen) → IsSeen l r s → Differs l.program s item difference
+
+-- what comes of an item: what is seen goes on, or it stops there
+abbrev pub ComesTo : Item → LinkerView → Reveal → LinkerView → Reveal → Option Difference → Type 0
+ComesTo item l r next after None = GoesOn item l r next after
+ComesTo item l r next after (Some difference) = StopsAt item l r difference

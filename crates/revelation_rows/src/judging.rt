@@ -3,41 +3,42 @@
 use crate::item::{Difference, Fact};
 use crate::making::make;
 use crate::names::{put_classes, put_marks, put_methods};
-use crate::parts::RowError;
+use crate::parts::{Input, RowError, is_row};
 use crate::playing::play_all;
 use crate::reading::read_row;
 use crate::scenes::first_scene;
 use crate::spent::Spent;
 use jf_bytes::NoMemory;
 use jvm_model::Program;
-use std::alloc::Global;
+use std::alloc::{AllocError, Global};
 use std::time::CpuClock;
 
-/// What came otherwise than the row says, if anything did, and what the row took of the processor.
+/// What is told of a row.
 #[derive(Drop)]
 pub struct Verdict {
-    pub difference: Option<String>,
-    pub spent: Spent,
+    pub line: String,
+    pub has_passed: bool,
 }
 
 /// A fact in words.
 fn put_fact(out: &mut String, program: &Program, fact: &Fact) -> Result<(), NoMemory> {
     match fact {
         Fact::Marks(marks) => {
-            out.push_str("marked are")?;
+            out.push_str("marked:")?;
             put_marks(out, program, marks.as_slice())
         }
         Fact::Changed(classes) => {
-            out.push_str("other marks have")?;
+            out.push_str("changed:")?;
             put_classes(out, program, classes.as_slice())
         }
         Fact::Begins(_, methods) => {
-            out.push_str("it begins")?;
+            out.push_str("it begins:")?;
             put_methods(out, program, methods.as_slice())
         }
-        Fact::IsSelected(_, true) | Fact::SelectsAny(true) => Ok(out.push_str("it is selected")?),
+        Fact::IsSelected(_, true) => Ok(out.push_str("it is selected")?),
         Fact::IsSelected(_, false) => Ok(out.push_str("it is not selected")?),
-        Fact::SelectsAny(false) => Ok(out.push_str("none is selected")?),
+        Fact::SelectsAny(true) => Ok(out.push_str("a method is selected")?),
+        Fact::SelectsAny(false) => Ok(out.push_str("no method is selected")?),
     }
 }
 
@@ -51,13 +52,13 @@ fn text_of(alloc: Global, program: &Program, came: &Difference) -> Result<String
     Ok(out)
 }
 
-/// Plays a row over the program of these class files.
-pub fn judge<R: CpuClock>(
+/// What came otherwise than a row says, if anything did, and what the row took of the processor.
+fn judge<R: CpuClock>(
     rt: &R,
     alloc: Global,
     files: &[Vec<u8>],
     row: &str,
-) -> Result<Verdict, RowError> {
+) -> Result<(Option<String>, Spent), RowError> {
     let program = make(alloc, files)?;
     let Some(items) = read_row(alloc, &program, row)? else {
         return Err(RowError::Unknown);
@@ -69,6 +70,57 @@ pub fn judge<R: CpuClock>(
         Some(came) => Some(text_of(alloc, scene.linker.program(), &came)?),
         None => None,
     };
-    let spent = scene.spent;
-    Ok(Verdict { difference, spent })
+    Ok((difference, scene.spent))
+}
+
+/// The line that tells of a row: `ROW ok`, or `ROW: ` and what came in place of what it says.
+fn verdict_of(alloc: Global, row: &str, difference: Option<String>) -> Result<Verdict, AllocError> {
+    match difference {
+        None => Ok(Verdict {
+            line: format!(in alloc; "{row} ok")?,
+            has_passed: true,
+        }),
+        Some(difference) => Ok(Verdict {
+            line: format!(in alloc; "{row}: {difference}")?,
+            has_passed: false,
+        }),
+    }
+}
+
+/// Plays a row over the program of these class files. Where it is `timed` what it took is told.
+fn judge_row<R: CpuClock>(
+    rt: &R,
+    alloc: Global,
+    files: &[Vec<u8>],
+    row: &str,
+    timed: bool,
+) -> Result<Verdict, AllocError> {
+    match judge(rt, alloc, files, row) {
+        Ok((difference, spent)) => {
+            if timed {
+                return Ok(Verdict {
+                    line: format!(in alloc; "{spent}")?,
+                    has_passed: true,
+                });
+            }
+            verdict_of(alloc, row, difference)
+        }
+        Err(error) => verdict_of(alloc, row, Some(format!(in alloc; "{error}")?)),
+    }
+}
+
+/// Plays all rows over the program of the class files.
+pub fn judge_all<R: CpuClock>(
+    rt: &R,
+    alloc: Global,
+    input: &Input,
+    timed: bool,
+) -> Result<Vec<Verdict>, AllocError> {
+    let mut verdicts = Vec::new(alloc);
+    for line in input.rows.lines() {
+        if is_row(line) {
+            verdicts.push(judge_row(rt, alloc, &input.classes, line, timed)?)?;
+        }
+    }
+    Ok(verdicts)
 }

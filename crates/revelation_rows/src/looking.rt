@@ -1,11 +1,11 @@
 //! What is the case in a scene, beside what a row says of it.
 
-ghost use Rattle.std.specs.Prelude.{◌≡◌, ◌≢◌, None, Ok, true, false, IfOk, IfSome};
+ghost use Rattle.std.specs.Prelude.{◌≡◌, ◌≢◌, true, false, IfOk};
 ghost use Rattle.jvm_model.specs.Points.{has_class};
 ghost use Rattle.jvm_model.specs.Revealed.{marks_of};
 ghost use Rattle.call_revelation.specs.Reveals.{now_of};
-ghost use Rattle.revelation_rows.specs.Rows.{AreTargets, can_be_told};
-ghost use Rattle.revelation_rows.specs.Scenes.{IsReady, IsToldOf};
+ghost use Rattle.revelation_rows.specs.Rows.{AreTargets};
+ghost use Rattle.revelation_rows.specs.Scenes.{IsAnswered, IsReady};
 
 use crate::item::Fact;
 use crate::scenes::{Scene, has_class};
@@ -45,9 +45,7 @@ pub fn told(
     fact: &Fact,
 ) -> Result<Option<Fact>, NoMemory>
     requires { IsReady linker.now reveal.now }
-    ensures told { IfOk result (λ found. IfSome found (IsToldOf linker.now reveal.now fact.now)) }
-    ensures untold { result ≡ Ok None
-        → can_be_told linker.now.program (now_of reveal.now) fact.now ≡ false }
+    ensures { IfOk result (IsAnswered linker.now reveal.now fact.now) }
 {
     match fact {
         Fact::Marks(_) => Ok(Some(Fact::Marks(marks(alloc, linker, reveal)?))),

@@ -6,4 +6,4 @@ use Rattle.revelation_rows.proofs.playing.play_all.Given as goal
 
 abbrev pub invariant-loop-item : goal.invariant-loop-item
 invariant-loop-item g l =
-    IsGoing l.fn.scene.now.linker.program l.items (first l.fn.scene.now.linker.loaded) l.scene.now.linker l.scene.now.reveal (drop l.item-index l.items)
+    IsGoing l.fn.scene.linker.program l.items (first l.fn.scene.linker.loaded) l.scene.linker l.scene.reveal (drop l.item-index l.items)

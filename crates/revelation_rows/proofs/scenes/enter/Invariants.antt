@@ -1,4 +1,4 @@
--- it was entered so often
+-- it was entered so often, and nothing was loaded
 use Rattle.std.proofs.Common.{◌≡◌}
 use Rattle.revelation_rows.specs.declared.item.Happening.TheVariants.{Entered}
 use Rattle.revelation_rows.specs.Scenes.{HasHappened}
@@ -6,6 +6,7 @@ use Rattle.revelation_rows.proofs.scenes.enter.Given as goal
 
 abbrev pub invariant-loop : goal.invariant-loop
 invariant-loop g l = record {
-  entered : HasHappened (Entered l.method l.counter) l.fn.scene.now.linker l.fn.scene.now.reveal l.scene.now.linker l.scene.now.reveal;
-  linker : l.scene.now.linker ≡ l.fn.scene.now.linker;
+  entered :
+      HasHappened (Entered l.method l.counter) l.fn.scene.linker l.fn.scene.reveal l.fn.scene.linker l.scene.reveal;
+  linker : l.scene.linker ≡ l.fn.scene.linker;
 }

@@ -4,6 +4,9 @@ use Rattle.revelation_rows.proofs.HappeningLemmas.{if-happened}
 use Rattle.revelation_rows.proofs.SceneLemmas.{class-known, ready-ahead, within}
 use Rattle.revelation_rows.proofs.scenes.enter_once.Goals as goal
 
+pub entered-requires-clause-revelation : goal.entered-requires-clause-revelation
+entered-requires-clause-revelation c = c.requires.ready.along.revelation
+
 pub entered-requires-clause-ahead : goal.entered-requires-clause-ahead
 entered-requires-clause-ahead c = ready-ahead c.args.linker.now c.args.reveal.now c.requires.ready
 
