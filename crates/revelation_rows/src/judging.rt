@@ -1,12 +1,14 @@
 //! The verdict on a row.
 
-use crate::item::{Difference, Fact};
+ghost use Rattle.revelation_rows.specs.Scenes.{IsBlank};
+
+use crate::item::{Difference, Fact, Item};
 use crate::making::make;
 use crate::names::{put_classes, put_marks, put_methods};
 use crate::parts::{Input, RowError, is_row};
 use crate::playing::play_all;
 use crate::reading::read_row;
-use crate::scenes::first_scene;
+use crate::scenes::{Scene, begin, new_scene};
 use crate::spent::Spent;
 use jf_bytes::NoMemory;
 use jvm_model::Program;
@@ -52,6 +54,22 @@ fn text_of(alloc: Global, program: &Program, came: &Difference) -> Result<String
     Ok(out)
 }
 
+/// Plays a row in a scene in which nothing is loaded.
+fn run<R: CpuClock>(
+    rt: &R,
+    alloc: Global,
+    scene: &mut Scene,
+    items: &[Item],
+) -> Result<Option<Difference>, RowError>
+    requires { IsBlank scene.old.linker scene.old.reveal }
+{
+    let began = begin(alloc, scene)?;
+    if !began {
+        return Err(RowError::NoRoot);
+    }
+    Ok(play_all(rt, alloc, scene, items)?)
+}
+
 /// What came otherwise than a row says, if anything did, and what the row took of the processor.
 fn judge<R: CpuClock>(
     rt: &R,
@@ -63,10 +81,9 @@ fn judge<R: CpuClock>(
     let Some(items) = read_row(alloc, &program, row)? else {
         return Err(RowError::Unknown);
     };
-    let Some(mut scene) = first_scene(alloc, program)? else {
-        return Err(RowError::NoRoot);
-    };
-    let difference = match play_all(rt, alloc, &mut scene, &items)? {
+    let mut scene = new_scene(alloc, program)?;
+    let found = run(rt, alloc, &mut *scene, &items)?;
+    let difference = match found {
         Some(came) => Some(text_of(alloc, scene.linker.program(), &came)?),
         None => None,
     };

@@ -1,6 +1,6 @@
 //! A program whose classes are loaded and whose methods are entered and selected as a row says.
 
-ghost use Rattle.std.specs.Prelude.{◌≡◌, true, IfOk, IfSome, OnOk};
+ghost use Rattle.std.specs.Prelude.{◌≡◌, true, IfOk, OnOk};
 ghost use Rattle.jvm_model.specs.KindNumbers.{user_count};
 ghost use Rattle.jvm_model.specs.Points.{has_class};
 ghost use Rattle.jvm_model.specs.Revealed.{with_loaded};
@@ -96,19 +96,29 @@ fn blank_scene(alloc: Global, program: Program) -> Result<Scene, NoMemory>
     })
 }
 
-/// Nothing but java/lang/Object is loaded, if it can be.
-pub fn first_scene(alloc: Global, program: Program) -> Result<Option<Scene>, NoMemory>
+/// The same, in a place of its own.
+pub fn new_scene(alloc: Global, program: Program) -> Result<Box<Scene>, NoMemory>
     requires { IsAdmitted program }
-    ensures { IfOk result (λ found. IfSome found (λ s. IsFresh s.linker s.reveal)) }
+    ensures { IfOk result (λ s. IsBlank s.value.linker s.value.reveal) }
+{
+    let scene = blank_scene(alloc, program)?;
+    let place = Box::new(alloc, scene)?;
+    Ok(place)
+}
+
+/// Loads java/lang/Object. Whether it could be.
+pub fn begin(alloc: Global, scene: &mut Scene) -> Result<bool, NoMemory>
+    requires { IsBlank scene.old.linker scene.old.reveal }
+    ensures { IfOk result (λ began. began ≡ true →
+        IsFresh scene.new.linker scene.new.reveal) }
 {
     let name = from_utf8(alloc, "java/lang/Object")?;
-    let mut scene = blank_scene(alloc, program)?;
     link(&mut scene.linker, &name)?;
     if !scene.linker.is_loaded(user_count(&scene.linker)) {
-        return Ok(None);
+        return Ok(false);
     }
     follow(alloc, &scene.linker, &mut scene.reveal)?;
-    Ok(Some(scene))
+    Ok(true)
 }
 
 // ---- methods are entered and selected

@@ -4,20 +4,20 @@ use Rattle.program_fit.proofs.Runs.{runnable}
 use Rattle.revelation_rows.proofs.HappeningLemmas.{blank}
 use Rattle.revelation_rows.proofs.scenes.blank_scene.Goals as goal
 
-pub new-reveal-requires-clause-numbered : goal.new-reveal-requires-clause-numbered
-new-reveal-requires-clause-numbered c = (runnable c.args.program c.requires).fits.numbered
+pub new-requires-clause-numbered : goal.new-requires-clause-numbered
+new-requires-clause-numbered c = (runnable c.args.program c.requires).fits.numbered
 
-pub new-reveal-requires-clause-few : goal.new-reveal-requires-clause-few
-new-reveal-requires-clause-few c = (runnable c.args.program c.requires).fits.methods
+pub new-requires-clause-few : goal.new-requires-clause-few
+new-requires-clause-few c = (runnable c.args.program c.requires).fits.methods
 
-pub new-reveal-requires-clause-short : goal.new-reveal-requires-clause-short
-new-reveal-requires-clause-short c = (runnable c.args.program c.requires).fits.codes
+pub new-requires-clause-short : goal.new-requires-clause-short
+new-requires-clause-short c = (runnable c.args.program c.requires).fits.codes
 
-pub new-reveal-requires-clause-fit : goal.new-reveal-requires-clause-fit
-new-reveal-requires-clause-fit c = (runnable c.args.program c.requires).fit
+pub new-requires-clause-fit : goal.new-requires-clause-fit
+new-requires-clause-fit c = (runnable c.args.program c.requires).fit
 
-pub new-linker-requires : goal.new-linker-requires
-new-linker-requires c = (runnable c.args.program c.requires).fits.linkable
+pub new-requires-2 : goal.new-requires-2
+new-requires-2 c = (runnable c.args.program c.requires).fits.linkable
 
 pub returns : goal.returns
 returns c =

@@ -23,9 +23,9 @@ loop-init g c = record {
 pub loop-preserved : goal.loop-preserved
 loop-preserved g c = record {
   entered =
-    entered-next c.args.method c.loop.counter c.args.scene.now.linker c.args.scene.now.reveal c.loop.scene.reveal c.enter_once.new.reveal c.loop.invariant.entered
-    (subst (λ (v : LinkerView). HasHappened (Entered c.args.method 1) v c.loop.scene.reveal v c.enter_once.new.reveal) c.loop.invariant.linker
-    c.in_ok-enter_once.ensures);
+      entered-next c.args.method c.loop.counter c.args.scene.now.linker c.args.scene.now.reveal c.loop.scene.reveal c.enter_once.new.reveal c.loop.invariant.entered
+      (subst (λ (v : LinkerView). HasHappened (Entered c.args.method 1) v c.loop.scene.reveal v c.enter_once.new.reveal) c.loop.invariant.linker
+      c.in_ok-enter_once.ensures);
   linker = c.loop.invariant.linker;
 }
 
