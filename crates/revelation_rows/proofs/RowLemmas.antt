@@ -1,5 +1,5 @@
 -- What comes of one item, and of all that is left.
-use Rattle.std.proofs.Common.{◌≡◌, ◌≢◌, ◌<◌, ◌≤◌, ◌+◌, ℕ, zero, suc, Bool, true, false, List, [], ◌∷◌, Some, None, drop, length, ap, add-one, sym, ◌∙◌, subst, refl, arith}
+use Rattle.std.proofs.Common.{◌≡◌, ◌≢◌, ◌<◌, ◌≤◌, ◌+◌, ℕ, zero, suc, true, false, List, [], ◌∷◌, Some, None, drop, length, ap, add-one, sym, ◌∙◌, subst, refl, arith}
 use Rattle.std.specs.Prelude.{Option, get_or, slice_get}
 use Rattle.std.proofs.lemmas.Option.{same_Some}
 use Rattle.jvm_model.specs.declared.program.Program.{Program}
@@ -15,7 +15,7 @@ use Rattle.revelation_rows.specs.declared.item.Happening.TheVariants.{Deselected
 use Rattle.revelation_rows.specs.declared.item.Item.{Item}
 use Rattle.revelation_rows.specs.declared.item.Item.TheVariants.{Happens, Is}
 use Rattle.revelation_rows.specs.Rows.{Comes, Differs, Passes, Seen, behind, can_be_asked, can_be_told, first, revealed_by, shown_by}
-use Rattle.revelation_rows.specs.Scenes.{ComesTo, GoesOn, HasHappened, IsFresh, IsReady, IsSeen, IsToldOf, StopsAt, marks_shown}
+use Rattle.revelation_rows.specs.Scenes.{GoesOn, HasHappened, IsFresh, IsReady, IsSeen, IsToldOf, StopsAt, marks_shown}
 
 -- ---- one item
 

@@ -1,8 +1,8 @@
 -- An admitted program can be linked and revealed, and a revelation follows what its linker loads.
-use Rattle.std.proofs.Common.{◌≡◌, ℕ, Bool, true, false, ◌+◌, ◌<◌, ◌^◌, List, [], ◌∷◌, ◌++◌, length, ap, sym, subst, refl, ◌∙◌}
+use Rattle.std.proofs.Common.{◌≡◌, ℕ, true, false, ◌+◌, ◌<◌, ◌^◌, List, [], ◌∷◌, ◌++◌, length, ap, sym, subst, refl, ◌∙◌}
 use Rattle.std.specs.Prelude.{Option, Some, None}
 use Rattle.std.specs.Option.{option_map_or}
-use Rattle.std.proofs.lemmas.Option.{same_Some, slice_get_within}
+use Rattle.std.proofs.lemmas.Option.{slice_get_within}
 use Rattle.jvm_model.specs.declared.program.MethodPlace.{MethodPlace}
 use Rattle.jvm_model.specs.declared.program.Program.{Program}
 use Rattle.jvm_model.specs.KindNumbers.{user_count}
@@ -17,7 +17,7 @@ use Rattle.class_linker.specs.declared.answers.Loaded.{Loaded}
 use Rattle.class_linker.specs.declared.answers.Loaded.TheVariants.{New, Already, Throws, NoMemory}
 use Rattle.class_linker.specs.Linkers.{IsLoaded, LinkerView, linker_of, loaded_by}
 use Rattle.jvm_named.specs.Numbers.{all_coded}
-use Rattle.program_fit.specs.Runnable.{IsAdmitted, IsRunnable}
+use Rattle.program_fit.specs.Runnable.{IsAdmitted}
 use Rattle.program_fit.proofs.Runs.{runnable}
 use Rattle.call_revelation.specs.declared.reveal.Reveal.{Reveal}
 use Rattle.call_revelation.specs.Reveals.{IsAhead, IsFront, IsRevelation, nothing_revealed, now_of}

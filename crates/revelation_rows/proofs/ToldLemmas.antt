@@ -11,7 +11,7 @@ use Rattle.call_revelation.specs.Reveals.{now_of}
 use Rattle.revelation_rows.specs.declared.item.Fact.{Fact}
 use Rattle.revelation_rows.specs.declared.item.Fact.TheVariants.{Begins, Changed, IsSelected, Marks, SelectsAny}
 use Rattle.revelation_rows.specs.Rows.{AreTargets, IsTold}
-use Rattle.revelation_rows.specs.Scenes.{IsSeen, IsToldOf}
+use Rattle.revelation_rows.specs.Scenes.{IsToldOf}
 
 module _ (l : LinkerView) (r : Reveal) (fact : Fact) where
   pub told-marks : (wanted came : List Mark) → fact ≡ Marks wanted → came ≡ marks_of l.program (now_of r) → IsToldOf l r fact (Marks came)
