@@ -1,7 +1,8 @@
-"""Makes rows that tell what a revelation costs, and their class files: `python3 sources/chain.py COUNT KIND FOLDER`, where KIND is `below` or
-`next`. Main has COUNT methods: the first one calls f of the first class, and each other one the method before it. Of COUNT classes each is
-below the one before (`below`), or its f calls that of the next one (`next`). Under a root and with all methods of Main entered the classes
-are loaded one by one, and of `next` each f is entered then. `again` is a row that enters one method 10,000,000 times."""
+"""Makes rows that tell what a revelation costs, and their class files: `python3 sources/chain.py COUNT KIND FOLDER`, where KIND is `below`,
+`next` or `calls`. Main has COUNT methods, of which the first one calls f of the first class, and with `calls` each other one calls the method
+before it. Of COUNT classes each is below the one before, or with `next` its f calls that of the next one. Under a root and with all methods
+of Main entered the classes are loaded one by one, and with `next` each f is entered then. `again` is a row that enters one method 10,000,000
+times. Both are played by `revelation_rows timed FOLDER/rows FOLDER/*.class`."""
 import struct, sys
 
 count, kind, folder = int(sys.argv[1]), sys.argv[2], sys.argv[3]
@@ -46,14 +47,19 @@ def static_call(owner, name):
     return lambda pool: b"\xb8" + u2(pool.method(owner, name)) + b"\xac"
 
 
-first = (lambda pool: b"\x01\xb6" + u2(pool.method("C0", "f")) + b"\xac") if kind == "below" else static_call("C0", "f")
-methods = [(9, "m0", "()I", first)] + [(9, f"m{it}", "()I", static_call("Main", f"m{it - 1}")) for it in range(1, count)]
+def constant(pool):
+    return b"\x03\xac"
+
+
+first = static_call("C0", "f") if kind == "next" else lambda pool: b"\x01\xb6" + u2(pool.method("C0", "f")) + b"\xac"
+others = [static_call("Main", f"m{it - 1}") if kind == "calls" else constant for it in range(1, count)]
+methods = [(9, f"m{it}", "()I", code) for it, code in enumerate([first] + others)]
 write("Main", "java/lang/Object", methods + [(9, "main", "([Ljava/lang/String;)V", lambda pool: b"\xb1")])
 for it in range(count):
-    if kind == "below":
-        write(f"C{it}", f"C{it - 1}" if it else "java/lang/Object", [(1, "f", "()I", lambda pool: b"\x03\xac")])
-    else:
+    if kind == "next":
         write(f"C{it}", "java/lang/Object", [(9, "f", "()I", static_call(f"C{it + 1}", "f"))])
+    else:
+        write(f"C{it}", f"C{it - 1}" if it else "java/lang/Object", [(1, "f", "()I", constant)])
 words = ["load:Main", "select:Main.m0"] + [f"enter:Main.m{it}" for it in range(count)]
 for it in range(count):
     words += [f"load:C{it}"] + ([f"enter:C{it}.f"] if kind == "next" else [])
