@@ -318,6 +318,7 @@ answered-told c after r told status said unheard carried was is named puts =
       images = carried.always.images;
       unasked = carried.always.unasked;
       unimaged = carried.always.unimaged;
+      held = carried.always.held;
     })
     (elim was [
       | inl same ↦ subst (IsRefused d) (sym same) first
