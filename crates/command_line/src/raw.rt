@@ -55,13 +55,7 @@ pub trait Process {
 /// The words of an environment. It tells nothing of them.
 #[derive(Drop)]
 pub struct SystemWords<R: Env> {
-    environment: R,
-}
-
-impl<R: Env> SystemWords<R> {
-    pub fn new(environment: R) -> SystemWords<R> {
-        SystemWords { environment }
-    }
+    pub environment: R,
 }
 
 impl<R: Env> Process for SystemWords<R> {

@@ -1,6 +1,6 @@
 -- A class of fine methods, with the names of its row, keeps to the rules of admission.
-use Rattle.std.proofs.Common.{◌≡◌, ℕ, zero, suc, ◌+◌, ◌≤◌, Bool, true, false, cond, eqb, List, [], ◌∷◌, length, map, Option, None, Some, refl, ap, sym, subst, ◌∙◌, arith}
-use Rattle.std.specs.Prelude.{IsTrue, is_some, not, ◌||◌, ◌&&◌, ◌==◌, nat_lt, if◌then◌else◌}
+use Rattle.std.proofs.Common.{◌≡◌, ℕ, zero, suc, ◌+◌, ◌≤◌, Bool, true, false, cond, List, [], ◌∷◌, length, map, Option, None, Some, refl, ap, sym, ◌∙◌, arith}
+use Rattle.std.specs.Prelude.{IsTrue, ◌||◌, ◌==◌, nat_lt, if◌then◌else◌}
 use Rattle.std.specs.Option.{option_map, option_map_or}
 use Rattle.std.specs.List.{AllByRecursion, list_any}
 use Rattle.std.proofs.lemmas.Bool.{le-ltb, ne_eqb}
@@ -12,25 +12,23 @@ use Rattle.const_pool.specs.declared.pool.Const.TheVariants.{Gap, Utf8, Integer,
 use Rattle.const_pool.specs.declared.tail.Tail.{Tail}
 use Rattle.const_pool.specs.Pool.{has_gaps}
 use Rattle.const_pool.specs.References.{named_class}
-use Rattle.jvm_model.specs.declared.event.Mark.{Mark}
 use Rattle.jvm_model.specs.declared.event.Mark.TheVariants as mark
 use Rattle.jvm_model.specs.Images.{all_off, next_number}
-use Rattle.jvm_model.specs.Methods.{code_of}
 use Rattle.inject_events.specs.declared.settings.Setting.{Setting}
-use Rattle.inject_events.specs.Rewriting.{Refused, refused_here, refused_from, refused_of, refused_of_marked, all_plain, plain_mark, cause_of_method}
-use Rattle.inject_events.specs.Settings.{setting_of, tail_of}
+use Rattle.inject_events.specs.Rewriting.{Refused, refused_from, refused_of_marked, all_plain, plain_mark, cause_of_method}
+use Rattle.inject_events.specs.Settings.{setting_of}
 use Rattle.program_gen.specs.declared.rows.ClassName.{ClassName}
 use Rattle.program_gen.specs.declared.rows.ClassName.TheVariants.{Object, System, PrintStream, Main, Numbered}
 use Rattle.program_gen.specs.declared.rows.ClassRow.{ClassRow}
 use Rattle.program_gen.specs.Names.{class_text}
 use Rattle.program_gen.specs.Generated.{IsNamedBy}
 use Rattle.admit_check.specs.declared.error.AdmitError.{AdmitError}
-use Rattle.admit_check.specs.Checks.{fault_if, first_of, first_from}
+use Rattle.admit_check.specs.Checks.{first_of, first_from}
 use Rattle.admit_check.specs.Codes as codes
 use Rattle.admit_check.specs.Floating.{floating_fault, floating_field, floating_method, floating_body}
 use Rattle.admit_check.specs.FloatingFrames.{floating_frames}
 use Rattle.admit_check.specs.Profiling.{profiling_fault, refusal_told}
-use Rattle.admit_check.specs.Shapes.{shape_fault, has_wrong_name, has_wrong_super, has_wrong_descriptor, has_member_twice, has_wrong_code_count, has_wrong_constant, has_wrong_text, has_twins, is_no_super_name}
+use Rattle.admit_check.specs.Shapes.{shape_fault, has_wrong_name, has_wrong_super, has_wrong_code_count, has_wrong_constant, has_wrong_text, has_twins, is_no_super_name}
 use Rattle.admit_check.specs.Texts.{is_array_name, is_field_text, is_method_text}
 use Rattle.generated_programs.proofs.FineMethods.{IsFineMethod}
 use Rattle.generated_programs.proofs.FineRows.{plain_setting}

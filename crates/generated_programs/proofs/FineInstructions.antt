@@ -1,5 +1,5 @@
 -- An instruction that names one of the classes, or a member of one, keeps to the rules of admission.
-use Rattle.std.proofs.Common.{◌≡◌, ℕ, Bool, true, false, List, [], ◌∷◌, Option, Some, None, refl}
+use Rattle.std.proofs.Common.{◌≡◌, ℕ, true, false, List, Option, Some, None, refl}
 use Rattle.std.specs.Prelude.{if◌then◌else◌}
 use Rattle.std.specs.Option.{option_map_or, ok_or}
 use Rattle.std.specs.Result.{result_ok}
@@ -12,8 +12,8 @@ use Rattle.op_table.specs.Opcodes.{row_of, groups}
 use Rattle.code_model.specs.declared.instr.Instr.{Instr}
 use Rattle.program_gen.specs.declared.rows.ClassName.{ClassName}
 use Rattle.program_gen.specs.declared.rows.ClassName.TheVariants.{Object, System, PrintStream, Main, Numbered}
-use Rattle.program_gen.specs.declared.rows.MemberName.TheVariants.{Initializer, Entry, Run, Out, Println}
-use Rattle.program_gen.specs.declared.rows.Instruction.TheVariants.{Plain, Byte, Short, OfClass, OfMember}
+use Rattle.program_gen.specs.declared.rows.MemberName.TheVariants.{Initializer, Run, Out, Println}
+use Rattle.program_gen.specs.declared.rows.Instruction.TheVariants.{OfClass, OfMember}
 use Rattle.program_gen.specs.Names.{class_text}
 use Rattle.program_gen.specs.Members.{reference_of}
 use Rattle.admit_check.specs.Texts.{dimensions_of, is_class_name}

@@ -1,29 +1,26 @@
 -- A method of a fine row keeps to the rules of admission.
-use Rattle.std.proofs.Common.{◌≡◌, ℕ, zero, suc, ◌+◌, ◌<◌, ◌≤◌, Bool, true, false, List, [], ◌∷◌, ◌++◌, length, Option, None, Some, Ok, refl, ap, sym, subst, ◌∙◌, length-append, arith}
+use Rattle.std.proofs.Common.{◌≡◌, ℕ, ◌≤◌, true, false, List, [], ◌∷◌, length, Option, None, Some, Ok, refl, ap, sym, subst, ◌∙◌, length-append, arith}
 use Rattle.std.specs.Prelude.{is_some, ◌||◌, not, ◌==◌, nat_lt, if◌then◌else◌, Result}
 use Rattle.std.specs.Option.{option_and_then, option_map, option_map_or}
 use Rattle.std.specs.List.{AllByRecursion, AllZip, flat_map}
-use Rattle.const_pool.specs.declared.class.Attribute.{Attribute}
 use Rattle.const_pool.specs.declared.class.CodeAttribute.{CodeAttribute}
 use Rattle.const_pool.specs.declared.class.Member.{Member}
 use Rattle.const_pool.specs.declared.descriptor.Kind.{Kind}
 use Rattle.const_pool.specs.declared.pool.Const.{Const}
 use Rattle.const_pool.specs.declared.tail.Tail.{Tail}
-use Rattle.const_pool.specs.References.{named_text}
 use Rattle.code_model.specs.declared.error.CodeError.{CodeError}
 use Rattle.code_model.specs.declared.instr.Instr.{Instr}
 use Rattle.jvm_model.specs.declared.event.Mark.TheVariants as mark
 use Rattle.jvm_model.specs.Methods.{has_flag, code_among, code_of}
-use Rattle.inject_events.specs.Rewriting.{instrs_in, version_cause, cause_of_coded}
+use Rattle.inject_events.specs.Rewriting.{version_cause, cause_of_coded}
 use Rattle.inject_events.proofs.InstrsIn.{instrs_in-is}
 use Rattle.program_gen.specs.declared.rows.Instruction.{Instruction}
 use Rattle.program_gen.specs.declared.rows.MethodRow.{MethodRow}
-use Rattle.program_gen.specs.Names.{member_descriptor}
 use Rattle.program_gen.specs.Members.{IsMethodOf, HasCodeOf, IsSpelled}
-use Rattle.admit_check.specs.Checks.{fault_if, first_of, first_in}
+use Rattle.admit_check.specs.Checks.{first_in}
 use Rattle.admit_check.specs.Codes as codes
-use Rattle.admit_check.specs.Floating.{describes_floats, first_floating, floating_body, floating_offset, has_floats, is_floating_instr}
-use Rattle.admit_check.specs.Shapes.{code_count, has_no_body, has_wrong_code_count, has_wrong_text}
+use Rattle.admit_check.specs.Floating.{describes_floats, first_floating, floating_body, has_floats}
+use Rattle.admit_check.specs.Shapes.{code_count, has_wrong_code_count, has_wrong_text}
 use Rattle.admit_check.specs.Texts.{is_method_text, method_kinds}
 use Rattle.admit_check.proofs.Decoded.{reading_found}
 use Rattle.generated_programs.proofs.Forms.{instrs_of}

@@ -1,6 +1,6 @@
 -- The names of generated classes are free, and none has the name of one before it.
-use Rattle.std.proofs.Common.{◌≡◌, ℕ, Bool, true, false, List, [], ◌∷◌, ◌++◌, Option, None, Some, refl, ap, sym, ◌∙◌}
-use Rattle.std.specs.Prelude.{◌||◌, ◌≢◌}
+use Rattle.std.proofs.Common.{◌≡◌, ℕ, Bool, true, false, List, [], ◌∷◌, Option, None, Some, refl, ap, sym}
+use Rattle.std.specs.Prelude.{◌≢◌}
 use Rattle.std.specs.Option.{option_map_or}
 use Rattle.std.specs.List.{AllByRecursion, AllZip, list_any}
 use Rattle.std.proofs.lemmas.Slice.Eq.{bytes_eq-Decides}
@@ -11,7 +11,7 @@ use Rattle.const_pool.specs.BuiltIn.{probe_class, built_in_names}
 use Rattle.const_pool.specs.References.{named_text}
 use Rattle.jvm_model.specs.Descriptors.{same_text}
 use Rattle.program_gen.specs.Generated.{HasOwnPool, IsNoProbe, IsOwnName}
-use Rattle.admit_check.specs.Shapes.{is_probe_entry, is_reserved, is_taken_name, has_same_name, name_fault, own_name, same_named}
+use Rattle.admit_check.specs.Shapes.{is_probe_entry, is_reserved, is_taken_name, has_same_name, name_fault, own_name}
 
 pub unlike : (a b : List ℕ) → a ≢ b → same_text a b ≡ false
 unlike a b differ = by (same_text a b) (λ same. differ ((bytes_eq-Decides a b).0 same))

@@ -1,5 +1,5 @@
 -- The instructions of a row, as they are read.
-use Rattle.std.proofs.Common.{◌≡◌, ℕ, suc, ◌+◌, List, [], ◌∷◌, refl}
+use Rattle.std.proofs.Common.{ℕ, suc, ◌+◌, List, [], ◌∷◌}
 use Rattle.std.specs.Prelude.{false, ◌==◌, if◌then◌else◌}
 use Rattle.std.specs.Int.{w8, w16, cast_signed}
 use Rattle.code_model.specs.declared.instr.Arg.{Arg}

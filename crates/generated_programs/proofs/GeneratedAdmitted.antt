@@ -1,9 +1,8 @@
 -- What is answered for the generated classes: their program, unless an action names no method.
-use Rattle.std.proofs.Common.{◌≡◌, ℕ, ◌+◌, ◌≤◌, ◌*◌, List, [], ◌∷◌, ◌++◌, length, map, None, Some, Ok, Err, refl, ap, sym, subst, ◌∙◌, length-append, arith}
+use Rattle.std.proofs.Common.{◌≡◌, ℕ, ◌+◌, ◌≤◌, List, [], ◌∷◌, ◌++◌, length, map, None, Some, Ok, Err, refl, subst, length-append, arith}
 use Rattle.std.specs.Prelude.{Option, Result, IfErr}
 use Rattle.std.specs.List.{AllByRecursion}
 use Rattle.std.proofs.lemmas.Bool.{le-ltb}
-use Rattle.const_pool.specs.declared.class.ClassFile.{ClassFile}
 use Rattle.base_classes.specs.BuiltInFiles.{built_in_files}
 use Rattle.plan_text.specs.declared.plan.Action.{Action}
 use Rattle.plan_text.specs.declared.plan.Plan.{Plan}
@@ -17,7 +16,7 @@ use Rattle.program_gen.specs.Programs.{main_row, program_rows, rows_below}
 use Rattle.program_gen.proofs.GeneratedFacts.{generated-count}
 use Rattle.admit_check.specs.declared.error.AdmitError.{AdmitError}
 use Rattle.admit_check.specs.declared.error.AdmitError.TheVariants as admit
-use Rattle.admit_check.specs.Admission.{acts_from, act_of, act_with, admission_of, completed, count_fault, with_acts, with_main}
+use Rattle.admit_check.specs.Admission.{acts_from, act_of, act_with, admission_of, count_fault, with_acts}
 use Rattle.generated_programs.specs.Admitted.{IsRefusedFor, NamesNoMethod, admission_of_generated, generated_program, main_name}
 use Rattle.generated_programs.proofs.FewMethods.{HasFewMethods, built_in-count, built_in-few, numbered-few}
 use Rattle.generated_programs.proofs.GeneratedFine.{generated-few, generated-fine, rows-fine}

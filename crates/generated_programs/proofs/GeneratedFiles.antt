@@ -1,11 +1,9 @@
 -- The bytes of the generated classes are files of them.
-use Rattle.std.proofs.Common.{◌≡◌, ℕ, ◌≤◌, List, [], ◌∷◌, map, refl, sym, subst}
+use Rattle.std.proofs.Common.{ℕ, ◌≤◌, List, [], ◌∷◌, map, refl}
 use Rattle.std.specs.List.{AllByRecursion, AllZip}
-use Rattle.const_pool.specs.declared.class.ClassFile.{ClassFile}
-use Rattle.const_pool.specs.ClassFile.{IsClassFile, class_bytes}
+use Rattle.const_pool.specs.ClassFile.{class_bytes}
 use Rattle.class_reader.specs.Files.{IsFile}
 use Rattle.program_gen.specs.declared.rows.ClassRow.{ClassRow}
-use Rattle.program_gen.specs.Generated.{generated}
 use Rattle.program_gen.specs.Making.{class_file_of}
 use Rattle.program_gen.specs.Programs.{program_rows}
 use Rattle.generated_programs.specs.Admitted.{AreGeneratedFiles, generated_contents}

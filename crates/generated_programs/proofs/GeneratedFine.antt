@@ -1,20 +1,16 @@
 -- The generated classes keep to the rules of admission.
-use Rattle.std.proofs.Common.{◌≡◌, ℕ, zero, suc, ◌+◌, ◌*◌, ◌<◌, ◌≤◌, ◌^◌, Bool, true, false, List, [], ◌∷◌, ◌++◌, length, map, None, Some, refl, ap, sym, ◌∙◌, arith, lit≤}
-use Rattle.std.specs.Prelude.{IsTrue, ◌≢◌}
-use Rattle.std.specs.Option.{option_or}
+use Rattle.std.proofs.Common.{◌≡◌, ℕ, zero, suc, ◌+◌, ◌*◌, ◌<◌, ◌≤◌, ◌^◌, false, List, [], ◌∷◌, ◌++◌, length, map, None, Some, refl, arith, lit≤}
+use Rattle.std.specs.Prelude.{◌≢◌}
 use Rattle.std.specs.List.{AllByRecursion, AllZip}
 use Rattle.const_pool.specs.declared.class.ClassFile.{ClassFile}
 use Rattle.const_pool.specs.declared.class.Member.{Member}
 use Rattle.const_pool.specs.declared.descriptor.Kind.TheVariants as kind
 use Rattle.const_pool.specs.declared.pool.Const.{Const}
-use Rattle.const_pool.specs.Pool.{has_gaps}
 use Rattle.program_gen.specs.declared.rows.Choices.{Choices}
-use Rattle.program_gen.specs.declared.rows.ClassName.{ClassName}
 use Rattle.program_gen.specs.declared.rows.ClassRow.{ClassRow}
-use Rattle.program_gen.specs.declared.rows.MethodRow.{MethodRow}
 use Rattle.program_gen.specs.Draws.{next_state, number_of, state_at, draw_at, choices_of}
 use Rattle.program_gen.specs.Fits.{FitsClass}
-use Rattle.program_gen.specs.Generated.{AreDistinct, HaveOwnNames, IsOwnName, generated, names_of}
+use Rattle.program_gen.specs.Generated.{AreDistinct, IsOwnName, generated, names_of}
 use Rattle.program_gen.specs.Making.{class_file_of}
 use Rattle.program_gen.specs.Members.{HasCodeOf, IsMethodOf}
 use Rattle.program_gen.specs.Names.{class_text}

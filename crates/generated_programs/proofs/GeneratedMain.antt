@@ -1,17 +1,14 @@
 -- The main method of a generated program is that of its first class.
-use Rattle.std.proofs.Common.{◌≡◌, ℕ, zero, suc, ◌<◌, ◌≤◌, Bool, true, false, cond, List, [], ◌∷◌, ◌++◌, length, Option, None, Some, refl, ap, sym, ◌∙◌, subst, arith}
-use Rattle.std.specs.Prelude.{is_some, slice_get, position, nat_lt}
+use Rattle.std.proofs.Common.{◌≡◌, ℕ, ◌<◌, Bool, true, false, cond, List, [], ◌∷◌, length, None, Some, refl, ap, ◌∙◌, arith}
+use Rattle.std.specs.Prelude.{slice_get, position, nat_lt}
 use Rattle.std.specs.Option.{option_and_then, option_map_or}
 use Rattle.std.specs.List.{AllByRecursion, AllZip}
 use Rattle.std.proofs.lemmas.Bool.{lt-ltb}
 use Rattle.const_pool.specs.declared.class.ClassFile.{ClassFile}
 use Rattle.const_pool.specs.declared.class.Member.{Member}
-use Rattle.const_pool.specs.declared.pool.Const.{Const}
 use Rattle.jvm_model.specs.declared.program.Program.{Program}
 use Rattle.jvm_model.specs.Descriptors.{same_text}
-use Rattle.jvm_model.specs.Methods.{code_of, method_named}
-use Rattle.jvm_model.specs.Programs.{class_named, has_name, number_of_method, number_from, numbered, numbered_from, coded_from}
-use Rattle.jvm_model.specs.SmallClass.{public_static, main_member}
+use Rattle.jvm_model.specs.Programs.{class_named, has_name, number_of_method, number_from, numbered}
 use Rattle.jvm_model.specs.SoundPrograms.{declared_main, main_of_class, main_in}
 use Rattle.program_gen.specs.Generated.{IsNamedBy}
 use Rattle.program_gen.specs.Members.{HasMembersOf, IsMethodOf}

@@ -1,14 +1,12 @@
 -- The codes of generated methods keep to the rules of admission.
-use Rattle.std.proofs.Common.{◌≡◌, ℕ, ◌<◌, ◌^◌, List, [], ◌∷◌, None, Some, refl, lit<}
+use Rattle.std.proofs.Common.{◌≡◌, ℕ, ◌<◌, ◌^◌, List, None, Some, refl, lit<}
 use Rattle.std.specs.List.{AllByRecursion}
 use Rattle.const_pool.specs.declared.pool.Const.{Const}
-use Rattle.const_pool.specs.declared.descriptor.Kind.{Kind}
 use Rattle.const_pool.specs.declared.descriptor.Kind.TheVariants as kind
 use Rattle.op_table.specs.Opcodes.{row_of, groups}
 use Rattle.program_gen.specs.declared.rows.Choices.{Choices}
 use Rattle.program_gen.specs.declared.rows.ClassName.{ClassName}
 use Rattle.program_gen.specs.declared.rows.ClassName.TheVariants.{System, PrintStream, Numbered}
-use Rattle.program_gen.specs.declared.rows.Instruction.{Instruction}
 use Rattle.program_gen.specs.Programs.{constructor_code, run_code, entry_code}
 use Rattle.admit_check.specs.Codes as codes
 use Rattle.generated_programs.proofs.Forms.{instrs_of}

@@ -1,5 +1,5 @@
 -- One instruction is read.
-use Rattle.std.proofs.Common.{◌≡◌, ℕ, ◌+◌, ◌<◌, ◌^◌, Bool, List, [], ◌∷◌, ◌++◌, Ok, false, refl, ap, sym, subst, ◌∙◌}
+use Rattle.std.proofs.Common.{◌≡◌, ℕ, ◌+◌, ◌<◌, ◌^◌, List, [], ◌∷◌, ◌++◌, Ok, false, refl, ap, sym, subst, ◌∙◌}
 use Rattle.std.specs.Int.{w8, w16, cast_signed, to_be_bytes}
 use Rattle.op_table.specs.Opcodes.{row_of}
 use Rattle.op_table.specs.declared.Form.{Form}

@@ -1,6 +1,6 @@
 -- A command that generates its program: what is loaded for it, and what is refused.
-use Rattle.std.proofs.Common.{◌≡◌, ℕ, ◌≤◌, List, Option, Some, None, Result, Ok, Err, Bool, true, false, cond, refl, sym, ap, subst, ◌∙◌}
-use Rattle.std.specs.Prelude.{◌≢◌, is_some, option_map, IfSome}
+use Rattle.std.proofs.Common.{◌≡◌, ℕ, ◌≤◌, List, Option, Some, None, Ok, Bool, true, false, cond, refl, sym, ap, subst, ◌∙◌}
+use Rattle.std.specs.Prelude.{is_some, option_map, IfSome}
 use Rattle.std.proofs.lemmas.Option.{same_Some}
 use Rattle.jf_bytes.specs.Streams.{Told}
 use Rattle.const_pool.specs.declared.class.ClassFile.{ClassFile}
@@ -16,7 +16,6 @@ use Rattle.generated_programs.proofs.GeneratedFiles.{generated-files}
 use Rattle.command_line.specs.declared.words.Generation.{Generation}
 use Rattle.command_line.specs.Chosen.{Chosen, chosen, chosen_for, either}
 use Rattle.command_line.specs.Words.{IsGeneration, IsSound, Read, generated_main}
-use Rattle.jfluid_cli.specs.declared.refusal.Refusal.{Refusal}
 use Rattle.jfluid_cli.specs.declared.refusal.Refusal.TheVariants.{NotAdmitted, NoMemory}
 use Rattle.jfluid_cli.specs.Asking.{asked_by}
 use Rattle.jfluid_cli.specs.Causes.{Given, Accepts, AreContentsOf}

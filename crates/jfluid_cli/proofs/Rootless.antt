@@ -1,13 +1,12 @@
 -- A generated program is refused exactly for an action that names no method of it.
-use Rattle.std.proofs.Common.{◌≡◌, ℕ, zero, suc, ◌+◌, List, [], ◌∷◌, Option, Some, None, Result, Ok, Err, true, false, refl, sym, ap, subst, ◌∙◌}
-use Rattle.std.specs.Prelude.{is_some, option_map, slice_get, IsSome}
+use Rattle.std.proofs.Common.{◌≡◌, ℕ, suc, ◌+◌, List, [], ◌∷◌, Option, Some, None, Result, Ok, Err, true, false, refl, sym, ap, subst, ◌∙◌}
+use Rattle.std.specs.Prelude.{option_map, slice_get, IsSome}
 use Rattle.std.proofs.lemmas.Option.{none-some}
 use Rattle.jf_bytes.specs.Streams.{Told}
 use Rattle.const_pool.specs.declared.class.ClassFile.{ClassFile}
 use Rattle.class_reader.specs.Files.{IsFile}
 use Rattle.class_reader.proofs.Files.{no_first_fault}
 use Rattle.plan_text.specs.declared.plan.Action.{Action}
-use Rattle.plan_text.specs.declared.plan.Plan.{Plan}
 use Rattle.program_gen.specs.Generated.{generated}
 use Rattle.jvm_model.specs.declared.event.Act.{Act}
 use Rattle.jvm_model.specs.declared.program.Program.{Program}

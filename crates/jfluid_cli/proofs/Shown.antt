@@ -1,6 +1,6 @@
 -- What is shown of a run: its images and its report, or the images as far as they were put.
-use Rattle.std.proofs.Common.{◌≡◌, ℕ, Bool, inl, inr}
-use Rattle.std.specs.Prelude.{◌⊎◌, Result, Ok, Err, MatchResult}
+use Rattle.std.proofs.Common.{ℕ, Bool, inl}
+use Rattle.std.specs.Prelude.{Result, Ok, Err, MatchResult}
 use Rattle.profile_session.specs.Sessions.{Profiling}
 use Rattle.jfluid_cli.specs.declared.refusal.Refusal.{Refusal}
 use Rattle.jfluid_cli.specs.Calls.{IsReported, IsShown}

@@ -1,5 +1,5 @@
 -- The entry probe of a version of an image tells whose probes it has.
-use Rattle.std.proofs.Common.{◌≡◌, ◌<◌, ◌^◌, ◌+◌, ℕ, Bool, true, false, List, ◌∷◌, ◌++◌, length, map, Option, Some, None, refl, sym, ap, ◌∙◌, append_assoc, length-append, arith}
+use Rattle.std.proofs.Common.{◌≡◌, ◌<◌, ◌^◌, ◌+◌, ℕ, Bool, true, false, List, ◌∷◌, ◌++◌, length, Option, Some, None, refl, sym, ap, ◌∙◌, append_assoc, length-append, arith}
 use Rattle.std.specs.Prelude.{MatchBool, slice_get}
 use Rattle.std.specs.Option.{option_and_then, option_map, option_map_or}
 use Rattle.std.proofs.lemmas.Option.{none-some, same_Some, slice_get-map}
@@ -17,7 +17,7 @@ use Rattle.jvm_model.specs.declared.event.Mark.{Mark}
 use Rattle.jvm_model.specs.declared.event.Mark.TheVariants.{Off, Plain, Root}
 use Rattle.jvm_model.specs.Images.{IsImage, IsOriginal, IsRewritten, all_off, is_off}
 use Rattle.jvm_model.specs.StandsFor.{invoked_probe, probe_kind}
-use Rattle.jvm_model.specs.Versions.{IsVersion, entry_index, entry_probe, groups_of, probe_bytes, unwind_code}
+use Rattle.jvm_model.specs.Versions.{IsVersion, entry_probe, groups_of, probe_bytes, unwind_code}
 use Rattle.jvm_model.proofs.ImagePools.{enter-named, root-named}
 use Rattle.jvm_model.proofs.ImageProbes.{invokestatic_at}
 use Rattle.jvm_steps.specs.Rewritten.{entry_mark, mark_of_kind}

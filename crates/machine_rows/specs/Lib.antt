@@ -1,3 +1,4 @@
+pub mod Files
 pub mod Ready
 pub mod Played
 pub mod Resting

@@ -1,6 +1,10 @@
 //! The files of a row, and why a row is not run.
 
-ghost use Rattle.std.specs.Prelude.{◌≡◌};
+ghost use Rattle.std.specs.Prelude.{◌≡◌, ◌==◌, ◌+◌, drop, length, map, IfOk};
+ghost use Rattle.std.specs.List.{before_first};
+ghost use Rattle.std.specs.Str.Lines.{lines};
+ghost use Rattle.std.specs.String.{string_bytes};
+ghost use Rattle.machine_rows.specs.Files.{IsFileAt};
 
 use jf_bytes::{FetchError, Files, NoMemory};
 use std::alloc::{AllocError, AllocFailed, Global};
@@ -50,7 +54,10 @@ impl From<NoMemory> for RowError {
 }
 
 /// The contents of a file by its path.
-pub fn fetch_file<F: Files>(alloc: Global, path: &str, files: &mut F) -> Result<Vec<u8>, RowError> {
+pub fn fetch_file<F: Files>(alloc: Global, path: &str, files: &mut F) -> Result<Vec<u8>, RowError>
+    ensures found { IfOk result (λ bytes. IsFileAt (F.contents files.old) path.now bytes.items) }
+    ensures stay { F.contents files.new ≡ F.contents files.old }
+{
     match files.fetch(alloc, path, MOST) {
         Ok(bytes) => Ok(bytes),
         Err(FetchError::Failed) => Err(RowError::Missing(String::from_str(alloc, path)?)),
@@ -59,7 +66,11 @@ pub fn fetch_file<F: Files>(alloc: Global, path: &str, files: &mut F) -> Result<
 }
 
 /// The text of a file by its path.
-pub fn fetch_text<F: Files>(alloc: Global, path: &str, files: &mut F) -> Result<String, RowError> {
+pub fn fetch_text<F: Files>(alloc: Global, path: &str, files: &mut F) -> Result<String, RowError>
+    ensures found { let told = F.contents files.old in
+        IfOk result (λ text. IsFileAt told path.now (string_bytes text)) }
+    ensures stay { F.contents files.new ≡ F.contents files.old }
+{
     let bytes = fetch_file(alloc, path, files)?;
     match String::from_utf8(bytes) {
         Ok(text) => Ok(text),
@@ -68,12 +79,17 @@ pub fn fetch_text<F: Files>(alloc: Global, path: &str, files: &mut F) -> Result<
 }
 
 /// The lines of a text.
-pub fn lines_of<'a>(alloc: Global, text: &'a str) -> Result<Vec<&'a str>, AllocError> {
+pub fn lines_of<'a>(alloc: Global, text: &'a str) -> Result<Vec<&'a str>, AllocError>
+    ensures { IfOk result (λ all. map (λ line. line.now) all.items ≡ lines text.now) }
+{
     text.lines().collect(alloc)
 }
 
 /// The first word of a line, and what stands behind it.
-pub fn parted(line: &str) -> (&str, &str) {
+pub fn parted(line: &str) -> (&str, &str)
+    ensures word { result.0.now ≡ before_first (λ byte. byte == 32) line.now }
+    ensures rest { result.1.now ≡ drop (length result.0.now + 1) line.now }
+{
     match line.split_once(' ') {
         Some(parts) => parts,
         None => (line, ""),

@@ -12,7 +12,7 @@ use std::process::ExitCode;
 fn main(rt: HostRuntime) -> ExitCode {
     let status = jfluid(
         rt.alloc(),
-        raw_words(rt.alloc(), &SystemWords::new(&rt)),
+        raw_words(rt.alloc(), &SystemWords { environment: &rt }),
         &mut DiskFiles::new(rt.alloc(), &rt),
         &mut StdSource::new(rt.stdin()),
         &mut StdSink::new(rt.stdout()),
