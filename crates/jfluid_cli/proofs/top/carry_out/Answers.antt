@@ -11,42 +11,35 @@ use Rattle.jfluid_cli.specs.Stages.{IsPrepared}
 use Rattle.jfluid_cli.proofs.Carried.{carried-refused, carried-input, carried-memory, carried-run, of-program}
 use Rattle.jfluid_cli.proofs.top.carry_out.Goals as goal
 
-pub returns-in-Err : goal.returns-in-Err
-returns-in-Err g c = record {
-  carried = λ list read. carried-refused _ (read_in c.args.words.now) c.in-Err.refusal read c.requires.empty
+pub returns-in-Err-clause-carried : goal.returns-in-Err-clause-carried
+returns-in-Err-clause-carried g c = λ list read. carried-refused _ (read_in c.args.words.now) c.in-Err.refusal read c.requires.empty
       (record { taken = refl; faults = refl }) (record { taken = refl; faults = refl })
       (record { taken = refl; faults = refl }) refl
-      (c.in-Err.ensures.early _ read refl) c.in-Err.ensures.cause;
-}
+      (c.in-Err.ensures.early _ read refl) c.in-Err.ensures.cause
 
-pub returns-in-Err-take : goal.returns-in-Err-take
-returns-in-Err-take g c =
+pub returns-in-Err-take-clause-carried : goal.returns-in-Err-take-clause-carried
+returns-in-Err-take-clause-carried g c =
     let l = c.in-Ok.loaded in
-    record {
-      carried = λ list read. carried-input _ c.in-Err-take.refusal c.requires.empty
+    λ list read. carried-input _ c.in-Err-take.refusal c.requires.empty
           (record { taken = refl; faults = refl }) (record { taken = refl; faults = refl })
           (record { taken = refl; faults = refl }) (c.in-Ok.ensures.calm refl)
           (of-program _ l.plan l.budget l.contents l.program (c.in-Ok.ensures.ok _ read refl))
-          c.in-Err-take.ensures.refused;
-    }
+          c.in-Err-take.ensures.refused
 
-pub returns-in_default : goal.returns-in_default
-returns-in_default g c = record {
-  carried = λ list read. carried-memory _ c.requires.empty
+pub returns-in_default-clause-carried : goal.returns-in_default-clause-carried
+returns-in_default-clause-carried g c = λ list read. carried-memory _ c.requires.empty
       (record { taken = refl; faults = refl }) (record { taken = refl; faults = refl })
-      (record { taken = refl; faults = refl });
-}
+      (record { taken = refl; faults = refl })
 
 pub run_made-requires-clause-acts : goal.run_made-requires-clause-acts
 run_made-requires-clause-acts g c =
     subst (λ (p : Program). CanBeTaken p.acts) (sym c.in-Ok-make.ensures.runs.program_is) c.in-Ok.ensures.acts
 
-pub returns : goal.returns
-returns g c =
+pub returns-clause-carried : goal.returns-clause-carried
+returns-clause-carried g c =
     let l = c.in-Ok.loaded in
     let made = c.in-Ok-make.made_of in
-    record {
-      carried = λ list read.
+    λ list read.
           (let given : Given = record {
             words = list;
             told = g.F.Files.contents c.args.files.now;
@@ -69,5 +62,4 @@ returns g c =
           })
           c.run_made.ensures.same c.run_made.ensures.run c.run_made.ensures.front c.run_made.ensures.images
           c.run_made.ensures.unasked
-          (c.in-Ok.ensures.calm refl) (c.in-Ok-take.ensures.calm refl));
-    }
+          (c.in-Ok.ensures.calm refl) (c.in-Ok-take.ensures.calm refl))
