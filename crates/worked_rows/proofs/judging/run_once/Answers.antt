@@ -1,6 +1,6 @@
 use Rattle.std.proofs.Common.{◌≡◌, None, Ok, ap}
 use Rattle.worked_rows.proofs.Told.{has_passed}
-use Rattle.worked_rows.proofs.judging.run_row.Goals as goal
+use Rattle.worked_rows.proofs.judging.run_once.Goals as goal
 
 pub returns-clause-passed : goal.returns-clause-passed
 returns-clause-passed g c = λ e.
