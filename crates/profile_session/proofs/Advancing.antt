@@ -1,5 +1,5 @@
 -- The parts of a session behind a turn, and behind several steps.
-use Rattle.std.proofs.Common.{◌≡◌, ℕ, ◌+◌, ◌-◌, ◌<◌, ◌≤◌, Bool, true, false, List, [], ◌∷◌, ◌++◌, length, if◌then◌else◌, refl, sym, ap, ap₂, subst, ◌∙◌, arith}
+use Rattle.std.proofs.Common.{◌≡◌, ℕ, ◌+◌, ◌<◌, ◌≤◌, Bool, true, false, List, [], ◌∷◌, ◌++◌, length, if◌then◌else◌, refl, sym, ap, ap₂, subst, ◌∙◌, arith}
 use Rattle.std.specs.Prelude.{fold}
 use Rattle.std.proofs.lemmas.List.{append-nil}
 use Rattle.jvm_model.specs.declared.event.Event.{Event}
@@ -16,7 +16,6 @@ use Rattle.jvm_model.specs.Whole.{IsWhole}
 use Rattle.jvm_model.proofs.TracesEntries.{entries-append}
 use Rattle.jvm_machine.specs.declared.turn.Turn.{Turn}
 use Rattle.jvm_machine.specs.declared.turn.Turn.TheVariants.{Settled, Loaded, Probe, Ended, Broken, NoMemory}
-use Rattle.jvm_machine.specs.Several.{more}
 use Rattle.jvm_machine.specs.Turns.{Turns}
 use Rattle.jvm_machine.specs.View.{View, IsGoingOn, begun, has_ended, is_resting, run_state, world}
 use Rattle.call_revelation.specs.Reveals.{IsRevelation}

@@ -74,12 +74,6 @@ made-by x new g steps ended s going m = by ended m where
   by true m = record { whole = refl; same = λ is. absurd (let h : true ≡ false = sym is ∙ going in cc); onward = λ no. onward true m; ended = over true m }
   by false m = record { whole = refl; going = going; onward = onward false m; all = m.clock refl; goes_on = over false m }
 
--- ---- no version is held needlessly
-
-pub tidy-in : (x : Parts) (b g : Bool) → (b ≡ false → Holds g x) → (profiling_in b g x).stale ≡ false
-tidy-in x true g holds = refl
-tidy-in x false g holds = (holds refl).stands.rests.is.fit.tidy
-
 -- ---- what stands between calls
 
 step-is : (x : Parts) (b g : Bool) → Stands x → next_step x.vm ≡ step_of (profiling_in b g x)

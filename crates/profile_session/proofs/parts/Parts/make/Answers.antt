@@ -1,4 +1,4 @@
-use Rattle.std.proofs.Common.{sym, ap, subst, ◌+◌, ◌-◌, true, false}
+use Rattle.std.proofs.Common.{sym, ap, subst, ◌+◌, ◌-◌}
 use Rattle.profile_session.specs.Advances.{Sliced}
 use Rattle.profile_session.proofs.Slices.{Making, making-below, making-done, making-ends, making-first, making-next}
 use Rattle.profile_session.proofs.parts.Parts.make.Goals as goal

@@ -1,6 +1,6 @@
-use Rattle.std.proofs.Common.{◌≡◌, ◌≤◌, refl, sym, ap, subst, ◌∙◌, true, false}
+use Rattle.std.proofs.Common.{◌≡◌, ◌≤◌, refl, sym, ap, subst, ◌∙◌, false}
 use Rattle.jvm_model.specs.declared.event.Act.{Act}
-use Rattle.profile_session.specs.Sessions.{Profiling, is_over, profiling_in}
+use Rattle.profile_session.specs.Sessions.{Profiling, profiling_in}
 use Rattle.profile_session.proofs.Sessions.{accepts, act-world, acted-stands, breaks-off, refused, ungathered}
 use Rattle.profile_session.proofs.session.Session.act.Goals as goal
 
