@@ -5,9 +5,10 @@ ghost use Rattle.std.specs.Option.{option_and_then, option_to_list};
 ghost use Rattle.jvm_model.specs.InvocationRules.{Special};
 ghost use Rattle.jvm_model.specs.Load.{is_among};
 ghost use Rattle.jvm_model.specs.Naming.{Invokespecial};
-ghost use Rattle.jvm_model.specs.Programs.{class_named};
+ghost use Rattle.jvm_model.specs.Programs.{class_named, initializer_name};
 ghost use Rattle.jvm_model.specs.Sound.{HasLoadedCaller};
 ghost use Rattle.jvm_model.specs.SuperCalls.{invoked_special};
+ghost use Rattle.class_index.specs.Members.{wanted_view};
 ghost use Rattle.class_index.specs.Orders.{with_classes};
 ghost use Rattle.class_linker.specs.Linkers.{IsLoaded};
 ghost use Rattle.jvm_named.specs.Members.{at_place, reference_of};
@@ -24,9 +25,9 @@ use crate::lookup::{
     class_with_methods, initializer_in, loaded_class, method_found, selection_of,
     static_field_found,
 };
-use class_index::Order;
+use class_index::{Order, Wanted};
 use class_linker::Linker;
-use jf_bytes::{NoMemory, Text16};
+use jf_bytes::{NoMemory, Text16, from_utf8};
 use jvm_named::{MemberName, MethodNumbers, Naming, Place, resolved_name};
 use std::alloc::Global;
 
@@ -47,15 +48,17 @@ fn add_initializers_of(
     linker: &Linker,
     numbers: &MethodNumbers,
     lineage: &Lineage,
+    wanted: &Wanted<'_>,
     classes: &[u32],
     found: &mut Order,
 ) -> Result<(), NoMemory>
-    requires { AreKnown linker.now numbers.now lineage.now }
+    requires known { AreKnown linker.now numbers.now lineage.now }
+    requires wanted { wanted_view wanted.now ≡ initializer_name }
     ensures { OnOk result (found.new ≡ with_classes found.old
         (filter_map (initializer_in linker.now.program lineage.now.loaded) classes.now)) }
 {
     for class in classes {
-        if let Some(number) = initializer_in(linker, numbers, lineage, *class) {
+        if let Some(number) = initializer_in(linker, numbers, lineage, wanted, *class) {
             found.add(number)?;
         }
     }
@@ -64,6 +67,7 @@ fn add_initializers_of(
 
 /// The static initializers of a class and of its supertypes.
 fn add_initializers(
+    alloc: Global,
     linker: &Linker,
     numbers: &MethodNumbers,
     lineage: &Lineage,
@@ -75,8 +79,14 @@ fn add_initializers(
     ensures { OnOk result (Adds found.old found.new
         (initializers linker.now.program lineage.now.loaded class)) }
 {
+    let name = from_utf8(alloc, "<clinit>")?;
+    let descriptor = from_utf8(alloc, "()V")?;
+    let wanted = Wanted {
+        name: &name,
+        descriptor: &descriptor,
+    };
     let supertypes = linker.supertypes(class);
-    add_initializers_of(linker, numbers, lineage, supertypes, found)
+    add_initializers_of(linker, numbers, lineage, &wanted, supertypes, found)
 }
 
 /// What is selected for a method from these classes, where they are loaded and at or below this one.
@@ -215,6 +225,7 @@ fn add_special(
 
 /// invokestatic, where the named class is this one.
 fn add_static_on(
+    alloc: Global,
     linker: &Linker,
     numbers: &MethodNumbers,
     lineage: &Lineage,
@@ -231,11 +242,12 @@ fn add_static_on(
         return Ok(());
     };
     add_number(found, numbers.number(m.class, m.position))?;
-    add_initializers(linker, numbers, lineage, class, found)
+    add_initializers(alloc, linker, numbers, lineage, class, found)
 }
 
 /// getstatic and putstatic, where the named class is this one.
 fn add_field_on(
+    alloc: Global,
     linker: &Linker,
     numbers: &MethodNumbers,
     lineage: &Lineage,
@@ -249,7 +261,7 @@ fn add_field_on(
         lineage.now.loaded class (reference_of member.now))) }
 {
     match static_field_found(linker, class, member) {
-        Some(_) => add_initializers(linker, numbers, lineage, class, found),
+        Some(_) => add_initializers(alloc, linker, numbers, lineage, class, found),
         None => Ok(()),
     }
 }
@@ -271,11 +283,23 @@ fn add_begun_at(
         lineage.now.loaded (naming_view naming.now) class)) }
 {
     match naming {
-        Naming::New(_) => add_initializers(linker, numbers, lineage, class, found),
-        Naming::Getstatic(member) => add_field_on(linker, numbers, lineage, class, member, found),
-        Naming::Putstatic(member) => add_field_on(linker, numbers, lineage, class, member, found),
+        Naming::New(_) => add_initializers(alloc, linker, numbers, lineage, class, found),
+        Naming::Getstatic(member) => add_field_on(
+            alloc, linker, numbers, lineage, class, member, found,
+        ),
+        Naming::Putstatic(member) => add_field_on(
+            alloc, linker, numbers, lineage, class, member, found,
+        ),
         Naming::Invokestatic(method) => {
-            add_static_on(linker, numbers, lineage, class, method.member(), found)
+            add_static_on(
+                alloc,
+                linker,
+                numbers,
+                lineage,
+                class,
+                method.member(),
+                found,
+            )
         }
         Naming::Invokevirtual(method) => {
             add_begun_on(

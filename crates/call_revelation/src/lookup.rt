@@ -4,8 +4,9 @@ ghost use Rattle.std.specs.Prelude.{◌≡◌, true};
 ghost use Rattle.std.specs.Option.{option_map};
 ghost use Rattle.jvm_model.specs.FieldRules.{is_static_field};
 ghost use Rattle.jvm_model.specs.Lookup.{Found, resolved_field, resolved_method};
-ghost use Rattle.jvm_model.specs.Programs.{initializer_of};
+ghost use Rattle.jvm_model.specs.Programs.{initializer_name, initializer_of};
 ghost use Rattle.jvm_model.specs.Selection.{is_static, selected};
+ghost use Rattle.class_index.specs.Members.{wanted_view};
 ghost use Rattle.class_linker.specs.Linkers.{IsLoaded};
 ghost use Rattle.jvm_named.specs.Members.{at_place, reference_of};
 ghost use Rattle.jvm_named.specs.Numbers.{AreNumbers};
@@ -14,12 +15,11 @@ ghost use Rattle.jvm_model.specs.Targets.{class_with_methods, found_where, loade
 ghost use Rattle.call_revelation.specs.Lineages.{AreKnown};
 
 use crate::lineage::Lineage;
-use class_index::meaning_of;
+use class_index::{Wanted, meaning_of, method_at};
 use class_linker::{Linker, Resolved};
 use jf_bytes::Text16;
 use jvm_model::Program;
 use jvm_named::{MemberName, MethodNumbers, Place, is_static, is_static_field, user_count};
-use jvm_steps::initializer_in as initializer_place;
 
 // ---- classes
 
@@ -111,13 +111,18 @@ pub fn static_field_found(linker: &Linker, class: u32, member: &MemberName) -> O
 // ---- numbers
 
 /// The number of a class's static initializer, where it has one.
-fn initializer_of(linker: &Linker, numbers: &MethodNumbers, class: u32) -> Option<u32>
-    requires { AreNumbers linker.now.program numbers.now }
+fn initializer_of(
+    linker: &Linker,
+    numbers: &MethodNumbers,
+    wanted: &Wanted<'_>,
+    class: u32,
+) -> Option<u32>
+    requires numbers { AreNumbers linker.now.program numbers.now }
+    requires wanted { wanted_view wanted.now ≡ initializer_name }
     ensures { result ≡ initializer_of linker.now.program class }
 {
-    let file = linker.index().file(class)?;
-    let at = initializer_place(file)?;
-    numbers.number(class, at as u16)
+    let position = method_at(linker.index(), wanted, class)?;
+    numbers.number(class, position)
 }
 
 /// The same of a class that is loaded.
@@ -125,13 +130,15 @@ pub fn initializer_in(
     linker: &Linker,
     numbers: &MethodNumbers,
     lineage: &Lineage,
+    wanted: &Wanted<'_>,
     class: u32,
 ) -> Option<u32>
-    requires { AreNumbers linker.now.program numbers.now }
+    requires numbers { AreNumbers linker.now.program numbers.now }
+    requires wanted { wanted_view wanted.now ≡ initializer_name }
     ensures { result ≡ initializer_in linker.now.program lineage.now.loaded class }
 {
     if lineage.loaded.has(class) {
-        initializer_of(linker, numbers, class)
+        initializer_of(linker, numbers, wanted, class)
     } else {
         None
     }

@@ -1,5 +1,6 @@
-use Rattle.std.proofs.Common.{◌≡◌}
+use Rattle.std.proofs.Common.{◌≡◌, ap₂}
 use Rattle.std.specs.Prelude.{filter_map}
+use Rattle.std.specs.Str.{chars}
 use Rattle.std.proofs.lemmas.Result.{on_ok_weaker}
 use Rattle.jvm_model.specs.Targets.{initializers}
 use Rattle.class_index.specs.Orders.{with_classes}
@@ -7,7 +8,13 @@ use Rattle.call_revelation.specs.Lineages.{initializer_in}
 use Rattle.call_revelation.specs.Tables.{Adds}
 use Rattle.call_revelation.proofs.Adding.{adds-alike, adds-equal}
 use Rattle.call_revelation.proofs.BegunLemmas.{initializers-of}
+use Rattle.const_pool.specs.References.{NameAndType}
 use Rattle.call_revelation.proofs.begun.add_initializers.Goals as goal
+
+pub add_initializers_of-requires-clause-wanted : goal.add_initializers_of-requires-clause-wanted
+unfolding chars
+add_initializers_of-requires-clause-wanted c =
+    ap₂ (λ n d. let member : NameAndType = record { name = n; descriptor = d } in member) c.in_ok-name.ensures.spelled c.in_ok-descriptor.ensures.spelled
 
 pub returns : goal.returns
 returns c =
