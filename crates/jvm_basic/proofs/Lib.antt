@@ -1,4 +1,6 @@
 pub mod Tops
+pub mod TopReads
+pub mod Exchanged
 pub mod Fitting
 pub mod Slots
 pub mod Keys
