@@ -13,3 +13,4 @@ pub mod WorkedSteps
 pub mod WorkedRuns
 pub mod ItsOperand
 pub mod Needed
+pub mod HotLines
