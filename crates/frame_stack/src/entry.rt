@@ -1,6 +1,6 @@
 //! What is kept of a frame beside its slots.
 
-ghost use Rattle.std.specs.Prelude.{◌≡◌, ◌<◌, ◌≤◌};
+ghost use Rattle.std.specs.Prelude.{◌≡◌, ◌<◌, ◌≤◌, reverse, slice_get};
 ghost use Rattle.frame_stack.specs.Cuts.{with_below};
 ghost use Rattle.std.specs.Vec.{vec_len, vec_capacity};
 
@@ -24,4 +24,13 @@ pub fn put_below(below: &mut Vec<Entry>, top: Option<Entry>)
     if let Some(entry) = top {
         let _ = below.push(entry);
     }
+}
+
+/// The entry of the frame below the top one.
+#[tactic(auto, using(crate::proofs::Callers::last_read))]
+#[inline(always)]
+pub fn last_of(below: &[Entry]) -> Option<Entry>
+    ensures { result ≡ slice_get (reverse below.now) 0 }
+{
+    below.last().copied()
 }

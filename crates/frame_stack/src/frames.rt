@@ -8,12 +8,13 @@ ghost use Rattle.frame_stack.specs.FrameLists.{top_operands, can_push, with_push
 ghost use Rattle.frame_stack.specs.FrameLists.{local_of, has_slot, with_written, without_frame};
 ghost use Rattle.frame_stack.specs.FrameLists.{has_room, with_room, can_enter, with_new_frame};
 ghost use Rattle.frame_stack.specs.FrameLists.{with_operand, without_arguments};
+ghost use Rattle.frame_stack.specs.FrameLists.{caller_of, can_give, with_given};
 ghost use Rattle.frame_stack.specs.Widths.{is_long};
 ghost use Rattle.frame_stack.specs.Tops.{AreNarrow, int_of, ints_of, reference_of};
 ghost use Rattle.frame_stack.specs.Tops.{references_of, reference_and_int_of};
 
 use crate::counters::{count, count_down, count_up, make_counter};
-use crate::entry::{Entry, put_below};
+use crate::entry::{Entry, last_of, put_below};
 use crate::room::Room;
 use crate::slots::{
     end_below, fill, int_in, ints_in, reference_and_int_in, reference_in, references_in, store,
@@ -263,6 +264,52 @@ impl Frames {
         self.top = Top::of(caller);
         self.room = None;
         Some(entry.version)
+    }
+
+    /// The version and the place of the frame below the top one, or None where there is none.
+    #[inline(always)]
+    pub fn caller(&self) -> Option<(usize, u16)>
+        ensures { result ≡ caller_of self.now.frames }
+    {
+        let Some(entry) = last_of(&self.below) else {
+            return None;
+        };
+        Some((entry.version, entry.place))
+    }
+
+    /// Whether the frame below the top one has room for what is given.
+    #[inline(always)]
+    fn can_give(&self, value: Option<Value>) -> bool
+        ensures { result ≡ can_give value self.now.frames }
+    {
+        let Some(entry) = last_of(&self.below) else {
+            return false;
+        };
+        let Some(value) = value else {
+            return true;
+        };
+        let height = self.top.base() - entry.base - entry.max_locals as usize;
+        if entry.max_stack as usize - height < width(value) {
+            return false;
+        }
+        true
+    }
+
+    /// Takes the top frame off. The one below it goes on at a place, with what is given on top of the operands that it had without
+    /// the arguments (JVM Specification 2.6.4). False, with nothing changed, where there is none, or it has no room for that.
+    #[inline(always)]
+    pub fn give_back(&mut self, value: Option<Value>, place: u16) -> bool
+        ensures answer { result ≡ can_give value self.old.frames }
+        ensures frames { self.new ≡ changed_if result (with_given value place) self.old }
+    {
+        if !self.can_give(value) {
+            return false;
+        }
+        self.leave();
+        if let Some(value) = value {
+            self.push(value);
+        }
+        self.go(place)
     }
 
     /// Makes room for a frame of these limits on top of the top frame's limit. The room is there until a frame begins or ends.
