@@ -17,14 +17,22 @@ returns-in_default-value c =
 pub overflow_sub-height : goal.overflow_sub-height
 overflow_sub-height c =
     let f = c.self.inside in
-    omega (arith, c.base.ensures, (has-caller f.top f.below.items f.slots.capacity f.slots.items c.in-Some.entry f.room c.self.invariant.flat.frames c.self.invariant.flat.bottom
-    (sym (c.last_of.ensures ∙ rw c.deref.ensures.value refl) ∙ c.in-Some.is)).above)
+    omega (
+      arith,
+      c.base.ensures,
+      (has-caller f.top f.below.items f.slots.capacity f.slots.items c.in-Some.entry f.room c.self.invariant.flat.frames c.self.invariant.flat.bottom
+          (sym (c.last_of.ensures ∙ rw c.deref.ensures.value refl) ∙ c.in-Some.is)).above,
+    )
 
 pub overflow_sub-height-2 : goal.overflow_sub-height-2
 overflow_sub-height-2 c =
     let f = c.self.inside in
-    omega (arith, c.base.ensures, (has-caller f.top f.below.items f.slots.capacity f.slots.items c.in-Some.entry f.room c.self.invariant.flat.frames c.self.invariant.flat.bottom
-    (sym (c.last_of.ensures ∙ rw c.deref.ensures.value refl) ∙ c.in-Some.is)).above)
+    omega (
+      arith,
+      c.base.ensures,
+      (has-caller f.top f.below.items f.slots.capacity f.slots.items c.in-Some.entry f.room c.self.invariant.flat.frames c.self.invariant.flat.bottom
+          (sym (c.last_of.ensures ∙ rw c.deref.ensures.value refl) ∙ c.in-Some.is)).above,
+    )
 
 pub overflow_sub-entry : goal.overflow_sub-entry
 overflow_sub-entry c =
