@@ -146,11 +146,16 @@ impl Parts {
         requires fit { AreFit self.old }
         requires shown { AreShown self.old }
         requires loaded { self.old.reveal.lineage.loaded ≡ loaded_in self.old }
-        requires class { has_class self.old.vm.program self.old.reveal.lineage.loaded method ≡ true }
+        requires class { let r = self.old.reveal in
+            has_class self.old.vm.program r.lineage.loaded method ≡ true }
         ensures { let now = with_method_entered method (revealed_in self.old) in
             MatchResult result (λ ok. IsPoint self.old now self.new)
             (λ e. IsSameRun self.old self.new) }
     {
+        // Nothing changes where it was entered before, as it mostly was.
+        if self.reveal.is_entered(method) {
+            return Ok(());
+        }
         self.reveal.entered(self.alloc, self.vm.linker(), method)?;
         self.show()?;
         Ok(())
