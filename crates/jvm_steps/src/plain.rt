@@ -58,7 +58,8 @@ fn pass_alone(line: &Line, frames: &mut Frames) -> bool
 }
 
 /// Does a line that the current frame does by itself, or that loads or stores an element and raises nothing. False, with nothing
-/// changed, where it is none, or the frame does not go on.
+/// changed, where it is none, or the frame does not go on. It is a call of its own, so that the loop stays small.
+#[inline(never)]
 fn pass_cold(line: &Line, parts: &mut Parts) -> bool
     requires { line.now.family ≡ family_of line.now.instr.op }
     ensures gone { result ≡ true → IsPassed line.now parts.old parts.new }
