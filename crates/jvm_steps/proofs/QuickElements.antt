@@ -6,6 +6,7 @@ use Rattle.std.specs.Option.{option_map, option_map_or}
 use Rattle.std.proofs.lemmas.Bool.{false≢true}
 use Rattle.std.proofs.lemmas.Option.{none-some, same_Some}
 use Rattle.const_pool.specs.declared.descriptor.Kind.{Kind}
+use Rattle.const_pool.specs.declared.descriptor.Kind.TheVariants as kind
 use Rattle.frame_stack.specs.Tops.{AreNarrow, reference_and_int_of}
 use Rattle.heap_objects.specs.declared.datum.Datum.{Datum}
 use Rattle.heap_objects.specs.declared.element.Element.{Element}
@@ -14,7 +15,7 @@ use Rattle.heap_objects.specs.Heaps.{HeapView, has_slot_at, kind_at, slot_at}
 use Rattle.heap_objects.specs.Kinds.{element_of}
 use Rattle.heap_objects.specs.Objects.{kind_of}
 use Rattle.jvm_model.specs.Data.{Operands}
-use Rattle.jvm_model.specs.ObjectRules.{Access, Inside, Outside, ToAnother, ToNull, access_to, index_in, place_of, serves, serves_object}
+use Rattle.jvm_model.specs.ObjectRules.{Access, Inside, Outside, ToAnother, ToNull, access_to, index_in, place_of, serves, serves_object, storing_of}
 use Rattle.jvm_steps.specs.Elements.{element_at}
 use Rattle.jvm_steps.proofs.ElementLemmas.{element_in, is_slot}
 
@@ -34,6 +35,21 @@ place_is (Addr n ∷ o) = refl
 pub place_narrow : (o : Operands) → IsSome (place_of o) → AreNarrow 2 o
 place_narrow (Int n ∷ Ref m ∷ o) h = (refl, (refl, tt))
 place_narrow _ h = absurd (false≢true h)
+
+pub storing_narrow : (o : Operands) → IsSome (storing_of kind.Int o) → AreNarrow 3 o
+storing_narrow [] h = absurd (false≢true h)
+storing_narrow (v ∷ []) h = absurd (false≢true h)
+storing_narrow (v ∷ Int m ∷ []) h = absurd (false≢true h)
+storing_narrow (Int n ∷ Int m ∷ Ref r ∷ o) h = (refl, (refl, (refl, tt)))
+storing_narrow (Long n ∷ Int m ∷ Ref r ∷ o) h = absurd (false≢true h)
+storing_narrow (Ref n ∷ Int m ∷ Ref r ∷ o) h = absurd (false≢true h)
+storing_narrow (Addr n ∷ Int m ∷ Ref r ∷ o) h = absurd (false≢true h)
+storing_narrow (v ∷ Int m ∷ Int n ∷ o) h = absurd (false≢true h)
+storing_narrow (v ∷ Int m ∷ Long n ∷ o) h = absurd (false≢true h)
+storing_narrow (v ∷ Int m ∷ Addr n ∷ o) h = absurd (false≢true h)
+storing_narrow (v ∷ Long m ∷ o) h = absurd (false≢true h)
+storing_narrow (v ∷ Ref m ∷ o) h = absurd (false≢true h)
+storing_narrow (v ∷ Addr m ∷ o) h = absurd (false≢true h)
 
 -- ---- where an index leads in an array whose elements an instruction serves
 

@@ -4,7 +4,7 @@ ghost use Rattle.std.specs.Prelude.{◌≡◌, true, false, IfOk, IfSome, IsSome
 ghost use Rattle.std.specs.Fmt.{signed_decimal};
 ghost use Rattle.const_pool.specs.declared.descriptor.Kind.TheVariants.{Int, Ref};
 ghost use Rattle.std.specs.Option.{option_map};
-ghost use Rattle.frame_stack.specs.FrameLists.{top_operands};
+ghost use Rattle.frame_stack.specs.FrameLists.{AreSound, top_operands};
 ghost use Rattle.heap_objects.specs.Heaps.{has_slot_at};
 ghost use Rattle.heap_objects.specs.Kinds.{element_of};
 ghost use Rattle.jvm_basic.specs.Outcomes.{after, effect_of};
@@ -15,7 +15,7 @@ ghost use Rattle.jvm_model.specs.ObjectRules.{serves, serves_object, storing_of}
 ghost use Rattle.jvm_steps.specs.Acts.{IsTop, Becomes, acts_load, acts_store, on_parts};
 ghost use Rattle.jvm_steps.specs.Elements.{access_of, acts_loaded, acts_refused, acts_stored};
 ghost use Rattle.jvm_named.specs.Objects.{AreLoaded};
-ghost use Rattle.jvm_steps.specs.Elements.{IsLoaded, IsStored, element_at, is_number, place_by, storing_by};
+ghost use Rattle.jvm_steps.specs.Elements.{IsLoaded, IsStored, drops_three, element_at, is_number, place_by, storing_by};
 ghost use Rattle.jvm_steps.specs.Linked.{linker_in};
 ghost use Rattle.jvm_steps.specs.States.{state_in};
 ghost use Rattle.jvm_steps.specs.Versions.{text_of};
@@ -30,7 +30,7 @@ use const_pool::Kind;
 use frame_stack::Frames;
 use heap_objects::{Datum, Element, Heap, Value, element_of};
 use jf_bytes::{NoMemory, Seq};
-use jvm_basic::{Effect, drop_three, exchange_two, recall, replace_two, value_of};
+use jvm_basic::{Effect, drop_narrow, drop_three, exchange_two, recall, replace_two, value_of};
 use std::alloc::Global;
 
 /// Where an array and an index lead: the array is null, or the object none that the instruction
@@ -182,9 +182,26 @@ fn place_of(frames: &Frames) -> Option<Place>
     }
 }
 
+/// The array, the index and the int on top.
+#[inline(always)]
+fn int_storing_of(frames: &Frames) -> Option<Storing>
+    ensures { option_map storing_by result ≡ storing_of Int (top_operands frames.now.frames) }
+{
+    let Some((index, n)) = frames.ints() else {
+        return None;
+    };
+    match frames.peek(2) {
+        Some(Value::Ref(array)) => Some(Storing {
+            place: Place { array, index },
+            datum: Datum::Int(n),
+        }),
+        _ => None,
+    }
+}
+
 /// The array, the index and the value on top, which elements of a kind may have.
 #[inline(always)]
-fn storing_of(frames: &Frames, kind: Kind) -> Option<Storing>
+fn any_storing_of(frames: &Frames, kind: Kind) -> Option<Storing>
     ensures { option_map storing_by result ≡ storing_of kind (top_operands frames.now.frames) }
 {
     let value = frames.peek(0)?;
@@ -199,6 +216,17 @@ fn storing_of(frames: &Frames, kind: Kind) -> Option<Storing>
         place: Place { array, index },
         datum,
     })
+}
+
+/// The same, of ints by one read of the index and the value.
+#[inline(always)]
+fn storing_of(frames: &Frames, kind: Kind) -> Option<Storing>
+    ensures { option_map storing_by result ≡ storing_of kind (top_operands frames.now.frames) }
+{
+    match kind {
+        Kind::Int => int_storing_of(frames),
+        _ => any_storing_of(frames, kind),
+    }
 }
 
 /// The element to which an instruction of a kind is led.
@@ -421,6 +449,32 @@ pub fn pass_load(parts: &mut Parts, line: &Line, kind: Kind) -> bool
     matches!(effect, Effect::Next)
 }
 
+/// Takes the array, the index and the int off.
+#[tactic(auto, using(crate::proofs::QuickElements::storing_narrow))]
+#[inline(always)]
+fn drop_ints(frames: &mut Frames, next: u16) -> Effect
+    requires sound { AreSound frames.old.frames }
+    requires storing { IsSome (storing_of Int (top_operands frames.old.frames)) }
+    ensures effect { result ≡ effect_of (drops_three next) frames.old }
+    ensures frames { frames.new ≡ after (drops_three next) frames.old }
+{
+    drop_narrow(frames, 3, next)
+}
+
+/// Takes the array, the index and the value off.
+#[inline(always)]
+fn drop_stored(frames: &mut Frames, kind: Kind, next: u16) -> Effect
+    requires sound { AreSound frames.old.frames }
+    requires storing { IsSome (storing_of kind (top_operands frames.old.frames)) }
+    ensures effect { result ≡ effect_of (drops_three next) frames.old }
+    ensures frames { frames.new ≡ after (drops_three next) frames.old }
+{
+    match kind {
+        Kind::Int => drop_ints(frames, next),
+        _ => drop_three(frames, next),
+    }
+}
+
 /// Stores a number where nothing is raised. False, with nothing changed, where the frame does not go on.
 #[inline(always)]
 pub fn pass_store(parts: &mut Parts, line: &Line, kind: Kind) -> bool
@@ -437,7 +491,7 @@ pub fn pass_store(parts: &mut Parts, line: &Line, kind: Kind) -> bool
         return false;
     };
     recall(&parts.frames);
-    let effect = drop_three(&mut parts.frames, line.next);
+    let effect = drop_stored(&mut parts.frames, kind, line.next);
     if !matches!(effect, Effect::Next) {
         return false;
     }
