@@ -1,5 +1,5 @@
 -- An instruction as it is run does what the instruction does.
-use Rattle.std.proofs.Common.{◌≡◌, ℕ, true, false, refl, sym, ap, ◌∙◌}
+use Rattle.std.proofs.Common.{◌≡◌, ℕ, true, false, refl, ap, ◌∙◌}
 use Rattle.std.specs.Prelude.{Option, Some}
 use Rattle.std.proofs.lemmas.Bool.{false≢true}
 use Rattle.heap_objects.specs.declared.Value.{Value}
@@ -15,7 +15,6 @@ use Rattle.jvm_model.specs.declared.family.Family.{Family}
 use Rattle.jvm_model.specs.declared.family.Family.TheVariants as family
 use Rattle.jvm_model.specs.declared.family.Test.{Test}
 use Rattle.jvm_model.specs.declared.family.Test.TheVariants.{OfInts, WithZero, OfReferences, IsNull}
-use Rattle.jvm_basic.specs.declared.hot.Hot.{Hot}
 use Rattle.jvm_basic.specs.Hot.{does_hot, hot_branch, hot_by, hot_load, hot_store, is_alone, is_element}
 use Rattle.jvm_basic.specs.Outcomes.{after, effect_of}
 use Rattle.jvm_basic.specs.Rules.{branches, does, loads, rule_of, stores}

@@ -1,5 +1,5 @@
 -- What stands on top, as the frames read it and as the rules do; and that it takes a slot each.
-use Rattle.std.proofs.Common.{◌≡◌, ℕ, ℤ, Bool, false, List, [], ◌∷◌, refl}
+use Rattle.std.proofs.Common.{◌≡◌, ℕ, ℤ, Bool, [], ◌∷◌, refl}
 use Rattle.std.specs.Prelude.{Option, Some, None, pos, ◌==◌}
 use Rattle.std.specs.Option.{option_map}
 use Rattle.heap_objects.specs.declared.Value.TheVariants.{Int, Long, Ref, Addr}

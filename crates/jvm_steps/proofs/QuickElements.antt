@@ -1,5 +1,5 @@
 -- Elements that are found by one look-up, and what stands on top for them.
-use Rattle.std.proofs.Common.{◌≡◌, ℕ, Bool, true, false, List, [], ◌∷◌, refl, sym, ap, subst, ◌∙◌}
+use Rattle.std.proofs.Common.{◌≡◌, ℕ, Bool, true, false, [], ◌∷◌, refl, sym, ap, subst, ◌∙◌}
 use lib.Signed.{lt_z}
 use Rattle.std.specs.Prelude.{Option, Some, None, ℤ, pos, negsuc, nat_abs, slice_get, is_some, IfSome, IsSome, ◌==◌, ◌-◌, if◌then◌else◌}
 use Rattle.std.specs.Option.{option_map, option_map_or}
@@ -11,11 +11,11 @@ use Rattle.frame_stack.specs.Tops.{AreNarrow, reference_and_int_of}
 use Rattle.heap_objects.specs.declared.datum.Datum.{Datum}
 use Rattle.heap_objects.specs.declared.element.Element.{Element}
 use Rattle.heap_objects.specs.declared.Value.TheVariants.{Int, Long, Ref, Addr}
-use Rattle.heap_objects.specs.Heaps.{HeapView, has_slot_at, kind_at, slot_at}
+use Rattle.heap_objects.specs.Heaps.{HeapView, kind_at, slot_at}
 use Rattle.heap_objects.specs.Kinds.{element_of}
 use Rattle.heap_objects.specs.Objects.{kind_of}
 use Rattle.jvm_model.specs.Data.{Operands}
-use Rattle.jvm_model.specs.ObjectRules.{Access, Inside, Outside, ToAnother, ToNull, access_to, index_in, place_of, serves, serves_object, storing_of}
+use Rattle.jvm_model.specs.ObjectRules.{Inside, Outside, ToAnother, ToNull, access_to, index_in, place_of, serves, serves_object, storing_of}
 use Rattle.jvm_steps.specs.Elements.{element_at}
 use Rattle.jvm_steps.proofs.ElementLemmas.{element_in, is_slot}
 
