@@ -62,3 +62,4 @@ mod PausesSound
 mod StartSound
 mod HandLaws
 mod CellLemmas
+pub mod SilentSteps
