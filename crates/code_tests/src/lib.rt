@@ -17,6 +17,8 @@ mod of_frame_stack;
 #[cfg(test)]
 mod of_heap_objects;
 #[cfg(test)]
+mod of_method_versions;
+#[cfg(test)]
 mod of_native_ops;
 #[cfg(test)]
 mod of_stackmap_shift;

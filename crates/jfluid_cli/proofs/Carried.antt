@@ -46,6 +46,7 @@ nothing-made c none out images = record {
       (sym none) tt;
   unasked = λ _. images;
   unimaged = λ _. images;
+  held = subst (λ (o : Option Kept). IfSome o (λ k. k.session.value.stale ≡ false)) (sym none) tt;
 }
 
 other-early : (s n : ℕ) → is_early n ≡ false → is_early s ≡ true → s ≡ n → ⊥
@@ -283,6 +284,8 @@ made-true c budget made k is kept same front images unasked = record {
   unasked = unasked;
   unimaged = λ none. absurd
       (let e : (let o : Option Kept = Some k in o ≡ None) = sym kept ∙ none in cc);
+  held = subst (λ (o : Option Kept). IfSome o (λ x. x.session.value.stale ≡ false)) (sym kept)
+      (same.program.held is.runs.held);
 }
 
 made-run : (c : Call) (budget : ℕ) (made k : Kept) (status : ℕ)

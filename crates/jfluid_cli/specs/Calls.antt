@@ -62,6 +62,8 @@ pub record IsTrueOf (c : Call) : Type 0 where
   pub images : IfSome c.kept (λ k. PutsImages (asks_images (words_of c)) k.session.value c.streams)
   pub unasked : asks_images (words_of c) ≡ false → IsUntold c.streams.images c.streams.images_after
   pub unimaged : c.kept ≡ None → IsUntold c.streams.images c.streams.images_after
+  -- no version is held but those in which methods begin and those that live activations run
+  pub held : IfSome c.kept (λ k. k.session.value.stale ≡ false)
 
 -- ---- a run
 

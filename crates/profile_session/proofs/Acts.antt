@@ -63,6 +63,7 @@ acted-by x y act acts n is =
       vm = n.vm ∙ ap (λ r. let v : View = record x.vm { marks = marks_of x.vm.program r } in v) (sym n.now);
       fit = record {
         whole = f.whole;
+        tidy = f.tidy;
         revelation = f.revelation;
         imageable = f.imageable;
         root = f.root;
@@ -104,6 +105,7 @@ brought x y tree d is =
       calls = (let c = d.calls in omega (arith, c, calls));
       fit = record {
         whole = f.whole;
+        tidy = f.tidy;
         revelation = f.revelation;
         imageable = f.imageable;
         root = f.root;

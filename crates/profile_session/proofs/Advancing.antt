@@ -57,6 +57,7 @@ clock-rises x told v stands went = subst (λ n. x.vm.clock ≤ n) (sym went.cloc
 pub fits : (x : Parts) (v : View) → AreFit x → Went x.vm v → x.vm.clock ≤ v.clock → AreFit (record x { vm = v })
 fits x v fit went up = record {
   whole = went.whole ∙ fit.whole;
+  tidy = went.tidy ∙ fit.tidy;
   revelation = subst (λ p. IsRevelation p x.reveal) (sym went.program) fit.revelation;
   imageable = subst (λ p. AreImageable p) (sym went.program) fit.imageable;
   root = ap (λ (p : Program). is_among (user_count p) x.reveal.lineage.loaded) went.program ∙ fit.root;

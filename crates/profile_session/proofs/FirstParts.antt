@@ -139,6 +139,7 @@ begun-stands x fresh can first tree buffer depth swaps acts started =
         is = record {
           fit = record {
             whole = ap (λ (v : View). v.broken) fresh;
+            tidy = ap (λ (v : View). v.stale) fresh;
             revelation = first.revelation;
             imageable = can.imageable;
             root = ap (λ (r : Revealed). is_among (user_count p) r.loaded) first.now ∙ root-first w can.whole;

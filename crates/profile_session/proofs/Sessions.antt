@@ -59,7 +59,8 @@ made-by x new g steps ended s going m = by ended m where
   onward : (ended : Bool) → Makes x steps ended new → Onward (profiling_in false g x) steps (profiling_in false false new)
   onward ended m = record {
     same = ap₂ (λ (w : World) b. let v : Profiling = record (profiling_in false false new) { program = w.program; input = w.input; started = b } in v) m.world_is m.flag
-        ∙ ap (λ acts. let v : Profiling = record (profiling_in false false x) { acts = acts; started = true; clock = new.vm.clock; live = new.vm.live } in v) m.acts;
+        ∙ ap₂ (λ acts stale. let v : Profiling = record (profiling_in false false x) { acts = acts; started = true; clock = new.vm.clock; live = new.vm.live; stale = stale } in v) m.acts
+        (m.rests.is.fit.tidy ∙ sym s.rests.is.fit.tidy);
     later = m.later;
     within = m.within;
     first = subst (λ w. (k : ℕ) → k < new.vm.clock → is_some (ending_of w k) ≡ false) m.world_is m.rests.stands.going;
@@ -72,6 +73,12 @@ made-by x new g steps ended s going m = by ended m where
   by : (ended : Bool) → Makes x steps ended new → Advances (profiling_in false g x) steps (run_by ended) (profiling_in false false new)
   by true m = record { whole = refl; same = λ is. absurd (let h : true ≡ false = sym is ∙ going in cc); onward = λ no. onward true m; ended = over true m }
   by false m = record { whole = refl; going = going; onward = onward false m; all = m.clock refl; goes_on = over false m }
+
+-- ---- no version is held needlessly
+
+pub tidy-in : (x : Parts) (b g : Bool) → (b ≡ false → Holds g x) → (profiling_in b g x).stale ≡ false
+tidy-in x true g holds = refl
+tidy-in x false g holds = (holds refl).stands.rests.is.fit.tidy
 
 -- ---- what stands between calls
 
@@ -258,7 +265,7 @@ accepts x new v g a stands now going moment selected at none is = record {
   whole = sym (ap (λ (v : Profiling). v.broken) now);
   going = going;
   other = sym at ∙ other-is a.select selected none;
-  same = ap₂ (λ (v : View) started. let q : Profiling = record (profiling_in false false new) { program = v.program; input = v.input; started = started; clock = v.clock; live = v.live } in q) is.vm is.started
+  same = ap₂ (λ (v : View) started. let q : Profiling = record (profiling_in false false new) { program = v.program; input = v.input; started = started; clock = v.clock; live = v.live; stale = v.stale } in q) is.vm is.started
       ∙ (ap (λ acts. let q : Profiling = record (profiling_in false false x) { acts = acts } in q) is.acts
       ∙ (ap (λ n. let q : Profiling = record (profiling_in false false x) { acts = x.acts ++ record { moment = n; select = a.select; method = a.method } ∷ [] } in q) moment
       ∙ ap (with_act a.select a.method) now));

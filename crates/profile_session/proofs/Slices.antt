@@ -216,6 +216,7 @@ flagged x r =
       is = record {
         fit = record {
           whole = f.whole;
+          tidy = f.tidy;
           revelation = f.revelation;
           imageable = f.imageable;
           root = f.root;

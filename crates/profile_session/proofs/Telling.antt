@@ -83,6 +83,7 @@ taken-next first x e tree buffer d is rest last is_taken calls =
       calls = (let c = d.calls in omega (arith, c, fewer));
       fit = record {
         whole = fit.whole;
+        tidy = fit.tidy;
         revelation = fit.revelation;
         imageable = fit.imageable;
         root = fit.root;
@@ -152,6 +153,7 @@ takes-by x y e depth fit able p is deeper =
       calls = p.calls;
       fit = record {
         whole = ap (λ (z : Parts). z.vm.broken) p.same ∙ fit.whole;
+        tidy = ap (λ (z : Parts). z.vm.stale) p.same ∙ fit.tidy;
         revelation = subst (λ (z : Parts). IsRevelation z.vm.program z.reveal) (sym p.same) fit.revelation;
         imageable = subst (λ (z : Parts). AreImageable z.vm.program) (sym p.same) fit.imageable;
         root = ap (λ (z : Parts). is_among (user_count z.vm.program) z.reveal.lineage.loaded) p.same ∙ fit.root;

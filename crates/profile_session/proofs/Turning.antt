@@ -195,17 +195,19 @@ pub record Went (old new : View) : Type 0 where
   pub input : new.input ≡ old.input
   pub marks : new.marks ≡ old.marks
   pub whole : new.broken ≡ old.broken
+  pub tidy : new.stale ≡ old.stale
   pub clock : new.clock ≡ (begun old).clock
   pub started : new.started ≡ (begun old).started
 
 went-by : (old new x : View) → x.program ≡ (begun old).program → x.input ≡ (begun old).input → x.marks ≡ (begun old).marks → x.broken ≡ (begun old).broken
-    → x.clock ≡ (begun old).clock → x.started ≡ (begun old).started → new ≡ x → Went old new
-went-by old new x a b c d e f is =
+    → x.stale ≡ (begun old).stale → x.clock ≡ (begun old).clock → x.started ≡ (begun old).started → new ≡ x → Went old new
+went-by old new x a b c d t e f is =
     subst (Went old) (sym is) (record {
       program = a ∙ by (λ (v : View). v.program) (is_resting old) refl refl;
       input = b ∙ by (λ (v : View). v.input) (is_resting old) refl refl;
       marks = c ∙ by (λ (v : View). v.marks) (is_resting old) refl refl;
       whole = d ∙ by (λ (v : View). v.broken) (is_resting old) refl refl;
+      tidy = t ∙ by (λ (v : View). v.stale) (is_resting old) refl refl;
       clock = e;
       started = f;
     })
@@ -215,9 +217,9 @@ went-by old new x a b c d e f is =
     by look false e f = f
 
 pub turn-went : (old new : View) (turn : Turn) → IsGoingOn old → Turns old turn new → is_telling turn ≡ true → Went old new
-turn-went old new Settled on t tells = went-by old new (rested (begun old)) refl refl refl refl refl refl t.stepped
-turn-went old new Ended on t tells = went-by old new (rested (begun old)) refl refl refl refl refl refl (t.stepped ∙ last-is old on)
-turn-went old new (Loaded classes) on t tells = went-by old new (record (begun old) { passed = 1 }) refl refl refl refl refl refl t.stepped
-turn-went old new (Probe e) on t tells = went-by old new (stopped (begun old)) refl refl refl refl refl refl t.stepped
+turn-went old new Settled on t tells = went-by old new (rested (begun old)) refl refl refl refl refl refl refl t.stepped
+turn-went old new Ended on t tells = went-by old new (rested (begun old)) refl refl refl refl refl refl refl (t.stepped ∙ last-is old on)
+turn-went old new (Loaded classes) on t tells = went-by old new (record (begun old) { passed = 1 }) refl refl refl refl refl refl refl t.stepped
+turn-went old new (Probe e) on t tells = went-by old new (stopped (begun old)) refl refl refl refl refl refl refl t.stepped
 turn-went old new Broken on t tells = absurd (let h : false ≡ true = tells in cc)
 turn-went old new NoMemory on t tells = absurd (let h : false ≡ true = tells in cc)

@@ -65,10 +65,11 @@ IsSameRun old new = world new.vm ≡ world old.vm
 
 -- ---- they fit
 
--- The machine is whole, and what is revealed is of its program; new activations begin in versions of the marks that were shown; the depth is that of
--- the open path, no event is late, and there are fewer calls than a number can count.
+-- The machine is whole, and no version is held needlessly; what is revealed is of its program; new activations begin in versions of the marks that
+-- were shown; the depth is that of the open path, no event is late, and there are fewer calls than a number can count.
 pub record AreFit (x : Parts) : Type 0 where
   pub whole : x.vm.broken ≡ false
+  pub tidy : x.vm.stale ≡ false
   pub revelation : IsRevelation x.vm.program x.reveal
   pub imageable : AreImageable x.vm.program
   pub root : is_among (user_count x.vm.program) x.reveal.lineage.loaded ≡ true

@@ -1,5 +1,5 @@
 -- What a clause sees of a session.
-use Rattle.std.specs.Prelude.{◌≡◌, ℕ, ◌+◌, ◌≤◌, Bool, true, false, List, [], ◌∷◌, ◌++◌, map, Option, is_some, if◌then◌else◌}
+use Rattle.std.specs.Prelude.{◌≡◌, ℕ, ◌+◌, ◌≤◌, Bool, true, false, not, List, [], ◌∷◌, ◌++◌, map, Option, is_some, ◌&&◌, if◌then◌else◌}
 use Rattle.jvm_model.specs.declared.event.Act.{Act}
 use Rattle.jvm_model.specs.declared.event.Mark.{Mark}
 use Rattle.jvm_model.specs.declared.ending.Ending.{Ending}
@@ -22,7 +22,8 @@ use Rattle.profile_session.specs.Keeping.{swap_of}
 use Rattle.profile_session.specs.Parts.{Rests}
 
 -- Its program and input; the accepted actions, each with its moment; whether it was advanced; whether memory has run out; the number of steps;
--- whether its tree was gathered behind all of them; and the live activations of its machine, each with the mark of the version that it runs.
+-- whether its tree was gathered behind all of them; the live activations of its machine, each with the mark of the version that it runs; and
+-- whether, with memory left, a version is held in which its method does not begin, and that no live activation runs.
 pub record Profiling : Type 0 where
   pub program : Program
   pub input : List ℕ
@@ -32,6 +33,7 @@ pub record Profiling : Type 0 where
   pub clock : ℕ
   pub gathered : Bool
   pub live : List Held
+  pub stale : Bool
 
 -- a new one
 abbrev pub profiling_of : Program → List ℕ → Profiling
@@ -44,6 +46,7 @@ profiling_of program input = record {
   clock = 0;
   gathered = false;
   live = [];
+  stale = false;
 }
 
 abbrev pub world_of : Profiling → World
@@ -141,6 +144,7 @@ profiling_in broken gathered x = record {
   clock = x.vm.clock;
   gathered = gathered;
   live = x.vm.live;
+  stale = not broken && x.vm.stale;
 }
 
 -- they rest at a step of the run under the accepted actions

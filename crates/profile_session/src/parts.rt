@@ -146,7 +146,8 @@ impl Parts {
         requires fit { AreFit self.old }
         requires shown { AreShown self.old }
         requires loaded { self.old.reveal.lineage.loaded ≡ loaded_in self.old }
-        requires class { has_class self.old.vm.program self.old.reveal.lineage.loaded method ≡ true }
+        requires class { let r = self.old.reveal in
+            has_class self.old.vm.program r.lineage.loaded method ≡ true }
         ensures { let now = with_method_entered method (revealed_in self.old) in
             MatchResult result (λ ok. IsPoint self.old now self.new)
             (λ e. IsSameRun self.old self.new) }

@@ -22,8 +22,8 @@ use std::marker::Model;
 
 /// A program that is run and profiled. A clause sees its program and input, the accepted actions with their moments, whether it was
 /// advanced, and the number of steps: the state of the run, what is marked, the swap list and the tree follow from these, since its
-/// machine stands for the run. It sees too whether the tree was gathered behind the last of its steps and actions, and the live
-/// activations of the machine, each with the mark of the version that it runs.
+/// machine stands for the run. It sees too whether the tree was gathered behind the last of its steps and actions, the live activations
+/// of the machine, each with the mark of the version that it runs, and whether a version is held needlessly.
 #[derive(Drop)]
 pub struct Session {
     parts: Parts,
@@ -148,7 +148,9 @@ impl Session {
     /// What is live runs on in the version in which it began, whatever is swapped on the way.
     pub fn advance(&mut self, steps: u64) -> Run
         requires { self.old.broken ≡ false → self.old.clock + steps ≤ 1000000000000 }
-        ensures { Advances self.old steps result self.new }
+        ensures advances { Advances self.old steps result self.new }
+        // No version is held but those in which methods begin and those that live activations run.
+        ensures held { self.new.stale ≡ false }
     {
         if self.broken {
             return Run::Broken;
@@ -170,6 +172,7 @@ impl Session {
         requires { CanActNow self.old }
         ensures ok { OnOk result (Accepts self.old select method self.new) }
         ensures err { IfErr result (λ e. RefusesAct self.old select method e self.new) }
+        ensures held { self.new.stale ≡ false }
     {
         if self.broken {
             return Err(ActError::Broken);
@@ -200,6 +203,8 @@ impl Session {
         requires { CanActNow self.old }
         ensures ok { OnOk result (Accepts self.old true method self.new) }
         ensures err { IfErr result (λ e. RefusesAct self.old true method e self.new) }
+        // No version is held but those in which methods begin and those that live activations run.
+        ensures held { self.new.stale ≡ false }
     {
         self.act(true, method)
     }
@@ -209,6 +214,8 @@ impl Session {
         requires { CanActNow self.old }
         ensures ok { OnOk result (Accepts self.old false method self.new) }
         ensures err { IfErr result (λ e. RefusesAct self.old false method e self.new) }
+        // No version is held but those in which methods begin and those that live activations run.
+        ensures held { self.new.stale ≡ false }
     {
         self.act(false, method)
     }
@@ -217,6 +224,7 @@ impl Session {
     pub fn gather(&mut self) -> Result<(), ActError>
         ensures ok { OnOk result (Gathers self.old self.new) }
         ensures err { IfErr result (λ e. RefusesTree self.old e self.new) }
+        ensures held { self.new.stale ≡ false }
     {
         if self.broken {
             return Err(ActError::Broken);

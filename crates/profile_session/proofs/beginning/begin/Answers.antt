@@ -23,5 +23,5 @@ returns-clause-stands c =
 
 pub returns-clause-seen : goal.returns-clause-seen
 returns-clause-seen c =
-    ap₂ (λ (v : View) acts. let q : Profiling = record (profiling_of v.program v.input) { acts = acts; clock = v.clock; live = v.live } in q) c.into_inner.ensures c.new-4.ensures
-    ∙ ap (λ (v : View). let q : Profiling = record (profiling_of c.args.vm.value.program c.args.vm.value.input) { clock = v.clock; live = v.live } in q) c.requires.fresh
+    ap₂ (λ (v : View) acts. let q : Profiling = record (profiling_of v.program v.input) { acts = acts; clock = v.clock; live = v.live; stale = v.stale } in q) c.into_inner.ensures c.new-4.ensures
+    ∙ ap (λ (v : View). let q : Profiling = record (profiling_of c.args.vm.value.program c.args.vm.value.input) { clock = v.clock; live = v.live; stale = v.stale } in q) c.requires.fresh
