@@ -63,3 +63,4 @@ mod StartSound
 mod HandLaws
 mod CellLemmas
 pub mod SilentSteps
+pub mod PassingSteps
