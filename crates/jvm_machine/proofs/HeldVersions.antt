@@ -24,7 +24,8 @@ use Rattle.jvm_model.specs.Told.{Held, helds}
 use Rattle.jvm_steps.specs.declared.hands.Hand.{Hand}
 use Rattle.jvm_steps.specs.Versions.{Setup}
 use Rattle.jvm_machine.specs.Advances.{taken_state}
-use Rattle.jvm_machine.specs.Machine.{IsTidy, Keeps, holds_stale, is_stale, runs, seen, viewed}
+use Rattle.jvm_machine.specs.Machine.{IsTidy, Keeps, holds_stale, is_stale, seen, viewed}
+use Rattle.jvm_steps.specs.Passing.{runs}
 use Rattle.jvm_machine.specs.View.{View}
 
 -- ---- what is seen then
@@ -209,27 +210,3 @@ tidy-loaded w w1 classes s s1 same there tidy =
     by : (classes : List ℕ) → IsTidy w.versions (with_loaded classes s).stack
     by [] = tidy
     by (c ∷ more) = tidy
-
--- ---- steps without changes
-
-abbrev only : ℕ → ℕ → Mark
-only k v = if v == k then Root else Off
-
-abbrev is-root : Mark → Bool
-is-root Root = true
-is-root Plain = false
-is-root Off = false
-
-root-only : (b : Bool) → is-root (if b then Root else Off) ≡ b
-root-only true = refl
-root-only false = refl
-
-runs-helds : (k : ℕ) (stack : List Entry) → list_any (λ (h : Held). is-root h.mark) (helds (only k) stack) ≡ runs k stack
-runs-helds k [] = refl
-runs-helds k (Active f ∷ below) = ap₂ (λ a b. a || b) (root-only (f.version == k)) (runs-helds k below)
-runs-helds k (Initializing class part ∷ below) = runs-helds k below
-
--- where the activations are as they were, whatever the marks
-pub tidy-same : (v : Versions) (old new : List Entry) → ((marks : ℕ → Mark) → helds marks new ≡ helds marks old) → IsTidy v old → IsTidy v new
-tidy-same v old new same tidy k is =
-    sym (runs-helds k new) ∙ (ap (λ hs. list_any (λ (h : Held). is-root h.mark) hs) (same (only k)) ∙ (runs-helds k old ∙ tidy k is))
