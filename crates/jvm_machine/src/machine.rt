@@ -232,7 +232,13 @@ impl Vm {
         if self.broken || !self.started || !is_calm(&self.parts, &self.markers) {
             return 0;
         }
-        let made = pass_steps(&self.originals, &mut self.parts, &self.markers, most);
+        let made = pass_steps(
+            self.alloc,
+            &self.originals,
+            &mut self.parts,
+            &self.markers,
+            most,
+        );
         self.clock += made;
         made
     }

@@ -1,9 +1,10 @@
 -- Where a frame has not gone on by a rule, it is as it was.
-use Rattle.std.proofs.Common.{◌≡◌, ℕ, Bool, true, false, cond, List, [], Option, Some, None, drop, refl, sym, ap, subst, ◌∙◌}
+use Rattle.std.proofs.Common.{◌≡◌, ◌≤◌, ℕ, Bool, true, false, cond, List, [], length, Option, Some, None, drop, refl, sym, ap, subst, ◌∙◌}
 use Rattle.std.proofs.lemmas.Bool.{false≢true}
 use Rattle.frame_stack.specs.FrameLists.{FramesView, PlacedFrame, with_frames}
 use Rattle.jvm_basic.specs.Outcomes.{can_hold, with_top}
-use Rattle.std.specs.Prelude.{Ok}
+use Rattle.std.specs.Prelude.{Ok, IfSome}
+use Rattle.std.specs.Option.{option_map}
 use Rattle.const_pool.specs.References.{Reference}
 use Rattle.heap_objects.specs.Heaps.{with_slot_at}
 use Rattle.jvm_model.specs.FieldRules.{Putting, field_owner, kind_by, puts_into, putting_of, slot_of}
@@ -14,12 +15,20 @@ use Rattle.jvm_model.specs.declared.program.Program.{Program}
 use Rattle.jvm_model.specs.declared.state.Phase.{Phase}
 use Rattle.jvm_model.specs.declared.state.Phase.TheVariants.{Erroneous, Fresh, Ready, Running}
 use Rattle.jvm_model.specs.declared.state.Shared.{Shared}
-use Rattle.jvm_model.specs.Data.{Back, Breaks, Done, Exits, GoesOn, Initializes, Invokes, Locals, Next, Operands, Outcome, Raises, Returns, Subroutine, Target, Throws}
+use Rattle.jvm_model.specs.Data.{Back, Breaks, Done, Exits, GoesOn, Initializes, Invokes, Locals, Next, Operands, Outcome, Raises, Returns, Subroutine, Target, Throws, World}
 use Rattle.jvm_model.specs.Rules.{when_ready}
 use Rattle.jvm_named.specs.Answers.{Answer, Calls, Continues, Exceeds, Stops, answer_in, frames_in}
 use Rattle.jvm_named.specs.Fields.{writes}
-use Rattle.jvm_named.specs.Passing.{IfPassed, is_next, is_usable}
+use Rattle.jvm_model.specs.InvocationRules.{invokes_selected}
+use Rattle.jvm_named.specs.declared.known.Callee.TheVariants as callee
+use Rattle.jvm_named.specs.declared.known.Chosen.{Chosen}
+use Rattle.jvm_named.specs.declared.targets.Target.{Target as TheTarget}
+use Rattle.jvm_named.specs.Callees.{HasCallee, IsCallee, IsCode, chosen_place}
+use Rattle.jvm_named.specs.Passing.{IfPassed, IsCall, is_next, is_usable}
 use Rattle.jvm_named.specs.Resolved.{field_found, puts_instance}
+use Rattle.jvm_named.specs.Targets.{data_in}
+use Rattle.jvm_named.proofs.CalleeLemmas.{code-invoked}
+use Rattle.jvm_named.proofs.TargetLemmas.{length-data}
 
 pub next-is : (a : Answer) → is_next a ≡ true → a ≡ Continues
 next-is Continues is = refl
@@ -84,3 +93,19 @@ puts-written p kind r m s l o x object slot is owned at named =
     ∙ (ap (λ given. puts_into p r m given s l o) is
     ∙ (ap (λ owner. unless_refused s owner (λ owner. done (record s { heap = with_slot_at owner (slot_of p m) x.datum s.heap }) (GoesOn l (drop 2 o) Next))) (sym owned)
     ∙ ap (λ k. writes object k x.datum s l o) (sym at))))
+
+-- ---- a call of code
+
+pub call-of : (w : World) (s : Shared) (l : Locals) (o : Operands) (t : TheTarget) (m : Chosen) (n : ℕ) → t.selected ≡ Some m → m.callee ≡ callee.Code n → t.count ≤ length o
+    → IfSome t.selected (HasCallee w.program)
+    → IsCall (record { method = n; count = t.count }) (invokes_selected w (option_map chosen_place t.selected) (data_in t.count o) s l (drop t.count o)) s
+call-of w s l o t m n selected code within has =
+    let is : IsCode w.program (chosen_place m) n =
+    subst (λ x. IsCallee x w.program (chosen_place m)) code (subst (λ x. IfSome x (HasCallee w.program)) selected has) in
+    record {
+      args = data_in t.count o;
+      below = drop t.count o;
+      invokes = ap (λ x. invokes_selected w (option_map chosen_place x) (data_in t.count o) s l (drop t.count o)) selected
+          ∙ code-invoked w (chosen_place m) (data_in t.count o) s l (drop t.count o) n is;
+      count = length-data t.count o within;
+    }

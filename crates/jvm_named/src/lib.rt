@@ -41,7 +41,7 @@ pub use known::{Callee, Chosen, Found, Known, Site};
 pub use members::is_static_field;
 pub use naming::{MemberName, MethodName, Naming};
 pub use numbers::MethodNumbers;
-pub use passing::pass_field;
+pub use passing::{Call, known_call, pass_field};
 pub use place::Place;
 pub use resolution::resolve;
 pub use targets::is_static;

@@ -1,28 +1,40 @@
-//! Accesses of fields where it is known what their names came to. They are done only where they raise nothing; else nothing is done.
+//! Accesses of fields, and which methods are invoked, where it is known what their names came to. Accesses are done only where they raise
+//! nothing; else nothing is done.
 
-ghost use Rattle.std.specs.Prelude.{◌≡◌, ℕ, List, true};
+ghost use Rattle.std.specs.Prelude.{◌≡◌, ◌≤◌, ℕ, List, drop, length, true, IfOk, IfSome};
+ghost use Rattle.std.specs.Option.{option_map};
+ghost use Rattle.jvm_basic.specs.Outcomes.{top_locals};
+ghost use Rattle.jvm_model.specs.InvocationRules.{invokes_selected};
 ghost use Rattle.frame_stack.specs.FrameLists.{top_operands};
-ghost use Rattle.jvm_model.specs.Naming.{Getfield, Getstatic, Putfield};
+ghost use Rattle.jvm_model.specs.Naming.{Getfield, Getstatic, Invokestatic, Putfield};
 ghost use Rattle.jvm_named.specs.Answers.{answer_view, done_on};
 ghost use Rattle.jvm_named.specs.Attempts.{attempts, loads_nothing, world_over};
-ghost use Rattle.jvm_named.specs.Known.{IsFoundAs, IsKnown};
+ghost use Rattle.jvm_named.specs.Callees.{HasCallee, chosen_place};
+ghost use Rattle.jvm_named.specs.Known.{IsFoundAs, IsKnown, naming_by};
 ghost use Rattle.jvm_named.specs.Members.{reference_of};
 ghost use Rattle.jvm_named.specs.Names.{naming_view};
-ghost use Rattle.jvm_named.specs.Objects.{AreLoaded, IsResolved};
-ghost use Rattle.jvm_named.specs.Passing.{IfPassed, is_next, is_usable};
+ghost use Rattle.jvm_named.specs.Numbers.{AreNumbers};
+ghost use Rattle.jvm_named.specs.Objects.{AreLoaded, HasLoadedCaller, IsResolved, IsUsable};
+ghost use Rattle.jvm_named.specs.Passing.{IfPassed, IsCall, is_next, is_usable};
 ghost use Rattle.jvm_model.specs.SharedState.{phase_of};
 ghost use Rattle.jvm_named.specs.Resolved.{gets_instance, gets_static, puts_instance};
+ghost use Rattle.jvm_named.specs.Resolved.{invokes_instance, invokes_static_method};
+ghost use Rattle.jvm_named.specs.Targets.{HasCaller, data_in, found_as, invokes_target};
+ghost use Rattle.jvm_named.specs.Targets.{selecting_view, target_in};
 
-use crate::asked::Asked;
+use crate::asked::{Asked, Refusal};
 use crate::fields::{known_owner, put_slot, putting_of, read_known};
 use crate::held::held_by;
-use crate::known::{Found, Known};
+use crate::known::{Callee, Found, Known};
 use crate::moving::drop_two;
-use crate::naming::{MemberName, Naming};
+use crate::naming::{MemberName, MethodName, Naming};
+use crate::numbers::MethodNumbers;
 use crate::statics::push_field;
+use crate::targets::{Selecting, Target, instance_target, static_target};
 use class_linker::Linker;
 use frame_stack::Frames;
 use jvm_model::{Phase, Shared};
+use std::alloc::Global;
 
 /// Whether the frame has gone on.
 #[inline(always)]
@@ -134,6 +146,171 @@ fn pass_getstatic(
     let asked = push_field(shared, frames, field, next);
     went_on(&asked)
 }
+
+// ---- what is invoked
+
+/// A method that has Code, by its number, and how many operands are its arguments.
+#[derive(Clone, Copy, Debug, PartialEq, Eq)]
+pub struct Call {
+    pub method: u32,
+    pub count: u16,
+}
+
+/// What is invoked of a target, where that has Code.
+fn call_of(linker: &Linker, shared: &Shared, frames: &Frames, target: Target) -> Option<Call>
+    requires within { target.count ≤ length (top_operands frames.now.frames) }
+    requires callee { IfSome target.selected (HasCallee linker.now.program) }
+    ensures { (input : List ℕ) → let w = world_over linker.now input in
+        let fs = frames.now.frames in let o = top_operands fs in
+        IfSome result (λ c. IsCall c (invokes_selected w (option_map chosen_place target.selected)
+        (data_in target.count o) shared.now (top_locals fs) (drop target.count o)) shared.now) }
+{
+    let Some(m) = target.selected else {
+        return None;
+    };
+    match m.callee {
+        Callee::Code(method) => Some(Call {
+            method,
+            count: target.count,
+        }),
+        Callee::Native(_) => None,
+        Callee::Other => None,
+    }
+}
+
+/// The same of a target that may be refused.
+fn target_call(
+    linker: &Linker,
+    shared: &Shared,
+    frames: &Frames,
+    found: &Result<Target, Refusal>,
+) -> Option<Call>
+    requires within { IfOk found.now (λ t. t.count ≤ length (top_operands frames.now.frames)) }
+    requires callee { IfOk found.now (λ t. IfSome t.selected (HasCallee linker.now.program)) }
+    ensures { (input : List ℕ) → let w = world_over linker.now input in
+        let fs = frames.now.frames in let o = top_operands fs in
+        let d = invokes_target w (found_as (target_in o) found.now) shared.now (top_locals fs) o
+        in IfSome result (λ c. IsCall c d shared.now) }
+{
+    match found {
+        Ok(target) => call_of(linker, shared, frames, *target),
+        Err(_) => None,
+    }
+}
+
+/// invokestatic.
+fn static_call(
+    alloc: Global,
+    linker: &Linker,
+    numbers: &MethodNumbers,
+    shared: &Shared,
+    frames: &Frames,
+    method: &MethodName,
+    kind: u32,
+    known: Found,
+) -> Option<Call>
+    requires usable { IsUsable linker.now kind }
+    requires numbers { AreNumbers linker.now.program numbers.now }
+    requires found { IsFoundAs known linker.now.program kind (Invokestatic method.now) }
+    ensures { (input : List ℕ) → let w = world_over linker.now input in
+        let d = done_on (invokes_static_method w kind method.now shared.now) frames.now in
+        IfSome result (λ c. IsCall c d shared.now) }
+{
+    let mut found = known;
+    match static_target(
+        alloc, linker, numbers, shared, frames, method, kind, &mut found,
+    ) {
+        Ok(target) => target_call(linker, shared, frames, &target),
+        Err(_) => None,
+    }
+}
+
+/// The other three, where the receiver is of the kind for which the method was selected.
+fn instance_call(
+    linker: &Linker,
+    numbers: &MethodNumbers,
+    shared: &Shared,
+    frames: &Frames,
+    by: Selecting<'_>,
+    method: &MethodName,
+    kind: u32,
+    known: Found,
+) -> Option<Call>
+    requires objects { AreLoaded linker.now shared.now.heap }
+    requires resolved { IsResolved linker.now method.now.class kind }
+    requires caller { HasCaller linker.now (selecting_view by) }
+    requires numbers { AreNumbers linker.now.program numbers.now }
+    requires found { IsFoundAs known linker.now.program kind
+        (naming_by (selecting_view by) method.now) }
+    ensures { (input : List ℕ) → let w = world_over linker.now input in
+        let r = method.now in
+        let rule = invokes_instance w kind (selecting_view by.entry) r shared.now in
+        IfSome result (λ c. IsCall c (done_on rule frames.now) shared.now) }
+{
+    let mut found = known;
+    let target = instance_target(
+        linker,
+        numbers,
+        &shared.heap,
+        frames,
+        by,
+        method,
+        kind,
+        &mut found,
+    );
+    // Else the next attempt keeps what it finds.
+    if found != known {
+        return None;
+    }
+    target_call(linker, shared, frames, &target)
+}
+
+/// Which method an instruction invokes, by what its names came to. None where it invokes none, or anything else would come, or where
+/// an attempt would learn more.
+#[tactic(auto, using(crate::proofs::Again::loads_none))]
+pub fn known_call(
+    alloc: Global,
+    linker: &Linker,
+    numbers: &MethodNumbers,
+    shared: &Shared,
+    frames: &Frames,
+    naming: &Naming,
+    known: &Known,
+) -> Option<Call>
+    requires linked { linker.now.loaded ≡ shared.now.loaded }
+    requires known { IsKnown linker.now (naming_view naming.now) known.now }
+    requires numbers { AreNumbers linker.now.program numbers.now }
+    requires objects { AreLoaded linker.now shared.now.heap }
+    requires caller { HasLoadedCaller linker.now (naming_view naming.now) }
+    ensures called { (input : List ℕ) → let w = world_over linker.now input in
+        let d = done_on (attempts w (naming_view naming.now) shared.now frames.now) frames.now in
+        IfSome result (λ c. IsCall c d shared.now) }
+    ensures loads { let n = naming_view naming.now in loads_nothing linker.now.program
+        shared.now.loaded n (top_operands frames.now.frames) ≡ true }
+{
+    let kind = known.kind;
+    let found = known.found;
+    match naming {
+        Naming::Invokestatic(method) => static_call(
+            alloc, linker, numbers, shared, frames, method, kind, found,
+        ),
+        Naming::Invokevirtual(method) => {
+            let by = Selecting::Virtual;
+            instance_call(linker, numbers, shared, frames, by, method, kind, found)
+        }
+        Naming::Invokeinterface(method) => {
+            let by = Selecting::OfInterface;
+            instance_call(linker, numbers, shared, frames, by, method, kind, found)
+        }
+        Naming::Invokespecial(caller, method, interface) => {
+            let by = Selecting::Special(caller, *interface);
+            instance_call(linker, numbers, shared, frames, by, method, kind, found)
+        }
+        _ => None,
+    }
+}
+
+// ---- fields
 
 /// An access of a field by what its names came to. False, with nothing changed, where anything but that the frame goes on would come.
 #[tactic(auto, using(crate::proofs::Again::loads_none))]

@@ -64,3 +64,5 @@ mod HandLaws
 mod CellLemmas
 pub mod SilentSteps
 pub mod PassingSteps
+pub mod PassingCalls
+pub mod PassingReturns

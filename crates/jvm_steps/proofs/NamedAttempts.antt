@@ -44,7 +44,7 @@ pub record Names (lo : Option Line) : Type 0 where
   pub there : lo ≡ Some line
   pub named : line.action ≡ action.Named kept
 
-pub names-by : (a : Action) → is_named a ≡ true → (n : Kept) × (a ≡ action.Named n)
+names-by : (a : Action) → is_named a ≡ true → (n : Kept) × (a ≡ action.Named n)
 names-by (action.Named n) is = (n, refl)
 names-by action.Local is = absurd (false≢true is)
 names-by (action.Return k) is = absurd (false≢true is)

@@ -22,7 +22,7 @@ use Rattle.jvm_named.specs.declared.asked.Asked.{Asked}
 use Rattle.jvm_named.specs.declared.asked.Asked.TheVariants as asked
 use Rattle.jvm_named.specs.declared.naming.Naming.{Naming as Kept}
 use Rattle.jvm_named.specs.Answers.{Continues, Exceeds, answer_by, answer_in, answer_view, done_on, frames_by, frames_in, wrote_by}
-use Rattle.jvm_named.specs.Attempts.{attempts, is_loaded, loaded_for, shared_loaded}
+use Rattle.jvm_named.specs.Attempts.{attempts, loaded_for, loads_nothing, shared_loaded}
 use Rattle.jvm_named.specs.Names.{naming_view}
 use Rattle.jvm_named.specs.Passing.{HasPassed, IfPassed}
 use Rattle.jvm_steps.specs.declared.line.Action.TheVariants as action
@@ -34,18 +34,18 @@ use Rattle.jvm_steps.specs.Acts.{attempts_on, is_at_rest, is_named, named_in}
 use Rattle.jvm_steps.specs.Asked.{concluded, done_top, starts_in}
 use Rattle.jvm_steps.specs.Lines.{IfNamed, IfNamedBy}
 use Rattle.jvm_steps.specs.Markers.{marker_on, stack_of, state_of, with_markers}
-use Rattle.jvm_steps.specs.Passing.{Passes}
+use Rattle.jvm_steps.specs.Passing.{Passes, steps_if}
 use Rattle.jvm_steps.specs.Ready.{CanRun}
 use Rattle.jvm_steps.specs.Runs.{IsCalm, steps_from}
 use Rattle.jvm_steps.specs.States.{active, frame_in, here_of, state_in, state_with}
 use Rattle.jvm_steps.specs.Versions.{Setup, instruction_in, line_at, operation_as, text_of}
 use Rattle.jvm_steps.proofs.Leading.{leads-one, quiet-one}
 use Rattle.jvm_steps.proofs.LineSteps.{IsGoing, going-on, rests, step-attempts, top-frame}
-use Rattle.jvm_steps.proofs.NamedAttempts.{awaits-told, goes-on, names-by}
+use Rattle.jvm_steps.proofs.NamedAttempts.{awaits-told, goes-on}
 use Rattle.jvm_steps.proofs.NamedLaws.{is-named}
 use Rattle.jvm_steps.proofs.PlainSteps.{at-rest, framed, goes}
 use Rattle.jvm_steps.proofs.QuietLines.{IsQuiet, goes-on-quiet, step_by}
-use Rattle.jvm_steps.proofs.SilentSteps.{quiet-silent}
+use Rattle.jvm_steps.proofs.SilentSteps.{passes_none, quiet-silent}
 
 -- ---- a frame that has gone on
 
@@ -90,7 +90,7 @@ module _ (w : Setup) (run : CanRun w) (ms : List Marker) (here : Here) (line : L
   abbrev t : Text
   t = text_of w.versions
 
-  abbrev d : Done
+  abbrev pub d : Done
   d = done_on (attempts w.world n old.shared old.frames) old.frames
 
   there-by : (Holds : Naming → ℕ → Type 0) → Holds n line.next → IfNamed (line_at w.versions here.version here.place) Holds
@@ -109,7 +109,7 @@ module _ (w : Setup) (run : CanRun w) (ms : List Marker) (here : Here) (line : L
 
   -- ---- the state behind it
 
-  abbrev reached : Parts
+  abbrev pub reached : Parts
   reached = record old { frames = frames_by (attempts w.world n old.shared old.frames) line.next old.frames; shared = d.shared; output = old.output ++ d.wrote }
 
   module _ (a : Asked) (answers : answer_view a ≡ answer_by (attempts w.world n old.shared old.frames) old.frames) (quiet : starts_in (answer_view a) ≡ None) where
@@ -139,14 +139,14 @@ module _ (w : Setup) (run : CanRun w) (ms : List Marker) (here : Here) (line : L
 
   -- ---- the turn of the step
 
-  abbrev under : List PlacedFrame → State
+  abbrev pub under : List PlacedFrame → State
   under fs = record (with_markers ms (state_with fs old)) { stack = stack_of (map active fs) ms }
 
-  abbrev i : Instruction
+  abbrev pub i : Instruction
   i = instruction_in line
 
   -- its changes are those of what follows from what its rule says
-  abbrev follows : Done → PlacedFrame → List PlacedFrame → Turn
+  abbrev pub follows : Done → PlacedFrame → List PlacedFrame → Turn
   follows d f fs = settled w.world t (applies w.world t i d.outcome (record (under fs) { shared = d.shared; output = old.output ++ d.wrote }) (frame_in f))
 
   named-turn : (f : PlacedFrame) (fs : List PlacedFrame) → newly_loaded w.world.program old.shared.loaded n f.operands ≡ []
@@ -164,7 +164,7 @@ module _ (w : Setup) (run : CanRun w) (ms : List Marker) (here : Here) (line : L
       ap (λ (s : Shared). does_named w.world n s f.locals f.operands)
       (sym (ap (λ more. record old.shared { loaded = old.shared.loaded ++ more }) there ∙ ap (λ classes. record old.shared { loaded = classes }) (append-nil old.shared.loaded)))
 
-  step-turn : (f : PlacedFrame) (fs : List PlacedFrame) → here_of (f ∷ fs) ≡ Some here → marker_on (length (f ∷ fs)) ms ≡ None
+  pub step-turn : (f : PlacedFrame) (fs : List PlacedFrame) → here_of (f ∷ fs) ≡ Some here → marker_on (length (f ∷ fs)) ms ≡ None
       → newly_loaded w.world.program old.shared.loaded n f.operands ≡ [] → starts (done_top w n old.shared (f ∷ fs)).outcome ≡ None
       → step w.world t (with_markers ms (state_with (f ∷ fs) old)) ≡ follows (done_top w n old.shared (f ∷ fs)) f fs
   step-turn f fs is free none starts_none =
@@ -232,28 +232,25 @@ none-new xs is = by xs (zero-is (length xs) is) where
   by [] e = refl
   by (x ∷ xs) e = absurd (omega (arith, e))
 
--- where it has not gone on nothing was done
-pub kept-frames : (b : Bool) (d : Done) (next : ℕ) (old new : FramesView) (s after : Shared) → IfPassed b d next old s new after → b ≡ false → new ≡ old
-kept-frames true d next old new s after passed off = absurd (false≢true (sym off))
-kept-frames false d next old new s after passed off = passed.0
+module _ (w : Setup) (run : CanRun w) (ms : List Marker) (here : Here) (line : Line) (kept : Kept) (old : Parts) (stands : here_of old.frames.frames ≡ Some here)
+    (found : line_at w.versions here.version here.place ≡ Some line) (named : line.action ≡ action.Named kept) (calm : IsCalm (length old.frames.frames) ms old)
+    (silent : loads_nothing w.world.program old.shared.loaded (naming_view kept) (top_operands old.frames.frames) ≡ true) where
+  pub nothing-new : newly_loaded w.world.program old.shared.loaded (naming_view kept) (top_operands old.frames.frames) ≡ []
+  nothing-new = none-new (newly_loaded w.world.program old.shared.loaded (naming_view kept) (top_operands old.frames.frames)) silent
 
-pub kept-shared : (b : Bool) (d : Done) (next : ℕ) (old new : FramesView) (s after : Shared) → IfPassed b d next old s new after → b ≡ false → after ≡ s
-kept-shared true d next old new s after passed off = absurd (false≢true (sym off))
-kept-shared false d next old new s after passed off = passed.1
-
-module _ (w : Setup) (run : CanRun w) (ms : List Marker) (here : Here) (line : Line) (old : Parts) (stands : here_of old.frames.frames ≡ Some here)
-    (found : line_at w.versions here.version here.place ≡ Some line) (calm : IsCalm (length old.frames.frames) ms old) (is : is_named line.action ≡ true) (b : Bool) (on : b ≡ true) where
-  pub line-passes : (frames : FramesView) (shared : Shared)
-      → IfNamedBy line.action line.next (λ n next. b ≡ true → HasPassed (done_on (attempts w.world n old.shared old.frames) old.frames) next old.frames frames shared)
-      → IfNamedBy line.action line.next (λ n next. b ≡ true → is_loaded w.world n old.shared old.frames ≡ true)
-      → Passes w ms old 1 (record old { frames = frames; shared = shared })
-  line-passes frames shared passed loads =
-      let named = names-by line.action is in
-      let n : Naming = naming_view named.0 in
-      let went = subst (λ a. IfNamedBy a line.next (λ n next. b ≡ true → HasPassed (done_on (attempts w.world n old.shared old.frames) old.frames) next old.frames frames shared)) named.1 passed on in
-      let nothing : newly_loaded w.world.program old.shared.loaded n (top_operands old.frames.frames) ≡ [] =
-      none-new _ (subst (λ a. IfNamedBy a line.next (λ n next. b ≡ true → is_loaded w.world n old.shared old.frames ≡ true)) named.1 loads on) in
-      let law = is-named (shared_loaded w.world.program n old.shared old.frames) (top_operands old.frames.frames) w n (top_locals old.frames.frames) in
-      field-passes w run ms here line named.0 old stands found named.1 calm nothing frames shared went
+  pub access-passes : (b : Bool) (frames : FramesView) (shared : Shared)
+      → IfPassed b (done_on (attempts w.world (naming_view kept) old.shared old.frames) old.frames) line.next old.frames old.shared frames shared
+      → Passes w ms old (steps_if b) (record old { frames = frames; shared = shared })
+  access-passes true frames shared went =
+      let law = is-named (shared_loaded w.world.program (naming_view kept) old.shared old.frames) (top_operands old.frames.frames) w (naming_view kept) (top_locals old.frames.frames) in
+      field-passes w run ms here line kept old stands found named calm nothing-new frames shared went
       (ap (λ (s : Shared). s.loaded) went.shared
-      ∙ (law.loaded ∙ (ap (λ more. old.shared.loaded ++ more) nothing ∙ append-nil old.shared.loaded)))
+      ∙ (law.loaded ∙ (ap (λ more. old.shared.loaded ++ more) nothing-new ∙ append-nil old.shared.loaded)))
+  access-passes false frames shared same =
+      subst (λ (f : FramesView). Passes w ms old 0 (record old { frames = f; shared = shared })) (sym same.0)
+      (subst (λ (s : Shared). Passes w ms old 0 (record old { shared = s })) (sym same.1) (passes_none w ms old calm))
+
+-- what holds of a line that names something, where it stands
+pub held-there : (lo : Option Line) (line : Line) (kept : Kept) → lo ≡ Some line → line.action ≡ action.Named kept → (Holds : Naming → ℕ → Type 0) → IfNamed lo Holds
+    → Holds (naming_view kept) line.next
+held-there lo line kept found named Holds holds = subst (λ a. IfNamedBy a line.next Holds) named (subst (λ o. IfNamed o Holds) found holds)

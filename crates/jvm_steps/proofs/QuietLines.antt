@@ -39,10 +39,10 @@ module _ (w : Setup) where
 
   -- ---- nothing follows
 
-  with-frame-rests : (s : State) (f : Frame) → s.ending ≡ None → s.thrown ≡ None → move w.world t (with_frame s f) ≡ None
+  pub with-frame-rests : (s : State) (f : Frame) → s.ending ≡ None → s.thrown ≡ None → move w.world t (with_frame s f) ≡ None
   with-frame-rests s f calm nothing = ap₂ (λ e r. moves w.world t (with_frame s f) e r (Active f ∷ s.stack)) calm nothing
 
-  goes-rests : (s : State) (f : Frame) (own : ℕ) (l : Locals) (o : Operands) (place : Option ℕ) → s.ending ≡ None → s.thrown ≡ None → move w.world t (goes s f own l o place) ≡ None
+  pub goes-rests : (s : State) (f : Frame) (own : ℕ) (l : Locals) (o : Operands) (place : Option ℕ) → s.ending ≡ None → s.thrown ≡ None → move w.world t (goes s f own l o place) ≡ None
   goes-rests s f own l o None calm nothing = refl
   goes-rests s f own l o (Some place) calm nothing = by (nat_le (height_of o) f.max_stack) where
     by : (b : Bool) → move w.world t (cond b (with_frame s (record f { place = place; locals = l; operands = o })) (goes s f own l o None)) ≡ None

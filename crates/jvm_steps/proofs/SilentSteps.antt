@@ -21,7 +21,7 @@ use Rattle.jvm_steps.specs.declared.markers.Marker.{Marker}
 use Rattle.jvm_steps.specs.declared.parts.Parts.{Parts}
 use Rattle.jvm_steps.specs.Markers.{marker_on, state_of}
 use Rattle.jvm_steps.specs.Passing.{AreKeptBy, AreSilent, IsSilent, Passes, runs}
-use Rattle.jvm_steps.specs.Runs.{AreQuiet, IsCalm, Leads, LeadsAlone, steps_from}
+use Rattle.jvm_steps.specs.Runs.{IsCalm, LeadsAlone, steps_from, steps_from-zero}
 use Rattle.jvm_steps.specs.Versions.{Setup, mark_of, text_of}
 use Rattle.jvm_steps.proofs.Leading.{leads-none, leads-on, steps-parts}
 
@@ -83,6 +83,11 @@ quiet-silent w s quiet = record {
 -- ---- one behind the other
 
 module _ (w : Setup) where
+  pub silent-one : (s : State) → IsSilent w s → AreSilent w s 1
+  silent-one s is k less =
+      let none : 0 ≡ k = omega arith in
+      subst (λ j. IsSilent w (steps_from w j s)) none (subst (IsSilent w) (sym (steps_from-zero w s)) is)
+
   silent-on : (old mid : State) (n m : ℕ) → mid ≡ steps_from w n old → AreSilent w old n → AreSilent w mid m → AreSilent w old (n + m)
   silent-on old mid n m made first second k less = elim (cases_lt k n) [
     | inl below ↦ first k below
@@ -94,8 +99,8 @@ module _ (w : Setup) where
         subst (IsSilent w) (sym state) (second (k - n) (omega arith)))
   ]
 
-  pub passes-none : (ms : List Marker) (p : Parts) → IsCalm (length p.frames.frames) ms p → Passes w ms p 0 p
-  passes-none ms p calm = record {
+  pub passes_none : (ms : List Marker) (p : Parts) → IsCalm (length p.frames.frames) ms p → Passes w ms p 0 p
+  passes_none ms p calm = record {
     calm = calm;
     loaded = refl;
     leads = leads-none w (state_of ms p);

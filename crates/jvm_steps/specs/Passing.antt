@@ -1,5 +1,8 @@
 -- Several steps of the run that tell nothing, in one activation or in several: what begins or ends in them has no probes.
-use Rattle.std.specs.Prelude.{◌≡◌, ℕ, ◌<◌, Bool, true, false, List, [], ◌∷◌, length, ◌==◌, ◌||◌}
+use Rattle.std.specs.Prelude.{◌≡◌, ℕ, ◌<◌, Bool, true, false, List, [], ◌∷◌, length, nat_le, Option, None, ◌==◌, ◌||◌}
+use Rattle.heap_objects.specs.declared.Value.{Value}
+use Rattle.frame_stack.specs.FrameLists.{FramesView, PlacedFrame}
+use Rattle.frame_stack.specs.Widths.{height_of}
 use Rattle.method_versions.specs.Tables.{is_superseded_in}
 use Rattle.jvm_model.specs.declared.due.Due.{Due}
 use Rattle.jvm_model.specs.declared.due.Due.TheVariants.{Nothing}
@@ -10,11 +13,16 @@ use Rattle.jvm_model.specs.Pauses.{stop_in}
 use Rattle.jvm_model.specs.Rest.{step_loads}
 use Rattle.jvm_model.specs.Run.{step}
 use Rattle.jvm_model.specs.Told.{helds, mark_now}
+use Rattle.jvm_model.specs.Values.{with_value}
+use Rattle.jvm_named.specs.declared.known.Found.{Found}
+use Rattle.jvm_named.specs.declared.known.Found.TheVariants as found
 use Rattle.jvm_steps.specs.declared.markers.Marker.{Marker}
 use Rattle.jvm_steps.specs.declared.parts.Parts.{Parts}
 use Rattle.jvm_steps.specs.Markers.{state_of}
 use Rattle.jvm_steps.specs.Runs.{IsCalm, Leads, steps_from}
-use Rattle.jvm_steps.specs.Versions.{Setup, mark_of, text_of}
+use Rattle.jvm_steps.specs.declared.line.Line.{Line}
+use Rattle.jvm_steps.specs.Tables.{Versions}
+use Rattle.jvm_steps.specs.Versions.{Setup, line_at, mark_of, text_of}
 
 -- ---- live activations
 
@@ -51,3 +59,35 @@ pub record Passes (w : Setup) (ms : List Marker) (old : Parts) (n : ℕ) (new : 
   pub loaded : new.shared.loaded ≡ old.shared.loaded
   pub leads : Leads w (state_of ms old) n (state_of ms new)
   pub silent : AreSilent w (state_of ms old) n
+
+-- a step was made, or none
+abbrev pub steps_if : Bool → ℕ
+steps_if true = 1
+steps_if false = 0
+
+-- with other frames
+abbrev pub on_frames : FramesView → Parts → Parts
+on_frames frames p = record p { frames = frames }
+
+-- what a member's name came to is a method
+abbrev pub is_method : Found → Bool
+is_method (found.Fixed m) = true
+is_method (found.Selected site) = true
+is_method _ = false
+
+-- ---- returns
+
+-- the frames where the top one is off, and its caller goes on at a place, with a value on top if there is one
+abbrev pub given : Option Value → ℕ → List PlacedFrame → List PlacedFrame
+given v place (f ∷ g ∷ fs) = record g { place = place; operands = with_value v g.operands } ∷ fs
+given v place fs = fs
+
+-- there is a caller, and its operands are within its limit then
+abbrev pub can_give : Option Value → List PlacedFrame → Bool
+can_give v (f ∷ g ∷ fs) = nat_le (height_of (with_value v g.operands)) g.max_stack
+can_give v fs = false
+
+-- what stands where the caller does
+abbrev pub caller_line : Versions → List PlacedFrame → Option Line
+caller_line v (f ∷ g ∷ fs) = line_at v g.version g.place
+caller_line v fs = None

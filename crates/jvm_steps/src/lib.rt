@@ -60,8 +60,8 @@ pub use members::{
 pub use objects::arguments_fit;
 pub use originals::{Exception, Originals};
 pub use parts::{Here, Parts, where_now};
-pub use pausing::{go_by_moves, pause};
 pub use passing::pass_steps;
+pub use pausing::{go_by_moves, pause};
 pub use plain::plain_steps;
 pub use raising::raise;
 pub use resolving::line_of;

@@ -1,12 +1,10 @@
 //! The original code of a program, prepared: what stands at each offset is looked up once, and is
 //! found by its offset from then on.
 
-ghost use Rattle.std.specs.Prelude.{ℕ, ◌≡◌, ◌<◌, ◌^◌, ◌++◌, List, Some, length, slice_get};
-ghost use Rattle.std.specs.Prelude.{is_some, false, true};
+ghost use Rattle.std.specs.Prelude.{ℕ, ◌≡◌, ◌<◌, ◌^◌, ◌++◌, length, slice_get, is_some, true};
 ghost use Rattle.std.specs.Prelude.{IfNone, IfOk, OnErr, OnOk};
 ghost use Rattle.std.specs.Option.{option_and_then, option_copied, option_map, IfSome};
 ghost use Rattle.class_linker.specs.Linkers.{IsLoaded};
-ghost use Rattle.frame_stack.specs.FrameLists.{top_operands};
 ghost use Rattle.jvm_model.specs.Families.{family_of};
 ghost use Rattle.jvm_model.specs.KindNumbers.{user_count};
 ghost use Rattle.jvm_model.specs.Load.{load_of};
@@ -14,15 +12,13 @@ ghost use Rattle.jvm_model.specs.Naming.{resolved_kind};
 ghost use Rattle.jvm_model.specs.Programs.{max_stack_of, max_locals_of, params_of_method};
 ghost use Rattle.jvm_model.specs.SharedState.{built_in_from, kind_for, string};
 ghost use Rattle.jvm_named.specs.Answers.{Answers, Moves, Shares, found_view, wrote_by};
-ghost use Rattle.jvm_named.specs.Answers.{answer_by, answer_view, done_on, frames_by, shared_by};
-ghost use Rattle.jvm_named.specs.Attempts.{attempts, is_loaded, loaded_for, loads_nothing};
+ghost use Rattle.jvm_named.specs.Answers.{answer_by, answer_view, frames_by, shared_by};
+ghost use Rattle.jvm_named.specs.Attempts.{attempts, is_loaded, loaded_for};
 ghost use Rattle.jvm_named.specs.Attempts.{shared_loaded, world_over};
 ghost use Rattle.jvm_named.specs.Known.{IsKnown};
 ghost use Rattle.jvm_named.specs.Natives.{HasBuiltIn};
 ghost use Rattle.jvm_named.specs.Numbers.{AreNumbers};
-ghost use Rattle.jvm_named.specs.Passing.{HasPassed};
 ghost use Rattle.jvm_named.specs.Objects.{AreLoaded, HasDimensions, HasLoadedCaller};
-ghost use Rattle.jvm_steps.specs.Acts.{is_named};
 ghost use Rattle.jvm_steps.specs.Tables.{Adds, AreAllCurrent, Releases, version_at};
 ghost use Rattle.jvm_steps.specs.Kept.{IsLater};
 ghost use Rattle.jvm_steps.specs.Lines.{IfNamed, IfNamedBy};
@@ -56,8 +52,7 @@ use frame_stack::Frames;
 use jf_bytes::{NoMemory, Seq};
 use jvm_model::{Mark, Program, Shared};
 use jvm_named::{
-    Asked, Known, MethodNumbers, Refusal, attempt, attempt_known, attempt_loaded, pass_field,
-    resolve,
+    Asked, Known, MethodNumbers, Refusal, attempt, attempt_known, attempt_loaded, resolve,
 };
 use std::alloc::Global;
 use std::marker::Model;
@@ -317,36 +312,6 @@ fn attempt_line_known(
             alloc, linker, numbers, shared, frames, input, output, naming, next, known,
         ),
         _ => Ok(Asked::Refused(Refusal::Breaks)),
-    }
-}
-
-/// An access of a field at a line, where it is known what its names come to. False, with nothing changed, where anything but that the
-/// frame goes on would come.
-#[inline(always)]
-fn pass_line(
-    linker: &Linker,
-    line: &Line,
-    known: &Known,
-    shared: &mut Shared,
-    frames: &mut Frames,
-) -> bool
-    requires linked { linker.now.loaded ≡ shared.old.loaded }
-    requires objects { AreLoaded linker.now shared.old.heap }
-    requires known { IfNamedBy line.now.action line.now.next
-        (λ n next. IsKnown linker.now n known.now) }
-    ensures named { result ≡ true → is_named line.now.action ≡ true }
-    ensures passed { (input : List ℕ) → let w = world_over linker.now input in
-        IfNamedBy line.now.action line.now.next (λ n next. result ≡ true → HasPassed
-        (done_on (attempts w n shared.old frames.old) frames.old) next frames.old frames.new
-        shared.new) }
-    ensures loads { IfNamedBy line.now.action line.now.next (λ n next. loads_nothing
-        linker.now.program shared.old.loaded n (top_operands frames.old.frames) ≡ true) }
-    ensures frames { result ≡ false → frames.new ≡ frames.old }
-    ensures shared { result ≡ false → shared.new ≡ shared.old }
-{
-    match &line.action {
-        Action::Named(naming) => pass_field(linker, shared, frames, naming, line.next, known),
-        _ => false,
     }
 }
 
@@ -754,34 +719,15 @@ impl Originals {
         Ok(asked)
     }
 
-    /// An access of a field at a line, where it is known what its names come to. False, with nothing changed, where anything but that
-    /// the frame goes on would come, or nothing is known.
+    /// What is known of the names of the line at a place of a version.
     #[inline(always)]
-    pub fn pass_field(
-        &self,
-        version: usize,
-        place: u16,
-        line: &Line,
-        shared: &mut Shared,
-        frames: &mut Frames,
-    ) -> bool
-        requires linked { self.now.loaded ≡ shared.old.loaded }
-        requires objects { AreLoaded (linker_in self.now) shared.old.heap }
-        requires line { line_at self.now.setup.versions version place ≡ Some line.now }
-        ensures named { result ≡ true → is_named line.now.action ≡ true }
-        ensures passed { let w = self.now.setup.world in
-            IfNamedBy line.now.action line.now.next (λ n next. result ≡ true → HasPassed
-            (done_on (attempts w n shared.old frames.old) frames.old) next frames.old frames.new
-            shared.new) }
-        ensures loads { let w = self.now.setup.world in
-            IfNamedBy line.now.action line.now.next (λ n next. result ≡ true
-            → is_loaded w n shared.old frames.old ≡ true) }
-        ensures frames { result ≡ false → frames.new ≡ frames.old }
-        ensures shared { result ≡ false → shared.new ≡ shared.old }
+    pub fn known(&self, version: usize, place: u16) -> Option<&Known>
+        ensures { IfSome result (λ k. IfNamed (line_at self.now.setup.versions version place)
+            (λ n next. IsKnown (linker_in self.now) n k.now)) }
     {
         let Some(known) = self.cells.at(version, place) else {
-            return false;
+            return None;
         };
-        pass_line(&self.linker, line, known, shared, frames)
+        Some(known)
     }
 }

@@ -139,7 +139,13 @@ pub fn step(
 }
 
 /// Steps from which nothing follows, at most so many: how many it has made.
-fn step_plainly(originals: &Originals, parts: &mut Parts, markers: &Stack<Marker>, most: u64) -> u64
+fn step_plainly(
+    alloc: Global,
+    originals: &Originals,
+    parts: &mut Parts,
+    markers: &Stack<Marker>,
+    most: u64,
+) -> u64
     requires run { CanRun originals.now.setup }
     requires linked { originals.now.loaded ≡ parts.old.shared.loaded }
     requires sound { IsSoundIn originals.now.setup (state_of markers.now parts.old) }
@@ -153,7 +159,7 @@ fn step_plainly(originals: &Originals, parts: &mut Parts, markers: &Stack<Marker
     if parts.thrown.is_some() || !is_unmarked(parts, markers) {
         return 0;
     }
-    pass_steps(originals, parts, markers, most)
+    pass_steps(alloc, originals, parts, markers, most)
 }
 
 /// One step or more, at most so many: how many it has made.
@@ -176,7 +182,7 @@ fn step_on(
     ensures made { IfOk result (λ n. Leads originals.old.setup (state_of markers.old parts.old) n
         (state_of markers.new parts.new)) }
 {
-    let plain = step_plainly(originals, parts, markers, most);
+    let plain = step_plainly(alloc, originals, parts, markers, most);
     if plain == most {
         return Ok(plain);
     }

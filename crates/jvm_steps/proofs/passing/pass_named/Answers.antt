@@ -1,0 +1,27 @@
+use Rattle.std.proofs.Common.{◌≡◌, true, Some, sym, ap, subst, ◌∙◌}
+use Rattle.std.specs.Prelude.{IfSome}
+use Rattle.frame_stack.specs.FrameLists.{top_operands}
+use Rattle.class_linker.specs.Linkers.{LinkerView}
+use Rattle.jvm_named.specs.Answers.{done_on}
+use Rattle.jvm_named.specs.Attempts.{attempts, loads_nothing, world_over}
+use Rattle.jvm_named.specs.Known.{IsKnown}
+use Rattle.jvm_named.specs.Names.{naming_view}
+use Rattle.jvm_named.specs.Numbers.{AreNumbers}
+use Rattle.jvm_named.specs.Objects.{AreLoaded, HasLoadedCaller}
+use Rattle.jvm_named.specs.Passing.{IfPassed, IsCall}
+use Rattle.jvm_steps.specs.Linked.{linker_in}
+use Rattle.jvm_steps.specs.Versions.{line_at}
+use Rattle.jvm_steps.proofs.PassingCalls.{called-passes}
+use Rattle.jvm_steps.proofs.PassingSteps.{access-passes, held-there, nothing-new}
+use Rattle.jvm_steps.proofs.Sounded.{caller-linked, objects-linked}
+use Rattle.jvm_steps.proofs.passing.pass_named.Goals as goal
+
+pub pass_call-requires-clause-known : goal.pass_call-requires-clause-known
+pass_call-requires-clause-known c =
+    held-there (line_at c.args.originals.now.setup.versions c.args.here.version c.args.here.place) c.args.line.now c.args.naming.now c.requires.line c.requires.named
+    (λ n next. IsKnown (linker_in c.args.originals.now) n c.in-Some.known.now) c.in-Some.ensures
+
+pub pass_access-requires-clause-known : goal.pass_access-requires-clause-known
+pass_access-requires-clause-known c =
+    held-there (line_at c.args.originals.now.setup.versions c.args.here.version c.args.here.place) c.args.line.now c.args.naming.now c.requires.line c.requires.named
+    (λ n next. IsKnown (linker_in c.args.originals.now) n c.in-Some.known.now) c.in-Some.ensures
