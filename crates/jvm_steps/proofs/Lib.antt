@@ -66,3 +66,4 @@ pub mod SilentSteps
 pub mod PassingSteps
 pub mod PassingCalls
 pub mod PassingReturns
+pub mod ReturnLemmas

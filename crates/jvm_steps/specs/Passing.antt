@@ -1,5 +1,5 @@
 -- Several steps of the run that tell nothing, in one activation or in several: what begins or ends in them has no probes.
-use Rattle.std.specs.Prelude.{◌≡◌, ℕ, ◌<◌, Bool, true, false, List, [], ◌∷◌, length, nat_le, Option, None, ◌==◌, ◌||◌}
+use Rattle.std.specs.Prelude.{◌≡◌, ℕ, ◌<◌, ◌-◌, Bool, true, false, List, [], ◌∷◌, length, nat_le, Option, Some, None, ◌==◌, ◌||◌}
 use Rattle.heap_objects.specs.declared.Value.{Value}
 use Rattle.frame_stack.specs.FrameLists.{FramesView, PlacedFrame}
 use Rattle.frame_stack.specs.Widths.{height_of}
@@ -18,11 +18,13 @@ use Rattle.jvm_named.specs.declared.known.Found.{Found}
 use Rattle.jvm_named.specs.declared.known.Found.TheVariants as found
 use Rattle.jvm_steps.specs.declared.markers.Marker.{Marker}
 use Rattle.jvm_steps.specs.declared.parts.Parts.{Parts}
-use Rattle.jvm_steps.specs.Markers.{state_of}
+use Rattle.jvm_model.specs.declared.event.Mark.TheVariants.{Off}
+use Rattle.jvm_steps.specs.declared.parts.Here.{Here}
+use Rattle.jvm_steps.specs.Markers.{marker_on, state_of}
 use Rattle.jvm_steps.specs.Runs.{IsCalm, Leads, steps_from}
 use Rattle.jvm_steps.specs.declared.line.Line.{Line}
 use Rattle.jvm_steps.specs.Tables.{Versions}
-use Rattle.jvm_steps.specs.Versions.{Setup, line_at, mark_of, text_of}
+use Rattle.jvm_steps.specs.Versions.{Setup, line_at, mark_of, next_in, text_of}
 
 -- ---- live activations
 
@@ -91,3 +93,21 @@ can_give v fs = false
 abbrev pub caller_line : Versions → List PlacedFrame → Option Line
 caller_line v (f ∷ g ∷ fs) = line_at v g.version g.place
 caller_line v fs = None
+
+-- of the frame below the top one, the version and the place
+abbrev pub caller_of : List PlacedFrame → Option (ℕ × ℕ)
+caller_of (f ∷ g ∷ fs) = Some (g.version, g.place)
+caller_of fs = None
+
+-- the caller goes on, if there is one that can hold the value
+abbrev pub with_given : Option Value → ℕ → FramesView → FramesView
+with_given v place s = record { frames = given v place s.frames; room = None }
+
+-- where the caller of a frame in this place goes on by a return of which nothing is told
+pub record ReturnsTo (w : Setup) (ms : List Marker) (here : Here) (fs : List PlacedFrame) (next : ℕ) : Type 0 where
+  pub caller : Line
+  pub stands : caller_line w.versions fs ≡ Some caller
+  pub goes_on : next_in caller ≡ Some next
+  pub unmarked : marker_on (length fs - 1) ms ≡ None
+  pub off : mark_of w.versions here.version ≡ Off
+  pub current : is_superseded_in w.versions.slots w.versions.current here.version ≡ false

@@ -1,7 +1,12 @@
 //! Several steps that tell nothing: those of the current frame alone, and between them accesses of fields that raise nothing, and calls
 //! of methods whose current version has no probes, both by what their names came to.
 
-ghost use Rattle.std.specs.Prelude.{◌≡◌, ◌≤◌, true, false, length, Some};
+ghost use Rattle.std.specs.Prelude.{◌≡◌, ◌≤◌, true, false, length, IfSome, Some};
+ghost use Rattle.std.specs.Option.{option_map};
+ghost use Rattle.frame_stack.specs.FrameLists.{top_operands};
+ghost use Rattle.jvm_model.specs.Data.{Returns};
+ghost use Rattle.jvm_model.specs.LocalRules.{returns};
+ghost use Rattle.jvm_model.specs.Values.{as_value};
 ghost use Rattle.jvm_model.specs.declared.event.Mark.TheVariants.{Off};
 ghost use Rattle.jvm_named.specs.Known.{IsKnown};
 ghost use Rattle.jvm_named.specs.Names.{naming_view};
@@ -10,7 +15,7 @@ ghost use Rattle.jvm_steps.specs.Arguments.{can_begin, with_begun};
 ghost use Rattle.jvm_steps.specs.Invoking.{may_begin};
 ghost use Rattle.jvm_steps.specs.Linked.{linker_in};
 ghost use Rattle.jvm_steps.specs.Markers.{state_of};
-ghost use Rattle.jvm_steps.specs.Passing.{Passes, is_method, on_frames, steps_if};
+ghost use Rattle.jvm_steps.specs.Passing.{Passes, ReturnsTo, is_method, on_frames, steps_if};
 ghost use Rattle.jvm_steps.specs.Ready.{CanRun, IsSoundIn};
 ghost use Rattle.jvm_steps.specs.Runs.{IsCalm};
 ghost use Rattle.jvm_steps.specs.States.{here_of};
@@ -18,10 +23,14 @@ ghost use Rattle.jvm_steps.specs.Versions.{current_of, line_at, mark_of};
 
 use crate::invoking::{begin_frame, may_begin};
 use crate::line::{Action, Line};
-use crate::markers::Marker;
+use crate::going::{next_in, top_datum, value_of};
+use crate::markers::{Marker, marker_on};
 use crate::originals::Originals;
 use crate::parts::{Here, Parts, where_now};
 use crate::plain::plain_steps;
+use const_pool::Kind;
+use frame_stack::Frames;
+use heap_objects::{Datum, Value};
 use jf_bytes::Stack;
 use jvm_model::Mark;
 use jvm_named::{Call, Found, Known, Naming, known_call, pass_field};
@@ -128,6 +137,90 @@ fn pass_access(
     )
 }
 
+// ---- a return
+
+/// The value that a datum is, if there is one.
+fn value_given(datum: Option<Datum>) -> Option<Value>
+    ensures { result ≡ option_map as_value datum }
+{
+    match datum {
+        Some(datum) => Some(value_of(datum)),
+        None => None,
+    }
+}
+
+/// What a return gives back, where its operand is of the kind.
+fn result_of(frames: &Frames, kind: Option<Kind>) -> Option<Option<Datum>>
+    ensures { IfSome result (λ d. returns kind (top_operands frames.now.frames) ≡ Returns d) }
+{
+    let Some(kind) = kind else {
+        return Some(None);
+    };
+    let Some(datum) = top_datum(frames, kind) else {
+        return None;
+    };
+    Some(Some(datum))
+}
+
+/// Where the caller of the current frame goes on. None where nothing does, where an initialization stands on it, or where the frame's
+/// version has probes, or is not its method's current one.
+fn returns_to(
+    originals: &Originals,
+    frames: &Frames,
+    markers: &Stack<Marker>,
+    here: Here,
+) -> Option<u16>
+    ensures { let w = originals.now.setup in
+        IfSome result (λ next. ReturnsTo w markers.now here frames.now.frames next) }
+{
+    if !is_off(originals.mark(here.version)) {
+        return None;
+    }
+    if !originals.is_current(here.version) {
+        return None;
+    }
+    let depth = frames.depth();
+    if depth < 2 {
+        return None;
+    }
+    if marker_on(markers, depth - 1).is_some() {
+        return None;
+    }
+    let Some((version, place)) = frames.caller() else {
+        return None;
+    };
+    let Some(line) = originals.line(version, place) else {
+        return None;
+    };
+    next_in(line)
+}
+
+/// A return.
+#[tactic(auto, using(crate::proofs::SilentSteps::passes_none))]
+fn pass_return(
+    originals: &Originals,
+    parts: &mut Parts,
+    markers: &Stack<Marker>,
+    here: Here,
+    line: &Line,
+    kind: Option<Kind>,
+) -> bool
+    requires run { CanRun originals.now.setup }
+    requires calm { IsCalm (length parts.old.frames.frames) markers.now parts.old }
+    requires here { here_of parts.old.frames.frames ≡ Some here }
+    requires line { line_at originals.now.setup.versions here.version here.place ≡ Some line.now }
+    requires ends { line.now.action ≡ action.Return kind }
+    ensures { Passes originals.now.setup markers.now parts.old (steps_if result) parts.new }
+{
+    let Some(next) = returns_to(originals, &parts.frames, markers, here) else {
+        return false;
+    };
+    let Some(datum) = result_of(&parts.frames, kind) else {
+        return false;
+    };
+    parts.frames.give_back(value_given(datum), next)
+}
+
 // ---- a step
 
 /// Whether what is known is of a method.
@@ -193,10 +286,13 @@ fn pass_line(
     let Some(line) = originals.line(here.version, here.place) else {
         return false;
     };
-    let Action::Named(naming) = &line.action else {
-        return false;
-    };
-    pass_named(alloc, originals, parts, markers, here, line, naming)
+    match &line.action {
+        Action::Named(naming) => pass_named(
+            alloc, originals, parts, markers, here, line, naming,
+        ),
+        Action::Return(kind) => pass_return(originals, parts, markers, here, line, *kind),
+        _ => false,
+    }
 }
 
 /// Steps from which nothing follows, and of which nothing is told, at most so many: how many it has made.

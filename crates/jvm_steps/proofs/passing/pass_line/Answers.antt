@@ -7,3 +7,9 @@ pass_named-requires-clause-here c = sym c.where_now.ensures ∙ c.in-Some.is
 
 pub pass_named-requires-clause-line : goal.pass_named-requires-clause-line
 pass_named-requires-clause-line c = sym c.line.ensures.line ∙ ap option_copied c.in-Some-line.is
+
+pub pass_return-requires-clause-here : goal.pass_return-requires-clause-here
+pass_return-requires-clause-here c = sym c.where_now.ensures ∙ c.in-Some.is
+
+pub pass_return-requires-clause-line : goal.pass_return-requires-clause-line
+pass_return-requires-clause-line c = sym c.line.ensures.line ∙ ap option_copied c.in-Some-line.is
