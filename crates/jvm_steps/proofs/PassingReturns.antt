@@ -36,7 +36,7 @@ use Rattle.jvm_steps.specs.declared.parts.Here.{Here}
 use Rattle.jvm_steps.specs.declared.parts.Parts.{Parts}
 use Rattle.jvm_steps.specs.Acts.{acts, acts_by, attempts_on, gives_back_line, is_named, named_in, on_parts, on_top, resumes_line, returns_or_ends}
 use Rattle.jvm_steps.specs.Markers.{marker_on, stack_of, state_of, with_markers}
-use Rattle.jvm_steps.specs.Passing.{AreKeptBy, Passes, caller_line, can_give, given, on_frames, runs}
+use Rattle.jvm_steps.specs.Passing.{AreKeptBy, Passes, caller_line, fits_given, given, on_frames, runs}
 use Rattle.jvm_steps.specs.Ready.{CanRun}
 use Rattle.jvm_steps.specs.Runs.{IsCalm}
 use Rattle.jvm_steps.specs.States.{active, frame_in, here_of, state_in, state_with}
@@ -58,7 +58,7 @@ pub record GivesBack (w : Setup) (ms : List Marker) (here : Here) (k : Option Ki
   pub caller : Line
   pub stands : caller_line w.versions fs ≡ Some caller
   pub goes_on : next_in caller ≡ Some next
-  pub holds : can_give (option_map as_value d) fs ≡ true
+  pub holds : fits_given (option_map as_value d) fs ≡ true
   pub unmarked : marker_on (length fs - 1) ms ≡ None
   pub off : mark_of w.versions here.version ≡ Off
   pub current : is_superseded_in w.versions.slots w.versions.current here.version ≡ false

@@ -1,14 +1,15 @@
 -- What the code of a return finds is what its law asks.
-use Rattle.std.proofs.Common.{◌≡◌, ℕ, ◌-◌, Bool, true, false, cond, List, [], ◌∷◌, length, Option, Some, None, refl, sym, ap, subst, ◌∙◌, eqb-true}
-use Rattle.std.specs.Prelude.{not, ◌==◌}
+use Rattle.std.proofs.Common.{◌≡◌, ℕ, ◌+◌, ◌-◌, Bool, true, false, cond, List, [], ◌∷◌, length, Option, Some, None, refl, sym, ap, subst, ◌∙◌, arith}
+use Rattle.std.specs.Prelude.{not, nat_le, ◌==◌}
 use Rattle.std.specs.Option.{IfSome, option_map, option_map_or}
-use Rattle.std.proofs.lemmas.Bool.{eq-eqb, false≢true}
+use Rattle.std.proofs.lemmas.Bool.{false≢true, le-leb}
 use Rattle.std.proofs.lemmas.Option.{none-some, same_Some}
 use Rattle.heap_objects.specs.declared.datum.Datum.{Datum}
 use Rattle.heap_objects.specs.declared.Value.{Value}
 use Rattle.heap_objects.specs.Changes.{changed_if}
 use Rattle.const_pool.specs.declared.descriptor.Kind.{Kind}
-use Rattle.frame_stack.specs.FrameLists.{FramesView, PlacedFrame, top_operands}
+use Rattle.frame_stack.specs.FrameLists.{AreSound, FramesView, PlacedFrame, top_operands}
+use Rattle.frame_stack.specs.Widths.{height_of, width}
 use Rattle.method_versions.specs.Tables.{current_in, held_in, is_number, is_old, is_superseded_in}
 use Rattle.jvm_model.specs.declared.event.Mark.TheVariants.{Off}
 use Rattle.jvm_model.specs.Data.{Returns}
@@ -20,7 +21,7 @@ use Rattle.jvm_steps.specs.declared.markers.Marker.{Marker}
 use Rattle.jvm_steps.specs.declared.parts.Here.{Here}
 use Rattle.jvm_steps.specs.declared.parts.Parts.{Parts}
 use Rattle.jvm_steps.specs.Markers.{marker_on}
-use Rattle.jvm_steps.specs.Passing.{Passes, ReturnsTo, caller_line, caller_of, can_give, given, on_frames, steps_if, with_given}
+use Rattle.jvm_steps.specs.Passing.{Passes, ReturnsTo, caller_line, caller_of, can_give, fits_given, given, on_frames, steps_if, with_given}
 use Rattle.jvm_steps.specs.Ready.{CanRun}
 use Rattle.jvm_steps.specs.Runs.{IsCalm}
 use Rattle.jvm_steps.specs.States.{here_of}
@@ -52,23 +53,38 @@ returns-there w ms here fs line None is stands unmarked off current = tt
 returns-there w ms here fs line (Some next) is stands unmarked off current =
     record { caller = line; stands = stands; goes_on = sym is; unmarked = unmarked; off = off; current = current }
 
+-- the caller's operands are within its limit with the value, where they are without
+fits-by : (v : Option Value) (fs : List PlacedFrame) → AreSound fs → can_give v fs ≡ true → fits_given v fs ≡ true
+fits-by v [] sound can = absurd (false≢true (by v can)) where
+  by : (v : Option Value) → can_give v [] ≡ true → false ≡ true
+  by None e = e
+  by (Some x) e = e
+fits-by v (f ∷ []) sound can = absurd (false≢true (by v can)) where
+  by : (v : Option Value) → can_give v (f ∷ []) ≡ true → false ≡ true
+  by None e = e
+  by (Some x) e = e
+fits-by None (f ∷ g ∷ fs) sound can = le-leb (height_of g.operands) g.max_stack sound.1.0.operands
+fits-by (Some x) (f ∷ g ∷ fs) sound can =
+    let same : width x + height_of g.operands ≡ height_of g.operands + width x = omega arith in
+    ap (λ n. nat_le n g.max_stack) same ∙ can
+
 pub gives-passes : (w : Setup) (run : CanRun w) (ms : List Marker) (here : Here) (line : Line) (k : Option Kind) (old : Parts) (stands : here_of old.frames.frames ≡ Some here)
     (found : line_at w.versions here.version here.place ≡ Some line) (ends : line.action ≡ action.Return k) (calm : IsCalm (length old.frames.frames) ms old)
-    (d : Option Datum) (next : ℕ) (v : Option Value) (b : Bool) (frames : FramesView) → ReturnsTo w ms here old.frames.frames next
+    (d : Option Datum) (next : ℕ) (v : Option Value) (b : Bool) (frames : FramesView) → AreSound old.frames.frames → ReturnsTo w ms here old.frames.frames next
     → returns k (top_operands old.frames.frames) ≡ Returns d → v ≡ option_map as_value d → b ≡ can_give v old.frames.frames
     → frames ≡ changed_if b (with_given v next) old.frames → Passes w ms old (steps_if b) (on_frames frames old)
-gives-passes w run ms here line k old stands found ends calm d next v true frames to result value can are =
+gives-passes w run ms here line k old stands found ends calm d next v true frames sound to result value can are =
     let gives : GivesBack w ms here k old.frames.frames d next = record {
       result = result;
       caller = to.caller;
       stands = to.stands;
       goes_on = to.goes_on;
-      holds = ap (λ x. can_give x old.frames.frames) (sym value) ∙ sym can;
+      holds = ap (λ x. fits_given x old.frames.frames) (sym value) ∙ fits-by v old.frames.frames sound (sym can);
       unmarked = to.unmarked;
       off = to.off;
       current = to.current;
     } in
     return-passes w run ms here line k old stands found ends calm d next gives frames
     (ap (λ (f : FramesView). f.frames) are ∙ ap (λ x. given x next old.frames.frames) value)
-gives-passes w run ms here line k old stands found ends calm d next v false frames to result value can are =
+gives-passes w run ms here line k old stands found ends calm d next v false frames sound to result value can are =
     subst (λ (f : FramesView). Passes w ms old 0 (on_frames f old)) (sym are) (passes_none w ms old calm)

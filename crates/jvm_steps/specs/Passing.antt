@@ -1,8 +1,8 @@
 -- Several steps of the run that tell nothing, in one activation or in several: what begins or ends in them has no probes.
-use Rattle.std.specs.Prelude.{◌≡◌, ℕ, ◌<◌, ◌-◌, Bool, true, false, List, [], ◌∷◌, length, nat_le, Option, Some, None, ◌==◌, ◌||◌}
+use Rattle.std.specs.Prelude.{◌≡◌, ℕ, ◌<◌, ◌+◌, ◌-◌, Bool, true, false, List, [], ◌∷◌, length, nat_le, Option, Some, None, ◌==◌, ◌||◌}
 use Rattle.heap_objects.specs.declared.Value.{Value}
 use Rattle.frame_stack.specs.FrameLists.{FramesView, PlacedFrame}
-use Rattle.frame_stack.specs.Widths.{height_of}
+use Rattle.frame_stack.specs.Widths.{height_of, width}
 use Rattle.method_versions.specs.Tables.{is_superseded_in}
 use Rattle.jvm_model.specs.declared.due.Due.{Due}
 use Rattle.jvm_model.specs.declared.due.Due.TheVariants.{Nothing}
@@ -85,8 +85,14 @@ given v place (f ∷ g ∷ fs) = record g { place = place; operands = with_value
 given v place fs = fs
 
 -- there is a caller, and its operands are within its limit then
+abbrev pub fits_given : Option Value → List PlacedFrame → Bool
+fits_given v (f ∷ g ∷ fs) = nat_le (height_of (with_value v g.operands)) g.max_stack
+fits_given v fs = false
+
+-- the same, where they were before
 abbrev pub can_give : Option Value → List PlacedFrame → Bool
-can_give v (f ∷ g ∷ fs) = nat_le (height_of (with_value v g.operands)) g.max_stack
+can_give None (f ∷ g ∷ fs) = true
+can_give (Some v) (f ∷ g ∷ fs) = nat_le (height_of g.operands + width v) g.max_stack
 can_give v fs = false
 
 -- what stands where the caller does

@@ -32,6 +32,7 @@ use const_pool::Kind;
 use frame_stack::Frames;
 use heap_objects::{Datum, Value};
 use jf_bytes::Stack;
+use jvm_basic::recall;
 use jvm_model::Mark;
 use jvm_named::{Call, Found, Known, Naming, known_call, pass_field};
 use std::alloc::Global;
@@ -218,6 +219,7 @@ fn pass_return(
     let Some(datum) = result_of(&parts.frames, kind) else {
         return false;
     };
+    recall(&parts.frames);
     parts.frames.give_back(value_given(datum), next)
 }
 
