@@ -135,7 +135,7 @@ module _ (w : Setup) (run : CanRun w) (ms : List Marker) (here : Here) (line : L
       let s : State = with_markers ms (state_with (f ∷ g ∷ fs) old) in
       let u : State = with_markers ms (state_with (g ∷ fs) old) in
       let i : Instruction = instruction_in line in
-      let same : record { version = f.version; method = f.method; place = f.place } ≡ here = same_Some _ here_is in
+      let same : record { version = f.version; method = f.method; place = f.place } ≡ here = same_Some _ here here_is in
       let at : line_at w.versions f.version f.place ≡ Some line = ap (λ (h : Here). line_at w.versions h.version h.place) same ∙ found in
       let gone : Turn = record { after = gives_back t (beneath_caller (g ∷ fs)) d (stack_of (map active (g ∷ fs)) ms); changes = Left ∷ [] } in
       ap (λ (x : Turn). x.changes)
@@ -152,7 +152,7 @@ module _ (w : Setup) (run : CanRun w) (ms : List Marker) (here : Here) (line : L
   loads-none (f ∷ fs) here_is free =
       let s : State = with_markers ms (state_with (f ∷ fs) old) in
       let u : State = record s { stack = stack_of (map active fs) ms } in
-      let same : record { version = f.version; method = f.method; place = f.place } ≡ here = same_Some _ here_is in
+      let same : record { version = f.version; method = f.method; place = f.place } ≡ here = same_Some _ here here_is in
       let at : line_at w.versions f.version f.place ≡ Some line = ap (λ (h : Here). line_at w.versions h.version h.place) same ∙ found in
       ap (λ e. loads_on w.world t s e s.stack) calm.ending
       ∙ (ap (λ es. loads_on w.world t s None es) (top-frame ms f fs free)
@@ -165,7 +165,7 @@ module _ (w : Setup) (run : CanRun w) (ms : List Marker) (here : Here) (line : L
       → (stop_in (mark_now marks t) 0 (helds marks (stack_of (map active fs) ms)) (Left ∷ [])).due ≡ Nothing
   due-by [] here_is free off = absurd (none-some here here_is)
   due-by (f ∷ fs) here_is free off =
-      let same : record { version = f.version; method = f.method; place = f.place } ≡ here = same_Some _ here_is in
+      let same : record { version = f.version; method = f.method; place = f.place } ≡ here = same_Some _ here here_is in
       let more : List Held = helds marks (stack_of (map active fs) ms) in
       let mine : marks f.version ≡ Off = ap (λ (h : Here). marks h.version) same ∙ off in
       ap (λ es. (stop_in (mark_now marks t) 0 (helds marks es) (Left ∷ [])).due) (top-frame ms f fs free)
@@ -177,7 +177,7 @@ module _ (w : Setup) (run : CanRun w) (ms : List Marker) (here : Here) (line : L
   keeps-by [] here_is free is version superseded runs_old = absurd (false≢true is.holds)
   keeps-by (f ∷ []) here_is free is version superseded runs_old = absurd (false≢true is.holds)
   keeps-by (f ∷ g ∷ fs) here_is free is version superseded runs_old =
-      let same : record { version = f.version; method = f.method; place = f.place } ≡ here = same_Some _ here_is in
+      let same : record { version = f.version; method = f.method; place = f.place } ≡ here = same_Some _ here here_is in
       let rest : List Entry = stack_of (map active fs) ms in
       let below : stack_of (map active (g ∷ fs)) ms ≡ active g ∷ rest = top-frame ms g fs (on-caller f g fs is.unmarked) in
       let g2 : PlacedFrame = record g { place = next; operands = with_value (option_map as_value d) g.operands } in

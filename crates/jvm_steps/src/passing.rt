@@ -75,7 +75,6 @@ fn begin_call(originals: &Originals, parts: &mut Parts, call: Call) -> bool
 }
 
 /// An invocation by what its names came to.
-#[tactic(auto, using(crate::proofs::SilentSteps::passes_none))]
 fn pass_call(
     alloc: Global,
     originals: &Originals,
@@ -197,7 +196,6 @@ fn returns_to(
 }
 
 /// A return.
-#[tactic(auto, using(crate::proofs::SilentSteps::passes_none))]
 fn pass_return(
     originals: &Originals,
     parts: &mut Parts,
@@ -238,7 +236,6 @@ fn is_method(known: &Known) -> bool
 }
 
 /// A step by a line that names something. Nothing of the run is changed where the answer is false.
-#[tactic(auto, using(crate::proofs::SilentSteps::passes_none))]
 fn pass_named(
     alloc: Global,
     originals: &Originals,
@@ -269,7 +266,6 @@ fn pass_named(
 
 /// A step by the line at which the current frame stands, where that tells nothing. Nothing of the run is changed where the answer is
 /// false: the line does something else, or raises something, or nothing is known of its names.
-#[tactic(auto, using(crate::proofs::SilentSteps::passes_none))]
 fn pass_line(
     alloc: Global,
     originals: &Originals,

@@ -14,6 +14,7 @@ use Rattle.jvm_steps.specs.Versions.{line_at}
 use Rattle.jvm_steps.proofs.PassingCalls.{called-passes}
 use Rattle.jvm_steps.proofs.PassingSteps.{access-passes, held-there, nothing-new}
 use Rattle.jvm_steps.proofs.Sounded.{caller-linked, objects-linked}
+use Rattle.jvm_steps.proofs.SilentSteps.{passes_none}
 use Rattle.jvm_steps.proofs.passing.pass_call.Goals as goal
 
 pub known_call-requires-clause-linked : goal.known_call-requires-clause-linked
@@ -52,3 +53,6 @@ returns c =
     called-passes w c.requires.run c.args.markers.now c.args.here c.args.line.now c.args.naming.now p c.requires.here c.requires.line c.requires.named c.requires.calm nothing
     c.in-Some.call c.begin_call.result c.begin_call.new.parts call c.begin_call.ensures.few c.begin_call.ensures.fits c.begin_call.ensures.off c.begin_call.ensures.frames
     c.begin_call.ensures.same
+
+pub returns-in_default : goal.returns-in_default
+returns-in_default c = passes_none c.args.originals.now.setup c.args.markers.now c.args.parts.now c.requires.calm
