@@ -36,7 +36,7 @@ use Rattle.jvm_steps.specs.declared.parts.Here.{Here}
 use Rattle.jvm_steps.specs.declared.parts.Parts.{Parts}
 use Rattle.jvm_steps.specs.Acts.{acts, acts_by, attempts_on, gives_back_line, is_named, named_in, on_parts, on_top, resumes_line, returns_or_ends}
 use Rattle.jvm_steps.specs.Markers.{marker_on, stack_of, state_of, with_markers}
-use Rattle.jvm_steps.specs.Passing.{AreKeptBy, Passes, caller_line, fits_given, given, on_frames, runs}
+use Rattle.jvm_steps.specs.Passing.{AreKeptBy, Passes, caller_line, fits_given, gone_back, on_frames, runs}
 use Rattle.jvm_steps.specs.Ready.{CanRun}
 use Rattle.jvm_steps.specs.Runs.{IsCalm}
 use Rattle.jvm_steps.specs.States.{active, frame_in, here_of, state_in, state_with}
@@ -73,7 +73,7 @@ module _ (w : Setup) (run : CanRun w) (ms : List Marker) (here : Here) (line : L
   marks = mark_of w.versions
 
   abbrev back : List PlacedFrame → List PlacedFrame
-  back fs = given (option_map as_value d) next fs
+  back fs = gone_back (option_map as_value d) next fs
 
   -- ---- the state behind it
 

@@ -9,19 +9,20 @@ use Rattle.heap_objects.specs.declared.Value.{Value}
 use Rattle.heap_objects.specs.Changes.{changed_if}
 use Rattle.const_pool.specs.declared.descriptor.Kind.{Kind}
 use Rattle.frame_stack.specs.FrameLists.{AreSound, FramesView, PlacedFrame, top_operands}
+use Rattle.frame_stack.specs.FrameLists.{caller_of, can_give, given, with_given, with_result}
 use Rattle.frame_stack.specs.Widths.{height_of, width}
 use Rattle.method_versions.specs.Tables.{current_in, held_in, is_number, is_old, is_superseded_in}
 use Rattle.jvm_model.specs.declared.event.Mark.TheVariants.{Off}
-use Rattle.jvm_model.specs.Data.{Returns}
+use Rattle.jvm_model.specs.Data.{Operands, Returns}
 use Rattle.jvm_model.specs.LocalRules.{returns}
-use Rattle.jvm_model.specs.Values.{as_value}
+use Rattle.jvm_model.specs.Values.{as_value, with_value}
 use Rattle.jvm_steps.specs.declared.line.Action.TheVariants as action
 use Rattle.jvm_steps.specs.declared.line.Line.{Line}
 use Rattle.jvm_steps.specs.declared.markers.Marker.{Marker}
 use Rattle.jvm_steps.specs.declared.parts.Here.{Here}
 use Rattle.jvm_steps.specs.declared.parts.Parts.{Parts}
 use Rattle.jvm_steps.specs.Markers.{marker_on}
-use Rattle.jvm_steps.specs.Passing.{Passes, ReturnsTo, caller_line, caller_of, can_give, fits_given, given, on_frames, steps_if, with_given}
+use Rattle.jvm_steps.specs.Passing.{Passes, ReturnsTo, caller_line, fits_given, gone_back, on_frames, steps_if}
 use Rattle.jvm_steps.specs.Ready.{CanRun}
 use Rattle.jvm_steps.specs.Runs.{IsCalm}
 use Rattle.jvm_steps.specs.States.{here_of}
@@ -68,6 +69,15 @@ fits-by (Some x) (f ∷ g ∷ fs) sound can =
     let same : width x + height_of g.operands ≡ height_of g.operands + width x = omega arith in
     ap (λ n. nat_le n g.max_stack) same ∙ can
 
+same-result : (v : Option Value) (o : Operands) → with_result v o ≡ with_value v o
+same-result None o = refl
+same-result (Some x) o = refl
+
+same-back : (v : Option Value) (next : ℕ) (fs : List PlacedFrame) → fits_given v fs ≡ true → given v next fs ≡ gone_back v next fs
+same-back v next [] fits = absurd (false≢true fits)
+same-back v next (f ∷ []) fits = absurd (false≢true fits)
+same-back v next (f ∷ g ∷ fs) fits = ap (λ o. record g { place = next; operands = o } ∷ fs) (same-result v g.operands)
+
 pub gives-passes : (w : Setup) (run : CanRun w) (ms : List Marker) (here : Here) (line : Line) (k : Option Kind) (old : Parts) (stands : here_of old.frames.frames ≡ Some here)
     (found : line_at w.versions here.version here.place ≡ Some line) (ends : line.action ≡ action.Return k) (calm : IsCalm (length old.frames.frames) ms old)
     (d : Option Datum) (next : ℕ) (v : Option Value) (b : Bool) (frames : FramesView) → AreSound old.frames.frames → ReturnsTo w ms here old.frames.frames next
@@ -85,6 +95,7 @@ gives-passes w run ms here line k old stands found ends calm d next v true frame
       current = to.current;
     } in
     return-passes w run ms here line k old stands found ends calm d next gives frames
-    (ap (λ (f : FramesView). f.frames) are ∙ ap (λ x. given x next old.frames.frames) value)
+    (ap (λ (f : FramesView). f.frames) are
+    ∙ (same-back v next old.frames.frames (fits-by v old.frames.frames sound (sym can)) ∙ ap (λ x. gone_back x next old.frames.frames) value))
 gives-passes w run ms here line k old stands found ends calm d next v false frames sound to result value can are =
     subst (λ (f : FramesView). Passes w ms old 0 (on_frames f old)) (sym are) (passes_none w ms old calm)

@@ -1,8 +1,8 @@
 -- Several steps of the run that tell nothing, in one activation or in several: what begins or ends in them has no probes.
-use Rattle.std.specs.Prelude.{◌≡◌, ℕ, ◌<◌, ◌+◌, ◌-◌, Bool, true, false, List, [], ◌∷◌, length, nat_le, Option, Some, None, ◌==◌, ◌||◌}
+use Rattle.std.specs.Prelude.{◌≡◌, ℕ, ◌<◌, ◌-◌, Bool, true, false, List, [], ◌∷◌, length, nat_le, Option, Some, None, ◌==◌, ◌||◌}
 use Rattle.heap_objects.specs.declared.Value.{Value}
 use Rattle.frame_stack.specs.FrameLists.{FramesView, PlacedFrame}
-use Rattle.frame_stack.specs.Widths.{height_of, width}
+use Rattle.frame_stack.specs.Widths.{height_of}
 use Rattle.method_versions.specs.Tables.{is_superseded_in}
 use Rattle.jvm_model.specs.declared.due.Due.{Due}
 use Rattle.jvm_model.specs.declared.due.Due.TheVariants.{Nothing}
@@ -80,34 +80,19 @@ is_method _ = false
 -- ---- returns
 
 -- the frames where the top one is off, and its caller goes on at a place, with a value on top if there is one
-abbrev pub given : Option Value → ℕ → List PlacedFrame → List PlacedFrame
-given v place (f ∷ g ∷ fs) = record g { place = place; operands = with_value v g.operands } ∷ fs
-given v place fs = fs
+abbrev pub gone_back : Option Value → ℕ → List PlacedFrame → List PlacedFrame
+gone_back v place (f ∷ g ∷ fs) = record g { place = place; operands = with_value v g.operands } ∷ fs
+gone_back v place fs = fs
 
 -- there is a caller, and its operands are within its limit then
 abbrev pub fits_given : Option Value → List PlacedFrame → Bool
 fits_given v (f ∷ g ∷ fs) = nat_le (height_of (with_value v g.operands)) g.max_stack
 fits_given v fs = false
 
--- the same, where they were before
-abbrev pub can_give : Option Value → List PlacedFrame → Bool
-can_give None (f ∷ g ∷ fs) = true
-can_give (Some v) (f ∷ g ∷ fs) = nat_le (height_of g.operands + width v) g.max_stack
-can_give v fs = false
-
 -- what stands where the caller does
 abbrev pub caller_line : Versions → List PlacedFrame → Option Line
 caller_line v (f ∷ g ∷ fs) = line_at v g.version g.place
 caller_line v fs = None
-
--- of the frame below the top one, the version and the place
-abbrev pub caller_of : List PlacedFrame → Option (ℕ × ℕ)
-caller_of (f ∷ g ∷ fs) = Some (g.version, g.place)
-caller_of fs = None
-
--- the caller goes on, if there is one that can hold the value
-abbrev pub with_given : Option Value → ℕ → FramesView → FramesView
-with_given v place s = record { frames = given v place s.frames; room = None }
 
 -- where the caller of a frame in this place goes on by a return of which nothing is told
 pub record ReturnsTo (w : Setup) (ms : List Marker) (here : Here) (fs : List PlacedFrame) (next : ℕ) : Type 0 where
