@@ -95,6 +95,12 @@ spare-fits : (spare : Option ℕ) (at count capacity low n : ℕ) → IfSome spa
 spare-fits None at count capacity low n h t = absurd (false≢true t)
 spare-fits (Some m) at count capacity low n h t = omega (arith, leb-true n m t, h.0)
 
+-- what begins above the caller's operands is within the room that was made
+pub new-limit : (top : Option Entry) (below : List Entry) (below_capacity : ℕ) (slots : List (Option Value)) (capacity : ℕ) (spare : Option ℕ) (base n : ℕ)
+    → IsFlat top below below_capacity slots capacity spare → IsTrue (has_room n spare) → base ≤ length slots → base + n ≤ capacity
+new-limit top below below_capacity slots capacity spare base n h room le =
+    omega (arith, spare-fits spare (top_limit top) (length below) capacity below_capacity n h.room room, length-below-limit top below capacity slots h.frames)
+
 abbrev pub new_entry : ℕ → ℕ → ℕ → ℕ → ℕ → Entry
 new_entry version method base max_locals max_stack =
     record { version = version; method = method; place = 0; base = base; max_locals = max_locals; max_stack = max_stack }

@@ -1,7 +1,7 @@
 -- Where the top frame's operands begin.
-use Rattle.std.proofs.Common.{◌≡◌, ℕ, ◌-◌, ◌≤◌, Bool, true, false, List, length, take, drop, refl, sym, ap, subst, ◌∙◌, arith}
-use Rattle.std.specs.Prelude.{reverse, slice_get, nat_le, if◌then◌else◌, Option, Some, None}
-use Rattle.std.proofs.lemmas.List.{length-drop, length-reverse, length-take-le}
+use Rattle.std.proofs.Common.{◌≡◌, ℕ, ◌-◌, ◌≤◌, Bool, true, false, List, length, take, drop, refl, ap, subst, arith}
+use Rattle.std.specs.Prelude.{reverse, nat_le, if◌then◌else◌, Option, Some, None}
+use Rattle.std.proofs.lemmas.List.{length-drop, length-reverse}
 use Rattle.std.proofs.lemmas.Bool.{leb-true}
 use Rattle.heap_objects.specs.declared.Value.{Value}
 use Rattle.frame_stack.specs.declared.entry.Entry.{Entry}
@@ -10,7 +10,7 @@ use Rattle.frame_stack.specs.FrameLists.{top_operands}
 use Rattle.frame_stack.specs.Cuts.{operands_of, AreOperands, frames_of, AreFrames, entries_in, top_floor}
 use Rattle.frame_stack.proofs.OperandSlots.{AreBelow, below-is}
 use Rattle.frame_stack.proofs.CutBack.{operand-slots-is, length-operand-slots}
-use Rattle.frame_stack.proofs.Passing.{operands_from, HasPassed, ArePassed, are-passed, get-drop}
+use Rattle.frame_stack.proofs.Passing.{operands_from, HasPassed}
 
 pub record HasFloor (low : ℕ) (slots : List (Option Value)) (operands : List Value) : Type 0 where
   pub within : low ≤ length slots
@@ -46,23 +46,3 @@ has-passed low end count slots le are e =
     tells : (b : Bool) (end m count n : ℕ) → nat_le count n ≡ b → Some end ≡ (if b then Some m else None) → (count ≤ n) × (end ≡ m)
     tells true end m count n t e = (leb-true count n t, same end m e)
     tells false end m count n t e = absurd (none end e)
-
--- the operand that ends there
-pub record CanPeek (low end count : ℕ) (slots : List (Option Value)) (operands : List Value) : Type 0 where
-  pub within : low ≤ length (take end slots)
-  pub are : AreOperands (reverse (drop low (take end slots)))
-  pub seen : slice_get (operands_from low (take end slots)) 0 ≡ slice_get operands count
-
-pub can-peek : (top : Option Entry) (below : List Entry) (capacity : ℕ) (slots : List (Option Value)) (end count : ℕ)
-    → AreFrames capacity (entries_in top below) slots
-    → Some end ≡ (if nat_le count (length (operands_from (top_floor top) slots)) then Some (length slots - height_of (take count (operands_from (top_floor top) slots))) else None)
-    → CanPeek (top_floor top) end count slots (top_operands (frames_of (entries_in top below) slots))
-can-peek top below capacity slots end count h e =
-    let low = top_floor top in
-    let f : HasFloor low slots (top_operands (frames_of (entries_in top below) slots)) = has-floor top below capacity slots h in
-    let p : ArePassed low end count slots = are-passed low end count slots f.within f.are (has-passed low end count slots f.within f.are e).at in
-    record {
-      within = omega (arith, p.above, p.within, length-take-le end slots p.within);
-      are = p.are;
-      seen = ap (λ vs. slice_get vs 0) p.operands ∙ (get-drop (operands_from low slots) count ∙ ap (λ vs. slice_get vs count) (sym f.seen));
-    }

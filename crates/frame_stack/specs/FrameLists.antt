@@ -172,3 +172,28 @@ with_new_frame version method max_locals max_stack args s = record {
   frames = new_frame version method max_locals max_stack (arguments args s.frames) ∷ without_arguments args s.frames;
   room = None;
 }
+
+-- ---- back in the caller
+
+-- the version and the place of the frame below the top one
+abbrev pub caller_of : List PlacedFrame → Option (ℕ × ℕ)
+caller_of (f ∷ g ∷ fs) = Some (g.version, g.place)
+caller_of _ = None
+
+-- there is such a frame, and with what is given its operands are within max_stack
+abbrev pub can_give : Option Value → List PlacedFrame → Bool
+can_give None (f ∷ g ∷ fs) = true
+can_give (Some v) (f ∷ g ∷ fs) = nat_le (height_of g.operands + width v) g.max_stack
+can_give _ _ = false
+
+abbrev pub with_result : Option Value → List Value → List Value
+with_result None operands = operands
+with_result (Some v) operands = v ∷ operands
+
+-- the top frame is off, and the one below it goes on at a place with what is given
+abbrev pub given : Option Value → ℕ → List PlacedFrame → List PlacedFrame
+given v place (f ∷ g ∷ fs) = record g { place = place; operands = with_result v g.operands } ∷ fs
+given v place _ = []
+
+abbrev pub with_given : Option Value → ℕ → FramesView → FramesView
+with_given v place s = record { frames = given v place s.frames; room = None }

@@ -4,7 +4,9 @@
 mod counters;
 mod entry;
 mod frames;
+mod room;
 mod slots;
+mod top;
 mod width;
 
 pub use frames::Frames;

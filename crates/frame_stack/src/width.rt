@@ -6,6 +6,7 @@ ghost use Rattle.frame_stack.specs.Widths.{is_long, width};
 use heap_objects::Value;
 
 /// Whether a value takes two slots.
+#[inline(always)]
 pub fn is_long(value: Value) -> bool
     ensures { result ≡ is_long value }
 {
@@ -13,6 +14,7 @@ pub fn is_long(value: Value) -> bool
 }
 
 /// How many slots a value takes: a long takes two.
+#[inline(always)]
 pub fn width(value: Value) -> usize
     ensures { result ≡ width value }
 {

@@ -1,13 +1,13 @@
 //! Arrays.
 
-ghost use Rattle.std.specs.Prelude.{◌≡◌, ◌<◌, IfOk, IfSome, length, replicate, slice_get};
+ghost use Rattle.std.specs.Prelude.{◌≡◌, ◌<◌, Some, IfOk, IfSome, length, replicate, slice_get};
 ghost use Rattle.heap_objects.specs.Kinds.{element_of};
 ghost use Rattle.heap_objects.specs.Kept.{kept};
 ghost use Rattle.heap_objects.specs.ArrayView.{with_element};
 
 use crate::cells::Cells;
 use crate::datum::Datum;
-use crate::element::element_of;
+use crate::element::{Element, element_of};
 use std::alloc::{AllocError, Global};
 use std::marker::Model;
 
@@ -68,7 +68,26 @@ impl ArrayObject {
         self.cells.get(slot)
     }
 
+    /// The int of an element of an array of ints.
+    #[inline(always)]
+    pub fn int(&self, slot: usize) -> Option<i32>
+        ensures ints { IfSome result (λ _. element_of self.now.kind ≡ Element.Int) }
+        ensures found { IfSome result (λ n. slice_get self.now.items slot ≡ Some (Datum.Int n)) }
+    {
+        self.cells.int(slot)
+    }
+
+    /// The reference of an element of an array of references.
+    #[inline(always)]
+    pub fn reference(&self, slot: usize) -> Option<u32>
+        ensures references { IfSome result (λ _. element_of self.now.kind ≡ Element.Reference) }
+        ensures found { IfSome result (λ n. slice_get self.now.items slot ≡ Some (Datum.Ref n)) }
+    {
+        self.cells.reference(slot)
+    }
+
     /// Puts a value into an element, which keeps of it what elements of the array's kind keep.
+    #[inline(always)]
     pub fn put(&mut self, slot: usize, value: Datum)
         requires { slot < length self.old.items }
         ensures { self.new ≡ with_element slot value self.old }

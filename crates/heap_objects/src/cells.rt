@@ -1,6 +1,6 @@
 //! The values of an array, each as narrow as its elements.
 
-ghost use Rattle.std.specs.Prelude.{◌≡◌, ◌<◌, IfOk, IfSome, length, slice_get, replicate};
+ghost use Rattle.std.specs.Prelude.{◌≡◌, ◌<◌, Some, IfOk, IfSome, length, slice_get, replicate};
 ghost use Rattle.heap_objects.specs.Kept.{kept};
 ghost use Rattle.heap_objects.specs.Cells.{bit_datum, data_in, data_with, element_in};
 
@@ -124,7 +124,32 @@ impl Cells {
         }
     }
 
+    /// The int of an element, where the elements are ints.
+    #[inline(always)]
+    pub fn int(&self, slot: usize) -> Option<i32>
+        ensures ints { IfSome result (λ _. element_in self.now ≡ Element.Int) }
+        ensures found { IfSome result (λ n. slice_get (data_in self.now) slot ≡ Some (Datum.Int n)) }
+    {
+        match self {
+            Cells::Ints(v) => item(v, slot),
+            _ => None,
+        }
+    }
+
+    /// The reference of an element, where the elements are references.
+    #[inline(always)]
+    pub fn reference(&self, slot: usize) -> Option<u32>
+        ensures references { IfSome result (λ _. element_in self.now ≡ Element.Reference) }
+        ensures found { IfSome result (λ n. slice_get (data_in self.now) slot ≡ Some (Datum.Ref n)) }
+    {
+        match self {
+            Cells::References(v) => item(v, slot),
+            _ => None,
+        }
+    }
+
     /// Puts a value into an element, which keeps what its sort keeps.
+    #[inline(always)]
     pub fn put(&mut self, slot: usize, value: Datum)
         requires { slot < length (data_in self.old) }
         ensures data { data_in self.new ≡ data_with slot value self.old }

@@ -1,12 +1,14 @@
 //! The heap of a run.
 
-ghost use Rattle.std.specs.Prelude.{◌≡◌, ◌<◌, ◌≤◌, ◌+◌, ◌++◌, ◌∷◌, ◌^◌, [], Some, None, IfOk, IfSome};
+ghost use Rattle.std.specs.Prelude.{◌≡◌, ◌<◌, ◌≤◌, ◌+◌, ◌++◌, ◌∷◌, ◌^◌, [], true, Some, None, IfOk, IfSome};
 ghost use Rattle.std.specs.Prelude.{length, is_ok, nat_le, if◌then◌else◌};
 ghost use Rattle.std.specs.Option.{option_copied, option_map};
 ghost use Rattle.std.specs.Vec.{vec_len, vec_capacity};
+ghost use Rattle.heap_objects.specs.Kinds.{element_of};
 
 use crate::array::ArrayObject;
 use crate::datum::Datum;
+use crate::element::Element;
 use crate::error::HeapError;
 use crate::interned::Interned;
 use crate::lists::{append_at, item_at, put_at, put_unit_at, replace_at};
@@ -108,6 +110,7 @@ impl Heap {
         charged(self.limit, self.used, asked).is_some()
     }
 
+    #[inline(always)]
     fn find(&self, object: u32) -> Option<&Object>
         ensures found { option_copied result ≡ object_at object self.now.objects }
         ensures fits { IfSome result (λ o. length_of o.now < 2 ^ 32) }
@@ -121,6 +124,7 @@ impl Heap {
 
     /// The value of a field or an element, or None where there is no such object or slot. A text has no slots. The value is
     /// one that the slot keeps whole: that of an array is of its elements' sort and within their range.
+    #[inline(always)]
     pub fn get(&self, object: u32, slot: u32) -> Option<Datum>
         ensures found { result ≡ slot_at object slot self.now }
         ensures whole { IfSome result (λ v. IsKeptBy object self.now v) }
@@ -128,7 +132,28 @@ impl Heap {
         self.find(object)?.get(slot as usize)
     }
 
+    /// The int of an element of an array of ints.
+    #[inline(always)]
+    pub fn int_at(&self, object: u32, slot: u32) -> Option<i32>
+        ensures ints { IfSome result
+            (λ _. option_map element_of (kind_at object self.now) ≡ Some Element.Int) }
+        ensures found { IfSome result (λ n. slot_at object slot self.now ≡ Some (Datum.Int n)) }
+    {
+        self.find(object)?.int(slot as usize)
+    }
+
+    /// The reference of an element of an array of references.
+    #[inline(always)]
+    pub fn reference_at(&self, object: u32, slot: u32) -> Option<u32>
+        ensures references { IfSome result
+            (λ _. option_map element_of (kind_at object self.now) ≡ Some Element.Reference) }
+        ensures found { IfSome result (λ n. slot_at object slot self.now ≡ Some (Datum.Ref n)) }
+    {
+        self.find(object)?.reference(slot as usize)
+    }
+
     /// The kind of an object, or None where there is none of this number.
+    #[inline(always)]
     pub fn kind(&self, object: u32) -> Option<u32>
         ensures { result ≡ kind_at object self.now }
     {
@@ -258,6 +283,7 @@ impl Heap {
 
     /// Puts a value into a field or an element. False, with nothing changed, where there is no such object or slot. An
     /// array keeps of the value what its elements keep: of a boolean the lowest bit, of a byte, char or short the low bits.
+    #[inline(always)]
     pub fn put(&mut self, object: u32, slot: u32, value: Datum) -> bool
         ensures answer { result ≡ has_slot_at object slot self.old }
         ensures heap { self.new ≡ changed_if result (with_slot_at object slot value) self.old }
@@ -266,6 +292,21 @@ impl Heap {
             return false;
         }
         put_at(&mut self.objects, object as usize - 1, slot as usize, value)
+    }
+
+    /// Puts an int into an element of an array of ints. False, with nothing changed, where it is none, or has no such element.
+    #[inline(always)]
+    pub fn put_int_at(&mut self, object: u32, slot: u32, n: i32) -> bool
+        ensures ints { result ≡ true
+            → option_map element_of (kind_at object self.old) ≡ Some Element.Int }
+        ensures there { result ≡ true → has_slot_at object slot self.old ≡ true }
+        ensures heap { self.new
+            ≡ changed_if result (with_slot_at object slot (Datum.Int n)) self.old }
+    {
+        if self.int_at(object, slot).is_none() {
+            return false;
+        }
+        self.put(object, slot, Datum::Int(n))
     }
 
     /// Puts a unit at a place of a text. False, with nothing changed, where there is no such text or place.

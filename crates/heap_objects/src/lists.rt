@@ -11,6 +11,7 @@ use crate::object::Object;
 use jf_bytes::{NoMemory, Seq};
 
 /// The object at a place, where there is one.
+#[inline(always)]
 pub fn item_at(objects: &[Object], place: usize) -> Option<&Object>
     ensures { option_copied result ≡ slice_get objects.now place }
 {
@@ -18,6 +19,7 @@ pub fn item_at(objects: &[Object], place: usize) -> Option<&Object>
 }
 
 /// Puts a value into a slot of an object. False, with nothing changed, where there is no such object or slot.
+#[inline(always)]
 pub fn put_at(objects: &mut [Object], place: usize, slot: usize, value: Datum) -> bool
     ensures answer { result ≡ option_map_or (has_slot slot) (slice_get objects.old place) false }
     ensures objects { objects.new ≡ changed_if result (with_slot_in place slot value) objects.old }

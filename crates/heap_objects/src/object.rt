@@ -1,11 +1,13 @@
 //! Objects.
 
-ghost use Rattle.std.specs.Prelude.{◌≡◌, IfSome, slice_get, is_ok};
+ghost use Rattle.std.specs.Prelude.{◌≡◌, Some, IfSome, slice_get, is_ok};
 ghost use Rattle.std.specs.Option.{option_map};
 ghost use Rattle.heap_objects.specs.Changes.{changed_if};
+ghost use Rattle.heap_objects.specs.Kinds.{element_of};
 
 use crate::array::ArrayObject;
 use crate::datum::Datum;
+use crate::element::Element;
 use jf_bytes::Seq;
 use std::alloc::AllocError;
 
@@ -56,6 +58,33 @@ impl Object {
         }
     }
 
+    /// The int of an element of an array of ints.
+    #[inline(always)]
+    pub fn int(&self, slot: usize) -> Option<i32>
+        ensures ints { IfSome result (λ _. element_of (kind_of self.now) ≡ Element.Int) }
+        ensures found { IfSome result (λ n. slice_get (slots_of self.now) slot ≡ Some (Datum.Int n)) }
+    {
+        match self {
+            Object::Instance(_, _) => None,
+            Object::Array(array) => array.int(slot),
+            Object::Text(_, _) => None,
+        }
+    }
+
+    /// The reference of an element of an array of references.
+    #[inline(always)]
+    pub fn reference(&self, slot: usize) -> Option<u32>
+        ensures references { IfSome result
+            (λ _. element_of (kind_of self.now) ≡ Element.Reference) }
+        ensures found { IfSome result (λ n. slice_get (slots_of self.now) slot ≡ Some (Datum.Ref n)) }
+    {
+        match self {
+            Object::Instance(_, _) => None,
+            Object::Array(array) => array.reference(slot),
+            Object::Text(_, _) => None,
+        }
+    }
+
     /// The units of a text.
     pub fn units(&self) -> Option<&[u16]>
         ensures { option_map (λ u. u.now) result ≡ units_of self.now }
@@ -68,6 +97,7 @@ impl Object {
     }
 
     /// Puts a value into a field or an element. False, with nothing changed, where there is none.
+    #[inline(always)]
     pub fn put(&mut self, slot: usize, value: Datum) -> bool
         ensures answer { result ≡ has_slot slot self.old }
         ensures object { self.new ≡ changed_if result (with_slot slot value) self.old }

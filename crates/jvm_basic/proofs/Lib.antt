@@ -1,4 +1,6 @@
 pub mod Tops
+pub mod TopReads
+pub mod Exchanged
 pub mod Fitting
 pub mod Slots
 pub mod Keys
@@ -11,3 +13,4 @@ pub mod WorkedSteps
 pub mod WorkedRuns
 pub mod ItsOperand
 pub mod Needed
+pub mod HotLines

@@ -9,6 +9,8 @@ use Rattle.heap_objects.specs.declared.Value.TheVariants.{Int, Long, Ref, Addr}
 use Rattle.frame_stack.specs.Widths.{width}
 use Rattle.frame_stack.specs.FrameLists.{PlacedFrame, AreSound, local_of, has_slot, with_local, top_operands}
 use Rattle.jvm_basic.proofs.Tops.{tops, dropped}
+use Rattle.jvm_basic.proofs.TopReads.{int_narrow}
+use Rattle.jvm_basic.proofs.Exchanged.{shrunk}
 use Rattle.jvm_model.specs.Data.{Locals, Operands}
 use Rattle.jvm_basic.specs.Outcomes.{top_locals, can_hold, with_top}
 use Rattle.jvm_model.specs.Values.{local_in, has_slots, stored}
@@ -65,3 +67,5 @@ pub ruleset written = (written-operands, written-holds, written-top)
 pub ruleset storing = (slots, tops, dropped)
 
 pub ruleset writing = (slots, written, tops)
+
+pub ruleset storing_ints = (slots, written, shrunk, int_narrow)

@@ -3,3 +3,4 @@ pub mod Copies
 pub mod Rules
 pub mod Laws
 pub mod Needs
+pub mod Hot

@@ -10,7 +10,7 @@ ghost use Rattle.jvm_basic.specs.Rules.{calculates, calculates_long, shifts};
 ghost use Rattle.jvm_basic.specs.Rules.{divides_longs, converts_int, converts_long};
 
 use crate::effect::{ARITHMETIC_EXCEPTION, Effect};
-use crate::moving::{replace, replace_two};
+use crate::moving::{exchange_two, replace, replace_two};
 use crate::reading::{int_of, ints_of, long_and_int_of, long_of, longs_of};
 use frame_stack::Frames;
 use heap_objects::Value;
@@ -23,6 +23,7 @@ use jvm_model::{Division, IntOperator, LongOperator, LongShift, OfInt, OfLong};
 
 // ---- results
 
+#[inline(always)]
 fn calculated(op: IntOperator, a: i32, b: i32) -> i32
     ensures { result ≡ calculated op a b }
 {
@@ -62,6 +63,7 @@ fn shifted(op: LongShift, a: i64, n: i32) -> i64
     }
 }
 
+#[inline(always)]
 fn divided_int(op: Division, a: i32, b: i32) -> Option<i32>
     ensures { result ≡ divided op w32 a b }
 {
@@ -104,7 +106,8 @@ fn of_long(op: OfLong, n: i64) -> Value
 // ---- instructions
 
 /// iadd to ixor.
-#[tactic(auto, using(crate::proofs::Fitting::fitting))]
+#[tactic(auto, using(crate::proofs::Fitting::fitting, crate::proofs::TopReads::ints_narrow))]
+#[inline(always)]
 pub fn calculate(frames: &mut Frames, op: IntOperator, next: u16) -> Effect
     ensures effect { result ≡ effect_of (calculates op next) frames.old }
     ensures frames { frames.new ≡ after (calculates op next) frames.old }
@@ -112,7 +115,7 @@ pub fn calculate(frames: &mut Frames, op: IntOperator, next: u16) -> Effect
     let Some((a, b)) = ints_of(frames) else {
         return Effect::Bad;
     };
-    replace_two(frames, Value::Int(calculated(op, a, b)), next)
+    exchange_two(frames, Value::Int(calculated(op, a, b)), next)
 }
 
 /// ladd to lxor, but for the shifts.
@@ -152,7 +155,7 @@ pub fn compare_longs(frames: &mut Frames, next: u16) -> Effect
 }
 
 /// idiv, irem.
-#[tactic(auto, using(crate::proofs::Fitting::fitting))]
+#[tactic(auto, using(crate::proofs::Fitting::fitting, crate::proofs::TopReads::ints_narrow))]
 pub fn divide_ints(frames: &mut Frames, op: Division, next: u16) -> Effect
     ensures effect { result ≡ effect_of (divides_ints op next) frames.old }
     ensures frames { frames.new ≡ after (divides_ints op next) frames.old }
@@ -163,7 +166,7 @@ pub fn divide_ints(frames: &mut Frames, op: Division, next: u16) -> Effect
     let Some(n) = divided_int(op, a, b) else {
         return Effect::Throws(ARITHMETIC_EXCEPTION);
     };
-    replace_two(frames, Value::Int(n), next)
+    exchange_two(frames, Value::Int(n), next)
 }
 
 /// ldiv, lrem.

@@ -5,12 +5,12 @@ ghost use Rattle.frame_stack.specs.FrameLists.{AreSound, top_operands};
 ghost use Rattle.jvm_model.specs.Values.{int_of};
 ghost use Rattle.jvm_basic.specs.Outcomes.{effect_of, after};
 ghost use Rattle.jvm_model.specs.Lines.{target_in};
-ghost use Rattle.jvm_model.specs.LocalRules.{compares, is_same, holds, target_at, target_of};
+ghost use Rattle.jvm_model.specs.LocalRules.{compares, is_same, holds, tests, target_at, target_of};
 ghost use Rattle.jvm_basic.specs.Rules.{branches, goes_to, calls_subroutine};
 ghost use Rattle.jvm_basic.specs.Rules.{chosen, switches};
 
 use crate::effect::Effect;
-use crate::moving::{drop_one, drop_two, go_on, put};
+use crate::moving::{drop_narrow, drop_one, go_on, put};
 use crate::reading::{int_of, ints_of, recall, ref_of, refs_of};
 use code_model::Arg;
 use frame_stack::Frames;
@@ -20,6 +20,7 @@ use jvm_model::{Comparison, Test};
 
 // ---- branches
 
+#[inline(always)]
 fn compares(comparison: Comparison, a: i32, b: i32) -> bool
     ensures { result ≡ compares comparison a b }
 {
@@ -34,6 +35,7 @@ fn compares(comparison: Comparison, a: i32, b: i32) -> bool
 }
 
 /// Whether they are the same, or are not.
+#[inline(always)]
 fn is_same(same: bool, equal: bool) -> bool
     ensures { result ≡ is_same same equal }
 {
@@ -41,6 +43,7 @@ fn is_same(same: bool, equal: bool) -> bool
 }
 
 /// Whether the test holds, where the operands are of its kind.
+#[inline(always)]
 fn holds(frames: &Frames, test: Test) -> Option<bool>
     ensures found { result ≡ holds test (top_operands frames.now.frames) }
     ensures sound { AreSound frames.now.frames }
@@ -65,8 +68,20 @@ fn holds(frames: &Frames, test: Test) -> Option<bool>
     }
 }
 
+/// How many operands a test takes.
+#[inline(always)]
+fn tests(test: Test) -> usize
+    ensures { result ≡ tests test }
+{
+    match test {
+        Test::WithZero(_) | Test::IsNull(_) => 1,
+        Test::OfInts(_) | Test::OfReferences(_) => 2,
+    }
+}
+
 /// A branch to a target.
-fn branch_to(frames: &mut Frames, test: Test, target: u16, next: u16) -> Effect
+#[inline(always)]
+pub fn branch_to(frames: &mut Frames, test: Test, target: u16, next: u16) -> Effect
     ensures effect { result ≡ effect_of (branches test (Some target) next) frames.old }
     ensures frames { frames.new ≡ after (branches test (Some target) next) frames.old }
 {
@@ -74,10 +89,7 @@ fn branch_to(frames: &mut Frames, test: Test, target: u16, next: u16) -> Effect
         return Effect::Bad;
     };
     let place = if holds { target } else { next };
-    match test {
-        Test::WithZero(_) | Test::IsNull(_) => drop_one(frames, place),
-        Test::OfInts(_) | Test::OfReferences(_) => drop_two(frames, place),
-    }
+    drop_narrow(frames, tests(test), place)
 }
 
 /// ifeq to if_acmpne, ifnull, ifnonnull.
@@ -91,14 +103,23 @@ pub fn branch(frames: &mut Frames, test: Test, arg: &Arg, next: u16) -> Effect
     }
 }
 
+/// A jump to a place.
+#[inline(always)]
+pub fn go_to_place(frames: &mut Frames, target: u16) -> Effect
+    ensures effect { result ≡ effect_of (goes_to (Some target)) frames.old }
+    ensures frames { frames.new ≡ after (goes_to (Some target)) frames.old }
+{
+    recall(frames);
+    go_on(frames, target)
+}
+
 /// goto, goto_w.
 pub fn go_to(frames: &mut Frames, arg: &Arg) -> Effect
     ensures effect { result ≡ effect_of (goes_to (target_in arg.now)) frames.old }
     ensures frames { frames.new ≡ after (goes_to (target_in arg.now)) frames.old }
 {
-    recall(frames);
     match arg {
-        Arg::Target(target) => go_on(frames, *target),
+        Arg::Target(target) => go_to_place(frames, *target),
         _ => Effect::Bad,
     }
 }

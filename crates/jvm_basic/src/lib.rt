@@ -5,6 +5,7 @@
 mod arithmetic;
 mod branching;
 mod effect;
+mod hot;
 mod instruction;
 mod locals;
 mod moving;
@@ -12,10 +13,14 @@ mod reading;
 mod stack;
 
 pub use arithmetic::calculate;
+pub use branching::{branch_to, go_to_place};
 pub use effect::Effect;
+pub use hot::{Hot, hot_by};
 pub use instruction::{basic, basic_by, value_of};
-pub use locals::load_from;
-pub use moving::{drop_one, drop_three, drop_two, go_on, put, replace, replace_two};
+pub use locals::{increment_slot, load_from, store_int, store_to};
+pub use moving::{
+    drop_narrow, drop_one, drop_three, drop_two, exchange_two, go_on, put, replace, replace_two,
+};
 pub use reading::{int_of, recall, ref_of};
 
 #[cfg(test)]

@@ -2,19 +2,21 @@
 
 ghost use Rattle.std.specs.Prelude.{◌≡◌, Some};
 ghost use Rattle.jvm_model.specs.Values.{has_kind, is_storable};
+ghost use Rattle.const_pool.specs.declared.descriptor.Kind.TheVariants.{Int};
 ghost use Rattle.jvm_basic.specs.Outcomes.{effect_of, after};
 ghost use Rattle.jvm_model.specs.Lines.{slot_in, increment_in};
 ghost use Rattle.jvm_basic.specs.Rules.{loads, stores, increments, goes_back};
 
 use crate::effect::Effect;
-use crate::moving::{drop_one, go_on, put};
-use crate::reading::recall;
+use crate::moving::{drop_narrow, drop_one, go_on, put};
+use crate::reading::{int_of, recall};
 use code_model::Arg;
 use const_pool::Kind;
 use frame_stack::Frames;
 use heap_objects::Value;
 use int_ops::add_i32;
 
+#[inline(always)]
 fn has_kind(kind: Kind, value: Value) -> bool
     ensures { result ≡ has_kind kind value }
 {
@@ -29,6 +31,7 @@ fn has_kind(kind: Kind, value: Value) -> bool
 }
 
 /// astore also takes a return address.
+#[inline(always)]
 fn is_storable(kind: Kind, value: Value) -> bool
     ensures { result ≡ is_storable kind value }
 {
@@ -40,6 +43,7 @@ fn is_storable(kind: Kind, value: Value) -> bool
 
 /// iload_0 to aload_3.
 #[tactic(auto, using(crate::proofs::Slots::slots))]
+#[inline(always)]
 pub fn load_from(frames: &mut Frames, kind: Kind, slot: u16, next: u16) -> Effect
     ensures effect { result ≡ effect_of (loads kind (Some slot) next) frames.old }
     ensures frames { frames.new ≡ after (loads kind (Some slot) next) frames.old }
@@ -66,6 +70,7 @@ pub fn load(frames: &mut Frames, kind: Kind, arg: &Arg, next: u16) -> Effect
 
 /// istore_0 to astore_3.
 #[tactic(auto, using(crate::proofs::Slots::storing))]
+#[inline(always)]
 pub fn store_to(frames: &mut Frames, kind: Kind, slot: u16, next: u16) -> Effect
     ensures effect { result ≡ effect_of (stores kind (Some slot) next) frames.old }
     ensures frames { frames.new ≡ after (stores kind (Some slot) next) frames.old }
@@ -77,6 +82,22 @@ pub fn store_to(frames: &mut Frames, kind: Kind, slot: u16, next: u16) -> Effect
         return Effect::Bad;
     }
     drop_one(frames, next)
+}
+
+/// istore_0 to istore_3, and istore.
+#[tactic(auto, using(crate::proofs::Slots::storing_ints))]
+#[inline(always)]
+pub fn store_int(frames: &mut Frames, slot: u16, next: u16) -> Effect
+    ensures effect { result ≡ effect_of (stores Int (Some slot) next) frames.old }
+    ensures frames { frames.new ≡ after (stores Int (Some slot) next) frames.old }
+{
+    let Some(n) = int_of(frames) else {
+        return Effect::Bad;
+    };
+    if !frames.set_local(slot, Value::Int(n)) {
+        return Effect::Bad;
+    }
+    drop_narrow(frames, 1, next)
 }
 
 /// istore, lstore, astore.
@@ -92,7 +113,8 @@ pub fn store(frames: &mut Frames, kind: Kind, arg: &Arg, next: u16) -> Effect
 
 /// iinc of a slot.
 #[tactic(auto, using(crate::proofs::Slots::writing))]
-fn increment_slot(frames: &mut Frames, slot: u16, added: i16, next: u16) -> Effect
+#[inline(always)]
+pub fn increment_slot(frames: &mut Frames, slot: u16, added: i16, next: u16) -> Effect
     ensures effect { result ≡ effect_of (increments (Some (slot, added)) next) frames.old }
     ensures frames { frames.new ≡ after (increments (Some (slot, added)) next) frames.old }
 {

@@ -9,21 +9,21 @@ use frame_stack::Frames;
 use heap_objects::Value;
 
 /// Recalls what the frames promise of themselves: a read tells it.
+#[inline(always)]
 pub fn recall(frames: &Frames)
     ensures { AreSound frames.now.frames }
 {
-    let _ = frames.peek(0);
+    let _ = frames.int();
 }
 
 /// The int on top.
+#[tactic(auto, using(crate::proofs::TopReads::top_reads))]
+#[inline(always)]
 pub fn int_of(frames: &Frames) -> Option<i32>
     ensures found { result ≡ int_of (top_operands frames.now.frames) }
     ensures sound { AreSound frames.now.frames }
 {
-    match frames.peek(0) {
-        Some(Value::Int(n)) => Some(n),
-        _ => None,
-    }
+    frames.int()
 }
 
 /// The long on top.
@@ -38,28 +38,23 @@ pub fn long_of(frames: &Frames) -> Option<i64>
 }
 
 /// The reference on top.
+#[tactic(auto, using(crate::proofs::TopReads::top_reads))]
+#[inline(always)]
 pub fn ref_of(frames: &Frames) -> Option<u32>
     ensures found { result ≡ ref_of (top_operands frames.now.frames) }
     ensures sound { AreSound frames.now.frames }
 {
-    match frames.peek(0) {
-        Some(Value::Ref(r)) => Some(r),
-        _ => None,
-    }
+    frames.reference()
 }
 
 /// The two ints on top, the topmost one last.
+#[tactic(auto, using(crate::proofs::TopReads::top_reads))]
+#[inline(always)]
 pub fn ints_of(frames: &Frames) -> Option<(i32, i32)>
     ensures found { result ≡ ints_of (top_operands frames.now.frames) }
     ensures sound { AreSound frames.now.frames }
 {
-    let Some(Value::Int(b)) = frames.peek(0) else {
-        return None;
-    };
-    let Some(Value::Int(a)) = frames.peek(1) else {
-        return None;
-    };
-    Some((a, b))
+    frames.ints()
 }
 
 /// The two longs on top, the topmost one last.
@@ -91,15 +86,11 @@ pub fn long_and_int_of(frames: &Frames) -> Option<(i64, i32)>
 }
 
 /// The two references on top, the topmost one last.
+#[tactic(auto, using(crate::proofs::TopReads::top_reads))]
+#[inline(always)]
 pub fn refs_of(frames: &Frames) -> Option<(u32, u32)>
     ensures found { result ≡ refs_of (top_operands frames.now.frames) }
     ensures sound { AreSound frames.now.frames }
 {
-    let Some(Value::Ref(b)) = frames.peek(0) else {
-        return None;
-    };
-    let Some(Value::Ref(a)) = frames.peek(1) else {
-        return None;
-    };
-    Some((a, b))
+    frames.references()
 }

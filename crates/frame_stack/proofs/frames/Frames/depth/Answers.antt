@@ -1,4 +1,4 @@
-use Rattle.std.proofs.Common.{length, ap, arith}
+use Rattle.std.proofs.Common.{length, sym, ap, ◌∙◌, arith}
 use Rattle.std.proofs.lemmas.List.{length-reverse}
 use Rattle.frame_stack.specs.FrameLists.{FramesView}
 use Rattle.frame_stack.specs.Cuts.{entries_in}
@@ -12,6 +12,6 @@ returns-in-Some c =
       arith,
       ap (λ (s : FramesView). length s.frames) c.self.view_is,
       length-frames_of (entries_in f.top f.below.items) f.slots.items,
-      ap (λ t. length (entries_in t f.below.items)) c.in-Some.is,
+      ap (λ t. length (entries_in t f.below.items)) (sym c.get.ensures ∙ c.in-Some.is),
       length-reverse f.below.items,
     )
