@@ -10,7 +10,10 @@ use std::process::ExitCode;
 /// is no memory for the name of the file of images, the top call is given no words, and answers that.
 fn main(rt: HostRuntime) -> ExitCode {
     let (words, images) = match String::from_str(rt.alloc(), "jfluid.images") {
-        Ok(images) => (raw_words(rt.alloc(), &SystemWords { environment: &rt }), images),
+        Ok(images) => (
+            raw_words(rt.alloc(), &SystemWords { environment: &rt }),
+            images,
+        ),
         Err(_) => (Err(NoMemory), String::new(rt.alloc())),
     };
     let status = jfluid(

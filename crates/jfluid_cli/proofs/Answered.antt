@@ -40,17 +40,18 @@ pub run-answer : {A : Type 0} (r : Result ℕ Refusal) (outcome : Result A Stop)
     → MatchResult r (IsShown summary asked k.session.value s.images s.images_after s.report s.report_after)
     (λ e. IsUntold s.report s.report_after)
     → IfErr r (λ e. ((e ≡ OutFailed) × (outcome ≡ Err stop.OutFailed)) ⊎ (e ≡ NoMemory))
+    → IfErr r (λ e. e ≡ OutFailed → IsUntold s.images s.images_after)
     → OnOk outcome (IsCarriedOut ran budget s.out.taken s.out_after.taken)
     → StopCause s.out.faults s.out_after.faults outcome
     → MatchResult r (λ status. IsRun summary asked budget s status k) (IsStopped s)
-run-answer (Ok status) (Ok x) s summary asked budget ran k ok gathers shown why carried calm = record {
+run-answer (Ok status) (Ok x) s summary asked budget ran k ok gathers shown why unshown carried calm = record {
   output = gathered-out ran k.session.value budget s.out.taken s.out_after.taken gathers carried;
   calm = calm;
   shown = shown;
 }
-run-answer (Ok status) (Err e) s summary asked budget ran k ok gathers shown why carried calm = absurd (not_ok ok)
-run-answer (Err r) outcome s summary asked budget ran k ok gathers untold why carried cause =
-    record { why = by_cause why; untold = untold }
+run-answer (Ok status) (Err e) s summary asked budget ran k ok gathers shown why unshown carried calm = absurd (not_ok ok)
+run-answer (Err r) outcome s summary asked budget ran k ok gathers untold why unshown carried cause =
+    record { why = by_cause why; untold = untold; unshown = unshown }
   where
     by_cause : ((r ≡ OutFailed) × (outcome ≡ Err stop.OutFailed)) ⊎ (r ≡ NoMemory)
         → ((r ≡ OutFailed) × Rose s.out.faults s.out_after.faults) ⊎ (r ≡ NoMemory)

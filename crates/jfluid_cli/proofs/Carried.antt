@@ -41,7 +41,7 @@ nothing-made c none out images = record {
       (λ k. PutsAtMost k.session.value (budget_of (words_of c) k.plan) c.streams.out.taken c.streams.out_after.taken))
       (sym none) tt;
   ended = λ some. absurd (not_both (subst (λ (o : Option Kept). IsSome o) none some));
-  nothing = λ _. out.taken;
+  nothing = λ _. out;
   images = subst (λ (o : Option Kept). IfSome o (λ k. PutsImages (asks_images (words_of c)) k.session.value c.streams))
       (sym none) tt;
   unasked = λ _. images;
@@ -65,6 +65,7 @@ refused-early c r none input early fetch = record {
   one_more = λ eleven. absurd (other-early (status_of r) 11 refl early.early eleven);
   not_taken = λ five. absurd (other-early (status_of r) 5 refl early.early five);
   stopped = λ six. absurd (other-early (status_of r) 6 refl early.early six);
+  unshown = λ six. absurd (other-early (status_of r) 6 refl early.early six);
   not_fetched = fetch.failed;
   plan_name = fetch.plan_is;
   name = fetch.name_is;
@@ -115,6 +116,7 @@ memory-refused c = record {
   one_more = λ eleven. absurd cc;
   not_taken = λ five. absurd cc;
   stopped = λ six. absurd cc;
+  unshown = λ six. absurd cc;
   not_fetched = λ seven. absurd cc;
   plan_name = λ is. absurd (let e : ◌≡◌ {A = ℕ} 9 7 = ap status_of is in cc);
   name = λ at is. absurd (let e : ◌≡◌ {A = ℕ} 9 7 = ap status_of is in cc);
@@ -158,6 +160,7 @@ refused-input c r none calm of (inl (failed, rose)) = subst (IsRefused c) (sym f
   one_more = λ eleven. absurd cc;
   not_taken = λ _. rose;
   stopped = λ six. absurd cc;
+  unshown = λ six. absurd cc;
   not_fetched = λ seven. absurd cc;
   plan_name = λ is. absurd (let e : ◌≡◌ {A = ℕ} 5 7 = ap status_of is in cc);
   name = λ at is. absurd (let e : ◌≡◌ {A = ℕ} 5 7 = ap status_of is in cc);
@@ -172,6 +175,7 @@ refused-input c r none calm of (inr (inl (failed, long, more, same))) = subst (I
   one_more = λ _. more;
   not_taken = λ five. absurd cc;
   stopped = λ six. absurd cc;
+  unshown = λ six. absurd cc;
   not_fetched = λ seven. absurd cc;
   plan_name = λ is. absurd (let e : ◌≡◌ {A = ℕ} 11 7 = ap status_of is in cc);
   name = λ at is. absurd (let e : ◌≡◌ {A = ℕ} 11 7 = ap status_of is in cc);
@@ -313,6 +317,7 @@ stopped-refused c k r of kept calm calm_input stopped = elim stopped.why [
     one_more = λ eleven. absurd cc;
     not_taken = λ five. absurd cc;
     stopped = λ _. rose;
+    unshown = λ _. stopped.unshown failed;
     not_fetched = λ seven. absurd cc;
     plan_name = λ is. absurd (let e : ◌≡◌ {A = ℕ} 6 7 = ap status_of is in cc);
     name = λ at is. absurd (let e : ◌≡◌ {A = ℕ} 6 7 = ap status_of is in cc);

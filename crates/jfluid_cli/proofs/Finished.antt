@@ -15,7 +15,7 @@ use Rattle.profile_session.specs.Sessions.{Profiling}
 use Rattle.jfluid_cli.specs.declared.kept.Kept.{Kept}
 use Rattle.jfluid_cli.specs.declared.refusal.Refusal.{Refusal}
 use Rattle.jfluid_cli.specs.declared.refusal.Refusal.TheVariants.{Clap, Words, Plan as BadPlan, NotRead, NotAdmitted, InputFailed, OutFailed, PlanNotFetched, NotFetched, NoMemory, InputTooLong}
-use Rattle.jfluid_cli.specs.Calls.{Call, given_of, words_of, IsReported, IsRunAsked, IsShown, IsTrueOf, IsRefused, IsAnswered, PutsLine, CalmFiles, CalmInput, AllCalm}
+use Rattle.jfluid_cli.specs.Calls.{Call, given_of, words_of, IsReported, IsRunAsked, IsShown, IsTrueOf, IsRefused, IsAnswered, IsEndingOf, PutsLine, CalmFiles, CalmInput, AllCalm}
 use Rattle.jfluid_cli.specs.Asking.{asked_by, HasBadRoot}
 use Rattle.jfluid_cli.specs.Causes.{HasBadPlan, HasLongInput, IsAccepted, IsUnfit, OfWords}
 use Rattle.jfluid_cli.specs.Contents.{classes_for}
@@ -24,7 +24,7 @@ use Rattle.jfluid_cli.specs.Stages.{IsCarried, IsWordsRefusal}
 use Rattle.jfluid_cli.specs.Origins.{HasOrigin, IsOnlyProgram}
 use Rattle.jfluid_cli.specs.Refusals.{status_of, refusal_line, IsNameless}
 use Rattle.jfluid_cli.specs.Runs.{ending_at, world_on}
-use Rattle.jfluid_cli.specs.Top.{IsProgram, answer_for, is_among, is_run, is_status, status_of_ending}
+use Rattle.jfluid_cli.specs.Top.{IsProgram, answer_for, is_among, is_refused, is_run, is_status, status_of_ending}
 use Rattle.jfluid_cli.specs.Words.{Command, accepted, asks_images, budget_of, command_of, file_words, is_generated, plan_word, words_in}
 use Rattle.jfluid_cli.proofs.Carried.{carried-early, files-said, memory-refused, plan-said}
 use Rattle.jfluid_cli.proofs.Early.{due-words, no-fault}
@@ -83,32 +83,47 @@ held-and (Some k) P Q R some p q = (k, p, q, some)
 
 -- ---- a run
 
-reported-complete : (c : Call) (status : ℕ) (k : Kept) (p : Program)
-    → HasOrigin (given_of c) k → IsOnlyProgram k → IsRunAsked (words_of c) c.streams status k
-    → (a : IsAccepted (given_of c) p) → AllCalm c → IsReported (is_generated (words_of c)) k.session.value c.streams.report c.streams.report_after status
-    → status ≡ status_of_ending (ending_of (world_on p a.input) a.admitted.command.budget)
-reported-complete c status k p o alone ran a calm reported = elim (cases_eq status 8) [
+reported-reached : (c : Call) (status : ℕ) (k : Kept) → IsRunAsked (words_of c) c.streams status k → AllCalm c
+    → IsReported (is_generated (words_of c)) k.session.value c.streams.report c.streams.report_after status
+    → status ≡ status_of_ending (ending_at k.session.value (budget_of (words_of c) k.plan))
+reported-reached c status k ran calm reported = elim (cases_eq status 8) [
   | inl eight ↦ absurd (calm_not_rose c.streams.report.faults c.streams.report_after.faults
       calm.report (reported.not_reported eight))
-  | inr other ↦
-      (let budget : ℕ = budget_of (words_of c) k.plan in
-      let same : budget ≡ a.admitted.command.budget =
-      kept-budget c k o ∙ ap (λ (x : Command). x.budget) (kept-command c k p o a) in
-      reported.ending other
+  | inr other ↦ reported.ending other
       ∙ ap status_of_ending
-      (ends_as k.session.value budget c.streams.out.taken c.streams.out_after.taken ran.output
-      ∙ (kept-ends c k p budget o alone a ∙ ap (λ (n : ℕ). ending_of (world_on p a.input) n) same)))
+      (ends_as k.session.value (budget_of (words_of c) k.plan) c.streams.out.taken c.streams.out_after.taken
+      ran.output)
+]
+
+-- its status is that of the ending at the budget
+run-reached : (c : Call) (status : ℕ) (k : Kept) → IsRunAsked (words_of c) c.streams status k → AllCalm c
+    → status ≡ status_of_ending (ending_at k.session.value (budget_of (words_of c) k.plan))
+run-reached c status k ran calm = elim ran.shown [
+  | inl (imaged, reported) ↦ reported-reached c status k ran calm reported
+  | inr (eight, unimaged, untold) ↦ absurd (calm_not_rose c.streams.images.faults c.streams.images_after.faults
+      calm.images unimaged.failed)
 ]
 
 run-complete : (c : Call) (status : ℕ) (k : Kept) (p : Program)
     → HasOrigin (given_of c) k → IsOnlyProgram k → IsRunAsked (words_of c) c.streams status k
     → (a : IsAccepted (given_of c) p) → AllCalm c
     → status ≡ status_of_ending (ending_of (world_on p a.input) a.admitted.command.budget)
-run-complete c status k p o alone ran a calm = elim ran.shown [
-  | inl (imaged, reported) ↦ reported-complete c status k p o alone ran a calm reported
-  | inr (eight, unimaged, untold) ↦ absurd (calm_not_rose c.streams.images.faults c.streams.images_after.faults
-      calm.images unimaged.failed)
-]
+run-complete c status k p o alone ran a calm =
+    let budget : ℕ = budget_of (words_of c) k.plan in
+    let same : budget ≡ a.admitted.command.budget =
+    kept-budget c k o ∙ ap (λ (x : Command). x.budget) (kept-command c k p o a) in
+    run-reached c status k ran calm
+    ∙ ap status_of_ending
+    (kept-ends c k p budget o alone a ∙ ap (λ (n : ℕ). ending_of (world_on p a.input) n) same)
+
+-- so of whatever is kept
+each-kept : (o : Option Kept) (R P : Kept → Type 0) → IsSomeAnd o R → ((k : Kept) → R k → P k) → IfSome o P
+each-kept None R P has by = tt
+each-kept (Some k) R P has by = by k has
+
+every-kept : (o : Option Kept) (P : Kept → Type 0) → ((k : Kept) → P k) → IfSome o P
+every-kept None P by = tt
+every-kept (Some k) P by = by k
 
 -- its status is that of a run
 shown-known : (summary asked : Bool) (v : Profiling) (i j r q : SinkView) (status : ℕ) → IsShown summary asked v i j r q status
@@ -147,6 +162,8 @@ answered-run c status heard carried =
       rootless_only = λ none some calm. absurd
           (not-unfit g (kept-program g k.0 o) (rootless-unfit g none some));
       input_only = λ long calm calm_input. absurd (kept-short g k.0 o long);
+      made = λ calm. each-kept c.kept (IsRunAsked (words_of c) c.streams status) (IsEndingOf c status)
+          carried.ran.made (λ kept ran. inl (run-reached c status kept ran calm));
       complete = λ p a calm. inl (run-complete c status k.0 p o k.2 k.3 a calm);
     }
 
@@ -231,6 +248,23 @@ refused-complete c r p refused a calm =
     (λ nine. nine)
     (λ eleven. absurd (not-long g p (long-told g r refused.cause eleven) a))
 
+-- something is kept where the output failed, or perhaps where memory ran out
+refused-reached : (c : Call) (r : Refusal) (status : ℕ) → status ≡ status_of r → IsRefused c r → AllCalm c
+    → IfSome c.kept (IsEndingOf c status)
+refused-reached c r status is refused calm =
+    by-status r (IfSome c.kept (IsEndingOf c status))
+    (λ two. unkept (refused.refused (ap is_refused two)))
+    (λ three. unkept (refused.refused (ap is_refused three)))
+    (λ five. unkept (refused.refused (ap is_refused five)))
+    (λ six. absurd (calm_not_rose c.streams.out.faults c.streams.out_after.faults calm.out
+    (refused.stopped six)))
+    (λ seven. unkept (refused.refused (ap is_refused seven)))
+    (λ nine. every-kept c.kept (IsEndingOf c status) (λ k. inr (is ∙ nine)))
+    (λ eleven. unkept (refused.refused (ap is_refused eleven)))
+  where
+    unkept : c.kept ≡ None → IfSome c.kept (IsEndingOf c status)
+    unkept none = subst (λ (o : Option Kept). IfSome o (IsEndingOf c status)) (sym none) tt
+
 no-run : (r : Refusal) → is_run (status_of r) ≡ true → ⊥
 no-run r run =
     by-status r ⊥ (other 2 refl) (other 3 refl) (other 5 refl) (other 6 refl) (other 7 refl) (other 9 refl)
@@ -263,6 +297,7 @@ answered-refusal c r status unheard is always refused line = record {
   rootless_only = λ none some calm. same-status 3
       (file-only c r refused (rootless-unfit (given_of c) none some) calm);
   input_only = λ long calm calm_input. same-status 11 (input-only c r always refused long calm calm_input);
+  made = λ calm. refused-reached c r status is refused calm;
   complete = λ p a calm. inr (is ∙ refused-complete c r p refused a calm);
 }
   where
@@ -302,6 +337,7 @@ answered-told c after r told status said unheard carried was is named puts =
       one_more = carried.refused.one_more;
       not_taken = carried.refused.not_taken;
       stopped = carried.refused.stopped;
+      unshown = carried.refused.unshown;
       not_fetched = carried.refused.not_fetched;
       plan_name = carried.refused.plan_name;
       name = carried.refused.name;
@@ -318,6 +354,7 @@ answered-told c after r told status said unheard carried was is named puts =
       images = carried.always.images;
       unasked = carried.always.unasked;
       unimaged = carried.always.unimaged;
+      held = carried.always.held;
     })
     (elim was [
       | inl same ↦ subst (IsRefused d) (sym same) first

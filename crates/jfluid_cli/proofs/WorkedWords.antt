@@ -1,5 +1,5 @@
 -- Words that are accepted, and words that are not, with what they and a plan ask for.
-use Rattle.std.proofs.Common.{ℕ, List, ◌∷◌, Option, Some, refl, codes}
+use Rattle.std.proofs.Common.{◌≡◌, ℕ, List, [], ◌∷◌, Option, Some, None, refl, codes}
 use Rattle.std.specs.Option.{option_map}
 use Rattle.std.specs.Str.{is_utf8, chars}
 use Rattle.command_line.proofs.WorkedWords.{clap_on_literals}

@@ -57,7 +57,7 @@ pub record IsTrueOf (c : Call) : Type 0 where
       let s = c.streams in
       IfSome c.kept
       (λ k. PutsAtMost k.session.value (budget_of (words_of c) k.plan) s.out.taken s.out_after.taken)
-  pub nothing : c.kept ≡ None → c.streams.out_after.taken ≡ c.streams.out.taken
+  pub nothing : c.kept ≡ None → IsUntold c.streams.out c.streams.out_after
   -- a front of the images that are asked for was put, and nothing where none are or nothing was made
   pub images : IfSome c.kept (λ k. PutsImages (asks_images (words_of c)) k.session.value c.streams)
   pub unasked : asks_images (words_of c) ≡ false → IsUntold c.streams.images c.streams.images_after
@@ -117,6 +117,8 @@ pub record IsRefused (c : Call) (r : Refusal) : Type 0 where
   -- with any other status but 9 no fetch and no take failed
   pub not_taken : status_of r ≡ 5 → Rose c.input.faults c.input_after.faults
   pub stopped : status_of r ≡ 6 → Rose c.streams.out.faults c.streams.out_after.faults
+  -- no image is put behind an output that failed
+  pub unshown : status_of r ≡ 6 → IsUntold c.streams.images c.streams.images_after
   pub not_fetched : status_of r ≡ 7 → Rose c.files.faults c.files_after.faults
   pub plan_name : r ≡ PlanNotFetched → plan_word (words_of c) ≡ Some c.files_after.last_failed
   pub name :
@@ -148,6 +150,12 @@ pub record AllCalm (c : Call) : Type 0 where
   pub report : IsCalm c.streams.report.faults c.streams.report_after.faults
   pub images : IsCalm c.streams.images.faults c.streams.images_after.faults
 
+-- The status is that of the ending at the budget of the session that was made, unless memory ran out.
+abbrev pub IsEndingOf : Call → ℕ → Kept → Type 0
+IsEndingOf c status k =
+    (status ≡ status_of_ending (ending_at k.session.value (budget_of (words_of c) k.plan)))
+    ⊎ (status ≡ 9)
+
 -- What a call answers.
 pub record IsAnswered (c : Call) (status : ℕ) : Type 0 where
   -- with every status
@@ -177,7 +185,9 @@ pub record IsAnswered (c : Call) (status : ℕ) : Type 0 where
   -- 11 wherever a program is told, and more input than the limit
   pub input_only :
       HasLongInput (given_of c) → CalmFiles c → CalmInput c → (status ≡ 11) ⊎ (status ≡ 9)
-  -- the status of the run on the input at the budget wherever all is accepted
+  -- the status of its run at the budget wherever a session was made, and nothing failed
+  pub made : AllCalm c → IfSome c.kept (IsEndingOf c status)
+  -- and the status of the run on the input at the budget wherever all is accepted
   pub complete :
       (p : Program) → (a : IsAccepted (given_of c) p) → AllCalm c →
       (status ≡ status_of_ending (ending_of (world_on p a.input) a.admitted.command.budget))

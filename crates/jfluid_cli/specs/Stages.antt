@@ -155,6 +155,7 @@ pub record IsSameRun (made k : Kept) : Type 0 where
 pub record IsStopped (s : Streams) (r : Refusal) : Type 0 where
   pub why : ((r ≡ OutFailed) × Rose s.out.faults s.out_after.faults) ⊎ (r ≡ NoMemory)
   pub untold : IsUntold s.report s.report_after
+  pub unshown : r ≡ OutFailed → IsUntold s.images s.images_after
 
 -- A call before the line of a refusal is put.
 pub record IsCarried (c : Call) (result : Result ℕ Refusal) : Type 0 where

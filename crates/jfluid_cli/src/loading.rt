@@ -154,6 +154,7 @@ fn fetch_all<F: Files>(
         let new = files_view (F.faults files.new) (F.last_failed files.new) in
         (named : Option (List ℕ)) →
         IfErr result (HasFetchCause named (texts names.now) old new) }
+    ensures stay { F.contents files.new ≡ F.contents files.old }
     ensures calm { IsOk result → F.faults files.new ≡ F.faults files.old }
 {
     let mut all = Seq::new(alloc);
@@ -208,6 +209,7 @@ fn load_files<F: Files>(
     ensures acts { IfOk result (λ l. CanBeTaken l.program.acts) }
     ensures early { (g : Given) → AreReadWith g (read_in words.now) plan.now →
         g.told ≡ F.contents files.old → IfErr result (IsEarly g) }
+    ensures stay { F.contents files.new ≡ F.contents files.old }
     ensures calm { IsOk result → F.faults files.new ≡ F.faults files.old }
     ensures cause { let old = files_view (F.faults files.old) (F.last_failed files.old) in
         let new = files_view (F.faults files.new) (F.last_failed files.new) in
@@ -282,6 +284,7 @@ fn load<F: Files>(
     ensures acts { IfOk result (λ l. CanBeTaken l.program.acts) }
     ensures early { (g : Given) → AreReadWith g (read_in words.now) plan.now →
         g.told ≡ F.contents files.old → IfErr result (IsEarly g) }
+    ensures stay { F.contents files.new ≡ F.contents files.old }
     ensures calm { IsOk result → F.faults files.new ≡ F.faults files.old }
     ensures cause { let old = files_view (F.faults files.old) (F.last_failed files.old) in
         let new = files_view (F.faults files.new) (F.last_failed files.new) in
@@ -305,6 +308,7 @@ pub fn prepare<F: Files>(alloc: Global, words: &Words<'_>, files: &mut F) -> Res
     ensures acts { IfOk result (λ l. CanBeTaken l.program.acts) }
     ensures early { (g : Given) → accepted g.words ≡ Some (read_in words.now) →
         g.told ≡ F.contents files.old → IfErr result (IsEarly g) }
+    ensures stay { F.contents files.new ≡ F.contents files.old }
     ensures calm { IsOk result → F.faults files.new ≡ F.faults files.old }
     ensures cause { let old = files_view (F.faults files.old) (F.last_failed files.old) in
         let new = files_view (F.faults files.new) (F.last_failed files.new) in

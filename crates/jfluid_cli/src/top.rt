@@ -56,6 +56,9 @@ fn answer<P: Sink, G: Sink>(
         asked ≡ false → IsUntold before after }
     ensures stopped { IfErr result (λ e.
         ((e ≡ Refusal.OutFailed) × (outcome ≡ Err Stop.OutFailed)) ⊎ (e ≡ Refusal.NoMemory)) }
+    ensures unshown { let before = sink_view (G.taken images.old) (G.faults images.old) in
+        let after = sink_view (G.taken images.new) (G.faults images.new) in
+        IfErr result (λ e. e ≡ Refusal.OutFailed → IsUntold before after) }
 {
     match outcome {
         Ok(()) => show(alloc, session, summary, asked, images, report),
@@ -120,6 +123,7 @@ fn carry_out<F: Files, I: Source, O: Sink, P: Sink, G: Sink>(
 ) -> Result<u8, Refusal>
     requires sound { IsSound (read_in words.now) }
     requires empty { kept.old ≡ None }
+    ensures stay { F.contents files.new ≡ F.contents files.old }
     ensures carried { (list : List (List ℕ)) → accepted list ≡ Some (read_in words.now) →
         let call : Call = record {
           words = Ok list;
@@ -179,6 +183,7 @@ fn answer_texts<F: Files, I: Source, O: Sink, P: Sink, G: Sink>(
 ) -> u8
     requires texts { AreTexts (texts words.now) }
     requires empty { kept.old ≡ None }
+    ensures stay { F.contents files.new ≡ F.contents files.old }
     ensures answered { let call : Call = record {
       words = Ok (texts words.now);
       told = F.contents files.old;
@@ -221,6 +226,7 @@ fn answer_words<F: Files, I: Source, O: Sink, P: Sink, G: Sink>(
     kept: &mut Option<Kept>,
 ) -> u8
     requires empty { kept.old ≡ None }
+    ensures stay { F.contents files.new ≡ F.contents files.old }
     ensures answered { let call : Call = record {
       words = Ok words.now;
       told = F.contents files.old;
@@ -286,6 +292,7 @@ pub fn jfluid<F: Files, I: Source, O: Sink, P: Sink, G: Sink>(
     images: &mut G,
     kept: &mut Option<Kept>,
 ) -> u8
+    ensures stay { F.contents files.new ≡ F.contents files.old }
     ensures answered { let call : Call = record {
       words = words;
       told = F.contents files.old;

@@ -24,7 +24,6 @@ pub mod LaidRewritten
 pub mod RewrittenLines
 pub mod OriginalTexts
 pub mod ImageVersions
-pub mod RunsOfOriginal
 pub mod ClassVersionLaws
 pub mod StandingSteps
 mod WorkedVersions

@@ -11,6 +11,7 @@ pub mod MethodPlaces
 pub mod SwappedClasses
 pub mod Imaging
 pub mod Points
+pub mod Unchanged
 pub mod Hearing
 pub mod Telling
 pub mod Advancing

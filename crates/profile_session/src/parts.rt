@@ -152,6 +152,10 @@ impl Parts {
             MatchResult result (λ ok. IsPoint self.old now self.new)
             (λ e. IsSameRun self.old self.new) }
     {
+        // Nothing changes where it was entered before, as it mostly was.
+        if self.reveal.is_entered(method) {
+            return Ok(());
+        }
         self.reveal.entered(self.alloc, self.vm.linker(), method)?;
         self.show()?;
         Ok(())

@@ -26,7 +26,7 @@ fn what_is_so_already_is_refused(rt: HostRuntime) -> Result<(), Fail> {
     let Some(root) = session.program().acts.get(0).copied() else {
         return Err("no root".into());
     };
-    let (f, main) = (root.method, root.method + 1);
+    let (f, main) = (root.method, session.program().main);
     assert_eq!(rt; act(session, true, f)?, Err(ActError::AlreadySelected));
     assert_eq!(rt; act(session, false, main)?, Err(ActError::NotSelected));
     assert_eq!(rt; (session.clock(), session.swaps().len()), (3, 1));
@@ -52,7 +52,7 @@ fn behind_the_end_all_are_refused(rt: HostRuntime) -> Result<(), Fail> {
     let Some(root) = session.program().acts.get(0).copied() else {
         return Err("no root".into());
     };
-    let (f, main) = (root.method, root.method + 1);
+    let (f, main) = (root.method, session.program().main);
     assert_eq!(rt; advance(session, 100), Some(Run::Ended));
     assert_eq!(rt; act(session, true, f)?, Err(ActError::Ended));
     assert_eq!(rt; act(session, false, f)?, Err(ActError::Ended));

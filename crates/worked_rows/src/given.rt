@@ -1,6 +1,6 @@
 //! What a row gives to the top call.
 
-ghost use Rattle.std.specs.Prelude.{◌≡◌, ◌∷◌, Some, map, codes, IfOk, IfSome};
+ghost use Rattle.std.specs.Prelude.{◌≡◌, ◌<◌, ◌∷◌, Some, map, codes, IfOk, IfSome};
 ghost use Rattle.std.specs.String.{string_bytes};
 ghost use Rattle.worked_rows.specs.Lines.{lines_in};
 ghost use Rattle.worked_rows.specs.Rows.{HasWords, part_at};
@@ -30,6 +30,11 @@ enum Line<'a> {
         name: &'a str,
         path: &'a str,
         length: usize,
+    },
+    /// `front NAME PATH`: the file NAME is a front of what the file at this path has.
+    Front {
+        name: &'a str,
+        path: &'a str,
     },
     /// `input PATH`: the input is what the file at this path has.
     Input(&'a str),
@@ -72,6 +77,10 @@ fn line_of(text: &str) -> Option<Line<'_>> {
             Some(Line::Zeros { name, count })
         }
         "padded" => padded(rest),
+        "front" => {
+            let (name, path) = rest.split_once(' ')?;
+            Some(Line::Front { name, path })
+        }
         "input" => Some(Line::Input(rest)),
         "input_zeros" => Some(Line::InputZeros(rest.parse::<usize>().ok()?)),
         "fails" => {
@@ -90,10 +99,11 @@ fn zeros(alloc: Global, count: usize) -> Result<Vec<u8>, AllocError> {
     Ok(bytes)
 }
 
-/// Adds what a line says to what is given so far.
+/// Adds what a line says to what is given so far. A front has so many bytes.
 fn take_line<F: Files>(
     alloc: Global,
     text: &str,
+    front: usize,
     given: &mut Given,
     files: &mut F,
 ) -> Result<(), RowError>
@@ -117,6 +127,12 @@ fn take_line<F: Files>(
         Line::Padded { name, path, length } => {
             let mut contents = fetch_file(alloc, path, files)?;
             contents.resize(length, 0)?;
+            let name = String::from_str(alloc, name)?;
+            given.files.push(NamedFile { name, contents })?;
+        }
+        Line::Front { name, path } => {
+            let mut contents = fetch_file(alloc, path, files)?;
+            contents.truncate(front);
             let name = String::from_str(alloc, name)?;
             given.files.push(NamedFile { name, contents })?;
         }
@@ -153,8 +169,39 @@ fn given_text<F: Files>(alloc: Global, row: &str, files: &mut F) -> Result<Strin
     }
 }
 
-/// What a row gives: the files `args` and `given` of its folder.
-pub fn read_given<F: Files>(alloc: Global, row: &str, files: &mut F) -> Result<Given, RowError>
+/// The first line of a text.
+fn first_line(text: &str) -> &str {
+    match text.split_once('\n') {
+        Some((line, _)) => line,
+        None => text,
+    }
+}
+
+/// How often a row is run: with each proper front of the file whose path is the first line of its file
+/// `fronts`, from the empty one on, and once where it has no such file.
+pub fn runs_of<F: Files>(alloc: Global, row: &str, files: &mut F) -> Result<usize, RowError>
+    ensures some { IfOk result (λ runs. 0 < runs) }
+    ensures stay { F.contents files.new ≡ F.contents files.old }
+{
+    let bytes = match fetch_part(alloc, row, "fronts", files) {
+        Ok(bytes) => bytes,
+        Err(RowError::Missing(_)) => return Ok(1),
+        Err(error) => return Err(error),
+    };
+    let Ok(text) = String::from_utf8(bytes) else {
+        return Err(RowError::NotText);
+    };
+    let whole = fetch_file(alloc, first_line(text.as_str()), files)?;
+    Ok(whole.len().max(1))
+}
+
+/// What a row gives: the files `args` and `given` of its folder, where a front has so many bytes.
+pub fn read_given<F: Files>(
+    alloc: Global,
+    row: &str,
+    front: usize,
+    files: &mut F,
+) -> Result<Given, RowError>
     ensures words { IfOk result (λ given. IfSome (F.contents files.old) (λ told.
         HasWords told row.now given.words)) }
     ensures stay { F.contents files.new ≡ F.contents files.old }
@@ -169,7 +216,7 @@ pub fn read_given<F: Files>(alloc: Global, row: &str, files: &mut F) -> Result<G
     let text = given_text(alloc, row, files)?;
     let all = lines_of(alloc, text.as_str())?;
     for line in &all {
-        take_line(alloc, line, &mut given, files)?;
+        take_line(alloc, line, front, &mut given, files)?;
     }
     Ok(given)
 }

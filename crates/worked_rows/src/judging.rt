@@ -1,6 +1,6 @@
 //! The verdict on each row of a list.
 
-ghost use Rattle.std.specs.Prelude.{◌≡◌, ◌↔◌, Some, None, Ok, Err, map, IfOk, IfSome, IsTrue};
+ghost use Rattle.std.specs.Prelude.{◌≡◌, ◌<◌, ◌↔◌, Some, None, Ok, Err, map, IfOk, IfSome, IsTrue};
 ghost use Rattle.std.specs.String.{string_bytes};
 ghost use Rattle.jf_bytes.specs.Streams.{Rose};
 ghost use Rattle.worked_rows.specs.Lists.{row_names};
@@ -9,7 +9,7 @@ ghost use Rattle.worked_rows.specs.Verdicts.{HasPassed, AreTrueOf, name_of};
 
 use crate::comparing::{Difference, compare};
 use crate::expected::read_expected;
-use crate::given::read_given;
+use crate::given::{read_given, runs_of};
 use crate::lists::row_names;
 use crate::parts::{MOST, RowError};
 use jf_bytes::{FetchError, Files};
@@ -21,8 +21,8 @@ use thiserror::Error;
 /// Why a row did not pass.
 #[derive(Drop)]
 pub enum Fault {
-    /// Something else came.
-    Differs(Difference),
+    /// Something else came, with a front of so many bytes where the row has one.
+    Differs(usize, Difference),
     /// The row can't be run.
     Broken(RowError),
 }
@@ -31,6 +31,8 @@ pub enum Fault {
 #[derive(Drop)]
 pub struct Verdict {
     pub name: String,
+    /// How often it was to be run.
+    pub runs: usize,
     pub fault: Option<Fault>,
 }
 
@@ -46,9 +48,14 @@ impl Verdict {
 impl fmt::Display for Verdict {
     fn fmt<W: fmt::Write>(&self, f: &mut fmt::Formatter<W>) -> fmt::Result {
         let name = self.name.as_str();
+        let runs = self.runs;
         match &self.fault {
-            None => write!(f, "{name} ok"),
-            Some(Fault::Differs(difference)) => write!(f, "{name}: {difference}"),
+            None if runs == 1 => write!(f, "{name} ok"),
+            None => write!(f, "{name} ok in {runs} runs"),
+            Some(Fault::Differs(_, difference)) if runs == 1 => write!(f, "{name}: {difference}"),
+            Some(Fault::Differs(front, difference)) => {
+                write!(f, "{name}: with {front} bytes {difference}")
+            }
             Some(Fault::Broken(error)) => write!(f, "{name}: {error}"),
         }
     }
@@ -77,10 +84,11 @@ impl<T: Drop> From<AllocFailed<T>> for ListError {
     }
 }
 
-/// How what comes of a row differs from what must come.
-fn run_row<F: Files>(
+/// How what comes of a row, with a front of so many bytes, differs from what must come.
+fn run_once<F: Files>(
     alloc: Global,
     row: &str,
+    front: usize,
     files: &mut F,
 ) -> Result<Option<Difference>, RowError>
     ensures passed { result ≡ Ok None →
@@ -88,9 +96,56 @@ fn run_row<F: Files>(
     ensures stay { F.contents files.new ≡ F.contents files.old }
 {
     let expected = read_expected(alloc, row, files)?;
-    let given = read_given(alloc, row, files)?;
+    let given = read_given(alloc, row, front, files)?;
     let answer = answer_to(alloc, given)?;
     Ok(compare(alloc, &expected, &answer)?)
+}
+
+/// What came of the runs of a row.
+#[derive(Clone, Copy)]
+struct Ran {
+    runs: usize,
+    /// How many bytes the front had in the first run that differs, and how it differs.
+    differs: Option<(usize, Difference)>,
+}
+
+/// Runs a row so many times, with a front of one byte more each time, up to the first that differs.
+fn run_each<F: Files>(
+    alloc: Global,
+    row: &str,
+    runs: usize,
+    files: &mut F,
+) -> Result<Option<(usize, Difference)>, RowError>
+    requires some { 0 < runs }
+    ensures passed { result ≡ Ok None →
+        IfSome (F.contents files.old) (λ told. HasPassed told row.now) }
+    ensures stay { F.contents files.new ≡ F.contents files.old }
+{
+    for front in 0..runs {
+        if let Some(difference) = run_once(alloc, row, front, files)? {
+            return Ok(Some((front, difference)));
+        }
+    }
+    Ok(None)
+}
+
+/// Runs a row as often as it says.
+fn run_row<F: Files>(alloc: Global, row: &str, files: &mut F) -> Result<Ran, RowError>
+    ensures passed { IfOk result (λ ran. ran.differs ≡ None →
+        IfSome (F.contents files.old) (λ told. HasPassed told row.now)) }
+    ensures stay { F.contents files.new ≡ F.contents files.old }
+{
+    let runs = runs_of(alloc, row, files)?;
+    let differs = run_each(alloc, row, runs, files)?;
+    Ok(Ran { runs, differs })
+}
+
+/// What is told of a row that differs.
+fn fault_of(differs: Option<(usize, Difference)>) -> Option<Fault>
+    ensures { result ≡ None → differs ≡ None }
+{
+    let (front, difference) = differs?;
+    Some(Fault::Differs(front, difference))
 }
 
 /// The verdict on the row of this name.
@@ -101,13 +156,19 @@ fn judge<F: Files>(alloc: Global, row: &str, files: &mut F) -> Result<Verdict, L
     ensures stay { F.contents files.new ≡ F.contents files.old }
 {
     let name = String::from_str(alloc, row)?;
-    let fault = match run_row(alloc, row, files) {
-        Ok(None) => None,
-        Ok(Some(difference)) => Some(Fault::Differs(difference)),
-        Err(RowError::NoMemory) => return Err(ListError::NoMemory),
-        Err(error) => Some(Fault::Broken(error)),
-    };
-    Ok(Verdict { name, fault })
+    match run_row(alloc, row, files) {
+        Ok(ran) => Ok(Verdict {
+            name,
+            runs: ran.runs,
+            fault: fault_of(ran.differs),
+        }),
+        Err(RowError::NoMemory) => Err(ListError::NoMemory),
+        Err(error) => Ok(Verdict {
+            name,
+            runs: 1,
+            fault: Some(Fault::Broken(error)),
+        }),
+    }
 }
 
 /// The text of a list.

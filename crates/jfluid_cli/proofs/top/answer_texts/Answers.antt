@@ -4,25 +4,19 @@ use Rattle.command_line.specs.Words.{read_in, texts}
 use Rattle.jfluid_cli.proofs.Finished.{answered-run, answered-told, answered-words, called-line}
 use Rattle.jfluid_cli.proofs.top.answer_texts.Goals as goal
 
-pub returns-in-Err : goal.returns-in-Err
-returns-in-Err g c = record {
-  answered = answered-words _ _ _ _ _ _ _ _ _ c.in-Err.refusal c.tell.result c.status.result c.requires.empty
-      c.in-Err.ensures.refused c.in-Err.ensures.nameless (λ e. absurd (false≢true e)) c.tell.ensures.told
-      c.status.ensures c.tell.ensures.line;
-}
+pub returns-in-Err-clause-answered : goal.returns-in-Err-clause-answered
+returns-in-Err-clause-answered g c = answered-words _ _ _ _ _ _ _ _ _ c.in-Err.refusal c.tell.result c.status.result c.requires.empty
+    c.in-Err.ensures.refused c.in-Err.ensures.nameless (λ e. absurd (false≢true e)) c.tell.ensures.told
+    c.status.ensures c.tell.ensures.line
 
-pub returns-in-Ok-carry_out : goal.returns-in-Ok-carry_out
-returns-in-Ok-carry_out g c = record {
-  answered = answered-run _ _ (λ e. false≢true e)
-      (c.in-Ok-carry_out.ensures.carried (texts c.args.words.now) c.in-Ok.ensures.read);
-}
+pub returns-in-Ok-carry_out-clause-answered : goal.returns-in-Ok-carry_out-clause-answered
+returns-in-Ok-carry_out-clause-answered g c = answered-run _ _ (λ e. false≢true e)
+    (c.in-Ok-carry_out.ensures.carried (texts c.args.words.now) c.in-Ok.ensures.read)
 
-pub returns : goal.returns
-returns g c = record {
-  answered = answered-told _ _ c.in-Err-carry_out.refusal c.tell-2.result c.status-2.result _ (λ e. absurd (false≢true e))
-      (c.in-Err-carry_out.ensures.carried (texts c.args.words.now) c.in-Ok.ensures.read) c.tell-2.ensures.told
-      c.status-2.ensures
-      (called-line (texts c.args.words.now) (read_in c.in-Ok.words) c.tell-2.result (texts c.deref.result.now)
-      c.in-Ok.ensures.read (ap texts c.deref.ensures.value))
-      c.tell-2.ensures.line;
-}
+pub returns-clause-answered : goal.returns-clause-answered
+returns-clause-answered g c = answered-told _ _ c.in-Err-carry_out.refusal c.tell-2.result c.status-2.result _ (λ e. absurd (false≢true e))
+    (c.in-Err-carry_out.ensures.carried (texts c.args.words.now) c.in-Ok.ensures.read) c.tell-2.ensures.told
+    c.status-2.ensures
+    (called-line (texts c.args.words.now) (read_in c.in-Ok.words) c.tell-2.result (texts c.deref.result.now)
+    c.in-Ok.ensures.read (ap texts c.deref.ensures.value))
+    c.tell-2.ensures.line

@@ -11,63 +11,55 @@ use Rattle.jfluid_cli.specs.Stages.{IsPrepared}
 use Rattle.jfluid_cli.proofs.Carried.{carried-refused, carried-input, carried-memory, carried-run, of-program}
 use Rattle.jfluid_cli.proofs.top.carry_out.Goals as goal
 
-pub returns-in-Err : goal.returns-in-Err
-returns-in-Err g c = record {
-  carried = λ list read. carried-refused _ (read_in c.args.words.now) c.in-Err.refusal read c.requires.empty
-      (record { taken = refl; faults = refl }) (record { taken = refl; faults = refl })
-      (record { taken = refl; faults = refl }) refl
-      (c.in-Err.ensures.early _ read refl) c.in-Err.ensures.cause;
-}
+pub returns-in-Err-clause-carried : goal.returns-in-Err-clause-carried
+returns-in-Err-clause-carried g c = λ list read. carried-refused _ (read_in c.args.words.now) c.in-Err.refusal read c.requires.empty
+    (record { taken = refl; faults = refl }) (record { taken = refl; faults = refl })
+    (record { taken = refl; faults = refl }) refl
+    (c.in-Err.ensures.early _ read refl) c.in-Err.ensures.cause
 
-pub returns-in-Err-take : goal.returns-in-Err-take
-returns-in-Err-take g c =
+pub returns-in-Err-take-clause-carried : goal.returns-in-Err-take-clause-carried
+returns-in-Err-take-clause-carried g c =
     let l = c.in-Ok.loaded in
-    record {
-      carried = λ list read. carried-input _ c.in-Err-take.refusal c.requires.empty
-          (record { taken = refl; faults = refl }) (record { taken = refl; faults = refl })
-          (record { taken = refl; faults = refl }) (c.in-Ok.ensures.calm refl)
-          (of-program _ l.plan l.budget l.contents l.program (c.in-Ok.ensures.ok _ read refl))
-          c.in-Err-take.ensures.refused;
-    }
+    λ list read. carried-input _ c.in-Err-take.refusal c.requires.empty
+    (record { taken = refl; faults = refl }) (record { taken = refl; faults = refl })
+    (record { taken = refl; faults = refl }) (c.in-Ok.ensures.calm refl)
+    (of-program _ l.plan l.budget l.contents l.program (c.in-Ok.ensures.ok _ read refl))
+    c.in-Err-take.ensures.refused
 
-pub returns-in_default : goal.returns-in_default
-returns-in_default g c = record {
-  carried = λ list read. carried-memory _ c.requires.empty
-      (record { taken = refl; faults = refl }) (record { taken = refl; faults = refl })
-      (record { taken = refl; faults = refl });
-}
+pub returns-in_default-clause-carried : goal.returns-in_default-clause-carried
+returns-in_default-clause-carried g c = λ list read. carried-memory _ c.requires.empty
+    (record { taken = refl; faults = refl }) (record { taken = refl; faults = refl })
+    (record { taken = refl; faults = refl })
 
 pub run_made-requires-clause-acts : goal.run_made-requires-clause-acts
 run_made-requires-clause-acts g c =
     subst (λ (p : Program). CanBeTaken p.acts) (sym c.in-Ok-make.ensures.runs.program_is) c.in-Ok.ensures.acts
 
-pub returns : goal.returns
-returns g c =
+pub returns-clause-carried : goal.returns-clause-carried
+returns-clause-carried g c =
     let l = c.in-Ok.loaded in
     let made = c.in-Ok-make.made_of in
-    record {
-      carried = λ list read.
-          (let given : Given = record {
-            words = list;
-            told = g.F.Files.contents c.args.files.now;
-            left = g.I.Source.left c.args.input.now;
-          } in
-          carried-run _ c.is_some-summary.result l.budget made c.run_made.result (read_in c.args.words.now) read
-          c.is_some-summary.ensures
-          (record {
-            program = l.program;
-            prepared = subst (λ (p : Plan). IsPrepared given p l.budget made.classes l.program)
-                (sym c.in-Ok-make.ensures.plan)
-                (subst (λ (contents : List (List ℕ)). IsPrepared given l.plan l.budget contents l.program) (sym c.in-Ok-make.ensures.classes) (c.in-Ok.ensures.ok given read refl));
-            runs = subst (λ (bytes : List ℕ). RunsProgram l.program bytes made.session.value)
-                (sym c.in-Ok-make.ensures.input) c.in-Ok-make.ensures.runs;
-            input = subst (λ (bytes : List ℕ). IfSome given.left (λ all. bytes ≡ all))
-                (sym c.in-Ok-make.ensures.input) c.in-Ok-take.ensures.all;
-            short = subst (λ (bytes : List ℕ). length bytes ≤ most_input)
-                (sym c.in-Ok-make.ensures.input) c.in-Ok-take.ensures.short;
-            ended = c.in-Ok-take.ensures.ended refl;
-          })
-          c.run_made.ensures.same c.run_made.ensures.run c.run_made.ensures.front c.run_made.ensures.images
-          c.run_made.ensures.unasked
-          (c.in-Ok.ensures.calm refl) (c.in-Ok-take.ensures.calm refl));
-    }
+    λ list read.
+    (let given : Given = record {
+      words = list;
+      told = g.F.Files.contents c.args.files.now;
+      left = g.I.Source.left c.args.input.now;
+    } in
+    carried-run _ c.is_some-summary.result l.budget made c.run_made.result (read_in c.args.words.now) read
+    c.is_some-summary.ensures
+    (record {
+      program = l.program;
+      prepared = subst (λ (p : Plan). IsPrepared given p l.budget made.classes l.program)
+          (sym c.in-Ok-make.ensures.plan)
+          (subst (λ (contents : List (List ℕ)). IsPrepared given l.plan l.budget contents l.program) (sym c.in-Ok-make.ensures.classes) (c.in-Ok.ensures.ok given read refl));
+      runs = subst (λ (bytes : List ℕ). RunsProgram l.program bytes made.session.value)
+          (sym c.in-Ok-make.ensures.input) c.in-Ok-make.ensures.runs;
+      input = subst (λ (bytes : List ℕ). IfSome given.left (λ all. bytes ≡ all))
+          (sym c.in-Ok-make.ensures.input) c.in-Ok-take.ensures.all;
+      short = subst (λ (bytes : List ℕ). length bytes ≤ most_input)
+          (sym c.in-Ok-make.ensures.input) c.in-Ok-take.ensures.short;
+      ended = c.in-Ok-take.ensures.ended refl;
+    })
+    c.run_made.ensures.same c.run_made.ensures.run c.run_made.ensures.front c.run_made.ensures.images
+    c.run_made.ensures.unasked
+    (c.in-Ok.ensures.calm refl) (c.in-Ok-take.ensures.calm refl))

@@ -37,15 +37,11 @@ answered-given words given contents files files_after input input_after streams 
     subst (λ (w : Result (List (List ℕ)) OutOfMemory).
     IsAnswered (call-of w contents files files_after input input_after streams kept) status)
 
-pub returns-in-Err : goal.returns-in-Err
-returns-in-Err g c = record {
-  answered = answered-words c.args.words _ _ _ _ _ _ _ _ NoMemory c.tell.result c.status.result refl
-      tt (λ a b xs ys. refl) (λ e. of-memory c.tell.result c.tell.ensures.told) c.tell.ensures.told
-      c.status.ensures c.tell.ensures.line;
-}
+pub returns-in-Err-clause-answered : goal.returns-in-Err-clause-answered
+returns-in-Err-clause-answered g c = answered-words c.args.words _ _ _ _ _ _ _ _ NoMemory c.tell.result c.status.result refl
+    tt (λ a b xs ys. refl) (λ e. of-memory c.tell.result c.tell.ensures.told) c.tell.ensures.told
+    c.status.ensures c.tell.ensures.line
 
-pub returns : goal.returns
-returns g c = record {
-  answered = answered-given _ _ _ _ _ _ _ _ _ _ (ap Ok c.as_slice.ensures ∙ sym c.in-Ok.is)
-      c.answer_words.ensures.answered;
-}
+pub returns-clause-answered : goal.returns-clause-answered
+returns-clause-answered g c = answered-given _ _ _ _ _ _ _ _ _ _ (ap Ok c.as_slice.ensures ∙ sym c.in-Ok.is)
+    c.answer_words.ensures.answered

@@ -34,5 +34,5 @@ returns-clause-run g c =
     c.run_all-outcome.new.session
     (record c.args.made_of { session = record c.args.made_of.session { value = c.answer-answered.new.session } })
     c.answer-answered.ensures.carried_out c.answer-answered.ensures.gathered c.answer-answered.ensures.shown
-    c.answer-answered.ensures.stopped c.run_all-outcome.ensures.carried_out
+    c.answer-answered.ensures.stopped c.answer-answered.ensures.unshown c.run_all-outcome.ensures.carried_out
     c.run_all-outcome.ensures.cause

@@ -1,10 +1,11 @@
-use Rattle.std.proofs.Common.{◌<◌, sym, subst, refl, length}
+use Rattle.std.proofs.Common.{◌<◌, ◌∙◌, sym, subst, refl, length}
 use Rattle.jvm_model.specs.Revealed.{with_method_entered}
 use Rattle.jvm_model.specs.Sound.{HasClass}
 use Rattle.class_linker.specs.Linkers.{LinkerView}
 use Rattle.call_revelation.specs.Reveals.{IsRevelation}
 use Rattle.profile_session.specs.Parts.{loaded_in, revealed_in}
 use Rattle.profile_session.proofs.Points.{ahead-of, class-loaded, fit-of, front-same, linked, method-within, point-of, reveals-linked, showable-of}
+use Rattle.profile_session.proofs.Unchanged.{point-itself}
 use Rattle.profile_session.proofs.parts.Parts.enter.Goals as goal
 
 pub entered-requires-clause-revelation : goal.entered-requires-clause-revelation
@@ -48,3 +49,9 @@ returns c =
     point-of x c.show.new.self c.entered.new.self r c.requires.shown
     (reveals-linked x c.entered.new.self c.linker.result.now r (linked c.linker.result.now c.args.self.now.vm c.linker.ensures.program (c.linker.ensures.loaded c.requires.fit.whole)) c.in_ok-entered.ensures.revelation c.in_ok-entered.ensures.now c.in_ok-entered.ensures.shown refl)
     c.in_ok-show.ensures
+
+pub returns-then-is_entered : goal.returns-then-is_entered
+returns-then-is_entered c =
+    let x = c.args.self.now in
+    point-itself x c.args.method c.requires.fit c.requires.shown
+    (sym (c.requires.fit.revelation.kept.flags c.args.method) ∙ (sym c.is_entered.ensures ∙ c.if-is_entered.true))

@@ -1,0 +1,5 @@
+pub mod SceneLemmas
+pub mod HappeningLemmas
+pub mod RowLemmas
+pub mod ToldLemmas
+pub mod LookLemmas

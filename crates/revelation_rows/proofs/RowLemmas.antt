@@ -1,0 +1,126 @@
+-- What comes of one item, and of all that is left.
+use Rattle.std.proofs.Common.{◌≡◌, ◌≢◌, ◌<◌, ◌≤◌, ◌+◌, ℕ, zero, suc, true, false, List, [], ◌∷◌, Some, None, drop, length, ap, add-one, sym, ◌∙◌, subst, refl, arith}
+use Rattle.std.specs.Prelude.{Option, get_or, slice_get}
+use Rattle.std.proofs.lemmas.Option.{same_Some}
+use Rattle.jvm_model.specs.declared.program.Program.{Program}
+use Rattle.jvm_model.specs.Revealed.{marks_of}
+use Rattle.class_linker.specs.Linkers.{LinkerView}
+use Rattle.call_revelation.specs.declared.reveal.Reveal.{Reveal}
+use Rattle.call_revelation.specs.Reveals.{now_of}
+use Rattle.revelation_rows.specs.declared.item.Difference.{Difference}
+use Rattle.revelation_rows.specs.declared.item.Difference.TheVariants.{Came, NotLoaded}
+use Rattle.revelation_rows.specs.declared.item.Fact.{Fact}
+use Rattle.revelation_rows.specs.declared.item.Happening.{Happening}
+use Rattle.revelation_rows.specs.declared.item.Happening.TheVariants.{Deselected, Entered, Loaded, Quiet, Selected, Shown}
+use Rattle.revelation_rows.specs.declared.item.Item.{Item}
+use Rattle.revelation_rows.specs.declared.item.Item.TheVariants.{Happens, Is}
+use Rattle.revelation_rows.specs.Rows.{Comes, Differs, Passes, Seen, behind, can_be_asked, can_be_told, first, revealed_by, shown_by}
+use Rattle.revelation_rows.specs.Scenes.{GoesOn, HasHappened, IsFresh, IsReady, IsSeen, IsToldOf, StopsAt, marks_shown}
+
+-- ---- one item
+
+-- which marks are shown behind a happening
+shown-behind : (p : Program) (happening : Happening) (r : Reveal) (s : Seen) → now_of r ≡ s.now → r.shown ≡ marks_of p s.before
+    → marks_shown p happening r ≡ marks_of p (shown_by happening s)
+shown-behind p (Loaded name) r s now shown = shown
+shown-behind p (Entered method times) r s now shown = shown
+shown-behind p (Selected method) r s now shown = shown
+shown-behind p (Deselected method) r s now shown = shown
+shown-behind p Quiet r s now shown = shown
+shown-behind p Shown r s now shown = ap (marks_of p) now
+
+goes-on : (happening : Happening) (l : LinkerView) (r : Reveal) (next : LinkerView) (after : Reveal) → HasHappened happening l r next after
+    → can_be_asked l.program (now_of r) (Happens happening) ≡ true → GoesOn (Happens happening) l r next after
+goes-on happening l r next after has can = record {
+  ready = has.ready;
+  program = has.program;
+  passes = λ s seen. ap (λ n. can_be_asked l.program n (Happens happening)) (sym seen.now) ∙ can;
+  seen = λ s seen. record {
+    now = has.now ∙ ap (revealed_by l.program happening) seen.now;
+    shown = has.shown ∙ (shown-behind l.program happening r s seen.now seen.shown ∙ ap (λ p. marks_of p (shown_by happening s)) (sym has.program));
+  };
+}
+
+-- where it is this one
+pub goes-on-as : (happening said : Happening) (l : LinkerView) (r : Reveal) (next : LinkerView) (after : Reveal) → happening ≡ said
+    → HasHappened said l r next after → can_be_asked l.program (now_of r) (Happens said) ≡ true → GoesOn (Happens happening) l r next after
+goes-on-as happening said l r next after e has can =
+    subst (λ h. GoesOn (Happens h) l r next after) (sym e) (goes-on said l r next after has can)
+
+pub cannot-happen : (happening : Happening) (l : LinkerView) (r : Reveal) → can_be_asked l.program (now_of r) (Happens happening) ≡ false
+    → StopsAt (Happens happening) l r NotLoaded
+cannot-happen happening l r cannot s seen = ap (λ n. can_be_asked l.program n (Happens happening)) (sym seen.now) ∙ cannot
+
+pub untold : (fact : Fact) (l : LinkerView) (r : Reveal) → can_be_told l.program (now_of r) fact ≡ false → StopsAt (Is fact) l r NotLoaded
+untold fact l r cannot s seen = ap (λ n. can_be_told l.program n fact) (sym seen.now) ∙ cannot
+
+pub fact-holds : (fact came : Fact) (l : LinkerView) (r : Reveal) → IsReady l r → IsToldOf l r fact came → came ≡ fact → GoesOn (Is fact) l r l r
+fact-holds fact came l r ready is same = record {
+  ready = ready;
+  program = refl;
+  passes = subst (IsToldOf l r fact) same is;
+  seen = λ s seen. seen;
+}
+
+pub fact-differs : (fact came : Fact) (l : LinkerView) (r : Reveal) → IsToldOf l r fact came → came ≢ fact → StopsAt (Is fact) l r (Came came)
+fact-differs fact came l r is other s seen = (is s seen, other)
+
+-- ---- what is left of a row
+
+-- what comes of the rest comes of all, from what is seen now
+pub record IsGoing (p : Program) (items : List Item) (start : Seen) (l : LinkerView) (r : Reveal) (rest : List Item) : Type 0 where
+  pub ready : IsReady l r
+  pub program : l.program ≡ p
+  pub stands : Seen
+  pub seen : IsSeen l r stands
+  pub comes : (found : Option Difference) → Comes p rest stands found → Comes p items start found
+
+pub going-first : (items : List Item) (l : LinkerView) (r : Reveal) → IsFresh l r → IsGoing l.program items (first l.loaded) l r items
+going-first items l r is = record { ready = is.ready; program = refl; stands = first l.loaded; seen = is.seen; comes = λ found comes. comes }
+
+-- what is read of the items in a loop
+there : (xs : List Item) (i : ℕ) (x : Item) → i < length xs → x ≡ get_or xs i x → slice_get xs i ≡ Some x
+there [] i x less e = absurd (omega (arith, less))
+there (y ∷ ys) zero x less e = ap Some (sym e)
+there (y ∷ ys) (suc i) x less e = there ys i x (omega (arith, less)) e
+
+dropped : (xs : List Item) (i : ℕ) (x : Item) → slice_get xs i ≡ Some x → drop i xs ≡ x ∷ drop (suc i) xs
+dropped [] i x e = absurd cc
+dropped (y ∷ ys) zero x e = ap (λ z. z ∷ ys) (same_Some y x e)
+dropped (y ∷ ys) (suc i) x e = dropped ys i x e
+
+next-dropped : (xs : List Item) (i : ℕ) (x : Item) → i < length xs → x ≡ get_or xs i x → drop i xs ≡ x ∷ drop (i + 1) xs
+next-dropped xs i x less e = dropped xs i x (there xs i x less e) ∙ ap (λ k. x ∷ drop k xs) (sym (add-one i))
+
+past : (xs : List Item) (i : ℕ) → length xs ≤ i → drop i xs ≡ []
+past [] zero e = refl
+past [] (suc i) e = refl
+past (x ∷ xs) zero e = absurd (omega (arith, e))
+past (x ∷ xs) (suc i) e = past xs i (omega (arith, e))
+
+-- one item more
+one-more : (p : Program) (items : List Item) (start : Seen) (l : LinkerView) (r : Reveal) (next : LinkerView) (after : Reveal) (x : Item) (rest : List Item)
+    → IsGoing p items start l r (x ∷ rest) → GoesOn x l r next after → IsGoing p items start next after rest
+one-more p items start l r next after x rest is on = record {
+  ready = on.ready;
+  program = on.program ∙ is.program;
+  stands = behind p x is.stands;
+  seen = subst (λ q. IsSeen next after (behind q x is.stands)) is.program (on.seen is.stands is.seen);
+  comes = λ found comes. is.comes found (Comes.more x rest is.stands found (subst (λ q. Passes q is.stands x) is.program (on.passes is.stands is.seen)) comes);
+}
+
+pub going-next : (p : Program) (items : List Item) (start : Seen) (l : LinkerView) (r : Reveal) (next : LinkerView) (after : Reveal) (i : ℕ) (x : Item)
+    → i < length items → x ≡ get_or items i x → IsGoing p items start l r (drop i items) → GoesOn x l r next after
+    → IsGoing p items start next after (drop (i + 1) items)
+going-next p items start l r next after i x less e is on =
+    one-more p items start l r next after x (drop (i + 1) items) (subst (IsGoing p items start l r) (next-dropped items i x less e) is) on
+
+pub comes-none : (p : Program) (items : List Item) (start : Seen) (l : LinkerView) (r : Reveal) (i : ℕ) → length items ≤ i
+    → IsGoing p items start l r (drop i items) → Comes p items start None
+comes-none p items start l r i end is = is.comes None (subst (λ rest. Comes p rest is.stands None) (sym (past items i end)) (Comes.all is.stands))
+
+pub comes-some : (p : Program) (items : List Item) (start : Seen) (l : LinkerView) (r : Reveal) (i : ℕ) (x : Item) (difference : Difference)
+    → i < length items → x ≡ get_or items i x → IsGoing p items start l r (drop i items) → StopsAt x l r difference → Comes p items start (Some difference)
+comes-some p items start l r i x difference less e is stops =
+    is.comes (Some difference) (subst (λ rest. Comes p rest is.stands (Some difference)) (sym (next-dropped items i x less e))
+    (Comes.stops x (drop (i + 1) items) is.stands difference (subst (λ q. Differs q is.stands x difference) is.program (stops is.stands is.seen))))

@@ -1,0 +1,116 @@
+-- An admitted program can be linked and revealed, and a revelation follows what its linker loads.
+use Rattle.std.proofs.Common.{◌≡◌, ℕ, true, false, ◌+◌, ◌<◌, ◌^◌, List, [], ◌∷◌, ◌++◌, length, ap, sym, subst, refl, ◌∙◌}
+use Rattle.std.specs.Prelude.{Option, Some, None}
+use Rattle.std.specs.Option.{option_map_or}
+use Rattle.std.proofs.lemmas.Option.{slice_get_within}
+use Rattle.jvm_model.specs.declared.program.MethodPlace.{MethodPlace}
+use Rattle.jvm_model.specs.declared.program.Program.{Program}
+use Rattle.jvm_model.specs.KindNumbers.{user_count}
+use Rattle.jvm_model.specs.Load.{is_among, load_of}
+use Rattle.jvm_model.specs.Points.{has_class}
+use Rattle.jvm_model.specs.Programs.{place_of_method}
+use Rattle.jvm_model.specs.Revealed.{Revealed, with_loaded}
+use Rattle.jvm_model.specs.Sound.{HasClass, HasSupertypes}
+use Rattle.jvm_model.proofs.LoadOrder.{load-order}
+use Rattle.jvm_model.proofs.SoundClasses.{named-load}
+use Rattle.class_linker.specs.declared.answers.Loaded.{Loaded}
+use Rattle.class_linker.specs.declared.answers.Loaded.TheVariants.{New, Already, Throws, NoMemory}
+use Rattle.class_linker.specs.Linkers.{IsLoaded, LinkerView, linker_of, loaded_by}
+use Rattle.jvm_named.specs.Numbers.{all_coded}
+use Rattle.program_fit.specs.Runnable.{IsAdmitted}
+use Rattle.program_fit.proofs.Runs.{runnable}
+use Rattle.call_revelation.specs.declared.reveal.Reveal.{Reveal}
+use Rattle.call_revelation.specs.Reveals.{IsAhead, IsFront, IsRevelation, nothing_revealed, now_of}
+use Rattle.call_revelation.proofs.CodedMethods.{few-coded}
+use Rattle.call_revelation.proofs.Fronts.{front-among, front-more, front-self, front-then}
+use Rattle.revelation_rows.specs.Scenes.{IsAlong, IsLinked, IsReady}
+
+-- ---- what is loaded more
+
+load-front : (p : Program) (loaded name : List ℕ) → IsFront loaded (load_of p loaded name).loaded
+load-front p loaded name =
+    (named-load p (IsFront loaded)
+    (λ l class needs front. front-then loaded l (l ++ class ∷ []) front (front-more l (l ++ class ∷ []) (class ∷ []) refl))
+    (length p.classes + 1) [] name loaded).kept (front-self loaded)
+
+by-load : (l : LinkerView) (name : List ℕ) → IsLinked l (record { program = l.program; loaded = (load_of l.program l.loaded name).loaded })
+by-load l name = record {
+  program = refl;
+  front = load-front l.program l.loaded name;
+  order = load-order l.program l.loaded name;
+}
+
+by-answer : (l : LinkerView) (result : Loaded) (name : List ℕ) → IsLinked l (loaded_by result name l)
+by-answer l (New kind classes) name = by-load l name
+by-answer l (Already kind) name = by-load l name
+by-answer l (Throws error classes absent) name = by-load l name
+by-answer l NoMemory name = record { program = refl; front = front-self l.loaded; order = λ order. order }
+
+pub linked : (l next : LinkerView) (result : Loaded) (name : List ℕ) → next ≡ loaded_by result name l → IsLinked l next
+linked l next result name e = subst (IsLinked l) (sym e) (by-answer l result name)
+
+-- ---- what follows it
+
+pub along-linked : (l next : LinkerView) (r : Reveal) → IsAlong l r → IsLinked l next → IsAlong next r
+along-linked l next r is by = record {
+  admitted = subst IsAdmitted (sym by.program) is.admitted;
+  revelation = subst (λ p. IsRevelation p r) (sym by.program) is.revelation;
+  front = front-then (now_of r).loaded l.loaded next.loaded is.front by.front;
+  order = by.order is.order;
+}
+
+pub along-ahead : (l : LinkerView) (r : Reveal) → IsAlong l r → IsLoaded l (user_count l.program) → IsAhead l r
+along-ahead l r is root = record { loaded = λ class h. front-among r.lineage.loaded l.loaded class is.front h; root = root }
+
+pub root-linked : (l next : LinkerView) → IsLoaded l (user_count l.program) → IsLinked l next → IsLoaded next (user_count next.program)
+root-linked l next root by =
+    front-among l.loaded next.loaded (user_count next.program) by.front (ap (λ p. is_among (user_count p) l.loaded) by.program ∙ root)
+
+pub now-ready : (l : LinkerView) (old new : Reveal) → IsAlong l old → IsLoaded l (user_count l.program) → IsRevelation l.program new
+    → now_of new ≡ with_loaded l.loaded (now_of old) → IsReady l new
+now-ready l old new is root revelation now =
+    let same : (now_of new).loaded ≡ l.loaded = ap (λ (n : Revealed). n.loaded) now in
+    record {
+      along = record { admitted = is.admitted; revelation = revelation; front = subst (λ xs. IsFront xs l.loaded) (sym same) (front-self l.loaded); order = is.order };
+      same = same;
+      root = root;
+    }
+
+none-above : (p : Program) → HasSupertypes p []
+none-above p = record { superclass = λ class h. absurd cc; interfaces = λ class h. absurd cc }
+
+-- nothing is loaded of an admitted program
+pub nothing-along : (p : Program) (l : LinkerView) (r : Reveal) → IsAdmitted p → l ≡ linker_of p → IsRevelation p r → now_of r ≡ nothing_revealed → IsAlong l r
+nothing-along p l r admitted e revelation now = subst (λ l. IsAlong l r) (sym e) (record {
+  admitted = admitted;
+  revelation = revelation;
+  front = subst (λ (n : Revealed). IsFront n.loaded []) (sym now) (front-self []);
+  order = none-above p;
+})
+
+-- ---- a method of a class that is loaded
+
+pub ready-ahead : (l : LinkerView) (r : Reveal) → IsReady l r → IsAhead l r
+ready-ahead l r is = along-ahead l r is.along is.root
+
+-- it has a place
+placed : (p : Program) (loaded : List ℕ) (method : ℕ) (found : Option MethodPlace)
+    → option_map_or (λ (place : MethodPlace). is_among place.class loaded) found false ≡ true → (place : MethodPlace) × (found ≡ Some place)
+placed p loaded method None has = absurd cc
+placed p loaded method (Some place) has = (place, refl)
+
+pub within : (p : Program) (loaded : List ℕ) (method : ℕ) → has_class p loaded method ≡ true → method < length p.methods
+within p loaded method has =
+    let at = placed p loaded method (place_of_method p method) has in slice_get_within p.methods method at.0 at.1
+
+pub class-loaded : (p : Program) (loaded : List ℕ) (method : ℕ) → has_class p loaded method ≡ true → HasClass p loaded method
+class-loaded p loaded method has place e =
+    ap (λ found. option_map_or (λ (place : MethodPlace). is_among place.class loaded) found false) (sym e) ∙ has
+
+pub class-known : (l : LinkerView) (r : Reveal) (method : ℕ) → IsReady l r → has_class l.program l.loaded method ≡ true → HasClass l.program r.lineage.loaded method
+class-known l r method is has = subst (λ xs. HasClass l.program xs method) (sym is.same) (class-loaded l.program l.loaded method has)
+
+-- ---- methods are numbered
+
+pub few-methods : (p : Program) → IsAdmitted p → all_coded p.classes < 2 ^ 32
+few-methods p admitted = let fits = (runnable p admitted).fits in few-coded p fits.numbered fits.methods

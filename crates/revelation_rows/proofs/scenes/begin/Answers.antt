@@ -1,0 +1,18 @@
+use Rattle.std.proofs.Common.{ap, sym, ◌∙◌}
+use Rattle.jvm_model.specs.Load.{is_among}
+use Rattle.revelation_rows.proofs.HappeningLemmas.{fresh}
+use Rattle.revelation_rows.proofs.SceneLemmas.{along-linked}
+use Rattle.revelation_rows.proofs.scenes.begin.Goals as goal
+
+pub follow-requires-clause-along : goal.follow-requires-clause-along
+follow-requires-clause-along c =
+    along-linked c.args.scene.now.linker c.link.new.linker c.args.scene.now.reveal c.requires.along c.link.ensures.linked
+
+pub follow-requires-clause-root : goal.follow-requires-clause-root
+follow-requires-clause-root c =
+    ap (λ class. is_among class c.link.new.linker.loaded) (sym c.user_count.ensures.count) ∙ (sym c.is_loaded.ensures ∙ c.if-not-is_loaded.false)
+
+pub returns : goal.returns
+returns c = λ e.
+    fresh c.args.scene.now.linker c.link.new.linker c.args.scene.now.reveal c.follow.new.reveal c.requires c.link.ensures.linked
+    c.in_ok-follow.ensures.ready c.in_ok-follow.ensures.now c.follow.ensures.shown

@@ -1,0 +1,5 @@
+package q;
+
+public class Q extends p.P {
+    int f() { return 2; }
+}

@@ -1,0 +1,100 @@
+-- What a scene keeps to, and what is seen of it.
+use Rattle.std.specs.Prelude.{◌≡◌, ℕ, false, List, [], Option, Some, None}
+use Rattle.jvm_model.specs.declared.event.Mark.{Mark}
+use Rattle.jvm_model.specs.declared.program.Program.{Program}
+use Rattle.jvm_model.specs.KindNumbers.{user_count}
+use Rattle.jvm_model.specs.Load.{load_of}
+use Rattle.jvm_model.specs.Revealed.{marks_of}
+use Rattle.jvm_model.specs.Revelation.{IsLoadOrder}
+use Rattle.class_linker.specs.Linkers.{IsLoaded, LinkerView}
+use Rattle.program_fit.specs.Runnable.{IsAdmitted}
+use Rattle.call_revelation.specs.declared.reveal.Reveal.{Reveal}
+use Rattle.call_revelation.specs.Reveals.{IsFront, IsRevelation, nothing_revealed, now_of}
+use Rattle.revelation_rows.specs.declared.item.Difference.{Difference}
+use Rattle.revelation_rows.specs.declared.item.Fact.{Fact}
+use Rattle.revelation_rows.specs.declared.item.Happening.{Happening}
+use Rattle.revelation_rows.specs.declared.item.Happening.TheVariants.{Deselected, Entered, Loaded, Quiet, Selected, Shown}
+use Rattle.revelation_rows.specs.declared.item.Item.{Item}
+use Rattle.revelation_rows.specs.Rows.{Differs, IsTold, Passes, Seen, behind, can_be_told, first, revealed_by}
+
+-- ---- what it keeps to
+
+-- of the same program more is loaded, in order where it was
+pub record IsLinked (old new : LinkerView) : Type 0 where
+  pub program : new.program ≡ old.program
+  pub front : IsFront old.loaded new.loaded
+  pub order : IsLoadOrder old.program [] old.loaded → IsLoadOrder new.program [] new.loaded
+
+-- behind a load
+abbrev pub loading : List ℕ → LinkerView → LinkerView
+loading name l = record { program = l.program; loaded = (load_of l.program l.loaded name).loaded }
+
+-- the revelation is that of an admitted program, and the linker has loaded what it knows, in order, and more behind it
+pub record IsAlong (l : LinkerView) (r : Reveal) : Type 0 where
+  pub admitted : IsAdmitted l.program
+  pub revelation : IsRevelation l.program r
+  pub front : IsFront (now_of r).loaded l.loaded
+  pub order : IsLoadOrder l.program [] l.loaded
+
+-- so it is, it knows what the linker has loaded, and java/lang/Object is loaded
+pub record IsReady (l : LinkerView) (r : Reveal) : Type 0 where
+  pub along : IsAlong l r
+  pub same : (now_of r).loaded ≡ l.loaded
+  pub root : IsLoaded l (user_count l.program)
+
+-- ---- what is seen of it
+
+pub record IsSeen (l : LinkerView) (r : Reveal) (s : Seen) : Type 0 where
+  pub now : now_of r ≡ s.now
+  pub shown : r.shown ≡ marks_of l.program s.before
+
+-- nothing is loaded, and nothing was shown
+pub record IsBlank (l : LinkerView) (r : Reveal) : Type 0 where
+  pub along : IsAlong l r
+  pub seen : IsSeen l r (record { now = nothing_revealed; before = nothing_revealed })
+
+-- only what is loaded is seen
+pub record IsFresh (l : LinkerView) (r : Reveal) : Type 0 where
+  pub ready : IsReady l r
+  pub seen : IsSeen l r (first l.loaded)
+
+-- ---- what becomes of it
+
+abbrev pub marks_shown : Program → Happening → Reveal → List Mark
+marks_shown p (Loaded name) r = r.shown
+marks_shown p (Entered method times) r = r.shown
+marks_shown p (Selected method) r = r.shown
+marks_shown p (Deselected method) r = r.shown
+marks_shown p Quiet r = r.shown
+marks_shown p Shown r = marks_of p (now_of r)
+
+pub record HasHappened (happening : Happening) (l : LinkerView) (r : Reveal) (next : LinkerView) (after : Reveal) : Type 0 where
+  pub ready : IsReady next after
+  pub program : next.program ≡ l.program
+  pub now : now_of after ≡ revealed_by l.program happening (now_of r)
+  pub shown : after.shown ≡ marks_shown l.program happening r
+
+-- the fact of its kind that is told of whatever is seen
+abbrev pub IsToldOf : LinkerView → Reveal → Fact → Fact → Type 0
+IsToldOf l r wanted came = (s : Seen) → IsSeen l r s → IsTold l.program s wanted came
+
+-- an item passes, and what is seen is what stands behind it
+pub record GoesOn (item : Item) (l : LinkerView) (r : Reveal) (next : LinkerView) (after : Reveal) : Type 0 where
+  pub ready : IsReady next after
+  pub program : next.program ≡ l.program
+  pub passes : (s : Seen) → IsSeen l r s → Passes l.program s item
+  pub seen : (s : Seen) → IsSeen l r s → IsSeen next after (behind l.program item s)
+
+-- what is told of a fact: that of its kind, unless it cannot be told
+abbrev pub IsAnswered : LinkerView → Reveal → Fact → Option Fact → Type 0
+IsAnswered l r fact None = can_be_told l.program (now_of r) fact ≡ false
+IsAnswered l r fact (Some came) = IsToldOf l r fact came
+
+-- an item does not pass, which is told
+abbrev pub StopsAt : Item → LinkerView → Reveal → Difference → Type 0
+StopsAt item l r difference = (s : Seen) → IsSeen l r s → Differs l.program s item difference
+
+-- what comes of an item: what is seen goes on, or it stops there
+abbrev pub ComesTo : Item → LinkerView → Reveal → LinkerView → Reveal → Option Difference → Type 0
+ComesTo item l r next after None = GoesOn item l r next after
+ComesTo item l r next after (Some difference) = StopsAt item l r difference

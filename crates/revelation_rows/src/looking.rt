@@ -1,0 +1,81 @@
+//! What is the case in a scene, beside what a row says of it.
+
+ghost use Rattle.std.specs.Prelude.{◌≡◌, ◌≢◌, true, false, IfOk};
+ghost use Rattle.jvm_model.specs.Points.{has_class};
+ghost use Rattle.jvm_model.specs.Revealed.{marks_of};
+ghost use Rattle.call_revelation.specs.Reveals.{now_of};
+ghost use Rattle.revelation_rows.specs.Rows.{AreTargets};
+ghost use Rattle.revelation_rows.specs.Scenes.{IsAnswered, IsReady};
+
+use crate::item::Fact;
+use crate::scenes::{Scene, has_class};
+use call_revelation::{Reveal, targets};
+use class_linker::Linker;
+use jf_bytes::{NoMemory, Seq};
+use jvm_model::Mark;
+use std::alloc::Global;
+
+/// The marks of all methods, by their numbers.
+fn marks(alloc: Global, linker: &Linker, reveal: &Reveal) -> Result<Seq<Mark>, NoMemory>
+    requires { IsReady linker.now reveal.now }
+    ensures { IfOk result (λ ms. ms ≡ marks_of linker.now.program (now_of reveal.now)) }
+{
+    let places = linker.program().methods.as_slice();
+    let mut marks = Seq::new(alloc);
+    for (method, _place) in places.iter().enumerate() {
+        marks.push(reveal.mark(method as u32))?;
+    }
+    Ok(marks)
+}
+
+/// The methods that this one, whose class is loaded, can begin.
+fn begun(alloc: Global, linker: &Linker, reveal: &Reveal, method: u32) -> Result<Seq<u32>, NoMemory>
+    requires ready { IsReady linker.now reveal.now }
+    requires class { has_class linker.now.program linker.now.loaded method ≡ true }
+    ensures { IfOk result (AreTargets linker.now.program (now_of reveal.now) method) }
+{
+    targets(alloc, method, linker)
+}
+
+/// The fact of the same kind that is the case, where it can be told.
+pub fn told(
+    alloc: Global,
+    linker: &Linker,
+    reveal: &Reveal,
+    fact: &Fact,
+) -> Result<Option<Fact>, NoMemory>
+    requires { IsReady linker.now reveal.now }
+    ensures { IfOk result (IsAnswered linker.now reveal.now fact.now) }
+{
+    match fact {
+        Fact::Marks(_) => Ok(Some(Fact::Marks(marks(alloc, linker, reveal)?))),
+        Fact::Changed(_) => Ok(Some(Fact::Changed(reveal.changed(alloc)?))),
+        Fact::Begins(method, _) => {
+            if has_class(linker, *method) {
+                Ok(Some(Fact::Begins(*method, begun(alloc, linker, reveal, *method)?)))
+            } else {
+                Ok(None)
+            }
+        }
+        Fact::IsSelected(method, _) => Ok(Some(Fact::IsSelected(
+            *method,
+            reveal.is_selected(*method),
+        ))),
+        Fact::SelectsAny(_) => Ok(Some(Fact::SelectsAny(reveal.selects()))),
+    }
+}
+
+/// Whether two facts are the same.
+pub fn is_same(wanted: &Fact, came: &Fact) -> bool
+    ensures same { result ≡ true → came.now ≡ wanted.now }
+    ensures other { result ≡ false → came.now ≢ wanted.now }
+{
+    match (wanted, came) {
+        (Fact::Marks(a), Fact::Marks(b)) => a.as_slice() == b.as_slice(),
+        (Fact::Changed(a), Fact::Changed(b)) => a.as_slice() == b.as_slice(),
+        (Fact::Begins(m, a), Fact::Begins(n, b)) => *m == *n && a.as_slice() == b.as_slice(),
+        (Fact::IsSelected(m, a), Fact::IsSelected(n, b)) => *m == *n && *a == *b,
+        (Fact::SelectsAny(a), Fact::SelectsAny(b)) => *a == *b,
+        _ => false,
+    }
+}

@@ -1,0 +1,106 @@
+//! The files of the rows, and why a row is not played.
+
+ghost use Rattle.std.specs.Prelude.{◌≡◌};
+
+use jf_bytes::{FetchError, Files, NoMemory};
+use std::alloc::{AllocError, AllocFailed, Global};
+use thiserror::Error;
+
+/// The greatest length of a file: none comes near it.
+const MOST: usize = 67_108_864;
+
+/// Why a row is not played.
+#[derive(Debug, Drop, Error)]
+pub enum RowError {
+    /// A file that a word names is not there.
+    #[error("there is no file {0}")]
+    Missing(String),
+    /// A file of rows is no text.
+    #[error("{0} is no UTF-8")]
+    NotText(String),
+    #[error("a class file is none")]
+    NotRead,
+    #[error("the classes are not admitted")]
+    NotAdmitted,
+    #[error("java/lang/Object is not loaded")]
+    NoRoot,
+    /// A word of the row says nothing.
+    #[error("the row is not understood")]
+    Unknown,
+    #[error("no memory")]
+    NoMemory,
+}
+
+impl From<AllocError> for RowError {
+    fn from(_error: AllocError) -> RowError {
+        RowError::NoMemory
+    }
+}
+
+impl<T: Drop> From<AllocFailed<T>> for RowError {
+    fn from(_error: AllocFailed<T>) -> RowError {
+        RowError::NoMemory
+    }
+}
+
+impl From<NoMemory> for RowError {
+    fn from(_error: NoMemory) -> RowError {
+        RowError::NoMemory
+    }
+}
+
+/// The contents of the class files, and the lines of all files of rows.
+#[derive(Drop)]
+pub struct Input {
+    pub classes: Vec<Vec<u8>>,
+    pub rows: String,
+}
+
+fn fetch_file<F: Files>(alloc: Global, path: &str, files: &mut F) -> Result<Vec<u8>, RowError> {
+    match files.fetch(alloc, path, MOST) {
+        Ok(bytes) => Ok(bytes),
+        Err(FetchError::Failed) => Err(RowError::Missing(String::from_str(alloc, path)?)),
+        Err(FetchError::NoMemory) => Err(RowError::NoMemory),
+    }
+}
+
+/// Adds a file by its path: a class file where its name ends so, and else rows.
+fn add_file<F: Files>(
+    alloc: Global,
+    input: &mut Input,
+    path: &str,
+    files: &mut F,
+) -> Result<(), RowError> {
+    let bytes = fetch_file(alloc, path, files)?;
+    if path.ends_with(".class") {
+        input.classes.push(bytes)?;
+        return Ok(());
+    }
+    let Ok(text) = String::from_utf8(bytes) else {
+        return Err(RowError::NotText(String::from_str(alloc, path)?));
+    };
+    input.rows.push_str(text.as_str())?;
+    Ok(())
+}
+
+/// The files that these words name, but for so many first ones.
+pub fn read_files<F: Files>(
+    alloc: Global,
+    words: &[String],
+    first: usize,
+    files: &mut F,
+) -> Result<Input, RowError> {
+    let mut input = Input {
+        classes: Vec::new(alloc),
+        rows: String::new(alloc),
+    };
+    for word in words.iter().skip(first) {
+        add_file(alloc, &mut input, word.as_str(), files)?;
+    }
+    Ok(input)
+}
+
+/// Whether a line is a row, and neither empty nor a remark.
+pub fn is_row(line: &str) -> bool {
+    !line.is_empty() && !line.starts_with('#')
+}

@@ -1,0 +1,211 @@
+//! A program whose classes are loaded and whose methods are entered and selected as a row says.
+
+ghost use Rattle.std.specs.Prelude.{◌≡◌, true, IfOk, OnOk};
+ghost use Rattle.jvm_model.specs.KindNumbers.{user_count};
+ghost use Rattle.jvm_model.specs.Points.{has_class};
+ghost use Rattle.jvm_model.specs.Revealed.{with_loaded};
+ghost use Rattle.class_linker.specs.Linkers.{IsLoaded};
+ghost use Rattle.program_fit.specs.Runnable.{IsAdmitted};
+ghost use Rattle.call_revelation.specs.Reveals.{now_of};
+ghost use Rattle.revelation_rows.specs.declared.item.Happening.TheVariants.{Loaded as class_loaded, Entered, Selected, Deselected, Quiet, Shown};
+ghost use Rattle.revelation_rows.specs.Scenes.{HasHappened, IsAlong, IsBlank, IsFresh, IsLinked, IsReady, loading};
+
+use crate::spent::{Spent, taken};
+use call_revelation::Reveal;
+use class_linker::{Linker, Loaded};
+use jf_bytes::{NoMemory, Text16, from_utf8};
+use jvm_model::Program;
+use jvm_named::user_count;
+use std::alloc::Global;
+use std::time::CpuClock;
+
+/// What is loaded, what is selected, entered and marked, and what was taken.
+#[derive(Drop)]
+pub struct Scene {
+    pub linker: Linker,
+    pub reveal: Reveal,
+    pub spent: Spent,
+}
+
+// ---- classes are loaded
+
+/// The linker loads the class of this name with what it needs.
+fn link(linker: &mut Linker, name: &Text16) -> Result<(), NoMemory>
+    ensures linked { IsLinked linker.old linker.new }
+    ensures loaded { OnOk result (linker.new ≡ loading name.now linker.old) }
+{
+    match linker.load(name) {
+        Loaded::New(..) => Ok(()),
+        Loaded::Already(..) => Ok(()),
+        Loaded::Throws(..) => Ok(()),
+        Loaded::NoMemory => Err(NoMemory),
+    }
+}
+
+/// The revelation takes what the linker has loaded.
+fn follow(alloc: Global, linker: &Linker, reveal: &mut Reveal) -> Result<(), NoMemory>
+    requires along { IsAlong linker.now reveal.old }
+    requires root { IsLoaded linker.now (user_count linker.now.program) }
+    ensures ready { OnOk result (IsReady linker.now reveal.new) }
+    ensures now { OnOk result (now_of reveal.new
+        ≡ with_loaded linker.now.loaded (now_of reveal.old)) }
+    ensures shown { reveal.new.shown ≡ reveal.old.shown }
+{
+    reveal.loaded(alloc, linker)
+}
+
+/// The class of this name is loaded with what it needs.
+pub fn load<R: CpuClock>(
+    rt: &R,
+    alloc: Global,
+    scene: &mut Scene,
+    name: &Text16,
+) -> Result<(), NoMemory>
+    requires { IsReady scene.old.linker scene.old.reveal }
+    ensures { OnOk result (HasHappened (class_loaded name.now) scene.old.linker scene.old.reveal
+        scene.new.linker scene.new.reveal) }
+{
+    let start = taken(rt);
+    link(&mut scene.linker, name)?;
+    let linked = taken(rt);
+    follow(alloc, &scene.linker, &mut scene.reveal)?;
+    let end = taken(rt);
+    scene
+        .spent
+        .add(linked.saturating_sub(start), end.saturating_sub(linked));
+    Ok(())
+}
+
+// ---- the start
+
+/// Nothing is loaded.
+fn blank_scene(alloc: Global, program: Program) -> Result<Scene, NoMemory>
+    requires { IsAdmitted program }
+    ensures { IfOk result (λ s. IsBlank s.linker s.reveal) }
+{
+    let mut reveal = Reveal::new(alloc, &program)?;
+    reveal.show();
+    let linker = Linker::new(alloc, program)?;
+    Ok(Scene {
+        linker,
+        reveal,
+        spent: Spent {
+            linker: 0,
+            revelation: 0,
+        },
+    })
+}
+
+/// The same, in a place of its own.
+pub fn new_scene(alloc: Global, program: Program) -> Result<Box<Scene>, NoMemory>
+    requires { IsAdmitted program }
+    ensures { IfOk result (λ s. IsBlank s.value.linker s.value.reveal) }
+{
+    let scene = blank_scene(alloc, program)?;
+    let place = Box::new(alloc, scene)?;
+    Ok(place)
+}
+
+/// Loads java/lang/Object. Whether it could be.
+pub fn begin(alloc: Global, scene: &mut Scene) -> Result<bool, NoMemory>
+    requires { IsBlank scene.old.linker scene.old.reveal }
+    ensures { IfOk result (λ began. began ≡ true →
+        IsFresh scene.new.linker scene.new.reveal) }
+{
+    let name = from_utf8(alloc, "java/lang/Object")?;
+    link(&mut scene.linker, &name)?;
+    if !scene.linker.is_loaded(user_count(&scene.linker)) {
+        return Ok(false);
+    }
+    follow(alloc, &scene.linker, &mut scene.reveal)?;
+    Ok(true)
+}
+
+// ---- methods are entered and selected
+
+/// Whether the class of a method is loaded.
+pub fn has_class(linker: &Linker, method: u32) -> bool
+    ensures { result ≡ has_class linker.now.program linker.now.loaded method }
+{
+    match linker.program().methods.at(method as usize) {
+        Some(place) => linker.is_loaded(place.class),
+        None => false,
+    }
+}
+
+/// The method, whose class is loaded, is entered.
+fn enter_once(
+    alloc: Global,
+    linker: &Linker,
+    reveal: &mut Reveal,
+    method: u32,
+) -> Result<(), NoMemory>
+    requires ready { IsReady linker.now reveal.old }
+    requires class { has_class linker.now.program linker.now.loaded method ≡ true }
+    ensures { OnOk result (HasHappened (Entered method 1) linker.now reveal.old
+        linker.now reveal.new) }
+{
+    reveal.entered(alloc, linker, method)
+}
+
+/// The method, whose class is loaded, is entered so many times.
+pub fn enter<R: CpuClock>(
+    rt: &R,
+    alloc: Global,
+    scene: &mut Scene,
+    method: u32,
+    times: u32,
+) -> Result<(), NoMemory>
+    requires ready { IsReady scene.old.linker scene.old.reveal }
+    requires class { has_class scene.old.linker.program scene.old.linker.loaded method ≡ true }
+    ensures { OnOk result (HasHappened (Entered method times) scene.old.linker scene.old.reveal
+        scene.new.linker scene.new.reveal) }
+{
+    let start = taken(rt);
+    for _ in 0..times {
+        enter_once(alloc, &scene.linker, &mut scene.reveal, method)?;
+    }
+    let end = taken(rt);
+    scene.spent.add(0, end.saturating_sub(start));
+    Ok(())
+}
+
+pub fn select(
+    alloc: Global,
+    linker: &Linker,
+    reveal: &mut Reveal,
+    method: u32,
+) -> Result<(), NoMemory>
+    requires { IsReady linker.now reveal.old }
+    ensures { OnOk result (HasHappened (Selected method) linker.now reveal.old
+        linker.now reveal.new) }
+{
+    reveal.selected(alloc, method)
+}
+
+pub fn deselect(
+    alloc: Global,
+    linker: &Linker,
+    reveal: &mut Reveal,
+    method: u32,
+) -> Result<(), NoMemory>
+    requires { IsReady linker.now reveal.old }
+    ensures { OnOk result (HasHappened (Deselected method) linker.now reveal.old
+        linker.now reveal.new) }
+{
+    reveal.deselected(alloc, method)
+}
+
+pub fn quiet(linker: &Linker, reveal: &mut Reveal) -> Result<(), NoMemory>
+    requires { IsReady linker.now reveal.old }
+    ensures { OnOk result (HasHappened Quiet linker.now reveal.old linker.now reveal.new) }
+{
+    reveal.quiet()
+}
+
+pub fn show(linker: &Linker, reveal: &mut Reveal)
+    requires { IsReady linker.now reveal.old }
+    ensures { HasHappened Shown linker.now reveal.old linker.now reveal.new }
+{
+    reveal.show();
+}
