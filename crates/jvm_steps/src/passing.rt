@@ -21,9 +21,9 @@ ghost use Rattle.jvm_steps.specs.Runs.{IsCalm};
 ghost use Rattle.jvm_steps.specs.States.{here_of};
 ghost use Rattle.jvm_steps.specs.Versions.{current_of, line_at, mark_of};
 
+use crate::going::{next_in, top_datum, value_of};
 use crate::invoking::{begin_frame, may_begin};
 use crate::line::{Action, Line};
-use crate::going::{next_in, top_datum, value_of};
 use crate::markers::{Marker, marker_on};
 use crate::originals::Originals;
 use crate::parts::{Here, Parts, where_now};
@@ -285,9 +285,7 @@ fn pass_line(
         return false;
     };
     match &line.action {
-        Action::Named(naming) => pass_named(
-            alloc, originals, parts, markers, here, line, naming,
-        ),
+        Action::Named(naming) => pass_named(alloc, originals, parts, markers, here, line, naming),
         Action::Return(kind) => pass_return(originals, parts, markers, here, line, *kind),
         _ => false,
     }
