@@ -9,10 +9,7 @@ use Rattle.std.proofs.lemmas.List.{length-set}
 use Rattle.frame_stack.specs.FrameLists.{PlacedFrame, pins_of}
 use Rattle.method_versions.proofs.Adding.{set-at, set-other}
 use Rattle.method_versions.specs.Tables.{current_in, held_besides, is_number, is_old, is_superseded_in}
-use Rattle.jvm_model.specs.declared.event.Mark.{Mark}
-use Rattle.jvm_model.specs.declared.event.Mark.TheVariants.{Off, Plain, Root}
 use Rattle.jvm_model.specs.declared.state.Entry.{Entry}
-use Rattle.jvm_model.specs.declared.state.Entry.TheVariants.{Active, Initializing}
 use Rattle.jvm_model.specs.declared.state.State.{State}
 use Rattle.jvm_steps.specs.declared.markers.Marker.{Marker}
 use Rattle.jvm_steps.specs.declared.parts.Parts.{Parts}
@@ -20,7 +17,6 @@ use Rattle.jvm_steps.specs.Markers.{above, beneath, initializing, stack_of, stat
 use Rattle.jvm_steps.specs.States.{active}
 use Rattle.jvm_steps.specs.Tables.{Adds, AreAllCurrent, AreOfMethods, IsAdded, Releases, Version, Versions, version_at}
 use Rattle.jvm_model.specs.Run.{starts_with, with_loaded}
-use Rattle.jvm_model.specs.Told.{Held, helds}
 use Rattle.jvm_steps.specs.declared.hands.Hand.{Hand}
 use Rattle.jvm_steps.specs.Versions.{Setup}
 use Rattle.jvm_machine.specs.Advances.{taken_state}

@@ -1,5 +1,5 @@
 -- Steps that tell nothing are settled in one turn each.
-use Rattle.std.proofs.Common.{◌≡◌, ℕ, zero, suc, ◌+◌, ◌<◌, Bool, true, false, List, [], ◌∷◌, drop, length, refl, sym, ap, ap₂, subst, ◌∙◌, arith}
+use Rattle.std.proofs.Common.{◌≡◌, ℕ, zero, suc, ◌+◌, ◌<◌, Bool, true, false, List, [], drop, refl, sym, ap, ap₂, subst, ◌∙◌, arith}
 use Rattle.std.specs.Prelude.{is_some, not, ◌==◌, ◌&&◌, if◌then◌else◌}
 use Rattle.std.proofs.lemmas.Bool.{and_parts}
 use Rattle.jvm_model.specs.declared.due.Due.TheVariants.{Nothing}
@@ -8,8 +8,8 @@ use Rattle.jvm_model.specs.declared.state.State.{State}
 use Rattle.jvm_model.specs.Data.{Change, Text, Turn}
 use Rattle.jvm_model.specs.Originals.{original}
 use Rattle.jvm_model.specs.Pauses.{Pause, Stop, stop_from, stop_in}
-use Rattle.jvm_model.specs.Rest.{Attempt, loads_first, step_loads}
-use Rattle.jvm_model.specs.Run.{before, loaded_turn, run, step, turn, turn_in-more, with_loaded}
+use Rattle.jvm_model.specs.Rest.{Attempt, loads_first}
+use Rattle.jvm_model.specs.Run.{before, run, step, turn, turn_in-more}
 use Rattle.jvm_model.specs.StandsFor.{mark_at}
 use Rattle.jvm_model.specs.StepPauses.{step_pause}
 use Rattle.jvm_model.specs.Told.{Held, helds, mark_now}
@@ -23,7 +23,7 @@ use Rattle.jvm_steps.specs.declared.markers.Marker.{Marker}
 use Rattle.jvm_steps.specs.declared.parts.Parts.{Parts}
 use Rattle.jvm_steps.specs.Markers.{state_of}
 use Rattle.jvm_steps.specs.Passing.{AreSilent, IsSilent, Passes as Silent, runs}
-use Rattle.jvm_steps.specs.Runs.{IsCalm, Leads, steps_from, steps_from-suc, steps_from-zero}
+use Rattle.jvm_steps.specs.Runs.{Leads, steps_from, steps_from-suc, steps_from-zero}
 use Rattle.jvm_steps.specs.Standing.{IsRunOf, places_of}
 use Rattle.jvm_steps.specs.Versions.{Setup, current_of, mark_of, method_of, text_of}
 use Rattle.jvm_steps.proofs.StandingSteps.{run-of-more}
@@ -32,7 +32,7 @@ use Rattle.jvm_machine.specs.Machine.{IsMachine, IsTidy, Stands, marks_of, seen}
 use Rattle.jvm_machine.proofs.Going.{marks-same}
 use Rattle.jvm_machine.specs.Several.{Passes, more, none}
 use Rattle.jvm_machine.specs.Turns.{Settles}
-use Rattle.jvm_machine.specs.View.{View, advanced, begun, has_ended, is_resting, loads_next, next_stop, rested, to_come, world}
+use Rattle.jvm_machine.specs.View.{View, advanced, begun, has_ended, is_resting, loads_next, next_stop, rested, world}
 use Rattle.jvm_machine.proofs.Machines.{not_is, zero_is}
 use Rattle.jvm_machine.proofs.Shown.{stands-shows}
 

@@ -1,5 +1,5 @@
 -- What a machine that runs versions keeps to.
-use Rattle.std.specs.Prelude.{◌≡◌, ℕ, Bool, true, false, not, List, [], ◌∷◌, length, map, ◌⊎◌, ◌==◌, ◌&&◌}
+use Rattle.std.specs.Prelude.{◌≡◌, ℕ, Bool, true, false, not, List, length, map, ◌⊎◌, ◌&&◌}
 use Rattle.std.specs.List.{list_any, range_with_len}
 use Rattle.method_versions.specs.Tables.{is_superseded_in}
 use Rattle.jvm_model.specs.declared.event.Mark.{Mark}

@@ -1,28 +1,24 @@
 -- A call of a method whose current version has no probes is a step of the run of which nothing is told.
-use Rattle.std.proofs.Common.{◌≡◌, ℕ, suc, Bool, true, false, cond, List, [], ◌∷◌, ◌++◌, length, map, take, drop, Option, Some, None, refl, sym, ap, subst, ◌∙◌, arith}
+use Rattle.std.proofs.Common.{◌≡◌, ℕ, suc, Bool, true, false, cond, List, [], ◌∷◌, ◌++◌, length, map, take, drop, Some, None, refl, sym, ap, subst, ◌∙◌, arith}
 use Rattle.std.specs.Prelude.{is_none, is_some, nat_le, nat_lt, reverse, ◌==◌, ◌&&◌, ◌||◌}
 use Rattle.std.specs.Option.{option_map}
 use Rattle.std.proofs.lemmas.Bool.{and_parts}
 use Rattle.std.proofs.lemmas.List.{append-nil}
 use Rattle.std.proofs.lemmas.Option.{none-some, same_Some}
 use Rattle.heap_objects.specs.declared.Value.{Value}
-use Rattle.const_pool.specs.declared.descriptor.Kind.{Kind}
 use Rattle.frame_stack.specs.Widths.{height_of}
 use Rattle.frame_stack.specs.FrameLists.{FramesView, PlacedFrame, has_frame, top_operands, with_frames, without_arguments}
-use Rattle.jvm_basic.specs.Outcomes.{top_locals}
 use Rattle.jvm_model.specs.declared.due.Due.TheVariants.{Begins, Nothing}
 use Rattle.jvm_model.specs.declared.event.Mark.{Mark}
 use Rattle.jvm_model.specs.declared.event.Mark.TheVariants.{Off}
 use Rattle.jvm_model.specs.declared.state.Entry.{Entry}
-use Rattle.jvm_model.specs.declared.state.Frame.{Frame}
 use Rattle.jvm_model.specs.declared.state.Shared.{Shared}
 use Rattle.jvm_model.specs.declared.state.State.{State}
 use Rattle.jvm_model.specs.Applies.{begins, begins_beside, breaks, has_room, invokes, live_in, most_live, new_frame, still, throws_at, with_frame}
-use Rattle.jvm_model.specs.Data.{Began, Datum, Done, Invokes, Naming, Operands, Outcome, Text, Turn}
+use Rattle.jvm_model.specs.Data.{Began, Datum, Done, Invokes, Naming, Operands, Text, Turn}
 use Rattle.jvm_model.specs.Does.{loads}
 use Rattle.jvm_model.specs.Moves.{left, settled}
 use Rattle.jvm_model.specs.Naming.{newly_loaded}
-use Rattle.jvm_model.specs.ObjectRules.{done}
 use Rattle.jvm_model.specs.Pauses.{stop_by, stop_in, unless_off}
 use Rattle.jvm_model.specs.Programs.{max_locals_of}
 use Rattle.jvm_model.specs.Rest.{loads_at, loads_on, step_loads}
@@ -49,7 +45,7 @@ use Rattle.jvm_steps.specs.Invoking.{called, may_begin}
 use Rattle.jvm_steps.specs.Markers.{marker_on, stack_of, state_of, with_markers}
 use Rattle.jvm_steps.specs.Passing.{AreKeptBy, Passes, on_frames, runs, steps_if}
 use Rattle.jvm_steps.specs.Ready.{CanRun}
-use Rattle.jvm_steps.specs.Runs.{IsCalm, steps_from, steps_from-zero}
+use Rattle.jvm_steps.specs.Runs.{IsCalm, steps_from-zero}
 use Rattle.jvm_steps.specs.States.{active, frame_in, here_of, state_in, state_with}
 use Rattle.jvm_steps.specs.Versions.{Setup, current_of, instruction_in, line_at, mark_of, operation_as, text_of}
 use Rattle.jvm_steps.proofs.Arguments.{height-reverse, length-slots, spread-data}
@@ -58,7 +54,7 @@ use Rattle.jvm_steps.proofs.Leading.{leads-one}
 use Rattle.jvm_steps.proofs.LineSteps.{top-frame}
 use Rattle.jvm_steps.proofs.MarkedStacks.{live-stack, none-more}
 use Rattle.jvm_steps.proofs.NamedLaws.{Asks, Takes, is-named}
-use Rattle.jvm_steps.proofs.PassingSteps.{follows, i, is-step, reached, step-turn, under}
+use Rattle.jvm_steps.proofs.PassingSteps.{follows, is-step, reached, step-turn, under}
 use Rattle.jvm_steps.proofs.PlainSteps.{at-rest, framed}
 use Rattle.jvm_steps.proofs.QuietLines.{with-frame-rests}
 use Rattle.jvm_steps.proofs.SilentSteps.{silent-one}

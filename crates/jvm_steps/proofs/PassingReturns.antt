@@ -1,12 +1,11 @@
 -- A return from a version that has no probes and is its method's current one is a step of the run of which nothing is told.
-use Rattle.std.proofs.Common.{◌≡◌, ℕ, suc, ◌-◌, Bool, true, false, cond, List, [], ◌∷◌, ◌++◌, length, map, Option, Some, None, refl, sym, ap, subst, ◌∙◌, arith, eqb-true}
-use Rattle.std.specs.Prelude.{is_none, is_some, nat_le, ◌==◌, ◌&&◌, ◌||◌}
+use Rattle.std.proofs.Common.{◌≡◌, ℕ, ◌-◌, Bool, true, false, cond, List, [], ◌∷◌, ◌++◌, length, map, Option, Some, None, refl, sym, ap, ◌∙◌, arith, eqb-true}
+use Rattle.std.specs.Prelude.{is_none, is_some, ◌==◌, ◌&&◌, ◌||◌}
 use Rattle.std.specs.Option.{option_map}
 use Rattle.std.proofs.lemmas.Bool.{false≢true}
 use Rattle.std.proofs.lemmas.Option.{none-some, same_Some}
 use Rattle.heap_objects.specs.declared.datum.Datum.{Datum}
 use Rattle.const_pool.specs.declared.descriptor.Kind.{Kind}
-use Rattle.frame_stack.specs.Widths.{height_of}
 use Rattle.frame_stack.specs.FrameLists.{FramesView, PlacedFrame, has_frame, top_operands}
 use Rattle.method_versions.specs.Tables.{is_superseded_in}
 use Rattle.jvm_model.specs.declared.due.Due.TheVariants.{Ends, Nothing}
@@ -14,13 +13,11 @@ use Rattle.jvm_model.specs.declared.event.EventKind.TheVariants as kind
 use Rattle.jvm_model.specs.declared.event.Mark.{Mark}
 use Rattle.jvm_model.specs.declared.event.Mark.TheVariants.{Off}
 use Rattle.jvm_model.specs.declared.state.Entry.{Entry}
-use Rattle.jvm_model.specs.declared.state.Entry.TheVariants.{Active}
-use Rattle.jvm_model.specs.declared.state.Frame.{Frame}
 use Rattle.jvm_model.specs.declared.state.State.{State}
 use Rattle.jvm_model.specs.Applies.{breaks, gives_back, goes, resumes, with_frame}
-use Rattle.jvm_model.specs.Data.{Instruction, Left, Outcome, Return, Returns, Text, Turn, Within}
+use Rattle.jvm_model.specs.Data.{Instruction, Left, Return, Returns, Text, Turn}
 use Rattle.jvm_model.specs.LocalRules.{returns}
-use Rattle.jvm_model.specs.Moves.{left, move, settled}
+use Rattle.jvm_model.specs.Moves.{left, move}
 use Rattle.jvm_model.specs.ObjectRules.{done}
 use Rattle.jvm_model.specs.Pauses.{stop_by, stop_in, unless_off}
 use Rattle.jvm_model.specs.Rest.{loads_at, loads_on, step_loads}
@@ -34,12 +31,12 @@ use Rattle.jvm_steps.specs.declared.line.Line.{Line}
 use Rattle.jvm_steps.specs.declared.markers.Marker.{Marker}
 use Rattle.jvm_steps.specs.declared.parts.Here.{Here}
 use Rattle.jvm_steps.specs.declared.parts.Parts.{Parts}
-use Rattle.jvm_steps.specs.Acts.{acts, acts_by, attempts_on, gives_back_line, is_named, named_in, on_parts, on_top, resumes_line, returns_or_ends}
+use Rattle.jvm_steps.specs.Acts.{acts, acts_by, attempts_on, is_named, named_in, on_top, resumes_line, returns_or_ends}
 use Rattle.jvm_steps.specs.Markers.{marker_on, stack_of, state_of, with_markers}
 use Rattle.jvm_steps.specs.Passing.{AreKeptBy, Passes, caller_line, fits_given, gone_back, on_frames, runs}
 use Rattle.jvm_steps.specs.Ready.{CanRun}
 use Rattle.jvm_steps.specs.Runs.{IsCalm}
-use Rattle.jvm_steps.specs.States.{active, frame_in, here_of, state_in, state_with}
+use Rattle.jvm_steps.specs.States.{active, frame_in, here_of, state_with}
 use Rattle.jvm_steps.specs.Versions.{Setup, instruction_in, line_at, mark_of, next_in, operation_as, text_of}
 use Rattle.jvm_steps.proofs.Beneath.{awaits-unnamed, does-beneath, does-there, top-there}
 use Rattle.jvm_steps.proofs.Leading.{leads-one}

@@ -1,5 +1,5 @@
 -- Steps that tell nothing: those without changes, and one behind the other.
-use Rattle.std.proofs.Common.{◌≡◌, ℕ, zero, suc, ◌+◌, ◌-◌, ◌<◌, Bool, true, false, List, [], ◌∷◌, length, inl, inr, refl, sym, ap, subst, ◌∙◌, arith}
+use Rattle.std.proofs.Common.{◌≡◌, ℕ, ◌+◌, ◌-◌, Bool, true, false, List, [], ◌∷◌, length, inl, inr, refl, sym, ap, subst, ◌∙◌, arith}
 use Rattle.std.specs.Prelude.{cond, ◌==◌, ◌||◌}
 use Rattle.std.proofs.lemmas.Bool.{cases_lt}
 use Rattle.jvm_model.specs.declared.due.Due.TheVariants.{Nothing}
@@ -20,7 +20,7 @@ use Rattle.jvm_model.proofs.StepPausing.{step-paused}
 use Rattle.jvm_steps.specs.declared.markers.Marker.{Marker}
 use Rattle.jvm_steps.specs.declared.parts.Parts.{Parts}
 use Rattle.jvm_steps.specs.Markers.{marker_on, state_of}
-use Rattle.jvm_steps.specs.Passing.{AreKeptBy, AreSilent, IsSilent, Passes, runs}
+use Rattle.jvm_steps.specs.Passing.{AreSilent, IsSilent, Passes, runs}
 use Rattle.jvm_steps.specs.Runs.{IsCalm, LeadsAlone, steps_from, steps_from-zero}
 use Rattle.jvm_steps.specs.Versions.{Setup, mark_of, text_of}
 use Rattle.jvm_steps.proofs.Leading.{leads-none, leads-on, steps-parts}

@@ -1,4 +1,4 @@
-use Rattle.std.proofs.Common.{◌≡◌, sym, subst, refl}
+use Rattle.std.proofs.Common.{sym, subst, refl}
 use Rattle.std.specs.Prelude.{IfSome}
 use Rattle.jvm_model.specs.Naming.{Invokeinterface, Invokespecial, Invokestatic, Invokevirtual}
 use Rattle.jvm_named.specs.declared.naming.Naming.{Naming as Kept}

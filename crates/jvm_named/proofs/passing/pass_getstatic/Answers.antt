@@ -13,7 +13,7 @@ use Rattle.jvm_named.specs.Answers.{answer_in, answer_view, done_on, frames_in}
 use Rattle.jvm_named.specs.Known.{IsFoundAs}
 use Rattle.jvm_named.specs.Members.{at_place, reference_of}
 use Rattle.jvm_named.specs.Passing.{IfPassed}
-use Rattle.jvm_named.specs.Resolved.{field_found, gets_static}
+use Rattle.jvm_named.specs.Resolved.{gets_static}
 use Rattle.jvm_named.proofs.PassingLemmas.{passed-by, when-usable}
 use Rattle.jvm_named.proofs.Quiet.{shared_getstatic, writes_getstatic}
 use Rattle.jvm_named.proofs.passing.pass_getstatic.Goals as goal

@@ -1,19 +1,14 @@
-use Rattle.std.proofs.Common.{◌≡◌, true, Some, sym, ap, subst, ◌∙◌}
-use Rattle.std.specs.Prelude.{IfSome}
+use Rattle.std.proofs.Common.{◌≡◌, true, sym, ap, subst, ◌∙◌}
 use Rattle.frame_stack.specs.FrameLists.{top_operands}
 use Rattle.class_linker.specs.Linkers.{LinkerView}
 use Rattle.jvm_named.specs.Answers.{done_on}
 use Rattle.jvm_named.specs.Attempts.{attempts, loads_nothing, world_over}
 use Rattle.jvm_named.specs.Known.{IsKnown}
 use Rattle.jvm_named.specs.Names.{naming_view}
-use Rattle.jvm_named.specs.Numbers.{AreNumbers}
-use Rattle.jvm_named.specs.Objects.{AreLoaded, HasLoadedCaller}
-use Rattle.jvm_named.specs.Passing.{IfPassed, IsCall}
-use Rattle.jvm_steps.specs.Linked.{linker_in}
-use Rattle.jvm_steps.specs.Versions.{line_at}
-use Rattle.jvm_steps.proofs.PassingCalls.{called-passes}
-use Rattle.jvm_steps.proofs.PassingSteps.{access-passes, held-there, nothing-new}
-use Rattle.jvm_steps.proofs.Sounded.{caller-linked, objects-linked}
+use Rattle.jvm_named.specs.Objects.{AreLoaded}
+use Rattle.jvm_named.specs.Passing.{IfPassed}
+use Rattle.jvm_steps.proofs.PassingSteps.{access-passes}
+use Rattle.jvm_steps.proofs.Sounded.{objects-linked}
 use Rattle.jvm_steps.proofs.passing.pass_access.Goals as goal
 
 pub pass_field-requires-clause-linked : goal.pass_field-requires-clause-linked
