@@ -6,12 +6,11 @@ use Rattle.std.specs.Option.{IfSome, option_and_then}
 use Rattle.std.proofs.lemmas.List.{ext_get_or, length-set}
 use Rattle.frame_stack.specs.FrameLists.{PlacedFrame, pins_of}
 use Rattle.method_versions.specs.Tables.{held_besides, is_number, is_superseded_in}
-use Rattle.jvm_model.specs.Families.{family_of}
 use Rattle.jvm_named.specs.Objects.{HasDimensions}
 use Rattle.jvm_steps.specs.declared.line.Line.{Line}
 use Rattle.jvm_steps.specs.Lines.{IfNamedBy}
 use Rattle.jvm_steps.specs.Tables.{Adds, AreAllCurrent, AreOfMethods, IsAdded, Releases, Version, Versions, version_at}
-use Rattle.jvm_steps.specs.Versions.{HasLines, HasOwnLines, line_at, line_in}
+use Rattle.jvm_steps.specs.Versions.{HasLines, HasOwnLines, IsPrepared, line_at, line_in}
 
 module _ (P : Line → Type 0) where
   abbrev AreLines : Versions → Type 0
@@ -40,15 +39,12 @@ module _ (P : Line → Type 0) where
   lines-left fs v after released each k place =
       subst (at place) (sym (released.held k)) (left-or-none v k place (is_superseded_in v.slots v.current k && pins_of k fs == 0) each)
 
-abbrev HasFamily : Line → Type 0
-HasFamily l = l.family ≡ family_of l.instr.op
-
 abbrev CanHave : Line → Type 0
 CanHave l = IfNamedBy l.action l.next (λ n next. HasDimensions n)
 
-families-of : (xs : List Version) → AllByRecursion HasOwnLines xs → AllByRecursion (λ (x : Version). (place : ℕ) → IfSome (line_in place x) HasFamily) xs
-families-of [] each = tt
-families-of (x ∷ xs) each = (each.0.families, families-of xs each.1)
+prepared-of : (xs : List Version) → AllByRecursion HasOwnLines xs → AllByRecursion (λ (x : Version). (place : ℕ) → IfSome (line_in place x) IsPrepared) xs
+prepared-of [] each = tt
+prepared-of (x ∷ xs) each = (each.0.prepared, prepared-of xs each.1)
 
 dimensions-of : (xs : List Version) → AllByRecursion HasOwnLines xs → AllByRecursion (λ (x : Version). (place : ℕ) → IfSome (line_in place x) CanHave) xs
 dimensions-of [] each = tt
@@ -56,13 +52,13 @@ dimensions-of (x ∷ xs) each = (each.0.dimensions, dimensions-of xs each.1)
 
 pub has-lines-all : (fs : List PlacedFrame) (xs : List Version) (v after : Versions) → Adds fs xs v after → AllByRecursion HasOwnLines xs → HasLines v → HasLines after
 has-lines-all fs xs v after adds own lines = record {
-  families = lines-all HasFamily fs xs v after adds (families-of xs own) lines.families;
+  prepared = lines-all IsPrepared fs xs v after adds (prepared-of xs own) lines.prepared;
   dimensions = lines-all CanHave fs xs v after adds (dimensions-of xs own) lines.dimensions;
 }
 
 pub has-lines-left : (fs : List PlacedFrame) (v after : Versions) → Releases fs v after → HasLines v → HasLines after
 has-lines-left fs v after released lines = record {
-  families = lines-left HasFamily fs v after released lines.families;
+  prepared = lines-left IsPrepared fs v after released lines.prepared;
   dimensions = lines-left CanHave fs v after released lines.dimensions;
 }
 

@@ -20,9 +20,8 @@ use Rattle.jvm_steps.specs.Entries.{no_version, original_version, version_of}
 use Rattle.jvm_model.specs.ProgramPlaces.{HasClosedCodes}
 use Rattle.jvm_steps.specs.Ready.{IsOwnLine}
 use Rattle.jvm_steps.specs.Standing.{AreMethodImages, IsMethodImage, IsOfProgram, places_of}
-use Rattle.jvm_steps.specs.Versions.{HasOwnLines, line_in}
+use Rattle.jvm_steps.specs.Versions.{HasOwnLines, IsPrepared, line_in}
 use Rattle.jvm_steps.proofs.Dimensions.{Fits}
-use Rattle.jvm_steps.proofs.LineFamilies.{KeepsFamily}
 use Rattle.jvm_steps.proofs.MethodImages.{code-is, method-image}
 use Rattle.jvm_steps.proofs.OriginalTexts.{is-original, own}
 use Rattle.jvm_steps.proofs.OriginalVersions.{original-lines, original-own}
@@ -87,10 +86,10 @@ original-keeps : (p : Program) (k : ℕ) → HasOwnLines (original_version p k)
 original-keeps p k =
     ⊎_elim
     (λ (lt : k < length p.methods). record {
-      families = λ place. subst (λ (o : Option Version). IfSome (option_and_then (line_in place) o) KeepsFamily) (there p k lt) ((original-lines p).families k place);
+      prepared = λ place. subst (λ (o : Option Version). IfSome (option_and_then (line_in place) o) IsPrepared) (there p k lt) ((original-lines p).prepared k place);
       dimensions = λ place. subst (λ (o : Option Version). IfSome (option_and_then (line_in place) o) Fits) (there p k lt) ((original-lines p).dimensions k place);
     })
-    (λ (le : length p.methods ≤ k). subst HasOwnLines (sym (nothing le)) (record { families = λ place. tt; dimensions = λ place. tt }))
+    (λ (le : length p.methods ≤ k). subst HasOwnLines (sym (nothing le)) (record { prepared = λ place. tt; dimensions = λ place. tt }))
     (cases_lt k (length p.methods))
   where
     nothing : length p.methods ≤ k → original_version p k ≡ no_version k

@@ -46,6 +46,7 @@ pub mod Behind
 pub mod Starts
 pub mod Above
 pub mod ElementLemmas
+pub mod QuickElements
 pub mod ElementActs
 pub mod Leading
 mod QuietLines

@@ -18,9 +18,9 @@ use Rattle.jvm_steps.specs.Entries.{code_line, lines_of, no_version, original_sl
 use Rattle.jvm_steps.specs.Lines.{method_line}
 use Rattle.jvm_steps.specs.Lines as originals
 use Rattle.jvm_steps.specs.Ready.{IsOwnLine}
-use Rattle.jvm_steps.specs.Versions.{HasLines, line_at, line_in, text_of}
+use Rattle.jvm_steps.specs.Versions.{HasLines, IsPrepared, line_at, line_in, text_of}
 use Rattle.jvm_steps.proofs.Dimensions.{Fits, fits-at}
-use Rattle.jvm_steps.proofs.LineFamilies.{KeepsFamily, kept-at}
+use Rattle.jvm_steps.proofs.LineFamilies.{prepared-at}
 use Rattle.jvm_steps.proofs.Tabled.{slotted-at, slotted-past, tabled-place}
 use Rattle.jvm_steps.proofs.Tied.{Tie, own-tie, shown, tied-at}
 
@@ -65,7 +65,7 @@ original-line p k at =
 
 pub original-lines : (p : Program) → HasLines (original_versions p)
 original-lines p = record {
-  families = λ k at. subst (λ (o : Option Line). IfSome o KeepsFamily) (sym (original-line p k at)) (kept-at p k at);
+  prepared = λ k at. subst (λ (o : Option Line). IfSome o IsPrepared) (sym (original-line p k at)) (prepared-at p k at);
   dimensions = λ k at. subst (λ (o : Option Line). IfSome o Fits) (sym (original-line p k at)) (fits-at p k at);
 }
 

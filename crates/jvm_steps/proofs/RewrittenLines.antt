@@ -16,9 +16,9 @@ use Rattle.jvm_model.specs.Homed.{start_in}
 use Rattle.jvm_steps.specs.Lines.{action_of, line_of}
 use Rattle.jvm_steps.specs.Ready.{IsOwnLine}
 use Rattle.jvm_steps.specs.Rewritten.{homed_line, line_for, own_line, placed_line, rewritten_version}
-use Rattle.jvm_steps.specs.Versions.{HasOwnLines, line_in}
+use Rattle.jvm_steps.specs.Versions.{HasOwnLines, IsPrepared, line_in}
 use Rattle.jvm_steps.proofs.Dimensions.{Fits, by-family, made-with as fits-with}
-use Rattle.jvm_steps.proofs.LineFamilies.{KeepsFamily, made-with}
+use Rattle.jvm_steps.proofs.LineFamilies.{made-with}
 use Rattle.jvm_steps.proofs.Tabled.{tabled-at, tabled-past}
 use Rattle.jvm_steps.proofs.Tied.{own-tie, tied-instruction}
 
@@ -53,7 +53,7 @@ module _ (P : Line → Type 0) (image : ClassFile) (each : (i : Instr) → IfSom
 
 pub rewritten-lines : (method : ℕ) (image : ClassFile) (code : CodeAttribute) (homes : Homes) (len : ℕ) → HasOwnLines (rewritten_version method image code homes len)
 rewritten-lines method image code homes len = record {
-  families = λ place. lines-each KeepsFamily image (λ i. made-with image i (option_map action_of (operation_of image i))) (λ own line h. h) method code homes len place;
+  prepared = λ place. lines-each IsPrepared image (λ i. made-with image i (option_map action_of (operation_of image i))) (λ own line h. record { family = h.family; hot = h.hot }) method code homes len place;
   dimensions = λ place. lines-each Fits image (λ i. fits-with image i (operation_of image i) (by-family image i.op i.arg (family_of i.op))) (λ own line h. h) method code homes len place;
 }
 

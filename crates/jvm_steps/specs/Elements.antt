@@ -12,11 +12,13 @@ use Rattle.jvm_model.specs.ObjectRules.{Access, ToNull, ToAnother, Outside, Insi
 use Rattle.jvm_model.specs.Values.{as_value}
 use Rattle.jvm_basic.specs.declared.effect.Effect.TheVariants.{Next}
 use Rattle.jvm_basic.specs.Outcomes.{GoesOn, Rule, after, effect_of}
-use Rattle.jvm_basic.specs.Rules.{replaces}
+use Rattle.jvm_basic.specs.Rules.{replaces, rule_of}
 use Rattle.jvm_steps.specs.declared.elements.Led.{Led}
 use Rattle.jvm_steps.specs.declared.elements.Led.TheVariants as led
 use Rattle.jvm_steps.specs.declared.elements.Place.{Place}
 use Rattle.jvm_steps.specs.declared.elements.Storing.{Storing as TheStoring}
+use Rattle.jvm_steps.specs.declared.line.Action.{Action}
+use Rattle.jvm_steps.specs.declared.line.Action.TheVariants as action
 use Rattle.jvm_steps.specs.declared.line.Line.{Line}
 use Rattle.jvm_steps.specs.declared.parts.Parts.{Parts}
 use Rattle.jvm_steps.specs.Acts.{acts_asked}
@@ -83,3 +85,20 @@ pub record IsStored (line : Line) (k : Kind) (old new : Parts) : Type 0 where
     frames = after (drops_three line.next) old.frames;
     shared = record old.shared { heap = with_slot_at storing.array slot storing.datum old.shared.heap };
   }
+
+-- ---- lines that a step passes by
+
+-- what its frame does by itself, and elements
+abbrev pub is_plain : Action → Bool
+is_plain action.Local = true
+is_plain (action.LoadElement k) = true
+is_plain (action.StoreElement k) = true
+is_plain _ = false
+
+-- it was done, where it raises nothing and the frame goes on
+pub record IsPassed (line : Line) (old new : Parts) : Type 0 where
+  pub plain : is_plain line.action ≡ true
+  pub alone : line.action ≡ action.Local → effect_of (rule_of line.instr line.constant line.next) old.frames ≡ Next
+  pub frames : line.action ≡ action.Local → new ≡ record old { frames = after (rule_of line.instr line.constant line.next) old.frames }
+  pub loaded : (k : Kind) → line.action ≡ action.LoadElement k → IsLoaded line k old new
+  pub stored : (k : Kind) → line.action ≡ action.StoreElement k → IsStored line k old new

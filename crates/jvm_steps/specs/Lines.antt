@@ -3,6 +3,7 @@ use Rattle.std.specs.Prelude.{ℕ, Option, Some, None, if◌then◌else◌}
 use Rattle.std.specs.Option.{option_and_then, option_map}
 use Rattle.const_pool.specs.declared.class.ClassFile.{ClassFile}
 use Rattle.const_pool.specs.References.{Reference}
+use Rattle.code_model.specs.declared.instr.Arg.{Arg}
 use Rattle.code_model.specs.declared.instr.Instr.{Instr}
 use Rattle.code_model.specs.Instructions.{instruction_at, end_of}
 use Rattle.jvm_model.specs.declared.program.Program.{Program}
@@ -14,6 +15,10 @@ use Rattle.jvm_model.specs.Methods.{method_code}
 use Rattle.jvm_model.specs.ObjectRules.{array_kind}
 use Rattle.jvm_model.specs.Programs.{by_number}
 use Rattle.jvm_model.specs.Values.{as_value}
+use Rattle.jvm_model.specs.declared.family.Family.{Family}
+use Rattle.jvm_basic.specs.declared.hot.Hot.{Hot}
+use Rattle.jvm_basic.specs.declared.hot.Hot.TheVariants as hot
+use Rattle.jvm_basic.specs.Hot.{hot_by}
 use Rattle.jvm_named.specs.declared.naming.MemberName.{MemberName}
 use Rattle.jvm_named.specs.declared.naming.Naming.{Naming}
 use Rattle.jvm_named.specs.declared.naming.Naming.TheVariants as naming
@@ -66,8 +71,22 @@ action_of (LoadElement k) = action.LoadElement k
 action_of (StoreElement k) = action.StoreElement k
 action_of (LdcString units) = action.LdcString units
 
+-- as it is run: what its frame does by itself by its form, elements by their kind, and nothing of the others
+abbrev pub hot_in : Action → Family → Arg → ℕ → Hot
+hot_in action.Local f a next = hot_by f a next
+hot_in (action.LoadElement k) f a next = hot.LoadElement k
+hot_in (action.StoreElement k) f a next = hot.StoreElement k
+hot_in _ f a next = hot.Cold
+
 abbrev pub line_with : ClassFile → Instr → Action → Line
-line_with c i a = record { instr = i; family = family_of i.op; constant = option_map as_value (constant_in c.pool i.arg); next = end_of i; action = a }
+line_with c i a = record {
+  hot = hot_in a (family_of i.op) i.arg (end_of i);
+  instr = i;
+  family = family_of i.op;
+  constant = option_map as_value (constant_in c.pool i.arg);
+  next = end_of i;
+  action = a;
+}
 
 abbrev pub line_of : ClassFile → Instr → Option Line
 line_of c i = option_map (line_with c i) (option_map action_of (operation_of c i))

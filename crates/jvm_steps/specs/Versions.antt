@@ -13,7 +13,7 @@ use Rattle.jvm_model.specs.declared.family.Family.TheVariants as family
 use Rattle.jvm_basic.specs.Rules.{datum_in}
 use Rattle.jvm_named.specs.Names.{naming_view}
 use Rattle.jvm_named.specs.Objects.{HasDimensions}
-use Rattle.jvm_steps.specs.Lines.{IfNamedBy}
+use Rattle.jvm_steps.specs.Lines.{IfNamedBy, hot_in}
 use Rattle.jvm_steps.specs.declared.line.Action.{Action}
 use Rattle.jvm_steps.specs.declared.line.Action.TheVariants as action
 use Rattle.jvm_steps.specs.declared.line.Line.{Line}
@@ -36,18 +36,23 @@ line_in place x = option_flatten (slice_get x.prepared.lines place)
 abbrev pub line_at : Versions → ℕ → ℕ → Option Line
 line_at v version place = option_and_then (line_in place) (version_at v version)
 
--- each line keeps the family of its instruction, and the array's type that it names has the dimensions that it needs
+-- a line keeps the family of its instruction, and what it does as it is run
+pub record IsPrepared (l : Line) : Type 0 where
+  pub family : l.family ≡ family_of l.instr.op
+  pub hot : l.hot ≡ hot_in l.action (family_of l.instr.op) l.instr.arg l.next
+
+-- each line does, and the array's type that it names has the dimensions that it needs
 pub record HasLines (v : Versions) : Type 0 where
-  pub families : (version place : ℕ) → IfSome (line_at v version place) (λ (l : Line). l.family ≡ family_of l.instr.op)
+  pub prepared : (version place : ℕ) → IfSome (line_at v version place) IsPrepared
   pub dimensions : (version place : ℕ) → IfSome (line_at v version place) (λ (l : Line). IfNamedBy l.action l.next (λ n next. HasDimensions n))
 
--- each line of the version keeps the family of its instruction
-abbrev pub HasFamilies : Version → Type 0
-HasFamilies x = (place : ℕ) → IfSome (line_in place x) (λ (l : Line). l.family ≡ family_of l.instr.op)
+-- each line of the version does
+abbrev pub ArePrepared : Version → Type 0
+ArePrepared x = (place : ℕ) → IfSome (line_in place x) IsPrepared
 
 -- the same of one version
 pub record HasOwnLines (x : Version) : Type 0 where
-  pub families : (place : ℕ) → IfSome (line_in place x) (λ (l : Line). l.family ≡ family_of l.instr.op)
+  pub prepared : ArePrepared x
   pub dimensions : (place : ℕ) → IfSome (line_in place x) (λ (l : Line). IfNamedBy l.action l.next (λ n next. HasDimensions n))
 
 -- The version in which a method begins. One that is none of the program's begins in a version that none is.

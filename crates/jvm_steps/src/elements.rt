@@ -1,17 +1,21 @@
 //! Elements of arrays: iaload to saload, iastore to sastore (JVM Specification 6.5).
 
-ghost use Rattle.std.specs.Prelude.{◌≡◌, true, false, IfOk, IsSome, OnOk};
+ghost use Rattle.std.specs.Prelude.{◌≡◌, true, false, IfOk, IfSome, IsSome, OnOk, Some, nat_abs};
 ghost use Rattle.std.specs.Fmt.{signed_decimal};
+ghost use Rattle.const_pool.specs.declared.descriptor.Kind.TheVariants.{Int, Ref};
 ghost use Rattle.std.specs.Option.{option_map};
-ghost use Rattle.frame_stack.specs.FrameLists.{top_operands};
+ghost use Rattle.frame_stack.specs.FrameLists.{AreSound, top_operands};
 ghost use Rattle.heap_objects.specs.Heaps.{has_slot_at};
 ghost use Rattle.heap_objects.specs.Kinds.{element_of};
-ghost use Rattle.jvm_model.specs.ObjectRules.{access_to, index_in, place_of};
+ghost use Rattle.jvm_basic.specs.Outcomes.{after, effect_of};
+ghost use Rattle.jvm_basic.specs.Rules.{replaces};
+ghost use Rattle.jvm_model.specs.Values.{as_value};
+ghost use Rattle.jvm_model.specs.ObjectRules.{Inside, access_to, index_in, place_of};
 ghost use Rattle.jvm_model.specs.ObjectRules.{serves, serves_object, storing_of};
 ghost use Rattle.jvm_steps.specs.Acts.{IsTop, Becomes, acts_load, acts_store, on_parts};
 ghost use Rattle.jvm_steps.specs.Elements.{access_of, acts_loaded, acts_refused, acts_stored};
 ghost use Rattle.jvm_named.specs.Objects.{AreLoaded};
-ghost use Rattle.jvm_steps.specs.Elements.{IsLoaded, IsStored, element_at, is_number, place_by, storing_by};
+ghost use Rattle.jvm_steps.specs.Elements.{IsLoaded, IsStored, drops_three, element_at, is_number, place_by, storing_by};
 ghost use Rattle.jvm_steps.specs.Linked.{linker_in};
 ghost use Rattle.jvm_steps.specs.States.{state_in};
 ghost use Rattle.jvm_steps.specs.Versions.{text_of};
@@ -26,7 +30,7 @@ use const_pool::Kind;
 use frame_stack::Frames;
 use heap_objects::{Datum, Element, Heap, Value, element_of};
 use jf_bytes::{NoMemory, Seq};
-use jvm_basic::{Effect, drop_three, recall, replace_two, value_of};
+use jvm_basic::{Effect, drop_narrow, drop_three, exchange_two, recall, replace_two, value_of};
 use std::alloc::Global;
 
 /// Where an array and an index lead: the array is null, or the object none that the instruction
@@ -167,22 +171,37 @@ fn refuse(
 }
 
 /// The array and the index on top.
+#[tactic(auto, using(crate::proofs::QuickElements::place_is))]
 #[inline(always)]
 fn place_of(frames: &Frames) -> Option<Place>
     ensures { option_map place_by result ≡ place_of (top_operands frames.now.frames) }
 {
-    let Some(Value::Int(index)) = frames.peek(0) else {
+    match frames.reference_and_int() {
+        Some((array, index)) => Some(Place { array, index }),
+        None => None,
+    }
+}
+
+/// The array, the index and the int on top.
+#[inline(always)]
+fn int_storing_of(frames: &Frames) -> Option<Storing>
+    ensures { option_map storing_by result ≡ storing_of Int (top_operands frames.now.frames) }
+{
+    let Some((index, n)) = frames.ints() else {
         return None;
     };
-    match frames.peek(1) {
-        Some(Value::Ref(array)) => Some(Place { array, index }),
+    match frames.peek(2) {
+        Some(Value::Ref(array)) => Some(Storing {
+            place: Place { array, index },
+            datum: Datum::Int(n),
+        }),
         _ => None,
     }
 }
 
 /// The array, the index and the value on top, which elements of a kind may have.
 #[inline(always)]
-fn storing_of(frames: &Frames, kind: Kind) -> Option<Storing>
+fn any_storing_of(frames: &Frames, kind: Kind) -> Option<Storing>
     ensures { option_map storing_by result ≡ storing_of kind (top_operands frames.now.frames) }
 {
     let value = frames.peek(0)?;
@@ -197,6 +216,17 @@ fn storing_of(frames: &Frames, kind: Kind) -> Option<Storing>
         place: Place { array, index },
         datum,
     })
+}
+
+/// The same, of ints by one read of the index and the value.
+#[inline(always)]
+fn storing_of(frames: &Frames, kind: Kind) -> Option<Storing>
+    ensures { option_map storing_by result ≡ storing_of kind (top_operands frames.now.frames) }
+{
+    match kind {
+        Kind::Int => int_storing_of(frames),
+        _ => any_storing_of(frames, kind),
+    }
 }
 
 /// The element to which an instruction of a kind is led.
@@ -311,6 +341,98 @@ fn is_number(datum: Datum) -> bool
     }
 }
 
+/// The int to which an instruction is led, by one look-up. None does not say that there is none.
+#[inline(always)]
+fn int_for(heap: &Heap, array: u32, index: i32) -> Option<i32>
+    ensures element { IfSome result
+        (λ n. element_at (access_to Int array index heap.now) array heap.now ≡ Some (Datum.Int n)) }
+    ensures slot { IfSome result
+        (λ n. access_to Int array index heap.now ≡ Inside (nat_abs index)) }
+{
+    if index < 0 {
+        return None;
+    }
+    heap.int_at(array, index as u32)
+}
+
+/// The reference to which an instruction is led, by one look-up. None does not say that there is none.
+#[inline(always)]
+fn reference_for(heap: &Heap, array: u32, index: i32) -> Option<u32>
+    ensures { IfSome result
+        (λ r. element_at (access_to Ref array index heap.now) array heap.now ≡ Some (Datum.Ref r)) }
+{
+    if index < 0 {
+        return None;
+    }
+    heap.reference_at(array, index as u32)
+}
+
+/// The element to which an instruction of a kind is led: an int or a reference by one look-up.
+#[inline(always)]
+fn element_for(heap: &Heap, kind: Kind, place: &Place) -> Option<Datum>
+    ensures { let access = access_to kind place.now.array place.now.index heap.now in
+        IfSome result (λ datum. element_at access place.now.array heap.now ≡ Some datum) }
+{
+    match kind {
+        Kind::Int => match int_for(heap, place.array, place.index) {
+            Some(n) => Some(Datum::Int(n)),
+            None => None,
+        },
+        Kind::Ref => match reference_for(heap, place.array, place.index) {
+            Some(reference) => Some(Datum::Ref(reference)),
+            None => None,
+        },
+        _ => element_at(heap, kind, place),
+    }
+}
+
+/// The slot of the int to which an instruction is led, by one look-up. None does not say that there is none.
+#[inline(always)]
+fn int_slot(heap: &Heap, array: u32, index: i32) -> Option<u32>
+    ensures { IfSome result (λ slot. access_to Int array index heap.now ≡ Inside slot) }
+{
+    if index < 0 {
+        return None;
+    }
+    match int_for(heap, array, index) {
+        Some(_) => Some(index as u32),
+        None => None,
+    }
+}
+
+/// The slot of an element, where an instruction of a kind is led to one: of an int by one look-up.
+#[inline(always)]
+fn slot_for(heap: &Heap, kind: Kind, place: &Place) -> Option<u32>
+    ensures { let access = access_to kind place.now.array place.now.index heap.now in
+        IfSome result (λ slot. access ≡ Inside slot) }
+{
+    match kind {
+        Kind::Int => int_slot(heap, place.array, place.index),
+        _ => match led_to(heap, kind, place) {
+            Led::Inside(slot) => Some(slot),
+            _ => None,
+        },
+    }
+}
+
+/// Puts an element in place of its array and the index.
+#[tactic(auto, using(crate::proofs::QuickElements::place_narrow))]
+#[inline(always)]
+fn put_element(frames: &mut Frames, datum: Datum, next: u16) -> Effect
+    requires place { IsSome (place_of (top_operands frames.old.frames)) }
+    ensures effect { result
+        ≡ effect_of (replaces 2 (Some (as_value datum)) next) frames.old }
+    ensures frames { frames.new
+        ≡ after (replaces 2 (Some (as_value datum)) next) frames.old }
+{
+    recall(frames);
+    match datum {
+        Datum::Int(n) => exchange_two(frames, Value::Int(n), next),
+        Datum::Ref(reference) => exchange_two(frames, Value::Ref(reference), next),
+        Datum::Long(n) => replace_two(frames, Value::Long(n), next),
+    }
+}
+
 /// Loads an element where nothing is raised. False, with nothing changed, where the frame does not go on.
 #[inline(always)]
 pub fn pass_load(parts: &mut Parts, line: &Line, kind: Kind) -> bool
@@ -320,12 +442,37 @@ pub fn pass_load(parts: &mut Parts, line: &Line, kind: Kind) -> bool
     let Some(place) = place_of(&parts.frames) else {
         return false;
     };
-    let Some(datum) = element_at(&parts.shared.heap, kind, &place) else {
+    let Some(datum) = element_for(&parts.shared.heap, kind, &place) else {
         return false;
     };
-    recall(&parts.frames);
-    let effect = replace_two(&mut parts.frames, value_of(datum), line.next);
+    let effect = put_element(&mut parts.frames, datum, line.next);
     matches!(effect, Effect::Next)
+}
+
+/// Takes the array, the index and the int off.
+#[tactic(auto, using(crate::proofs::QuickElements::storing_narrow))]
+#[inline(always)]
+fn drop_ints(frames: &mut Frames, next: u16) -> Effect
+    requires sound { AreSound frames.old.frames }
+    requires storing { IsSome (storing_of Int (top_operands frames.old.frames)) }
+    ensures effect { result ≡ effect_of (drops_three next) frames.old }
+    ensures frames { frames.new ≡ after (drops_three next) frames.old }
+{
+    drop_narrow(frames, 3, next)
+}
+
+/// Takes the array, the index and the value off.
+#[inline(always)]
+fn drop_stored(frames: &mut Frames, kind: Kind, next: u16) -> Effect
+    requires sound { AreSound frames.old.frames }
+    requires storing { IsSome (storing_of kind (top_operands frames.old.frames)) }
+    ensures effect { result ≡ effect_of (drops_three next) frames.old }
+    ensures frames { frames.new ≡ after (drops_three next) frames.old }
+{
+    match kind {
+        Kind::Int => drop_ints(frames, next),
+        _ => drop_three(frames, next),
+    }
 }
 
 /// Stores a number where nothing is raised. False, with nothing changed, where the frame does not go on.
@@ -340,11 +487,11 @@ pub fn pass_store(parts: &mut Parts, line: &Line, kind: Kind) -> bool
     if !is_number(storing.datum) {
         return false;
     }
-    let Led::Inside(slot) = led_to(&parts.shared.heap, kind, &storing.place) else {
+    let Some(slot) = slot_for(&parts.shared.heap, kind, &storing.place) else {
         return false;
     };
     recall(&parts.frames);
-    let effect = drop_three(&mut parts.frames, line.next);
+    let effect = drop_stored(&mut parts.frames, kind, line.next);
     if !matches!(effect, Effect::Next) {
         return false;
     }

@@ -4,6 +4,7 @@ use code_model::Instr;
 use const_pool::Kind;
 use heap_objects::Value;
 use jf_bytes::Text16;
+use jvm_basic::Hot;
 use jvm_model::Family;
 use jvm_named::Naming;
 
@@ -30,9 +31,11 @@ pub enum Action {
     LdcString(Text16),
 }
 
-/// An instruction with its offset, its family, the number that an ldc pushes, the offset behind it, and what it does.
+/// An instruction with its offset, its family, the number that an ldc pushes, the offset behind it, and what it does; and the
+/// same as it is run, which stands first, so that a step reads little of the rest.
 #[derive(Drop)]
 pub struct Line {
+    pub hot: Hot,
     pub instr: Instr,
     pub family: Family,
     pub constant: Option<Value>,

@@ -27,7 +27,7 @@ ghost use Rattle.jvm_steps.specs.Linked.{linker_in};
 ghost use Rattle.jvm_steps.specs.Prepared.{FitsOriginals, built_in_named, exception_kind};
 ghost use Rattle.jvm_steps.specs.Prepared.{main_name};
 ghost use Rattle.jvm_steps.specs.Entries.{original_versions};
-ghost use Rattle.jvm_steps.specs.Versions.{HasFamilies, current_of, first_of, mark_of};
+ghost use Rattle.jvm_steps.specs.Versions.{ArePrepared, current_of, first_of, mark_of};
 ghost use Rattle.jvm_model.specs.declared.state.State.{State};
 ghost use Rattle.jvm_model.specs.Sound.{IsFit};
 ghost use Rattle.jvm_steps.specs.ClassVersions.{FitsImage, class_versions};
@@ -371,7 +371,7 @@ impl Originals {
     /// The version with this number.
     pub fn version(&self, version: usize) -> Option<&Version>
         ensures version { option_copied result ≡ version_at self.now.setup.versions version }
-        ensures families { IfSome result (λ x. HasFamilies x.now) }
+        ensures prepared { IfSome result (λ x. ArePrepared x.now) }
     {
         version_at(&self.versions, version)
     }

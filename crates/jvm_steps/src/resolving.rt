@@ -12,7 +12,7 @@ ghost use Rattle.jvm_model.specs.declared.family.Family.TheVariants.{Given};
 ghost use Rattle.jvm_model.specs.Lines.{newarray_of, object_among, object_rows};
 ghost use Rattle.jvm_model.specs.Lines.{other_operation, operation_of};
 ghost use Rattle.jvm_model.specs.Families.{family_of};
-ghost use Rattle.jvm_steps.specs.Lines.{action_of, line_of, line_with, local_action};
+ghost use Rattle.jvm_steps.specs.Lines.{action_of, hot_in, line_of, line_with, local_action};
 
 use crate::line::{Action, Line};
 use crate::naming::{
@@ -22,7 +22,7 @@ use code_model::{Arg, Instr};
 use const_pool::{ClassFile, Const, Kind, Pool};
 use heap_objects::{Datum, Value};
 use jf_bytes::NoMemory;
-use jvm_basic::value_of;
+use jvm_basic::{Hot, hot_by, value_of};
 use jvm_model::{Family, family_of};
 use std::alloc::Global;
 
@@ -221,6 +221,18 @@ fn value_in(pool: &Pool, arg: &Arg) -> Option<Value>
     Some(value_of(constant_in(pool, arg)?))
 }
 
+/// What an instruction does, as it is run.
+fn hot_in(action: &Action, family: Family, arg: &Arg, next: u16) -> Hot
+    ensures { result ≡ hot_in action.now family arg.now next }
+{
+    match action {
+        Action::Local => hot_by(family, arg, next),
+        Action::LoadElement(kind) => Hot::LoadElement(*kind),
+        Action::StoreElement(kind) => Hot::StoreElement(*kind),
+        _ => Hot::Cold,
+    }
+}
+
 /// An instruction with its family, its constant, the offset behind it and what it does.
 fn line_with(class: &ClassFile, family: Family, instr: Instr, action: Action) -> Line
     requires ends { end_of instr < 2 ^ 16 }
@@ -229,7 +241,9 @@ fn line_with(class: &ClassFile, family: Family, instr: Instr, action: Action) ->
 {
     let constant = value_in(&class.pool, &instr.arg);
     let next = instr.next_offset();
+    let hot = hot_in(&action, family, &instr.arg, next);
     Line {
+        hot,
         instr,
         family,
         constant,

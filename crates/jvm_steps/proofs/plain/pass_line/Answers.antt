@@ -1,15 +1,23 @@
--- where the frame does not go on, nothing has changed
-use Rattle.std.proofs.Common.{◌∙◌}
+use Rattle.std.proofs.Common.{refl, sym}
 use Rattle.std.proofs.lemmas.Bool.{false≢true}
-use Rattle.jvm_basic.specs.Rules.{rule_of}
-use Rattle.jvm_basic.proofs.Exact.{kept-unless-next}
+use Rattle.jvm_steps.proofs.PassedLines.{kept-alone, passed-as}
 use Rattle.jvm_steps.proofs.plain.pass_line.Goals as goal
 
+pub returns-in-Next : goal.returns-in-Next
+returns-in-Next c =
+    let line = c.args.line.now in
+    let done = c.do_line-effect.ensures in
+    record {
+      gone = λ _. passed-as line c.args.parts.now c.do_line-effect.new.parts line.hot c.do_line-effect.result refl c.requires c.in-Next.is
+          done.effect done.frames done.loaded done.stored done.passed;
+      kept = λ e. absurd (false≢true (sym e));
+    }
+
 pub returns-in_default : goal.returns-in_default
-returns-in_default c = record {
-  gone = λ e. absurd (false≢true e);
-  frames = c.basic_by-effect.ensures.frames;
-  kept = λ stays. c.basic_by-effect.ensures.frames
-      ∙ kept-unless-next (rule_of c.args.line.now.instr c.args.line.now.constant c.args.line.now.next) c.args.frames.now
-      (λ e. c.in_default.not-Next (c.basic_by-effect.ensures.effect ∙ e));
-}
+returns-in_default c =
+    let done = c.do_line-effect.ensures in
+    record {
+      gone = λ e. absurd (false≢true e);
+      kept = λ _. kept-alone c.args.line.now.hot c.args.parts.now c.do_line-effect.new.parts c.do_line-effect.result c.in_default.not-Next
+          done.effect done.frames done.kept;
+    }
