@@ -7,4 +7,6 @@ mod kept;
 #[cfg(test)]
 mod of_acts;
 #[cfg(test)]
+mod of_recursion;
+#[cfg(test)]
 mod of_trees;
