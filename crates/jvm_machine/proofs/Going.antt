@@ -88,7 +88,7 @@ module _ (w : Setup) (homes : ℕ → ℕ → ℕ) (has : HasVersions w homes) w
   each-mark : (m : ℕ) → mark_at (marks_of w.versions) m ≡ marked (current_of w.versions m)
   each-mark m = ap (λ o. unwrap_or o Off) (slice_get-map marked w.versions.current m) ∙ by-current m (slice_get w.versions.current m)
 
-  marks-same : mark_at (marks_of w.versions) ≡ (λ m. marked (current_of w.versions m))
+  pub marks-same : mark_at (marks_of w.versions) ≡ (λ m. marked (current_of w.versions m))
   marks-same = λ i m. each-mark m i
 
   -- ---- what is in hand goes on

@@ -9,10 +9,7 @@ use Rattle.std.proofs.lemmas.List.{length-set}
 use Rattle.frame_stack.specs.FrameLists.{PlacedFrame, pins_of}
 use Rattle.method_versions.proofs.Adding.{set-at, set-other}
 use Rattle.method_versions.specs.Tables.{current_in, held_besides, is_number, is_old, is_superseded_in}
-use Rattle.jvm_model.specs.declared.event.Mark.{Mark}
-use Rattle.jvm_model.specs.declared.event.Mark.TheVariants.{Off, Plain, Root}
 use Rattle.jvm_model.specs.declared.state.Entry.{Entry}
-use Rattle.jvm_model.specs.declared.state.Entry.TheVariants.{Active, Initializing}
 use Rattle.jvm_model.specs.declared.state.State.{State}
 use Rattle.jvm_steps.specs.declared.markers.Marker.{Marker}
 use Rattle.jvm_steps.specs.declared.parts.Parts.{Parts}
@@ -20,11 +17,11 @@ use Rattle.jvm_steps.specs.Markers.{above, beneath, initializing, stack_of, stat
 use Rattle.jvm_steps.specs.States.{active}
 use Rattle.jvm_steps.specs.Tables.{Adds, AreAllCurrent, AreOfMethods, IsAdded, Releases, Version, Versions, version_at}
 use Rattle.jvm_model.specs.Run.{starts_with, with_loaded}
-use Rattle.jvm_model.specs.Told.{Held, helds}
 use Rattle.jvm_steps.specs.declared.hands.Hand.{Hand}
 use Rattle.jvm_steps.specs.Versions.{Setup}
 use Rattle.jvm_machine.specs.Advances.{taken_state}
-use Rattle.jvm_machine.specs.Machine.{IsTidy, Keeps, holds_stale, is_stale, runs, seen, viewed}
+use Rattle.jvm_machine.specs.Machine.{IsTidy, Keeps, holds_stale, is_stale, seen, viewed}
+use Rattle.jvm_steps.specs.Passing.{runs}
 use Rattle.jvm_machine.specs.View.{View}
 
 -- ---- what is seen then
@@ -209,27 +206,3 @@ tidy-loaded w w1 classes s s1 same there tidy =
     by : (classes : List ℕ) → IsTidy w.versions (with_loaded classes s).stack
     by [] = tidy
     by (c ∷ more) = tidy
-
--- ---- steps without changes
-
-abbrev only : ℕ → ℕ → Mark
-only k v = if v == k then Root else Off
-
-abbrev is-root : Mark → Bool
-is-root Root = true
-is-root Plain = false
-is-root Off = false
-
-root-only : (b : Bool) → is-root (if b then Root else Off) ≡ b
-root-only true = refl
-root-only false = refl
-
-runs-helds : (k : ℕ) (stack : List Entry) → list_any (λ (h : Held). is-root h.mark) (helds (only k) stack) ≡ runs k stack
-runs-helds k [] = refl
-runs-helds k (Active f ∷ below) = ap₂ (λ a b. a || b) (root-only (f.version == k)) (runs-helds k below)
-runs-helds k (Initializing class part ∷ below) = runs-helds k below
-
--- where the activations are as they were, whatever the marks
-pub tidy-same : (v : Versions) (old new : List Entry) → ((marks : ℕ → Mark) → helds marks new ≡ helds marks old) → IsTidy v old → IsTidy v new
-tidy-same v old new same tidy k is =
-    sym (runs-helds k new) ∙ (ap (λ hs. list_any (λ (h : Held). is-root h.mark) hs) (same (only k)) ∙ (runs-helds k old ∙ tidy k is))

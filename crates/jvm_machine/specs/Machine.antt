@@ -1,10 +1,9 @@
 -- What a machine that runs versions keeps to.
-use Rattle.std.specs.Prelude.{◌≡◌, ℕ, Bool, true, false, not, List, [], ◌∷◌, length, map, ◌⊎◌, ◌==◌, ◌&&◌, ◌||◌}
+use Rattle.std.specs.Prelude.{◌≡◌, ℕ, Bool, true, false, not, List, length, map, ◌⊎◌, ◌&&◌}
 use Rattle.std.specs.List.{list_any, range_with_len}
 use Rattle.method_versions.specs.Tables.{is_superseded_in}
 use Rattle.jvm_model.specs.declared.event.Mark.{Mark}
 use Rattle.jvm_model.specs.declared.state.Entry.{Entry}
-use Rattle.jvm_model.specs.declared.state.Entry.TheVariants.{Active, Initializing}
 use Rattle.jvm_model.specs.declared.state.State.{State}
 use Rattle.jvm_model.specs.Run.{starts_with, turn}
 use Rattle.jvm_model.specs.StandsForRun.{StandsFor}
@@ -12,6 +11,7 @@ use Rattle.jvm_model.specs.Told.{helds}
 use Rattle.jvm_steps.specs.declared.hands.Hand.{Hand}
 use Rattle.jvm_steps.specs.Before.{IsAtStart}
 use Rattle.jvm_steps.specs.Hands.{HasInHand}
+use Rattle.jvm_steps.specs.Passing.{runs}
 use Rattle.jvm_steps.specs.Ready.{IsSoundIn}
 use Rattle.jvm_steps.specs.Standing.{HasVersions, places_of}
 use Rattle.jvm_steps.specs.Tables.{Versions}
@@ -40,12 +40,6 @@ seen w s started broken clock hand = record {
 }
 
 -- ---- the versions that are held
-
--- a live activation runs this one
-abbrev pub runs : ℕ → List Entry → Bool
-runs k [] = false
-runs k (Active f ∷ below) = f.version == k || runs k below
-runs k (Initializing class part ∷ below) = runs k below
 
 -- its method begins in another one, and no live activation runs it
 abbrev pub is_stale : Versions → List Entry → ℕ → Bool

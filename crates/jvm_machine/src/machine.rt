@@ -24,7 +24,7 @@ use code_model::Homes;
 use const_pool::ClassFile;
 use jf_bytes::{NoMemory, Seq, Stack};
 use jvm_model::{Due, Ending, Event, Mark, Program};
-use jvm_steps::{Hand, Marker, Originals, Parts, go, parts_before, plain_steps};
+use jvm_steps::{Hand, Marker, Originals, Parts, go, parts_before, pass_steps};
 use std::alloc::Global;
 use std::marker::Model;
 
@@ -232,7 +232,13 @@ impl Vm {
         if self.broken || !self.started || !is_calm(&self.parts, &self.markers) {
             return 0;
         }
-        let made = plain_steps(&self.originals, &mut self.parts, most);
+        let made = pass_steps(
+            self.alloc,
+            &self.originals,
+            &mut self.parts,
+            &self.markers,
+            most,
+        );
         self.clock += made;
         made
     }

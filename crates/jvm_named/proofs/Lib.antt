@@ -13,7 +13,7 @@ mod Quiet
 mod Carried
 mod Attempted
 mod ArraysMade
-pub mod Beginning
 pub mod Again
 mod CalleeLemmas
 mod KnownLemmas
+pub mod PassingLemmas

@@ -13,3 +13,4 @@ pub mod Natives
 pub mod Arrays
 pub mod Known
 pub mod Callees
+pub mod Passing

@@ -183,7 +183,7 @@ fn has_field(linker: &Linker, heap: &Heap, kind: u32, field: Place, last: u32, o
 /// The object, unless it is null, or has not the field; objects of the last kind have it.
 #[inline(always)]
 #[tactic(auto, using(crate::proofs::Slots::has_field_named))]
-fn known_owner(
+pub fn known_owner(
     linker: &Linker,
     shared: &Shared,
     member: &MemberName,
@@ -267,7 +267,7 @@ fn read_field(
 
 /// The same where the field's slot is known, and a kind whose objects have it.
 #[inline(always)]
-fn read_known(
+pub fn read_known(
     linker: &Linker,
     shared: &Shared,
     frames: &mut Frames,
@@ -277,23 +277,22 @@ fn read_known(
     slot: u32,
     last: u32,
     next: u16,
-) -> Result<Asked, NoMemory>
+) -> Asked
     requires named { kind_named linker.now.program member.now.class ≡ Some kind }
     requires objects { AreLoaded linker.now shared.now.heap }
     requires slot { slot ≡ slot_of linker.now.program (at_place field) }
     requires own { has_field_at linker.now.program (Some last) kind field.class ≡ true }
-    ensures answer { Answers result (λ l o. gets_of linker.now.program (reference_of member.now)
-        (at_place field) (ref_of o) shared.now l o) frames.old }
-    ensures frames { Moves result frames.new
-        (λ l o. gets_of linker.now.program (reference_of member.now) (at_place field) (ref_of o)
-        shared.now l o) next frames.old }
+    ensures answer { answer_view result ≡ answer_by (λ l o. gets_of linker.now.program
+        (reference_of member.now) (at_place field) (ref_of o) shared.now l o) frames.old }
+    ensures frames { frames.new ≡ frames_by (λ l o. gets_of linker.now.program
+        (reference_of member.now) (at_place field) (ref_of o) shared.now l o) next frames.old }
 {
     let Some(object) = ref_of(frames) else {
-        return Ok(Asked::Refused(Refusal::Breaks));
+        return Asked::Refused(Refusal::Breaks);
     };
     match known_owner(linker, shared, member, kind, field, last, object) {
-        Ok(owner) => Ok(read_slot(shared, frames, owner, slot, next)),
-        Err(refusal) => Ok(Asked::Refused(refusal)),
+        Ok(owner) => read_slot(shared, frames, owner, slot, next),
+        Err(refusal) => Asked::Refused(refusal),
     }
 }
 
@@ -349,9 +348,9 @@ pub fn get_field(
         IsFoundAs found.new linker.now.program kind n }
 {
     if let Found::Field(field, slot, last) = *found {
-        return read_known(
+        return Ok(read_known(
             linker, shared, frames, member, kind, field, slot, last, next,
-        );
+        ));
     }
     get_by_name(linker, shared, frames, member, kind, found, next)
 }
@@ -366,7 +365,7 @@ pub struct Putting {
 }
 
 /// The topmost operand as a field of this kind holds it, above an object.
-fn putting_of(frames: &Frames, kind: Kind) -> Option<Putting>
+pub fn putting_of(frames: &Frames, kind: Kind) -> Option<Putting>
     ensures { option_map putting_view result ≡ putting_of kind (top_operands frames.now.frames) }
 {
     let value = frames.peek(0)?;

@@ -65,7 +65,7 @@ fn static_at(shared: &Shared, field: Place) -> Option<Datum>
 }
 
 /// The value of a static field goes on top; its class is initialized, or is being.
-fn push_field(shared: &Shared, frames: &mut Frames, field: Place, next: u16) -> Asked
+pub fn push_field(shared: &Shared, frames: &mut Frames, field: Place, next: u16) -> Asked
     ensures answer { answer_view result ≡ answer_of (pushes (option_map as_value
         (static_at shared.now (static_field (at_place field))))) frames.old }
     ensures frames { frames.new ≡ frames_of (pushes (option_map as_value

@@ -34,7 +34,7 @@ pub live-is : (fs : List PlacedFrame) → live_in (map active fs) ≡ length fs
 live-is [] = refl
 live-is (f ∷ fs) = ap suc (live-is fs)
 
-same-length : (ks : List Kind) (vs : List Value) (ds : List Datum) → data_of ks vs ≡ Some ds → length ds ≡ length ks
+pub same-length : (ks : List Kind) (vs : List Value) (ds : List Datum) → data_of ks vs ≡ Some ds → length ds ≡ length ks
 same-length [] [] ds e = ap length (sym (same_Some [] ds e))
 same-length [] (v ∷ vs) ds e = absurd (none-some ds e)
 same-length (k ∷ ks) [] ds e = absurd (none-some ds e)

@@ -24,7 +24,6 @@ pub mod LaidRewritten
 pub mod RewrittenLines
 pub mod OriginalTexts
 pub mod ImageVersions
-pub mod RunsOfOriginal
 pub mod ClassVersionLaws
 pub mod StandingSteps
 mod WorkedVersions
@@ -63,3 +62,8 @@ mod PausesSound
 mod StartSound
 mod HandLaws
 mod CellLemmas
+pub mod SilentSteps
+pub mod PassingSteps
+pub mod PassingCalls
+pub mod PassingReturns
+pub mod ReturnLemmas

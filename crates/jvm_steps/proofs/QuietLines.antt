@@ -39,10 +39,10 @@ module _ (w : Setup) where
 
   -- ---- nothing follows
 
-  with-frame-rests : (s : State) (f : Frame) → s.ending ≡ None → s.thrown ≡ None → move w.world t (with_frame s f) ≡ None
+  pub with-frame-rests : (s : State) (f : Frame) → s.ending ≡ None → s.thrown ≡ None → move w.world t (with_frame s f) ≡ None
   with-frame-rests s f calm nothing = ap₂ (λ e r. moves w.world t (with_frame s f) e r (Active f ∷ s.stack)) calm nothing
 
-  goes-rests : (s : State) (f : Frame) (own : ℕ) (l : Locals) (o : Operands) (place : Option ℕ) → s.ending ≡ None → s.thrown ≡ None → move w.world t (goes s f own l o place) ≡ None
+  pub goes-rests : (s : State) (f : Frame) (own : ℕ) (l : Locals) (o : Operands) (place : Option ℕ) → s.ending ≡ None → s.thrown ≡ None → move w.world t (goes s f own l o place) ≡ None
   goes-rests s f own l o None calm nothing = refl
   goes-rests s f own l o (Some place) calm nothing = by (nat_le (height_of o) f.max_stack) where
     by : (b : Bool) → move w.world t (cond b (with_frame s (record f { place = place; locals = l; operands = o })) (goes s f own l o None)) ≡ None
@@ -58,9 +58,9 @@ module _ (w : Setup) where
 
   -- ---- the frame goes on
 
-  record IsQuiet (i : Instruction) (q : Outcome) (s : State) (f : Frame) : Type 0 where
-    alone : starts q ≡ None
-    quiet : (settled w.world t (applies w.world t i q s f)).changes ≡ []
+  pub record IsQuiet (i : Instruction) (q : Outcome) (s : State) (f : Frame) : Type 0 where
+    pub alone : starts q ≡ None
+    pub quiet : (settled w.world t (applies w.world t i q s f)).changes ≡ []
 
   goes-quiet : (i : Instruction) (q : Outcome) (s : State) (f : Frame) (next : ℕ) (targets : List ℕ) (m : Locals) (o : Operands) (fs : List PlacedFrame) → effect_in (placed next targets m o q) fs ≡ Next
       → s.ending ≡ None → s.thrown ≡ None → IsQuiet i q s f
@@ -79,7 +79,7 @@ module _ (w : Setup) where
 
   -- ---- an instruction within its frame
 
-  abbrev step_by : Instruction → Operation → State → Frame → Turn
+  abbrev pub step_by : Instruction → Operation → State → Frame → Turn
   step_by i op s f =
       let classes = loads w.world op s.shared f.operands in
       let ready = with_loaded classes s in
@@ -92,7 +92,7 @@ module _ (w : Setup) where
 
   -- ---- an element
 
-  goes-on-quiet : (i : Instruction) (q : Outcome) (l : Locals) (o : Operands) (to : Where) (s : State) (f : Frame) → q ≡ GoesOn l o to → s.ending ≡ None → s.thrown ≡ None → IsQuiet i q s f
+  pub goes-on-quiet : (i : Instruction) (q : Outcome) (l : Locals) (o : Operands) (to : Where) (s : State) (f : Frame) → q ≡ GoesOn l o to → s.ending ≡ None → s.thrown ≡ None → IsQuiet i q s f
   goes-on-quiet i q l o to s f is calm nothing =
       subst (λ x. IsQuiet i x s f) (sym is)
       (record { alone = refl; quiet = settled-quiet (goes s f i.own l o (place_of i to)) (goes-rests s f i.own l o (place_of i to) calm nothing) })

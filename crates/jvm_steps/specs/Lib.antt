@@ -30,3 +30,4 @@ pub mod ClassVersions
 pub mod Standing
 pub mod Cells
 pub mod Kept
+pub mod Passing

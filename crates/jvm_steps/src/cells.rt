@@ -1,6 +1,7 @@
 //! What the names of lines came to, beside the versions: by version and place.
 
 ghost use Rattle.std.specs.Prelude.{◌≡◌, ℕ, []};
+ghost use Rattle.std.specs.Option.{option_copied};
 ghost use Rattle.jvm_steps.specs.Cells.{Keeps, KeepsItem, Learns, cell_at, item_at};
 
 use jf_bytes::{NoMemory, Seq};
@@ -122,6 +123,14 @@ impl Cells {
         ensures { result ≡ cell_at self.now version place }
     {
         self.rows.get(version)?.at(place as usize)?
+    }
+
+    /// The same, where it stands.
+    #[inline(always)]
+    pub fn at(&self, version: usize, place: u16) -> Option<&Known>
+        ensures { option_copied result ≡ cell_at self.now version place }
+    {
+        self.rows.get(version)?.get(place as usize)?.as_ref()
     }
 
     /// Keeps what is known at a place of a version. Where memory runs out it is not kept.

@@ -57,7 +57,7 @@ fn keep(frames: &mut Frames, next: u16) -> Effect
 }
 
 /// The value that a datum is.
-fn value_of(datum: Datum) -> Value
+pub fn value_of(datum: Datum) -> Value
     ensures { result ≡ as_value datum }
 {
     match datum {

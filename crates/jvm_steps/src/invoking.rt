@@ -1,6 +1,6 @@
 //! Invocation (JVM Specification 2.6, 2.6.1, 5.5, 6.5).
 
-ghost use Rattle.std.specs.Prelude.{◌≡◌, ◌<◌, ◌≤◌, ◌^◌, false, true, length, is_some, IfOk, OnOk};
+ghost use Rattle.std.specs.Prelude.{◌≡◌, ◌<◌, ◌≤◌, ◌^◌, false, true, length, is_some, IfOk, OnErr, OnOk};
 ghost use Rattle.frame_stack.specs.FrameLists.{top_operands};
 ghost use Rattle.frame_stack.specs.Widths.{width};
 ghost use Rattle.jvm_model.specs.Values.{data_of, datum_of};
@@ -101,7 +101,7 @@ pub fn may_begin(frames: &Frames) -> bool
 
 /// Begins a frame of a method on the current one, which gives it so many arguments. False, with
 /// nothing changed, where they are fewer or do not fit into the locals.
-fn begin_frame(
+pub fn begin_frame(
     originals: &Originals,
     frames: &mut Frames,
     method: u32,
@@ -112,6 +112,7 @@ fn begin_frame(
         b ≡ can_begin originals.now.setup method args frames.old.frames) }
     ensures frames { IfOk result (λ b. frames.new.frames ≡
         with_begun b originals.now.setup method args frames.old.frames) }
+    ensures err { OnErr result (frames.new.frames ≡ frames.old.frames) }
 {
     let max_locals = originals.max_locals(method);
     let max_stack = originals.max_stack(method);

@@ -28,6 +28,7 @@ mod naming;
 mod objects;
 mod originals;
 mod parts;
+mod passing;
 mod pausing;
 mod plain;
 mod preparing;
@@ -59,6 +60,7 @@ pub use members::{
 pub use objects::arguments_fit;
 pub use originals::{Exception, Originals};
 pub use parts::{Here, Parts, where_now};
+pub use passing::pass_steps;
 pub use pausing::{go_by_moves, pause};
 pub use plain::plain_steps;
 pub use raising::raise;

@@ -1,7 +1,7 @@
 //! The original code of a program, prepared: what stands at each offset is looked up once, and is
 //! found by its offset from then on.
 
-ghost use Rattle.std.specs.Prelude.{ℕ, ◌≡◌, ◌<◌, ◌^◌, ◌++◌, length, slice_get, is_some, true};
+ghost use Rattle.std.specs.Prelude.{ℕ, ◌≡◌, ◌<◌, ◌^◌, ◌++◌, length, slice_get, is_some, false, true};
 ghost use Rattle.std.specs.Prelude.{IfNone, IfOk, OnErr, OnOk};
 ghost use Rattle.std.specs.Option.{option_and_then, option_copied, option_map, IfSome};
 ghost use Rattle.class_linker.specs.Linkers.{IsLoaded};
@@ -20,6 +20,7 @@ ghost use Rattle.jvm_named.specs.Natives.{HasBuiltIn};
 ghost use Rattle.jvm_named.specs.Numbers.{AreNumbers};
 ghost use Rattle.jvm_named.specs.Objects.{AreLoaded, HasDimensions, HasLoadedCaller};
 ghost use Rattle.jvm_steps.specs.Tables.{Adds, AreAllCurrent, Releases, version_at};
+ghost use Rattle.method_versions.specs.Tables.{is_superseded_in};
 ghost use Rattle.jvm_steps.specs.Kept.{IsLater};
 ghost use Rattle.jvm_steps.specs.Lines.{IfNamed, IfNamedBy};
 ghost use Rattle.jvm_steps.specs.Linked.{linker_in};
@@ -42,7 +43,7 @@ use crate::loading::{link_main, load_built_in, main_name};
 use crate::objects::kind_named;
 use crate::preparing::{exceptions_of, prepare_methods, prepare_versions};
 use crate::versions::{
-    Catching, Version, Versions, current_of, first_of, line_at, mark_of, version_at,
+    Catching, Version, Versions, current_of, first_of, is_current, line_at, mark_of, version_at,
 };
 use base_classes::built_in_name;
 use class_linker::Linker;
@@ -407,6 +408,15 @@ impl Originals {
         mark_of(&self.versions, version)
     }
 
+    /// Whether a version is held, and its method begins in it.
+    #[inline(always)]
+    pub fn is_current(&self, version: usize) -> bool
+        ensures { let v = self.now.setup.versions in result ≡ true
+            → is_superseded_in v.slots v.current version ≡ false }
+    {
+        is_current(&self.versions, version)
+    }
+
     /// The handlers of a version.
     pub fn handlers(&self, version: usize) -> Option<&Seq<Catching>>
         ensures { option_copied result ≡ option_map (λ x. x.prepared.handlers)
@@ -717,5 +727,17 @@ impl Originals {
         cells.learn(alloc, version, place, learnt);
         self.cells = cells;
         Ok(asked)
+    }
+
+    /// What is known of the names of the line at a place of a version.
+    #[inline(always)]
+    pub fn known(&self, version: usize, place: u16) -> Option<&Known>
+        ensures { IfSome result (λ k. IfNamed (line_at self.now.setup.versions version place)
+            (λ n next. IsKnown (linker_in self.now) n k.now)) }
+    {
+        let Some(known) = self.cells.at(version, place) else {
+            return None;
+        };
+        Some(known)
     }
 }

@@ -17,7 +17,7 @@ use crate::attempting::attempt;
 use crate::markers::{Marker, marker_on};
 use crate::originals::Originals;
 use crate::parts::Parts;
-use crate::plain::plain_steps;
+use crate::passing::pass_steps;
 use crate::settling::settle;
 use jf_bytes::{NoMemory, Stack};
 use jvm_model::{Phase, Shared};
@@ -139,8 +139,16 @@ pub fn step(
 }
 
 /// Steps from which nothing follows, at most so many: how many it has made.
-fn step_plainly(originals: &Originals, parts: &mut Parts, markers: &Stack<Marker>, most: u64) -> u64
+fn step_plainly(
+    alloc: Global,
+    originals: &Originals,
+    parts: &mut Parts,
+    markers: &Stack<Marker>,
+    most: u64,
+) -> u64
     requires run { CanRun originals.now.setup }
+    requires linked { originals.now.loaded ≡ parts.old.shared.loaded }
+    requires sound { IsSoundIn originals.now.setup (state_of markers.now parts.old) }
     requires ending { parts.old.ending ≡ None }
     ensures within { result ≤ most }
     ensures made { Leads originals.now.setup (state_of markers.now parts.old) result
@@ -151,7 +159,7 @@ fn step_plainly(originals: &Originals, parts: &mut Parts, markers: &Stack<Marker
     if parts.thrown.is_some() || !is_unmarked(parts, markers) {
         return 0;
     }
-    plain_steps(originals, parts, most)
+    pass_steps(alloc, originals, parts, markers, most)
 }
 
 /// One step or more, at most so many: how many it has made.
@@ -174,7 +182,7 @@ fn step_on(
     ensures made { IfOk result (λ n. Leads originals.old.setup (state_of markers.old parts.old) n
         (state_of markers.new parts.new)) }
 {
-    let plain = step_plainly(originals, parts, markers, most);
+    let plain = step_plainly(alloc, originals, parts, markers, most);
     if plain == most {
         return Ok(plain);
     }

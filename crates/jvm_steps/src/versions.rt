@@ -1,9 +1,9 @@
 //! The code that is run, prepared: versions of methods, each with what stands at its places, and the version that each method
 //! begins in.
 
-ghost use Rattle.std.specs.Prelude.{◌≡◌, ◌≤◌, ℕ, length, IfSome, OnErr, OnOk};
+ghost use Rattle.std.specs.Prelude.{◌≡◌, ◌≤◌, ℕ, false, length, true, IfSome, OnErr, OnOk};
 ghost use Rattle.std.specs.Option.{option_copied};
-ghost use Rattle.method_versions.specs.Tables.{IsFirst};
+ghost use Rattle.method_versions.specs.Tables.{IsFirst, is_superseded_in};
 ghost use Rattle.jvm_steps.specs.Tables.{Adds, AreAllCurrent, AreOfMethods, Releases, seen, version_at};
 ghost use Rattle.jvm_steps.specs.Versions.{current_of, first_of, line_at, line_in, mark_of};
 
@@ -129,6 +129,22 @@ pub fn current_of(versions: &Versions, method: u32) -> usize
         Some(version) => version,
         None => 4294967296 + method as usize,
     }
+}
+
+/// Whether a version is held, and its method begins in it.
+#[inline(always)]
+#[tactic(auto, using(crate::proofs::ReturnLemmas::is_current))]
+pub fn is_current(versions: &Versions, version: usize) -> bool
+    ensures { result ≡ true
+        → is_superseded_in versions.now.slots versions.now.current version ≡ false }
+{
+    let Some(held) = versions.table.get(version) else {
+        return false;
+    };
+    let Some(now) = versions.table.current(held.method) else {
+        return false;
+    };
+    now == version
 }
 
 /// Whose probes a version has; one that is not held has none.

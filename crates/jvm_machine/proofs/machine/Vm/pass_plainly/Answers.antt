@@ -10,33 +10,39 @@ use Rattle.jvm_machine.proofs.machine.Vm.pass_plainly.Goals as goal
 pub returns-then-self-clause-passes : goal.returns-then-self-clause-passes
 returns-then-self-clause-passes c = none
 
-pub plain_steps-made-requires : goal.plain_steps-made-requires
-plain_steps-made-requires c = set-up-runs c.self.inside.originals.setup c.self.invariant.machine.homes c.self.invariant.machine.has
+pub pass_steps-made-requires-clause-run : goal.pass_steps-made-requires-clause-run
+pass_steps-made-requires-clause-run c = set-up-runs c.self.inside.originals.setup c.self.invariant.machine.homes c.self.invariant.machine.has
+
+pub pass_steps-made-requires-clause-linked : goal.pass_steps-made-requires-clause-linked
+pass_steps-made-requires-clause-linked c = (c.self.invariant.machine.whole c.if-self.false).linked
+
+pub pass_steps-made-requires-clause-sound : goal.pass_steps-made-requires-clause-sound
+pass_steps-made-requires-clause-sound c =
+    (c.self.invariant.machine.whole c.if-self.false).rests (ap is_resting (seen-is c.self.invariant c.self.view_is) ∙ c.requires.resting) c.if-not-self.false
+
+pub pass_steps-made-requires-clause-calm : goal.pass_steps-made-requires-clause-calm
+pass_steps-made-requires-clause-calm c = c.is_calm.ensures c.if-not-is_calm.false
 
 pub invariant_of-self : goal.invariant_of-self
 invariant_of-self c = record {
   machine = plain-machine c.self.inside.originals.setup c.self.inside.originals.loaded c.self.inside.hand c.self.inside.started c.self.inside.broken c.self.inside.clock
-      c.self.inside.markers c.self.inside.parts c.self.invariant.machine c.args.self.now (seen-is c.self.invariant c.self.view_is) c.if-not-self.false c.if-self.false c.requires.resting
-      (c.is_calm.ensures c.if-not-is_calm.false) c.plain_steps-made.result c.plain_steps-made.new.parts c.plain_steps-made.ensures.made;
+      c.self.inside.markers c.self.inside.parts c.self.invariant.machine c.args.self.now (seen-is c.self.invariant c.self.view_is) c.if-not-self.false c.if-self.false c.requires.resting c.pass_steps-made.result c.pass_steps-made.new.parts c.pass_steps-made.ensures.made;
   tidy = λ whole.
       plain-tidy c.self.inside.originals.setup c.self.inside.originals.loaded c.self.inside.hand c.self.inside.started c.self.inside.broken c.self.inside.clock
-      c.self.inside.markers c.self.inside.parts c.self.invariant.machine c.args.self.now (seen-is c.self.invariant c.self.view_is) c.if-not-self.false c.if-self.false c.requires.resting
-      (c.is_calm.ensures c.if-not-is_calm.false) c.plain_steps-made.result c.plain_steps-made.new.parts c.plain_steps-made.ensures.made
+      c.self.inside.markers c.self.inside.parts c.self.invariant.machine c.args.self.now (seen-is c.self.invariant c.self.view_is) c.if-not-self.false c.if-self.false c.requires.resting c.pass_steps-made.result c.pass_steps-made.new.parts c.pass_steps-made.ensures.made
       (c.self.invariant.tidy whole);
 }
 
 pub returns-clause-passes : goal.returns-clause-passes
 returns-clause-passes c =
-    subst (Passes c.args.self.now c.plain_steps-made.result)
-    (sym (plain-view c.self.inside.originals.setup c.self.inside.originals.loaded c.self.inside.hand c.self.inside.started c.self.inside.broken (c.self.inside.clock + c.plain_steps-made.result)
-    (state_of c.self.inside.markers c.plain_steps-made.new.parts) (λ whole.
+    subst (Passes c.args.self.now c.pass_steps-made.result)
+    (sym (plain-view c.self.inside.originals.setup c.self.inside.originals.loaded c.self.inside.hand c.self.inside.started c.self.inside.broken (c.self.inside.clock + c.pass_steps-made.result)
+    (state_of c.self.inside.markers c.pass_steps-made.new.parts) (λ whole.
     plain-tidy c.self.inside.originals.setup c.self.inside.originals.loaded c.self.inside.hand c.self.inside.started c.self.inside.broken c.self.inside.clock
-    c.self.inside.markers c.self.inside.parts c.self.invariant.machine c.args.self.now (seen-is c.self.invariant c.self.view_is) c.if-not-self.false c.if-self.false c.requires.resting
-    (c.is_calm.ensures c.if-not-is_calm.false) c.plain_steps-made.result c.plain_steps-made.new.parts c.plain_steps-made.ensures.made
+    c.self.inside.markers c.self.inside.parts c.self.invariant.machine c.args.self.now (seen-is c.self.invariant c.self.view_is) c.if-not-self.false c.if-self.false c.requires.resting c.pass_steps-made.result c.pass_steps-made.new.parts c.pass_steps-made.ensures.made
     (c.self.invariant.tidy whole))))
     (plain-passes c.self.inside.originals.setup c.self.inside.originals.loaded c.self.inside.hand c.self.inside.started c.self.inside.broken c.self.inside.clock
-    c.self.inside.markers c.self.inside.parts c.self.invariant.machine c.args.self.now (seen-is c.self.invariant c.self.view_is) c.if-not-self.false c.if-self.false c.requires.resting
-    (c.is_calm.ensures c.if-not-is_calm.false) c.plain_steps-made.result c.plain_steps-made.new.parts c.plain_steps-made.ensures.made)
+    c.self.inside.markers c.self.inside.parts c.self.invariant.machine c.args.self.now (seen-is c.self.invariant c.self.view_is) c.if-not-self.false c.if-self.false c.requires.resting c.pass_steps-made.result c.pass_steps-made.new.parts c.pass_steps-made.ensures.made)
 
 pub returns-clause-rests : goal.returns-clause-rests
 returns-clause-rests c = ap is_resting (seen-is c.self.invariant c.self.view_is) ∙ c.requires.resting

@@ -1,0 +1,40 @@
+-- Instructions that name something and raise nothing, where it is known what their names came to: the frame has gone on, or nothing was done.
+use Rattle.std.specs.Prelude.{◌≡◌, ℕ, Bool, true, false, List, [], length}
+use Rattle.frame_stack.specs.FrameLists.{FramesView, with_frames}
+use Rattle.jvm_model.specs.declared.state.Phase.{Phase}
+use Rattle.jvm_model.specs.declared.state.Phase.TheVariants.{Ready, Running}
+use Rattle.jvm_model.specs.declared.state.Shared.{Shared}
+use Rattle.jvm_model.specs.Data.{Datum, Done, Invokes, Operands}
+use Rattle.jvm_model.specs.ObjectRules.{done}
+use Rattle.std.specs.Prelude.{Option, Some}
+use Rattle.jvm_named.specs.declared.passing.Call.{Call}
+use Rattle.jvm_named.specs.Answers.{Answer, Continues, answer_in, frames_in}
+
+abbrev pub is_next : Answer → Bool
+is_next Continues = true
+is_next _ = false
+
+-- a class is initialized, or is being
+abbrev pub is_usable : Option Phase → Bool
+is_usable (Some Ready) = true
+is_usable (Some Running) = true
+is_usable _ = false
+
+-- by what its rule says the frame has gone on, to the next place
+pub record HasPassed (d : Done) (next : ℕ) (old new : FramesView) (after : Shared) : Type 0 where
+  pub answer : answer_in d.outcome old.frames ≡ Continues
+  pub frames : new ≡ with_frames (frames_in d.outcome next old.frames) old
+  pub shared : after ≡ d.shared
+  pub wrote : d.wrote ≡ []
+
+-- it has, or nothing was done
+abbrev pub IfPassed : Bool → Done → ℕ → FramesView → Shared → FramesView → Shared → Type 0
+IfPassed true d next old s new after = HasPassed d next old new after
+IfPassed false d next old s new after = (new ≡ old) × (after ≡ s)
+
+-- what a rule says is that this method is invoked, with so many arguments
+pub record IsCall (c : Call) (d : Done) (s : Shared) : Type 0 where
+  pub args : List Datum
+  pub below : Operands
+  pub invokes : d ≡ done s (Invokes c.method args below)
+  pub count : length args ≡ c.count

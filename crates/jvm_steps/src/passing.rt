@@ -1,0 +1,315 @@
+//! Several steps that tell nothing: those of the current frame alone, and between them accesses of fields that raise nothing, and calls
+//! of methods whose current version has no probes, both by what their names came to.
+
+ghost use Rattle.std.specs.Prelude.{◌≡◌, ◌≤◌, true, false, length, IfSome, Some};
+ghost use Rattle.std.specs.Option.{option_map};
+ghost use Rattle.frame_stack.specs.FrameLists.{top_operands};
+ghost use Rattle.jvm_model.specs.Data.{Returns};
+ghost use Rattle.jvm_model.specs.LocalRules.{returns};
+ghost use Rattle.jvm_model.specs.Values.{as_value};
+ghost use Rattle.jvm_model.specs.declared.event.Mark.TheVariants.{Off};
+ghost use Rattle.jvm_named.specs.Known.{IsKnown};
+ghost use Rattle.jvm_named.specs.Names.{naming_view};
+ghost use Rattle.jvm_steps.specs.declared.line.Action.TheVariants as action;
+ghost use Rattle.jvm_steps.specs.Arguments.{can_begin, with_begun};
+ghost use Rattle.jvm_steps.specs.Invoking.{may_begin};
+ghost use Rattle.jvm_steps.specs.Linked.{linker_in};
+ghost use Rattle.jvm_steps.specs.Markers.{state_of};
+ghost use Rattle.jvm_steps.specs.Passing.{Passes, ReturnsTo, is_method, on_frames, steps_if};
+ghost use Rattle.jvm_steps.specs.Ready.{CanRun, IsSoundIn};
+ghost use Rattle.jvm_steps.specs.Runs.{IsCalm};
+ghost use Rattle.jvm_steps.specs.States.{here_of};
+ghost use Rattle.jvm_steps.specs.Versions.{current_of, line_at, mark_of};
+
+use crate::going::{next_in, top_datum, value_of};
+use crate::invoking::{begin_frame, may_begin};
+use crate::line::{Action, Line};
+use crate::markers::{Marker, marker_on};
+use crate::originals::Originals;
+use crate::parts::{Here, Parts, where_now};
+use crate::plain::plain_steps;
+use const_pool::Kind;
+use frame_stack::Frames;
+use heap_objects::{Datum, Value};
+use jf_bytes::Stack;
+use jvm_basic::recall;
+use jvm_model::Mark;
+use jvm_named::{Call, Found, Known, Naming, known_call, pass_field};
+use std::alloc::Global;
+
+// ---- a call
+
+/// Whether a version has no probes.
+#[inline(always)]
+fn is_off(mark: Mark) -> bool
+    ensures { result ≡ true → mark ≡ Off }
+{
+    match mark {
+        Mark::Off => true,
+        Mark::Plain => false,
+        Mark::Root => false,
+    }
+}
+
+/// A method begins on the current frame, in a version without probes. False, with nothing of the frames changed, where it can't.
+fn begin_call(originals: &Originals, parts: &mut Parts, call: Call) -> bool
+    ensures few { result ≡ true → may_begin parts.old.frames.frames ≡ true }
+    ensures fits { result ≡ true
+        → can_begin originals.now.setup call.method call.count parts.old.frames.frames ≡ true }
+    ensures off { let v = originals.now.setup.versions in
+        result ≡ true → mark_of v (current_of v call.method) ≡ Off }
+    ensures frames { parts.new.frames.frames
+        ≡ with_begun result originals.now.setup call.method call.count parts.old.frames.frames }
+    ensures same { parts.new ≡ on_frames parts.new.frames parts.old }
+{
+    if !may_begin(&parts.frames) {
+        return false;
+    }
+    if !is_off(originals.mark(originals.current(call.method))) {
+        return false;
+    }
+    match begin_frame(originals, &mut parts.frames, call.method, call.count) {
+        Ok(begun) => begun,
+        Err(_) => false,
+    }
+}
+
+/// An invocation by what its names came to.
+fn pass_call(
+    alloc: Global,
+    originals: &Originals,
+    parts: &mut Parts,
+    markers: &Stack<Marker>,
+    here: Here,
+    line: &Line,
+    naming: &Naming,
+    known: &Known,
+) -> bool
+    requires run { CanRun originals.now.setup }
+    requires linked { originals.now.loaded ≡ parts.old.shared.loaded }
+    requires sound { IsSoundIn originals.now.setup (state_of markers.now parts.old) }
+    requires calm { IsCalm (length parts.old.frames.frames) markers.now parts.old }
+    requires here { here_of parts.old.frames.frames ≡ Some here }
+    requires line { line_at originals.now.setup.versions here.version here.place ≡ Some line.now }
+    requires named { line.now.action ≡ action.Named naming.now }
+    requires known { IsKnown (linker_in originals.now) (naming_view naming.now) known.now }
+    ensures { Passes originals.now.setup markers.now parts.old (steps_if result) parts.new }
+{
+    let linker = originals.linker();
+    let numbers = originals.numbers();
+    let shared = &parts.shared;
+    let Some(call) = known_call(alloc, linker, numbers, shared, &parts.frames, naming, known) else {
+        return false;
+    };
+    begin_call(originals, parts, call)
+}
+
+// ---- an access
+
+/// An access of a field by what its names came to.
+fn pass_access(
+    originals: &Originals,
+    parts: &mut Parts,
+    markers: &Stack<Marker>,
+    here: Here,
+    line: &Line,
+    naming: &Naming,
+    known: &Known,
+) -> bool
+    requires run { CanRun originals.now.setup }
+    requires linked { originals.now.loaded ≡ parts.old.shared.loaded }
+    requires sound { IsSoundIn originals.now.setup (state_of markers.now parts.old) }
+    requires calm { IsCalm (length parts.old.frames.frames) markers.now parts.old }
+    requires here { here_of parts.old.frames.frames ≡ Some here }
+    requires line { line_at originals.now.setup.versions here.version here.place ≡ Some line.now }
+    requires named { line.now.action ≡ action.Named naming.now }
+    requires known { IsKnown (linker_in originals.now) (naming_view naming.now) known.now }
+    ensures { Passes originals.now.setup markers.now parts.old (steps_if result) parts.new }
+{
+    let linker = originals.linker();
+    pass_field(
+        linker,
+        &mut parts.shared,
+        &mut parts.frames,
+        naming,
+        line.next,
+        known,
+    )
+}
+
+// ---- a return
+
+/// The value that a datum is, if there is one.
+fn value_given(datum: Option<Datum>) -> Option<Value>
+    ensures { result ≡ option_map as_value datum }
+{
+    match datum {
+        Some(datum) => Some(value_of(datum)),
+        None => None,
+    }
+}
+
+/// What a return gives back, where its operand is of the kind.
+fn result_of(frames: &Frames, kind: Option<Kind>) -> Option<Option<Datum>>
+    ensures { IfSome result (λ d. returns kind (top_operands frames.now.frames) ≡ Returns d) }
+{
+    let Some(kind) = kind else {
+        return Some(None);
+    };
+    let Some(datum) = top_datum(frames, kind) else {
+        return None;
+    };
+    Some(Some(datum))
+}
+
+/// Where the caller of the current frame goes on. None where nothing does, where an initialization stands on it, or where the frame's
+/// version has probes, or is not its method's current one.
+fn returns_to(
+    originals: &Originals,
+    frames: &Frames,
+    markers: &Stack<Marker>,
+    here: Here,
+) -> Option<u16>
+    ensures { let w = originals.now.setup in
+        IfSome result (λ next. ReturnsTo w markers.now here frames.now.frames next) }
+{
+    if !is_off(originals.mark(here.version)) {
+        return None;
+    }
+    if !originals.is_current(here.version) {
+        return None;
+    }
+    let depth = frames.depth();
+    if depth < 2 {
+        return None;
+    }
+    if marker_on(markers, depth - 1).is_some() {
+        return None;
+    }
+    let Some((version, place)) = frames.caller() else {
+        return None;
+    };
+    let Some(line) = originals.line(version, place) else {
+        return None;
+    };
+    next_in(line)
+}
+
+/// A return.
+fn pass_return(
+    originals: &Originals,
+    parts: &mut Parts,
+    markers: &Stack<Marker>,
+    here: Here,
+    line: &Line,
+    kind: Option<Kind>,
+) -> bool
+    requires run { CanRun originals.now.setup }
+    requires calm { IsCalm (length parts.old.frames.frames) markers.now parts.old }
+    requires here { here_of parts.old.frames.frames ≡ Some here }
+    requires line { line_at originals.now.setup.versions here.version here.place ≡ Some line.now }
+    requires ends { line.now.action ≡ action.Return kind }
+    ensures { Passes originals.now.setup markers.now parts.old (steps_if result) parts.new }
+{
+    let Some(next) = returns_to(originals, &parts.frames, markers, here) else {
+        return false;
+    };
+    let Some(datum) = result_of(&parts.frames, kind) else {
+        return false;
+    };
+    recall(&parts.frames);
+    parts.frames.give_back(value_given(datum), next)
+}
+
+// ---- a step
+
+/// Whether what is known is of a method.
+#[inline(always)]
+fn is_method(known: &Known) -> bool
+    ensures { result ≡ is_method known.now.found }
+{
+    match known.found {
+        Found::Fixed(_) => true,
+        Found::Selected(_) => true,
+        _ => false,
+    }
+}
+
+/// A step by a line that names something. Nothing of the run is changed where the answer is false.
+fn pass_named(
+    alloc: Global,
+    originals: &Originals,
+    parts: &mut Parts,
+    markers: &Stack<Marker>,
+    here: Here,
+    line: &Line,
+    naming: &Naming,
+) -> bool
+    requires run { CanRun originals.now.setup }
+    requires linked { originals.now.loaded ≡ parts.old.shared.loaded }
+    requires sound { IsSoundIn originals.now.setup (state_of markers.now parts.old) }
+    requires calm { IsCalm (length parts.old.frames.frames) markers.now parts.old }
+    requires here { here_of parts.old.frames.frames ≡ Some here }
+    requires line { line_at originals.now.setup.versions here.version here.place ≡ Some line.now }
+    requires named { line.now.action ≡ action.Named naming.now }
+    ensures { Passes originals.now.setup markers.now parts.old (steps_if result) parts.new }
+{
+    let Some(known) = originals.known(here.version, here.place) else {
+        return false;
+    };
+    if is_method(known) {
+        pass_call(alloc, originals, parts, markers, here, line, naming, known)
+    } else {
+        pass_access(originals, parts, markers, here, line, naming, known)
+    }
+}
+
+/// A step by the line at which the current frame stands, where that tells nothing. Nothing of the run is changed where the answer is
+/// false: the line does something else, or raises something, or nothing is known of its names.
+fn pass_line(
+    alloc: Global,
+    originals: &Originals,
+    parts: &mut Parts,
+    markers: &Stack<Marker>,
+) -> bool
+    requires run { CanRun originals.now.setup }
+    requires linked { originals.now.loaded ≡ parts.old.shared.loaded }
+    requires sound { IsSoundIn originals.now.setup (state_of markers.now parts.old) }
+    requires calm { IsCalm (length parts.old.frames.frames) markers.now parts.old }
+    ensures { Passes originals.now.setup markers.now parts.old (steps_if result) parts.new }
+{
+    let Some(here) = where_now(&parts.frames) else {
+        return false;
+    };
+    let Some(line) = originals.line(here.version, here.place) else {
+        return false;
+    };
+    match &line.action {
+        Action::Named(naming) => pass_named(alloc, originals, parts, markers, here, line, naming),
+        Action::Return(kind) => pass_return(originals, parts, markers, here, line, *kind),
+        _ => false,
+    }
+}
+
+/// Steps from which nothing follows, and of which nothing is told, at most so many: how many it has made.
+pub fn pass_steps(
+    alloc: Global,
+    originals: &Originals,
+    parts: &mut Parts,
+    markers: &Stack<Marker>,
+    most: u64,
+) -> u64
+    requires run { CanRun originals.now.setup }
+    requires linked { originals.now.loaded ≡ parts.old.shared.loaded }
+    requires sound { IsSoundIn originals.now.setup (state_of markers.now parts.old) }
+    requires calm { IsCalm (length parts.old.frames.frames) markers.now parts.old }
+    ensures within { result ≤ most }
+    ensures made { Passes originals.now.setup markers.now parts.old result parts.new }
+{
+    let mut made = plain_steps(originals, parts, most);
+    while made < most && pass_line(alloc, originals, parts, markers) {
+        made += 1;
+        made += plain_steps(originals, parts, most - made);
+    }
+    made
+}
