@@ -17,3 +17,4 @@ pub mod Again
 mod CalleeLemmas
 mod KnownLemmas
 pub mod PassingLemmas
+pub mod SelectionLemmas

@@ -1,7 +1,8 @@
 //! Accesses of fields, and which methods are invoked, where it is known what their names came to. Accesses are done only where they raise
 //! nothing; else nothing is done.
 
-ghost use Rattle.std.specs.Prelude.{◌≡◌, ◌≤◌, ℕ, List, drop, length, true, IfOk, IfSome};
+ghost use Rattle.std.specs.Prelude.{◌≡◌, ◌≤◌, ℕ, List, drop, length, true, IfOk, IfSome, Ok};
+ghost use Rattle.const_pool.specs.References.{Reference};
 ghost use Rattle.std.specs.Option.{option_map};
 ghost use Rattle.jvm_basic.specs.Outcomes.{top_locals};
 ghost use Rattle.jvm_model.specs.InvocationRules.{invokes_selected};
@@ -10,29 +11,34 @@ ghost use Rattle.jvm_model.specs.Naming.{Getfield, Getstatic, Invokestatic, Putf
 ghost use Rattle.jvm_named.specs.Answers.{answer_view, done_on};
 ghost use Rattle.jvm_named.specs.Attempts.{attempts, loads_nothing, world_over};
 ghost use Rattle.jvm_named.specs.Callees.{HasCallee, chosen_place};
-ghost use Rattle.jvm_named.specs.Known.{IsFoundAs, IsKnown, naming_by};
+ghost use Rattle.jvm_named.specs.Known.{IsFoundAs, IsKnown, IsSite, naming_by};
 ghost use Rattle.jvm_named.specs.Members.{reference_of};
 ghost use Rattle.jvm_named.specs.Names.{naming_view};
 ghost use Rattle.jvm_named.specs.Numbers.{AreNumbers};
-ghost use Rattle.jvm_named.specs.Objects.{AreLoaded, HasLoadedCaller, IsResolved, IsUsable};
+ghost use Rattle.jvm_named.specs.Objects.{AreLoaded, IsResolved, IsUsable};
 ghost use Rattle.jvm_named.specs.Passing.{IfPassed, IsCall, is_next, is_usable};
 ghost use Rattle.jvm_model.specs.SharedState.{phase_of};
 ghost use Rattle.jvm_named.specs.Resolved.{gets_instance, gets_static, puts_instance};
 ghost use Rattle.jvm_named.specs.Resolved.{invokes_instance, invokes_static_method};
-ghost use Rattle.jvm_named.specs.Targets.{HasCaller, data_in, found_as, invokes_target};
+ghost use Rattle.jvm_named.specs.Selections.{AreSelections, site_for};
+ghost use Rattle.jvm_named.specs.Targets.{data_in, found_as, instance_target, invokes_target};
 ghost use Rattle.jvm_named.specs.Targets.{selecting_view, target_in};
 
 use crate::asked::{Asked, Refusal};
 use crate::fields::{known_owner, put_slot, putting_of, read_known};
 use crate::held::held_by;
-use crate::known::{Callee, Found, Known};
+use crate::instances::kind_of_object;
+use crate::known::{Callee, Chosen, Found, Known, Site};
 use crate::moving::drop_two;
 use crate::naming::{MemberName, MethodName, Naming};
 use crate::numbers::MethodNumbers;
+use crate::receivers::{argument_count, receiver_below};
+use crate::selections::Selections;
 use crate::statics::push_field;
-use crate::targets::{Selecting, Target, instance_target, static_target};
+use crate::targets::{Selecting, Target, static_target};
 use class_linker::Linker;
 use frame_stack::Frames;
+use heap_objects::Heap;
 use jvm_model::{Phase, Shared};
 use std::alloc::Global;
 
@@ -225,10 +231,83 @@ fn static_call(
     }
 }
 
-/// The other three, where the receiver is of the kind for which the method was selected.
+/// What is selected for receivers of a kind, where it is kept. invokespecial selects the same for those of every kind.
+#[inline(always)]
+#[tactic(auto, using(crate::proofs::SelectionLemmas::if_kept, crate::proofs::SelectionLemmas::special_kept))]
+fn kept_for(
+    linker: &Linker,
+    selections: &Selections,
+    by: Selecting<'_>,
+    kind: u32,
+    site: Site,
+    last: u32,
+) -> Option<Chosen>
+    requires usable { IsUsable linker.now last }
+    requires selections { AreSelections linker.now.program selections.now }
+    ensures { let p = linker.now.program in let s = selecting_view by.entry in (r : Reference) →
+        IsSite p kind s r site → IfSome result (λ c. IsSite p kind s r (site_for site.method last c)) }
+{
+    if last == site.last {
+        return Some(site.chosen);
+    }
+    match by {
+        Selecting::Virtual => selections.chosen(kind, false, site.method, last),
+        Selecting::OfInterface => selections.chosen(kind, true, site.method, last),
+        Selecting::Special(_, _) => {
+            if linker.subtype(last, kind) {
+                Some(site.chosen)
+            } else {
+                None
+            }
+        }
+    }
+}
+
+/// What is invoked of an instance method on the operands, where what is selected for the receiver is kept.
+#[inline(always)]
+fn kept_target(
+    linker: &Linker,
+    selections: &Selections,
+    heap: &Heap,
+    frames: &Frames,
+    by: Selecting<'_>,
+    method: &MethodName,
+    kind: u32,
+    site: Site,
+) -> Option<Target>
+    requires objects { AreLoaded linker.now heap.now }
+    requires resolved { IsResolved linker.now method.now.class kind }
+    requires selections { AreSelections linker.now.program selections.now }
+    requires site { IsSite linker.now.program kind (selecting_view by) method.now site }
+    ensures target { let o = top_operands frames.now.frames in let s = selecting_view by.entry in
+        IfSome result (λ t. Ok (target_in o t)
+        ≡ instance_target linker.now.program kind s method.now heap.now o) }
+    ensures within { IfSome result (λ t. t.count ≤ length (top_operands frames.now.frames)) }
+    ensures callee { IfSome result (λ t. IfSome t.selected (HasCallee linker.now.program)) }
+{
+    let Some(count) = argument_count(true, method, frames) else {
+        return None;
+    };
+    let object = receiver_below(frames, count);
+    if object == 0 {
+        return None;
+    }
+    let Some(last) = kind_of_object(linker, heap, object) else {
+        return None;
+    };
+    let Some(chosen) = kept_for(linker, selections, by, kind, site, last) else {
+        return None;
+    };
+    Some(Target {
+        selected: Some(chosen),
+        count,
+    })
+}
+
+/// The other three, where what is selected for the receiver is kept.
 fn instance_call(
     linker: &Linker,
-    numbers: &MethodNumbers,
+    selections: &Selections,
     shared: &Shared,
     frames: &Frames,
     by: Selecting<'_>,
@@ -238,8 +317,7 @@ fn instance_call(
 ) -> Option<Call>
     requires objects { AreLoaded linker.now shared.now.heap }
     requires resolved { IsResolved linker.now method.now.class kind }
-    requires caller { HasCaller linker.now (selecting_view by) }
-    requires numbers { AreNumbers linker.now.program numbers.now }
+    requires selections { AreSelections linker.now.program selections.now }
     requires found { IsFoundAs known linker.now.program kind
         (naming_by (selecting_view by) method.now) }
     ensures { (input : List ℕ) → let w = world_over linker.now input in
@@ -247,31 +325,24 @@ fn instance_call(
         let rule = invokes_instance w kind (selecting_view by.entry) r shared.now in
         IfSome result (λ c. IsCall c (done_on rule frames.now) shared.now) }
 {
-    let mut found = known;
-    let target = instance_target(
-        linker,
-        numbers,
-        &shared.heap,
-        frames,
-        by,
-        method,
-        kind,
-        &mut found,
-    );
-    // Else the next attempt keeps what it finds.
-    if found != known {
+    let Found::Selected(site) = known else {
         return None;
+    };
+    let heap = &shared.heap;
+    match kept_target(linker, selections, heap, frames, by, method, kind, site) {
+        Some(target) => call_of(linker, shared, frames, target),
+        None => None,
     }
-    target_call(linker, shared, frames, &target)
 }
 
-/// Which method an instruction invokes, by what its names came to. None where it invokes none, or anything else would come, or where
-/// an attempt would learn more.
+/// Which method an instruction invokes, by what its names came to and what was selected. None where it invokes none, or anything else
+/// would come, or where an attempt would learn more.
 #[tactic(auto, using(crate::proofs::Again::loads_none))]
 pub fn known_call(
     alloc: Global,
     linker: &Linker,
     numbers: &MethodNumbers,
+    selections: &Selections,
     shared: &Shared,
     frames: &Frames,
     naming: &Naming,
@@ -280,8 +351,8 @@ pub fn known_call(
     requires linked { linker.now.loaded ≡ shared.now.loaded }
     requires known { IsKnown linker.now (naming_view naming.now) known.now }
     requires numbers { AreNumbers linker.now.program numbers.now }
+    requires selections { AreSelections linker.now.program selections.now }
     requires objects { AreLoaded linker.now shared.now.heap }
-    requires caller { HasLoadedCaller linker.now (naming_view naming.now) }
     ensures called { (input : List ℕ) → let w = world_over linker.now input in
         let d = done_on (attempts w (naming_view naming.now) shared.now frames.now) frames.now in
         IfSome result (λ c. IsCall c d shared.now) }
@@ -296,15 +367,15 @@ pub fn known_call(
         ),
         Naming::Invokevirtual(method) => {
             let by = Selecting::Virtual;
-            instance_call(linker, numbers, shared, frames, by, method, kind, found)
+            instance_call(linker, selections, shared, frames, by, method, kind, found)
         }
         Naming::Invokeinterface(method) => {
             let by = Selecting::OfInterface;
-            instance_call(linker, numbers, shared, frames, by, method, kind, found)
+            instance_call(linker, selections, shared, frames, by, method, kind, found)
         }
         Naming::Invokespecial(caller, method, interface) => {
             let by = Selecting::Special(caller, *interface);
-            instance_call(linker, numbers, shared, frames, by, method, kind, found)
+            instance_call(linker, selections, shared, frames, by, method, kind, found)
         }
         _ => None,
     }

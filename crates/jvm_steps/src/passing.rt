@@ -97,8 +97,13 @@ fn pass_call(
 {
     let linker = originals.linker();
     let numbers = originals.numbers();
+    let selections = originals.selections();
     let shared = &parts.shared;
-    let Some(call) = known_call(alloc, linker, numbers, shared, &parts.frames, naming, known) else {
+    let frames = &parts.frames;
+    let called = known_call(
+        alloc, linker, numbers, selections, shared, frames, naming, known,
+    );
+    let Some(call) = called else {
         return false;
     };
     begin_call(originals, parts, call)
