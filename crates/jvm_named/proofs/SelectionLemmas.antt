@@ -25,7 +25,7 @@ use Rattle.jvm_named.specs.Members.{at_place}
 use Rattle.jvm_named.specs.Objects.{class_at_kind}
 use Rattle.jvm_named.specs.Resolved.{method_found}
 use Rattle.jvm_named.specs.Targets.{Target, data_in, instance_target, receiver_class, target_in}
-use Rattle.jvm_named.proofs.KnownLemmas.{of_site, site_of}
+use Rattle.jvm_named.proofs.KnownLemmas.{of_site}
 use Rattle.jvm_named.specs.declared.selections.Selection.{Selection}
 use Rattle.jvm_named.specs.declared.place.Place.{Place}
 use Rattle.jvm_named.specs.Selections.{AreSelections, IsSelection, Slots, selecting_by, selection_for, site_for}
@@ -95,16 +95,6 @@ module _ (l : LinkerView) (r : Reference) (interface : Bool) (known : Known) (si
   was-site =
       of_site l.program known.kind r site (selecting_by interface)
       (subst (λ f. IsFoundAs f l.program known.kind (naming_by (selecting_by interface) r)) is was.found)
-
-  pub known_by : (last : ℕ) (c : Chosen) → IsSelection l.program (selection_for known.kind interface (site_for site.method last c))
-      → IsKnown l (naming_by (selecting_by interface) r) (record { kind = known.kind; found = found.Selected (site_for site.method last c) })
-  known_by last c one = record {
-    resolved = was.resolved;
-    loads = was.loads;
-    found =
-        site_of l.program known.kind r (site_for site.method last c) (selecting_by interface)
-        (site_by l.program known.kind interface r site last c was-site one);
-  }
 
   pub selection_of : IsSelection l.program (selection_for known.kind interface site)
   selection_of = record { below = was-site.below; chosen = was-site.chosen; callee = was-site.callee }

@@ -107,7 +107,7 @@ pub fn argument_count(instance: bool, method: &MethodName, frames: &Frames) -> O
 }
 
 /// The reference that has so many operands above it; 0 where it is none.
-pub fn receiver_at(frames: &Frames, above: u16) -> u32
+fn reference_at(frames: &Frames, above: u16) -> u32
     ensures { result ≡ reference_in (slice_get (top_operands frames.now.frames) above) }
 {
     match frames.peek(above) {
@@ -127,6 +127,6 @@ pub fn receiver_below(frames: &Frames, count: u16) -> u32
     if count == 0 {
         0
     } else {
-        receiver_at(frames, count - 1)
+        reference_at(frames, count - 1)
     }
 }

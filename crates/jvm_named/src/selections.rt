@@ -4,17 +4,13 @@
 ghost use Rattle.std.specs.Prelude.{◌≡◌, [], true, IfOk, IfSome};
 ghost use Rattle.class_linker.specs.Linkers.{LinkerView};
 ghost use Rattle.jvm_model.specs.declared.program.Program.{Program};
-ghost use Rattle.jvm_named.specs.Known.{IsKnown, naming_by};
+ghost use Rattle.jvm_named.specs.Known.{IsKnown};
 ghost use Rattle.jvm_named.specs.Names.{naming_view};
-ghost use Rattle.jvm_named.specs.Selections.{AreSelections, IsSelection, selecting_by, selection_for};
-ghost use Rattle.jvm_named.specs.Selections.{site_for};
+ghost use Rattle.jvm_named.specs.Selections.{AreSelections, IsSelection, selection_for, site_for};
 
 use crate::known::{Chosen, Found, Known, Site};
-use crate::naming::{MethodName, Naming};
+use crate::naming::Naming;
 use crate::place::Place;
-use crate::receivers::receiver_at;
-use frame_stack::Frames;
-use heap_objects::Heap;
 use jf_bytes::{NoMemory, Seq};
 use std::alloc::Global;
 use std::marker::Model;
@@ -185,13 +181,6 @@ fn widened(
     Ok(wider)
 }
 
-/// The kind of the receiver that lies below the arguments, if there is one.
-fn receiver_of(heap: &Heap, frames: &Frames, method: &MethodName) -> Option<u32> {
-    let params = method.params().as_ref()?;
-    let count = u16::try_from(params.len()).ok()?;
-    heap.kind(receiver_at(frames, count))
-}
-
 impl Selections {
     /// Nothing is kept.
     pub fn new(alloc: Global) -> Selections
@@ -276,54 +265,6 @@ impl Selections {
                 },
             ),
             _ => {}
-        }
-    }
-
-    /// What is known of an invocation, with what is selected for the receiver in place of the last one's, where that is kept.
-    fn known_by(
-        &self,
-        heap: &Heap,
-        frames: &Frames,
-        method: &MethodName,
-        interface: bool,
-        known: Known,
-    ) -> Known
-        ensures { let n = naming_by (selecting_by interface) method.now in (l : LinkerView) →
-            AreSelections l.program self.now → IsKnown l n known → IsKnown l n result }
-    {
-        let Found::Selected(site) = known.found else {
-            return known;
-        };
-        let Some(last) = receiver_of(heap, frames, method) else {
-            return known;
-        };
-        let kind = known.kind;
-        let Some(chosen) = self.chosen(kind, interface, site.method, last) else {
-            return known;
-        };
-        let found = Found::Selected(Site {
-            method: site.method,
-            last,
-            chosen,
-        });
-        Known { kind, found }
-    }
-
-    /// The same of any instruction.
-    pub fn known_for(
-        &self,
-        heap: &Heap,
-        frames: &Frames,
-        naming: &Naming,
-        known: Known,
-    ) -> Known
-        ensures { (l : LinkerView) → AreSelections l.program self.now
-            → IsKnown l (naming_view naming.now) known → IsKnown l (naming_view naming.now) result }
-    {
-        match naming {
-            Naming::Invokevirtual(method) => self.known_by(heap, frames, method, false, known),
-            Naming::Invokeinterface(method) => self.known_by(heap, frames, method, true, known),
-            _ => known,
         }
     }
 }

@@ -5,4 +5,4 @@ use Rattle.jvm_named.proofs.receivers.receiver_below.Goals as goal
 
 pub returns-else-count-eq0 : goal.returns-else-count-eq0
 returns-else-count-eq0 c =
-    c.receiver_at.ensures ∙ receiver-is (top_operands c.args.frames.now.frames) c.args.count c.if-count-eq0.false c.requires
+    c.reference_at.ensures ∙ receiver-is (top_operands c.args.frames.now.frames) c.args.count c.if-count-eq0.false c.requires
