@@ -53,7 +53,8 @@ use frame_stack::Frames;
 use jf_bytes::{NoMemory, Seq};
 use jvm_model::{Mark, Program, Shared};
 use jvm_named::{
-    Asked, Known, MethodNumbers, Refusal, attempt, attempt_known, attempt_loaded, resolve,
+    Asked, Known, MethodNumbers, Refusal, attempt, attempt_known, attempt_loaded, known_call,
+    resolve,
 };
 use std::alloc::Global;
 use std::marker::Model;
@@ -309,9 +310,15 @@ fn attempt_line_known(
 {
     let next = line.next;
     match &line.action {
-        Action::Named(naming) => attempt_known(
-            alloc, linker, numbers, shared, frames, input, output, naming, next, known,
-        ),
+        Action::Named(naming) => {
+            // Mostly a method that has Code is invoked.
+            if let Some(call) = known_call(alloc, linker, numbers, shared, frames, naming, known) {
+                return Ok(Asked::Invokes(call.method, call.count));
+            }
+            attempt_known(
+                alloc, linker, numbers, shared, frames, input, output, naming, next, known,
+            )
+        }
         _ => Ok(Asked::Refused(Refusal::Breaks)),
     }
 }
