@@ -1,6 +1,6 @@
 //! The children of nodes.
 
-ghost use Rattle.std.specs.Prelude.{◌≡◌, ◌<◌, ◌++◌, ◌∷◌, [], None, length, is_ok, slice_get, slice_set, slice_index_or, take, ◌-◌, OnOk, OnErr, if◌then◌else◌};
+ghost use Rattle.std.specs.Prelude.{◌≡◌, ◌<◌, ◌++◌, ◌∷◌, [], None, Some, IfSome, length, is_ok, slice_get, slice_set, slice_index_or, take, ◌-◌, OnOk, OnErr, if◌then◌else◌};
 ghost use Rattle.std.specs.Option.{option_map};
 ghost use Rattle.context_tree.specs.ChildLists.{Becomes, number_under, list_at, with_entry};
 
@@ -33,11 +33,33 @@ impl Children {
         }
     }
 
-    /// The number of the child that goes on by this method, in one look-up.
-    pub fn find(&self, method: u32) -> Option<usize>
+    /// The number of the child that goes on by this method, by hashing.
+    fn look_up(&self, method: u32) -> Option<usize>
         ensures { result ≡ number_under method self.now }
     {
         self.entries.get(&method).copied()
+    }
+
+    /// The number of the first child, where it goes on by this method.
+    #[inline(always)]
+    fn first(&self, method: u32) -> Option<usize>
+        ensures { IfSome result (λ number. number_under method self.now ≡ Some number) }
+    {
+        match self.entries.get_index(0) {
+            Some((of, number)) if *of == method => Some(*number),
+            _ => None,
+        }
+    }
+
+    /// The number of the child that goes on by this method, in one look-up at most.
+    #[inline(always)]
+    pub fn find(&self, method: u32) -> Option<usize>
+        ensures { result ≡ number_under method self.now }
+    {
+        match self.first(method) {
+            Some(number) => Some(number),
+            None => self.look_up(method),
+        }
     }
 
     /// The number of the child at a place.

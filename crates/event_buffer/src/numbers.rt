@@ -28,8 +28,8 @@ pub(crate) fn length_of_number(number: u64) -> usize
     }
 }
 
-/// Appends a number that there is room for.
-pub(crate) fn put_number(bytes: &mut HeapCircularBuffer<u8>, number: u64)
+/// Appends a number that there is room for, byte after byte.
+fn put_bytes(bytes: &mut HeapCircularBuffer<u8>, number: u64)
     requires room { length bytes.old.items + length (leb128 number) ≤ bytes.old.capacity }
     ensures { bytes.new ≡ buffer (bytes.old.items ++ leb128 number) bytes.old.capacity }
 {
@@ -37,11 +37,43 @@ pub(crate) fn put_number(bytes: &mut HeapCircularBuffer<u8>, number: u64)
         put_byte(bytes, number as u8);
     } else {
         put_byte(bytes, (number % 128 + 128) as u8);
-        put_number(bytes, number / 128);
+        put_bytes(bytes, number / 128);
     }
 }
 
-/// Takes the number at the front.
+/// The same; of a small number, as mostly, it is one byte.
+#[inline(always)]
+pub(crate) fn put_number(bytes: &mut HeapCircularBuffer<u8>, number: u64)
+    requires room { length bytes.old.items + length (leb128 number) ≤ bytes.old.capacity }
+    ensures { bytes.new ≡ buffer (bytes.old.items ++ leb128 number) bytes.old.capacity }
+{
+    if number < 128 {
+        put_byte(bytes, number as u8);
+    } else {
+        put_bytes(bytes, number);
+    }
+}
+
+/// Takes the number at the front, byte after byte.
+fn take_bytes(bytes: &mut HeapCircularBuffer<u8>) -> u64
+    requires { number_in bytes.old.items < 2 ^ 64 }
+    ensures value { result ≡ number_in bytes.old.items }
+    ensures rest { bytes.new ≡ buffer (behind_number bytes.old.items) bytes.old.capacity }
+{
+    match bytes.pop_front() {
+        None => 0,
+        Some(byte) => {
+            if byte < 128 {
+                byte as u64
+            } else {
+                (byte - 128) as u64 + 128 * take_bytes(bytes)
+            }
+        }
+    }
+}
+
+/// The same; of a small number, as mostly, it is one byte.
+#[inline(always)]
 pub(crate) fn take_number(bytes: &mut HeapCircularBuffer<u8>) -> u64
     requires { number_in bytes.old.items < 2 ^ 64 }
     ensures value { result ≡ number_in bytes.old.items }
@@ -53,7 +85,7 @@ pub(crate) fn take_number(bytes: &mut HeapCircularBuffer<u8>) -> u64
             if byte < 128 {
                 byte as u64
             } else {
-                (byte - 128) as u64 + 128 * take_number(bytes)
+                (byte - 128) as u64 + 128 * take_bytes(bytes)
             }
         }
     }

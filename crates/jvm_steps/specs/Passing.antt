@@ -1,5 +1,5 @@
 -- Several steps of the run that tell nothing, in one activation or in several: what begins or ends in them has no probes.
-use Rattle.std.specs.Prelude.{◌≡◌, ℕ, ◌<◌, ◌-◌, Bool, true, false, List, [], ◌∷◌, length, nat_le, Option, Some, None, ◌==◌, ◌||◌}
+use Rattle.std.specs.Prelude.{◌≡◌, ℕ, ◌<◌, ◌-◌, Bool, true, false, not, List, [], ◌∷◌, length, nat_le, Option, Some, None, ◌==◌, ◌||◌}
 use Rattle.heap_objects.specs.declared.Value.{Value}
 use Rattle.frame_stack.specs.FrameLists.{FramesView, PlacedFrame}
 use Rattle.frame_stack.specs.Widths.{height_of}
@@ -9,11 +9,14 @@ use Rattle.jvm_model.specs.declared.due.Due.TheVariants.{Nothing}
 use Rattle.jvm_model.specs.declared.state.Entry.{Entry}
 use Rattle.jvm_model.specs.declared.state.Entry.TheVariants.{Active, Initializing}
 use Rattle.jvm_model.specs.declared.state.State.{State}
+use Rattle.jvm_model.specs.Images.{is_off}
 use Rattle.jvm_model.specs.Pauses.{stop_in}
 use Rattle.jvm_model.specs.Rest.{step_loads}
 use Rattle.jvm_model.specs.Run.{step}
 use Rattle.jvm_model.specs.Told.{helds, mark_now}
 use Rattle.jvm_model.specs.Values.{with_value}
+use Rattle.jvm_named.specs.declared.known.Callee.{Callee}
+use Rattle.jvm_named.specs.declared.known.Callee.TheVariants as callee
 use Rattle.jvm_named.specs.declared.known.Found.{Found}
 use Rattle.jvm_named.specs.declared.known.Found.TheVariants as found
 use Rattle.jvm_steps.specs.declared.markers.Marker.{Marker}
@@ -24,7 +27,7 @@ use Rattle.jvm_steps.specs.Markers.{marker_on, state_of}
 use Rattle.jvm_steps.specs.Runs.{IsCalm, Leads, steps_from}
 use Rattle.jvm_steps.specs.declared.line.Line.{Line}
 use Rattle.jvm_steps.specs.Tables.{Versions}
-use Rattle.jvm_steps.specs.Versions.{Setup, line_at, mark_of, next_in, text_of}
+use Rattle.jvm_steps.specs.Versions.{Setup, current_of, line_at, mark_of, next_in, text_of}
 
 -- ---- live activations
 
@@ -76,6 +79,17 @@ abbrev pub is_method : Found → Bool
 is_method (found.Fixed m) = true
 is_method (found.Selected site) = true
 is_method _ = false
+
+-- a method begins there in a version with probes
+abbrev pub is_probed : Versions → Callee → Bool
+is_probed v (callee.Code method) = not (is_off (mark_of v (current_of v method)))
+is_probed v (callee.Native number) = false
+is_probed v callee.Other = false
+
+-- a method that is the same for each receiver begins so
+abbrev pub is_told : Versions → Found → Bool
+is_told v (found.Fixed m) = is_probed v m.callee
+is_told v _ = false
 
 -- ---- returns
 

@@ -55,6 +55,7 @@ use jf_bytes::{NoMemory, Seq};
 use jvm_model::{Mark, Program, Shared};
 use jvm_named::{
     Asked, Known, MethodNumbers, Refusal, Selections, attempt, attempt_known, attempt_loaded,
+    known_call, resolve,
     resolve,
 };
 use std::alloc::Global;
@@ -273,6 +274,7 @@ fn attempt_line_known(
     alloc: Global,
     linker: &Linker,
     numbers: &MethodNumbers,
+    selections: &Selections,
     line: &Line,
     known: &mut Known,
     shared: &mut Shared,
@@ -284,6 +286,7 @@ fn attempt_line_known(
     requires known { IfNamedBy line.now.action line.now.next
         (λ n next. IsKnown linker.now n known.old) }
     requires numbers { AreNumbers linker.now.program numbers.now }
+    requires selections { AreSelections linker.now.program selections.now }
     requires built_in { HasBuiltIn linker.now }
     requires objects { AreLoaded linker.now shared.old.heap }
     requires caller { IfNamedBy line.now.action line.now.next
@@ -312,27 +315,19 @@ fn attempt_line_known(
 {
     let next = line.next;
     match &line.action {
-        Action::Named(naming) => attempt_known(
-            alloc, linker, numbers, shared, frames, input, output, naming, next, known,
-        ),
+        Action::Named(naming) => {
+            // Mostly a method that has Code is invoked.
+            let called = known_call(
+                alloc, linker, numbers, selections, shared, frames, naming, known,
+            );
+            if let Some(call) = called {
+                return Ok(Asked::Invokes(call.method, call.count));
+            }
+            attempt_known(
+                alloc, linker, numbers, shared, frames, input, output, naming, next, known,
+            )
+        }
         _ => Ok(Asked::Refused(Refusal::Breaks)),
-    }
-}
-
-/// What is known of a line's names, with what is selected for the receiver where that is kept.
-fn known_for(
-    selections: &Selections,
-    line: &Line,
-    known: Known,
-    shared: &Shared,
-    frames: &Frames,
-) -> Known
-    ensures { (l : LinkerView) → AreSelections l.program selections.now → IfNamedBy line.now.action
-        line.now.next (λ n next. IsKnown l n known → IsKnown l n result) }
-{
-    match &line.action {
-        Action::Named(naming) => selections.known_for(&shared.heap, frames, naming, known),
-        _ => known,
     }
 }
 
@@ -666,12 +661,12 @@ impl Originals {
             return Ok(Asked::Refused(Refusal::Breaks));
         };
         if let Some(before) = self.cells.get(version, place) {
-            let given = known_for(&self.selections, line, before, shared, frames);
-            let mut known = given;
+            let mut known = before;
             let done = attempt_line_known(
                 alloc,
                 &self.linker,
                 &self.numbers,
+                &self.selections,
                 line,
                 &mut known,
                 shared,
@@ -679,8 +674,8 @@ impl Originals {
                 self.input.as_slice(),
                 output,
             )?;
-            self.cells.renew(alloc, version, place, given, known);
-            keep_selected(&mut self.selections, alloc, line, given, known);
+            self.cells.renew(alloc, version, place, before, known);
+            keep_selected(&mut self.selections, alloc, line, before, known);
             return Ok(done);
         }
         // Where memory runs out nothing is known any more.
@@ -747,12 +742,12 @@ impl Originals {
             return Ok(None);
         };
         if let Some(before) = self.cells.get(version, place) {
-            let given = known_for(&self.selections, line, before, shared, frames);
-            let mut known = given;
+            let mut known = before;
             let done = attempt_line_known(
                 alloc,
                 &self.linker,
                 &self.numbers,
+                &self.selections,
                 line,
                 &mut known,
                 shared,
@@ -760,8 +755,8 @@ impl Originals {
                 self.input.as_slice(),
                 output,
             )?;
-            self.cells.renew(alloc, version, place, given, known);
-            keep_selected(&mut self.selections, alloc, line, given, known);
+            self.cells.renew(alloc, version, place, before, known);
+            keep_selected(&mut self.selections, alloc, line, before, known);
             return Ok(Some(done));
         }
         // Where memory runs out nothing is known any more.

@@ -15,7 +15,8 @@ ghost use Rattle.jvm_steps.specs.Arguments.{can_begin, with_begun};
 ghost use Rattle.jvm_steps.specs.Invoking.{may_begin};
 ghost use Rattle.jvm_steps.specs.Linked.{linker_in};
 ghost use Rattle.jvm_steps.specs.Markers.{state_of};
-ghost use Rattle.jvm_steps.specs.Passing.{Passes, ReturnsTo, is_method, on_frames, steps_if};
+ghost use Rattle.jvm_steps.specs.Passing.{Passes, ReturnsTo, is_method, is_probed, is_told, on_frames};
+ghost use Rattle.jvm_steps.specs.Passing.{steps_if};
 ghost use Rattle.jvm_steps.specs.Ready.{CanRun, IsSoundIn};
 ghost use Rattle.jvm_steps.specs.Runs.{IsCalm};
 ghost use Rattle.jvm_steps.specs.States.{here_of};
@@ -28,13 +29,14 @@ use crate::markers::{Marker, marker_on};
 use crate::originals::Originals;
 use crate::parts::{Here, Parts, where_now};
 use crate::plain::plain_steps;
+use crate::turning::is_marked;
 use const_pool::Kind;
 use frame_stack::Frames;
 use heap_objects::{Datum, Value};
 use jf_bytes::Stack;
 use jvm_basic::recall;
 use jvm_model::Mark;
-use jvm_named::{Call, Found, Known, Naming, known_call, pass_field};
+use jvm_named::{Call, Callee, Found, Known, Naming, known_call, pass_field};
 use std::alloc::Global;
 
 // ---- a call
@@ -240,6 +242,29 @@ fn is_method(known: &Known) -> bool
     }
 }
 
+/// Whether a probe tells where this is invoked.
+#[inline(always)]
+fn is_probed(originals: &Originals, callee: Callee) -> bool
+    ensures { result ≡ is_probed originals.now.setup.versions callee }
+{
+    match callee {
+        Callee::Code(method) => is_marked(originals, originals.current(method)),
+        Callee::Native(_) => false,
+        Callee::Other => false,
+    }
+}
+
+/// Whether what is known is of a static method where whose begin a probe tells.
+#[inline(always)]
+fn is_told(originals: &Originals, known: &Known) -> bool
+    ensures { result ≡ is_told originals.now.setup.versions known.now.found }
+{
+    match known.found {
+        Found::Fixed(method) => is_probed(originals, method.callee),
+        _ => false,
+    }
+}
+
 /// A step by a line that names something. Nothing of the run is changed where the answer is false.
 fn pass_named(
     alloc: Global,
@@ -262,6 +287,9 @@ fn pass_named(
     let Some(known) = originals.known(here.version, here.place) else {
         return false;
     };
+    if is_told(originals, known) {
+        return false;
+    }
     if is_method(known) {
         pass_call(alloc, originals, parts, markers, here, line, naming, known)
     } else {

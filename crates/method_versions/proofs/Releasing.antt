@@ -1,6 +1,7 @@
 -- The superseded versions that no frame runs are dropped, and those that stay are listed.
 use Rattle.std.proofs.Common.{◌≡◌, ◌≤◌, ◌++◌, ℕ, Bool, true, false, List, [], ◌∷◌, Option, Some, None, refl, sym, ap, ◌∙◌}
 use Rattle.std.specs.Prelude.{not, ◌==◌, ◌&&◌, ◌||◌, filter, slice_get, if◌then◌else◌}
+use Rattle.std.specs.List.{list_all}
 use Rattle.std.specs.Option.{IfSome, option_map}
 use Rattle.std.proofs.lemmas.Bool.{eqb-true, eq-eqb, ne_eqb}
 use Rattle.std.proofs.lemmas.List.Folds.{list_any-append}
@@ -121,3 +122,19 @@ module _ {T : Type 0} (fs : List PlacedFrame) (before after : List (Option (Held
     by : (b : Bool) → (if b then None else held_in before k) ≡ None
     by true = refl
     by false = far k le
+
+-- ---- none of them
+
+-- frames run each of these
+pub none-free : (fs : List PlacedFrame) (numbers : List ℕ) (k : ℕ) → list_all (λ n. not (pins_of n fs == 0)) numbers ≡ true
+    → (is_listed k numbers && pins_of k fs == 0) ≡ false
+none-free fs [] k all = refl
+none-free fs (n ∷ rest) k all = by (none-free fs rest k) (n == k) refl (pins_of n fs == 0) refl where
+  first : (b : Bool) → (pins_of n fs == 0) ≡ b → (not b && list_all (λ m. not (pins_of m fs == 0)) rest) ≡ true
+  first b e = ap (λ c. not c && list_all (λ m. not (pins_of m fs == 0)) rest) (sym e) ∙ all
+
+  by : (list_all (λ m. not (pins_of m fs == 0)) rest ≡ true → (is_listed k rest && pins_of k fs == 0) ≡ false) → (b : Bool) → (n == k) ≡ b
+      → (c : Bool) → (pins_of n fs == 0) ≡ c → (((n == k) || is_listed k rest) && pins_of k fs == 0) ≡ false
+  by more b e true d = absurd (false-true (first true d))
+  by more true e false d = ap (λ z. (z || is_listed k rest) && pins_of k fs == 0) e ∙ (ap (λ m. pins_of m fs == 0) (sym (eqb-true n k e)) ∙ d)
+  by more false e false d = ap (λ z. (z || is_listed k rest) && pins_of k fs == 0) e ∙ more (first false d)

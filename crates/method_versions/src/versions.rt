@@ -1,6 +1,7 @@
 //! The table of versions.
 
 ghost use Rattle.std.specs.Prelude.{◌≡◌, ◌<◌, ◌+◌, ◌-◌, ◌≤◌, ◌++◌, ℕ, None, length, slice_set, if◌then◌else◌, ◌==◌, ◌&&◌, filter, not, vec_capacity, vec_len, OnOk, option_copied};
+ghost use Rattle.std.specs.List.{list_all};
 ghost use Rattle.frame_stack.specs.FrameLists.{pins_of};
 ghost use Rattle.slab.specs.Slab.{slab_len};
 ghost use Rattle.method_versions.specs.Tables.{IsFirst, current_of, held_at, held_in, held_for};
@@ -157,6 +158,14 @@ fn drop_unpinned<T: Drop>(
     }
 }
 
+/// Whether frames run each of these versions.
+#[inline(always)]
+fn are_pinned(numbers: &[usize], frames: &Frames) -> bool
+    ensures { result ≡ list_all (λ n. not (pins_of n frames.now.frames == 0)) numbers.now }
+{
+    numbers.iter().all(|number| frames.pins(*number) != 0)
+}
+
 /// Keeps the numbers of versions that frames run.
 fn keep_pinned(numbers: &mut Vec<usize>, frames: &Frames)
     ensures kept { numbers.new.items
@@ -208,7 +217,7 @@ impl<T: Drop> Versions<T> {
         keep_pinned(&mut self.superseded, frames);
     }
 
-    /// The same; where no version is superseded, as mostly, it is one test.
+    /// The same; where frames run each superseded one, as mostly, it is a test of these.
     #[inline(always)]
     pub fn release(&mut self, frames: &Frames)
         ensures held { (number : ℕ) → held_at self.new number
@@ -217,7 +226,7 @@ impl<T: Drop> Versions<T> {
         ensures count { length self.new.slots ≡ length self.old.slots }
         ensures spare { self.old.spare ≤ self.new.spare }
     {
-        if self.superseded.is_empty() {
+        if are_pinned(self.superseded.as_slice(), frames) {
             return;
         }
         self.release_some(frames);

@@ -7,13 +7,12 @@ use Rattle.jvm_named.specs.Attempts.{attempts, loads_nothing, world_over}
 use Rattle.jvm_named.specs.Known.{IsKnown}
 use Rattle.jvm_named.specs.Names.{naming_view}
 use Rattle.jvm_named.specs.Numbers.{AreNumbers}
-use Rattle.jvm_named.specs.Objects.{AreLoaded, HasLoadedCaller}
+use Rattle.jvm_named.specs.Objects.{AreLoaded}
 use Rattle.jvm_named.specs.Passing.{IsCall}
-use Rattle.jvm_steps.specs.Linked.{linker_in}
-use Rattle.jvm_steps.specs.Versions.{line_at}
+use Rattle.jvm_named.specs.Selections.{AreSelections}
 use Rattle.jvm_steps.proofs.PassingCalls.{called-passes}
-use Rattle.jvm_steps.proofs.PassingSteps.{held-there, nothing-new}
-use Rattle.jvm_steps.proofs.Sounded.{caller-linked, objects-linked}
+use Rattle.jvm_steps.proofs.PassingSteps.{nothing-new}
+use Rattle.jvm_steps.proofs.Sounded.{objects-linked}
 use Rattle.jvm_steps.proofs.SilentSteps.{passes_none}
 use Rattle.jvm_steps.proofs.passing.pass_call.Goals as goal
 
@@ -32,13 +31,9 @@ pub known_call-requires-clause-numbers : goal.known_call-requires-clause-numbers
 known_call-requires-clause-numbers c =
     subst (λ (v : LinkerView). AreNumbers v.program c.numbers-numbers.result.now) (sym c.linker-linker.ensures) c.numbers-numbers.ensures
 
-pub known_call-requires-clause-caller : goal.known_call-requires-clause-caller
-known_call-requires-clause-caller c =
-    subst (λ v. HasLoadedCaller v (naming_view c.args.naming.now)) (sym c.linker-linker.ensures)
-    (held-there (line_at c.args.originals.now.setup.versions c.args.here.version c.args.here.place) c.args.line.now c.args.naming.now c.requires.line c.requires.named
-    (λ n next. HasLoadedCaller (linker_in c.args.originals.now) n)
-    (caller-linked c.args.originals.now.setup c.args.markers.now c.args.parts.now c.args.originals.now.loaded c.args.here c.requires.run c.requires.sound
-    c.requires.linked c.requires.here c.requires.calm.unmarked))
+pub known_call-requires-clause-selections : goal.known_call-requires-clause-selections
+known_call-requires-clause-selections c =
+    subst (λ (v : LinkerView). AreSelections v.program c.selections-selections.result.now) (sym c.linker-linker.ensures) c.selections-selections.ensures
 
 pub returns : goal.returns
 returns c =

@@ -17,3 +17,6 @@ pass_access-requires-clause-known c =
 
 pub returns-in_default : goal.returns-in_default
 returns-in_default c = passes_none c.args.originals.now.setup c.args.markers.now c.args.parts.now c.requires.calm
+
+pub returns-then-is_told : goal.returns-then-is_told
+returns-then-is_told c = passes_none c.args.originals.now.setup c.args.markers.now c.args.parts.now c.requires.calm

@@ -1,6 +1,7 @@
 use Rattle.std.proofs.Common.{◌≡◌, Some, sym, subst, ap, ◌∙◌, rules}
 use Rattle.std.specs.Option.{option_copied}
 use Rattle.jvm_named.specs.Objects.{AreLoaded}
+use Rattle.jvm_named.specs.Selections.{AreSelections}
 use Rattle.jvm_steps.specs.Cells.{cell_at}
 use Rattle.jvm_steps.specs.Kept.{AreKnown}
 use Rattle.jvm_steps.specs.Linked.{linker_in}
@@ -36,6 +37,7 @@ invariant_of-self c = record {
   prepared = c.self.invariant.prepared;
   known = renewed c.self.inside.linker c.self.inside.versions c.self.inside.cells c.renew.new.self c.args.version c.args.place c.attempt_line_known.new.known c.in-Some.line.now
       (sym (sym (ap option_copied c.in-Some.is) ∙ c.line_at.ensures)) c.renew.ensures c.self.invariant.known c.attempt_line_known.ensures.known;
+  selected = c.keep_selected.ensures c.self.inside.linker c.self.invariant.selected c.attempt_line_known.ensures.known;
 }
 
 pub invariant_of-self-2 : goal.invariant_of-self-2
@@ -45,4 +47,5 @@ invariant_of-self-2 c = record {
   known = learnt-kept c.self.inside.linker c.attempt_line_loaded.new.linker c.self.inside.versions c.replace-cells.result c.learn.new.self c.args.version c.args.place
       c.attempt_line_loaded.new.learnt c.in-Some.line.now (sym (sym (ap option_copied c.in-Some.is) ∙ c.line_at.ensures)) c.in_ok-asked.ensures.later
       (subst (AreKnown c.self.inside.linker c.self.inside.versions) (sym c.replace-cells.ensures.value) c.self.invariant.known) c.learn.ensures c.in_ok-asked.ensures.learnt;
+  selected = subst (λ p. AreSelections p c.self.inside.selections) (sym c.in_ok-asked.ensures.program) c.self.invariant.selected;
 }

@@ -50,6 +50,7 @@ invariant_of-self c =
           })
           (λ same. subst (λ (v : Versions). IsPrepared p c.self.inside.methods v c.self.inside.exceptions c.self.inside.numbers) (sym same) was);
       known = subst (AreKnown c.self.inside.linker c.add_all.new.self) (sym c.new-none.ensures) (nil-known c.self.inside.linker c.add_all.new.self);
+      selected = c.self.invariant.selected;
     }
 
 pub returns-clause-set_up : goal.returns-clause-set_up

@@ -1,4 +1,5 @@
 use Rattle.std.proofs.Common.{sym, subst}
+use Rattle.jvm_named.specs.Selections.{AreSelections}
 use Rattle.jvm_steps.specs.Kept.{AreKnown}
 use Rattle.jvm_steps.specs.Prepared.{IsPrepared, main_name}
 use Rattle.jvm_steps.proofs.CellLemmas.{known-later, later-resolved}
@@ -12,4 +13,5 @@ invariant_of-self-2 c = record {
       (known-later c.self.inside.linker c.link_main.new.linker c.self.inside.versions c.self.inside.cells
       (later-resolved c.self.inside.linker c.link_main.new.linker (main_name c.self.inside.linker.program) c.in_ok-link_main.ensures.program c.in_ok-link_main.ensures.loaded)
       c.self.invariant.known);
+  selected = subst (λ p. AreSelections p c.self.inside.selections) (sym c.in_ok-link_main.ensures.program) c.self.invariant.selected;
 }

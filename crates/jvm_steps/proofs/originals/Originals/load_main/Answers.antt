@@ -1,4 +1,5 @@
 use Rattle.std.proofs.Common.{sym, subst, ◌∙◌}
+use Rattle.jvm_named.specs.Selections.{AreSelections}
 use Rattle.jvm_steps.specs.Kept.{AreKnown}
 use Rattle.jvm_steps.specs.Prepared.{IsPrepared}
 use Rattle.jvm_steps.proofs.CellLemmas.{known-later, later-resolved}
@@ -12,4 +13,5 @@ invariant_of-self-2 c = record {
       (known-later c.self.inside.linker c.resolve.new.linker c.self.inside.versions c.self.inside.cells
       (later-resolved c.self.inside.linker c.resolve.new.linker c.in_ok-name.name c.in_ok-found.ensures.program (c.in_ok-found.ensures.linked ∙ c.in_ok-found.ensures.loaded))
       c.self.invariant.known);
+  selected = subst (λ p. AreSelections p c.self.inside.selections) (sym c.in_ok-found.ensures.program) c.self.invariant.selected;
 }

@@ -1,4 +1,6 @@
 use Rattle.std.proofs.Common.{◌≡◌, ◌<◌, ◌≤◌, ◌^◌, length, subst, sym, arith, rules}
+use Rattle.jvm_named.specs.Selections.{AreSelections}
+use Rattle.jvm_named.proofs.SelectionLemmas.{no_selections}
 use Rattle.jvm_steps.specs.Kept.{AreKnown}
 use Rattle.jvm_steps.proofs.CellLemmas.{nil-known}
 use Rattle.jvm_steps.proofs.BuiltInLoads.{few-coded}
@@ -21,6 +23,7 @@ invariant_of-result c =
           (IsPrepared-entries c.args.program c.in_ok-methods.methods c.in_ok-versions.versions c.exceptions_of-exceptions.result c.in_ok-numbers.numbers c.requires few c.requires.methods
           c.in_ok-methods.ensures c.in_ok-versions.ensures c.exceptions_of-exceptions.ensures.raised c.exceptions_of-exceptions.ensures.string c.in_ok-numbers.ensures);
       known = subst (AreKnown c.load_built_in.new.linker c.in_ok-versions.versions) (sym c.new-cells.ensures) (nil-known c.load_built_in.new.linker c.in_ok-versions.versions);
+      selected = subst (AreSelections c.load_built_in.new.linker.program) (sym c.new-selections.ensures) (no_selections c.load_built_in.new.linker.program);
     }
 
 pub returns-clause-set_up : goal.returns-clause-set_up

@@ -21,4 +21,5 @@ invariant_of-self c =
         numbers = was.numbers;
       };
       known = known-left c.self.inside.linker c.args.frames.now.frames c.self.inside.versions c.release.new.self c.self.inside.cells c.release.ensures.released c.self.invariant.known;
+      selected = c.self.invariant.selected;
     }
