@@ -56,7 +56,6 @@ use jvm_model::{Mark, Program, Shared};
 use jvm_named::{
     Asked, Known, MethodNumbers, Refusal, Selections, attempt, attempt_known, attempt_loaded,
     known_call, resolve,
-    resolve,
 };
 use std::alloc::Global;
 use std::marker::Model;
