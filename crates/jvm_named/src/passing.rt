@@ -6,7 +6,7 @@ ghost use Rattle.std.specs.Option.{option_map};
 ghost use Rattle.jvm_basic.specs.Outcomes.{top_locals};
 ghost use Rattle.jvm_model.specs.InvocationRules.{invokes_selected};
 ghost use Rattle.frame_stack.specs.FrameLists.{top_operands};
-ghost use Rattle.jvm_model.specs.Naming.{Getfield, Getstatic, Invokestatic, Putfield};
+ghost use Rattle.jvm_model.specs.Naming.{Getfield, Getstatic, Invokestatic, Putfield, Putstatic};
 ghost use Rattle.jvm_named.specs.Answers.{answer_view, done_on};
 ghost use Rattle.jvm_named.specs.Attempts.{attempts, loads_nothing, world_over};
 ghost use Rattle.jvm_named.specs.Callees.{HasCallee, chosen_place};
@@ -18,6 +18,7 @@ ghost use Rattle.jvm_named.specs.Objects.{AreLoaded, HasLoadedCaller, IsResolved
 ghost use Rattle.jvm_named.specs.Passing.{IfPassed, IsCall, is_next, is_usable};
 ghost use Rattle.jvm_model.specs.SharedState.{phase_of};
 ghost use Rattle.jvm_named.specs.Resolved.{gets_instance, gets_static, puts_instance};
+ghost use Rattle.jvm_named.specs.Resolved.{puts_static};
 ghost use Rattle.jvm_named.specs.Resolved.{invokes_instance, invokes_static_method};
 ghost use Rattle.jvm_named.specs.Targets.{HasCaller, data_in, found_as, invokes_target};
 ghost use Rattle.jvm_named.specs.Targets.{selecting_view, target_in};
@@ -26,10 +27,11 @@ use crate::asked::{Asked, Refusal};
 use crate::fields::{known_owner, put_slot, putting_of, read_known};
 use crate::held::held_by;
 use crate::known::{Callee, Found, Known};
-use crate::moving::drop_two;
+use crate::moving::{drop_one, drop_two};
 use crate::naming::{MemberName, MethodName, Naming};
 use crate::numbers::MethodNumbers;
-use crate::statics::push_field;
+use crate::static_fields::set_static;
+use crate::statics::{held_of, push_field};
 use crate::targets::{Selecting, Target, instance_target, static_target};
 use class_linker::Linker;
 use frame_stack::Frames;
@@ -145,6 +147,40 @@ fn pass_getstatic(
     }
     let asked = push_field(shared, frames, field, next);
     went_on(&asked)
+}
+
+/// putstatic.
+fn pass_putstatic(
+    alloc: Global,
+    linker: &Linker,
+    shared: &mut Shared,
+    frames: &mut Frames,
+    member: &MemberName,
+    kind: u32,
+    found: Found,
+    next: u16,
+) -> bool
+    requires found { IsFoundAs found linker.now.program kind (Putstatic (reference_of member.now)) }
+    ensures { let r = reference_of member.now in
+        let d = done_on (puts_static linker.now.program kind r shared.old) frames.old in
+        IfPassed result d next frames.old shared.old frames.new shared.new }
+{
+    let Found::Static(field) = found else {
+        return false;
+    };
+    if !is_usable(shared, field.class) {
+        return false;
+    }
+    let Some(datum) = held_of(frames, held_by(member.descriptor.units())) else {
+        return false;
+    };
+    let asked = drop_one(frames, next);
+    if !went_on(&asked) {
+        return false;
+    }
+    let position = field.position as usize;
+    set_static(alloc, &mut shared.statics, field.class, position, datum);
+    true
 }
 
 // ---- what is invoked
@@ -315,6 +351,7 @@ pub fn known_call(
 /// An access of a field by what its names came to. False, with nothing changed, where anything but that the frame goes on would come.
 #[tactic(auto, using(crate::proofs::Again::loads_none))]
 pub fn pass_field(
+    alloc: Global,
     linker: &Linker,
     shared: &mut Shared,
     frames: &mut Frames,
@@ -344,6 +381,9 @@ pub fn pass_field(
         Naming::Getstatic(member) => {
             pass_getstatic(linker, shared, frames, member, kind, found, next)
         }
+        Naming::Putstatic(member) => pass_putstatic(
+            alloc, linker, shared, frames, member, kind, found, next,
+        ),
         _ => false,
     }
 }

@@ -108,6 +108,7 @@ fn pass_call(
 
 /// An access of a field by what its names came to.
 fn pass_access(
+    alloc: Global,
     originals: &Originals,
     parts: &mut Parts,
     markers: &Stack<Marker>,
@@ -128,6 +129,7 @@ fn pass_access(
 {
     let linker = originals.linker();
     pass_field(
+        alloc,
         linker,
         &mut parts.shared,
         &mut parts.frames,
@@ -260,7 +262,7 @@ fn pass_named(
     if is_method(known) {
         pass_call(alloc, originals, parts, markers, here, line, naming, known)
     } else {
-        pass_access(originals, parts, markers, here, line, naming, known)
+        pass_access(alloc, originals, parts, markers, here, line, naming, known)
     }
 }
 
