@@ -7,6 +7,8 @@ mod Resolutions
 mod Arguments
 mod Going
 mod NativeLemmas
+mod NativesKept
+mod PassingNatives
 mod TargetLemmas
 pub mod Slots
 mod Quiet
@@ -17,3 +19,4 @@ pub mod Again
 mod CalleeLemmas
 mod KnownLemmas
 pub mod PassingLemmas
+pub mod SelectionLemmas

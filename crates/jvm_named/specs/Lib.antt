@@ -14,3 +14,4 @@ pub mod Arrays
 pub mod Known
 pub mod Callees
 pub mod Passing
+pub mod Selections

@@ -1,7 +1,8 @@
 //! Accesses of fields, and which methods are invoked, where it is known what their names came to. Accesses are done only where they raise
 //! nothing; else nothing is done.
 
-ghost use Rattle.std.specs.Prelude.{◌≡◌, ◌≤◌, ℕ, List, drop, length, true, IfOk, IfSome};
+ghost use Rattle.std.specs.Prelude.{◌≡◌, ◌≤◌, ℕ, List, drop, length, true, IfOk, IfSome, Ok};
+ghost use Rattle.const_pool.specs.References.{Reference};
 ghost use Rattle.std.specs.Option.{option_map};
 ghost use Rattle.jvm_basic.specs.Outcomes.{top_locals};
 ghost use Rattle.jvm_model.specs.InvocationRules.{invokes_selected};
@@ -10,37 +11,42 @@ ghost use Rattle.jvm_model.specs.Naming.{Getfield, Getstatic, Invokestatic, Putf
 ghost use Rattle.jvm_named.specs.Answers.{answer_view, done_on};
 ghost use Rattle.jvm_named.specs.Attempts.{attempts, loads_nothing, world_over};
 ghost use Rattle.jvm_named.specs.Callees.{HasCallee, chosen_place};
-ghost use Rattle.jvm_named.specs.Known.{IsFoundAs, IsKnown, naming_by};
+ghost use Rattle.jvm_named.specs.Known.{IsFoundAs, IsKnown, IsSite, naming_by};
 ghost use Rattle.jvm_named.specs.Members.{reference_of};
 ghost use Rattle.jvm_named.specs.Names.{naming_view};
 ghost use Rattle.jvm_named.specs.Numbers.{AreNumbers};
-ghost use Rattle.jvm_named.specs.Objects.{AreLoaded, HasLoadedCaller, IsResolved, IsUsable};
-ghost use Rattle.jvm_named.specs.Passing.{IfPassed, IsCall, is_next, is_usable};
+ghost use Rattle.jvm_named.specs.Objects.{AreLoaded, IsResolved, IsUsable};
+ghost use Rattle.jvm_named.specs.Passing.{IfPassed, IsInvoked, is_next, is_usable};
 ghost use Rattle.jvm_model.specs.SharedState.{phase_of};
 ghost use Rattle.jvm_named.specs.Resolved.{gets_instance, gets_static, puts_instance};
 ghost use Rattle.jvm_named.specs.Resolved.{puts_static};
 ghost use Rattle.jvm_named.specs.Resolved.{invokes_instance, invokes_static_method};
-ghost use Rattle.jvm_named.specs.Targets.{HasCaller, data_in, found_as, invokes_target};
+ghost use Rattle.jvm_named.specs.Selections.{AreSelections, site_for};
+ghost use Rattle.jvm_named.specs.Targets.{data_in, found_as, instance_target, invokes_target};
 ghost use Rattle.jvm_named.specs.Targets.{selecting_view, target_in};
 
 use crate::asked::{Asked, Refusal};
 use crate::fields::{known_owner, put_slot, putting_of, read_known};
 use crate::held::held_by;
-use crate::known::{Callee, Found, Known};
+use crate::instances::kind_of_object;
+use crate::known::{Callee, Chosen, Found, Known, Site};
 use crate::moving::{drop_one, drop_two};
 use crate::naming::{MemberName, MethodName, Naming};
 use crate::numbers::MethodNumbers;
+use crate::receivers::{argument_count, receiver_below};
+use crate::selections::Selections;
 use crate::static_fields::set_static;
 use crate::statics::{held_of, push_field};
-use crate::targets::{Selecting, Target, instance_target, static_target};
+use crate::targets::{Selecting, Target, static_target};
 use class_linker::Linker;
 use frame_stack::Frames;
+use heap_objects::Heap;
 use jvm_model::{Phase, Shared};
 use std::alloc::Global;
 
 /// Whether the frame has gone on.
 #[inline(always)]
-fn went_on(asked: &Asked) -> bool
+pub fn went_on(asked: &Asked) -> bool
     ensures { result ≡ is_next (answer_view asked.now) }
 {
     match asked {
@@ -165,10 +171,10 @@ fn pass_putstatic(
         let d = done_on (puts_static linker.now.program kind r shared.old) frames.old in
         IfPassed result d next frames.old shared.old frames.new shared.new }
 {
-    let Found::Static(field) = found else {
+    let Found::Static(place) = found else {
         return false;
     };
-    if !is_usable(shared, field.class) {
+    if !is_usable(shared, place.class) {
         return false;
     }
     let Some(datum) = held_of(frames, held_by(member.descriptor.units())) else {
@@ -178,8 +184,8 @@ fn pass_putstatic(
     if !went_on(&asked) {
         return false;
     }
-    let position = field.position as usize;
-    set_static(alloc, &mut shared.statics, field.class, position, datum);
+    let position = place.position as usize;
+    set_static(alloc, &mut shared.statics, place.class, position, datum);
     true
 }
 
@@ -192,24 +198,42 @@ pub struct Call {
     pub count: u16,
 }
 
-/// What is invoked of a target, where that has Code.
-fn call_of(linker: &Linker, shared: &Shared, frames: &Frames, target: Target) -> Option<Call>
+/// A native method of a built-in class, by its number, and how many operands are its arguments.
+#[derive(Clone, Copy, Debug, PartialEq, Eq)]
+pub struct NativeCall {
+    pub number: u16,
+    pub count: u16,
+}
+
+/// What is invoked.
+#[derive(Clone, Copy, Debug, PartialEq, Eq)]
+pub enum Invoked {
+    Code(Call),
+    Native(NativeCall),
+}
+
+/// What is invoked of a target, where that is known by a number.
+fn call_of(linker: &Linker, shared: &Shared, frames: &Frames, target: Target) -> Option<Invoked>
     requires within { target.count ≤ length (top_operands frames.now.frames) }
     requires callee { IfSome target.selected (HasCallee linker.now.program) }
     ensures { (input : List ℕ) → let w = world_over linker.now input in
         let fs = frames.now.frames in let o = top_operands fs in
-        IfSome result (λ c. IsCall c (invokes_selected w (option_map chosen_place target.selected)
-        (data_in target.count o) shared.now (top_locals fs) (drop target.count o)) shared.now) }
+        let d = invokes_selected w (option_map chosen_place target.selected)
+        (data_in target.count o) shared.now (top_locals fs) (drop target.count o) in
+        IfSome result (λ c. IsInvoked w c d shared.now fs) }
 {
     let Some(m) = target.selected else {
         return None;
     };
     match m.callee {
-        Callee::Code(method) => Some(Call {
+        Callee::Code(method) => Some(Invoked::Code(Call {
             method,
             count: target.count,
-        }),
-        Callee::Native(_) => None,
+        })),
+        Callee::Native(number) => Some(Invoked::Native(NativeCall {
+            number,
+            count: target.count,
+        })),
         Callee::Other => None,
     }
 }
@@ -220,13 +244,13 @@ fn target_call(
     shared: &Shared,
     frames: &Frames,
     found: &Result<Target, Refusal>,
-) -> Option<Call>
+) -> Option<Invoked>
     requires within { IfOk found.now (λ t. t.count ≤ length (top_operands frames.now.frames)) }
     requires callee { IfOk found.now (λ t. IfSome t.selected (HasCallee linker.now.program)) }
     ensures { (input : List ℕ) → let w = world_over linker.now input in
         let fs = frames.now.frames in let o = top_operands fs in
         let d = invokes_target w (found_as (target_in o) found.now) shared.now (top_locals fs) o
-        in IfSome result (λ c. IsCall c d shared.now) }
+        in IfSome result (λ c. IsInvoked w c d shared.now fs) }
 {
     match found {
         Ok(target) => call_of(linker, shared, frames, *target),
@@ -244,13 +268,13 @@ fn static_call(
     method: &MethodName,
     kind: u32,
     known: Found,
-) -> Option<Call>
+) -> Option<Invoked>
     requires usable { IsUsable linker.now kind }
     requires numbers { AreNumbers linker.now.program numbers.now }
     requires found { IsFoundAs known linker.now.program kind (Invokestatic method.now) }
     ensures { (input : List ℕ) → let w = world_over linker.now input in
         let d = done_on (invokes_static_method w kind method.now shared.now) frames.now in
-        IfSome result (λ c. IsCall c d shared.now) }
+        IfSome result (λ c. IsInvoked w c d shared.now frames.now.frames) }
 {
     let mut found = known;
     match static_target(
@@ -261,66 +285,131 @@ fn static_call(
     }
 }
 
-/// The other three, where the receiver is of the kind for which the method was selected.
+/// What is selected for receivers of a kind, where it is kept. invokespecial selects the same for those of every kind.
+#[inline(always)]
+#[tactic(auto, using(crate::proofs::SelectionLemmas::if_kept, crate::proofs::SelectionLemmas::special_kept))]
+fn kept_for(
+    linker: &Linker,
+    selections: &Selections,
+    by: Selecting<'_>,
+    kind: u32,
+    site: Site,
+    last: u32,
+) -> Option<Chosen>
+    requires usable { IsUsable linker.now last }
+    requires selections { AreSelections linker.now.program selections.now }
+    ensures { let p = linker.now.program in let s = selecting_view by.entry in (r : Reference) →
+        IsSite p kind s r site → IfSome result (λ c. IsSite p kind s r (site_for site.method last c)) }
+{
+    if last == site.last {
+        return Some(site.chosen);
+    }
+    match by {
+        Selecting::Virtual => selections.chosen(kind, false, site.method, last),
+        Selecting::OfInterface => selections.chosen(kind, true, site.method, last),
+        Selecting::Special(_, _) => {
+            if linker.subtype(last, kind) {
+                Some(site.chosen)
+            } else {
+                None
+            }
+        }
+    }
+}
+
+/// What is invoked of an instance method on the operands, where what is selected for the receiver is kept.
+#[inline(always)]
+fn kept_target(
+    linker: &Linker,
+    selections: &Selections,
+    heap: &Heap,
+    frames: &Frames,
+    by: Selecting<'_>,
+    method: &MethodName,
+    kind: u32,
+    site: Site,
+) -> Option<Target>
+    requires objects { AreLoaded linker.now heap.now }
+    requires resolved { IsResolved linker.now method.now.class kind }
+    requires selections { AreSelections linker.now.program selections.now }
+    requires site { IsSite linker.now.program kind (selecting_view by) method.now site }
+    ensures target { let o = top_operands frames.now.frames in let s = selecting_view by.entry in
+        IfSome result (λ t. Ok (target_in o t)
+        ≡ instance_target linker.now.program kind s method.now heap.now o) }
+    ensures within { IfSome result (λ t. t.count ≤ length (top_operands frames.now.frames)) }
+    ensures callee { IfSome result (λ t. IfSome t.selected (HasCallee linker.now.program)) }
+{
+    let Some(count) = argument_count(true, method, frames) else {
+        return None;
+    };
+    let object = receiver_below(frames, count);
+    if object == 0 {
+        return None;
+    }
+    let Some(last) = kind_of_object(linker, heap, object) else {
+        return None;
+    };
+    let Some(chosen) = kept_for(linker, selections, by, kind, site, last) else {
+        return None;
+    };
+    Some(Target {
+        selected: Some(chosen),
+        count,
+    })
+}
+
+/// The other three, where what is selected for the receiver is kept.
 fn instance_call(
     linker: &Linker,
-    numbers: &MethodNumbers,
+    selections: &Selections,
     shared: &Shared,
     frames: &Frames,
     by: Selecting<'_>,
     method: &MethodName,
     kind: u32,
     known: Found,
-) -> Option<Call>
+) -> Option<Invoked>
     requires objects { AreLoaded linker.now shared.now.heap }
     requires resolved { IsResolved linker.now method.now.class kind }
-    requires caller { HasCaller linker.now (selecting_view by) }
-    requires numbers { AreNumbers linker.now.program numbers.now }
+    requires selections { AreSelections linker.now.program selections.now }
     requires found { IsFoundAs known linker.now.program kind
         (naming_by (selecting_view by) method.now) }
     ensures { (input : List ℕ) → let w = world_over linker.now input in
         let r = method.now in
         let rule = invokes_instance w kind (selecting_view by.entry) r shared.now in
-        IfSome result (λ c. IsCall c (done_on rule frames.now) shared.now) }
+        IfSome result (λ c. IsInvoked w c (done_on rule frames.now) shared.now frames.now.frames) }
 {
-    let mut found = known;
-    let target = instance_target(
-        linker,
-        numbers,
-        &shared.heap,
-        frames,
-        by,
-        method,
-        kind,
-        &mut found,
-    );
-    // Else the next attempt keeps what it finds.
-    if found != known {
+    let Found::Selected(site) = known else {
         return None;
+    };
+    let heap = &shared.heap;
+    match kept_target(linker, selections, heap, frames, by, method, kind, site) {
+        Some(target) => call_of(linker, shared, frames, target),
+        None => None,
     }
-    target_call(linker, shared, frames, &target)
 }
 
-/// Which method an instruction invokes, by what its names came to. None where it invokes none, or anything else would come, or where
-/// an attempt would learn more.
+/// Which method an instruction invokes, by what its names came to and what was selected. None where it invokes none that is known by a
+/// number, or anything else would come, or where an attempt would learn more.
 #[tactic(auto, using(crate::proofs::Again::loads_none))]
 pub fn known_call(
     alloc: Global,
     linker: &Linker,
     numbers: &MethodNumbers,
+    selections: &Selections,
     shared: &Shared,
     frames: &Frames,
     naming: &Naming,
     known: &Known,
-) -> Option<Call>
+) -> Option<Invoked>
     requires linked { linker.now.loaded ≡ shared.now.loaded }
     requires known { IsKnown linker.now (naming_view naming.now) known.now }
     requires numbers { AreNumbers linker.now.program numbers.now }
+    requires selections { AreSelections linker.now.program selections.now }
     requires objects { AreLoaded linker.now shared.now.heap }
-    requires caller { HasLoadedCaller linker.now (naming_view naming.now) }
     ensures called { (input : List ℕ) → let w = world_over linker.now input in
         let d = done_on (attempts w (naming_view naming.now) shared.now frames.now) frames.now in
-        IfSome result (λ c. IsCall c d shared.now) }
+        IfSome result (λ c. IsInvoked w c d shared.now frames.now.frames) }
     ensures loads { let n = naming_view naming.now in loads_nothing linker.now.program
         shared.now.loaded n (top_operands frames.now.frames) ≡ true }
 {
@@ -332,15 +421,15 @@ pub fn known_call(
         ),
         Naming::Invokevirtual(method) => {
             let by = Selecting::Virtual;
-            instance_call(linker, numbers, shared, frames, by, method, kind, found)
+            instance_call(linker, selections, shared, frames, by, method, kind, found)
         }
         Naming::Invokeinterface(method) => {
             let by = Selecting::OfInterface;
-            instance_call(linker, numbers, shared, frames, by, method, kind, found)
+            instance_call(linker, selections, shared, frames, by, method, kind, found)
         }
         Naming::Invokespecial(caller, method, interface) => {
             let by = Selecting::Special(caller, *interface);
-            instance_call(linker, numbers, shared, frames, by, method, kind, found)
+            instance_call(linker, selections, shared, frames, by, method, kind, found)
         }
         _ => None,
     }

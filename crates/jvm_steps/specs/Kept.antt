@@ -5,6 +5,7 @@ use Rattle.jvm_model.specs.Naming.{Naming}
 use Rattle.jvm_named.specs.declared.known.Known.{Known}
 use Rattle.jvm_named.specs.Known.{IsKnown}
 use Rattle.jvm_named.specs.Numbers.{Row}
+use Rattle.jvm_named.specs.Selections.{AreSelections, Slots}
 use Rattle.jvm_steps.specs.declared.originals.Method.{Method}
 use Rattle.jvm_steps.specs.declared.originals.Exceptions.{Exceptions}
 use Rattle.jvm_steps.specs.Cells.{Rows, cell_at}
@@ -21,6 +22,7 @@ pub record AreKnown (l : LinkerView) (v : Versions) (rows : Rows) : Type 0 where
 pub record IsLater (l new : LinkerView) : Type 0 where
   pub keeps : (n : Naming) (k : Known) → IsKnown l n k → IsKnown new n k
 
-pub record IsKept (l : LinkerView) (methods : List Method) (versions : Versions) (rows : Rows) (exceptions : Exceptions) (numbers : List Row) : Type 0 where
+pub record IsKept (l : LinkerView) (methods : List Method) (versions : Versions) (rows : Rows) (selections : Slots) (exceptions : Exceptions) (numbers : List Row) : Type 0 where
   pub prepared : IsPrepared l.program methods versions exceptions numbers
   pub known : AreKnown l versions rows
+  pub selected : AreSelections l.program selections

@@ -4,7 +4,7 @@
 ghost use Rattle.std.specs.Prelude.{ℕ, ◌≡◌, ◌<◌, ◌^◌, ◌++◌, length, slice_get, is_some, false, true};
 ghost use Rattle.std.specs.Prelude.{IfNone, IfOk, OnErr, OnOk};
 ghost use Rattle.std.specs.Option.{option_and_then, option_copied, option_map, IfSome};
-ghost use Rattle.class_linker.specs.Linkers.{IsLoaded};
+ghost use Rattle.class_linker.specs.Linkers.{IsLoaded, LinkerView};
 ghost use Rattle.jvm_model.specs.Families.{family_of};
 ghost use Rattle.jvm_model.specs.KindNumbers.{user_count};
 ghost use Rattle.jvm_model.specs.Load.{load_of};
@@ -19,6 +19,7 @@ ghost use Rattle.jvm_named.specs.Known.{IsKnown};
 ghost use Rattle.jvm_named.specs.Natives.{HasBuiltIn};
 ghost use Rattle.jvm_named.specs.Numbers.{AreNumbers};
 ghost use Rattle.jvm_named.specs.Objects.{AreLoaded, HasDimensions, HasLoadedCaller};
+ghost use Rattle.jvm_named.specs.Selections.{AreSelections};
 ghost use Rattle.jvm_steps.specs.Tables.{Adds, AreAllCurrent, Releases, version_at};
 ghost use Rattle.method_versions.specs.Tables.{is_superseded_in};
 ghost use Rattle.jvm_steps.specs.Kept.{IsLater};
@@ -53,7 +54,8 @@ use frame_stack::Frames;
 use jf_bytes::{NoMemory, Seq};
 use jvm_model::{Mark, Program, Shared};
 use jvm_named::{
-    Asked, Known, MethodNumbers, Refusal, attempt, attempt_known, attempt_loaded, resolve,
+    Asked, Known, MethodNumbers, Refusal, Selections, attempt, attempt_known, attempt_loaded,
+    resolve,
 };
 use std::alloc::Global;
 use std::marker::Model;
@@ -120,6 +122,7 @@ pub struct Originals {
     methods: Seq<Method>,
     versions: Versions,
     cells: Cells,
+    selections: Selections,
     exceptions: Exceptions,
 }
 
@@ -136,7 +139,7 @@ impl Model for Originals {
     } };
 
     ghost invariant = { λ o.
-        IsKept o.linker o.methods o.versions o.cells o.exceptions o.numbers };
+        IsKept o.linker o.methods o.versions o.cells o.selections o.exceptions o.numbers };
 }
 
 /// The name of the built-in class at this place of their order; none has an empty one.
@@ -316,6 +319,43 @@ fn attempt_line_known(
     }
 }
 
+/// What is known of a line's names, with what is selected for the receiver where that is kept.
+fn known_for(
+    selections: &Selections,
+    line: &Line,
+    known: Known,
+    shared: &Shared,
+    frames: &Frames,
+) -> Known
+    ensures { (l : LinkerView) → AreSelections l.program selections.now → IfNamedBy line.now.action
+        line.now.next (λ n next. IsKnown l n known → IsKnown l n result) }
+{
+    match &line.action {
+        Action::Named(naming) => selections.known_for(&shared.heap, frames, naming, known),
+        _ => known,
+    }
+}
+
+/// Keeps what a line's names came to, where that is of another receiver than what was known before.
+fn keep_selected(
+    selections: &mut Selections,
+    alloc: Global,
+    line: &Line,
+    before: Known,
+    known: Known,
+)
+    ensures { (l : LinkerView) → AreSelections l.program selections.old → IfNamedBy line.now.action
+        line.now.next (λ n next. IsKnown l n known) → AreSelections l.program selections.new }
+{
+    if known == before {
+        return;
+    }
+    match &line.action {
+        Action::Named(naming) => selections.keep(alloc, naming, &known),
+        _ => {}
+    }
+}
+
 impl Originals {
     /// Prepares a program: each offset of each code is looked up once, and the built-in classes are loaded.
     pub fn new(alloc: Global, program: Program, input: Seq<u8>) -> Result<Originals, NoMemory>
@@ -334,6 +374,7 @@ impl Originals {
         let mut linker = Linker::new(alloc, program)?;
         load_built_in(alloc, &mut linker)?;
         let cells = Cells::new(alloc);
+        let selections = Selections::new(alloc);
         Ok(Originals {
             linker,
             numbers,
@@ -341,6 +382,7 @@ impl Originals {
             methods,
             versions,
             cells,
+            selections,
             exceptions,
         })
     }
@@ -366,6 +408,14 @@ impl Originals {
         ensures { AreNumbers self.now.setup.world.program result.now }
     {
         &self.numbers
+    }
+
+    /// What was selected for receivers.
+    #[inline(always)]
+    pub fn selections(&self) -> &Selections
+        ensures { AreSelections self.now.setup.world.program result.now }
+    {
+        &self.selections
     }
 
     /// The version with this number.
@@ -616,7 +666,8 @@ impl Originals {
             return Ok(Asked::Refused(Refusal::Breaks));
         };
         if let Some(before) = self.cells.get(version, place) {
-            let mut known = before;
+            let given = known_for(&self.selections, line, before, shared, frames);
+            let mut known = given;
             let done = attempt_line_known(
                 alloc,
                 &self.linker,
@@ -628,7 +679,8 @@ impl Originals {
                 self.input.as_slice(),
                 output,
             )?;
-            self.cells.renew(alloc, version, place, before, known);
+            self.cells.renew(alloc, version, place, given, known);
+            keep_selected(&mut self.selections, alloc, line, given, known);
             return Ok(done);
         }
         // Where memory runs out nothing is known any more.
@@ -695,7 +747,8 @@ impl Originals {
             return Ok(None);
         };
         if let Some(before) = self.cells.get(version, place) {
-            let mut known = before;
+            let given = known_for(&self.selections, line, before, shared, frames);
+            let mut known = given;
             let done = attempt_line_known(
                 alloc,
                 &self.linker,
@@ -707,7 +760,8 @@ impl Originals {
                 self.input.as_slice(),
                 output,
             )?;
-            self.cells.renew(alloc, version, place, before, known);
+            self.cells.renew(alloc, version, place, given, known);
+            keep_selected(&mut self.selections, alloc, line, given, known);
             return Ok(Some(done));
         }
         // Where memory runs out nothing is known any more.
@@ -727,6 +781,14 @@ impl Originals {
         cells.learn(alloc, version, place, learnt);
         self.cells = cells;
         Ok(asked)
+    }
+
+    /// The bytes of the input.
+    #[inline(always)]
+    pub fn input(&self) -> &[u8]
+        ensures { result.now ≡ self.now.setup.world.input }
+    {
+        self.input.as_slice()
     }
 
     /// What is known of the names of the line at a place of a version.

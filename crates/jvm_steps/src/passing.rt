@@ -1,7 +1,9 @@
 //! Several steps that tell nothing: those of the current frame alone, and between them accesses of fields that raise nothing, and calls
 //! of methods whose current version has no probes, both by what their names came to.
 
-ghost use Rattle.std.specs.Prelude.{◌≡◌, ◌≤◌, true, false, length, IfSome, Some};
+ghost use Rattle.std.specs.Prelude.{◌≡◌, ◌≤◌, true, false, length, slice_get};
+ghost use Rattle.std.specs.Prelude.{IfSome, IsSome, Some};
+ghost use Rattle.base_classes.specs.Natives.{native_methods};
 ghost use Rattle.std.specs.Option.{option_map};
 ghost use Rattle.frame_stack.specs.FrameLists.{top_operands};
 ghost use Rattle.jvm_model.specs.Data.{Returns};
@@ -10,12 +12,14 @@ ghost use Rattle.jvm_model.specs.Values.{as_value};
 ghost use Rattle.jvm_model.specs.declared.event.Mark.TheVariants.{Off};
 ghost use Rattle.jvm_named.specs.Known.{IsKnown};
 ghost use Rattle.jvm_named.specs.Names.{naming_view};
+ghost use Rattle.jvm_named.specs.Passing.{IfRan, runs_native_call};
 ghost use Rattle.jvm_steps.specs.declared.line.Action.TheVariants as action;
 ghost use Rattle.jvm_steps.specs.Arguments.{can_begin, with_begun};
 ghost use Rattle.jvm_steps.specs.Invoking.{may_begin};
 ghost use Rattle.jvm_steps.specs.Linked.{linker_in};
 ghost use Rattle.jvm_steps.specs.Markers.{state_of};
 ghost use Rattle.jvm_steps.specs.Passing.{Passes, ReturnsTo, is_method, on_frames, steps_if};
+ghost use Rattle.jvm_steps.specs.Passing.{changed_in, with_changed};
 ghost use Rattle.jvm_steps.specs.Ready.{CanRun, IsSoundIn};
 ghost use Rattle.jvm_steps.specs.Runs.{IsCalm};
 ghost use Rattle.jvm_steps.specs.States.{here_of};
@@ -34,7 +38,9 @@ use heap_objects::{Datum, Value};
 use jf_bytes::Stack;
 use jvm_basic::recall;
 use jvm_model::Mark;
-use jvm_named::{Call, Found, Known, Naming, known_call, pass_field};
+use jvm_named::{
+    Call, Found, Invoked, Known, Naming, NativeCall, known_call, pass_field, pass_native,
+};
 use std::alloc::Global;
 
 // ---- a call
@@ -74,6 +80,35 @@ fn begin_call(originals: &Originals, parts: &mut Parts, call: Call) -> bool
     }
 }
 
+/// A native method of a built-in class. False, with nothing changed, where it raises anything.
+fn do_native(
+    alloc: Global,
+    originals: &Originals,
+    parts: &mut Parts,
+    native: NativeCall,
+    next: u16,
+) -> bool
+    requires stands { IsSome (slice_get native_methods native.number) }
+    requires within { native.count ≤ length (top_operands parts.old.frames.frames) }
+    requires linked { originals.now.loaded ≡ parts.old.shared.loaded }
+    ensures ran { let w = originals.now.setup.world in
+        let d = runs_native_call w native parts.old.shared parts.old.frames.frames in
+        IfRan result d next (changed_in parts.old) (changed_in parts.new) }
+    ensures same { parts.new ≡ with_changed (changed_in parts.new) parts.old }
+{
+    let linker = originals.linker();
+    pass_native(
+        alloc,
+        linker,
+        &mut parts.shared,
+        &mut parts.frames,
+        originals.input(),
+        &mut parts.output,
+        native,
+        next,
+    )
+}
+
 /// An invocation by what its names came to.
 fn pass_call(
     alloc: Global,
@@ -97,11 +132,18 @@ fn pass_call(
 {
     let linker = originals.linker();
     let numbers = originals.numbers();
+    let selections = originals.selections();
     let shared = &parts.shared;
-    let Some(call) = known_call(alloc, linker, numbers, shared, &parts.frames, naming, known) else {
+    let frames = &parts.frames;
+    let Some(invoked) = known_call(
+        alloc, linker, numbers, selections, shared, frames, naming, known,
+    ) else {
         return false;
     };
-    begin_call(originals, parts, call)
+    match invoked {
+        Invoked::Code(call) => begin_call(originals, parts, call),
+        Invoked::Native(native) => do_native(alloc, originals, parts, native, line.next),
+    }
 }
 
 // ---- an access

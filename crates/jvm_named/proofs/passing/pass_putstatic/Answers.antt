@@ -32,7 +32,7 @@ returns c =
     let f = c.args.frames.now in
     let l = top_locals f.frames in
     let o = top_operands f.frames in
-    let m = at_place c.in-Static.field in
+    let m = at_place c.in-Static.place in
     let after : Shared = record s { statics = c.set_static.new.statics } in
     let there = subst (λ x. IsFoundAs x p c.args.kind (Putstatic r)) c.in-Static.is c.requires.found in
     let set : Done = sets_static m (Some c.in-Some.datum) s l o in
