@@ -1,14 +1,12 @@
 -- What a native method leaves of what is shared: nothing is changed, or its answer is nothing, an int or a reference. Only a copy of an array
 -- may store and then throw.
 use Rattle.std.proofs.Common.{◌≡◌, ◌⊎◌, ℕ, ◌+◌, Bool, true, false, List, [], ◌∷◌, inl, inr, refl, sym, ap, subst, ◌∙◌, arith}
-use Rattle.std.specs.Prelude.{⊤, Option, Some, None, ℤ, pos, negsuc, zero, suc, slice_get, option_and_then, unwrap_or, is_some, IfSome, length, nat_lt, not, ◌==◌, ◌&&◌, ◌||◌, if◌then◌else◌}
-use Rattle.std.specs.Option.{option_map, option_map_or}
+use Rattle.std.specs.Prelude.{⊤, Option, Some, None, ℤ, pos, negsuc, zero, suc, slice_get, option_and_then, is_some, IfSome, length, nat_lt, ◌==◌, ◌&&◌, if◌then◌else◌}
+use Rattle.std.specs.Option.{option_map_or}
 use Rattle.int_ops.specs.Arithmetic.{comparison}
 use Rattle.heap_objects.specs.declared.datum.Datum.{Datum}
 use Rattle.heap_objects.specs.declared.datum.Datum.TheVariants as datum
-use Rattle.heap_objects.specs.Objects.{kind_of}
-use Rattle.heap_objects.specs.Kept.{reference_of}
-use Rattle.heap_objects.specs.Heaps.{HeapView, kind_at}
+use Rattle.heap_objects.specs.Heaps.{HeapView}
 use Rattle.native_ops.specs.declared.answer.Answer.TheVariants as answer
 use Rattle.native_ops.specs.declared.effect.Effect.{Effect}
 use Rattle.native_ops.specs.declared.effect.Effect.TheVariants.{Answers, MakesText, MakesArray, MakesInstance, Appends, Replaces, PutsUnit, Resizes, Interns, Prints, Reads, Stores, SetsFields, GivesClass, GivesBox}
@@ -43,10 +41,7 @@ use Rattle.native_ops.specs.declared.method.EnumMethod.TheVariants as enum
 use Rattle.native_ops.specs.declared.method.ThrowableMethod.{ThrowableMethod}
 use Rattle.native_ops.specs.declared.method.ThrowableMethod.TheVariants as throwable
 use Rattle.native_ops.specs.declared.rows.Row.{Row}
-use Rattle.native_ops.specs.declared.signature.Parameter.{Parameter}
-use Rattle.native_ops.specs.declared.signature.Receiver.{Receiver}
-use Rattle.native_ops.specs.declared.signature.Receiver.TheVariants as receiver
-use Rattle.native_ops.specs.Numbers.{string_kind, class_kind, chars_kind, integer_kind, long_kind, character_kind, boolean_kind, cloneable_kind, enum_kind, first_array_kind, clone_not_supported_exception, class_cast_exception, null_pointer_exception, string_index_out_of_bounds_exception}
+use Rattle.native_ops.specs.Numbers.{string_kind, integer_kind, long_kind, character_kind, cloneable_kind, enum_kind, first_array_kind, clone_not_supported_exception, class_cast_exception, null_pointer_exception, string_index_out_of_bounds_exception}
 use Rattle.native_ops.specs.Arguments.{int_in, long_in, reference_in, char_in}
 use Rattle.native_ops.specs.Objects.{text_at, size_at, kind_or_none, values_at, has_kind, int_field, long_field}
 use Rattle.native_ops.specs.KindsViews.{KindsView, is_instance}
@@ -60,13 +55,13 @@ use Rattle.native_ops.specs.Roots.{clone, object_effect, class_effect}
 use Rattle.native_ops.specs.Strings.{init_text, char_at, part_of, substring, string_effect}
 use Rattle.native_ops.specs.Builders.{init_capacity, set_length, builder_effect}
 use Rattle.native_ops.specs.Streams.{input_effect, print_effect}
-use Rattle.native_ops.specs.Copying.{can_copy, copy_ranges, arraycopy, system_effect}
+use Rattle.native_ops.specs.Copying.{system_effect}
 use Rattle.native_ops.specs.Integers.{integer_effect}
 use Rattle.native_ops.specs.Longs.{long_effect}
 use Rattle.native_ops.specs.Characters.{character_effect, boolean_effect, math_effect}
 use Rattle.native_ops.specs.Enums.{declaring_class, compare_constants, enum_effect}
 use Rattle.native_ops.specs.Throwables.{throwable_effect}
-use Rattle.native_ops.specs.Signatures.{parameters_of, fits_receiver, fit_all, fit}
+use Rattle.native_ops.specs.Signatures.{parameters_of, fit}
 use Rattle.native_ops.specs.Rows.{rows}
 use Rattle.native_ops.specs.Worlds.{World}
 use Rattle.native_ops.specs.Calls.{method_effect, row_effect, effect_of}

@@ -1,17 +1,14 @@
 -- A native method that raises nothing is done, and of one that does nothing is changed (JVM Specification 2.11.8, 6.5).
 use Rattle.std.proofs.Common.{◌≡◌, ◌≤◌, ◌<◌, ℕ, zero, suc, Bool, true, false, cond, List, [], ◌∷◌, ◌++◌, length, drop, Option, Some, None, inl, inr, refl, sym, ap, subst, ◌∙◌, arith}
-use Rattle.std.specs.Prelude.{◌==◌, slice_get, Ok}
-use Rattle.std.specs.Option.{option_map, option_map_or}
+use Rattle.std.specs.Prelude.{◌==◌}
+use Rattle.std.specs.Option.{option_map}
 use Rattle.std.proofs.lemmas.Bool.{false≢true}
 use Rattle.std.proofs.lemmas.List.{append-nil}
-use Rattle.const_pool.specs.BuiltIn.{built_in_names}
 use Rattle.heap_objects.specs.Changes.{changed_if}
 use Rattle.heap_objects.specs.Heaps.{HeapView}
-use Rattle.heap_objects.specs.declared.Value.{Value}
-use Rattle.heap_objects.specs.declared.Value.TheVariants.{Int, Long, Ref, Addr}
 use Rattle.heap_objects.specs.declared.datum.Datum.{Datum}
 use Rattle.heap_objects.specs.declared.datum.Datum.TheVariants as datum
-use Rattle.frame_stack.specs.FrameLists.{AreSound, FramesView, PlacedFrame, top_operands, with_frames}
+use Rattle.frame_stack.specs.FrameLists.{AreSound, FramesView, PlacedFrame, top_operands}
 use Rattle.frame_stack.specs.Widths.{height_of, width}
 use Rattle.jvm_basic.specs.Outcomes.{can_hold, top_locals}
 use Rattle.native_ops.specs.declared.answer.Answer.{Answer}
@@ -23,17 +20,17 @@ use Rattle.native_ops.specs.KindsViews.{KindsView}
 use Rattle.native_ops.specs.MadeViews.{MadeView}
 use Rattle.native_ops.specs.Worlds as natives
 use Rattle.jvm_model.specs.declared.state.Shared.{Shared}
-use Rattle.jvm_model.specs.Data.{GoesOn, Locals, Next, Operands, Outcome, Raises, Throws, Breaks, Done, World}
-use Rattle.jvm_model.specs.NativeRules.{kinds_in, runs_number, seen_by_natives, thrown_by}
+use Rattle.jvm_model.specs.Data.{Locals, Operands, Outcome, Done, World}
+use Rattle.jvm_model.specs.NativeRules.{kinds_in, runs_number, seen_by_natives}
 use Rattle.jvm_model.specs.Values.{as_value, with_value}
 use Rattle.jvm_named.specs.declared.asked.Asked.TheVariants as asked
 use Rattle.jvm_named.specs.Answers.{Continues, Exceeds, answer_in, answer_of, frames_of}
-use Rattle.jvm_named.specs.Does.{Changed, IsDone, changed}
+use Rattle.jvm_named.specs.Does.{Changed, changed}
 use Rattle.jvm_named.specs.Natives.{outcome_by}
 use Rattle.jvm_named.specs.Passing.{IfRan, is_next}
 use Rattle.jvm_named.proofs.Going.{height-dropped, least-width, within-limit}
 use Rattle.jvm_named.proofs.NativeLemmas.{IsCalled, by-number, shared_with}
-use Rattle.jvm_named.proofs.NativesKept.{IsNarrow, IsNarrowValue, Keeps, call-keeps}
+use Rattle.jvm_named.proofs.NativesKept.{IsNarrow, IsNarrowValue, call-keeps}
 use Rattle.jvm_named.proofs.PassingLemmas.{next-is, not-moved}
 
 -- ---- what is answered has room in place of an argument

@@ -1,4 +1,3 @@
-use Rattle.std.proofs.Common.{◌∙◌, sym}
 use Rattle.frame_stack.specs.FrameLists.{top_operands}
 use Rattle.jvm_named.specs.Attempts.{world_over}
 use Rattle.jvm_named.specs.Targets.{data_in}
