@@ -35,7 +35,7 @@ height-dropped (suc n) (v ∷ below) = let rest : height_of (drop n below) ≤ h
 pub within-limit : (a b : ℕ) → a ≤ b → nat_le a b ≡ true
 within-limit a b h = grind (arith)
 
-least-width : (v : Value) → 1 ≤ width v
+pub least-width : (v : Value) → 1 ≤ width v
 least-width (Int n) = omega arith
 least-width (Long n) = omega arith
 least-width (Ref r) = omega arith

@@ -7,6 +7,8 @@ mod Resolutions
 mod Arguments
 mod Going
 mod NativeLemmas
+mod NativesKept
+mod PassingNatives
 mod TargetLemmas
 pub mod Slots
 mod Quiet

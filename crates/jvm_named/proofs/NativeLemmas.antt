@@ -97,7 +97,7 @@ outcome-same (answer.Exit status) l below = refl
 outcome-same answer.Bad l below = refl
 
 -- what a call that was done leaves of what is shared
-abbrev shared_with : natives.World → Shared → Shared
+abbrev pub shared_with : natives.World → Shared → Shared
 shared_with left s = record s { heap = left.heap; made = left.made; read = left.read }
 
 -- what the call of the method of this number promises, by what is loaded and by its arguments
@@ -144,7 +144,7 @@ module _ (w : World) (number : ℕ) (args : List Datum) (s : Shared) (f : Frames
         (changed moved (shared_with left s) (old ++ left.wrote)) asked) same
         (record { answer = answers; frames = goes; shared = refl; output = refl })
 
-  by-number : (native : Native) (moved : FramesView) (asked : Asked) → is_done native ≡ true
+  pub by-number : (native : Native) (moved : FramesView) (asked : Asked) → is_done native ≡ true
       → IsAnswer native (answer_by number kinds args seen)
       → answer_view asked ≡ answer_of (λ l o. outcome_by native l (drop count o)) f
       → moved ≡ frames_of (λ l o. outcome_by native l (drop count o)) next f

@@ -1,8 +1,8 @@
 -- Where a frame has not gone on by a rule, it is as it was.
 use Rattle.std.proofs.Common.{◌≡◌, ◌≤◌, ℕ, Bool, true, false, cond, List, [], length, Option, Some, None, drop, refl, sym, ap, subst, ◌∙◌}
 use Rattle.std.proofs.lemmas.Bool.{false≢true}
-use Rattle.frame_stack.specs.FrameLists.{FramesView, PlacedFrame, with_frames}
-use Rattle.jvm_basic.specs.Outcomes.{can_hold, with_top}
+use Rattle.frame_stack.specs.FrameLists.{FramesView, PlacedFrame, top_operands, with_frames}
+use Rattle.jvm_basic.specs.Outcomes.{can_hold, top_locals, with_top}
 use Rattle.std.specs.Prelude.{Ok, IfSome}
 use Rattle.std.specs.Option.{option_map}
 use Rattle.const_pool.specs.References.{Reference}
@@ -23,11 +23,11 @@ use Rattle.jvm_model.specs.InvocationRules.{invokes_selected}
 use Rattle.jvm_named.specs.declared.known.Callee.TheVariants as callee
 use Rattle.jvm_named.specs.declared.known.Chosen.{Chosen}
 use Rattle.jvm_named.specs.declared.targets.Target.{Target as TheTarget}
-use Rattle.jvm_named.specs.Callees.{HasCallee, IsCallee, IsCode, chosen_place}
-use Rattle.jvm_named.specs.Passing.{IfPassed, IsCall, is_next, is_usable}
+use Rattle.jvm_named.specs.Callees.{HasCallee, IsCallee, IsCode, IsNative, chosen_place}
+use Rattle.jvm_named.specs.Passing.{IfPassed, IsCall, IsNativeCall, is_next, is_usable}
 use Rattle.jvm_named.specs.Resolved.{field_found, puts_instance}
 use Rattle.jvm_named.specs.Targets.{data_in}
-use Rattle.jvm_named.proofs.CalleeLemmas.{code-invoked}
+use Rattle.jvm_named.proofs.CalleeLemmas.{code-invoked, native-invoked}
 use Rattle.jvm_named.proofs.TargetLemmas.{length-data}
 
 pub next-is : (a : Answer) → is_next a ≡ true → a ≡ Continues
@@ -108,4 +108,19 @@ call-of w s l o t m n selected code within has =
       invokes = ap (λ x. invokes_selected w (option_map chosen_place x) (data_in t.count o) s l (drop t.count o)) selected
           ∙ code-invoked w (chosen_place m) (data_in t.count o) s l (drop t.count o) n is;
       count = length-data t.count o within;
+    }
+
+-- a call of a native method
+pub native-of : (w : World) (s : Shared) (fs : List PlacedFrame) (t : TheTarget) (m : Chosen) (n : ℕ) → t.selected ≡ Some m → m.callee ≡ callee.Native n
+    → t.count ≤ length (top_operands fs) → IfSome t.selected (HasCallee w.program)
+    → IsNativeCall w (record { number = n; count = t.count })
+    (invokes_selected w (option_map chosen_place t.selected) (data_in t.count (top_operands fs)) s (top_locals fs) (drop t.count (top_operands fs))) s fs
+native-of w s fs t m n selected native within has =
+    let is : IsNative w.program (chosen_place m) n =
+    subst (λ x. IsCallee x w.program (chosen_place m)) native (subst (λ x. IfSome x (HasCallee w.program)) selected has) in
+    record {
+      stands = is.stands;
+      within = within;
+      runs = ap (λ x. invokes_selected w (option_map chosen_place x) (data_in t.count (top_operands fs)) s (top_locals fs) (drop t.count (top_operands fs))) selected
+          ∙ native-invoked w (chosen_place m) (data_in t.count (top_operands fs)) s (top_locals fs) (drop t.count (top_operands fs)) n is;
     }

@@ -8,7 +8,19 @@ use Rattle.jvm_model.specs.Data.{Datum, Done, Invokes, Operands}
 use Rattle.jvm_model.specs.ObjectRules.{done}
 use Rattle.std.specs.Prelude.{Option, Some}
 use Rattle.jvm_named.specs.declared.passing.Call.{Call}
+use Rattle.std.specs.Prelude.{◌≤◌, IsSome, drop, slice_get}
+use Rattle.base_classes.specs.Natives.{native_methods}
+use Rattle.frame_stack.specs.FrameLists.{PlacedFrame, top_operands}
+use Rattle.jvm_basic.specs.Outcomes.{top_locals}
+use Rattle.jvm_model.specs.Data.{World}
+use Rattle.jvm_model.specs.NativeRules.{runs_number}
+use Rattle.jvm_named.specs.declared.asked.Asked.TheVariants as asked
+use Rattle.jvm_named.specs.declared.passing.Invoked.{Invoked}
+use Rattle.jvm_named.specs.declared.passing.Invoked.TheVariants as invoked
+use Rattle.jvm_named.specs.declared.passing.NativeCall.{NativeCall}
 use Rattle.jvm_named.specs.Answers.{Answer, Continues, answer_in, frames_in}
+use Rattle.jvm_named.specs.Does.{Changed, IsDone}
+use Rattle.jvm_named.specs.Targets.{data_in}
 
 abbrev pub is_next : Answer → Bool
 is_next Continues = true
@@ -38,3 +50,24 @@ pub record IsCall (c : Call) (d : Done) (s : Shared) : Type 0 where
   pub below : Operands
   pub invokes : d ≡ done s (Invokes c.method args below)
   pub count : length args ≡ c.count
+
+-- ---- native methods
+
+-- what a native method comes to on so many operands of the current frame
+abbrev pub runs_native_call : World → NativeCall → Shared → List PlacedFrame → Done
+runs_native_call w n s fs = runs_number w n.number (data_in n.count (top_operands fs)) s (top_locals fs) (drop n.count (top_operands fs))
+
+-- what a rule says is that this native method is done
+pub record IsNativeCall (w : World) (n : NativeCall) (d : Done) (s : Shared) (fs : List PlacedFrame) : Type 0 where
+  pub stands : IsSome (slice_get native_methods n.number)
+  pub within : n.count ≤ length (top_operands fs)
+  pub runs : d ≡ runs_native_call w n s fs
+
+abbrev pub IsInvoked : World → Invoked → Done → Shared → List PlacedFrame → Type 0
+IsInvoked w (invoked.Code c) d s fs = IsCall c d s
+IsInvoked w (invoked.Native n) d s fs = IsNativeCall w n d s fs
+
+-- the frame has gone on, or nothing was done
+abbrev pub IfRan : Bool → Done → ℕ → Changed → Changed → Type 0
+IfRan true d next old new = IsDone d next old new asked.Next
+IfRan false d next old new = new ≡ old

@@ -42,7 +42,7 @@ pub use known::{Callee, Chosen, Found, Known, Site};
 pub use members::is_static_field;
 pub use naming::{MemberName, MethodName, Naming};
 pub use numbers::MethodNumbers;
-pub use passing::{Call, known_call, pass_field};
+pub use passing::{Call, Invoked, NativeCall, known_call, pass_field};
 pub use place::Place;
 pub use resolution::resolve;
 pub use selections::{Selection, Selections};

@@ -1,7 +1,7 @@
 //! The native methods of the built-in classes (JVM Specification 2.11.8, 6.5): native_ops does them by their numbers, and the frame goes
 //! on, or not, by what they answer.
 
-ghost use Rattle.std.specs.Prelude.{◌≡◌, ◌≤◌, length, drop, slice_get, true};
+ghost use Rattle.std.specs.Prelude.{◌≡◌, ◌≤◌, ◌<◌, ◌==◌, length, drop, slice_get, false, true};
 ghost use Rattle.std.specs.Prelude.{IfOk, IfSome, IsSome, OnOk};
 ghost use Rattle.std.specs.Option.{option_and_then, option_map};
 ghost use Rattle.base_classes.specs.Natives.{native_methods, native_number};
@@ -19,11 +19,13 @@ ghost use Rattle.jvm_named.specs.Does.{Does, changed};
 ghost use Rattle.jvm_named.specs.Members.{at_place};
 ghost use Rattle.jvm_named.specs.Natives.{HasBuiltIn, outcome_by};
 ghost use Rattle.jvm_named.specs.Objects.{AreLoaded};
+ghost use Rattle.jvm_named.specs.Passing.{IfRan, is_next, runs_native_call};
 ghost use Rattle.jvm_named.specs.Targets.{as_datum, data_in};
 
 use crate::asked::{Asked, Exception, Refusal};
 use crate::creation::RESERVED;
 use crate::moving::{drop_operands, replace_operands};
+use crate::passing::{NativeCall, went_on};
 use crate::place::Place;
 use base_classes::native_of;
 use class_linker::Linker;
@@ -31,7 +33,7 @@ use const_pool::MemberRef;
 use frame_stack::Frames;
 use heap_objects::{Datum, Value};
 use jf_bytes::{NoMemory, Seq};
-use jvm_basic::value_of;
+use jvm_basic::{recall, value_of};
 use jvm_model::{Program, Shared};
 use jvm_natives::LinkedKinds;
 use native_ops::{Native, call};
@@ -147,6 +149,122 @@ fn conclude(frames: &mut Frames, native: Native, count: u16, next: u16) -> Resul
         Native::Bad => Ok(Asked::Refused(Refusal::Breaks)),
         Native::NoMemory => Err(NoMemory),
     }
+}
+
+// ---- a call that raises nothing
+
+/// The number of System.arraycopy, which stores values up to the first that may not stand there, and then throws.
+const ARRAYCOPY: u16 = 79;
+
+/// The frame goes on by an answer to so many arguments. False, with nothing of it changed, where it doesn't.
+fn pass_answer(frames: &mut Frames, native: Native, count: u16, next: u16) -> bool
+    requires { count ≤ length (top_operands frames.old.frames) }
+    ensures answer { result
+        ≡ is_next (answer_of (λ l o. outcome_by native l (drop count o)) frames.old) }
+    ensures frames { frames.new
+        ≡ frames_of (λ l o. outcome_by native l (drop count o)) next frames.old }
+{
+    match native {
+        Native::Value(value) => {
+            let asked = give(frames, value, count, next);
+            went_on(&asked)
+        }
+        Native::Throws(_) => false,
+        Native::Exit(_) => false,
+        Native::Bad => false,
+        Native::NoMemory => false,
+    }
+}
+
+/// Does a native method on these arguments, which the topmost operands are. False, with nothing changed, where the frame does not go on.
+fn pass_with(
+    alloc: Global,
+    linker: &Linker,
+    shared: &mut Shared,
+    frames: &mut Frames,
+    input: &[u8],
+    output: &mut Seq<u8>,
+    native: NativeCall,
+    args: &[Datum],
+    next: u16,
+) -> bool
+    requires stands { IsSome (slice_get native_methods native.number) }
+    requires within { native.count ≤ length (top_operands frames.old.frames) }
+    requires some { 0 < native.count }
+    requires other { (native.number == 79) ≡ false }
+    requires args { args.now ≡ data_in native.count (top_operands frames.old.frames) }
+    requires linked { linker.now.loaded ≡ shared.old.loaded }
+    ensures { let fs = frames.old.frames in
+        let d = runs_native_call (world_over linker.now input.now) native shared.old fs in
+        IfRan result d next (changed frames.old shared.old output.old)
+        (changed frames.new shared.new output.new) }
+{
+    recall(frames);
+    let kinds = LinkedKinds { linker };
+    let native_answer = call(
+        alloc,
+        native.number,
+        args,
+        &kinds,
+        &mut shared.heap,
+        &mut shared.made,
+        input,
+        &mut shared.read,
+        output,
+    );
+    pass_answer(frames, native_answer, native.count, next)
+}
+
+/// Does a native method, where it raises nothing. False, with nothing changed, where anything but that the frame goes on would come.
+pub fn pass_native(
+    alloc: Global,
+    linker: &Linker,
+    shared: &mut Shared,
+    frames: &mut Frames,
+    input: &[u8],
+    output: &mut Seq<u8>,
+    native: NativeCall,
+    next: u16,
+) -> bool
+    requires stands { IsSome (slice_get native_methods native.number) }
+    requires within { native.count ≤ length (top_operands frames.old.frames) }
+    requires linked { linker.now.loaded ≡ shared.old.loaded }
+    ensures { let fs = frames.old.frames in
+        let d = runs_native_call (world_over linker.now input.now) native shared.old fs in
+        IfRan result d next (changed frames.old shared.old output.old)
+        (changed frames.new shared.new output.new) }
+{
+    if native.count == 0 || native.number == ARRAYCOPY {
+        return false;
+    }
+    if native.count == 1 {
+        let Some(value) = frames.peek(0) else {
+            return false;
+        };
+        let args = [as_datum(value)];
+        return pass_with(
+            alloc, linker, shared, frames, input, output, native, &args, next,
+        );
+    }
+    if native.count == 2 {
+        let Some(first) = frames.peek(1) else {
+            return false;
+        };
+        let Some(second) = frames.peek(0) else {
+            return false;
+        };
+        let args = [as_datum(first), as_datum(second)];
+        return pass_with(
+            alloc, linker, shared, frames, input, output, native, &args, next,
+        );
+    }
+    let Ok(args) = arguments(alloc, frames, native.count) else {
+        return false;
+    };
+    let given = args.as_slice();
+    pass_with(
+        alloc, linker, shared, frames, input, output, native, given, next,
+    )
 }
 
 // ---- a native method

@@ -7,7 +7,7 @@ ghost use Rattle.std.specs.Option.{option_map};
 ghost use Rattle.jvm_basic.specs.Outcomes.{top_locals};
 ghost use Rattle.jvm_model.specs.InvocationRules.{invokes_selected};
 ghost use Rattle.frame_stack.specs.FrameLists.{top_operands};
-ghost use Rattle.jvm_model.specs.Naming.{Getfield, Getstatic, Invokestatic, Putfield};
+ghost use Rattle.jvm_model.specs.Naming.{Getfield, Getstatic, Invokestatic, Putfield, Putstatic};
 ghost use Rattle.jvm_named.specs.Answers.{answer_view, done_on};
 ghost use Rattle.jvm_named.specs.Attempts.{attempts, loads_nothing, world_over};
 ghost use Rattle.jvm_named.specs.Callees.{HasCallee, chosen_place};
@@ -16,9 +16,10 @@ ghost use Rattle.jvm_named.specs.Members.{reference_of};
 ghost use Rattle.jvm_named.specs.Names.{naming_view};
 ghost use Rattle.jvm_named.specs.Numbers.{AreNumbers};
 ghost use Rattle.jvm_named.specs.Objects.{AreLoaded, IsResolved, IsUsable};
-ghost use Rattle.jvm_named.specs.Passing.{IfPassed, IsCall, is_next, is_usable};
+ghost use Rattle.jvm_named.specs.Passing.{IfPassed, IsInvoked, is_next, is_usable};
 ghost use Rattle.jvm_model.specs.SharedState.{phase_of};
 ghost use Rattle.jvm_named.specs.Resolved.{gets_instance, gets_static, puts_instance};
+ghost use Rattle.jvm_named.specs.Resolved.{puts_static};
 ghost use Rattle.jvm_named.specs.Resolved.{invokes_instance, invokes_static_method};
 ghost use Rattle.jvm_named.specs.Selections.{AreSelections, site_for};
 ghost use Rattle.jvm_named.specs.Targets.{data_in, found_as, instance_target, invokes_target};
@@ -29,12 +30,13 @@ use crate::fields::{known_owner, put_slot, putting_of, read_known};
 use crate::held::held_by;
 use crate::instances::kind_of_object;
 use crate::known::{Callee, Chosen, Found, Known, Site};
-use crate::moving::drop_two;
+use crate::moving::{drop_one, drop_two};
 use crate::naming::{MemberName, MethodName, Naming};
 use crate::numbers::MethodNumbers;
 use crate::receivers::{argument_count, receiver_below};
 use crate::selections::Selections;
-use crate::statics::push_field;
+use crate::static_fields::set_static;
+use crate::statics::{held_of, push_field};
 use crate::targets::{Selecting, Target, static_target};
 use class_linker::Linker;
 use frame_stack::Frames;
@@ -44,7 +46,7 @@ use std::alloc::Global;
 
 /// Whether the frame has gone on.
 #[inline(always)]
-fn went_on(asked: &Asked) -> bool
+pub fn went_on(asked: &Asked) -> bool
     ensures { result ≡ is_next (answer_view asked.now) }
 {
     match asked {
@@ -153,6 +155,40 @@ fn pass_getstatic(
     went_on(&asked)
 }
 
+/// putstatic.
+fn pass_putstatic(
+    alloc: Global,
+    linker: &Linker,
+    shared: &mut Shared,
+    frames: &mut Frames,
+    member: &MemberName,
+    kind: u32,
+    found: Found,
+    next: u16,
+) -> bool
+    requires found { IsFoundAs found linker.now.program kind (Putstatic (reference_of member.now)) }
+    ensures { let r = reference_of member.now in
+        let d = done_on (puts_static linker.now.program kind r shared.old) frames.old in
+        IfPassed result d next frames.old shared.old frames.new shared.new }
+{
+    let Found::Static(place) = found else {
+        return false;
+    };
+    if !is_usable(shared, place.class) {
+        return false;
+    }
+    let Some(datum) = held_of(frames, held_by(member.descriptor.units())) else {
+        return false;
+    };
+    let asked = drop_one(frames, next);
+    if !went_on(&asked) {
+        return false;
+    }
+    let position = place.position as usize;
+    set_static(alloc, &mut shared.statics, place.class, position, datum);
+    true
+}
+
 // ---- what is invoked
 
 /// A method that has Code, by its number, and how many operands are its arguments.
@@ -162,24 +198,42 @@ pub struct Call {
     pub count: u16,
 }
 
-/// What is invoked of a target, where that has Code.
-fn call_of(linker: &Linker, shared: &Shared, frames: &Frames, target: Target) -> Option<Call>
+/// A native method of a built-in class, by its number, and how many operands are its arguments.
+#[derive(Clone, Copy, Debug, PartialEq, Eq)]
+pub struct NativeCall {
+    pub number: u16,
+    pub count: u16,
+}
+
+/// What is invoked.
+#[derive(Clone, Copy, Debug, PartialEq, Eq)]
+pub enum Invoked {
+    Code(Call),
+    Native(NativeCall),
+}
+
+/// What is invoked of a target, where that is known by a number.
+fn call_of(linker: &Linker, shared: &Shared, frames: &Frames, target: Target) -> Option<Invoked>
     requires within { target.count ≤ length (top_operands frames.now.frames) }
     requires callee { IfSome target.selected (HasCallee linker.now.program) }
     ensures { (input : List ℕ) → let w = world_over linker.now input in
         let fs = frames.now.frames in let o = top_operands fs in
-        IfSome result (λ c. IsCall c (invokes_selected w (option_map chosen_place target.selected)
-        (data_in target.count o) shared.now (top_locals fs) (drop target.count o)) shared.now) }
+        let d = invokes_selected w (option_map chosen_place target.selected)
+        (data_in target.count o) shared.now (top_locals fs) (drop target.count o) in
+        IfSome result (λ c. IsInvoked w c d shared.now fs) }
 {
     let Some(m) = target.selected else {
         return None;
     };
     match m.callee {
-        Callee::Code(method) => Some(Call {
+        Callee::Code(method) => Some(Invoked::Code(Call {
             method,
             count: target.count,
-        }),
-        Callee::Native(_) => None,
+        })),
+        Callee::Native(number) => Some(Invoked::Native(NativeCall {
+            number,
+            count: target.count,
+        })),
         Callee::Other => None,
     }
 }
@@ -190,13 +244,13 @@ fn target_call(
     shared: &Shared,
     frames: &Frames,
     found: &Result<Target, Refusal>,
-) -> Option<Call>
+) -> Option<Invoked>
     requires within { IfOk found.now (λ t. t.count ≤ length (top_operands frames.now.frames)) }
     requires callee { IfOk found.now (λ t. IfSome t.selected (HasCallee linker.now.program)) }
     ensures { (input : List ℕ) → let w = world_over linker.now input in
         let fs = frames.now.frames in let o = top_operands fs in
         let d = invokes_target w (found_as (target_in o) found.now) shared.now (top_locals fs) o
-        in IfSome result (λ c. IsCall c d shared.now) }
+        in IfSome result (λ c. IsInvoked w c d shared.now fs) }
 {
     match found {
         Ok(target) => call_of(linker, shared, frames, *target),
@@ -214,13 +268,13 @@ fn static_call(
     method: &MethodName,
     kind: u32,
     known: Found,
-) -> Option<Call>
+) -> Option<Invoked>
     requires usable { IsUsable linker.now kind }
     requires numbers { AreNumbers linker.now.program numbers.now }
     requires found { IsFoundAs known linker.now.program kind (Invokestatic method.now) }
     ensures { (input : List ℕ) → let w = world_over linker.now input in
         let d = done_on (invokes_static_method w kind method.now shared.now) frames.now in
-        IfSome result (λ c. IsCall c d shared.now) }
+        IfSome result (λ c. IsInvoked w c d shared.now frames.now.frames) }
 {
     let mut found = known;
     match static_target(
@@ -314,7 +368,7 @@ fn instance_call(
     method: &MethodName,
     kind: u32,
     known: Found,
-) -> Option<Call>
+) -> Option<Invoked>
     requires objects { AreLoaded linker.now shared.now.heap }
     requires resolved { IsResolved linker.now method.now.class kind }
     requires selections { AreSelections linker.now.program selections.now }
@@ -323,7 +377,7 @@ fn instance_call(
     ensures { (input : List ℕ) → let w = world_over linker.now input in
         let r = method.now in
         let rule = invokes_instance w kind (selecting_view by.entry) r shared.now in
-        IfSome result (λ c. IsCall c (done_on rule frames.now) shared.now) }
+        IfSome result (λ c. IsInvoked w c (done_on rule frames.now) shared.now frames.now.frames) }
 {
     let Found::Selected(site) = known else {
         return None;
@@ -335,8 +389,8 @@ fn instance_call(
     }
 }
 
-/// Which method an instruction invokes, by what its names came to and what was selected. None where it invokes none, or anything else
-/// would come, or where an attempt would learn more.
+/// Which method an instruction invokes, by what its names came to and what was selected. None where it invokes none that is known by a
+/// number, or anything else would come, or where an attempt would learn more.
 #[tactic(auto, using(crate::proofs::Again::loads_none))]
 pub fn known_call(
     alloc: Global,
@@ -347,7 +401,7 @@ pub fn known_call(
     frames: &Frames,
     naming: &Naming,
     known: &Known,
-) -> Option<Call>
+) -> Option<Invoked>
     requires linked { linker.now.loaded ≡ shared.now.loaded }
     requires known { IsKnown linker.now (naming_view naming.now) known.now }
     requires numbers { AreNumbers linker.now.program numbers.now }
@@ -355,7 +409,7 @@ pub fn known_call(
     requires objects { AreLoaded linker.now shared.now.heap }
     ensures called { (input : List ℕ) → let w = world_over linker.now input in
         let d = done_on (attempts w (naming_view naming.now) shared.now frames.now) frames.now in
-        IfSome result (λ c. IsCall c d shared.now) }
+        IfSome result (λ c. IsInvoked w c d shared.now frames.now.frames) }
     ensures loads { let n = naming_view naming.now in loads_nothing linker.now.program
         shared.now.loaded n (top_operands frames.now.frames) ≡ true }
 {
@@ -386,6 +440,7 @@ pub fn known_call(
 /// An access of a field by what its names came to. False, with nothing changed, where anything but that the frame goes on would come.
 #[tactic(auto, using(crate::proofs::Again::loads_none))]
 pub fn pass_field(
+    alloc: Global,
     linker: &Linker,
     shared: &mut Shared,
     frames: &mut Frames,
@@ -415,6 +470,9 @@ pub fn pass_field(
         Naming::Getstatic(member) => {
             pass_getstatic(linker, shared, frames, member, kind, found, next)
         }
+        Naming::Putstatic(member) => pass_putstatic(
+            alloc, linker, shared, frames, member, kind, found, next,
+        ),
         _ => false,
     }
 }

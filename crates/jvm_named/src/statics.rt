@@ -163,7 +163,7 @@ pub fn get_static(
 // ---- putstatic
 
 /// The topmost operand as a field of this kind holds it.
-fn held_of(frames: &Frames, kind: Kind) -> Option<Datum>
+pub fn held_of(frames: &Frames, kind: Kind) -> Option<Datum>
     ensures { result ≡ held_of kind (top_operands frames.now.frames) }
 {
     let value = frames.peek(0)?;

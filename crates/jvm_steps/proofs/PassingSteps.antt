@@ -1,6 +1,6 @@
 -- A line that names something and raises nothing, where it loads nothing, is a step of the run.
 use Rattle.std.proofs.Common.{◌≡◌, ℕ, Bool, true, false, cond, List, [], ◌∷◌, ◌++◌, length, map, Option, Some, None, refl, sym, ap, subst, ◌∙◌, arith}
-use Rattle.std.specs.Prelude.{is_none, is_some, ◌==◌, ◌&&◌}
+use Rattle.std.specs.Prelude.{IfSome, is_none, is_some, ◌==◌, ◌&&◌}
 use Rattle.std.specs.Option.{option_map}
 use Rattle.std.proofs.lemmas.List.{append-nil}
 use Rattle.std.proofs.lemmas.Option.{none-some, same_Some}
@@ -17,10 +17,14 @@ use Rattle.jvm_model.specs.Run.{goes_again, loaded_turn, starts, step, steps_at,
 use Rattle.jvm_named.specs.declared.asked.Asked.{Asked}
 use Rattle.jvm_named.specs.declared.asked.Asked.TheVariants as asked
 use Rattle.jvm_named.specs.declared.naming.Naming.{Naming as Kept}
+use Rattle.jvm_named.specs.declared.passing.Invoked.{Invoked}
+use Rattle.jvm_named.specs.declared.passing.Invoked.TheVariants as invoked
+use Rattle.jvm_named.specs.declared.passing.NativeCall.{NativeCall}
 use Rattle.jvm_named.specs.Answers.{Continues, Exceeds, answer_by, answer_in, answer_view, done_on, frames_by, frames_in, wrote_by}
 use Rattle.jvm_named.specs.Attempts.{attempts, loaded_for, loads_nothing, shared_loaded}
 use Rattle.jvm_named.specs.Names.{naming_view}
-use Rattle.jvm_named.specs.Passing.{HasPassed, IfPassed}
+use Rattle.jvm_named.specs.Does.{Changed, IsDone, changed}
+use Rattle.jvm_named.specs.Passing.{HasPassed, IfPassed, IfRan}
 use Rattle.jvm_steps.specs.declared.line.Action.TheVariants as action
 use Rattle.jvm_steps.specs.declared.line.Line.{Line}
 use Rattle.jvm_steps.specs.declared.markers.Marker.{Marker}
@@ -30,7 +34,7 @@ use Rattle.jvm_steps.specs.Acts.{attempts_on, is_at_rest, is_named, named_in}
 use Rattle.jvm_steps.specs.Asked.{concluded, done_top, starts_in}
 use Rattle.jvm_steps.specs.Lines.{IfNamed, IfNamedBy}
 use Rattle.jvm_steps.specs.Markers.{marker_on, stack_of, state_of, with_markers}
-use Rattle.jvm_steps.specs.Passing.{Passes, steps_if}
+use Rattle.jvm_steps.specs.Passing.{Passes, changed_in, steps_if, with_changed}
 use Rattle.jvm_steps.specs.Ready.{CanRun}
 use Rattle.jvm_steps.specs.Runs.{IsCalm, steps_from}
 use Rattle.jvm_steps.specs.States.{active, frame_in, here_of, state_in, state_with}
@@ -189,21 +193,20 @@ module _ (w : Setup) (run : CanRun w) (ms : List Marker) (here : Here) (line : L
   step-quiet (f ∷ fs) is free none so =
       ap (λ (x : Turn). x.changes) (step-turn f fs is free none (ap starts so.is)) ∙ goes-quiet f fs (done_top w n old.shared (f ∷ fs)) so
 
-  pub field-passes : (frames : FramesView) (shared : Shared) → HasPassed d line.next old.frames frames shared → shared.loaded ≡ old.shared.loaded
-      → Passes w ms old 1 (record old { frames = frames; shared = shared })
-  field-passes frames shared passed loaded =
-      let new : Parts = record old { frames = frames; shared = shared } in
-      let so = goes-so d.outcome old.frames.frames passed.answer in
-      let many : length frames.frames ≡ length old.frames.frames =
-      ap (λ (s : FramesView). length s.frames) passed.frames ∙ same-many d.outcome line.next old.frames.frames so in
-      let has : has_frame frames.frames ≡ true = has-many frames.frames old.frames.frames many (has-one old.frames.frames stands) in
+  pub done-passes : (new : Changed) → IsDone d line.next (changed_in old) new asked.Next → new.shared.loaded ≡ old.shared.loaded → Passes w ms old 1 (with_changed new old)
+  done-passes is went loaded =
+      let new : Parts = with_changed is old in
+      let so = goes-so d.outcome old.frames.frames (sym went.answer) in
+      let many : length is.frames.frames ≡ length old.frames.frames =
+      ap (λ (s : FramesView). length s.frames) went.frames ∙ same-many d.outcome line.next old.frames.frames so in
+      let has : has_frame is.frames.frames ≡ true = has-many is.frames.frames old.frames.frames many (has-one old.frames.frames stands) in
       let concludes : state_in new ≡ state_in reached =
-      ap (λ (s : FramesView). let p : Parts = record old { frames = s; shared = shared } in state_in p) passed.frames
-      ∙ (ap (λ (s : Shared). let p : Parts = record reached { shared = s; output = old.output } in state_in p) passed.shared
-      ∙ ap (λ o. let p : Parts = record reached { output = o } in state_in p) (sym (append-nil old.output) ∙ ap (λ o. old.output ++ o) (sym passed.wrote))) in
-      let resting = at-rest old.ending old.thrown (has_frame frames.frames && is_none (marker_on (length frames.frames) ms)) calm.ending calm.thrown
-      (framed (length old.frames.frames) ms frames.frames calm.unmarked many has) in
-      let stepped = is-step asked.Next (sym passed.answer) refl new concludes resting in
+      ap (λ (s : FramesView). let p : Parts = record new { frames = s } in state_in p) went.frames
+      ∙ (ap (λ (s : Shared). let p : Parts = record reached { shared = s; output = is.output } in state_in p) went.shared
+      ∙ ap (λ o. let p : Parts = record reached { output = o } in state_in p) went.output) in
+      let resting = at-rest old.ending old.thrown (has_frame is.frames.frames && is_none (marker_on (length is.frames.frames) ms)) calm.ending calm.thrown
+      (framed (length old.frames.frames) ms is.frames.frames calm.unmarked many has) in
+      let stepped = is-step asked.Next went.answer refl new concludes resting in
       record {
         calm = record { ending = calm.ending; thrown = calm.thrown; unmarked = ap (λ k. marker_on k ms) many ∙ calm.unmarked };
         loaded = loaded;
@@ -216,6 +219,17 @@ module _ (w : Setup) (run : CanRun w) (ms : List Marker) (here : Here) (line : L
       has-many (g ∷ gs) fs many has = refl
       has-many [] [] many has = has
       has-many [] (f ∷ fs) many has = absurd cc
+
+  pub field-passes : (frames : FramesView) (shared : Shared) → HasPassed d line.next old.frames frames shared → shared.loaded ≡ old.shared.loaded
+      → Passes w ms old 1 (record old { frames = frames; shared = shared })
+  field-passes frames shared passed loaded =
+      done-passes (changed frames shared old.output)
+      (record {
+        answer = sym passed.answer;
+        frames = passed.frames;
+        shared = passed.shared;
+        output = sym (ap (λ o. old.output ++ o) passed.wrote ∙ append-nil old.output);
+      }) loaded
 
 -- ---- by what the code says of the line
 
@@ -234,14 +248,27 @@ module _ (w : Setup) (run : CanRun w) (ms : List Marker) (here : Here) (line : L
   pub nothing-new : newly_loaded w.world.program old.shared.loaded (naming_view kept) (top_operands old.frames.frames) ≡ []
   nothing-new = none-new (newly_loaded w.world.program old.shared.loaded (naming_view kept) (top_operands old.frames.frames)) silent
 
+  same-loaded : (shared : Shared) → shared ≡ (done_on (attempts w.world (naming_view kept) old.shared old.frames) old.frames).shared → shared.loaded ≡ old.shared.loaded
+  same-loaded shared is =
+      let law = is-named (shared_loaded w.world.program (naming_view kept) old.shared old.frames) (top_operands old.frames.frames) w (naming_view kept) (top_locals old.frames.frames) in
+      ap (λ (s : Shared). s.loaded) is
+      ∙ (law.loaded ∙ (ap (λ more. old.shared.loaded ++ more) nothing-new ∙ append-nil old.shared.loaded))
+
+  -- a native method
+  pub native-passes : (b : Bool) (new : Parts)
+      → IfRan b (done_on (attempts w.world (naming_view kept) old.shared old.frames) old.frames) line.next (changed_in old) (changed_in new)
+      → new ≡ with_changed (changed_in new) old → Passes w ms old (steps_if b) new
+  native-passes true new went same =
+      subst (Passes w ms old 1) (sym same)
+      (done-passes w run ms here line kept old stands found named calm nothing-new (changed_in new) went (same-loaded new.shared went.shared))
+  native-passes false new went same =
+      subst (Passes w ms old 0) (sym (same ∙ ap (λ (x : Changed). with_changed x old) went)) (passes_none w ms old calm)
+
   pub access-passes : (b : Bool) (frames : FramesView) (shared : Shared)
       → IfPassed b (done_on (attempts w.world (naming_view kept) old.shared old.frames) old.frames) line.next old.frames old.shared frames shared
       → Passes w ms old (steps_if b) (record old { frames = frames; shared = shared })
   access-passes true frames shared went =
-      let law = is-named (shared_loaded w.world.program (naming_view kept) old.shared old.frames) (top_operands old.frames.frames) w (naming_view kept) (top_locals old.frames.frames) in
-      field-passes w run ms here line kept old stands found named calm nothing-new frames shared went
-      (ap (λ (s : Shared). s.loaded) went.shared
-      ∙ (law.loaded ∙ (ap (λ more. old.shared.loaded ++ more) nothing-new ∙ append-nil old.shared.loaded)))
+      field-passes w run ms here line kept old stands found named calm nothing-new frames shared went (same-loaded shared went.shared)
   access-passes false frames shared same =
       subst (λ (f : FramesView). Passes w ms old 0 (record old { frames = f; shared = shared })) (sym same.0)
       (subst (λ (s : Shared). Passes w ms old 0 (record old { shared = s })) (sym same.1) (passes_none w ms old calm))
@@ -250,3 +277,7 @@ module _ (w : Setup) (run : CanRun w) (ms : List Marker) (here : Here) (line : L
 pub held-there : (lo : Option Line) (line : Line) (kept : Kept) → lo ≡ Some line → line.action ≡ action.Named kept → (Holds : Naming → ℕ → Type 0) → IfNamed lo Holds
     → Holds (naming_view kept) line.next
 held-there lo line kept found named Holds holds = subst (λ a. IfNamedBy a line.next Holds) named (subst (λ o. IfNamed o Holds) found holds)
+
+-- what holds of what is invoked, where it is a native method
+pub native-there : (o : Option Invoked) (x : Invoked) (n : NativeCall) → o ≡ Some x → x ≡ invoked.Native n → (Holds : Invoked → Type 0) → IfSome o Holds → Holds (invoked.Native n)
+native-there o x n is native Holds holds = subst Holds native (subst (λ o. IfSome o Holds) is holds)

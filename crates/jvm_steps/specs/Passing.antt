@@ -19,6 +19,7 @@ use Rattle.jvm_named.specs.declared.known.Callee.{Callee}
 use Rattle.jvm_named.specs.declared.known.Callee.TheVariants as callee
 use Rattle.jvm_named.specs.declared.known.Found.{Found}
 use Rattle.jvm_named.specs.declared.known.Found.TheVariants as found
+use Rattle.jvm_named.specs.Does.{Changed}
 use Rattle.jvm_steps.specs.declared.markers.Marker.{Marker}
 use Rattle.jvm_steps.specs.declared.parts.Parts.{Parts}
 use Rattle.jvm_model.specs.declared.event.Mark.TheVariants.{Off}
@@ -73,6 +74,13 @@ steps_if false = 0
 -- with other frames
 abbrev pub on_frames : FramesView → Parts → Parts
 on_frames frames p = record p { frames = frames }
+
+-- what an instruction that names something changes
+abbrev pub changed_in : Parts → Changed
+changed_in p = record { frames = p.frames; shared = p.shared; output = p.output }
+
+abbrev pub with_changed : Changed → Parts → Parts
+with_changed x p = record p { frames = x.frames; shared = x.shared; output = x.output }
 
 -- what a member's name came to is a method
 abbrev pub is_method : Found → Bool

@@ -54,8 +54,8 @@ use frame_stack::Frames;
 use jf_bytes::{NoMemory, Seq};
 use jvm_model::{Mark, Program, Shared};
 use jvm_named::{
-    Asked, Known, MethodNumbers, Refusal, Selections, attempt, attempt_known, attempt_loaded,
-    known_call, resolve,
+    Asked, Invoked, Known, MethodNumbers, Refusal, Selections, attempt, attempt_known,
+    attempt_loaded, known_call, resolve,
 };
 use std::alloc::Global;
 use std::marker::Model;
@@ -316,10 +316,10 @@ fn attempt_line_known(
     match &line.action {
         Action::Named(naming) => {
             // Mostly a method that has Code is invoked.
-            let called = known_call(
+            let invoked = known_call(
                 alloc, linker, numbers, selections, shared, frames, naming, known,
             );
-            if let Some(call) = called {
+            if let Some(Invoked::Code(call)) = invoked {
                 return Ok(Asked::Invokes(call.method, call.count));
             }
             attempt_known(
@@ -775,6 +775,14 @@ impl Originals {
         cells.learn(alloc, version, place, learnt);
         self.cells = cells;
         Ok(asked)
+    }
+
+    /// The bytes of the input.
+    #[inline(always)]
+    pub fn input(&self) -> &[u8]
+        ensures { result.now ≡ self.now.setup.world.input }
+    {
+        self.input.as_slice()
     }
 
     /// What is known of the names of the line at a place of a version.

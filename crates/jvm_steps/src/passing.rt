@@ -1,7 +1,9 @@
 //! Several steps that tell nothing: those of the current frame alone, and between them accesses of fields that raise nothing, and calls
 //! of methods whose current version has no probes, both by what their names came to.
 
-ghost use Rattle.std.specs.Prelude.{◌≡◌, ◌≤◌, true, false, length, IfSome, Some};
+ghost use Rattle.std.specs.Prelude.{◌≡◌, ◌≤◌, true, false, length, slice_get};
+ghost use Rattle.std.specs.Prelude.{IfSome, IsSome, Some};
+ghost use Rattle.base_classes.specs.Natives.{native_methods};
 ghost use Rattle.std.specs.Option.{option_map};
 ghost use Rattle.frame_stack.specs.FrameLists.{top_operands};
 ghost use Rattle.jvm_model.specs.Data.{Returns};
@@ -10,13 +12,14 @@ ghost use Rattle.jvm_model.specs.Values.{as_value};
 ghost use Rattle.jvm_model.specs.declared.event.Mark.TheVariants.{Off};
 ghost use Rattle.jvm_named.specs.Known.{IsKnown};
 ghost use Rattle.jvm_named.specs.Names.{naming_view};
+ghost use Rattle.jvm_named.specs.Passing.{IfRan, runs_native_call};
 ghost use Rattle.jvm_steps.specs.declared.line.Action.TheVariants as action;
 ghost use Rattle.jvm_steps.specs.Arguments.{can_begin, with_begun};
 ghost use Rattle.jvm_steps.specs.Invoking.{may_begin};
 ghost use Rattle.jvm_steps.specs.Linked.{linker_in};
 ghost use Rattle.jvm_steps.specs.Markers.{state_of};
 ghost use Rattle.jvm_steps.specs.Passing.{Passes, ReturnsTo, is_method, is_probed, is_told, on_frames};
-ghost use Rattle.jvm_steps.specs.Passing.{steps_if};
+ghost use Rattle.jvm_steps.specs.Passing.{changed_in, steps_if, with_changed};
 ghost use Rattle.jvm_steps.specs.Ready.{CanRun, IsSoundIn};
 ghost use Rattle.jvm_steps.specs.Runs.{IsCalm};
 ghost use Rattle.jvm_steps.specs.States.{here_of};
@@ -36,7 +39,9 @@ use heap_objects::{Datum, Value};
 use jf_bytes::Stack;
 use jvm_basic::recall;
 use jvm_model::Mark;
-use jvm_named::{Call, Callee, Found, Known, Naming, known_call, pass_field};
+use jvm_named::{
+    Call, Callee, Found, Invoked, Known, Naming, NativeCall, known_call, pass_field, pass_native,
+};
 use std::alloc::Global;
 
 // ---- a call
@@ -76,6 +81,35 @@ fn begin_call(originals: &Originals, parts: &mut Parts, call: Call) -> bool
     }
 }
 
+/// A native method of a built-in class. False, with nothing changed, where it raises anything.
+fn do_native(
+    alloc: Global,
+    originals: &Originals,
+    parts: &mut Parts,
+    native: NativeCall,
+    next: u16,
+) -> bool
+    requires stands { IsSome (slice_get native_methods native.number) }
+    requires within { native.count ≤ length (top_operands parts.old.frames.frames) }
+    requires linked { originals.now.loaded ≡ parts.old.shared.loaded }
+    ensures ran { let w = originals.now.setup.world in
+        let d = runs_native_call w native parts.old.shared parts.old.frames.frames in
+        IfRan result d next (changed_in parts.old) (changed_in parts.new) }
+    ensures same { parts.new ≡ with_changed (changed_in parts.new) parts.old }
+{
+    let linker = originals.linker();
+    pass_native(
+        alloc,
+        linker,
+        &mut parts.shared,
+        &mut parts.frames,
+        originals.input(),
+        &mut parts.output,
+        native,
+        next,
+    )
+}
+
 /// An invocation by what its names came to.
 fn pass_call(
     alloc: Global,
@@ -102,19 +136,22 @@ fn pass_call(
     let selections = originals.selections();
     let shared = &parts.shared;
     let frames = &parts.frames;
-    let called = known_call(
+    let Some(invoked) = known_call(
         alloc, linker, numbers, selections, shared, frames, naming, known,
-    );
-    let Some(call) = called else {
+    ) else {
         return false;
     };
-    begin_call(originals, parts, call)
+    match invoked {
+        Invoked::Code(call) => begin_call(originals, parts, call),
+        Invoked::Native(native) => do_native(alloc, originals, parts, native, line.next),
+    }
 }
 
 // ---- an access
 
 /// An access of a field by what its names came to.
 fn pass_access(
+    alloc: Global,
     originals: &Originals,
     parts: &mut Parts,
     markers: &Stack<Marker>,
@@ -135,6 +172,7 @@ fn pass_access(
 {
     let linker = originals.linker();
     pass_field(
+        alloc,
         linker,
         &mut parts.shared,
         &mut parts.frames,
@@ -293,7 +331,7 @@ fn pass_named(
     if is_method(known) {
         pass_call(alloc, originals, parts, markers, here, line, naming, known)
     } else {
-        pass_access(originals, parts, markers, here, line, naming, known)
+        pass_access(alloc, originals, parts, markers, here, line, naming, known)
     }
 }
 

@@ -3,7 +3,7 @@ use Rattle.std.specs.Prelude.{IfSome}
 use Rattle.frame_stack.specs.FrameLists.{top_operands}
 use Rattle.jvm_basic.specs.Outcomes.{top_locals}
 use Rattle.jvm_named.specs.Attempts.{world_over}
-use Rattle.jvm_named.specs.Passing.{IsCall}
+use Rattle.jvm_named.specs.Passing.{IsInvoked}
 use Rattle.jvm_named.specs.Targets.{instance_target, invokes_target, selecting_view}
 use Rattle.jvm_named.proofs.TargetLemmas.{does-target, instance-rule}
 use Rattle.jvm_named.proofs.passing.instance_call.Goals as goal
@@ -17,7 +17,7 @@ returns-in-Some c input =
     let fs = c.args.frames.now.frames in
     let l = top_locals fs in
     let o = top_operands fs in
-    subst (λ d. IfSome c.call_of.result (λ x. IsCall x d s))
+    subst (λ d. IfSome c.call_of.result (λ x. IsInvoked w x d s fs))
     (does-target w (instance_target w.program c.args.kind by r s.heap o) s l o c.in-Some.target c.in-Some.ensures.target c.in-Some.ensures.within
     ∙ instance-rule w by r s l o c.args.kind)
     (c.call_of.ensures input)

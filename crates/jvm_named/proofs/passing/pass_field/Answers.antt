@@ -1,5 +1,5 @@
 use Rattle.std.proofs.Common.{sym, subst, refl}
-use Rattle.jvm_model.specs.Naming.{Getfield, Getstatic, Putfield}
+use Rattle.jvm_model.specs.Naming.{Getfield, Getstatic, Putfield, Putstatic}
 use Rattle.jvm_named.specs.declared.naming.Naming.{Naming as Kept}
 use Rattle.jvm_named.specs.Answers.{done_on}
 use Rattle.jvm_named.specs.Attempts.{attempts, world_over}
@@ -46,6 +46,19 @@ returns-in-Getstatic-clause-passed c input =
     (sym c.in-Getstatic.is)
     (subst (λ d. IfPassed c.pass_getstatic.result d c.args.next f s c.pass_getstatic.new.frames s)
     (done_again l input n c.args.known.now s f c.requires.linked known refl) c.pass_getstatic.ensures)
+
+pub returns-in-Putstatic-clause-passed : goal.returns-in-Putstatic-clause-passed
+returns-in-Putstatic-clause-passed c input =
+    let l = c.args.linker.now in
+    let s = c.args.shared.now in
+    let f = c.args.frames.now in
+    let n = Putstatic (reference_of c.in-Putstatic.member) in
+    let known = subst (λ (kept : Kept). IsKnown l (naming_view kept) c.args.known.now) c.in-Putstatic.is c.requires.known in
+    subst (λ (kept : Kept). IfPassed c.pass_putstatic.result (done_on (attempts (world_over l input) (naming_view kept) s f) f) c.args.next f s c.pass_putstatic.new.frames
+    c.pass_putstatic.new.shared)
+    (sym c.in-Putstatic.is)
+    (subst (λ d. IfPassed c.pass_putstatic.result d c.args.next f s c.pass_putstatic.new.frames c.pass_putstatic.new.shared)
+    (done_again l input n c.args.known.now s f c.requires.linked known refl) c.pass_putstatic.ensures)
 
 pub returns-in_default-clause-passed : goal.returns-in_default-clause-passed
 returns-in_default-clause-passed c input = (refl, refl)
