@@ -41,6 +41,7 @@ pub use instances::{is_instance, user_count};
 pub use known::{Callee, Chosen, Found, Known, Site};
 pub use members::is_static_field;
 pub use naming::{MemberName, MethodName, Naming};
+pub use natives::pass_native;
 pub use numbers::MethodNumbers;
 pub use passing::{Call, Invoked, NativeCall, known_call, pass_field};
 pub use place::Place;
