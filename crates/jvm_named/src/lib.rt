@@ -43,7 +43,7 @@ pub use members::is_static_field;
 pub use naming::{MemberName, MethodName, Naming};
 pub use natives::pass_native;
 pub use numbers::MethodNumbers;
-pub use passing::{Call, Invoked, NativeCall, known_call, pass_field};
+pub use passing::{Call, Invoked, NativeCall, known_call, known_code, pass_field};
 pub use place::Place;
 pub use resolution::resolve;
 pub use selections::{Selection, Selections};

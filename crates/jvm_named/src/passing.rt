@@ -16,7 +16,7 @@ ghost use Rattle.jvm_named.specs.Members.{reference_of};
 ghost use Rattle.jvm_named.specs.Names.{naming_view};
 ghost use Rattle.jvm_named.specs.Numbers.{AreNumbers};
 ghost use Rattle.jvm_named.specs.Objects.{AreLoaded, IsResolved, IsUsable};
-ghost use Rattle.jvm_named.specs.Passing.{IfPassed, IsInvoked, is_next, is_usable};
+ghost use Rattle.jvm_named.specs.Passing.{IfPassed, IsCall, IsInvoked, is_next, is_usable};
 ghost use Rattle.jvm_model.specs.SharedState.{phase_of};
 ghost use Rattle.jvm_named.specs.Resolved.{gets_instance, gets_static, puts_instance};
 ghost use Rattle.jvm_named.specs.Resolved.{puts_static};
@@ -432,6 +432,39 @@ pub fn known_call(
             instance_call(linker, selections, shared, frames, by, method, kind, found)
         }
         _ => None,
+    }
+}
+
+/// The same, where that method has Code.
+pub fn known_code(
+    alloc: Global,
+    linker: &Linker,
+    numbers: &MethodNumbers,
+    selections: &Selections,
+    shared: &Shared,
+    frames: &Frames,
+    naming: &Naming,
+    known: &Known,
+) -> Option<Call>
+    requires linked { linker.now.loaded ≡ shared.now.loaded }
+    requires known { IsKnown linker.now (naming_view naming.now) known.now }
+    requires numbers { AreNumbers linker.now.program numbers.now }
+    requires selections { AreSelections linker.now.program selections.now }
+    requires objects { AreLoaded linker.now shared.now.heap }
+    ensures called { (input : List ℕ) → let w = world_over linker.now input in
+        let d = done_on (attempts w (naming_view naming.now) shared.now frames.now) frames.now in
+        IfSome result (λ c. IsCall c d shared.now) }
+    ensures loads { let n = naming_view naming.now in loads_nothing linker.now.program
+        shared.now.loaded n (top_operands frames.now.frames) ≡ true }
+{
+    let Some(invoked) = known_call(
+        alloc, linker, numbers, selections, shared, frames, naming, known,
+    ) else {
+        return None;
+    };
+    match invoked {
+        Invoked::Code(call) => Some(call),
+        Invoked::Native(_) => None,
     }
 }
 

@@ -54,8 +54,8 @@ use frame_stack::Frames;
 use jf_bytes::{NoMemory, Seq};
 use jvm_model::{Mark, Program, Shared};
 use jvm_named::{
-    Asked, Invoked, Known, MethodNumbers, Refusal, Selections, attempt, attempt_known,
-    attempt_loaded, known_call, resolve,
+    Asked, Known, MethodNumbers, Refusal, Selections, attempt, attempt_known, attempt_loaded,
+    known_code, resolve,
 };
 use std::alloc::Global;
 use std::marker::Model;
@@ -316,10 +316,10 @@ fn attempt_line_known(
     match &line.action {
         Action::Named(naming) => {
             // Mostly a method that has Code is invoked.
-            let invoked = known_call(
+            let called = known_code(
                 alloc, linker, numbers, selections, shared, frames, naming, known,
             );
-            if let Some(Invoked::Code(call)) = invoked {
+            if let Some(call) = called {
                 return Ok(Asked::Invokes(call.method, call.count));
             }
             attempt_known(
