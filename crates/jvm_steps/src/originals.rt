@@ -446,6 +446,7 @@ impl Originals {
     }
 
     /// Whose probes a version has.
+    #[inline(always)]
     pub fn mark(&self, version: usize) -> Mark
         ensures { result ≡ mark_of self.now.setup.versions version }
     {
@@ -575,6 +576,7 @@ impl Originals {
     }
 
     /// Drops each superseded version that no frame runs.
+    #[inline(always)]
     pub fn release(&mut self, frames: &Frames)
         ensures released { Releases frames.now.frames self.old.setup.versions
             self.new.setup.versions }

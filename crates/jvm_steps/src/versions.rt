@@ -76,6 +76,7 @@ impl Versions {
     }
 
     /// Drops each superseded version that no frame runs.
+    #[inline(always)]
     pub fn release(&mut self, frames: &Frames)
         ensures released { Releases frames.now.frames self.old self.new }
         ensures same { AreAllCurrent self.old → self.new ≡ self.old }

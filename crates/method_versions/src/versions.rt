@@ -200,7 +200,8 @@ impl<T: Drop> Versions<T> {
         number
     }
 
-    /// Drops each superseded version that no frame runs.
+    /// Drops each superseded version that no frame runs. It is a call of its own, so that a step stays small.
+    #[inline(never)]
     fn release_some(&mut self, frames: &Frames)
         ensures held { (number : ℕ) → held_at self.new number
             ≡ held_for frames.now.frames self.old number }
