@@ -51,6 +51,7 @@ pub mod ElementActs
 pub mod Leading
 mod QuietLines
 mod PlainSteps
+mod PassedLines
 mod ElementSteps
 mod TurnsCarried
 mod OneMove
