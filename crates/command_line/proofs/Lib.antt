@@ -5,3 +5,4 @@ pub mod Sound
 pub mod WorkedWords
 pub mod WorkedChoices
 pub mod Told
+pub mod Rests

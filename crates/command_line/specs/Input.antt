@@ -9,6 +9,10 @@ use Rattle.command_line.specs.declared.input.InputError.TheVariants.{Failed, Too
 abbrev pub most_input : ℕ
 most_input = 16777216
 
+-- and so many are taken at most: one more than that tells of too many
+abbrev pub most_taken : ℕ
+most_taken = most_input + 1
+
 -- what is answered, by the bytes that the source had left, where it tells them
 abbrev pub IsInput : Option (List ℕ) → Result (List ℕ) InputError → Type 0
 IsInput left (Ok bytes) = (length bytes ≤ most_input) × IfSome left (λ all. bytes ≡ all)
@@ -22,13 +26,19 @@ pub record TakesOneMore (old new : Option (List ℕ)) : Type 0 where
   pub count : length bytes ≡ most_input + 1
   pub taken : Consumes old new bytes
 
--- how far the source was taken, by what it had left and has: to its end, or to one byte more than
--- the limit
+-- What the source has left is what it had behind so many bytes at most.
+pub record TakesAtMost (most : ℕ) (old new : Option (List ℕ)) : Type 0 where
+  pub bytes : List ℕ
+  pub few : length bytes ≤ most
+  pub taken : Consumes old new bytes
+
+-- how far the source was taken, by what it had left and has: to its end, to one byte more than the
+-- limit, to a take that failed, or to what no memory was left for
 abbrev pub TakesInput : Option (List ℕ) → Option (List ℕ) → Result (List ℕ) InputError → Type 0
-TakesInput old new (Ok bytes) = IsAtEnd new
+TakesInput old new (Ok bytes) = Consumes old new bytes × IsAtEnd new
 TakesInput old new (Err TooLong) = TakesOneMore old new
-TakesInput old new (Err Failed) = Unit {0}
-TakesInput old new (Err NoMemory) = Unit {0}
+TakesInput old new (Err Failed) = TakesAtMost most_input old new
+TakesInput old new (Err NoMemory) = TakesAtMost most_taken old new
 
 -- only a failed take raises the count of faults
 abbrev pub InputErrorCause : ℕ → ℕ → InputError → Type 0

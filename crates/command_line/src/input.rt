@@ -1,6 +1,6 @@
 //! The input of a run, taken to its end.
 
-ghost use Rattle.std.specs.Prelude.{◌≡◌, ◌<◌, ◌≤◌, length, take, IfOk};
+ghost use Rattle.std.specs.Prelude.{◌≡◌, ◌<◌, ◌≤◌, length, take, IfOk, OnErr};
 ghost use Rattle.std.specs.Io.KnownBytes.{Consumes, IsAtEnd};
 ghost use Rattle.jf_bytes.specs.Streams.{HasCause};
 ghost use Rattle.command_line.specs.Input.{InputCause, IsInput, TakesInput};
@@ -52,13 +52,14 @@ fn take_some<I: Source>(source: &mut I, buf: &mut [u8]) -> Result<usize, Failed>
     ensures front { IfOk result (λ n.
         Consumes (I.left source.old) (I.left source.new) (take n buf.new)) }
     ensures end { IfOk result (λ n. n ≡ 0 → IsAtEnd (I.left source.new)) }
+    ensures stays { OnErr result (I.left source.new ≡ I.left source.old) }
     ensures cause { HasCause (I.faults source.old) (I.faults source.new) result }
 {
     source.take(buf)
 }
 
-/// All bytes that a source has left, where they are at most 16,777,216. At one byte more it stops. The call comes after
-/// admission, so that a program that is refused takes no input.
+/// All bytes that a source has left, where they are at most 16,777,216. At one byte more it stops, and at the first take
+/// that fails. The call comes after admission, so that a program that is refused takes no input.
 pub fn take_input<I: Source>(alloc: Global, source: &mut I) -> Result<Seq<u8>, InputError>
     ensures input { IsInput (I.left source.old) result }
     ensures taken { TakesInput (I.left source.old) (I.left source.new) result }

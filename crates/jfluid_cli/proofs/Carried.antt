@@ -1,22 +1,22 @@
 -- What a call leaves before a refusal's line is put.
-use Rattle.std.proofs.Common.{◌≡◌, ℕ, ◌≤◌, Bool, true, false, List, [], length, Option, Some, None, refl, sym, ap, subst, ◌∙◌, inl, inr}
+use Rattle.std.proofs.Common.{◌≡◌, ℕ, ◌≤◌, Bool, true, false, List, [], length, Option, Some, None, refl, sym, ap, subst, ◌∙◌, inl, inr, arith}
 use Rattle.std.specs.Prelude.{Result, Ok, Err, is_some, IfSome, IsSome, IsSomeAnd, MatchResult}
-use Rattle.std.specs.Io.KnownBytes.{IsAtEnd}
+use Rattle.std.specs.Io.KnownBytes.{Consumes, IsAtEnd}
 use Rattle.std.specs.Option.{option_map_or, option_and_then}
 use Rattle.jf_bytes.specs.Streams.{PutsFront}
 use Rattle.plan_text.specs.declared.plan.Plan.{Plan}
 use Rattle.jvm_model.specs.declared.program.Program.{Program}
 use Rattle.jvm_model.specs.Run.{output_of}
 use Rattle.profile_session.specs.Sessions.{Profiling}
-use Rattle.command_line.specs.Input.{most_input}
+use Rattle.command_line.specs.Input.{TakesAtMost, most_input, most_taken}
 use Rattle.command_line.specs.Words.{Read}
 use Rattle.jfluid_cli.specs.declared.kept.Kept.{Kept}
 use Rattle.jfluid_cli.specs.declared.refusal.Refusal.{Refusal}
-use Rattle.jfluid_cli.specs.declared.refusal.Refusal.TheVariants.{NoMemory}
+use Rattle.jfluid_cli.specs.declared.refusal.Refusal.TheVariants.{Clap, Words, Plan as BadPlan, NotRead, NotAdmitted, InputFailed, OutFailed, PlanNotFetched, NotFetched, NoMemory, InputTooLong}
 use Rattle.jfluid_cli.specs.Calls.{Call, given_of, words_of, IsRun, IsRunAsked, IsTrueOf, IsRefused, PutsImages}
 use Rattle.jfluid_cli.specs.Asking.{asked_by}
 use Rattle.jfluid_cli.specs.Causes.{Given, AreContentsOf, OfProgram}
-use Rattle.jfluid_cli.specs.Sinks.{SourceView, Streams, IsUntold}
+use Rattle.jfluid_cli.specs.Sinks.{FilesView, SourceView, Streams, FailsOnce, IsUntold}
 use Rattle.jfluid_cli.specs.Contents.{SpellAlone, classes_for}
 use Rattle.jfluid_cli.specs.Stages.{IsEarly, IsInputRefusal, IsPrepared, HasFetchCause, is_early, IsStopped, IsSameRun, IsCarried}
 use Rattle.jfluid_cli.specs.Origins.{HasOrigin, IsOnlyProgram}
@@ -24,6 +24,7 @@ use Rattle.jfluid_cli.specs.Refusals.{status_of}
 use Rattle.jfluid_cli.specs.Runs.{PutsAtMost, RunsProgram, SameProgram, IsCarriedOut, output_at, world_on}
 use Rattle.jfluid_cli.specs.Top.{IsProgram}
 use Rattle.jfluid_cli.specs.Words.{Command, accepted, asks_images, budget_of, command_of, file_words, is_generated, plan_word}
+use Rattle.command_line.proofs.Rests.{rest-of-long, rest-untaken, rest-within}
 use Rattle.jfluid_cli.proofs.OneCommand.{commanded}
 
 not_both : false ≡ true → ⊥
@@ -33,13 +34,15 @@ not_both e = cc
 
 -- nothing is kept, so nothing has to be said of it
 pub nothing-made : (c : Call) → c.kept ≡ None → IsUntold c.streams.out c.streams.out_after
-    → IsUntold c.streams.images c.streams.images_after → IsTrueOf c
-nothing-made c none out images = record {
+    → IsUntold c.streams.images c.streams.images_after → TakesAtMost most_taken c.input.left c.input_after.left
+    → IsTrueOf c
+nothing-made c none out images rest = record {
   origin = subst (λ (o : Option Kept). IfSome o (HasOrigin (given_of c))) (sym none) tt;
   only = subst (λ (o : Option Kept). IfSome o IsOnlyProgram) (sym none) tt;
   front = subst (λ (o : Option Kept). IfSome o
       (λ k. PutsAtMost k.session.value (budget_of (words_of c) k.plan) c.streams.out.taken c.streams.out_after.taken))
       (sym none) tt;
+  rest = rest;
   ended = λ some. absurd (not_both (subst (λ (o : Option Kept). IsSome o) none some));
   nothing = λ _. out;
   images = subst (λ (o : Option Kept). IfSome o (λ k. PutsImages (asks_images (words_of c)) k.session.value c.streams))
@@ -54,6 +57,23 @@ other-early s n late early same = not_both (sym late ∙ (ap is_early (sym same)
 
 -- ---- before the input is taken
 
+-- a fetch failed exactly where the refusal says it
+pub fetches-of : (named : Option (List ℕ)) (files : List (List ℕ)) (old new : FilesView) (r : Refusal)
+    → HasFetchCause named files old new r → FailsOnce named files old new
+fetches-of named files old new PlanNotFetched cause =
+    inr (record { rose = cause.failed refl; name = inl (cause.plan_is refl) })
+fetches-of named files old new (NotFetched at) cause =
+    inr (record { rose = cause.failed refl; name = inr (at, cause.name_is at refl) })
+fetches-of named files old new (Clap text) cause = inl (cause.calm (λ seven. absurd cc))
+fetches-of named files old new Words cause = inl (cause.calm (λ seven. absurd cc))
+fetches-of named files old new (BadPlan fault) cause = inl (cause.calm (λ seven. absurd cc))
+fetches-of named files old new (NotRead at fault) cause = inl (cause.calm (λ seven. absurd cc))
+fetches-of named files old new (NotAdmitted fault) cause = inl (cause.calm (λ seven. absurd cc))
+fetches-of named files old new InputFailed cause = inl (cause.calm (λ seven. absurd cc))
+fetches-of named files old new OutFailed cause = inl (cause.calm (λ seven. absurd cc))
+fetches-of named files old new NoMemory cause = inl (cause.calm (λ seven. absurd cc))
+fetches-of named files old new InputTooLong cause = inl (cause.calm (λ seven. absurd cc))
+
 pub refused-early : (c : Call) (r : Refusal) → c.kept ≡ None → c.input_after ≡ c.input → IsEarly (given_of c) r
     → HasFetchCause (plan_word (words_of c)) (file_words (words_of c)) c.files c.files_after r
     → IsRefused c r
@@ -63,6 +83,8 @@ refused-early c r none input early fetch = record {
   made = λ six. absurd (other-early (status_of r) 6 refl early.early six);
   untaken = λ _. input;
   one_more = λ eleven. absurd (other-early (status_of r) 11 refl early.early eleven);
+  taken = λ five. absurd (other-early (status_of r) 5 refl early.early five);
+  fetches = fetches-of (plan_word (words_of c)) (file_words (words_of c)) c.files c.files_after r fetch;
   not_taken = λ five. absurd (other-early (status_of r) 5 refl early.early five);
   stopped = λ six. absurd (other-early (status_of r) 6 refl early.early six);
   unshown = λ six. absurd (other-early (status_of r) 6 refl early.early six);
@@ -79,7 +101,8 @@ pub carried-early : (c : Call) (r : Refusal) → c.kept ≡ None
     → HasFetchCause (plan_word (words_of c)) (file_words (words_of c)) c.files c.files_after r
     → IsCarried c (Err r)
 carried-early c r none out report images input early fetch = record {
-  always = nothing-made c none out images;
+  always = nothing-made c none out images (subst (λ (s : SourceView). TakesAtMost most_taken c.input.left s.left) (sym input)
+      (rest-untaken most_taken c.input.left));
   ran = tt;
   refused = refused-early c r none input early fetch;
   untold = report;
@@ -107,13 +130,16 @@ carried-refused c words r read none out report images input early fetch =
 
 -- ---- want of memory
 
-pub memory-refused : (c : Call) → IsRefused c NoMemory
-memory-refused c = record {
+pub memory-refused : (c : Call) → FailsOnce (plan_word (words_of c)) (file_words (words_of c)) c.files c.files_after
+    → IsRefused c NoMemory
+memory-refused c fetches = record {
   cause = tt;
   refused = λ early. absurd (not_both early);
   made = λ six. absurd cc;
   untaken = λ early. absurd (not_both early);
   one_more = λ eleven. absurd cc;
+  taken = λ five. absurd cc;
+  fetches = fetches;
   not_taken = λ five. absurd cc;
   stopped = λ six. absurd cc;
   unshown = λ six. absurd cc;
@@ -126,11 +152,11 @@ memory-refused c = record {
 
 pub carried-memory : (c : Call) → c.kept ≡ None → IsUntold c.streams.out c.streams.out_after
     → IsUntold c.streams.report c.streams.report_after → IsUntold c.streams.images c.streams.images_after
-    → IsCarried c (Err NoMemory)
-carried-memory c none out report images = record {
-  always = nothing-made c none out images;
+    → c.files_after ≡ c.files → TakesAtMost most_taken c.input.left c.input_after.left → IsCarried c (Err NoMemory)
+carried-memory c none out report images calm rest = record {
+  always = nothing-made c none out images rest;
   ran = tt;
-  refused = memory-refused c;
+  refused = memory-refused c (inl calm);
   untold = report;
 }
 
@@ -150,14 +176,26 @@ of-program g plan budget contents program is = record {
 not-one : (r s : Refusal) (n : ℕ) → r ≡ s → (status_of s ≡ n → ⊥) → status_of r ≡ n → ⊥
 not-one r s n is other same = other (sym (ap status_of is) ∙ same)
 
-refused-input : (c : Call) (r : Refusal) → c.kept ≡ None → c.files_after.faults ≡ c.files.faults
+-- an input within the limit was taken whole
+pub rest-of-input : (old new : Option (List ℕ)) (bytes : List ℕ) → length bytes ≤ most_input → Consumes old new bytes
+    → TakesAtMost most_taken old new
+rest-of-input old new bytes short taken = record { bytes = bytes; few = omega (arith, short); taken = taken }
+
+input-rest : (old new : SourceView) (r : Refusal) → IsInputRefusal old new r → TakesAtMost most_taken old.left new.left
+input-rest old new r (inl (failed, rose, takes)) = rest-within old.left new.left takes
+input-rest old new r (inr (inl (failed, long, more, same))) = rest-of-long old.left new.left more
+input-rest old new r (inr (inr (memory, same, takes))) = takes
+
+refused-input : (c : Call) (r : Refusal) → c.kept ≡ None → c.files_after ≡ c.files
     → OfProgram (given_of c) → IsInputRefusal c.input c.input_after r → IsRefused c r
-refused-input c r none calm of (inl (failed, rose)) = subst (IsRefused c) (sym failed) (record {
+refused-input c r none calm of (inl (failed, rose, takes)) = subst (IsRefused c) (sym failed) (record {
   cause = of;
   refused = λ _. none;
   made = λ six. absurd cc;
   untaken = λ early. absurd (not_both early);
   one_more = λ eleven. absurd cc;
+  taken = λ _. takes;
+  fetches = inl calm;
   not_taken = λ _. rose;
   stopped = λ six. absurd cc;
   unshown = λ six. absurd cc;
@@ -173,6 +211,8 @@ refused-input c r none calm of (inr (inl (failed, long, more, same))) = subst (I
   made = λ six. absurd cc;
   untaken = λ early. absurd (not_both early);
   one_more = λ _. more;
+  taken = λ five. absurd cc;
+  fetches = inl calm;
   not_taken = λ five. absurd cc;
   stopped = λ six. absurd cc;
   unshown = λ six. absurd cc;
@@ -182,15 +222,16 @@ refused-input c r none calm of (inr (inl (failed, long, more, same))) = subst (I
   calm = λ seven nine. calm;
   calm_input = λ five nine. same;
 })
-refused-input c r none calm of (inr (inr (memory, same))) = subst (IsRefused c) (sym memory) (memory-refused c)
+refused-input c r none calm of (inr (inr (memory, same, takes))) =
+    subst (IsRefused c) (sym memory) (memory-refused c (inl calm))
 
 pub carried-input : (c : Call) (r : Refusal) → c.kept ≡ None
     → IsUntold c.streams.out c.streams.out_after → IsUntold c.streams.report c.streams.report_after
     → IsUntold c.streams.images c.streams.images_after
-    → c.files_after.faults ≡ c.files.faults → OfProgram (given_of c)
+    → c.files_after ≡ c.files → OfProgram (given_of c)
     → IsInputRefusal c.input c.input_after r → IsCarried c (Err r)
 carried-input c r none out report images calm of why = record {
-  always = nothing-made c none out images;
+  always = nothing-made c none out images (input-rest c.input c.input_after r why);
   ran = tt;
   refused = refused-input c r none calm of why;
   untold = report;
@@ -215,6 +256,7 @@ pub record IsMade (c : Call) (budget : ℕ) (made : Kept) : Type 0 where
   pub runs : RunsProgram program made.input made.session.value
   pub input : IfSome (given_of c).left (λ all. made.input ≡ all)
   pub short : length made.input ≤ most_input
+  pub rest : TakesAtMost most_taken c.input.left c.input_after.left
   pub ended : IsAtEnd c.input_after.left
 
 -- the plan that is kept is the command's
@@ -280,6 +322,7 @@ made-true c budget made k is kept same front images unasked = record {
       (subst (PutsFront c.streams.out.taken c.streams.out_after.taken)
       (outputs-same made.session.value k.session.value budget (budget_of (words_of c) k.plan) same.program
       (budget-is c budget made k is same)) front);
+  rest = is.rest;
   ended = λ _. is.ended;
   nothing = λ none. absurd
       (let e : (let o : Option Kept = Some k in o ≡ None) = sym kept ∙ none in cc);
@@ -306,7 +349,7 @@ made-run c budget made k status is same ran =
 
 -- a run that stopped
 stopped-refused : (c : Call) (k : Kept) (r : Refusal) → OfProgram (given_of c) → c.kept ≡ Some k
-    → c.files_after.faults ≡ c.files.faults → c.input_after.faults ≡ c.input.faults
+    → c.files_after ≡ c.files → c.input_after.faults ≡ c.input.faults
     → IsStopped c.streams r → IsRefused c r
 stopped-refused c k r of kept calm calm_input stopped = elim stopped.why [
   | inl (failed, rose) ↦ subst (IsRefused c) (sym failed) (record {
@@ -315,6 +358,8 @@ stopped-refused c k r of kept calm calm_input stopped = elim stopped.why [
     made = λ _. subst (λ (o : Option Kept). IsSome o) (sym kept) refl;
     untaken = λ early. absurd (not_both early);
     one_more = λ eleven. absurd cc;
+    taken = λ five. absurd cc;
+    fetches = inl calm;
     not_taken = λ five. absurd cc;
     stopped = λ _. rose;
     unshown = λ _. stopped.unshown failed;
@@ -324,7 +369,7 @@ stopped-refused c k r of kept calm calm_input stopped = elim stopped.why [
     calm = λ seven nine. calm;
     calm_input = λ five nine. calm_input;
   })
-  | inr memory ↦ subst (IsRefused c) (sym memory) (memory-refused c)
+  | inr memory ↦ subst (IsRefused c) (sym memory) (memory-refused c (inl calm))
 ]
 
 -- the images of what is kept were put as far as they were
@@ -340,7 +385,7 @@ run-asked : (c : Call) (budget : ℕ) (made : Kept)
     → PutsAtMost made.session.value budget c.streams.out.taken c.streams.out_after.taken
     → IsSomeAnd c.kept (λ x. PutsImages (asks_images (words_of c)) x.session.value c.streams)
     → (asks_images (words_of c) ≡ false → IsUntold c.streams.images c.streams.images_after)
-    → c.files_after.faults ≡ c.files.faults → c.input_after.faults ≡ c.input.faults → IsCarried c r
+    → c.files_after ≡ c.files → c.input_after.faults ≡ c.input.faults → IsCarried c r
 run-asked c budget made (Ok status) is same ran front images unasked calm calm_input =
     let k = some-kept c.kept (IsSameRun made) same in
     let asked = asks_images (words_of c) in
@@ -387,7 +432,7 @@ pub carried-run : (c : Call) (summary : Bool) (budget : ℕ) (made : Kept) (r : 
     → PutsAtMost made.session.value budget c.streams.out.taken c.streams.out_after.taken
     → IsSomeAnd c.kept (λ x. PutsImages words.images x.session.value c.streams)
     → (words.images ≡ false → IsUntold c.streams.images c.streams.images_after)
-    → c.files_after.faults ≡ c.files.faults → c.input_after.faults ≡ c.input.faults → IsCarried c r
+    → c.files_after ≡ c.files → c.input_after.faults ≡ c.input.faults → IsCarried c r
 carried-run c summary budget made r words read sums is same ran front images unasked =
     let said : words.images ≡ asks_images (words_of c) = sym (images-said (words_of c) words read) in
     let sums_said : summary ≡ is_generated (words_of c) = sums ∙ sym (generation-said (words_of c) words read) in

@@ -216,7 +216,7 @@ loaded told k fronts deref program own fronts_are is fits alone =
 
 -- nothing was fetched, or all was
 pub no-fault : (named : Option (List ℕ)) (words : List (List ℕ)) (old new : FilesView) (r s : Refusal)
-    → new.faults ≡ old.faults → r ≡ s → (status_of s ≡ 7 → ⊥) → HasFetchCause named words old new r
+    → new ≡ old → r ≡ s → (status_of s ≡ 7 → ⊥) → HasFetchCause named words old new r
 no-fault named words old new r s same is other = record {
   failed = λ seven. absurd (other (sym (ap status_of is) ∙ seven));
   plan_is = λ failed. absurd (other (sym (ap status_of is) ∙ ap status_of failed));
@@ -226,9 +226,9 @@ no-fault named words old new r s same is other = record {
 
 -- it failed behind fetches that did not
 pub later-fault : (named : Option (List ℕ)) (words : List (List ℕ)) (old mid new : FilesView) (r : Refusal)
-    → mid.faults ≡ old.faults → HasFetchCause named words mid new r → HasFetchCause named words old new r
+    → mid ≡ old → HasFetchCause named words mid new r → HasFetchCause named words old new r
 later-fault named words old mid new r calm cause = record {
-  failed = λ seven. subst (λ (n : ℕ). Rose n new.faults) calm (cause.failed seven);
+  failed = λ seven. subst (λ (f : FilesView). Rose f.faults new.faults) calm (cause.failed seven);
   plan_is = cause.plan_is;
   name_is = cause.name_is;
   calm = λ other. cause.calm other ∙ calm;
@@ -242,10 +242,10 @@ not-plan at e = cc e
 
 -- a fetch failed where none had
 pub one-fault : (named : Option (List ℕ)) (words : List (List ℕ)) (at : ℕ) (word : List ℕ)
-    (old mid new : FilesView) (r : Refusal) → slice_get words at ≡ Some word → mid.faults ≡ old.faults
+    (old mid new : FilesView) (r : Refusal) → slice_get words at ≡ Some word → mid ≡ old
     → IsFetchFault word (NotFetched at) mid new r → HasFetchCause named words old new r
 one-fault named words at word old mid new r there calm (inl (failed, rose, last)) = record {
-  failed = λ _. subst (λ (n : ℕ). Rose n new.faults) calm rose;
+  failed = λ _. subst (λ (f : FilesView). Rose f.faults new.faults) calm rose;
   plan_is = λ is. absurd (not-plan at (sym failed ∙ is));
   name_is = λ k is.
       (let same : at ≡ k = same-place at k (sym failed ∙ is) in

@@ -335,6 +335,8 @@ answered-told c after r told status said unheard carried was is named puts =
       made = carried.refused.made;
       untaken = carried.refused.untaken;
       one_more = carried.refused.one_more;
+      taken = carried.refused.taken;
+      fetches = carried.refused.fetches;
       not_taken = carried.refused.not_taken;
       stopped = carried.refused.stopped;
       unshown = carried.refused.unshown;
@@ -348,6 +350,7 @@ answered-told c after r told status said unheard carried was is named puts =
     (record {
       origin = carried.always.origin;
       only = carried.always.only;
+      rest = carried.always.rest;
       front = carried.always.front;
       ended = carried.always.ended;
       nothing = carried.always.nothing;
@@ -358,7 +361,7 @@ answered-told c after r told status said unheard carried was is named puts =
     })
     (elim was [
       | inl same ↦ subst (IsRefused d) (sym same) first
-      | inr memory ↦ subst (IsRefused d) (sym memory) (memory-refused d)
+      | inr memory ↦ subst (IsRefused d) (sym memory) (memory-refused d carried.refused.fetches)
     ])
     (put-line c.streams.report c.streams.report_after after said
     (refusal_line told (plan_word (words_of c)) (file_words (words_of c))) carried.untold named puts)

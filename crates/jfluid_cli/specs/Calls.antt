@@ -3,7 +3,7 @@ use Rattle.std.specs.Prelude.{◌≡◌, ◌≢◌, ℕ, ◌⊎◌, Bool, true, 
 use Rattle.jf_bytes.specs.declared.error.NoMemory.{NoMemory}
 use Rattle.std.specs.Io.KnownBytes.{IsAtEnd}
 use Rattle.jf_bytes.specs.Streams.{Told, PutsAll, PutsFront, Rose}
-use Rattle.command_line.specs.Input.{TakesOneMore}
+use Rattle.command_line.specs.Input.{TakesAtMost, TakesOneMore, most_input, most_taken}
 use Rattle.jvm_model.specs.declared.program.Program.{Program}
 use Rattle.jvm_model.specs.Run.{ending_of}
 use Rattle.profile_session.specs.Sessions.{Profiling}
@@ -16,7 +16,7 @@ use Rattle.jfluid_cli.specs.Images.{IsImaged, IsUnimaged, images_of}
 use Rattle.jfluid_cli.specs.Origins.{HasOrigin, IsOnlyProgram}
 use Rattle.jfluid_cli.specs.Refusals.{status_of, refusal_line}
 use Rattle.jfluid_cli.specs.Runs.{IsCarriedOut, PutsAtMost, ending_at, world_on}
-use Rattle.jfluid_cli.specs.Sinks.{SinkView, SourceView, FilesView, Streams, IsUntold, PutsOrRose}
+use Rattle.jfluid_cli.specs.Sinks.{SinkView, SourceView, FilesView, Streams, FailsOnce, IsUntold, PutsOrRose}
 use Rattle.jfluid_cli.specs.Top.{IsCalm, is_run, is_refused, is_unadmitted, is_status, report_of, status_of_ending}
 use Rattle.jfluid_cli.specs.Words.{accepted, asks_images, budget_of, file_words, is_generated, plan_word, words_in}
 
@@ -52,6 +52,8 @@ pub record IsTrueOf (c : Call) : Type 0 where
   pub only : IfSome c.kept IsOnlyProgram
   -- the input was taken to its end
   pub ended : IsSome c.kept → IsAtEnd c.input_after.left
+  -- with any status the source gave bytes from its front alone, at most one more than the limit
+  pub rest : TakesAtMost most_taken c.input.left c.input_after.left
   -- a front of the output at the budget was put, and nothing where nothing was made
   pub front :
       let s = c.streams in
@@ -98,7 +100,7 @@ IsRunAsked words s status k =
 -- The run of the words, with nothing else failed.
 pub record IsRunOf (c : Call) (status : ℕ) : Type 0 where
   pub made : IsSomeAnd c.kept (IsRunAsked (words_of c) c.streams status)
-  pub calm : c.files_after.faults ≡ c.files.faults
+  pub calm : c.files_after ≡ c.files
   pub calm_input : c.input_after.faults ≡ c.input.faults
 
 -- ---- a refusal
@@ -113,8 +115,13 @@ pub record IsRefused (c : Call) (r : Refusal) : Type 0 where
   pub untaken : is_unadmitted (status_of r) ≡ true → c.input_after ≡ c.input
   -- one byte more than the limit was taken of an input that is too long
   pub one_more : status_of r ≡ 11 → TakesOneMore c.input.left c.input_after.left
+  -- no more than the limit was taken before a take that failed
+  pub taken : status_of r ≡ 5 → TakesAtMost most_input c.input.left c.input_after.left
   -- a fault's count rose, and the last failed name is that of the plan's or of the class's file;
-  -- with any other status but 9 no fetch and no take failed
+  -- with any other status but 9 no fetch failed, so that the last failed name is as before, and no
+  -- take; with 9 too the last failed name is as before, or that of such a file
+  pub fetches :
+      FailsOnce (plan_word (words_of c)) (file_words (words_of c)) c.files c.files_after
   pub not_taken : status_of r ≡ 5 → Rose c.input.faults c.input_after.faults
   pub stopped : status_of r ≡ 6 → Rose c.streams.out.faults c.streams.out_after.faults
   -- no image is put behind an output that failed
@@ -124,7 +131,7 @@ pub record IsRefused (c : Call) (r : Refusal) : Type 0 where
   pub name :
       (at : ℕ) → r ≡ NotFetched at →
       slice_get (file_words (words_of c)) at ≡ Some c.files_after.last_failed
-  pub calm : status_of r ≢ 7 → status_of r ≢ 9 → c.files_after.faults ≡ c.files.faults
+  pub calm : status_of r ≢ 7 → status_of r ≢ 9 → c.files_after ≡ c.files
   pub calm_input : status_of r ≢ 5 → status_of r ≢ 9 → c.input_after.faults ≡ c.input.faults
 
 -- its line was put, or a front of it where the report's count of faults rose

@@ -1,5 +1,5 @@
 -- What clauses see of a call's sinks, source and files, before and after.
-use Rattle.std.specs.Prelude.{◌≡◌, ℕ, ◌⊎◌, List, Option}
+use Rattle.std.specs.Prelude.{◌≡◌, ℕ, ◌⊎◌, List, Option, Some, slice_get}
 use Rattle.jf_bytes.specs.Streams.{PutsAll, PutsFront, Rose}
 
 -- ---- a sink
@@ -50,3 +50,18 @@ pub record FilesView : Type 0 where
 
 abbrev pub files_view : ℕ → List ℕ → FilesView
 files_view n name = record { faults = n; last_failed = name }
+
+-- the plan's file has this name, or one of the class files
+abbrev pub NamesFile : Option (List ℕ) → List (List ℕ) → List ℕ → Type 0
+NamesFile plan files name = (plan ≡ Some name) ⊎ ((at : ℕ) × (slice_get files at ≡ Some name))
+
+-- A fetch failed: the count of faults rose, and the last failed name is that of the plan's file or of
+-- a class file.
+pub record HasFailed (plan : Option (List ℕ)) (files : List (List ℕ)) (old new : FilesView) : Type 0
+  where
+    pub rose : Rose old.faults new.faults
+    pub name : NamesFile plan files new.last_failed
+
+-- no fetch failed, so that the files tell of the same fault as before, or one did
+abbrev pub FailsOnce : Option (List ℕ) → List (List ℕ) → FilesView → FilesView → Type 0
+FailsOnce plan files old new = (new ≡ old) ⊎ HasFailed plan files old new

@@ -9,7 +9,7 @@ use Rattle.class_reader.specs.declared.error.ReadError.{ReadError}
 use Rattle.jvm_model.specs.declared.program.Program.{Program}
 use Rattle.plan_text.specs.Lines.{IsPlanRead}
 use Rattle.command_line.specs.Chosen.{IsOwnPlan}
-use Rattle.command_line.specs.Input.{TakesOneMore}
+use Rattle.command_line.specs.Input.{TakesAtMost, TakesOneMore, most_input, most_taken}
 use Rattle.command_line.specs.Words.{Read}
 use Rattle.jfluid_cli.specs.declared.kept.Kept.{Kept}
 use Rattle.jfluid_cli.specs.declared.refusal.Refusal.{Refusal}
@@ -96,19 +96,20 @@ pub record IsPrepared (g : Given) (plan : Plan) (budget : ℕ) (contents : List 
   pub budget_is : budget ≡ command.budget
   pub loaded : IsLoaded g.told command contents program
 
--- A fetch fails only where the count rose, and the last failed name is then that of the file.
+-- A fetch fails only where the count rose, and the last failed name is then that of the file; what
+-- the files tell of faults is as before, where it is no fetch that failed.
 pub record HasFetchCause (named : Option (List ℕ)) (files : List (List ℕ)) (old new : FilesView)
     (r : Refusal) : Type 0 where
   pub failed : status_of r ≡ 7 → Rose old.faults new.faults
   pub plan_is : r ≡ PlanNotFetched → named ≡ Some new.last_failed
   pub name_is : (at : ℕ) → r ≡ NotFetched at → slice_get files at ≡ Some new.last_failed
-  pub calm : status_of r ≢ 7 → new.faults ≡ old.faults
+  pub calm : status_of r ≢ 7 → new ≡ old
 
 -- a fetch of one file is refused so where the count rose, and leaves its name, or memory ran out
 abbrev pub IsFetchFault : List ℕ → Refusal → FilesView → FilesView → Refusal → Type 0
 IsFetchFault word failed old new r =
     ((r ≡ failed) × Rose old.faults new.faults × (new.last_failed ≡ word))
-    ⊎ ((r ≡ NoMemory) × (new.faults ≡ old.faults))
+    ⊎ ((r ≡ NoMemory) × (new ≡ old))
 
 -- A fetch of the files failed: of the one at this position, behind the fronts of those before it.
 pub record IsUnfetched (told : Option Told) (files : List (List ℕ)) (at : ℕ) : Type 0 where
@@ -137,10 +138,10 @@ IsReadRefusal contents r =
 -- why the input is not there: a take failed, there is too much, or memory ran out
 abbrev pub IsInputRefusal : SourceView → SourceView → Refusal → Type 0
 IsInputRefusal old new r =
-    ((r ≡ InputFailed) × Rose old.faults new.faults)
+    ((r ≡ InputFailed) × Rose old.faults new.faults × TakesAtMost most_input old.left new.left)
     ⊎ (((r ≡ InputTooLong)
     × IsLong old.left × TakesOneMore old.left new.left × (new.faults ≡ old.faults))
-    ⊎ ((r ≡ NoMemory) × (new.faults ≡ old.faults)))
+    ⊎ ((r ≡ NoMemory) × (new.faults ≡ old.faults) × TakesAtMost most_taken old.left new.left))
 
 -- ---- behind a session
 

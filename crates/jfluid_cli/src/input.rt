@@ -1,7 +1,7 @@
 //! The input of a run.
 
 ghost use Rattle.std.specs.Prelude.{◌≡◌, ◌≤◌, length, IfOk, IfErr, IfSome, IsOk};
-ghost use Rattle.std.specs.Io.KnownBytes.{IsAtEnd};
+ghost use Rattle.std.specs.Io.KnownBytes.{Consumes, IsAtEnd};
 ghost use Rattle.command_line.specs.Input.{most_input};
 ghost use Rattle.jfluid_cli.specs.Sinks.{source_view};
 ghost use Rattle.jfluid_cli.specs.Stages.{IsInputRefusal};
@@ -16,6 +16,7 @@ pub fn take<I: Source>(alloc: Global, input: &mut I) -> Result<Seq<u8>, Refusal>
     ensures all { IfOk result (λ bytes. IfSome (I.left input.old) (λ all. bytes ≡ all)) }
     ensures short { IfOk result (λ bytes. length bytes ≤ most_input) }
     ensures calm { IsOk result → I.faults input.new ≡ I.faults input.old }
+    ensures taken { IfOk result (Consumes (I.left input.old) (I.left input.new)) }
     ensures ended { IsOk result → IsAtEnd (I.left input.new) }
     ensures refused { IfErr result (IsInputRefusal
         (source_view (I.left input.old) (I.faults input.old))

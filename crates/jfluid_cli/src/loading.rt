@@ -129,7 +129,9 @@ fn read_program(
 fn fetch<F: Files>(alloc: Global, at: u32, name: &str, files: &mut F) -> Result<Seq<u8>, Refusal>
     ensures found { IfOk result (IsFrontFor (F.contents files.old) name.now) }
     ensures stay { F.contents files.new ≡ F.contents files.old }
-    ensures calm { IsOk result → F.faults files.new ≡ F.faults files.old }
+    ensures calm { let old = files_view (F.faults files.old) (F.last_failed files.old) in
+        let new = files_view (F.faults files.new) (F.last_failed files.new) in
+        IsOk result → new ≡ old }
     ensures failed { let old = files_view (F.faults files.old) (F.last_failed files.old) in
         let new = files_view (F.faults files.new) (F.last_failed files.new) in
         IfErr result (IsFetchFault name.now (Refusal.NotFetched at) old new) }
@@ -155,7 +157,9 @@ fn fetch_all<F: Files>(
         (named : Option (List ℕ)) →
         IfErr result (HasFetchCause named (texts names.now) old new) }
     ensures stay { F.contents files.new ≡ F.contents files.old }
-    ensures calm { IsOk result → F.faults files.new ≡ F.faults files.old }
+    ensures calm { let old = files_view (F.faults files.old) (F.last_failed files.old) in
+        let new = files_view (F.faults files.new) (F.last_failed files.new) in
+        IsOk result → new ≡ old }
 {
     let mut all = Seq::new(alloc);
     for at in 0..names.len() {
@@ -210,7 +214,9 @@ fn load_files<F: Files>(
     ensures early { (g : Given) → AreReadWith g (read_in words.now) plan.now →
         g.told ≡ F.contents files.old → IfErr result (IsEarly g) }
     ensures stay { F.contents files.new ≡ F.contents files.old }
-    ensures calm { IsOk result → F.faults files.new ≡ F.faults files.old }
+    ensures calm { let old = files_view (F.faults files.old) (F.last_failed files.old) in
+        let new = files_view (F.faults files.new) (F.last_failed files.new) in
+        IsOk result → new ≡ old }
     ensures cause { let old = files_view (F.faults files.old) (F.last_failed files.old) in
         let new = files_view (F.faults files.new) (F.last_failed files.new) in
         let r = read_in words.now in
@@ -285,7 +291,9 @@ fn load<F: Files>(
     ensures early { (g : Given) → AreReadWith g (read_in words.now) plan.now →
         g.told ≡ F.contents files.old → IfErr result (IsEarly g) }
     ensures stay { F.contents files.new ≡ F.contents files.old }
-    ensures calm { IsOk result → F.faults files.new ≡ F.faults files.old }
+    ensures calm { let old = files_view (F.faults files.old) (F.last_failed files.old) in
+        let new = files_view (F.faults files.new) (F.last_failed files.new) in
+        IsOk result → new ≡ old }
     ensures cause { let old = files_view (F.faults files.old) (F.last_failed files.old) in
         let new = files_view (F.faults files.new) (F.last_failed files.new) in
         let r = read_in words.now in
@@ -309,7 +317,9 @@ pub fn prepare<F: Files>(alloc: Global, words: &Words<'_>, files: &mut F) -> Res
     ensures early { (g : Given) → accepted g.words ≡ Some (read_in words.now) →
         g.told ≡ F.contents files.old → IfErr result (IsEarly g) }
     ensures stay { F.contents files.new ≡ F.contents files.old }
-    ensures calm { IsOk result → F.faults files.new ≡ F.faults files.old }
+    ensures calm { let old = files_view (F.faults files.old) (F.last_failed files.old) in
+        let new = files_view (F.faults files.new) (F.last_failed files.new) in
+        IsOk result → new ≡ old }
     ensures cause { let old = files_view (F.faults files.old) (F.last_failed files.old) in
         let new = files_view (F.faults files.new) (F.last_failed files.new) in
         let r = read_in words.now in

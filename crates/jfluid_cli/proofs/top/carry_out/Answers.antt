@@ -8,7 +8,7 @@ use Rattle.jfluid_cli.specs.Actions.{CanBeTaken}
 use Rattle.jfluid_cli.specs.Causes.{Given}
 use Rattle.jfluid_cli.specs.Runs.{RunsProgram}
 use Rattle.jfluid_cli.specs.Stages.{IsPrepared}
-use Rattle.jfluid_cli.proofs.Carried.{carried-refused, carried-input, carried-memory, carried-run, of-program}
+use Rattle.jfluid_cli.proofs.Carried.{carried-refused, carried-input, carried-memory, carried-run, of-program, rest-of-input}
 use Rattle.jfluid_cli.proofs.top.carry_out.Goals as goal
 
 pub returns-in-Err-clause-carried : goal.returns-in-Err-clause-carried
@@ -29,7 +29,8 @@ returns-in-Err-take-clause-carried g c =
 pub returns-in_default-clause-carried : goal.returns-in_default-clause-carried
 returns-in_default-clause-carried g c = λ list read. carried-memory _ c.requires.empty
     (record { taken = refl; faults = refl }) (record { taken = refl; faults = refl })
-    (record { taken = refl; faults = refl })
+    (record { taken = refl; faults = refl }) (c.in-Ok.ensures.calm refl)
+    (rest-of-input _ _ c.in-Ok-take.bytes c.in-Ok-take.ensures.short c.in-Ok-take.ensures.taken)
 
 pub run_made-requires-clause-acts : goal.run_made-requires-clause-acts
 run_made-requires-clause-acts g c =
@@ -58,6 +59,7 @@ returns-clause-carried g c =
           (sym c.in-Ok-make.ensures.input) c.in-Ok-take.ensures.all;
       short = subst (λ (bytes : List ℕ). length bytes ≤ most_input)
           (sym c.in-Ok-make.ensures.input) c.in-Ok-take.ensures.short;
+      rest = rest-of-input _ _ c.in-Ok-take.bytes c.in-Ok-take.ensures.short c.in-Ok-take.ensures.taken;
       ended = c.in-Ok-take.ensures.ended refl;
     })
     c.run_made.ensures.same c.run_made.ensures.run c.run_made.ensures.front c.run_made.ensures.images
