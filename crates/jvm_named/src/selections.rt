@@ -70,10 +70,7 @@ fn is_for(s: &Selection, kind: u32, interface: bool, method: Place, last: u32) -
     ensures kind { result ≡ true → s.now.kind ≡ kind }
     ensures interface { result ≡ true → s.now.interface ≡ interface }
 {
-    s.site.last == last
-        && s.site.method == method
-        && s.kind == kind
-        && s.interface == interface
+    s.site.last == last && s.site.method == method && s.kind == kind && s.interface == interface
 }
 
 /// What a slot has that was selected for this.
