@@ -9,7 +9,7 @@ use Rattle.plan_text.specs.declared.plan.Plan.{Plan}
 use Rattle.admit_check.specs.declared.error.AdmitError.{AdmitError}
 use Rattle.admit_check.specs.declared.error.AdmitError.TheVariants.{TooManyMethods}
 use Rattle.admit_check.specs.Checks.{fault_if}
-use Rattle.jvm_model.specs.SoundPrograms.{main_in}
+use Rattle.jvm_model.specs.Soundness.SoundPrograms.{main_in}
 use Rattle.admit_check.specs.Admission.{acts_from, admission, classes_fault, completed, count_fault, program_with, unless_fault, with_acts, with_main}
 
 -- behind the last class

@@ -8,7 +8,7 @@ use Rattle.std.proofs.lemmas.List.{length-append}
 use Rattle.const_pool.specs.declared.descriptor.Kind.{Kind}
 use Rattle.const_pool.specs.declared.descriptor.Kind.TheVariants as kind
 use Rattle.const_pool.specs.Descriptors.{IsBase, IsField, IsName, dimensions_text}
-use Rattle.jvm_model.specs.Kinds.{Element, Named, array_from, array_of, before_semicolon, element_of, is_array_name, meaning_of}
+use Rattle.jvm_model.specs.Classes.Kinds.{Element, Named, array_from, array_of, before_semicolon, element_of, is_array_name, meaning_of}
 use Rattle.admit_check.specs.Texts.{dimensions_of, field_kind, is_class_name, is_field_text}
 use Rattle.admit_check.specs.Texts as texts
 use Rattle.admit_check.proofs.Grammar.{field_kind_found}

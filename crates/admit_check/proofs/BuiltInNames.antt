@@ -11,8 +11,8 @@ use Rattle.base_classes.specs.Declarations.{ClassDeclaration}
 use Rattle.base_classes.specs.Shown.{class_at, declaration_of}
 use Rattle.base_classes.proofs.Computed.{all_declared}
 use Rattle.base_classes.proofs.NameLemmas.{names_are}
-use Rattle.jvm_model.specs.Descriptors.{same_text}
-use Rattle.jvm_model.specs.Programs.{name_of, has_built_in_name}
+use Rattle.jvm_model.specs.Basis.Descriptors.{same_text}
+use Rattle.jvm_model.specs.Basis.Programs.{name_of, has_built_in_name}
 
 abbrev is_taken : List ℕ → Bool
 is_taken name = list_any (same_text name) built_in_names

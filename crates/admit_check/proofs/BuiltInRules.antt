@@ -9,7 +9,7 @@ use Rattle.const_pool.specs.declared.class.ClassFile.{ClassFile}
 use Rattle.op_table.specs.Opcodes.{row_of, groups}
 use Rattle.code_model.specs.Instructions.{instruction_at}
 use Rattle.code_model.specs.Reading.{read_instruction, behind_opcode_at, operand_at, value_at, index_at, signed_at, number_at, run_at, target_at, many_at, local_at, branch_at}
-use Rattle.jvm_model.specs.Programs.{has_name}
+use Rattle.jvm_model.specs.Basis.Programs.{has_name}
 use Rattle.base_classes.specs.BuiltInClasses.{built_in_classes}
 use Rattle.base_classes.specs.BuiltInFiles.{built_in_files}
 use Rattle.base_classes.specs.ObjectClasses.{object_classes}

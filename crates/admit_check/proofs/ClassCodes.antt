@@ -13,7 +13,7 @@ use Rattle.code_model.specs.declared.error.CodeError.{CodeError}
 use Rattle.code_model.specs.declared.instr.Instr.{Instr}
 use Rattle.code_model.specs.Instructions.{instruction_at}
 use Rattle.code_model.proofs.Readings.{Reads-each}
-use Rattle.jvm_model.specs.Methods.{code_of, method_code}
+use Rattle.jvm_model.specs.Basis.Methods.{code_of, method_code}
 use Rattle.inject_events.specs.Answers.{IsProfilable, IsReadableClass}
 use Rattle.admit_check.specs.declared.error.AdmitError.{AdmitError}
 use Rattle.base_classes.specs.BuiltInFiles.{built_in_files}
@@ -33,9 +33,9 @@ use Rattle.admit_check.specs.declared.error.CodeCause.{CodeCause}
 use Rattle.admit_check.specs.declared.error.CodeCause.TheVariants as cause
 use Rattle.admit_check.proofs.Decoded.{reading_is_read}
 use Rattle.admit_check.proofs.Readable.{IsReadableClass-read}
-use Rattle.jvm_model.specs.SoundPrograms.{HaveOperations}
-use Rattle.jvm_model.specs.Whole.{HasSoundCode, instrs_of}
-use Rattle.jvm_model.proofs.PoolTexts.{have-texts, named-there}
+use Rattle.jvm_model.specs.Soundness.SoundPrograms.{HaveOperations}
+use Rattle.jvm_model.specs.Soundness.Whole.{HasSoundCode, instrs_of}
+use Rattle.jvm_model.proofs.Soundness.PoolTexts.{have-texts, named-there}
 use Rattle.admit_check.proofs.Operations.{operation-there}
 use Rattle.admit_check.proofs.ReadCodes.{code-read}
 use Rattle.admit_check.proofs.CodeStarts.{code-sound, first-none, fits-of, mapped-none, read-as, rest-none}

@@ -7,7 +7,7 @@ use Rattle.const_pool.specs.declared.class.Member.{Member}
 use Rattle.const_pool.specs.declared.class.Attribute.{Attribute}
 use Rattle.const_pool.specs.declared.class.Attribute.TheVariants.{ConstantValue, Code, Other}
 use Rattle.const_pool.specs.ClassFile.{IsMember, IsMethodAttribute}
-use Rattle.jvm_model.specs.Methods.{code_among, code_of}
+use Rattle.jvm_model.specs.Basis.Methods.{code_among, code_of}
 use Rattle.admit_check.specs.Codes.{HasCodeLength}
 
 length_among : (pool : List Const) (attributes : List Attribute) → AllByRecursion (IsMethodAttribute pool) attributes → IfSome (code_among attributes) HasCodeLength

@@ -18,13 +18,13 @@ use Rattle.code_model.specs.Groups as groups
 use Rattle.code_model.specs.Instructions.{Reads, end_of}
 use Rattle.code_model.proofs.Lengths.{size_at-some}
 use Rattle.code_model.proofs.Readings.{at-instruction_at, instruction_at-past, instruction_at_within}
-use Rattle.jvm_model.specs.Lines.{targets_of}
-use Rattle.jvm_model.specs.Places.{is_start_in, read_from}
+use Rattle.jvm_model.specs.Codes.Lines.{targets_of}
+use Rattle.jvm_model.specs.Codes.Places.{is_start_in, read_from}
 use Rattle.admit_check.specs.Checks.{fault_if, first_in}
 use Rattle.admit_check.specs.Codes.{Method, cause_of, code_fault, fault_by, fits_handler, handler_fault, instr_fault, method_with, read_fault}
 use Rattle.admit_check.specs.Uses.{fits_targets, is_start}
 use Rattle.admit_check.proofs.Decoded.{reading_found}
-use Rattle.jvm_model.specs.Whole.{FitsHandler, HasSoundCode, instrs_of, is_stop}
+use Rattle.jvm_model.specs.Soundness.Whole.{FitsHandler, HasSoundCode, instrs_of, is_stop}
 use Rattle.admit_check.proofs.ReadCodes.{code-read}
 
 -- ---- the first of several

@@ -6,7 +6,7 @@ use Rattle.std.proofs.lemmas.Option.{same_Some, none-some}
 use Rattle.const_pool.specs.declared.class.CodeAttribute.{CodeAttribute}
 use Rattle.const_pool.specs.declared.class.Member.{Member}
 use Rattle.code_model.specs.declared.instr.Code.{Code}
-use Rattle.jvm_model.specs.Methods.{code_of}
+use Rattle.jvm_model.specs.Basis.Methods.{code_of}
 use Rattle.admit_check.specs.Codes.{instructions_of, reading_of, read_as, IsRead, AreRead}
 
 heads : {A : Type 0} (x y : A) (xs ys : List A) → x ∷ xs ≡ y ∷ ys → x ≡ y

@@ -6,7 +6,7 @@ use Rattle.jvm_model.specs.declared.program.Program.{Program}
 use Rattle.plan_text.specs.declared.plan.Plan.{Plan}
 use Rattle.admit_check.specs.declared.error.AdmitError.TheVariants.{TooManyMethods}
 use Rattle.admit_check.specs.Checks.{fault_if}
-use Rattle.jvm_model.specs.SoundPrograms.{main_in}
+use Rattle.jvm_model.specs.Soundness.SoundPrograms.{main_in}
 use Rattle.admit_check.specs.Admission.{acts_from, completed, unless_fault, with_acts, with_main}
 
 pub completes : (p : Program) (given : ℕ) (name : List ℕ) (plan : Plan) (main : ℕ) (acts : List Act) (whole : Program) → nat_lt 32768 (length p.methods) ≡ false

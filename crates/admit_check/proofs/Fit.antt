@@ -13,16 +13,16 @@ use Rattle.const_pool.specs.References.{named_class}
 use Rattle.base_classes.specs.BuiltInFiles.{built_in_files}
 use Rattle.jvm_model.specs.declared.program.MethodPlace.{MethodPlace}
 use Rattle.jvm_model.specs.declared.program.Program.{Program}
-use Rattle.jvm_model.specs.Descriptors.{same_text}
-use Rattle.jvm_model.specs.KindNumbers.{user_count}
-use Rattle.jvm_model.specs.Load.{Need, is_among, need}
-use Rattle.jvm_model.specs.Lookup.{interface_names, interfaces_of, superclass_of}
-use Rattle.jvm_model.specs.Programs.{class_at, class_named, has_built_in_name, has_name, name_at, name_of, number_from, number_of_method, same_place}
-use Rattle.jvm_model.specs.Run.{main_class}
-use Rattle.jvm_model.specs.SharedState.{built_in_from, shared_before}
-use Rattle.jvm_model.specs.Sound.{HasBuiltIn, HasPlainName, IsBuiltIn, IsFit, IsLoaded}
+use Rattle.jvm_model.specs.Basis.Descriptors.{same_text}
+use Rattle.jvm_model.specs.Basis.KindNumbers.{user_count}
+use Rattle.jvm_model.specs.Classes.Load.{Need, is_among, need}
+use Rattle.jvm_model.specs.Classes.Lookup.{interface_names, interfaces_of, superclass_of}
+use Rattle.jvm_model.specs.Basis.Programs.{class_at, class_named, has_built_in_name, has_name, name_at, name_of, number_from, number_of_method, same_place}
+use Rattle.jvm_model.specs.Running.Run.{main_class}
+use Rattle.jvm_model.specs.Basis.SharedState.{built_in_from, shared_before}
+use Rattle.jvm_model.specs.Soundness.Sound.{HasBuiltIn, HasPlainName, IsBuiltIn, IsFit, IsLoaded}
 use Rattle.admit_check.specs.Admission.{classes_fault}
-use Rattle.jvm_model.specs.SoundPrograms.{declared_main, main_in, main_of_class}
+use Rattle.jvm_model.specs.Soundness.SoundPrograms.{declared_main, main_in, main_of_class}
 use Rattle.admit_check.proofs.BuiltInNames.{files-built_in}
 use Rattle.admit_check.proofs.FitNames.{IsOwnClass, own-classes, own-place}
 use Rattle.admit_check.proofs.FitPlaces.{files-ordered, is_before}

@@ -11,11 +11,11 @@ use Rattle.std.proofs.lemmas.Slice.Eq.{bytes_eq-Decides}
 use Rattle.const_pool.specs.declared.class.ClassFile.{ClassFile}
 use Rattle.const_pool.specs.BuiltIn.{built_in_names}
 use Rattle.jvm_model.specs.declared.program.Program.{Program}
-use Rattle.jvm_model.specs.Descriptors.{same_text}
-use Rattle.jvm_model.specs.Kinds.{is_array_name}
-use Rattle.jvm_model.specs.Load.{Need, class_needs}
-use Rattle.jvm_model.specs.Programs.{class_at, class_named, has_built_in_name, has_name, name_of, no_class}
-use Rattle.jvm_model.specs.SharedState.{built_in_from}
+use Rattle.jvm_model.specs.Basis.Descriptors.{same_text}
+use Rattle.jvm_model.specs.Classes.Kinds.{is_array_name}
+use Rattle.jvm_model.specs.Classes.Load.{Need, class_needs}
+use Rattle.jvm_model.specs.Basis.Programs.{class_at, class_named, has_built_in_name, has_name, name_of, no_class}
+use Rattle.jvm_model.specs.Basis.SharedState.{built_in_from}
 use Rattle.admit_check.proofs.FitNames.{IsOwnClass}
 use Rattle.admit_check.proofs.FitPlaces.{AreOrdered, is_as_needed, is_before, is_first_at, is_named_at, stand_from, stands_at}
 use Rattle.admit_check.proofs.Positions.{position-behind}

@@ -7,9 +7,9 @@ use Rattle.std.proofs.lemmas.Option.{same_Some, none-some}
 use Rattle.std.proofs.lemmas.Slice.Eq.{bytes_eq-Decides}
 use Rattle.const_pool.specs.declared.class.ClassFile.{ClassFile}
 use Rattle.const_pool.specs.BuiltIn.{built_in_names, probe_class}
-use Rattle.jvm_model.specs.Descriptors.{same_text}
-use Rattle.jvm_model.specs.Kinds.{is_array_name}
-use Rattle.jvm_model.specs.Programs.{has_built_in_name, has_name, name_of}
+use Rattle.jvm_model.specs.Basis.Descriptors.{same_text}
+use Rattle.jvm_model.specs.Classes.Kinds.{is_array_name}
+use Rattle.jvm_model.specs.Basis.Programs.{has_built_in_name, has_name, name_of}
 use Rattle.admit_check.specs.Admission.{class_fault, classes_fault}
 use Rattle.admit_check.specs.Checks.{fault_if}
 use Rattle.admit_check.specs.Shapes.{has_same_name, has_wrong_name, is_reserved, is_taken_name, name_fault, own_name, same_named, shape_fault}

@@ -14,10 +14,10 @@ use Rattle.base_classes.specs.StreamClasses.{stream_classes}
 use Rattle.base_classes.specs.ValueClasses.{value_classes}
 use Rattle.base_classes.specs.ThrowableClasses.{throwable_classes}
 use Rattle.base_classes.specs.Making.{added, text_added, string_added, class_added, name_type_added, reference_added, instruction_added, code_from, code_added, attributes_added, member_added, members_from, superclass_added, interfaces_from, class_file_of}
-use Rattle.jvm_model.specs.Kinds.{is_array_name}
-use Rattle.jvm_model.specs.Load.{Need, class_needs}
-use Rattle.jvm_model.specs.Methods.{has_flag}
-use Rattle.jvm_model.specs.Programs.{has_built_in_name, has_name, name_of}
+use Rattle.jvm_model.specs.Classes.Kinds.{is_array_name}
+use Rattle.jvm_model.specs.Classes.Load.{Need, class_needs}
+use Rattle.jvm_model.specs.Basis.Methods.{has_flag}
+use Rattle.jvm_model.specs.Basis.Programs.{has_built_in_name, has_name, name_of}
 
 -- the first of the files with this name stands here
 abbrev pub is_first_at : List ClassFile → ℕ → List ℕ → Bool

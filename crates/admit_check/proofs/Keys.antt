@@ -6,7 +6,7 @@ use Rattle.std.specs.Option.{option_and_then, option_map}
 use Rattle.const_pool.specs.declared.pool.Const.{Const}
 use Rattle.const_pool.specs.declared.class.Member.{Member}
 use Rattle.const_pool.specs.References.{named_text}
-use Rattle.jvm_model.specs.Descriptors.{same_text}
+use Rattle.jvm_model.specs.Basis.Descriptors.{same_text}
 use Rattle.admit_check.specs.Shapes.{same_named, is_same_member, has_twin_behind, has_twins}
 use Rattle.admit_check.specs.Twins.{key_text, member_key, has_key, with_key, has_key_twice}
 

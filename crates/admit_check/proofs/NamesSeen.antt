@@ -3,7 +3,7 @@ use Rattle.std.proofs.Common.{◌≡◌, Bool, true, false, List, [], ◌∷◌,
 use Rattle.std.specs.Prelude.{map, ◌||◌, if◌then◌else◌}
 use Rattle.std.specs.List.{list_any}
 use Rattle.std.proofs.lemmas.List.{map-append}
-use Rattle.jvm_model.specs.Descriptors.{same_text}
+use Rattle.jvm_model.specs.Basis.Descriptors.{same_text}
 use Rattle.admit_check.specs.Stages.{with_name}
 
 -- a test of what the keys hold

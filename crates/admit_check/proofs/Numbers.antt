@@ -7,8 +7,8 @@ use Rattle.const_pool.specs.declared.class.ClassFile.{ClassFile}
 use Rattle.const_pool.specs.declared.class.Member.{Member}
 use Rattle.const_pool.specs.ClassFile.{IsClassFile}
 use Rattle.jvm_model.specs.declared.program.MethodPlace.{MethodPlace}
-use Rattle.jvm_model.specs.Methods.{code_of}
-use Rattle.jvm_model.specs.Programs.{coded_from, numbered_from}
+use Rattle.jvm_model.specs.Basis.Methods.{code_of}
+use Rattle.jvm_model.specs.Basis.Programs.{coded_from, numbered_from}
 use Rattle.plan_text.specs.declared.plan.Plan.{Plan}
 use Rattle.base_classes.specs.BuiltInClasses.{built_in_classes}
 use Rattle.base_classes.specs.ObjectClasses.{object_classes}

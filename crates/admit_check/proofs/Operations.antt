@@ -24,17 +24,17 @@ use Rattle.code_model.proofs.Readings.{known_at}
 use Rattle.code_model.proofs.Spelled.{HasShape}
 use Rattle.jvm_model.specs.declared.family.Family.{Family}
 use Rattle.jvm_model.specs.declared.family.Family.TheVariants as family
-use Rattle.jvm_model.specs.Data.{Anewarray, Checkcast, Constant, Getfield, Getstatic, Instanceof, Invokeinterface, Invokestatic, Invokevirtual, Local, Multianewarray, Named, Naming, New, Newarray, Operation, Putfield, Putstatic, Within}
-use Rattle.jvm_model.specs.Families.{family_of, rows}
-use Rattle.jvm_model.specs.Kinds.{meaning_of}
-use Rattle.jvm_model.specs.Lines.{given_operation, has_dimensions, interface_naming, multi_naming, multi_of, named_by, named_interface_method, naming_of, newarray_of, number_of, object_among, object_constant, object_rows, operation_by, operation_of, other_operation, special_of}
-use Rattle.jvm_model.specs.Programs.{name_of}
-use Rattle.jvm_model.proofs.Opcodes.{all_below, all_below-each}
+use Rattle.jvm_model.specs.Basis.Data.{Anewarray, Checkcast, Constant, Getfield, Getstatic, Instanceof, Invokeinterface, Invokestatic, Invokevirtual, Local, Multianewarray, Named, Naming, New, Newarray, Operation, Putfield, Putstatic, Within}
+use Rattle.jvm_model.specs.Basis.Families.{family_of, rows}
+use Rattle.jvm_model.specs.Classes.Kinds.{meaning_of}
+use Rattle.jvm_model.specs.Codes.Lines.{given_operation, has_dimensions, interface_naming, multi_naming, multi_of, named_by, named_interface_method, naming_of, newarray_of, number_of, object_among, object_constant, object_rows, operation_by, operation_of, other_operation, special_of}
+use Rattle.jvm_model.specs.Basis.Programs.{name_of}
+use Rattle.jvm_model.proofs.Running.Opcodes.{all_below, all_below-each}
 use Rattle.admit_check.specs.Floating.{is_floating_entry, is_floating_index, is_floating_instr, is_floating_operand}
 use Rattle.admit_check.specs.Texts.{dimensions_of, is_class_name}
 use Rattle.admit_check.specs.Uses.{fits_pool, fits_type, fits_use, is_loadable, is_wide_constant, named_dimensions, pool_use}
 use Rattle.admit_check.proofs.ArrayNames.{class-dimensions}
-use Rattle.jvm_model.proofs.PoolTexts.{HaveTexts}
+use Rattle.jvm_model.proofs.Soundness.PoolTexts.{HaveTexts}
 
 -- ---- opcodes, by the form of their operand
 

@@ -10,7 +10,7 @@ use Rattle.const_pool.specs.declared.class.CodeAttribute.{CodeAttribute}
 use Rattle.const_pool.specs.declared.class.Attribute.{Attribute}
 use Rattle.const_pool.specs.declared.class.Attribute.TheVariants.{ConstantValue, Code, Other}
 use Rattle.const_pool.specs.ClassFile.{IsCode, IsMember, IsMethodAttribute, IsClassFile}
-use Rattle.jvm_model.specs.Methods.{code_among, code_of}
+use Rattle.jvm_model.specs.Basis.Methods.{code_among, code_of}
 use Rattle.admit_check.specs.Codes.{IsRead, AreRead}
 use Rattle.admit_check.proofs.Decoded.{reading_found}
 use Rattle.inject_events.specs.Answers.{IsReadableBody, IsReadableClass}

@@ -12,13 +12,13 @@ use Rattle.base_classes.proofs.Computed.{all_formed}
 use Rattle.jvm_model.specs.declared.event.Act.{Act}
 use Rattle.jvm_model.specs.declared.program.MethodPlace.{MethodPlace}
 use Rattle.jvm_model.specs.declared.program.Program.{Program}
-use Rattle.jvm_model.specs.Methods.{method_named}
-use Rattle.jvm_model.specs.Programs.{class_at, class_named, declared_method, has_built_in_name, number_from, number_of_method, same_place}
+use Rattle.jvm_model.specs.Basis.Methods.{method_named}
+use Rattle.jvm_model.specs.Basis.Programs.{class_at, class_named, declared_method, has_built_in_name, number_from, number_of_method, same_place}
 use Rattle.plan_text.specs.declared.plan.Action.{Action}
 use Rattle.plan_text.specs.declared.plan.Plan.{Plan}
 use Rattle.admit_check.specs.declared.error.AdmitError.{AdmitError}
-use Rattle.jvm_model.specs.SoundPrograms.{HasOperations, IsHeapLimit, declared_main, main_in, main_of_class}
-use Rattle.jvm_model.specs.Whole.{HasSoundCodes}
+use Rattle.jvm_model.specs.Soundness.SoundPrograms.{HasOperations, IsHeapLimit, declared_main, main_in, main_of_class}
+use Rattle.jvm_model.specs.Soundness.Whole.{HasSoundCodes}
 use Rattle.inject_events.specs.Answers.{IsProfilable, IsReadableClass}
 use Rattle.admit_check.specs.Admission.{act_of, act_with, acts_from, admission, admission_of, program_with, root_in, IsAdmittedProgram}
 use Rattle.admit_check.specs.Profiling.{HaveSoundTables}

@@ -21,9 +21,9 @@ use Rattle.const_pool.specs.References.{◌>>=◌, named_text, text_entry}
 use Rattle.const_pool.specs.Tail.{tail_entries, with_tail}
 use Rattle.code_model.specs.declared.error.CodeError.{CodeError}
 use Rattle.code_model.specs.declared.instr.Instr.{Instr}
-use Rattle.jvm_model.specs.Descriptors.{same_text}
-use Rattle.jvm_model.specs.Methods.{code_of}
-use Rattle.jvm_model.proofs.ImagePools.{named_text-more}
+use Rattle.jvm_model.specs.Basis.Descriptors.{same_text}
+use Rattle.jvm_model.specs.Basis.Methods.{code_of}
+use Rattle.jvm_model.proofs.Images.ImagePools.{named_text-more}
 use Rattle.stackmap_shift.specs.declared.error.FrameError.{FrameError}
 use Rattle.stackmap_shift.specs.declared.frames.Frame.{Frame}
 use Rattle.stackmap_shift.specs.DebugTables.{lines_of, variables_of}

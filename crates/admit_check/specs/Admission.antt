@@ -10,8 +10,8 @@ use Rattle.plan_text.specs.declared.plan.Plan.{Plan}
 use Rattle.plan_text.specs.declared.plan.RootName.{RootName}
 use Rattle.jvm_model.specs.declared.event.Act.{Act}
 use Rattle.jvm_model.specs.declared.program.Program.{Program}
-use Rattle.jvm_model.specs.Programs.{class_named, declared_method, numbered}
-use Rattle.jvm_model.specs.SoundPrograms.{IsSoundProgram, main_in}
+use Rattle.jvm_model.specs.Basis.Programs.{class_named, declared_method, numbered}
+use Rattle.jvm_model.specs.Soundness.SoundPrograms.{IsSoundProgram, main_in}
 use Rattle.admit_check.specs.declared.error.AdmitError.{AdmitError}
 use Rattle.admit_check.specs.declared.error.AdmitError.TheVariants.{TooManyMethods, NoMain, NoSuchRoot}
 use Rattle.admit_check.specs.Checks.{fault_if, first_of}

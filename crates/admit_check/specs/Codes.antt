@@ -16,7 +16,7 @@ use Rattle.code_model.specs.declared.instr.Instr.{Instr}
 use Rattle.code_model.specs.Instructions.{end_of}
 use Rattle.code_model.specs.Reading.{◌>>=◌, read_instruction}
 use Rattle.op_table.specs.Opcodes.{row_of}
-use Rattle.jvm_model.specs.Methods.{code_of}
+use Rattle.jvm_model.specs.Basis.Methods.{code_of}
 use Rattle.admit_check.specs.declared.codes.CodeFault.{CodeFault}
 use Rattle.admit_check.specs.declared.codes.CodeRefusal.{CodeRefusal}
 use Rattle.admit_check.specs.declared.codes.CodeRefusal.TheVariants as refusal

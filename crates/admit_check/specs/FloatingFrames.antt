@@ -7,7 +7,7 @@ use Rattle.const_pool.specs.declared.class.CodeAttribute.{CodeAttribute}
 use Rattle.const_pool.specs.declared.class.Member.{Member}
 use Rattle.const_pool.specs.declared.class.Raw.{Raw}
 use Rattle.const_pool.specs.declared.pool.Const.{Const}
-use Rattle.jvm_model.specs.Methods.{code_of}
+use Rattle.jvm_model.specs.Basis.Methods.{code_of}
 use Rattle.stackmap_shift.specs.declared.error.FrameError.{FrameError}
 use Rattle.stackmap_shift.specs.declared.frames.Frame.{Frame}
 use Rattle.stackmap_shift.specs.declared.frames.FrameKind.{FrameKind}

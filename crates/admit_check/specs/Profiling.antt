@@ -5,7 +5,7 @@ use Rattle.std.specs.Option.{option_map}
 use Rattle.const_pool.specs.declared.class.ClassFile.{ClassFile}
 use Rattle.const_pool.specs.declared.class.CodeAttribute.{CodeAttribute}
 use Rattle.const_pool.specs.declared.class.Member.{Member}
-use Rattle.jvm_model.specs.Methods.{code_of}
+use Rattle.jvm_model.specs.Basis.Methods.{code_of}
 use Rattle.inject_events.specs.Rewriting.{Refused, refused_of, all_plain}
 use Rattle.inject_events.specs.Settings.{setting_of}
 use Rattle.inject_events.specs.SoundTables.{HasSoundTables}

@@ -13,8 +13,8 @@ use Rattle.const_pool.specs.declared.descriptor.Kind.TheVariants as kind
 use Rattle.const_pool.specs.Pool.{entry_at}
 use Rattle.const_pool.specs.References.{named_class, named_text}
 use Rattle.const_pool.specs.BuiltIn.{probe_class, built_in_names}
-use Rattle.jvm_model.specs.Descriptors.{same_text}
-use Rattle.jvm_model.specs.Methods.{has_flag}
+use Rattle.jvm_model.specs.Basis.Descriptors.{same_text}
+use Rattle.jvm_model.specs.Basis.Methods.{has_flag}
 use Rattle.admit_check.specs.declared.error.AdmitError.{AdmitError}
 use Rattle.admit_check.specs.declared.error.AdmitError.TheVariants.{ReservedName, Duplicate, BadShape}
 use Rattle.admit_check.specs.declared.error.ShapeCause.TheVariants as cause

@@ -3,7 +3,7 @@
 use Rattle.std.specs.Prelude.{◌≡◌, ℕ, false, None, codes}
 use Rattle.std.specs.List.{list_any}
 use Rattle.const_pool.specs.declared.class.ClassFile.{ClassFile}
-use Rattle.jvm_model.specs.Programs.{has_name}
+use Rattle.jvm_model.specs.Basis.Programs.{has_name}
 use Rattle.admit_check.specs.Codes.{codes_fault}
 use Rattle.admit_check.specs.Floating.{floating_fault}
 use Rattle.admit_check.specs.Profiling.{profiling_fault}

@@ -7,7 +7,7 @@ use Rattle.const_pool.specs.ClassFile.{IsClassFile}
 use Rattle.base_classes.specs.BuiltInClasses.{built_in_classes}
 use Rattle.base_classes.specs.Shown.{declaration_of}
 use Rattle.jvm_model.specs.declared.program.Program.{Program}
-use Rattle.jvm_model.specs.Descriptors.{same_text}
+use Rattle.jvm_model.specs.Basis.Descriptors.{same_text}
 use Rattle.admit_check.specs.declared.error.AdmitError.{AdmitError}
 use Rattle.admit_check.specs.declared.error.AdmitError.TheVariants.{ReservedName, Duplicate, NoMemory}
 use Rattle.admit_check.specs.Checks.{fault_if, first_of}

@@ -13,7 +13,7 @@ use Rattle.code_model.specs.declared.instr.Arg.{Arg}
 use Rattle.code_model.specs.declared.instr.Arg.TheVariants as arg
 use Rattle.code_model.specs.declared.instr.Instr.{Instr}
 use Rattle.code_model.specs.Groups.{targets_of}
-use Rattle.jvm_model.specs.Descriptors.{same_text}
+use Rattle.jvm_model.specs.Basis.Descriptors.{same_text}
 use Rattle.admit_check.specs.declared.uses.PoolUse.{PoolUse}
 use Rattle.admit_check.specs.declared.uses.PoolUse.TheVariants as use_of
 use Rattle.admit_check.specs.declared.uses.Slots.{Slots}

@@ -3,7 +3,7 @@
 ghost use Rattle.std.specs.Prelude.{◌≡◌, ◌++◌, [], ◌<◌, ◌≤◌, ◌^◌, length, IfOk, IfSome, OnOk};
 ghost use Rattle.std.specs.List.{AllByRecursion};
 ghost use Rattle.const_pool.specs.ClassFile.{IsClassFile};
-ghost use Rattle.jvm_model.specs.SoundPrograms.{IsHeapLimit};
+ghost use Rattle.jvm_model.specs.Soundness.SoundPrograms.{IsHeapLimit};
 ghost use Rattle.admit_check.specs.Admission.{admission_of, IsAdmittedProgram};
 ghost use Rattle.admit_check.specs.Stages.{Answers, AreBuiltIn, HasNumbers, Passes};
 ghost use Rattle.admit_check.specs.Admission.{class_fault, classes_fault};

@@ -3,7 +3,7 @@
 ghost use Rattle.std.specs.Prelude.{◌≡◌, None, Ok, map, IfOk, IfErr, IfSome, OnOk};
 ghost use Rattle.std.specs.Option.{option_copied};
 ghost use Rattle.const_pool.specs.ClassFile.{IsClassFile};
-ghost use Rattle.jvm_model.specs.Methods.{code_of};
+ghost use Rattle.jvm_model.specs.Basis.Methods.{code_of};
 ghost use Rattle.admit_check.specs.Checks.{first_in};
 ghost use Rattle.admit_check.specs.Codes.{method_with, cause_of, instr_fault, falls, fits_handler};
 ghost use Rattle.admit_check.specs.Codes.{handler_fault, table_fault, read_fault, reading_fault};

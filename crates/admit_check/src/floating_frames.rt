@@ -3,7 +3,7 @@
 ghost use Rattle.std.specs.Prelude.{◌≡◌, ◌<◌, ◌^◌, length, IfOk};
 ghost use Rattle.std.specs.Option.{option_and_then};
 ghost use Rattle.const_pool.specs.ClassFile.{IsClassFile};
-ghost use Rattle.jvm_model.specs.Methods.{code_of};
+ghost use Rattle.jvm_model.specs.Basis.Methods.{code_of};
 ghost use Rattle.stackmap_shift.specs.Frames.{frames_of};
 ghost use Rattle.admit_check.specs.Checks.{first_from, first_in};
 ghost use Rattle.admit_check.specs.FloatingFrames.{is_floating_vtype, are_floating};

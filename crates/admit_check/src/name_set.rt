@@ -2,7 +2,7 @@
 
 ghost use Rattle.std.specs.Prelude.{◌≡◌, [], OnOk};
 ghost use Rattle.std.specs.List.{list_any};
-ghost use Rattle.jvm_model.specs.Descriptors.{same_text};
+ghost use Rattle.jvm_model.specs.Basis.Descriptors.{same_text};
 ghost use Rattle.admit_check.specs.Stages.{name_fault_among, with_name};
 
 use crate::error::AdmitError;

@@ -5,14 +5,14 @@ ghost use Rattle.std.specs.Prelude.{◌≡◌, ◌++◌, ◌<◌, ◌^◌, lengt
 ghost use Rattle.std.specs.List.{AllByRecursion};
 ghost use Rattle.const_pool.specs.ClassFile.{IsClassFile};
 ghost use Rattle.const_pool.specs.References.{name_type_of};
-ghost use Rattle.jvm_model.specs.Methods.{code_of, is_member, method_named, same_text_at};
-ghost use Rattle.jvm_model.specs.Programs.{coded_from, declared_method, has_name, number_from};
-ghost use Rattle.jvm_model.specs.Programs.{numbered, same_place};
-ghost use Rattle.jvm_model.specs.SmallClass.{is_public_static, main_member, public_static};
+ghost use Rattle.jvm_model.specs.Basis.Methods.{code_of, is_member, method_named, same_text_at};
+ghost use Rattle.jvm_model.specs.Basis.Programs.{coded_from, declared_method, has_name, number_from};
+ghost use Rattle.jvm_model.specs.Basis.Programs.{numbered, same_place};
+ghost use Rattle.jvm_model.specs.Small.SmallClass.{is_public_static, main_member, public_static};
 ghost use Rattle.admit_check.specs.Admission.{act_of, acts_from};
 ghost use Rattle.admit_check.specs.Stages.{Answers, HasNumbers};
 ghost use Rattle.admit_check.specs.Admission.{root_in};
-ghost use Rattle.jvm_model.specs.SoundPrograms.{declared_main, main_in, main_of_class};
+ghost use Rattle.jvm_model.specs.Soundness.SoundPrograms.{declared_main, main_in, main_of_class};
 
 use crate::error::AdmitError;
 use const_pool::{Attribute, ClassFile, Member, Pool};

@@ -3,8 +3,8 @@
 ghost use Rattle.std.specs.Prelude.{◌≡◌, IfOk, slice_get, false};
 ghost use Rattle.std.specs.List.{list_any};
 ghost use Rattle.std.specs.Option.{option_map_or};
-ghost use Rattle.jvm_model.specs.Descriptors.{same_text};
-ghost use Rattle.jvm_model.specs.Methods.{has_flag};
+ghost use Rattle.jvm_model.specs.Basis.Descriptors.{same_text};
+ghost use Rattle.jvm_model.specs.Basis.Methods.{has_flag};
 ghost use Rattle.admit_check.specs.Texts.{is_field_text, is_method_text};
 ghost use Rattle.admit_check.specs.Shapes.{is_taken_name, is_probe_entry, is_reserved, has_wrong_name};
 ghost use Rattle.admit_check.specs.Shapes.{final_names, is_no_super_name, has_wrong_super, has_no_body};

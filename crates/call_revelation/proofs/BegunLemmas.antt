@@ -4,16 +4,16 @@ use Rattle.std.specs.Prelude.{filter, filter_map, Option, Some, None, ifâ—Œthenâ
 use Rattle.std.specs.Option.{option_map_or, option_to_list}
 use Rattle.const_pool.specs.declared.class.ClassFile.{ClassFile}
 use Rattle.jvm_model.specs.declared.program.Program.{Program}
-use Rattle.jvm_model.specs.Load.{is_among}
-use Rattle.jvm_model.specs.Lookup.{MemberPlace, is_subtype}
+use Rattle.jvm_model.specs.Classes.Load.{is_among}
+use Rattle.jvm_model.specs.Classes.Lookup.{MemberPlace, is_subtype}
 use Rattle.const_pool.specs.declared.class.Member.{Member}
 use Rattle.const_pool.specs.References.{NameAndType}
-use Rattle.jvm_model.specs.Methods.{is_member, method_from, method_named}
-use Rattle.jvm_model.specs.Programs.{initializer_name, initializer_of}
-use Rattle.jvm_model.specs.Selection.{selected}
-use Rattle.jvm_model.specs.Naming as model
-use Rattle.jvm_model.specs.Targets.{begun_by, coded, initializers, loaded_class_named, selections}
-use Rattle.jvm_model.specs.InvocationRules.{selected_by}
+use Rattle.jvm_model.specs.Basis.Methods.{is_member, method_from, method_named}
+use Rattle.jvm_model.specs.Basis.Programs.{initializer_name, initializer_of}
+use Rattle.jvm_model.specs.Classes.Selection.{selected}
+use Rattle.jvm_model.specs.Instructions.Naming as model
+use Rattle.jvm_model.specs.Profiling.Targets.{begun_by, coded, initializers, loaded_class_named, selections}
+use Rattle.jvm_model.specs.Instructions.InvocationRules.{selected_by}
 use Rattle.call_revelation.specs.declared.lineage.Lineage.{Lineage}
 use Rattle.call_revelation.specs.Lineages.{IsClosed, IsLineage, begun_named, initializer_in, number_of, selecting, selection_of}
 use Rattle.call_revelation.proofs.Adding.{made-flat}

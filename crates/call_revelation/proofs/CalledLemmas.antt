@@ -3,13 +3,13 @@ use Rattle.std.proofs.Common.{◌≡◌, ℕ, ◌<◌, Bool, true, false, List, 
 use Rattle.std.specs.Prelude.{flat_map, replicate, slice_set, unwrap_or, Option, ◌==◌, ◌||◌, ◌⊎◌, if◌then◌else◌}
 use Rattle.std.specs.Option.{option_to_list}
 use Rattle.jvm_model.specs.declared.program.Program.{Program}
-use Rattle.jvm_model.specs.Load.{is_among}
-use Rattle.jvm_model.specs.Lookup.{is_subtype}
-use Rattle.jvm_model.specs.Naming as model
-use Rattle.jvm_model.specs.Programs.{class_named}
-use Rattle.jvm_model.specs.Revelation.{namings_of}
-use Rattle.jvm_model.specs.Sound.{HasSupertypes}
-use Rattle.jvm_model.specs.Targets.{operations_of}
+use Rattle.jvm_model.specs.Classes.Load.{is_among}
+use Rattle.jvm_model.specs.Classes.Lookup.{is_subtype}
+use Rattle.jvm_model.specs.Instructions.Naming as model
+use Rattle.jvm_model.specs.Basis.Programs.{class_named}
+use Rattle.jvm_model.specs.Profiling.Revelation.{namings_of}
+use Rattle.jvm_model.specs.Soundness.Sound.{HasSupertypes}
+use Rattle.jvm_model.specs.Profiling.Targets.{operations_of}
 use Rattle.class_index.specs.Orders.{with_class}
 use Rattle.call_revelation.specs.declared.lineage.Lineage.{Lineage}
 use Rattle.call_revelation.specs.declared.named.Named.{Named}

@@ -9,17 +9,17 @@ use Rattle.code_model.specs.declared.instr.Instr.{Instr}
 use Rattle.code_model.specs.Instructions.{end_of, instruction_at}
 use Rattle.jvm_model.specs.declared.program.MethodPlace.{MethodPlace}
 use Rattle.jvm_model.specs.declared.program.Program.{Program}
-use Rattle.jvm_model.specs.Data.{Instruction, Operation, Within, Named, Athrow, Monitor, Newarray, Arraylength, LoadElement, StoreElement, LdcString}
-use Rattle.jvm_model.specs.Lines.{code_instruction, instruction_of, method_instruction, next_of, operation_of, targets_of}
-use Rattle.jvm_model.specs.Methods.{method_code}
-use Rattle.jvm_model.specs.Naming.{Naming, New, Getfield, Putfield, Getstatic, Putstatic, Invokevirtual, Invokespecial, Invokestatic, Invokeinterface, Checkcast, Instanceof, Anewarray, Multianewarray, LdcClass}
-use Rattle.jvm_model.specs.Originals.{original}
-use Rattle.jvm_model.specs.Places.{read_from}
-use Rattle.jvm_model.specs.Programs.{class_at, place_of_method}
-use Rattle.jvm_model.specs.Revelation.{naming_in, namings_of}
-use Rattle.jvm_model.specs.Sound.{CanAttempt, HasClass, HasLoadedCaller, IsFit}
-use Rattle.jvm_model.specs.Targets.{operations_in, operations_of}
-use Rattle.jvm_model.proofs.SoundLines.{can-attempt}
+use Rattle.jvm_model.specs.Basis.Data.{Instruction, Operation, Within, Named, Athrow, Monitor, Newarray, Arraylength, LoadElement, StoreElement, LdcString}
+use Rattle.jvm_model.specs.Codes.Lines.{code_instruction, instruction_of, method_instruction, next_of, operation_of, targets_of}
+use Rattle.jvm_model.specs.Basis.Methods.{method_code}
+use Rattle.jvm_model.specs.Instructions.Naming.{Naming, New, Getfield, Putfield, Getstatic, Putstatic, Invokevirtual, Invokespecial, Invokestatic, Invokeinterface, Checkcast, Instanceof, Anewarray, Multianewarray, LdcClass}
+use Rattle.jvm_model.specs.Codes.Originals.{original}
+use Rattle.jvm_model.specs.Codes.Places.{read_from}
+use Rattle.jvm_model.specs.Basis.Programs.{class_at, place_of_method}
+use Rattle.jvm_model.specs.Profiling.Revelation.{naming_in, namings_of}
+use Rattle.jvm_model.specs.Soundness.Sound.{CanAttempt, HasClass, HasLoadedCaller, IsFit}
+use Rattle.jvm_model.specs.Profiling.Targets.{operations_in, operations_of}
+use Rattle.jvm_model.proofs.Soundness.SoundLines.{can-attempt}
 
 module _ (p : Program) (loaded : List ℕ) where
   fine : (op : Operation) → CanAttempt p loaded op → IfSome (naming_in op) (HasLoadedCaller p loaded)

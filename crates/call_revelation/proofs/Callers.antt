@@ -3,10 +3,10 @@ use Rattle.std.proofs.Common.{◌≡◌, ℕ, List, [], ◌++◌, ◌∷◌, ap,
 use Rattle.std.specs.Prelude.{Some, flat_map, ◌||◌}
 use Rattle.std.specs.List.{AllByRecursion}
 use Rattle.jvm_model.specs.declared.program.Program.{Program}
-use Rattle.jvm_model.specs.Load.{is_among}
-use Rattle.jvm_model.specs.Revelation.{namings_of}
-use Rattle.jvm_model.specs.Sound.{HasClass, HasLoadedCaller, IsFit}
-use Rattle.jvm_model.specs.Targets.{begun_by, operations_of}
+use Rattle.jvm_model.specs.Classes.Load.{is_among}
+use Rattle.jvm_model.specs.Profiling.Revelation.{namings_of}
+use Rattle.jvm_model.specs.Soundness.Sound.{HasClass, HasLoadedCaller, IsFit}
+use Rattle.jvm_model.specs.Profiling.Targets.{begun_by, operations_of}
 use Rattle.jvm_named.specs.declared.naming.Naming.{Naming}
 use Rattle.jvm_named.specs.Names.{naming_view}
 use Rattle.call_revelation.specs.declared.uses.Use.{Use}

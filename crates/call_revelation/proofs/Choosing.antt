@@ -2,7 +2,7 @@
 use Rattle.std.proofs.Common.{◌≡◌, ℕ, Bool, true, false, List, ap, sym, refl, ◌∙◌}
 use Rattle.std.specs.Prelude.{filter, filter_map, flat_map, Option, None, if◌then◌else◌}
 use Rattle.std.specs.Option.{option_to_list}
-use Rattle.jvm_model.specs.Load.{is_among}
+use Rattle.jvm_model.specs.Classes.Load.{is_among}
 use Rattle.call_revelation.proofs.Adding.{alike, among-filter, both, first-of, from_flat, made-flat, second-of, to_flat}
 
 false_true : false ≡ true → ⊥

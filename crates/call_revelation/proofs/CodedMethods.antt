@@ -5,8 +5,8 @@ use Rattle.std.proofs.lemmas.List.{length-append}
 use Rattle.const_pool.specs.declared.class.ClassFile.{ClassFile}
 use Rattle.const_pool.specs.declared.class.Member.{Member}
 use Rattle.jvm_model.specs.declared.program.Program.{Program}
-use Rattle.jvm_model.specs.Methods.{code_of}
-use Rattle.jvm_model.specs.Programs.{coded_from, numbered, numbered_from}
+use Rattle.jvm_model.specs.Basis.Methods.{code_of}
+use Rattle.jvm_model.specs.Basis.Programs.{coded_from, numbered, numbered_from}
 use Rattle.jvm_named.specs.Numbers.{all_coded, coded}
 
 coded-length : (class at : ℕ) (ms : List Member) → length (coded_from class at ms) ≡ coded ms

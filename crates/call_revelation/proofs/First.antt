@@ -8,15 +8,15 @@ use Rattle.const_pool.specs.declared.class.Member.{Member}
 use Rattle.jvm_model.specs.declared.event.Mark.TheVariants.{Off}
 use Rattle.jvm_model.specs.declared.program.MethodPlace.{MethodPlace}
 use Rattle.jvm_model.specs.declared.program.Program.{Program}
-use Rattle.jvm_model.specs.Load.{is_among}
-use Rattle.jvm_model.specs.Methods.{code_of}
-use Rattle.jvm_model.specs.Points.{is_target}
-use Rattle.jvm_model.specs.Programs.{coded_from, numbered, numbered_from, place_of_method}
-use Rattle.jvm_model.specs.Revealed.{mark_of}
-use Rattle.jvm_model.specs.Sound.{IsFit}
-use Rattle.jvm_model.specs.Targets.{operations_of}
+use Rattle.jvm_model.specs.Classes.Load.{is_among}
+use Rattle.jvm_model.specs.Basis.Methods.{code_of}
+use Rattle.jvm_model.specs.Profiling.Points.{is_target}
+use Rattle.jvm_model.specs.Basis.Programs.{coded_from, numbered, numbered_from, place_of_method}
+use Rattle.jvm_model.specs.Profiling.Revealed.{mark_of}
+use Rattle.jvm_model.specs.Soundness.Sound.{IsFit}
+use Rattle.jvm_model.specs.Profiling.Targets.{operations_of}
 use Rattle.jvm_named.specs.Numbers.{AreNumbers}
-use Rattle.jvm_steps.specs.Prepared.{HasShortCodes}
+use Rattle.jvm_steps.specs.Codes.Prepared.{HasShortCodes}
 use Rattle.call_revelation.specs.declared.reveal.Reveal.{Reveal}
 use Rattle.call_revelation.specs.Books.{IsBookOf}
 use Rattle.call_revelation.specs.CalledClasses.{AreHanded}

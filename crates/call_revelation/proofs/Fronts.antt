@@ -1,7 +1,7 @@
 -- Lists that begin with others.
 use Rattle.std.proofs.Common.{◌≡◌, ℕ, Bool, true, false, List, [], ◌∷◌, ◌++◌, ◌≤◌, length, take, drop, ap, sym, subst, refl, ◌∙◌, arith}
 use Rattle.std.specs.Prelude.{if◌then◌else◌}
-use Rattle.jvm_model.specs.Load.{is_among}
+use Rattle.jvm_model.specs.Classes.Load.{is_among}
 use Rattle.class_index.specs.Orders.{with_class}
 use Rattle.call_revelation.specs.Reveals.{IsFront}
 use Rattle.call_revelation.proofs.Adding.{among-append, or-first}

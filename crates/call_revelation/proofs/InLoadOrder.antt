@@ -5,7 +5,7 @@ use Rattle.std.specs.List.{AllByRecursion, AllPairs, Contains, cons_option, slic
 use Rattle.std.specs.List.Sorted.{IsStrictlyIncreasing}
 use Rattle.std.specs.Option.{option_map_or}
 use Rattle.std.proofs.lemmas.List.Kept.{AllPairs-from_increasing}
-use Rattle.jvm_model.specs.Load.{is_among}
+use Rattle.jvm_model.specs.Classes.Load.{is_among}
 use Rattle.call_revelation.specs.Tables.{IsRising}
 use Rattle.call_revelation.proofs.Adding.{either, equal, itself, neither, or-first, or-later}
 

@@ -3,10 +3,10 @@ use Rattle.std.proofs.Common.{◌≡◌, ℕ, ◌+◌, ◌<◌, false, List, [],
 use Rattle.std.specs.List.{AllByRecursion}
 use Rattle.std.proofs.lemmas.List.{drop_more}
 use Rattle.jvm_model.specs.declared.program.Program.{Program}
-use Rattle.jvm_model.specs.Load.{is_among}
-use Rattle.jvm_model.specs.Revelation.{IsLoadOrder}
-use Rattle.jvm_model.specs.Sound.{HasSupertypes}
-use Rattle.jvm_model.proofs.LoadOrder.{order-behind}
+use Rattle.jvm_model.specs.Classes.Load.{is_among}
+use Rattle.jvm_model.specs.Profiling.Revelation.{IsLoadOrder}
+use Rattle.jvm_model.specs.Soundness.Sound.{HasSupertypes}
+use Rattle.jvm_model.proofs.Loading.LoadOrder.{order-behind}
 use Rattle.class_linker.specs.Linkers.{IsLoaded, LinkerView}
 use Rattle.call_revelation.specs.declared.reveal.Reveal.{Reveal}
 use Rattle.call_revelation.specs.Reveals.{AreLoading, IsAhead, IsFront, IsGrown, IsRevelation}

@@ -4,16 +4,16 @@ use Rattle.std.specs.Prelude.{flat_map, Option, Some, None, is_some, slice_get, 
 use Rattle.std.specs.List.{list_any}
 use Rattle.std.specs.Option.{option_and_then, option_map_or, option_to_list}
 use Rattle.jvm_model.specs.declared.program.Program.{Program}
-use Rattle.jvm_model.specs.Load.{is_among}
-use Rattle.jvm_model.specs.Lookup.{is_subtype}
-use Rattle.jvm_model.specs.Naming as model
-use Rattle.jvm_model.specs.Points.{is_target}
-use Rattle.jvm_model.specs.Programs.{class_named}
-use Rattle.jvm_model.specs.Revelation.{gained_by, gained_in, is_named, namings_of}
-use Rattle.jvm_model.specs.Sound.{HasSupertypes}
-use Rattle.jvm_model.specs.Targets.{begun_by, loaded_class_named, operations_of, targets_in}
-use Rattle.jvm_model.proofs.Gained.{gained-targets}
-use Rattle.jvm_model.proofs.Revealed.{is_gained, load-targets}
+use Rattle.jvm_model.specs.Classes.Load.{is_among}
+use Rattle.jvm_model.specs.Classes.Lookup.{is_subtype}
+use Rattle.jvm_model.specs.Instructions.Naming as model
+use Rattle.jvm_model.specs.Profiling.Points.{is_target}
+use Rattle.jvm_model.specs.Basis.Programs.{class_named}
+use Rattle.jvm_model.specs.Profiling.Revelation.{gained_by, gained_in, is_named, namings_of}
+use Rattle.jvm_model.specs.Soundness.Sound.{HasSupertypes}
+use Rattle.jvm_model.specs.Profiling.Targets.{begun_by, loaded_class_named, operations_of, targets_in}
+use Rattle.jvm_model.proofs.Revealing.Gained.{gained-targets}
+use Rattle.jvm_model.proofs.Revealing.Revealed.{is_gained, load-targets}
 use Rattle.jvm_named.specs.declared.naming.Naming.{Naming}
 use Rattle.jvm_named.specs.Names.{naming_view}
 use Rattle.call_revelation.specs.declared.uses.Use.{Use}

@@ -4,12 +4,12 @@ use Rattle.std.specs.Prelude.{Option, Some, None, is_some, not, slice_set, unwra
 use Rattle.std.specs.Option.{option_map_or}
 use Rattle.jvm_model.specs.declared.program.MethodPlace.{MethodPlace}
 use Rattle.jvm_model.specs.declared.program.Program.{Program}
-use Rattle.jvm_model.specs.Load.{is_among}
-use Rattle.jvm_model.specs.Points.{has_class, is_target}
-use Rattle.jvm_model.specs.Programs.{place_of_method}
-use Rattle.jvm_model.specs.Revealed.{mark_of, without_method}
-use Rattle.jvm_model.specs.Sound.{HasClass, HasSupertypes}
-use Rattle.jvm_model.specs.Targets.{operations_of, targets_in}
+use Rattle.jvm_model.specs.Classes.Load.{is_among}
+use Rattle.jvm_model.specs.Profiling.Points.{has_class, is_target}
+use Rattle.jvm_model.specs.Basis.Programs.{place_of_method}
+use Rattle.jvm_model.specs.Profiling.Revealed.{mark_of, without_method}
+use Rattle.jvm_model.specs.Soundness.Sound.{HasClass, HasSupertypes}
+use Rattle.jvm_model.specs.Profiling.Targets.{operations_of, targets_in}
 use Rattle.class_linker.specs.Linkers.{IsLoaded, LinkerView}
 use Rattle.call_revelation.specs.declared.book.Book.{Book}
 use Rattle.call_revelation.specs.declared.lineage.Lineage.{Lineage}

@@ -6,11 +6,11 @@ use Rattle.std.specs.Option.{option_and_then, option_map, option_map_or, option_
 use Rattle.const_pool.specs.declared.class.ClassFile.{ClassFile}
 use Rattle.code_model.specs.declared.instr.Instr.{Instr}
 use Rattle.code_model.specs.Instructions.{end_of, instruction_at}
-use Rattle.jvm_model.specs.Data.{Operation}
-use Rattle.jvm_model.specs.Lines.{operation_of}
-use Rattle.jvm_model.specs.Naming as model
-use Rattle.jvm_model.specs.Places.{read_from}
-use Rattle.jvm_model.specs.Revelation.{naming_in}
+use Rattle.jvm_model.specs.Basis.Data.{Operation}
+use Rattle.jvm_model.specs.Codes.Lines.{operation_of}
+use Rattle.jvm_model.specs.Instructions.Naming as model
+use Rattle.jvm_model.specs.Codes.Places.{read_from}
+use Rattle.jvm_model.specs.Profiling.Revelation.{naming_in}
 use Rattle.jvm_named.specs.declared.naming.Naming.{Naming}
 use Rattle.jvm_named.specs.Names.{naming_view}
 use Rattle.call_revelation.specs.Namings.{namings_from}

@@ -2,8 +2,8 @@
 use Rattle.std.proofs.Common.{◌≡◌, ℕ, zero, suc, ◌<◌, Bool, true, false, List, [], ◌∷◌, ◌++◌, length, take, ap, sym, refl, ◌∙◌, inl, inr}
 use Rattle.std.specs.Prelude.{Option, Some, None, is_some, not, replicate, slice_get, slice_set, unwrap_or, ◌==◌, ◌&&◌, ◌||◌, ◌⊎◌, if◌then◌else◌}
 use Rattle.std.specs.Option.{option_map}
-use Rattle.jvm_model.specs.Load.{is_among}
-use Rattle.jvm_model.specs.Revealed.{without_method}
+use Rattle.jvm_model.specs.Classes.Load.{is_among}
+use Rattle.jvm_model.specs.Profiling.Revealed.{without_method}
 use Rattle.call_revelation.specs.Ranks.{AreDistinct, AreFlagged, IsRanked, flag_at, rank_of}
 use Rattle.call_revelation.specs.Tables.{IsPadded}
 use Rattle.call_revelation.proofs.Adding.{among-filter, equal, itself, or-first, or-later}

@@ -2,8 +2,8 @@
 use Rattle.std.proofs.Common.{◌≡◌, ℕ, zero, suc, ◌+◌, ◌<◌, ◌≤◌, Bool, true, false, List, [], ◌∷◌, ◌++◌, ap, sym, refl, ◌∙◌, arith}
 use Rattle.std.specs.Prelude.{filter, ◌==◌, ◌||◌, ◌&&◌, if◌then◌else◌}
 use Rattle.std.specs.List.{AllByRecursion, range_with_len}
-use Rattle.jvm_model.specs.Load.{is_among}
-use Rattle.jvm_model.proofs.Growing.{filter-front}
+use Rattle.jvm_model.specs.Classes.Load.{is_among}
+use Rattle.jvm_model.proofs.Revealing.Growing.{filter-front}
 use Rattle.call_revelation.specs.Tables.{IsRising}
 use Rattle.call_revelation.proofs.Adding.{alike, among-filter, both, second-of}
 

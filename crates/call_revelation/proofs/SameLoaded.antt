@@ -4,16 +4,16 @@ use Rattle.std.specs.Prelude.{filter, flat_map, Option, Some, None, ◌||◌, if
 use Rattle.std.specs.Option.{option_and_then, option_map_or, option_to_list}
 use Rattle.const_pool.specs.References.{Reference}
 use Rattle.jvm_model.specs.declared.program.Program.{Program}
-use Rattle.jvm_model.specs.Data.{Operation, Within, Named, Athrow, Monitor, Newarray, Arraylength, LoadElement, StoreElement, LdcString}
-use Rattle.jvm_model.specs.FieldRules.{is_static_field}
-use Rattle.jvm_model.specs.InvocationRules.{Selecting, Virtual, OfInterface, Special, names_interface, selected_by}
-use Rattle.jvm_model.specs.KindNumbers.{user_count}
-use Rattle.jvm_model.specs.Load.{is_among}
-use Rattle.jvm_model.specs.Lookup.{MemberPlace, is_subtype, resolved_field, resolved_method}
-use Rattle.jvm_model.specs.Naming.{Naming, New, Getfield, Putfield, Getstatic, Putstatic, Invokevirtual, Invokespecial, Invokestatic, Invokeinterface, Checkcast, Instanceof, Anewarray, Multianewarray, LdcClass}
-use Rattle.jvm_model.specs.Programs.{class_named, initializer_of}
-use Rattle.jvm_model.specs.Selection.{is_static}
-use Rattle.jvm_model.specs.Targets.{begun_by, begun_by_operation, begun_field, begun_on, begun_static, class_with_methods, coded, coded_at, found_where, initializers, invoked_by, is_array_type, loaded_class_named, selections, targets_in, where_loaded}
+use Rattle.jvm_model.specs.Basis.Data.{Operation, Within, Named, Athrow, Monitor, Newarray, Arraylength, LoadElement, StoreElement, LdcString}
+use Rattle.jvm_model.specs.Instructions.FieldRules.{is_static_field}
+use Rattle.jvm_model.specs.Instructions.InvocationRules.{Selecting, Virtual, OfInterface, Special, names_interface, selected_by}
+use Rattle.jvm_model.specs.Basis.KindNumbers.{user_count}
+use Rattle.jvm_model.specs.Classes.Load.{is_among}
+use Rattle.jvm_model.specs.Classes.Lookup.{MemberPlace, is_subtype, resolved_field, resolved_method}
+use Rattle.jvm_model.specs.Instructions.Naming.{Naming, New, Getfield, Putfield, Getstatic, Putstatic, Invokevirtual, Invokespecial, Invokestatic, Invokeinterface, Checkcast, Instanceof, Anewarray, Multianewarray, LdcClass}
+use Rattle.jvm_model.specs.Basis.Programs.{class_named, initializer_of}
+use Rattle.jvm_model.specs.Classes.Selection.{is_static}
+use Rattle.jvm_model.specs.Profiling.Targets.{begun_by, begun_by_operation, begun_field, begun_on, begun_static, class_with_methods, coded, coded_at, found_where, initializers, invoked_by, is_array_type, loaded_class_named, selections, targets_in, where_loaded}
 use Rattle.call_revelation.proofs.Adding.{alike, among-append, among-filter, both, first-of, from_flat, made-flat, second-of, to_flat}
 
 module _ (p : Program) where

@@ -7,11 +7,11 @@ use Rattle.jvm_model.specs.declared.event.Mark.{Mark}
 use Rattle.jvm_model.specs.declared.event.Mark.TheVariants.{Off, Plain, Root}
 use Rattle.jvm_model.specs.declared.program.MethodPlace.{MethodPlace}
 use Rattle.jvm_model.specs.declared.program.Program.{Program}
-use Rattle.jvm_model.specs.Load.{is_among}
-use Rattle.jvm_model.specs.Points.{is_target}
-use Rattle.jvm_model.specs.Revealed.{Revealed, changed_of, mark_of, marks_of, stand_of}
-use Rattle.jvm_model.specs.Swaps.{differs, same_mark}
-use Rattle.jvm_model.specs.Targets.{operations_of}
+use Rattle.jvm_model.specs.Classes.Load.{is_among}
+use Rattle.jvm_model.specs.Profiling.Points.{is_target}
+use Rattle.jvm_model.specs.Profiling.Revealed.{Revealed, changed_of, mark_of, marks_of, stand_of}
+use Rattle.jvm_model.specs.Profiling.Swaps.{differs, same_mark}
+use Rattle.jvm_model.specs.Profiling.Targets.{operations_of}
 use Rattle.call_revelation.specs.declared.reveal.Reveal.{Reveal}
 use Rattle.call_revelation.specs.Reveals.{IsRevelation, class_changed, mark_at, mark_by, mark_kept, now_of, rank_changed, with_marks}
 use Rattle.call_revelation.specs.Tables.{IsRising}

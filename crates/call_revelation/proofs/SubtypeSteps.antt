@@ -7,10 +7,10 @@ use Rattle.std.proofs.lemmas.Option.{slice_get_within}
 use Rattle.const_pool.specs.declared.class.ClassFile.{ClassFile}
 use Rattle.const_pool.specs.References.{named_class}
 use Rattle.jvm_model.specs.declared.program.Program.{Program}
-use Rattle.jvm_model.specs.Load.{is_among}
-use Rattle.jvm_model.specs.Lookup.{interface_names, interfaces_of, is_subtype, superclass_of, supertypes_within}
-use Rattle.jvm_model.specs.Programs.{class_at, class_named, has_name, super_of}
-use Rattle.jvm_model.proofs.SoundKinds.{named-class}
+use Rattle.jvm_model.specs.Classes.Load.{is_among}
+use Rattle.jvm_model.specs.Classes.Lookup.{interface_names, interfaces_of, is_subtype, superclass_of, supertypes_within}
+use Rattle.jvm_model.specs.Basis.Programs.{class_at, class_named, has_name, super_of}
+use Rattle.jvm_model.proofs.Soundness.SoundKinds.{named-class}
 use Rattle.call_revelation.specs.Lineages.{direct}
 use Rattle.call_revelation.proofs.Adding.{among-append, either, equal, from_flat, or-first, or-later, to_flat}
 

@@ -4,12 +4,12 @@ use Rattle.std.specs.Prelude.{◌≡◌, ◌+◌, ℕ, Bool, true, false, List, 
 use Rattle.std.specs.List.{list_any}
 use Rattle.std.specs.Option.{option_and_then, option_flatten, option_map_or}
 use Rattle.jvm_model.specs.declared.program.Program.{Program}
-use Rattle.jvm_model.specs.InvocationRules.{Virtual, OfInterface}
-use Rattle.jvm_model.specs.Load.{is_among}
-use Rattle.jvm_model.specs.Naming as model
-use Rattle.jvm_model.specs.Programs.{class_named}
-use Rattle.jvm_model.specs.Revelation.{gained_on, is_named, namings_of}
-use Rattle.jvm_model.specs.Targets.{begun_by, operations_of}
+use Rattle.jvm_model.specs.Instructions.InvocationRules.{Virtual, OfInterface}
+use Rattle.jvm_model.specs.Classes.Load.{is_among}
+use Rattle.jvm_model.specs.Instructions.Naming as model
+use Rattle.jvm_model.specs.Basis.Programs.{class_named}
+use Rattle.jvm_model.specs.Profiling.Revelation.{gained_on, is_named, namings_of}
+use Rattle.jvm_model.specs.Profiling.Targets.{begun_by, operations_of}
 use Rattle.jvm_named.specs.declared.naming.Naming.{Naming}
 use Rattle.jvm_named.specs.Names.{naming_view}
 use Rattle.call_revelation.specs.declared.book.Book.{Book}

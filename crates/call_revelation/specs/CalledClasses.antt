@@ -2,12 +2,12 @@
 use Rattle.std.specs.Prelude.{◌≡◌, ◌<◌, ℕ, true, List, [], ◌∷◌, ◌++◌, length, flat_map, if◌then◌else◌}
 use Rattle.std.specs.Option.{option_to_list}
 use Rattle.jvm_model.specs.declared.program.Program.{Program}
-use Rattle.jvm_model.specs.Load.{is_among}
-use Rattle.jvm_model.specs.Lookup.{is_subtype}
-use Rattle.jvm_model.specs.Naming as model
-use Rattle.jvm_model.specs.Programs.{class_named}
-use Rattle.jvm_model.specs.Revelation.{namings_of}
-use Rattle.jvm_model.specs.Targets.{operations_of}
+use Rattle.jvm_model.specs.Classes.Load.{is_among}
+use Rattle.jvm_model.specs.Classes.Lookup.{is_subtype}
+use Rattle.jvm_model.specs.Instructions.Naming as model
+use Rattle.jvm_model.specs.Basis.Programs.{class_named}
+use Rattle.jvm_model.specs.Profiling.Revelation.{namings_of}
+use Rattle.jvm_model.specs.Profiling.Targets.{operations_of}
 use Rattle.call_revelation.specs.declared.named.Named.{Named}
 use Rattle.call_revelation.specs.Books.{is_call}
 use Rattle.call_revelation.specs.Tables.{list_at}

@@ -2,14 +2,14 @@
 use Rattle.std.specs.Prelude.{◌≡◌, ◌⊎◌, ℕ, ◌<◌, Bool, true, List, [], ◌∷◌, ◌++◌, length, Option, None, if◌then◌else◌}
 use Rattle.std.specs.Option.{option_and_then}
 use Rattle.jvm_model.specs.declared.program.Program.{Program}
-use Rattle.jvm_model.specs.InvocationRules.{Selecting, Virtual, OfInterface}
-use Rattle.jvm_model.specs.KindNumbers.{user_count}
-use Rattle.jvm_model.specs.Load.{is_among}
-use Rattle.jvm_model.specs.Lookup.{MemberPlace, interfaces_of, is_subtype, superclass_of}
-use Rattle.jvm_model.specs.Naming as model
-use Rattle.jvm_model.specs.Programs.{initializer_of, number_of_method}
-use Rattle.jvm_model.specs.Selection.{selected}
-use Rattle.jvm_model.specs.Targets.{begun_field, begun_on, begun_static, initializers, where_loaded}
+use Rattle.jvm_model.specs.Instructions.InvocationRules.{Selecting, Virtual, OfInterface}
+use Rattle.jvm_model.specs.Basis.KindNumbers.{user_count}
+use Rattle.jvm_model.specs.Classes.Load.{is_among}
+use Rattle.jvm_model.specs.Classes.Lookup.{MemberPlace, interfaces_of, is_subtype, superclass_of}
+use Rattle.jvm_model.specs.Instructions.Naming as model
+use Rattle.jvm_model.specs.Basis.Programs.{initializer_of, number_of_method}
+use Rattle.jvm_model.specs.Classes.Selection.{selected}
+use Rattle.jvm_model.specs.Profiling.Targets.{begun_field, begun_on, begun_static, initializers, where_loaded}
 use Rattle.class_linker.specs.Linkers.{IsLoaded, LinkerView}
 use Rattle.jvm_named.specs.Numbers.{AreNumbers, Row}
 use Rattle.call_revelation.specs.declared.lineage.Lineage.{Lineage}

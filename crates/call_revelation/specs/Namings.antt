@@ -4,15 +4,15 @@ use Rattle.std.specs.Option.{option_map_or}
 use Rattle.const_pool.specs.declared.class.ClassFile.{ClassFile}
 use Rattle.const_pool.specs.declared.class.CodeAttribute.{CodeAttribute}
 use Rattle.const_pool.specs.declared.class.Member.{Member}
-use Rattle.jvm_model.specs.Data.{Named}
-use Rattle.jvm_model.specs.Naming.{Naming}
-use Rattle.jvm_model.specs.Lines.{operation_of}
-use Rattle.jvm_model.specs.Methods.{code_of}
-use Rattle.jvm_model.specs.Places.{read_from}
+use Rattle.jvm_model.specs.Basis.Data.{Named}
+use Rattle.jvm_model.specs.Instructions.Naming.{Naming}
+use Rattle.jvm_model.specs.Codes.Lines.{operation_of}
+use Rattle.jvm_model.specs.Basis.Methods.{code_of}
+use Rattle.jvm_model.specs.Codes.Places.{read_from}
 use Rattle.jvm_named.specs.Names.{naming_view}
 use Rattle.jvm_steps.specs.declared.line.Action.{Action}
 use Rattle.jvm_steps.specs.declared.line.Action.TheVariants as action
-use Rattle.jvm_model.specs.Revelation.{naming_in}
+use Rattle.jvm_model.specs.Profiling.Revelation.{naming_in}
 
 -- what a line names, where it can begin a method
 abbrev pub begins_by : Action → Option Naming

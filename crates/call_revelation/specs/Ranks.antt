@@ -1,7 +1,7 @@
 -- The places of classes in load order, and flags of methods.
 use Rattle.std.specs.Prelude.{◌≡◌, ℕ, suc, Bool, false, List, [], ◌∷◌, Option, Some, None, slice_get, unwrap_or, ◌==◌, if◌then◌else◌}
 use Rattle.std.specs.Option.{option_map}
-use Rattle.jvm_model.specs.Load.{is_among}
+use Rattle.jvm_model.specs.Classes.Load.{is_among}
 
 -- none of them stands there twice
 abbrev pub AreDistinct : List ℕ → Type 0

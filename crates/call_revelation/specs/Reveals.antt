@@ -6,16 +6,16 @@ use Rattle.jvm_model.specs.declared.event.Mark.{Mark}
 use Rattle.jvm_model.specs.declared.event.Mark.TheVariants.{Off, Plain, Root}
 use Rattle.jvm_model.specs.declared.program.MethodPlace.{MethodPlace}
 use Rattle.jvm_model.specs.declared.program.Program.{Program}
-use Rattle.jvm_model.specs.KindNumbers.{user_count}
-use Rattle.jvm_model.specs.Load.{is_among}
-use Rattle.jvm_model.specs.Points.{is_target}
-use Rattle.jvm_model.specs.Programs.{place_of_method}
-use Rattle.jvm_model.specs.Revealed.{Revealed, mark_of}
-use Rattle.jvm_model.specs.Revelation.{IsLoadOrder}
-use Rattle.jvm_model.specs.Sound.{HasClass, IsFit}
-use Rattle.jvm_model.specs.Swaps.{same_mark}
-use Rattle.jvm_model.specs.Targets.{operations_of}
-use Rattle.jvm_steps.specs.Prepared.{HasShortCodes}
+use Rattle.jvm_model.specs.Basis.KindNumbers.{user_count}
+use Rattle.jvm_model.specs.Classes.Load.{is_among}
+use Rattle.jvm_model.specs.Profiling.Points.{is_target}
+use Rattle.jvm_model.specs.Basis.Programs.{place_of_method}
+use Rattle.jvm_model.specs.Profiling.Revealed.{Revealed, mark_of}
+use Rattle.jvm_model.specs.Profiling.Revelation.{IsLoadOrder}
+use Rattle.jvm_model.specs.Soundness.Sound.{HasClass, IsFit}
+use Rattle.jvm_model.specs.Profiling.Swaps.{same_mark}
+use Rattle.jvm_model.specs.Profiling.Targets.{operations_of}
+use Rattle.jvm_steps.specs.Codes.Prepared.{HasShortCodes}
 use Rattle.class_linker.specs.Linkers.{IsLoaded, LinkerView}
 use Rattle.jvm_named.specs.Numbers.{AreNumbers}
 use Rattle.call_revelation.specs.declared.reveal.Reveal.{Reveal}

@@ -1,7 +1,7 @@
 -- Lists that are kept by number, and numbers that are gathered.
 use Rattle.std.specs.Prelude.{◌≡◌, ◌<◌, ℕ, zero, suc, List, [], ◌∷◌, ◌++◌, replicate, slice_get, unwrap_or, ◌||◌}
 use Rattle.std.specs.List.{AllByRecursion}
-use Rattle.jvm_model.specs.Load.{is_among}
+use Rattle.jvm_model.specs.Classes.Load.{is_among}
 
 -- the list with this number; there is nothing in others
 abbrev pub list_at : {A : Type 0} → List (List A) → ℕ → List A

@@ -2,12 +2,12 @@
 
 ghost use Rattle.std.specs.Prelude.{◌≡◌, ◌<◌, ℕ, List, filter_map, length, true, OnOk, Some};
 ghost use Rattle.std.specs.Option.{option_and_then, option_to_list};
-ghost use Rattle.jvm_model.specs.InvocationRules.{Special};
-ghost use Rattle.jvm_model.specs.Load.{is_among};
-ghost use Rattle.jvm_model.specs.Naming.{Invokespecial};
-ghost use Rattle.jvm_model.specs.Programs.{class_named, initializer_name};
-ghost use Rattle.jvm_model.specs.Sound.{HasLoadedCaller};
-ghost use Rattle.jvm_model.specs.SuperCalls.{invoked_special};
+ghost use Rattle.jvm_model.specs.Instructions.InvocationRules.{Special};
+ghost use Rattle.jvm_model.specs.Classes.Load.{is_among};
+ghost use Rattle.jvm_model.specs.Instructions.Naming.{Invokespecial};
+ghost use Rattle.jvm_model.specs.Basis.Programs.{class_named, initializer_name};
+ghost use Rattle.jvm_model.specs.Soundness.Sound.{HasLoadedCaller};
+ghost use Rattle.jvm_model.specs.Classes.SuperCalls.{invoked_special};
 ghost use Rattle.class_index.specs.Members.{wanted_view};
 ghost use Rattle.class_index.specs.Orders.{with_classes};
 ghost use Rattle.class_linker.specs.Linkers.{IsLoaded};
@@ -17,8 +17,8 @@ ghost use Rattle.jvm_named.specs.Numbers.{AreNumbers};
 ghost use Rattle.call_revelation.specs.Lineages.{AreKnown, begun_at, begun_named, initializer_in};
 ghost use Rattle.call_revelation.specs.Lineages.{number_of, selecting, selection_of};
 ghost use Rattle.call_revelation.specs.Tables.{Adds};
-ghost use Rattle.jvm_model.specs.Targets.{begun_by, begun_field, begun_on, begun_static};
-ghost use Rattle.jvm_model.specs.Targets.{initializers, selections};
+ghost use Rattle.jvm_model.specs.Profiling.Targets.{begun_by, begun_field, begun_on, begun_static};
+ghost use Rattle.jvm_model.specs.Profiling.Targets.{initializers, selections};
 
 use crate::lineage::Lineage;
 use crate::lookup::{

@@ -3,12 +3,12 @@
 ghost use Rattle.std.specs.Prelude.{◌≡◌, ◌<◌, [], if◌then◌else◌, is_ok, is_some, length, map, replicate, true, unwrap_or, IfOk, OnOk, None, ℕ};
 ghost use Rattle.std.specs.List.{AllByRecursion};
 ghost use Rattle.std.specs.Option.{option_copied};
-ghost use Rattle.jvm_model.specs.Naming.{resolved_name};
-ghost use Rattle.jvm_model.specs.Programs.{class_named};
-ghost use Rattle.jvm_model.specs.Revelation.{is_named, namings_of};
-ghost use Rattle.jvm_model.specs.Targets.{operations_of};
+ghost use Rattle.jvm_model.specs.Instructions.Naming.{resolved_name};
+ghost use Rattle.jvm_model.specs.Basis.Programs.{class_named};
+ghost use Rattle.jvm_model.specs.Profiling.Revelation.{is_named, namings_of};
+ghost use Rattle.jvm_model.specs.Profiling.Targets.{operations_of};
 ghost use Rattle.jvm_named.specs.Names.{naming_view};
-ghost use Rattle.jvm_steps.specs.Prepared.{HasShortCodes};
+ghost use Rattle.jvm_steps.specs.Codes.Prepared.{HasShortCodes};
 ghost use Rattle.call_revelation.specs.Books.{HasMore, IsBookOf, code_at, is_noted, naming_at};
 ghost use Rattle.call_revelation.specs.Books.{with_noted, with_use, with_uses};
 ghost use Rattle.call_revelation.specs.Tables.{list_at};

@@ -2,10 +2,10 @@
 
 ghost use Rattle.std.specs.Prelude.{◌≡◌, ◌<◌, ◌∷◌, [], ℕ, false, is_some, length, slice_set, true, IfOk, OnErr, OnOk};
 ghost use Rattle.jvm_model.specs.declared.program.Program.{Program};
-ghost use Rattle.jvm_model.specs.Load.{is_among};
-ghost use Rattle.jvm_model.specs.Revealed.{with_method_entered, with_none_entered};
-ghost use Rattle.jvm_model.specs.Sound.{HasClass};
-ghost use Rattle.jvm_model.specs.Targets.{operations_of, targets_in};
+ghost use Rattle.jvm_model.specs.Classes.Load.{is_among};
+ghost use Rattle.jvm_model.specs.Profiling.Revealed.{with_method_entered, with_none_entered};
+ghost use Rattle.jvm_model.specs.Soundness.Sound.{HasClass};
+ghost use Rattle.jvm_model.specs.Profiling.Targets.{operations_of, targets_in};
 ghost use Rattle.call_revelation.specs.Books.{code_at};
 ghost use Rattle.call_revelation.specs.Reveals.{IsAhead, IsFront, IsGrown, IsKept, IsRevelation};
 ghost use Rattle.call_revelation.specs.Ranks.{flag_at};

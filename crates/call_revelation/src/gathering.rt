@@ -2,16 +2,16 @@
 
 ghost use Rattle.std.specs.Prelude.{◌≡◌, ◌<◌, ◌+◌, ◌^◌, ℕ, [], filter, flat_map, length, map, true, IfOk, OnOk};
 ghost use Rattle.std.specs.List.{AllByRecursion, range_with_len};
-ghost use Rattle.jvm_model.specs.KindNumbers.{user_count};
-ghost use Rattle.jvm_model.specs.Load.{is_among};
-ghost use Rattle.jvm_model.specs.Programs.{numbered};
-ghost use Rattle.jvm_model.specs.Sound.{HasClass, HasLoadedCaller, IsFit};
-ghost use Rattle.jvm_model.specs.Targets.{begun_by, targets};
+ghost use Rattle.jvm_model.specs.Basis.KindNumbers.{user_count};
+ghost use Rattle.jvm_model.specs.Classes.Load.{is_among};
+ghost use Rattle.jvm_model.specs.Basis.Programs.{numbered};
+ghost use Rattle.jvm_model.specs.Soundness.Sound.{HasClass, HasLoadedCaller, IsFit};
+ghost use Rattle.jvm_model.specs.Profiling.Targets.{begun_by, targets};
 ghost use Rattle.class_index.specs.Orders.{with_classes};
 ghost use Rattle.class_linker.specs.Linkers.{IsLoaded};
 ghost use Rattle.jvm_named.specs.Names.{naming_view};
 ghost use Rattle.jvm_named.specs.Numbers.{all_coded};
-ghost use Rattle.jvm_steps.specs.Prepared.{HasShortCodes};
+ghost use Rattle.jvm_steps.specs.Codes.Prepared.{HasShortCodes};
 ghost use Rattle.call_revelation.specs.Lineages.{AreKnown, IsLineage};
 ghost use Rattle.call_revelation.specs.Tables.{Adds, IsRising};
 

@@ -2,7 +2,7 @@
 
 ghost use Rattle.std.specs.Prelude.{◌≡◌, [], if◌then◌else◌, is_ok, replicate, true, IfOk, OnOk, ℕ};
 ghost use Rattle.jvm_model.specs.declared.program.Program.{Program};
-ghost use Rattle.jvm_model.specs.Load.{is_among};
+ghost use Rattle.jvm_model.specs.Classes.Load.{is_among};
 ghost use Rattle.class_index.specs.Orders.{with_class};
 ghost use Rattle.call_revelation.specs.Lineages.{IsClosed, IsLineage, IsNoted, LeadTo, direct, noted};
 ghost use Rattle.call_revelation.specs.Tables.{list_at};

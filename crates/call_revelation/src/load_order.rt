@@ -2,7 +2,7 @@
 
 ghost use Rattle.std.specs.Prelude.{◌≡◌, [], if◌then◌else◌, is_ok, length, take, IfOk};
 ghost use Rattle.class_index.specs.Orders.{with_class};
-ghost use Rattle.jvm_model.specs.Load.{is_among};
+ghost use Rattle.jvm_model.specs.Classes.Load.{is_among};
 ghost use Rattle.call_revelation.specs.Ranks.{AreDistinct, rank_of};
 
 use crate::tables::{make_room, repeated};

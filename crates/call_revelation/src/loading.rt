@@ -3,12 +3,12 @@
 ghost use Rattle.std.specs.Prelude.{◌≡◌, ◌≤◌, ◌++◌, [], ◌∷◌, List, ℕ, false, drop, flat_map, length, take, true, IfOk, IfSome, OnErr, OnOk, Some};
 ghost use Rattle.std.specs.List.{AllByRecursion};
 ghost use Rattle.std.specs.Option.{option_copied, option_map_or};
-ghost use Rattle.jvm_model.specs.Load.{is_among};
-ghost use Rattle.jvm_model.specs.Lookup.{is_subtype};
-ghost use Rattle.jvm_model.specs.Revealed.{with_loaded};
-ghost use Rattle.jvm_model.specs.Revelation.{IsLoadOrder};
-ghost use Rattle.jvm_model.specs.Sound.{HasSupertypes};
-ghost use Rattle.jvm_model.specs.Targets.{begun_by};
+ghost use Rattle.jvm_model.specs.Classes.Load.{is_among};
+ghost use Rattle.jvm_model.specs.Classes.Lookup.{is_subtype};
+ghost use Rattle.jvm_model.specs.Profiling.Revealed.{with_loaded};
+ghost use Rattle.jvm_model.specs.Profiling.Revelation.{IsLoadOrder};
+ghost use Rattle.jvm_model.specs.Soundness.Sound.{HasSupertypes};
+ghost use Rattle.jvm_model.specs.Profiling.Targets.{begun_by};
 ghost use Rattle.class_linker.specs.Linkers.{IsLoaded};
 ghost use Rattle.jvm_named.specs.Names.{naming_view};
 ghost use Rattle.call_revelation.specs.Books.{Begins, called_by, called_from};

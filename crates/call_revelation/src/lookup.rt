@@ -2,16 +2,16 @@
 
 ghost use Rattle.std.specs.Prelude.{◌≡◌, true};
 ghost use Rattle.std.specs.Option.{option_map};
-ghost use Rattle.jvm_model.specs.FieldRules.{is_static_field};
-ghost use Rattle.jvm_model.specs.Lookup.{Found, resolved_field, resolved_method};
-ghost use Rattle.jvm_model.specs.Programs.{initializer_name, initializer_of};
-ghost use Rattle.jvm_model.specs.Selection.{is_static, selected};
+ghost use Rattle.jvm_model.specs.Instructions.FieldRules.{is_static_field};
+ghost use Rattle.jvm_model.specs.Classes.Lookup.{Found, resolved_field, resolved_method};
+ghost use Rattle.jvm_model.specs.Basis.Programs.{initializer_name, initializer_of};
+ghost use Rattle.jvm_model.specs.Classes.Selection.{is_static, selected};
 ghost use Rattle.class_index.specs.Members.{wanted_view};
 ghost use Rattle.class_linker.specs.Linkers.{IsLoaded};
 ghost use Rattle.jvm_named.specs.Members.{at_place, reference_of};
 ghost use Rattle.jvm_named.specs.Numbers.{AreNumbers};
 ghost use Rattle.call_revelation.specs.Lineages.{initializer_in, number_of, selected_below, selection_of};
-ghost use Rattle.jvm_model.specs.Targets.{class_with_methods, found_where, loaded_class_named};
+ghost use Rattle.jvm_model.specs.Profiling.Targets.{class_with_methods, found_where, loaded_class_named};
 ghost use Rattle.call_revelation.specs.Lineages.{AreKnown};
 
 use crate::lineage::Lineage;

@@ -3,7 +3,7 @@
 ghost use Rattle.std.specs.Prelude.{◌≡◌, [], if◌then◌else◌, flat_map, is_ok, is_some, map, replicate, slice_set, true, IfOk, OnOk, ℕ};
 ghost use Rattle.std.specs.Option.{option_to_list};
 ghost use Rattle.jvm_model.specs.declared.program.Program.{Program};
-ghost use Rattle.jvm_model.specs.Load.{is_among};
+ghost use Rattle.jvm_model.specs.Classes.Load.{is_among};
 ghost use Rattle.class_index.specs.Orders.{with_class, with_classes};
 ghost use Rattle.jvm_named.specs.Names.{naming_view};
 ghost use Rattle.call_revelation.specs.Books.{IsBookOf, code_at, is_call};

@@ -4,12 +4,12 @@ ghost use Rattle.std.specs.Prelude.{◌≡◌, ◌<◌, ◌^◌, ◌++◌, lengt
 ghost use Rattle.std.specs.List.{AllByRecursion};
 ghost use Rattle.std.specs.Option.{option_and_then, option_map, option_to_list};
 ghost use Rattle.code_model.specs.Instructions.{end_of};
-ghost use Rattle.jvm_model.specs.Lines.{operation_of};
+ghost use Rattle.jvm_model.specs.Codes.Lines.{operation_of};
 ghost use Rattle.jvm_named.specs.Names.{naming_view};
-ghost use Rattle.jvm_steps.specs.Prepared.{HasShortCode, HasShortCodes};
+ghost use Rattle.jvm_steps.specs.Codes.Prepared.{HasShortCode, HasShortCodes};
 ghost use Rattle.call_revelation.specs.Namings.{begins_by, code_namings, member_namings};
-ghost use Rattle.jvm_model.specs.Revelation.{naming_in, namings_of};
-ghost use Rattle.jvm_model.specs.Targets.{operations_of};
+ghost use Rattle.jvm_model.specs.Profiling.Revelation.{naming_in, namings_of};
+ghost use Rattle.jvm_model.specs.Profiling.Targets.{operations_of};
 
 use crate::tables::add_some;
 use code_model::{Instr, instr_at};

@@ -1,7 +1,7 @@
 //! Places in load order, and the classes that stand there.
 
 ghost use Rattle.std.specs.Prelude.{◌≡◌, ℕ, filter_map, slice_get, IfOk};
-ghost use Rattle.jvm_model.specs.Load.{is_among};
+ghost use Rattle.jvm_model.specs.Classes.Load.{is_among};
 ghost use Rattle.call_revelation.specs.Tables.{IsRising};
 
 use crate::tables::add_some;

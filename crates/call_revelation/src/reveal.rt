@@ -4,12 +4,12 @@ ghost use Rattle.std.specs.Prelude.{◌≡◌, ◌<◌, ◌^◌, [], ℕ, false,
 ghost use Rattle.std.specs.List.{AllByRecursion};
 ghost use Rattle.jvm_model.specs.declared.event.Mark.TheVariants.{Off};
 ghost use Rattle.jvm_model.specs.declared.program.Program.{Program};
-ghost use Rattle.jvm_model.specs.Load.{is_among};
-ghost use Rattle.jvm_model.specs.Points.{is_empty};
-ghost use Rattle.jvm_model.specs.Programs.{numbered};
-ghost use Rattle.jvm_model.specs.Revealed.{mark_of};
-ghost use Rattle.jvm_model.specs.Sound.{IsFit};
-ghost use Rattle.jvm_steps.specs.Prepared.{HasShortCodes};
+ghost use Rattle.jvm_model.specs.Classes.Load.{is_among};
+ghost use Rattle.jvm_model.specs.Profiling.Points.{is_empty};
+ghost use Rattle.jvm_model.specs.Basis.Programs.{numbered};
+ghost use Rattle.jvm_model.specs.Profiling.Revealed.{mark_of};
+ghost use Rattle.jvm_model.specs.Soundness.Sound.{IsFit};
+ghost use Rattle.jvm_steps.specs.Codes.Prepared.{HasShortCodes};
 ghost use Rattle.call_revelation.specs.Ranks.{flag_at};
 ghost use Rattle.call_revelation.specs.Reveals.{IsRevelation, mark_kept};
 ghost use Rattle.call_revelation.specs.Reveals.{nothing_revealed, now_of, owned_from};

@@ -2,7 +2,7 @@
 
 ghost use Rattle.std.specs.Prelude.{◌≡◌, OnErr, OnOk};
 ghost use Rattle.jvm_model.specs.declared.program.Program.{Program};
-ghost use Rattle.jvm_model.specs.Revealed.{with_selected, without_selected};
+ghost use Rattle.jvm_model.specs.Profiling.Revealed.{with_selected, without_selected};
 ghost use Rattle.call_revelation.specs.Reveals.{IsRevelation, now_of};
 
 use crate::reveal::Reveal;

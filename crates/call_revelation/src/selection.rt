@@ -1,9 +1,9 @@
 //! The methods that are selected.
 
 ghost use Rattle.std.specs.Prelude.{◌≡◌, ◌++◌, ◌∷◌, [], if◌then◌else◌, is_ok, IfOk, OnOk};
-ghost use Rattle.jvm_model.specs.Load.{is_among};
-ghost use Rattle.jvm_model.specs.Points.{is_empty};
-ghost use Rattle.jvm_model.specs.Revealed.{without_method};
+ghost use Rattle.jvm_model.specs.Classes.Load.{is_among};
+ghost use Rattle.jvm_model.specs.Profiling.Points.{is_empty};
+ghost use Rattle.jvm_model.specs.Profiling.Revealed.{without_method};
 
 use crate::tables::{make_room, put, repeated};
 use jf_bytes::{NoMemory, Seq};

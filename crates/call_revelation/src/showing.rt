@@ -2,8 +2,8 @@
 
 ghost use Rattle.std.specs.Prelude.{◌≡◌, filter_map, slice_set, IfOk};
 ghost use Rattle.jvm_model.specs.declared.program.Program.{Program};
-ghost use Rattle.jvm_model.specs.Revealed.{Revealed, changed_of, marks_of};
-ghost use Rattle.jvm_model.specs.Swaps.{same_mark};
+ghost use Rattle.jvm_model.specs.Profiling.Revealed.{Revealed, changed_of, marks_of};
+ghost use Rattle.jvm_model.specs.Profiling.Swaps.{same_mark};
 ghost use Rattle.call_revelation.specs.Reveals.{IsRevelation, class_changed, mark_at};
 ghost use Rattle.call_revelation.specs.Reveals.{mark_kept, now_of, rank_changed, with_marks};
 

@@ -9,8 +9,8 @@ use Rattle.const_pool.specs.declared.class.ClassFile.{ClassFile}
 use Rattle.const_pool.specs.declared.class.Member.{Member}
 use Rattle.const_pool.specs.declared.pool.Const.{Const}
 use Rattle.const_pool.specs.References.{NameAndType}
-use Rattle.jvm_model.specs.Methods.{is_member, method_from, method_named, same_text_at}
-use Rattle.jvm_model.specs.SharedState.{field_named}
+use Rattle.jvm_model.specs.Basis.Methods.{is_member, method_from, method_named, same_text_at}
+use Rattle.jvm_model.specs.Basis.SharedState.{field_named}
 use Rattle.class_index.specs.declared.table.Table.{Table}
 use Rattle.class_index.specs.Buckets.{bucket_at, buckets_of, filled_from, is_at, member_number, number_of, sought, table_of, with_position}
 use Rattle.class_index.proofs.OrderLemmas.{equal}

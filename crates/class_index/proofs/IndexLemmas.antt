@@ -9,9 +9,9 @@ use Rattle.std.proofs.lemmas.Iterator.Adapters.{position_from-zero}
 use Rattle.std.proofs.lemmas.Slice.Eq.{bytes_eq-Decides}
 use Rattle.const_pool.specs.declared.class.ClassFile.{ClassFile}
 use Rattle.jvm_model.specs.declared.program.Program.{Program}
-use Rattle.jvm_model.specs.Programs.{class_named, has_name, name_of}
+use Rattle.jvm_model.specs.Basis.Programs.{class_named, has_name, name_of}
 use Rattle.const_pool.specs.References.{named_class}
-use Rattle.jvm_model.specs.Lookup.{interface_names}
+use Rattle.jvm_model.specs.Classes.Lookup.{interface_names}
 use Rattle.class_index.specs.Indices.{interfaces_in}
 use Rattle.class_index.specs.Names.{Entries, named_from, position_of, with_first, with_name}
 

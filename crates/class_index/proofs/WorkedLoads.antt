@@ -1,7 +1,7 @@
 -- Worked loads over small class lists (JVM Specification 5.3): each way to end, and what stays loaded.
 use Rattle.std.specs.Prelude.{◌≡◌, ℕ, List, [], ◌∷◌, codes, refl}
 use Rattle.jvm_model.specs.declared.program.Program.{Program}
-use Rattle.jvm_model.specs.Load.{done, failed, NoClass, Circular, Incompatible, load_of}
+use Rattle.jvm_model.specs.Classes.Load.{done, failed, NoClass, Circular, Incompatible, load_of}
 use Rattle.class_index.proofs.WorkedClasses.{object, root_class, class_shape, interface_shape, program_of}
 
 abbrev a : List ℕ

@@ -3,11 +3,11 @@ use Rattle.std.specs.Prelude.{◌≡◌, ℕ, true, false, List, [], ◌∷◌, 
 use Rattle.const_pool.specs.declared.descriptor.Kind.TheVariants.{Int, Long, Ref}
 use Rattle.const_pool.specs.References.{NameAndType}
 use Rattle.jvm_model.specs.declared.program.Program.{Program}
-use Rattle.jvm_model.specs.Kinds.{is_subkind, kind_named}
-use Rattle.jvm_model.specs.Layouts.{layout}
-use Rattle.jvm_model.specs.Lookup.{Found, Fails, incompatible_change, is_subtype, place_in, resolved_field, resolved_method}
-use Rattle.jvm_model.specs.Selection.{package_of, selected}
-use Rattle.jvm_model.specs.SharedState.{no_such_field, no_such_method}
+use Rattle.jvm_model.specs.Classes.Kinds.{is_subkind, kind_named}
+use Rattle.jvm_model.specs.Classes.Layouts.{layout}
+use Rattle.jvm_model.specs.Classes.Lookup.{Found, Fails, incompatible_change, is_subtype, place_in, resolved_field, resolved_method}
+use Rattle.jvm_model.specs.Classes.Selection.{package_of, selected}
+use Rattle.jvm_model.specs.Basis.SharedState.{no_such_field, no_such_method}
 use Rattle.class_index.proofs.WorkedClasses.{class_shape, interface_shape, item, object, program_of, root_class, texts, with_fields, with_methods}
 
 abbrev a : List ℕ

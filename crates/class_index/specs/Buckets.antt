@@ -5,7 +5,7 @@ use Rattle.const_pool.specs.declared.class.ClassFile.{ClassFile}
 use Rattle.const_pool.specs.declared.class.Member.{Member}
 use Rattle.const_pool.specs.declared.pool.Const.{Const}
 use Rattle.const_pool.specs.References.{NameAndType, named_text}
-use Rattle.jvm_model.specs.Methods.{is_member}
+use Rattle.jvm_model.specs.Basis.Methods.{is_member}
 use Rattle.class_index.specs.declared.table.Table.{Table}
 
 -- ---- numbers

@@ -6,7 +6,7 @@ use Rattle.const_pool.specs.declared.class.ClassFile.{ClassFile}
 use Rattle.std.specs.List.{AllByRecursion}
 use Rattle.const_pool.specs.ClassFile.{IsClassFile}
 use Rattle.jvm_model.specs.declared.program.Program.{Program}
-use Rattle.jvm_model.specs.Programs.{class_named}
+use Rattle.jvm_model.specs.Basis.Programs.{class_named}
 use Rattle.class_index.specs.declared.table.Table.{Table}
 use Rattle.class_index.specs.Buckets.{table_of}
 use Rattle.class_index.specs.Names.{Entries, position_of}

@@ -4,7 +4,7 @@ use Rattle.std.specs.Option.{option_map}
 use Rattle.class_index.specs.declared.meaning.Element.{Element}
 use Rattle.class_index.specs.declared.meaning.Element.TheVariants as code
 use Rattle.class_index.specs.declared.meaning.Meaning.{Meaning}
-use Rattle.jvm_model.specs.Kinds as kinds
+use Rattle.jvm_model.specs.Classes.Kinds as kinds
 
 abbrev pub element_view : Element → kinds.Element
 element_view (code.Primitive number) = kinds.Primitive number

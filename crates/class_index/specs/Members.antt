@@ -2,8 +2,8 @@
 use Rattle.std.specs.Prelude.{ℕ, ◌<◌, ◌^◌, ◌==◌, Bool, false, length}
 use Rattle.std.specs.Option.{option_map_or}
 use Rattle.jvm_model.specs.declared.program.Program.{Program}
-use Rattle.jvm_model.specs.Lookup.{MemberPlace, method_at, place_in}
-use Rattle.jvm_model.specs.Selection.{signature_of}
+use Rattle.jvm_model.specs.Classes.Lookup.{MemberPlace, method_at, place_in}
+use Rattle.jvm_model.specs.Classes.Selection.{signature_of}
 use Rattle.const_pool.specs.declared.class.ClassFile.{ClassFile}
 use Rattle.const_pool.specs.References.{NameAndType}
 use Rattle.class_index.specs.declared.wanted.Wanted.{Wanted}

@@ -3,7 +3,7 @@ use Rattle.std.specs.Prelude.{ℕ, ◌+◌, List, [], ◌∷◌, ◌++◌, Optio
 use Rattle.std.specs.Str.{bytes_eq}
 use Rattle.std.specs.Map.{lookup}
 use Rattle.const_pool.specs.declared.class.ClassFile.{ClassFile}
-use Rattle.jvm_model.specs.Programs.{name_of}
+use Rattle.jvm_model.specs.Basis.Programs.{name_of}
 
 abbrev pub Entries : Type 0
 Entries = List (List ℕ × ℕ)

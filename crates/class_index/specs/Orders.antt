@@ -1,7 +1,7 @@
 -- Classes in the order in which they are searched, each once.
 use Rattle.std.specs.Prelude.{◌≡◌, ℕ, List, [], ◌∷◌, ◌++◌, Option, if◌then◌else◌}
-use Rattle.jvm_model.specs.Load.{is_among}
-use Rattle.jvm_model.specs.Lookup.{first_in}
+use Rattle.jvm_model.specs.Classes.Load.{is_among}
+use Rattle.jvm_model.specs.Classes.Lookup.{first_in}
 
 -- a class more, if it is none of them
 abbrev pub with_class : List ℕ → ℕ → List ℕ

@@ -1,7 +1,7 @@
 //! Access flags (JVM Specification 4.1, 4.5, 4.6).
 
 ghost use Rattle.std.specs.Prelude.{◌≡◌};
-ghost use Rattle.jvm_model.specs.Methods.{has_flag};
+ghost use Rattle.jvm_model.specs.Basis.Methods.{has_flag};
 
 pub const PUBLIC: u16 = 1;
 

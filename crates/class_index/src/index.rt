@@ -4,8 +4,8 @@ ghost use Rattle.std.specs.Prelude.{◌≡◌, ◌<◌, ◌^◌, [], length, map
 ghost use Rattle.std.specs.List.{AllByRecursion};
 ghost use Rattle.std.specs.Option.{option_copied, option_map};
 ghost use Rattle.const_pool.specs.ClassFile.{IsClassFile};
-ghost use Rattle.jvm_model.specs.Programs.{class_at, class_named, super_of};
-ghost use Rattle.jvm_model.specs.Lookup.{interfaces_of, is_interface};
+ghost use Rattle.jvm_model.specs.Basis.Programs.{class_at, class_named, super_of};
+ghost use Rattle.jvm_model.specs.Classes.Lookup.{interfaces_of, is_interface};
 ghost use Rattle.class_index.specs.Buckets.{table_of};
 ghost use Rattle.class_index.specs.Indices.{IsLinkable, class_of_entry, interfaces_in};
 ghost use Rattle.class_index.specs.Members.{HasFewMembers};

@@ -2,8 +2,8 @@
 
 ghost use Rattle.std.specs.Prelude.{◌≡◌, ◌==◌, position};
 ghost use Rattle.std.specs.Option.{option_map};
-ghost use Rattle.jvm_model.specs.Kinds.{array_from, before_semicolon, is_array_name, meaning_of};
-ghost use Rattle.jvm_model.specs.Kinds.{element_of, primitive_code};
+ghost use Rattle.jvm_model.specs.Classes.Kinds.{array_from, before_semicolon, is_array_name, meaning_of};
+ghost use Rattle.jvm_model.specs.Classes.Kinds.{element_of, primitive_code};
 ghost use Rattle.class_index.specs.Meanings.{array_behind, element_view, meaning_view};
 
 /// What is no array, or an array's element: a code of newarray, or the name of a class.

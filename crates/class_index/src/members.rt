@@ -4,9 +4,9 @@ ghost use Rattle.std.specs.Prelude.{◌≡◌};
 ghost use Rattle.std.specs.Option.{option_map};
 ghost use Rattle.class_index.specs.Buckets.{table_of};
 ghost use Rattle.class_index.specs.Members.{wanted_view};
-ghost use Rattle.jvm_model.specs.Lookup.{field_at, first_in, method_at};
-ghost use Rattle.jvm_model.specs.Methods.{method_named};
-ghost use Rattle.jvm_model.specs.SharedState.{field_named};
+ghost use Rattle.jvm_model.specs.Classes.Lookup.{field_at, first_in, method_at};
+ghost use Rattle.jvm_model.specs.Basis.Methods.{method_named};
+ghost use Rattle.jvm_model.specs.Basis.SharedState.{field_named};
 ghost use Rattle.class_index.specs.Members.{place_view};
 
 use crate::index::Index;

@@ -2,7 +2,7 @@
 
 ghost use Rattle.std.specs.Prelude.{◌≡◌, [], if◌then◌else◌, is_ok, length, take, OnOk};
 ghost use Rattle.class_index.specs.Orders.{with_class, with_classes};
-ghost use Rattle.jvm_model.specs.Load.{is_among};
+ghost use Rattle.jvm_model.specs.Classes.Load.{is_among};
 
 use indexmap::IndexSet;
 use jf_bytes::NoMemory;

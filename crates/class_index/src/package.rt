@@ -1,8 +1,8 @@
 //! Packages of class names (JVM Specification 5.3).
 
 ghost use Rattle.std.specs.Prelude.{◌≡◌, ◌≤◌, length};
-ghost use Rattle.jvm_model.specs.Descriptors.{same_text};
-ghost use Rattle.jvm_model.specs.Selection.{package_end, package_of};
+ghost use Rattle.jvm_model.specs.Basis.Descriptors.{same_text};
+ghost use Rattle.jvm_model.specs.Classes.Selection.{package_end, package_of};
 
 /// The unit between the parts of a name.
 const SLASH: u16 = 47;

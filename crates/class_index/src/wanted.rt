@@ -1,7 +1,7 @@
 //! A member that is wanted.
 
 ghost use Rattle.std.specs.Prelude.{◌≡◌};
-ghost use Rattle.jvm_model.specs.Methods.{is_member, same_text_at};
+ghost use Rattle.jvm_model.specs.Basis.Methods.{is_member, same_text_at};
 ghost use Rattle.class_index.specs.Members.{wanted_view};
 
 use const_pool::{Member, Pool};

@@ -2,7 +2,7 @@
 use Rattle.std.proofs.Common.{◌≡◌, ℕ, zero, suc, true, false, List, [], length, ap, sym, refl, ◌∙◌}
 use Rattle.std.specs.Prelude.{Some, None, is_some, replicate}
 use Rattle.std.proofs.lemmas.List.{length-replicate}
-use Rattle.jvm_model.specs.Load.{is_among}
+use Rattle.jvm_model.specs.Classes.Load.{is_among}
 use Rattle.jvm_model.specs.declared.program.Program.{Program}
 use Rattle.class_linker.specs.declared.rows.Row.{Row}
 use Rattle.class_linker.specs.Rows.{Rows, row_at}

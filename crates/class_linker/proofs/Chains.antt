@@ -4,9 +4,9 @@ use Rattle.std.specs.Prelude.{Option, Some, None, flat_map, ◌⊎◌, ◌==◌,
 use Rattle.std.specs.Option.{option_to_list}
 use Rattle.std.proofs.lemmas.List.{append-nil}
 use Rattle.jvm_model.specs.declared.program.Program.{Program}
-use Rattle.jvm_model.specs.Programs.{super_of}
-use Rattle.jvm_model.specs.Load.{is_among}
-use Rattle.jvm_model.specs.Lookup.{interfaces_of, is_subtype, superclass_of, superclasses_within}
+use Rattle.jvm_model.specs.Basis.Programs.{super_of}
+use Rattle.jvm_model.specs.Classes.Load.{is_among}
+use Rattle.jvm_model.specs.Classes.Lookup.{interfaces_of, is_subtype, superclass_of, superclasses_within}
 use Rattle.class_index.proofs.OrderLemmas.{equal}
 use Rattle.class_linker.specs.Passing.{IsChain}
 use Rattle.class_linker.specs.Rows.{AreRows, Rows, has_row}

@@ -5,7 +5,7 @@ use Rattle.std.specs.List.{list_all}
 use Rattle.std.specs.Option.{option_to_list}
 use Rattle.std.proofs.lemmas.List.{append-nil}
 use Rattle.const_pool.specs.declared.descriptor.Kind.{Kind}
-use Rattle.jvm_model.specs.Load.{is_among}
+use Rattle.jvm_model.specs.Classes.Load.{is_among}
 use Rattle.class_index.proofs.OrderLemmas.{equal}
 use Rattle.class_linker.specs.Rows.{Rows, all_rows, has_row}
 

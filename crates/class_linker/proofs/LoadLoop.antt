@@ -3,8 +3,8 @@ use Rattle.std.proofs.Common.{◌≡◌, ℕ, suc, ◌-◌, ◌<◌, ◌≤◌, 
 use Rattle.std.specs.Prelude.{Option, Some, None}
 use Rattle.std.proofs.Math.ListN.{drop_of_length-le}
 use Rattle.std.proofs.Math.Seq.{drop-cons}
-use Rattle.jvm_model.specs.Load.{Incompatible, Loading, behind_needs, done, failed, is_among, is_met, load_named, load_needs, needs_of}
-use Rattle.jvm_model.specs.Lookup.{interfaces_of, superclass_of}
+use Rattle.jvm_model.specs.Classes.Load.{Incompatible, Loading, behind_needs, done, failed, is_among, is_met, load_named, load_needs, needs_of}
+use Rattle.jvm_model.specs.Classes.Lookup.{interfaces_of, superclass_of}
 use Rattle.jvm_model.specs.declared.program.Program.{Program}
 use Rattle.class_linker.specs.Rows.{Rows, all_rows, has_row}
 use Rattle.class_linker.specs.declared.loading.Fault as code

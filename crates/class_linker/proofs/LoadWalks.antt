@@ -6,10 +6,10 @@ use Rattle.std.specs.List.{cons_option, list_all}
 use Rattle.std.specs.Option.{option_and_then, option_map_or, option_to_list}
 use Rattle.const_pool.specs.declared.class.ClassFile.{ClassFile}
 use Rattle.const_pool.specs.References.{named_class}
-use Rattle.jvm_model.specs.Kinds.{Element, Primitive, Named, array_from, array_of, is_array_name, meaning_of}
-use Rattle.jvm_model.specs.Load.{Fault, Circular, Incompatible, Loading, Need, There, Begun, Fresh as Unloaded, behind_needs, by_standing, class_needs, done, failed, go_on, is_among, is_met, load_element, load_named, load_needs, need, need_fault, needs_of, standing_of, unless}
-use Rattle.jvm_model.specs.Lookup.{interface_names, interfaces_of, is_interface, superclass_of}
-use Rattle.jvm_model.specs.Programs.{class_at, class_named}
+use Rattle.jvm_model.specs.Classes.Kinds.{Element, Primitive, Named, array_from, array_of, is_array_name, meaning_of}
+use Rattle.jvm_model.specs.Classes.Load.{Fault, Circular, Incompatible, Loading, Need, There, Begun, Fresh as Unloaded, behind_needs, by_standing, class_needs, done, failed, go_on, is_among, is_met, load_element, load_named, load_needs, need, need_fault, needs_of, standing_of, unless}
+use Rattle.jvm_model.specs.Classes.Lookup.{interface_names, interfaces_of, is_interface, superclass_of}
+use Rattle.jvm_model.specs.Basis.Programs.{class_at, class_named}
 use Rattle.jvm_model.specs.declared.program.Program.{Program}
 use Rattle.class_linker.specs.declared.loading.Fault as code
 use Rattle.class_linker.specs.declared.loading.Standing.{Standing}

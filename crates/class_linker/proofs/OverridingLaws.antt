@@ -7,10 +7,10 @@ use Rattle.const_pool.specs.declared.class.Member.{Member}
 use Rattle.const_pool.specs.declared.pool.Const.{Const}
 use Rattle.const_pool.specs.References.{NameAndType}
 use Rattle.jvm_model.specs.declared.program.Program.{Program}
-use Rattle.jvm_model.specs.Lookup.{MemberPlace, is_subtype, method_at, place_in}
-use Rattle.jvm_model.specs.Methods.{is_member, method_from, same_text_at}
-use Rattle.jvm_model.specs.Programs.{class_at}
-use Rattle.jvm_model.specs.Selection.{signature_of, stands_below, texts_of}
+use Rattle.jvm_model.specs.Classes.Lookup.{MemberPlace, is_subtype, method_at, place_in}
+use Rattle.jvm_model.specs.Basis.Methods.{is_member, method_from, same_text_at}
+use Rattle.jvm_model.specs.Basis.Programs.{class_at}
+use Rattle.jvm_model.specs.Classes.Selection.{signature_of, stands_below, texts_of}
 use Rattle.class_index.specs.Members.{is_declared_as}
 use Rattle.class_index.proofs.OrderLemmas.{equal}
 use Rattle.class_index.proofs.MemberTexts.{both, text_is}

@@ -6,9 +6,9 @@ use Rattle.std.specs.Option.{option_map_or}
 use Rattle.std.proofs.lemmas.Slice.Eq.{bytes_eq-Decides}
 use Rattle.const_pool.specs.References.{NameAndType}
 use Rattle.jvm_model.specs.declared.program.Program.{Program}
-use Rattle.jvm_model.specs.Load.{is_among}
-use Rattle.jvm_model.specs.Lookup.{MemberPlace, is_subtype, method_at, place_in, supertypes}
-use Rattle.jvm_model.specs.Selection.{Overrides, directly, through, is_open, is_private, is_reached, overrides, package_at, passed_at, passes_on, same_package, signature_of, stands_below}
+use Rattle.jvm_model.specs.Classes.Load.{is_among}
+use Rattle.jvm_model.specs.Classes.Lookup.{MemberPlace, is_subtype, method_at, place_in, supertypes}
+use Rattle.jvm_model.specs.Classes.Selection.{Overrides, directly, through, is_open, is_private, is_reached, overrides, package_at, passed_at, passes_on, same_package, signature_of, stands_below}
 use Rattle.class_index.specs.Members.{is_declared_as}
 use Rattle.class_linker.specs.Rows.{AreRows, Rows, has_row}
 use Rattle.class_index.proofs.OrderLemmas.{equal}

@@ -4,9 +4,9 @@ use Rattle.std.specs.Prelude.{◌==◌, ◌&&◌, ◌||◌}
 use Rattle.std.specs.List.{list_any}
 use Rattle.std.specs.Option.{option_map_or}
 use Rattle.jvm_model.specs.declared.program.Program.{Program}
-use Rattle.jvm_model.specs.Lookup.{MemberPlace, is_subtype, method_at, supertypes}
+use Rattle.jvm_model.specs.Classes.Lookup.{MemberPlace, is_subtype, method_at, supertypes}
 use Rattle.class_index.specs.Members.{is_declared_as}
-use Rattle.jvm_model.specs.Selection.{is_reached, overrides, passed_at, stands_below}
+use Rattle.jvm_model.specs.Classes.Selection.{is_reached, overrides, passed_at, stands_below}
 use Rattle.class_index.proofs.OrderLemmas.{equal}
 use Rattle.class_linker.specs.Passing.{IsBetween, IsUnpassed}
 use Rattle.class_linker.specs.Rows.{AreRows, Rows, has_row}

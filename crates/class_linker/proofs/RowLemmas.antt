@@ -6,12 +6,12 @@ use Rattle.std.specs.Option.{option_map_or}
 use Rattle.std.proofs.lemmas.List.{append_assoc, append-nil, length-set}
 use Rattle.std.proofs.lemmas.List.Sums.{sum_by-cons}
 use Rattle.jvm_model.specs.declared.program.Program.{Program}
-use Rattle.jvm_model.specs.Layouts.{layout_within, own_kinds}
-use Rattle.jvm_model.specs.Lookup.{interfaces_of, is_interface, superclass_of, superclasses_within, superinterfaces_within, supertypes_within}
-use Rattle.jvm_model.specs.Programs.{class_at}
+use Rattle.jvm_model.specs.Classes.Layouts.{layout_within, own_kinds}
+use Rattle.jvm_model.specs.Classes.Lookup.{interfaces_of, is_interface, superclass_of, superclasses_within, superinterfaces_within, supertypes_within}
+use Rattle.jvm_model.specs.Basis.Programs.{class_at}
 use Rattle.class_linker.specs.declared.rows.Row.{Row}
 use Rattle.class_index.specs.Orders.{IsSearchedAs, with_class, with_classes}
-use Rattle.jvm_model.specs.Load.{is_among}
+use Rattle.jvm_model.specs.Classes.Load.{is_among}
 use Rattle.class_linker.specs.Rows.{AreKept, AreRows, IsClosed, IsRow, Rows, all_rows, has_row, layout_in, row_at, row_count, row_made, superclasses_in, superinterfaces_in, superinterfaces_made, supertypes_in, supertypes_made, with_interfaces, with_supertypes}
 use Rattle.class_index.proofs.OrderLemmas.{both, equal, equal_as, more, same, then_as}
 

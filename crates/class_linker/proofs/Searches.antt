@@ -4,8 +4,8 @@ use Rattle.std.specs.Prelude.{Option, Some, None, ◌==◌, ◌||◌}
 use Rattle.std.specs.Option.{option_map_or}
 use Rattle.std.proofs.Math.Seq.{drop-cons}
 use Rattle.jvm_model.specs.declared.program.Program.{Program}
-use Rattle.jvm_model.specs.Load.{is_among}
-use Rattle.jvm_model.specs.Lookup.{MemberPlace, first_in, place_in}
+use Rattle.jvm_model.specs.Classes.Load.{is_among}
+use Rattle.jvm_model.specs.Classes.Lookup.{MemberPlace, first_in, place_in}
 use Rattle.class_index.proofs.MemberTexts.{both}
 use Rattle.class_linker.specs.Passing.{AreUnpassed, IsChain, IsUnpassed}
 use Rattle.class_linker.specs.Rows.{AreRows, Rows, all_rows, has_row}

@@ -3,8 +3,8 @@ use Rattle.std.proofs.Common.{◌≡◌, ℕ, zero, suc, ◌<◌, ◌≤◌, Boo
 use Rattle.std.specs.Prelude.{flat_map, ◌⊎◌, ◌==◌, ◌||◌, ◌&&◌}
 use Rattle.std.proofs.lemmas.List.Concat.{flat_map-append}
 use Rattle.jvm_model.specs.declared.program.Program.{Program}
-use Rattle.jvm_model.specs.Load.{is_among}
-use Rattle.jvm_model.specs.Lookup.{interfaces_of, is_subtype, superclass_of, supertypes, supertypes_within}
+use Rattle.jvm_model.specs.Classes.Load.{is_among}
+use Rattle.jvm_model.specs.Classes.Lookup.{interfaces_of, is_subtype, superclass_of, supertypes, supertypes_within}
 use Rattle.class_linker.specs.Rows.{AreRows, Rows, all_rows, has_row, supertypes_in}
 use Rattle.class_linker.proofs.LoadLemmas.{among-append, among-front}
 use Rattle.class_index.proofs.OrderLemmas.{equal}

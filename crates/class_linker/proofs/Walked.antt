@@ -5,9 +5,9 @@ use Rattle.std.specs.List.{list_any}
 use Rattle.std.specs.Option.{option_map_or, option_or}
 use Rattle.std.proofs.lemmas.List.Sums.{count_by-le-length}
 use Rattle.jvm_model.specs.declared.program.Program.{Program}
-use Rattle.jvm_model.specs.Layouts.{layout}
-use Rattle.jvm_model.specs.Load.{is_among}
-use Rattle.jvm_model.specs.Lookup.{first_in, is_subtype, place_in, superclasses, superinterfaces, supertypes}
+use Rattle.jvm_model.specs.Classes.Layouts.{layout}
+use Rattle.jvm_model.specs.Classes.Load.{is_among}
+use Rattle.jvm_model.specs.Classes.Lookup.{first_in, is_subtype, place_in, superclasses, superinterfaces, supertypes}
 use Rattle.class_index.specs.Orders.{IsSearchedAs}
 use Rattle.class_index.proofs.OrderLemmas.{first_in_both}
 use Rattle.class_linker.specs.Rows.{AreKept, AreRows, Rows, all_rows, has_row, layout_in, row_count, superclasses_in, superinterfaces_in, supertypes_in}

@@ -1,9 +1,9 @@
 -- Worked answers of invokespecial's search over one small class list.
 use Rattle.std.specs.Prelude.{◌≡◌, ℕ, List, [], ◌∷◌, Some, None, codes, refl}
 use Rattle.jvm_model.specs.declared.program.Program.{Program}
-use Rattle.jvm_model.specs.Lookup.{place_in}
+use Rattle.jvm_model.specs.Classes.Lookup.{place_in}
 use Rattle.class_index.proofs.WorkedClasses.{Item, class_shape, interface_shape, item, object, program_of, root_class, with_methods}
-use Rattle.jvm_model.specs.SuperCalls.{invoked_special}
+use Rattle.jvm_model.specs.Classes.SuperCalls.{invoked_special}
 
 -- a method without parameters that gives an int
 abbrev method : ℕ → List ℕ → Item

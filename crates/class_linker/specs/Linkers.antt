@@ -5,11 +5,11 @@ use Rattle.std.specs.Str.{bytes_eq}
 use Rattle.const_pool.specs.BuiltIn.{built_in_names}
 use Rattle.const_pool.specs.References.{NameAndType}
 use Rattle.jvm_model.specs.declared.program.Program.{Program}
-use Rattle.jvm_model.specs.KindNumbers.{KindParts, class_of_base}
-use Rattle.jvm_model.specs.Kinds.{kind_named}
-use Rattle.jvm_model.specs.Load as load
-use Rattle.jvm_model.specs.Lookup as lookup
-use Rattle.jvm_model.specs.Programs.{class_named}
+use Rattle.jvm_model.specs.Basis.KindNumbers.{KindParts, class_of_base}
+use Rattle.jvm_model.specs.Classes.Kinds.{kind_named}
+use Rattle.jvm_model.specs.Classes.Load as load
+use Rattle.jvm_model.specs.Classes.Lookup as lookup
+use Rattle.jvm_model.specs.Basis.Programs.{class_named}
 use Rattle.class_linker.specs.declared.answers.Loaded.{Loaded}
 use Rattle.class_linker.specs.declared.answers.Loaded.TheVariants.{New, Already, Throws as Stopped, NoMemory}
 use Rattle.class_linker.specs.declared.answers.Resolved.{Resolved}

@@ -1,9 +1,9 @@
 -- When no method passes another one on to a class (JVM Specification 5.4.5), and classes each below those behind it.
 use Rattle.std.specs.Prelude.{◌≡◌, ℕ, true, false, List, [], ◌∷◌, ◌==◌}
 use Rattle.jvm_model.specs.declared.program.Program.{Program}
-use Rattle.jvm_model.specs.Load.{is_among}
-use Rattle.jvm_model.specs.Lookup.{MemberPlace, is_subtype}
-use Rattle.jvm_model.specs.Selection.{is_open, is_private, is_reached, stands_below}
+use Rattle.jvm_model.specs.Classes.Load.{is_among}
+use Rattle.jvm_model.specs.Classes.Lookup.{MemberPlace, is_subtype}
+use Rattle.jvm_model.specs.Classes.Selection.{is_open, is_private, is_reached, stands_below}
 
 -- a third method, above the class, that passes the method on to what overrides the third one
 pub record IsBetween (p : Program) (m : MemberPlace) (class : ℕ) : Type 0 where

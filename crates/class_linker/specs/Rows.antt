@@ -4,9 +4,9 @@ use Rattle.std.specs.List.{list_all}
 use Rattle.std.specs.Option.{option_and_then, option_map_or}
 use Rattle.const_pool.specs.declared.descriptor.Kind.{Kind}
 use Rattle.jvm_model.specs.declared.program.Program.{Program}
-use Rattle.jvm_model.specs.Layouts.{layout_within, own_kinds}
-use Rattle.jvm_model.specs.Lookup.{interfaces_of, is_interface, superclass_of, superclasses_within, superinterfaces_within, supertypes_within}
-use Rattle.jvm_model.specs.Programs.{class_at}
+use Rattle.jvm_model.specs.Classes.Layouts.{layout_within, own_kinds}
+use Rattle.jvm_model.specs.Classes.Lookup.{interfaces_of, is_interface, superclass_of, superclasses_within, superinterfaces_within, supertypes_within}
+use Rattle.jvm_model.specs.Basis.Programs.{class_at}
 use Rattle.class_index.specs.Orders.{IsSearchedAs, with_classes}
 use Rattle.class_linker.specs.declared.rows.Row.{Row}
 

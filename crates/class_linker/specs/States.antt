@@ -4,9 +4,9 @@ use Rattle.std.specs.Option.{option_map, option_to_list}
 use Rattle.const_pool.specs.declared.class.ClassFile.{ClassFile}
 use Rattle.const_pool.specs.References.{named_class}
 use Rattle.jvm_model.specs.declared.program.Program.{Program}
-use Rattle.jvm_model.specs.Kinds.{meaning_of}
-use Rattle.jvm_model.specs.Load as load
-use Rattle.jvm_model.specs.Programs.{class_named}
+use Rattle.jvm_model.specs.Classes.Kinds.{meaning_of}
+use Rattle.jvm_model.specs.Classes.Load as load
+use Rattle.jvm_model.specs.Basis.Programs.{class_named}
 use Rattle.class_linker.specs.declared.loading.Fault.{Fault}
 use Rattle.class_linker.specs.declared.loading.Fault.TheVariants as code
 use Rattle.class_linker.specs.declared.loading.Standing.{Standing}

@@ -2,9 +2,9 @@
 
 ghost use Rattle.std.specs.Prelude.{◌≡◌, ◌<◌, ◌≤◌, ℕ, IfSome, Some, length, true};
 ghost use Rattle.std.specs.Prelude.{◌*◌, ◌+◌, unwrap_or};
-ghost use Rattle.jvm_model.specs.KindNumbers.{base_of_class, class_of_base, user_count};
-ghost use Rattle.jvm_model.specs.Kinds.{base_of_element, is_above_arrays, kind_named};
-ghost use Rattle.jvm_model.specs.Kinds.{is_subbase, is_subkind};
+ghost use Rattle.jvm_model.specs.Basis.KindNumbers.{base_of_class, class_of_base, user_count};
+ghost use Rattle.jvm_model.specs.Classes.Kinds.{base_of_element, is_above_arrays, kind_named};
+ghost use Rattle.jvm_model.specs.Classes.Kinds.{is_subbase, is_subkind};
 ghost use Rattle.class_linker.specs.Linkers.{parts_of};
 ghost use Rattle.class_index.specs.Meanings.{element_view};
 ghost use Rattle.class_linker.specs.Rows.{AreRows, has_row};

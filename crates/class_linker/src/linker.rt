@@ -3,17 +3,17 @@
 ghost use Rattle.std.specs.Prelude.{◌≡◌, ◌↔◌, ℕ, None, flat_map, length, replicate, true, IfOk, IsTrue};
 ghost use Rattle.std.specs.Option.{option_map};
 ghost use Rattle.const_pool.specs.References.{name_type_of};
-ghost use Rattle.jvm_model.specs.Kinds.{is_subkind};
-ghost use Rattle.jvm_model.specs.Layouts.{layout};
-ghost use Rattle.jvm_model.specs.Load.{is_among};
-ghost use Rattle.jvm_model.specs.Lookup.{is_subtype, place_in, resolved_field, resolved_method};
-ghost use Rattle.jvm_model.specs.Lookup.{superclass_of, superclasses};
-ghost use Rattle.jvm_model.specs.Selection.{Overrides, overrides, selected};
+ghost use Rattle.jvm_model.specs.Classes.Kinds.{is_subkind};
+ghost use Rattle.jvm_model.specs.Classes.Layouts.{layout};
+ghost use Rattle.jvm_model.specs.Classes.Load.{is_among};
+ghost use Rattle.jvm_model.specs.Classes.Lookup.{is_subtype, place_in, resolved_field, resolved_method};
+ghost use Rattle.jvm_model.specs.Classes.Lookup.{superclass_of, superclasses};
+ghost use Rattle.jvm_model.specs.Classes.Selection.{Overrides, overrides, selected};
 ghost use Rattle.class_index.specs.Indices.{IsLinkable};
 ghost use Rattle.class_index.specs.Members.{place_view};
 ghost use Rattle.class_linker.specs.Linkers.{IsAnswer, IsKnown, IsLoaded, linker_of, load_answer};
 ghost use Rattle.class_linker.specs.Linkers.{loaded_by, parts_of, resolved_of};
-ghost use Rattle.jvm_model.specs.SuperCalls.{invoked_special};
+ghost use Rattle.jvm_model.specs.Classes.SuperCalls.{invoked_special};
 
 use crate::answers::{Loaded, Resolved};
 use crate::kinds::is_subkind;

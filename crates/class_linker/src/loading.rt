@@ -2,9 +2,9 @@
 
 ghost use Rattle.std.specs.Prelude.{◌≡◌, ◌<◌, ◌++◌, ◌∷◌, [], ℕ, false, true, length, map};
 ghost use Rattle.std.specs.Prelude.{IfOk, None, OnOk, take};
-ghost use Rattle.jvm_model.specs.Load.{Loading, NoClass, is_among, is_met, load_named, load_of};
-ghost use Rattle.jvm_model.specs.Load.{needs_of};
-ghost use Rattle.jvm_model.specs.Lookup.{interfaces_of, superclass_of};
+ghost use Rattle.jvm_model.specs.Classes.Load.{Loading, NoClass, is_among, is_met, load_named, load_of};
+ghost use Rattle.jvm_model.specs.Classes.Load.{needs_of};
+ghost use Rattle.jvm_model.specs.Classes.Lookup.{interfaces_of, superclass_of};
 ghost use Rattle.class_linker.specs.Rows.{AreKept, AreRows, all_rows, has_row, row_made};
 ghost use Rattle.class_linker.specs.States.{IfFresh, IsLater, IsState, loading_view};
 ghost use Rattle.class_linker.specs.States.{HasNeeds, as_standing, class_loading, fault_view};

@@ -3,11 +3,11 @@
 ghost use Rattle.std.specs.Prelude.{◌≡◌, ◌↔◌, [], true, unwrap_or, IsTrue};
 ghost use Rattle.std.specs.List.{list_any};
 ghost use Rattle.std.specs.Option.{option_map, option_map_or};
-ghost use Rattle.jvm_model.specs.Lookup.{method_at, place_in, supertypes};
-ghost use Rattle.jvm_model.specs.Programs.{name_at};
-ghost use Rattle.jvm_model.specs.Selection.{Overrides, access_of, is_abstract, is_open, is_private};
-ghost use Rattle.jvm_model.specs.Selection.{is_reached, is_static, overrides, passed_at};
-ghost use Rattle.jvm_model.specs.Selection.{passes_on, same_package, signature_of, stands_below};
+ghost use Rattle.jvm_model.specs.Classes.Lookup.{method_at, place_in, supertypes};
+ghost use Rattle.jvm_model.specs.Basis.Programs.{name_at};
+ghost use Rattle.jvm_model.specs.Classes.Selection.{Overrides, access_of, is_abstract, is_open, is_private};
+ghost use Rattle.jvm_model.specs.Classes.Selection.{is_reached, is_static, overrides, passed_at};
+ghost use Rattle.jvm_model.specs.Classes.Selection.{passes_on, same_package, signature_of, stands_below};
 ghost use Rattle.class_index.specs.Members.{is_declared_as, wanted_view};
 ghost use Rattle.class_linker.specs.Places.{at_place};
 ghost use Rattle.class_linker.specs.Rows.{AreRows, all_rows, has_row};

@@ -2,11 +2,11 @@
 
 ghost use Rattle.std.specs.Prelude.{◌≡◌, true, codes};
 ghost use Rattle.std.specs.Option.{option_map, option_to_list};
-ghost use Rattle.jvm_model.specs.Lookup.{field_at, first_in, method_order};
-ghost use Rattle.jvm_model.specs.Lookup.{incompatible_change, resolved_field, resolved_method};
-ghost use Rattle.jvm_model.specs.Lookup.{superclasses, superinterfaces, supertypes};
-ghost use Rattle.jvm_model.specs.Programs.{class_named};
-ghost use Rattle.jvm_model.specs.SharedState.{no_such_field, no_such_method};
+ghost use Rattle.jvm_model.specs.Classes.Lookup.{field_at, first_in, method_order};
+ghost use Rattle.jvm_model.specs.Classes.Lookup.{incompatible_change, resolved_field, resolved_method};
+ghost use Rattle.jvm_model.specs.Classes.Lookup.{superclasses, superinterfaces, supertypes};
+ghost use Rattle.jvm_model.specs.Basis.Programs.{class_named};
+ghost use Rattle.jvm_model.specs.Basis.SharedState.{no_such_field, no_such_method};
 ghost use Rattle.class_index.specs.Members.{place_view};
 ghost use Rattle.class_linker.specs.Linkers.{class_order, error_number, inherited_order};
 ghost use Rattle.class_linker.specs.Linkers.{interface_order, method_in, resolved_of};

@@ -2,10 +2,10 @@
 
 ghost use Rattle.std.specs.Prelude.{◌≡◌, ◌++◌, [], flat_map, length, map, OnOk, IfOk};
 ghost use Rattle.std.specs.Option.{option_copied, option_map_or};
-ghost use Rattle.jvm_model.specs.Layouts.{field_kind, held_by, own_kinds};
-ghost use Rattle.jvm_model.specs.Load.{is_among};
-ghost use Rattle.jvm_model.specs.Lookup.{superclass_of};
-ghost use Rattle.jvm_model.specs.Programs.{class_at};
+ghost use Rattle.jvm_model.specs.Classes.Layouts.{field_kind, held_by, own_kinds};
+ghost use Rattle.jvm_model.specs.Classes.Load.{is_among};
+ghost use Rattle.jvm_model.specs.Classes.Lookup.{superclass_of};
+ghost use Rattle.jvm_model.specs.Basis.Programs.{class_at};
 ghost use Rattle.class_index.specs.Orders.{with_classes};
 ghost use Rattle.class_linker.specs.Rows.{has_row, layout_in, layout_made, row_at, row_made};
 ghost use Rattle.class_linker.specs.Rows.{superclasses_made, superinterfaces_made};

@@ -2,9 +2,9 @@
 
 ghost use Rattle.std.specs.Prelude.{◌≡◌, false, true};
 ghost use Rattle.std.specs.Option.{option_map};
-ghost use Rattle.jvm_model.specs.Lookup.{first_in};
-ghost use Rattle.jvm_model.specs.Selection.{candidate, fits, nearest, overrides, same_member};
-ghost use Rattle.jvm_model.specs.Selection.{selected};
+ghost use Rattle.jvm_model.specs.Classes.Lookup.{first_in};
+ghost use Rattle.jvm_model.specs.Classes.Selection.{candidate, fits, nearest, overrides, same_member};
+ghost use Rattle.jvm_model.specs.Classes.Selection.{selected};
 ghost use Rattle.class_linker.specs.Passing.{IsChain, IsUnpassed};
 ghost use Rattle.class_linker.specs.Places.{at_place};
 ghost use Rattle.class_linker.specs.Rows.{AreRows, all_rows, has_row};

@@ -2,12 +2,12 @@
 
 ghost use Rattle.std.specs.Prelude.{◌≡◌, IfSome, true};
 ghost use Rattle.std.specs.Option.{option_map};
-ghost use Rattle.jvm_model.specs.Load.{is_among};
-ghost use Rattle.jvm_model.specs.Programs.{super_of};
+ghost use Rattle.jvm_model.specs.Classes.Load.{is_among};
+ghost use Rattle.jvm_model.specs.Basis.Programs.{super_of};
 ghost use Rattle.class_linker.specs.Places.{at_place};
 ghost use Rattle.class_linker.specs.Rows.{AreRows, has_row};
-ghost use Rattle.jvm_model.specs.SuperCalls.{invoked_special, is_inherited, is_initializer};
-ghost use Rattle.jvm_model.specs.SuperCalls.{nearest_above, taken};
+ghost use Rattle.jvm_model.specs.Classes.SuperCalls.{invoked_special, is_inherited, is_initializer};
+ghost use Rattle.jvm_model.specs.Classes.SuperCalls.{nearest_above, taken};
 
 use crate::overriding::{is_abstract, signature_of};
 use crate::place::Place;

@@ -2,8 +2,8 @@
 
 ghost use Rattle.std.specs.Prelude.{◌≡◌, drop, IfOk, OnOk};
 ghost use Rattle.std.specs.Option.{option_map};
-ghost use Rattle.jvm_model.specs.Load.{circular_class, load_of};
-ghost use Rattle.jvm_model.specs.SharedState.{no_class_definition};
+ghost use Rattle.jvm_model.specs.Classes.Load.{circular_class, load_of};
+ghost use Rattle.jvm_model.specs.Basis.SharedState.{no_class_definition};
 ghost use Rattle.class_linker.specs.Linkers.{answer_by, answer_of, error_number, loaded_as};
 ghost use Rattle.class_linker.specs.Linkers.{loaded_in, stopped_by};
 ghost use Rattle.class_linker.specs.States.{IsLater, IsState, fault_view};

@@ -1,11 +1,11 @@
 //! The walks over the supertypes of classes that were loaded.
 
 ghost use Rattle.std.specs.Prelude.{◌≡◌, ℕ, IfSome, flat_map, length, true};
-ghost use Rattle.jvm_model.specs.Layouts.{layout};
-ghost use Rattle.jvm_model.specs.Load.{is_among};
-ghost use Rattle.jvm_model.specs.Lookup.{is_subtype, superclass_of, superclasses};
-ghost use Rattle.jvm_model.specs.Lookup.{superinterfaces, supertypes};
-ghost use Rattle.jvm_model.specs.Programs.{super_of};
+ghost use Rattle.jvm_model.specs.Classes.Layouts.{layout};
+ghost use Rattle.jvm_model.specs.Classes.Load.{is_among};
+ghost use Rattle.jvm_model.specs.Classes.Lookup.{is_subtype, superclass_of, superclasses};
+ghost use Rattle.jvm_model.specs.Classes.Lookup.{superinterfaces, supertypes};
+ghost use Rattle.jvm_model.specs.Basis.Programs.{super_of};
 ghost use Rattle.class_index.specs.Orders.{IsSearchedAs};
 ghost use Rattle.class_linker.specs.Passing.{IsChain};
 ghost use Rattle.class_linker.specs.Rows.{AreRows, all_rows, has_row};

@@ -19,9 +19,9 @@ use Rattle.const_pool.specs.Tail.{tail_entries}
 use Rattle.code_model.specs.declared.laying.Homes.{Homes}
 use Rattle.jvm_model.specs.declared.event.Mark.{Mark}
 use Rattle.jvm_model.specs.declared.event.Mark.TheVariants.{Off, Plain, Root}
-use Rattle.jvm_model.specs.Images.{all_off, next_number, IsMemberImage, AreMemberImages, IsOriginal, IsRewritten}
-use Rattle.jvm_model.proofs.ImagePools.{slice_get-more, named_text-more, named_class-more}
-use Rattle.jvm_model.proofs.PoolTexts.{have-texts, named-there}
+use Rattle.jvm_model.specs.Rewriting.Images.{all_off, next_number, IsMemberImage, AreMemberImages, IsOriginal, IsRewritten}
+use Rattle.jvm_model.proofs.Images.ImagePools.{slice_get-more, named_text-more, named_class-more}
+use Rattle.jvm_model.proofs.Soundness.PoolTexts.{have-texts, named-there}
 use Rattle.class_shape.specs.ClassShapes.{Heading, HasSameShape, heading_of, shape_in}
 use Rattle.class_shape.specs.Swaps.{IsSomeImage}
 

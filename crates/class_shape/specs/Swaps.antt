@@ -6,7 +6,7 @@ use Rattle.code_model.specs.declared.laying.Homes.{Homes}
 use Rattle.class_reader.specs.declared.error.ReadError.TheVariants.{NoMemory as unread}
 use Rattle.class_reader.specs.Files.{IsImageFault}
 use Rattle.jvm_model.specs.declared.event.Mark.{Mark}
-use Rattle.jvm_model.specs.Images.{IsImage}
+use Rattle.jvm_model.specs.Rewriting.Images.{IsImage}
 use Rattle.class_shape.specs.declared.error.SwapError.{SwapError}
 use Rattle.class_shape.specs.declared.error.SwapError.TheVariants.{Unreadable, NotSameShape, NoMemory}
 use Rattle.class_shape.specs.ClassShapes.{HasSameShape, IsShapeFault}

@@ -6,7 +6,7 @@ use Rattle.std.proofs.lemmas.List.{map-append}
 use Rattle.std.proofs.lemmas.List.Elements.{filter-append}
 use Rattle.std.proofs.lemmas.List.Folds.{sum_by-replicate}
 use Rattle.std.proofs.lemmas.List.Sums.{sum_by_push, sum_by-cons, sum_by-append}
-use Rattle.jvm_model.specs.Paths.{Context, same_path, is_outside, is_inside, distinct, context_of, contexts_of}
+use Rattle.jvm_model.specs.Profiling.Paths.{Context, same_path, is_outside, is_inside, distinct, context_of, contexts_of}
 use Rattle.context_tree.specs.Profiles.{has_path, with_own, with_call, call_begun}
 use Rattle.context_tree.proofs.SamePaths.{same_path-is, same_path-refl, same_path-sym}
 use Rattle.context_tree.proofs.Distinct.{list_any-distinct, distinct-push}

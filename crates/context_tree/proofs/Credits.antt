@@ -2,7 +2,7 @@
 use Rattle.std.proofs.Common.{◌≡◌, ℕ, ◌+◌, ◌-◌, ◌≤◌, Bool, true, false, List, [], ◌∷◌, map, refl, sym, ap, ap₂, ◌∙◌, arith}
 use Rattle.std.proofs.lemmas.Bool.{cond-true, cond-false}
 use Rattle.jvm_model.specs.declared.event.Event.{Event}
-use Rattle.jvm_model.specs.Paths.{Context}
+use Rattle.jvm_model.specs.Profiling.Paths.{Context}
 use Rattle.context_tree.specs.Profiles.{Profile, credited, has_path, taken, told, with_own}
 
 own-twice : (path : List ℕ) (a b : ℕ) (c : Context) → with_own path b (with_own path a c) ≡ with_own path (a + b) c

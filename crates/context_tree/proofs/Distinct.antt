@@ -3,7 +3,7 @@ use Rattle.std.proofs.Common.{◌≡◌, ℕ, Bool, true, false, not, ◌||◌, 
 use Rattle.std.specs.List.{list_any}
 use Rattle.std.proofs.lemmas.List.{append-nil}
 use Rattle.std.proofs.lemmas.List.Elements.{filter-append}
-use Rattle.jvm_model.specs.Paths.{same_path, distinct}
+use Rattle.jvm_model.specs.Profiling.Paths.{same_path, distinct}
 use Rattle.context_tree.proofs.SamePaths.{same_path-is, same_path-sym}
 
 abbrev pub not_same : List ℕ → List ℕ → Bool

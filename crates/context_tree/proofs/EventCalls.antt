@@ -4,8 +4,8 @@ use Rattle.std.proofs.lemmas.List.Sums.{sum_by-cons}
 use Rattle.jvm_model.specs.declared.event.Event.{Event}
 use Rattle.jvm_model.specs.declared.event.EventKind.{EventKind}
 use Rattle.jvm_model.specs.declared.event.EventKind.TheVariants.{Root, Enter, Leave, Unwind}
-use Rattle.jvm_model.specs.Paths.{Context}
-use Rattle.jvm_model.specs.EventLists.{entries_by}
+use Rattle.jvm_model.specs.Profiling.Paths.{Context}
+use Rattle.jvm_model.specs.Profiling.EventLists.{entries_by}
 use Rattle.context_tree.specs.Profiles.{Profile, has_path, with_own, credited, told, taken, calls_of}
 
 with_own-calls : (path : List ℕ) (steps : ℕ) (c : Context) → (with_own path steps c).calls ≡ c.calls

@@ -8,7 +8,7 @@ use Rattle.std.proofs.lemmas.List.Sums.{sum_by-append}
 use Rattle.jvm_model.specs.declared.event.Event.{Event}
 use Rattle.jvm_model.specs.declared.event.EventKind.{EventKind}
 use Rattle.jvm_model.specs.declared.event.EventKind.TheVariants.{Root, Enter, Leave, Unwind}
-use Rattle.jvm_model.specs.Paths.{Context, same_path, is_outside, is_inside, distinct, contexts_of}
+use Rattle.jvm_model.specs.Profiling.Paths.{Context, same_path, is_outside, is_inside, distinct, contexts_of}
 use Rattle.context_tree.specs.Profiles.{Profile, parent_path, last_method, credited, opened, told, taken}
 use Rattle.context_tree.specs.Counts.{path_by, path_after, opens, paths_opened, paths_stepped, AreInOrder}
 use Rattle.context_tree.specs.Laws.{FoldsToCounts}

@@ -2,18 +2,18 @@
 -- before, is the projection of the run; and what is seen by these events is what stands at the points.
 use Rattle.std.proofs.Common.{◌≡◌, ℕ, ◌<◌, false, List, is_some, ◌∙◌}
 use Rattle.jvm_model.specs.declared.event.Act.{Act}
-use Rattle.jvm_model.specs.Calls.{AreFrom}
-use Rattle.jvm_model.specs.Data.{World}
-use Rattle.jvm_model.specs.EventLists.{events_of}
-use Rattle.jvm_model.specs.Originals.{original}
-use Rattle.jvm_model.specs.Points.{marking_of, standing_in}
-use Rattle.jvm_model.specs.Projection.{projection}
-use Rattle.jvm_model.specs.Run.{run}
-use Rattle.jvm_model.specs.Targets.{operations_of}
-use Rattle.jvm_model.specs.Whole.{IsWhole}
-use Rattle.jvm_model.proofs.Marked as marked
-use Rattle.jvm_model.proofs.Revealable.{calls-told, revealable, run-suits}
-use Rattle.jvm_model.proofs.SoundAnswers.{whole-sound}
+use Rattle.jvm_model.specs.Soundness.Calls.{AreFrom}
+use Rattle.jvm_model.specs.Basis.Data.{World}
+use Rattle.jvm_model.specs.Profiling.EventLists.{events_of}
+use Rattle.jvm_model.specs.Codes.Originals.{original}
+use Rattle.jvm_model.specs.Profiling.Points.{marking_of, standing_in}
+use Rattle.jvm_model.specs.Profiling.Projection.{projection}
+use Rattle.jvm_model.specs.Running.Run.{run}
+use Rattle.jvm_model.specs.Profiling.Targets.{operations_of}
+use Rattle.jvm_model.specs.Soundness.Whole.{IsWhole}
+use Rattle.jvm_model.proofs.Events.Marked as marked
+use Rattle.jvm_model.proofs.Revealing.Revealable.{calls-told, revealable, run-suits}
+use Rattle.jvm_model.proofs.Soundness.SoundAnswers.{whole-sound}
 use Rattle.context_tree.specs.Laws.{SessionSees, TreeIsProjection}
 use Rattle.context_tree.specs.Profiles.{credited, profile_of}
 use Rattle.context_tree.specs.Seen.{Matches, seen_before}

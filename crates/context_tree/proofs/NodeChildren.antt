@@ -1,7 +1,7 @@
 -- The nodes that go on from one node, and the contexts one method below its path.
 use Rattle.std.proofs.Common.{◌≡◌, ℕ, zero, suc, ◌+◌, ◌<◌, Bool, true, false, ◌&&◌, List, [], ◌∷◌, ◌++◌, refl, ap, sym, ◌∙◌, map, length, Option, Some, None, IfSome, nat_eq, cond, if◌then◌else◌, arith}
 use Rattle.std.specs.List.{AllZip, position_from, enumerate_from, filter_map, cons_option}
-use Rattle.jvm_model.specs.Paths.{same_path, is_outside}
+use Rattle.jvm_model.specs.Profiling.Paths.{same_path, is_outside}
 use Rattle.context_tree.specs.declared.node.Node.{Node}
 use Rattle.context_tree.specs.Profiles.{parent_path, is_child, numbered_child}
 use Rattle.context_tree.specs.ChildLists.{number_under}

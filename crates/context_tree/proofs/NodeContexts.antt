@@ -4,7 +4,7 @@ use Rattle.std.specs.List.{list_any, AllZip, position_from}
 use Rattle.std.proofs.lemmas.Bool.{or_parts}
 use Rattle.std.proofs.lemmas.List.Sums.{sum_by-cons}
 use Rattle.std.proofs.lemmas.Iterator.Adapters.{position_from-zero}
-use Rattle.jvm_model.specs.Paths.{Context, same_path}
+use Rattle.jvm_model.specs.Profiling.Paths.{Context, same_path}
 use Rattle.context_tree.specs.declared.node.Node.{Node}
 use Rattle.context_tree.specs.Profiles.{has_path, parent_path, last_method, node_of, number_of}
 use Rattle.context_tree.specs.NodeTables.{changed_at}

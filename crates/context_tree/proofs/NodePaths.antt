@@ -7,7 +7,7 @@ use Rattle.std.proofs.lemmas.Bool.Decides.{same_from_decides, Decides-eqb, Decid
 use Rattle.std.proofs.lemmas.Option.{same_Some}
 use Rattle.std.proofs.lemmas.Slice.Eq.{bytes_eq-Decides}
 use Rattle.std.proofs.lemmas.List.{append-nil, append_assoc, get_or_append_left, length_push, length-append}
-use Rattle.jvm_model.specs.Paths.{same_path}
+use Rattle.jvm_model.specs.Profiling.Paths.{same_path}
 use Rattle.context_tree.specs.declared.node.Node.{Node}
 use Rattle.context_tree.specs.NodeTables.{changed_at}
 use Rattle.context_tree.specs.TreeViews.{path_at, path_of, paths_after, paths_in, AreBehind, AreApart, same_node}

@@ -11,17 +11,17 @@ use Rattle.jvm_model.specs.declared.event.EventKind.{EventKind}
 use Rattle.jvm_model.specs.declared.event.EventKind.TheVariants as kind
 use Rattle.jvm_model.specs.declared.event.Mark.{Mark}
 use Rattle.jvm_model.specs.declared.event.Mark.TheVariants.{Off, Plain, Root}
-use Rattle.jvm_model.specs.Paths.{is_outside, is_inside, contexts_of}
-use Rattle.jvm_model.specs.Data.{World, Change, Loads, Began, Left, Unwound}
-use Rattle.jvm_model.specs.Run.{turn, run}
-use Rattle.jvm_model.specs.Originals.{original}
-use Rattle.jvm_model.specs.Activations.{Activation, Trace, no_trace, current, with_begin, without_current, with_end, changed, all_changed, trace, trace_before, trace_in-zero, trace_in-suc}
-use Rattle.jvm_model.specs.Projection.{is_root, is_selected, paths_of, path_at, who, paths_made, paths_made-zero, paths_made-suc, projection}
-use Rattle.jvm_model.specs.EventLists.{Marking, begin_events, end_events, end_of, told, all_told, step_events, events_of, events_of-zero, events_of-suc, full_marking}
-use Rattle.jvm_model.proofs.Chains.{slice_get_at, IsBelow, is_inside-cons, path_in, paths_of-push, paths_of-ended, path_at-push, path_at-last, path_at-found}
-use Rattle.jvm_model.proofs.Traces.{IsLive, AreLive, IsTrace, no_trace-is, trace_in-is, changed-keeps, current-below, ended_in, ended_at-found}
+use Rattle.jvm_model.specs.Profiling.Paths.{is_outside, is_inside, contexts_of}
+use Rattle.jvm_model.specs.Basis.Data.{World, Change, Loads, Began, Left, Unwound}
+use Rattle.jvm_model.specs.Running.Run.{turn, run}
+use Rattle.jvm_model.specs.Codes.Originals.{original}
+use Rattle.jvm_model.specs.Profiling.Activations.{Activation, Trace, no_trace, current, with_begin, without_current, with_end, changed, all_changed, trace, trace_before, trace_in-zero, trace_in-suc}
+use Rattle.jvm_model.specs.Profiling.Projection.{is_root, is_selected, paths_of, path_at, who, paths_made, paths_made-zero, paths_made-suc, projection}
+use Rattle.jvm_model.specs.Profiling.EventLists.{Marking, begin_events, end_events, end_of, told, all_told, step_events, events_of, events_of-zero, events_of-suc, full_marking}
+use Rattle.jvm_model.proofs.Events.Chains.{slice_get_at, IsBelow, is_inside-cons, path_in, paths_of-push, paths_of-ended, path_at-push, path_at-last, path_at-found}
+use Rattle.jvm_model.proofs.Events.Traces.{IsLive, AreLive, IsTrace, no_trace-is, trace_in-is, changed-keeps, current-below, ended_in, ended_at-found}
 use Rattle.context_tree.specs.Profiles.{parent_path}
-use Rattle.jvm_model.specs.Suited.{Suits, AreSuited, StaySuited}
+use Rattle.jvm_model.specs.Soundness.Suited.{Suits, AreSuited, StaySuited}
 use Rattle.context_tree.specs.Counts.{path_by, path_after, opens, paths_opened, paths_stepped, counted, AreInOrder}
 use Rattle.context_tree.proofs.ProjectedCounts.{open_after, AllAt, open_after-append, paths_opened-append, AreInOrder-later, AreInOrder-append, stepped-at, stepped-same, stepped-more, contexts_of-inside}
 

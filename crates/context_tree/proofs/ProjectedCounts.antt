@@ -5,8 +5,8 @@ use Rattle.std.proofs.lemmas.Bool.{cond-true, cond-false, cases_Bool, both_ways}
 use Rattle.std.proofs.lemmas.List.{append-nil, append_assoc}
 use Rattle.std.proofs.lemmas.List.Sums.{sum_by-cons}
 use Rattle.jvm_model.specs.declared.event.Event.{Event}
-use Rattle.jvm_model.specs.Paths.{same_path, is_inside, distinct, context_of, contexts_of}
-use Rattle.jvm_model.proofs.Chains.{is_inside-cons}
+use Rattle.jvm_model.specs.Profiling.Paths.{same_path, is_inside, distinct, context_of, contexts_of}
+use Rattle.jvm_model.proofs.Events.Chains.{is_inside-cons}
 use Rattle.context_tree.specs.Counts.{path_after, opens, paths_opened, paths_stepped, AreInOrder}
 
 -- ---- more events

@@ -4,7 +4,7 @@ use Rattle.std.specs.Prelude.{◌≡◌, ℕ, List, [], ◌∷◌, take, refl}
 use Rattle.jvm_model.specs.declared.event.Event.{Event}
 use Rattle.jvm_model.specs.declared.event.EventKind.{EventKind}
 use Rattle.jvm_model.specs.declared.event.EventKind.TheVariants.{Root, Enter, Leave, Unwind}
-use Rattle.jvm_model.specs.Paths.{Context}
+use Rattle.jvm_model.specs.Profiling.Paths.{Context}
 use Rattle.context_tree.specs.Counts.{counted}
 
 abbrev event : EventKind → ℕ → ℕ → Event

@@ -5,7 +5,7 @@ use Rattle.std.proofs.lemmas.Bool.{false_from_ne_true, ne_eqb}
 use Rattle.std.proofs.lemmas.Bool.Decides.{same_from_decides, Decides-eqb, Decides-and, Decides-like}
 use Rattle.std.proofs.lemmas.List.{same_from_push, length_push}
 use Rattle.std.proofs.lemmas.Slice.Eq.{bytes_eq-Decides}
-use Rattle.jvm_model.specs.Paths.{same_path, is_outside}
+use Rattle.jvm_model.specs.Profiling.Paths.{same_path, is_outside}
 use Rattle.context_tree.specs.Profiles.{parent_path, last_method}
 
 pub same_path-is : (p q : List ℕ) → same_path p q ≡ true → p ≡ q

@@ -10,24 +10,24 @@ use Rattle.jvm_model.specs.declared.event.EventKind.{EventKind}
 use Rattle.jvm_model.specs.declared.event.EventKind.TheVariants as kind
 use Rattle.jvm_model.specs.declared.event.Mark.{Mark}
 use Rattle.jvm_model.specs.declared.event.Mark.TheVariants.{Off, Plain, Root}
-use Rattle.jvm_model.specs.Activations.{Activation, Trace, current, changed, all_changed, trace_before}
-use Rattle.jvm_model.specs.Changes.{EndThenBegin, AreOrdered}
-use Rattle.jvm_model.specs.Data.{Change, Loads, Began, Left, Unwound, World}
-use Rattle.jvm_model.specs.EventLists.{Marking, all_told, begin_events, end_events, end_of, step_events, told}
-use Rattle.jvm_model.specs.Originals.{original}
-use Rattle.jvm_model.specs.Paths.{is_inside}
-use Rattle.jvm_model.specs.Projection.{is_selected}
-use Rattle.jvm_model.specs.Run.{turn}
-use Rattle.jvm_model.proofs.Chains.{slice_get_at, is_inside-cons, path_at-last}
-use Rattle.jvm_model.proofs.Order.{run-ordered}
-use Rattle.jvm_model.proofs.Traces.{IsTrace, changed-keeps, trace_in-is, no_trace-is}
-use Rattle.jvm_model.proofs.Marked.{rooted}
+use Rattle.jvm_model.specs.Profiling.Activations.{Activation, Trace, current, changed, all_changed, trace_before}
+use Rattle.jvm_model.specs.Running.Changes.{EndThenBegin, AreOrdered}
+use Rattle.jvm_model.specs.Basis.Data.{Change, Loads, Began, Left, Unwound, World}
+use Rattle.jvm_model.specs.Profiling.EventLists.{Marking, all_told, begin_events, end_events, end_of, step_events, told}
+use Rattle.jvm_model.specs.Codes.Originals.{original}
+use Rattle.jvm_model.specs.Profiling.Paths.{is_inside}
+use Rattle.jvm_model.specs.Profiling.Projection.{is_selected}
+use Rattle.jvm_model.specs.Running.Run.{turn}
+use Rattle.jvm_model.proofs.Events.Chains.{slice_get_at, is_inside-cons, path_at-last}
+use Rattle.jvm_model.proofs.Events.Order.{run-ordered}
+use Rattle.jvm_model.proofs.Events.Traces.{IsTrace, changed-keeps, trace_in-is, no_trace-is}
+use Rattle.jvm_model.proofs.Events.Marked.{rooted}
 use Rattle.context_tree.proofs.Projected.{SuitsRun, Telling, in_full, outside, changed-follows, gone_on, is_inside-push, telling}
-use Rattle.jvm_model.specs.Calls.{loads_of}
+use Rattle.jvm_model.specs.Soundness.Calls.{loads_of}
 use Rattle.context_tree.specs.Counts.{opens, path_after}
-use Rattle.jvm_model.specs.Points.{Standing, nothing, has_root, is_empty, settled, chosen, after_act, after_acts, acts_at, acts_behind, after_change, after_changes, with_entered, standing_in, standing_in-zero, standing_in-suc}
+use Rattle.jvm_model.specs.Profiling.Points.{Standing, nothing, has_root, is_empty, settled, chosen, after_act, after_acts, acts_at, acts_behind, after_change, after_changes, with_entered, standing_in, standing_in-zero, standing_in-suc}
 use Rattle.context_tree.specs.Seen.{Matches, Seen, open_of, first_seen, seen_act, seen_acts, seen_before, seen_before-zero, seen_before-suc, seen_end, seen_event, seen_load, seen_step}
-use Rattle.jvm_model.specs.Suited.{Suits, AreSuited, StaySuited}
+use Rattle.jvm_model.specs.Soundness.Suited.{Suits, AreSuited, StaySuited}
 
 -- ---- points
 

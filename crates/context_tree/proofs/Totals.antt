@@ -6,7 +6,7 @@ use Rattle.std.proofs.lemmas.List.{append_assoc, length_push, get_or_at, get_or_
 use Rattle.std.proofs.lemmas.List.Elements.{All-head, All-tail}
 use Rattle.std.proofs.lemmas.List.Sums.{sum_by-cons}
 use Rattle.std.proofs.lemmas.Option.{same_Some}
-use Rattle.jvm_model.specs.Paths.{Context, same_path, is_within}
+use Rattle.jvm_model.specs.Profiling.Paths.{Context, same_path, is_within}
 use Rattle.context_tree.specs.declared.node.Node.{Node}
 use Rattle.context_tree.specs.declared.table.NodeTable.{NodeTable}
 use Rattle.context_tree.specs.Profiles.{total_of}

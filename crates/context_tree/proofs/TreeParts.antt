@@ -6,7 +6,7 @@ use Rattle.std.proofs.lemmas.List.{append-nil, length_push, length-set, get_or-s
 use Rattle.std.proofs.lemmas.List.Quantifiers.{position-Some}
 use Rattle.std.proofs.lemmas.List.Sums.{sum_by-cons}
 use Rattle.std.proofs.lemmas.Iterator.Adapters.{position_from-zero}
-use Rattle.jvm_model.specs.Paths.{same_path}
+use Rattle.jvm_model.specs.Profiling.Paths.{same_path}
 use Rattle.context_tree.specs.declared.node.Node.{Node}
 use Rattle.context_tree.specs.declared.table.NodeTable.{NodeTable}
 use Rattle.context_tree.specs.ChildLists.{list_at, with_entry, number_under}

@@ -8,7 +8,7 @@ use Rattle.std.proofs.lemmas.Option.{slice_get-get_or}
 use Rattle.jvm_model.specs.declared.event.Event.{Event}
 use Rattle.jvm_model.specs.declared.event.EventKind.{EventKind}
 use Rattle.jvm_model.specs.declared.event.EventKind.TheVariants.{Root, Enter, Leave, Unwind}
-use Rattle.jvm_model.specs.Paths.{Context, same_path, is_outside}
+use Rattle.jvm_model.specs.Profiling.Paths.{Context, same_path, is_outside}
 use Rattle.context_tree.specs.declared.node.Node.{Node}
 use Rattle.context_tree.specs.declared.table.NodeTable.{NodeTable}
 use Rattle.context_tree.specs.Profiles.{Profile, has_path, parent_path, with_call, opened, closed, told, taken}

@@ -3,7 +3,7 @@ use Rattle.std.proofs.Common.{◌≡◌, ℕ, zero, suc, ◌+◌, ◌<◌, Bool,
 use Rattle.std.specs.List.{list_any, starts_with}
 use Rattle.std.proofs.lemmas.Bool.{or_parts}
 use Rattle.std.proofs.lemmas.List.Sums.{sum_by-cons}
-use Rattle.jvm_model.specs.Paths.{same_path}
+use Rattle.jvm_model.specs.Profiling.Paths.{same_path}
 use Rattle.context_tree.specs.declared.node.Node.{Node}
 use Rattle.context_tree.specs.TreeViews.{AreApart, same_node}
 use Rattle.context_tree.proofs.SamePaths.{same_path-refl, same_path-sym}

@@ -3,14 +3,14 @@ use Rattle.std.specs.Prelude.{◌≡◌, ℕ, List, [], ◌∷◌, refl}
 use Rattle.std.specs.Int.{int_wrap}
 use Rattle.jvm_model.specs.declared.event.Act.{Act}
 use Rattle.jvm_model.specs.declared.event.EventKind.TheVariants as kind
-use Rattle.jvm_model.specs.Activations.{trace_in}
-use Rattle.jvm_model.specs.Paths.{Context}
-use Rattle.jvm_model.specs.Points.{standing_in}
-use Rattle.jvm_model.specs.Run.{turn_in}
-use Rattle.jvm_model.proofs.WorkedInitializers.{both_set}
-use Rattle.jvm_model.proofs.WorkedPoints.{deselect, event, events_by, p1, select, under_deselection}
-use Rattle.jvm_model.proofs.WorkedPrograms.{Sketches, selecting}
-use Rattle.jvm_model.proofs.WorkedRuns.{p3, recursive}
+use Rattle.jvm_model.specs.Profiling.Activations.{trace_in}
+use Rattle.jvm_model.specs.Profiling.Paths.{Context}
+use Rattle.jvm_model.specs.Profiling.Points.{standing_in}
+use Rattle.jvm_model.specs.Running.Run.{turn_in}
+use Rattle.jvm_model.proofs.Worked.WorkedInitializers.{both_set}
+use Rattle.jvm_model.proofs.Worked.WorkedPoints.{deselect, event, events_by, p1, select, under_deselection}
+use Rattle.jvm_model.proofs.Worked.WorkedPrograms.{Sketches, selecting}
+use Rattle.jvm_model.proofs.Worked.WorkedRuns.{p3, recursive}
 use Rattle.context_tree.specs.Counts.{counted}
 
 -- the tree after so many steps, of which so many were the last to tell anything

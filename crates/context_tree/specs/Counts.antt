@@ -4,7 +4,7 @@ use Rattle.std.specs.Prelude.{ℕ, ◌-◌, ◌≤◌, Bool, true, false, List, 
 use Rattle.jvm_model.specs.declared.event.Event.{Event}
 use Rattle.jvm_model.specs.declared.event.EventKind.{EventKind}
 use Rattle.jvm_model.specs.declared.event.EventKind.TheVariants.{Root, Enter, Leave, Unwind}
-use Rattle.jvm_model.specs.Paths.{Context, is_outside, is_inside, contexts_of}
+use Rattle.jvm_model.specs.Profiling.Paths.{Context, is_outside, is_inside, contexts_of}
 use Rattle.context_tree.specs.Profiles.{parent_path}
 
 -- the open path after an event

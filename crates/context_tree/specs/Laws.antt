@@ -4,14 +4,14 @@ use Rattle.std.specs.Prelude.{◌≡◌, ◌<◌, ℕ, List, false, is_some}
 use Rattle.const_pool.specs.declared.class.ClassFile.{ClassFile}
 use Rattle.jvm_model.specs.declared.event.Act.{Act}
 use Rattle.jvm_model.specs.declared.event.Event.{Event}
-use Rattle.jvm_model.specs.Calls.{AreFrom}
-use Rattle.jvm_model.specs.Data.{World}
-use Rattle.jvm_model.specs.EventLists.{events_of}
-use Rattle.jvm_model.specs.Originals.{original}
-use Rattle.jvm_model.specs.Points.{marking_of, standing_in}
-use Rattle.jvm_model.specs.Projection.{projection}
-use Rattle.jvm_model.specs.Run.{run}
-use Rattle.jvm_model.specs.SoundPrograms.{IsSoundProgram}
+use Rattle.jvm_model.specs.Soundness.Calls.{AreFrom}
+use Rattle.jvm_model.specs.Basis.Data.{World}
+use Rattle.jvm_model.specs.Profiling.EventLists.{events_of}
+use Rattle.jvm_model.specs.Codes.Originals.{original}
+use Rattle.jvm_model.specs.Profiling.Points.{marking_of, standing_in}
+use Rattle.jvm_model.specs.Profiling.Projection.{projection}
+use Rattle.jvm_model.specs.Running.Run.{run}
+use Rattle.jvm_model.specs.Soundness.SoundPrograms.{IsSoundProgram}
 use Rattle.context_tree.specs.Seen.{Matches, seen_before}
 use Rattle.context_tree.specs.Profiles.{credited, profile_of}
 use Rattle.context_tree.specs.Counts.{counted, AreInOrder}

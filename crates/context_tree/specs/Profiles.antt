@@ -5,7 +5,7 @@ use Rattle.std.specs.List.{list_any, enumerate_from, filter_map}
 use Rattle.jvm_model.specs.declared.event.Event.{Event}
 use Rattle.jvm_model.specs.declared.event.EventKind.{EventKind}
 use Rattle.jvm_model.specs.declared.event.EventKind.TheVariants.{Root, Enter, Leave, Unwind}
-use Rattle.jvm_model.specs.Paths.{Context, same_path, is_outside, is_within}
+use Rattle.jvm_model.specs.Profiling.Paths.{Context, same_path, is_outside, is_within}
 use Rattle.context_tree.specs.declared.node.Node.{Node}
 
 -- the path of the parent: all but the last method

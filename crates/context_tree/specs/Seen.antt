@@ -3,15 +3,15 @@
 use Rattle.std.specs.Prelude.{◌≡◌, refl, ℕ, zero, suc, not, fold, List, [], ◌++◌, if◌then◌else◌, ◌&&◌}
 use Rattle.jvm_model.specs.declared.event.Act.{Act}
 use Rattle.jvm_model.specs.declared.event.Event.{Event}
-use Rattle.jvm_model.specs.Activations.{Trace, current}
-use Rattle.jvm_model.specs.Data.{World}
-use Rattle.jvm_model.specs.EventLists.{Marking, step_events}
-use Rattle.jvm_model.specs.Paths.{is_inside}
-use Rattle.jvm_model.specs.Projection.{path_at}
-use Rattle.jvm_model.specs.Run.{before, turn}
-use Rattle.jvm_model.specs.Calls.{loads_of}
+use Rattle.jvm_model.specs.Profiling.Activations.{Trace, current}
+use Rattle.jvm_model.specs.Basis.Data.{World}
+use Rattle.jvm_model.specs.Profiling.EventLists.{Marking, step_events}
+use Rattle.jvm_model.specs.Profiling.Paths.{is_inside}
+use Rattle.jvm_model.specs.Profiling.Projection.{path_at}
+use Rattle.jvm_model.specs.Running.Run.{before, turn}
+use Rattle.jvm_model.specs.Soundness.Calls.{loads_of}
 use Rattle.context_tree.specs.Counts.{opens, path_after}
-use Rattle.jvm_model.specs.Points.{acts_at, acts_behind, chosen, is_empty, with_entered, Standing}
+use Rattle.jvm_model.specs.Profiling.Points.{acts_at, acts_behind, chosen, is_empty, with_entered, Standing}
 
 -- the selection, what is entered, the loaded classes, and the tree's open path
 pub record Seen : Type 0 where

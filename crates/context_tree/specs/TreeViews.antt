@@ -2,7 +2,7 @@
 use Rattle.std.specs.Prelude.{◌≡◌, ℕ, ◌+◌, ◌<◌, ◌≤◌, Bool, false, List, [], ◌∷◌, ◌++◌, length, Option, Some, None, IfSome, nat_eq, slice_index_or, if◌then◌else◌}
 use Rattle.std.specs.List.{list_any}
 use Rattle.std.specs.Option.{option_eq}
-use Rattle.jvm_model.specs.Paths.{Context, same_path}
+use Rattle.jvm_model.specs.Profiling.Paths.{Context, same_path}
 use Rattle.context_tree.specs.Profiles.{Profile, total_of}
 use Rattle.context_tree.specs.declared.node.Node.{Node}
 use Rattle.context_tree.specs.declared.table.NodeTable.{NodeTable}

@@ -15,8 +15,8 @@ use Rattle.base_classes.specs.StreamClasses.{stream_classes}
 use Rattle.base_classes.specs.TextClasses.{text_classes}
 use Rattle.base_classes.specs.ThrowableClasses.{throwable_classes}
 use Rattle.base_classes.specs.ValueClasses.{value_classes}
-use Rattle.jvm_model.specs.Methods.{code_of}
-use Rattle.jvm_model.specs.Programs.{coded_from, numbered_from}
+use Rattle.jvm_model.specs.Basis.Methods.{code_of}
+use Rattle.jvm_model.specs.Basis.Programs.{coded_from, numbered_from}
 
 abbrev pub HasFewMethods : ClassFile → Type 0
 HasFewMethods c = length c.methods ≤ 100

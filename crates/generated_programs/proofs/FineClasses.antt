@@ -13,7 +13,7 @@ use Rattle.const_pool.specs.declared.tail.Tail.{Tail}
 use Rattle.const_pool.specs.Pool.{has_gaps}
 use Rattle.const_pool.specs.References.{named_class}
 use Rattle.jvm_model.specs.declared.event.Mark.TheVariants as mark
-use Rattle.jvm_model.specs.Images.{all_off, next_number}
+use Rattle.jvm_model.specs.Rewriting.Images.{all_off, next_number}
 use Rattle.inject_events.specs.declared.settings.Setting.{Setting}
 use Rattle.inject_events.specs.Rewriting.{Refused, refused_from, refused_of_marked, all_plain, plain_mark, cause_of_method}
 use Rattle.inject_events.specs.Settings.{setting_of}

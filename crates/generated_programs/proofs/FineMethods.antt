@@ -11,7 +11,7 @@ use Rattle.const_pool.specs.declared.tail.Tail.{Tail}
 use Rattle.code_model.specs.declared.error.CodeError.{CodeError}
 use Rattle.code_model.specs.declared.instr.Instr.{Instr}
 use Rattle.jvm_model.specs.declared.event.Mark.TheVariants as mark
-use Rattle.jvm_model.specs.Methods.{has_flag, code_among, code_of}
+use Rattle.jvm_model.specs.Basis.Methods.{has_flag, code_among, code_of}
 use Rattle.inject_events.specs.Rewriting.{version_cause, cause_of_coded}
 use Rattle.inject_events.proofs.InstrsIn.{instrs_in-is}
 use Rattle.program_gen.specs.declared.rows.Instruction.{Instruction}

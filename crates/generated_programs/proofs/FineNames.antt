@@ -9,7 +9,7 @@ use Rattle.const_pool.specs.declared.pool.Const.{Const}
 use Rattle.const_pool.specs.declared.pool.Const.TheVariants.{Gap, Utf8, Integer, Float, Long, Double, Class, Text, Field, Method, InterfaceMethod, NameType}
 use Rattle.const_pool.specs.BuiltIn.{probe_class, built_in_names}
 use Rattle.const_pool.specs.References.{named_text}
-use Rattle.jvm_model.specs.Descriptors.{same_text}
+use Rattle.jvm_model.specs.Basis.Descriptors.{same_text}
 use Rattle.program_gen.specs.Generated.{HasOwnPool, IsNoProbe, IsOwnName}
 use Rattle.admit_check.specs.Shapes.{is_probe_entry, is_reserved, is_taken_name, has_same_name, name_fault, own_name}
 

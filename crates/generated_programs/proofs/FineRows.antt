@@ -11,7 +11,7 @@ use Rattle.const_pool.specs.declared.tail.Tail.{Tail}
 use Rattle.op_table.specs.Opcodes.{row_of, groups}
 use Rattle.code_model.specs.declared.instr.Instr.{Instr}
 use Rattle.jvm_model.specs.declared.event.Mark.TheVariants as mark
-use Rattle.jvm_model.specs.Methods.{has_flag}
+use Rattle.jvm_model.specs.Basis.Methods.{has_flag}
 use Rattle.inject_events.specs.declared.settings.Setting.{Setting}
 use Rattle.inject_events.specs.Rewriting.{instrs_in, version_cause}
 use Rattle.program_gen.specs.declared.rows.Choices.{Choices}

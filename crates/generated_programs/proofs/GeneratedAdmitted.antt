@@ -8,8 +8,8 @@ use Rattle.plan_text.specs.declared.plan.Action.{Action}
 use Rattle.plan_text.specs.declared.plan.Plan.{Plan}
 use Rattle.jvm_model.specs.declared.event.Act.{Act}
 use Rattle.jvm_model.specs.declared.program.Program.{Program}
-use Rattle.jvm_model.specs.Programs.{numbered}
-use Rattle.jvm_model.specs.SoundPrograms.{main_in}
+use Rattle.jvm_model.specs.Basis.Programs.{numbered}
+use Rattle.jvm_model.specs.Soundness.SoundPrograms.{main_in}
 use Rattle.program_gen.specs.Generated.{generated}
 use Rattle.program_gen.specs.Making.{class_file_of}
 use Rattle.program_gen.specs.Programs.{main_row, program_rows, rows_below}

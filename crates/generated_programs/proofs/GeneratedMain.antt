@@ -7,9 +7,9 @@ use Rattle.std.proofs.lemmas.Bool.{lt-ltb}
 use Rattle.const_pool.specs.declared.class.ClassFile.{ClassFile}
 use Rattle.const_pool.specs.declared.class.Member.{Member}
 use Rattle.jvm_model.specs.declared.program.Program.{Program}
-use Rattle.jvm_model.specs.Descriptors.{same_text}
-use Rattle.jvm_model.specs.Programs.{class_named, has_name, number_of_method, number_from, numbered}
-use Rattle.jvm_model.specs.SoundPrograms.{declared_main, main_of_class, main_in}
+use Rattle.jvm_model.specs.Basis.Descriptors.{same_text}
+use Rattle.jvm_model.specs.Basis.Programs.{class_named, has_name, number_of_method, number_from, numbered}
+use Rattle.jvm_model.specs.Soundness.SoundPrograms.{declared_main, main_of_class, main_in}
 use Rattle.program_gen.specs.Generated.{IsNamedBy}
 use Rattle.program_gen.specs.Members.{HasMembersOf, IsMethodOf}
 use Rattle.program_gen.specs.Programs.{entry_method, main_row}

@@ -3,7 +3,7 @@
 ghost use Rattle.std.specs.Prelude.{◌≡◌, ◌<◌, ◌≤◌, ◌^◌, length, map, IfOk, IfErr, IfSome, Ok};
 ghost use Rattle.std.specs.List.{AllByRecursion};
 ghost use Rattle.const_pool.specs.ClassFile.{IsClassFile, class_bytes};
-ghost use Rattle.jvm_model.specs.SoundPrograms.{IsHeapLimit};
+ghost use Rattle.jvm_model.specs.Soundness.SoundPrograms.{IsHeapLimit};
 ghost use Rattle.program_gen.specs.Generated.{generated};
 ghost use Rattle.admit_check.specs.Admission.{IsAdmittedProgram};
 ghost use Rattle.generated_programs.specs.Admitted.{AreGeneratedFiles, NamesNoMethod, IsRefusedFor};

@@ -4,7 +4,7 @@ use Rattle.const_pool.specs.declared.class.ClassFile.{ClassFile}
 use Rattle.code_model.specs.declared.laying.Homes.{Homes}
 use Rattle.jvm_model.specs.declared.event.Mark.{Mark}
 use Rattle.jvm_model.specs.declared.program.Program.{Program}
-use Rattle.jvm_model.specs.Programs.{class_at}
+use Rattle.jvm_model.specs.Basis.Programs.{class_at}
 use Rattle.jvm_machine.specs.Installs.{IsImageOf}
 use Rattle.class_shape.specs.declared.error.SwapError.{SwapError}
 use Rattle.class_shape.specs.Swaps.{IsSwap, IsSwapFault}

@@ -11,8 +11,8 @@ use Rattle.const_pool.specs.declared.class.Attribute.{Attribute}
 use Rattle.const_pool.specs.declared.class.Attribute.TheVariants.{ConstantValue, Code, Other}
 use Rattle.const_pool.specs.ClassFile.{IsCode, IsMember, IsMethodAttribute}
 use Rattle.jvm_model.specs.declared.event.Mark.{Mark}
-use Rattle.jvm_model.specs.Methods.{code_among, code_of}
-use Rattle.jvm_model.specs.StandsFor.{IsBuilt}
+use Rattle.jvm_model.specs.Basis.Methods.{code_among, code_of}
+use Rattle.jvm_model.specs.Rewriting.StandsFor.{IsBuilt}
 use Rattle.inject_events.specs.Answers.{IsReadableBody, IsReadableClass, MarkedHaveCode}
 
 holds_at : {A : Type 0} (P : A → Type 0) (xs : List A) (k : ℕ) (x : A) → AllByRecursion P xs → slice_get xs k ≡ Some x → P x

@@ -5,7 +5,7 @@ use Rattle.const_pool.specs.declared.class.CodeAttribute.{CodeAttribute}
 use Rattle.code_model.specs.declared.laying.Laid.{Laid}
 use Rattle.const_pool.specs.declared.class.Member.{Member}
 use Rattle.jvm_model.specs.declared.event.Mark.{Mark}
-use Rattle.jvm_model.specs.Methods.{code_of}
+use Rattle.jvm_model.specs.Basis.Methods.{code_of}
 use Rattle.inject_events.specs.declared.methods.MethodImage.{MethodImage}
 use Rattle.inject_events.specs.declared.error.Cause.{Cause}
 use Rattle.inject_events.specs.declared.error.NoVersion.{NoVersion}

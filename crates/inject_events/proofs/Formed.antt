@@ -30,10 +30,10 @@ use Rattle.code_model.specs.Layout.{home_of, first_far}
 use Rattle.code_model.proofs.Walks.{length-laid_of}
 use Rattle.jvm_model.specs.declared.event.Mark.{Mark}
 use Rattle.jvm_model.specs.declared.event.Mark.TheVariants.{Off, Plain, Root}
-use Rattle.jvm_model.specs.Images.{all_off, next_number, with_code_among}
-use Rattle.jvm_model.specs.Methods.{code_of}
-use Rattle.jvm_model.specs.Versions.{probe_bytes, group_of, moved_handler, catch_all}
-use Rattle.jvm_model.proofs.ImagePools.{named_text-more}
+use Rattle.jvm_model.specs.Rewriting.Images.{all_off, next_number, with_code_among}
+use Rattle.jvm_model.specs.Basis.Methods.{code_of}
+use Rattle.jvm_model.specs.Rewriting.Versions.{probe_bytes, group_of, moved_handler, catch_all}
+use Rattle.jvm_model.proofs.Images.ImagePools.{named_text-more}
 use Rattle.stackmap_shift.specs.declared.error.FrameError.{FrameError}
 use Rattle.stackmap_shift.specs.declared.frames.Frame.{Frame}
 use Rattle.stackmap_shift.specs.Frames.{frames_of}
@@ -51,7 +51,7 @@ use Rattle.inject_events.specs.Answers.{IsReadableCode, IsReadableBody, HasReada
 use Rattle.inject_events.specs.Probing.{first_marked}
 use Rattle.inject_events.specs.Rewriting.{Refused, instrs_in, laid_version_of, version_of, version_cause, far_cause, cause_of_coded, cause_of_method, image_of_coded, image_of_method, images_from, refused_here, refused_from, is_full_pool, refused_of_marked, refused_of, original_of, image_of_marked, image_of}
 use Rattle.inject_events.specs.Settings.{setting_of, probes_in, entry_in}
-use Rattle.jvm_model.specs.ImageTables.{last_frame, is_writable}
+use Rattle.jvm_model.specs.Rewriting.ImageTables.{last_frame, is_writable}
 use Rattle.inject_events.specs.Tables.{table_of, version_frames, framed_or_kept, moved_table, moved_raw, lacks_frames, added_table, added_tables}
 use Rattle.inject_events.proofs.Built.{IsCode-among}
 use Rattle.inject_events.proofs.InstrsIn.{instrs_in-is}

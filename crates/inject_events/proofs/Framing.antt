@@ -12,7 +12,7 @@ use Rattle.stackmap_shift.specs.declared.frames.FrameKind.TheVariants.{Same, One
 use Rattle.stackmap_shift.specs.Conditions.{FitsKind, FitsFrame, IsBehind, Rise, AreWritable}
 use Rattle.stackmap_shift.specs.Moves.{moved_type, moved_kind}
 use Rattle.inject_events.specs.declared.settings.Setting.{Setting}
-use Rattle.jvm_model.specs.ImageTables.{is_behind, rise_from, is_writable}
+use Rattle.jvm_model.specs.Rewriting.ImageTables.{is_behind, rise_from, is_writable}
 use Rattle.inject_events.specs.Tables.{version_frames}
 
 -- ---- whether they rise

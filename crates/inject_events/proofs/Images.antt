@@ -20,12 +20,12 @@ use Rattle.code_model.specs.declared.laying.Laid.{Laid}
 use Rattle.code_model.specs.Layout.{first_far}
 use Rattle.jvm_model.specs.declared.event.Mark.{Mark}
 use Rattle.jvm_model.specs.declared.event.Mark.TheVariants.{Off, Plain, Root}
-use Rattle.jvm_model.specs.Descriptors.{same_text}
-use Rattle.jvm_model.specs.Methods.{code_of}
-use Rattle.jvm_model.specs.Images.{is_off, all_off, IsMarkedMember, IsMemberImage, AreMemberImages, IsOriginal, IsRewritten, IsImage, next_number}
-use Rattle.jvm_model.specs.ImageTables.{moved_lines, moved_variables, moved_frames_of, is_stack_map_table, image_attribute, added_stack_map_table, image_attributes}
-use Rattle.jvm_model.specs.Versions.{IsVersion, entry_probe, leave_probe, unwind_code, group_of, laid_version, code_with}
-use Rattle.jvm_model.proofs.ImageSizes.{image-le}
+use Rattle.jvm_model.specs.Basis.Descriptors.{same_text}
+use Rattle.jvm_model.specs.Basis.Methods.{code_of}
+use Rattle.jvm_model.specs.Rewriting.Images.{is_off, all_off, IsMarkedMember, IsMemberImage, AreMemberImages, IsOriginal, IsRewritten, IsImage, next_number}
+use Rattle.jvm_model.specs.Rewriting.ImageTables.{moved_lines, moved_variables, moved_frames_of, is_stack_map_table, image_attribute, added_stack_map_table, image_attributes}
+use Rattle.jvm_model.specs.Rewriting.Versions.{IsVersion, entry_probe, leave_probe, unwind_code, group_of, laid_version, code_with}
+use Rattle.jvm_model.proofs.Images.ImageSizes.{image-le}
 use Rattle.inject_events.specs.declared.error.Cause.{Cause}
 use Rattle.inject_events.specs.declared.error.Cause.TheVariants as cause
 use Rattle.inject_events.specs.declared.error.InjectError.{InjectError}

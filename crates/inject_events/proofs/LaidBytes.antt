@@ -16,7 +16,7 @@ use Rattle.code_model.specs.Operands.{padding_len}
 use Rattle.code_model.specs.Layout.{Spot, u1, u2, u4, s4, number_bytes, signed_bytes, distance, padding, target_bytes, pair_bytes, operand_bytes, opcode_bytes, width_of, instr_bytes, place_of, group_end, spots_from, end_from, homes_of, found_beside, home_of, groups_bytes, laid_of}
 use Rattle.code_model.proofs.Ready.{known}
 use Rattle.code_model.proofs.Walks.{le-end_from}
-use Rattle.jvm_model.specs.Versions.{is_return_opcode, group_of, probe_bytes}
+use Rattle.jvm_model.specs.Rewriting.Versions.{is_return_opcode, group_of, probe_bytes}
 use Rattle.stackmap_shift.specs.declared.error.FrameError.{FrameError}
 use Rattle.stackmap_shift.specs.declared.frames.Frame.{Frame}
 use Rattle.stackmap_shift.specs.declared.frames.FrameKind.{FrameKind}
@@ -26,7 +26,7 @@ use Rattle.stackmap_shift.specs.declared.frames.VType.TheVariants as item
 use Rattle.stackmap_shift.specs.DebugTables.{line_bytes, variable_bytes, rows_bytes, lines_of, variables_of, moved_line, moved_variable, shifted_lines, shifted_variables}
 use Rattle.stackmap_shift.specs.Spelling.{type_bytes, types_bytes, counted_bytes, short_or_long, kind_bytes, frame_bytes, delta_of, frames_bytes, table_bytes}
 use Rattle.stackmap_shift.specs.Tables.{◌>>=◌}
-use Rattle.jvm_model.specs.ImageTables.{moved_or_kept}
+use Rattle.jvm_model.specs.Rewriting.ImageTables.{moved_or_kept}
 
 -- ---- lists
 

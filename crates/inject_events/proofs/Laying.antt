@@ -14,7 +14,7 @@ use Rattle.code_model.specs.declared.laying.Homes.{Homes}
 use Rattle.code_model.specs.Layout.{homes_of}
 use Rattle.code_model.specs.Groups.{IsBytes}
 use Rattle.code_model.proofs.Layouts.{starts-increasing}
-use Rattle.jvm_model.specs.Versions.{is_return_opcode, group_of}
+use Rattle.jvm_model.specs.Rewriting.Versions.{is_return_opcode, group_of}
 
 -- ---- a code that has a reading has no fault
 

@@ -17,9 +17,9 @@ use Rattle.code_model.specs.Layout.{Spot, place_of, group_end, spots_from, end_f
 use Rattle.code_model.proofs.Walks.{length-laid_of}
 use Rattle.jvm_model.specs.declared.event.Mark.{Mark}
 use Rattle.jvm_model.specs.declared.event.Mark.TheVariants.{Off, Plain, Root}
-use Rattle.jvm_model.specs.Methods.{code_of}
-use Rattle.jvm_model.specs.Images.{is_off, all_off, next_number}
-use Rattle.jvm_model.specs.Versions.{is_return_opcode, group_of, probe_bytes}
+use Rattle.jvm_model.specs.Basis.Methods.{code_of}
+use Rattle.jvm_model.specs.Rewriting.Images.{is_off, all_off, next_number}
+use Rattle.jvm_model.specs.Rewriting.Versions.{is_return_opcode, group_of, probe_bytes}
 use Rattle.inject_events.specs.declared.error.Cause.{Cause}
 use Rattle.inject_events.specs.declared.error.Cause.TheVariants as cause
 use Rattle.inject_events.specs.declared.error.InjectError.{InjectError}

@@ -14,7 +14,7 @@ use Rattle.code_model.specs.Layout.{Spot, group_end, spots_from, all_spots, sour
 use Rattle.code_model.proofs.Among.{source_end-reads}
 use Rattle.code_model.proofs.Layouts.{homes-increasing}
 use Rattle.code_model.proofs.Readings.{at-instruction_at, instruction_at_within}
-use Rattle.jvm_model.specs.Versions.{group_of}
+use Rattle.jvm_model.specs.Rewriting.Versions.{group_of}
 use Rattle.stackmap_shift.specs.declared.error.FrameError.{FrameError}
 use Rattle.stackmap_shift.specs.declared.frames.Frame.{Frame}
 use Rattle.stackmap_shift.specs.declared.frames.FrameKind.TheVariants.{Full}
@@ -32,7 +32,7 @@ use Rattle.inject_events.specs.Answers.{IsReadableCode}
 use Rattle.inject_events.specs.Rewriting.{instrs_in, laid_version_of}
 use Rattle.inject_events.specs.Settings.{probes_in}
 use Rattle.inject_events.specs.SoundTables.{starts_of, HasSoundFrames, IsSoundTable, IsMovedTable, IsMovedRaw, MovesSoundTables}
-use Rattle.jvm_model.specs.ImageTables.{moved_or_kept, moved_lines, moved_variables, is_behind, rise_from, is_writable}
+use Rattle.jvm_model.specs.Rewriting.ImageTables.{moved_or_kept, moved_lines, moved_variables, is_behind, rise_from, is_writable}
 use Rattle.inject_events.specs.Tables.{table_of, version_frames, framed_or_kept, moved_frame_table, moved_table, is_frame_table, frame_count, is_full_table, has_full_table}
 use Rattle.inject_events.proofs.InstrsIn.{instrs_in-is, rise-in}
 use Rattle.inject_events.proofs.Laying.{instrs_of-groups}

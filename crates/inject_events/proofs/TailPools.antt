@@ -11,7 +11,7 @@ use Rattle.const_pool.specs.declared.pool.Const.{Const}
 use Rattle.const_pool.specs.declared.pool.Const.TheVariants.{Gap, Utf8, Integer, Float, Long, Double, Class, Text, Field, Method, InterfaceMethod, NameType}
 use Rattle.const_pool.specs.Pool.{Names, IsEntry, AreEntries, IsPool, is_utf8, is_class, is_name_type}
 use Rattle.const_pool.specs.Tail.{tail_entries, with_tail}
-use Rattle.jvm_model.proofs.ImagePools.{slice_get-more, tail-entry}
+use Rattle.jvm_model.proofs.Images.ImagePools.{slice_get-more, tail-entry}
 
 -- ---- with more entries behind them
 

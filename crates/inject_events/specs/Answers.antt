@@ -6,8 +6,8 @@ use Rattle.const_pool.specs.declared.class.Member.{Member}
 use Rattle.code_model.specs.declared.instr.Code.{Code}
 use Rattle.code_model.specs.Instructions.{IsReading}
 use Rattle.jvm_model.specs.declared.event.Mark.{Mark}
-use Rattle.jvm_model.specs.Images.{is_off}
-use Rattle.jvm_model.specs.Methods.{code_of}
+use Rattle.jvm_model.specs.Rewriting.Images.{is_off}
+use Rattle.jvm_model.specs.Basis.Methods.{code_of}
 use Rattle.inject_events.specs.declared.error.Cause.{Cause}
 use Rattle.inject_events.specs.declared.error.InjectError.{InjectError}
 use Rattle.inject_events.specs.declared.error.InjectError.TheVariants as inject

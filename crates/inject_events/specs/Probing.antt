@@ -12,8 +12,8 @@ use Rattle.code_model.specs.declared.laying.LayError.{LayError}
 use Rattle.code_model.specs.declared.laying.LayError.TheVariants as lay
 use Rattle.code_model.specs.Layout.{laid_of}
 use Rattle.jvm_model.specs.declared.event.Mark.{Mark}
-use Rattle.jvm_model.specs.Versions.{group_of, moved_handler, catch_all}
-use Rattle.jvm_model.specs.Images.{is_off, with_code_among, with_code}
+use Rattle.jvm_model.specs.Rewriting.Versions.{group_of, moved_handler, catch_all}
+use Rattle.jvm_model.specs.Rewriting.Images.{is_off, with_code_among, with_code}
 use Rattle.inject_events.specs.declared.error.Cause.TheVariants.{Length, Branch}
 use Rattle.inject_events.specs.declared.error.InjectError.{InjectError}
 use Rattle.inject_events.specs.declared.error.InjectError.TheVariants as inject

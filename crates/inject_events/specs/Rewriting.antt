@@ -13,9 +13,9 @@ use Rattle.code_model.specs.Instructions.{instruction_at, end_of}
 use Rattle.code_model.specs.Layout.{first_far}
 use Rattle.jvm_model.specs.declared.event.Mark.{Mark}
 use Rattle.jvm_model.specs.declared.event.Mark.TheVariants.{Off, Plain, Root}
-use Rattle.jvm_model.specs.Images.{all_off, next_number}
-use Rattle.jvm_model.specs.Methods.{code_of}
-use Rattle.jvm_model.specs.Versions.{group_of}
+use Rattle.jvm_model.specs.Rewriting.Images.{all_off, next_number}
+use Rattle.jvm_model.specs.Basis.Methods.{code_of}
+use Rattle.jvm_model.specs.Rewriting.Versions.{group_of}
 use Rattle.inject_events.specs.declared.error.Cause.{Cause}
 use Rattle.inject_events.specs.declared.error.Cause.TheVariants as cause
 use Rattle.inject_events.specs.declared.image.Image.{Image}

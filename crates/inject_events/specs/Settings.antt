@@ -6,7 +6,7 @@ use Rattle.const_pool.specs.declared.tail.Tail.{Tail}
 use Rattle.const_pool.specs.Tail.{with_tail, root_index, enter_index, leave_index, unwind_index, throwable_index, frames_index}
 use Rattle.jvm_model.specs.declared.event.Mark.{Mark}
 use Rattle.jvm_model.specs.declared.event.Mark.TheVariants.{Off, Plain, Root}
-use Rattle.jvm_model.specs.Versions.{probe_bytes}
+use Rattle.jvm_model.specs.Rewriting.Versions.{probe_bytes}
 use Rattle.inject_events.specs.declared.probes.Probes.{Probes}
 use Rattle.inject_events.specs.declared.settings.Setting.{Setting}
 

@@ -8,8 +8,8 @@ use Rattle.const_pool.specs.declared.pool.Const.{Const}
 use Rattle.const_pool.specs.References.{named_text}
 use Rattle.code_model.specs.declared.laying.Homes.{Homes}
 use Rattle.code_model.specs.Layout.{home_of}
-use Rattle.jvm_model.specs.Descriptors.{same_text}
-use Rattle.jvm_model.specs.ImageTables.{moved_lines, moved_variables, last_frame, frames_with_last, framed_by, moved_frames_of}
+use Rattle.jvm_model.specs.Basis.Descriptors.{same_text}
+use Rattle.jvm_model.specs.Rewriting.ImageTables.{moved_lines, moved_variables, last_frame, frames_with_last, framed_by, moved_frames_of}
 use Rattle.stackmap_shift.specs.declared.error.FrameError.{FrameError}
 use Rattle.stackmap_shift.specs.declared.frames.Frame.{Frame}
 use Rattle.stackmap_shift.specs.Frames.{frames_of}

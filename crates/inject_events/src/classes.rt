@@ -3,7 +3,7 @@
 ghost use Rattle.std.specs.Prelude.{◌≡◌, ◌≢◌, ◌≤◌, ◌+◌, ◌<◌, ◌^◌, ℕ, length, Err, IfOk};
 ghost use Rattle.const_pool.specs.ClassFile.{IsClassFile, class_bytes};
 ghost use Rattle.const_pool.specs.declared.tail.TailError.{TailError as TheTailError};
-ghost use Rattle.jvm_model.specs.Images.{IsImage};
+ghost use Rattle.jvm_model.specs.Rewriting.Images.{IsImage};
 ghost use Rattle.inject_events.specs.declared.error.Cause.{Cause as TheCause};
 ghost use Rattle.inject_events.specs.Answers.{IsReadableClass, IsImageAnswer, IsProfilable, MarkedHaveCode};
 ghost use Rattle.inject_events.specs.Rewriting.{original_of, image_with_methods, image_of_marked, refused_of_marked, image_of, refused_of};

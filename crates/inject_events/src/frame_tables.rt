@@ -5,7 +5,7 @@ ghost use Rattle.std.specs.List.Sorted.{IsStrictlyIncreasing};
 ghost use Rattle.stackmap_shift.specs.Conditions.{FitsFrame};
 ghost use Rattle.stackmap_shift.specs.Frames.{frames_of};
 ghost use Rattle.stackmap_shift.specs.Spelling.{table_bytes};
-ghost use Rattle.jvm_model.specs.ImageTables.{last_frame, is_behind, rise_from, is_writable, written_or_kept};
+ghost use Rattle.jvm_model.specs.Rewriting.ImageTables.{last_frame, is_behind, rise_from, is_writable, written_or_kept};
 ghost use Rattle.inject_events.specs.Tables.{version_frames, moved_frame_table, added_table, frame_count};
 
 use crate::settings::Setting;

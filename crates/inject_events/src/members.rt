@@ -1,7 +1,7 @@
 //! The methods of a class in its image.
 
 ghost use Rattle.std.specs.Prelude.{◌≡◌, ◌≤◌, length, IfOk};
-ghost use Rattle.jvm_model.specs.Methods.{code_of};
+ghost use Rattle.jvm_model.specs.Basis.Methods.{code_of};
 ghost use Rattle.inject_events.specs.Answers.{HasReadableBody, HaveReadableBodies, IsVersionAnswer, IsImageAnswer};
 ghost use Rattle.inject_events.specs.Probing.{image_with};
 ghost use Rattle.inject_events.specs.Rewriting.{cause_of_coded, cause_of_method, image_of_coded, image_of_method, images_from, methods_of_images, refused_from};

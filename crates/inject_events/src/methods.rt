@@ -2,8 +2,8 @@
 
 ghost use Rattle.std.specs.Prelude.{◌≡◌, ◌<◌, length, true, false, None, IfOk};
 ghost use Rattle.std.specs.Option.{option_copied};
-ghost use Rattle.jvm_model.specs.Methods.{code_of};
-ghost use Rattle.jvm_model.specs.Images.{is_off, all_off, with_code, next_number};
+ghost use Rattle.jvm_model.specs.Basis.Methods.{code_of};
+ghost use Rattle.jvm_model.specs.Rewriting.Images.{is_off, all_off, with_code, next_number};
 ghost use Rattle.inject_events.specs.Answers.{MarkedHaveCode, can_be_marked, can_all_be_marked};
 ghost use Rattle.inject_events.specs.Probing.{with_code_at, coded_at, is_code, refusal};
 

@@ -1,7 +1,7 @@
 //! The bytes of the probes (JVM Specification 6.5, athrow, invokestatic and sipush).
 
 ghost use Rattle.std.specs.Prelude.{◌≡◌, [], ◌∷◌, ◌++◌};
-ghost use Rattle.jvm_model.specs.Versions.{probe_bytes};
+ghost use Rattle.jvm_model.specs.Rewriting.Versions.{probe_bytes};
 ghost use Rattle.inject_events.specs.Settings.{entry_in, probes_in};
 
 use const_pool::Tail;

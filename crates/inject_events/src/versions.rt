@@ -2,7 +2,7 @@
 
 ghost use Rattle.std.specs.Prelude.{◌≡◌, [], map, IfOk, if◌then◌else◌};
 ghost use Rattle.std.specs.List.Sorted.{IsStrictlyIncreasing};
-ghost use Rattle.jvm_model.specs.Versions.{is_return_opcode, group_of, moved_handler, catch_all};
+ghost use Rattle.jvm_model.specs.Rewriting.Versions.{is_return_opcode, group_of, moved_handler, catch_all};
 ghost use Rattle.inject_events.specs.Probing.{handlers_by, no_version};
 
 use crate::error::{Cause, NoVersion};

@@ -7,8 +7,8 @@ use Rattle.std.proofs.lemmas.List.{take-append-drop, take_more, drop_more}
 use Rattle.std.proofs.lemmas.List.Elements.{filter-append}
 use Rattle.std.proofs.lemmas.Option.{slice_get_within, slice_get-get_or, slice_get_past, same_Some}
 use Rattle.jvm_model.specs.declared.event.Act.{Act}
-use Rattle.jvm_model.specs.Calls.{AreFrom}
-use Rattle.jvm_model.specs.Told.{Held}
+use Rattle.jvm_model.specs.Soundness.Calls.{AreFrom}
+use Rattle.jvm_model.specs.Turns.Told.{Held}
 use Rattle.profile_session.specs.Sessions.{Profiling, CanActNow, with_act}
 use Rattle.jfluid_cli.specs.Actions.{IsAlong, IsDue, IsLater, IsToCome, Takes}
 use Rattle.jfluid_cli.specs.Runs.{IsFresh, IsPlanned, at_step, is_taken_by}

@@ -10,8 +10,8 @@ use Rattle.plan_text.specs.declared.plan.Plan.{Plan}
 use Rattle.plan_text.specs.Bounds.{DoNotFall}
 use Rattle.jvm_model.specs.declared.event.Act.{Act}
 use Rattle.jvm_model.specs.declared.program.Program.{Program}
-use Rattle.jvm_model.specs.Calls.{AreFrom}
-use Rattle.jvm_model.specs.SoundPrograms.{main_in}
+use Rattle.jvm_model.specs.Soundness.Calls.{AreFrom}
+use Rattle.jvm_model.specs.Soundness.SoundPrograms.{main_in}
 use Rattle.admit_check.specs.declared.error.AdmitError.{AdmitError}
 use Rattle.admit_check.specs.Admission.{IsAdmittedProgram, act_of, act_with, acts_from, admission_of, classes_fault, completed, count_fault, program_with, root_in, unless_fault, with_acts, with_main}
 

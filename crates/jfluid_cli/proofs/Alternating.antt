@@ -24,8 +24,8 @@ use Rattle.jf_bytes.specs.Unicode.{utf16_of}
 use Rattle.command_line.specs.Chosen.{IsOwnPlan}
 use Rattle.jvm_model.specs.declared.event.Act.{Act}
 use Rattle.jvm_model.specs.declared.program.Program.{Program}
-use Rattle.jvm_model.specs.Load.{is_among}
-use Rattle.jvm_model.specs.Points.{chosen}
+use Rattle.jvm_model.specs.Classes.Load.{is_among}
+use Rattle.jvm_model.specs.Profiling.Points.{chosen}
 use Rattle.admit_check.specs.Admission.{admission_of, root_in}
 use Rattle.jfluid_cli.specs.Actions.{Alternate, AlternateRoots, chosen_by}
 use Rattle.jfluid_cli.proofs.Admitted.{IsActOf, plan-acts, program_for}

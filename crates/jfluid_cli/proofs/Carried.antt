@@ -6,7 +6,7 @@ use Rattle.std.specs.Option.{option_map_or, option_and_then}
 use Rattle.jf_bytes.specs.Streams.{PutsFront}
 use Rattle.plan_text.specs.declared.plan.Plan.{Plan}
 use Rattle.jvm_model.specs.declared.program.Program.{Program}
-use Rattle.jvm_model.specs.Run.{output_of}
+use Rattle.jvm_model.specs.Running.Run.{output_of}
 use Rattle.profile_session.specs.Sessions.{Profiling}
 use Rattle.command_line.specs.Input.{TakesAtMost, most_input, most_taken}
 use Rattle.command_line.specs.Words.{Read}

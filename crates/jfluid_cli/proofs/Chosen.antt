@@ -6,12 +6,12 @@ use Rattle.std.proofs.lemmas.Bool.{cases_lt, eq-eqb, le-leb, lt-leb, ne_eqb}
 use Rattle.std.proofs.lemmas.List.{append-nil}
 use Rattle.std.proofs.lemmas.Option.{same_Some, none-some}
 use Rattle.jvm_model.specs.declared.event.Act.{Act}
-use Rattle.jvm_model.specs.Calls.{AreFrom}
-use Rattle.jvm_model.specs.Data.{Change, Loads, Began, Left, Unwound, Text, World}
-use Rattle.jvm_model.specs.Load.{is_among}
-use Rattle.jvm_model.specs.Originals.{original}
-use Rattle.jvm_model.specs.Points.{Standing, acts_at, acts_behind, after_act, after_acts, after_change, after_changes, chosen, is_quiet, nothing, settled, standing_in, standing_in-suc, standing_in-zero}
-use Rattle.jvm_model.specs.Run.{turn_in}
+use Rattle.jvm_model.specs.Soundness.Calls.{AreFrom}
+use Rattle.jvm_model.specs.Basis.Data.{Change, Loads, Began, Left, Unwound, Text, World}
+use Rattle.jvm_model.specs.Classes.Load.{is_among}
+use Rattle.jvm_model.specs.Codes.Originals.{original}
+use Rattle.jvm_model.specs.Profiling.Points.{Standing, acts_at, acts_behind, after_act, after_acts, after_change, after_changes, chosen, is_quiet, nothing, settled, standing_in, standing_in-suc, standing_in-zero}
+use Rattle.jvm_model.specs.Running.Run.{turn_in}
 use Rattle.profile_session.specs.Sessions.{Profiling, is_selected_in, standing_of, world_of}
 use Rattle.jfluid_cli.specs.Actions.{Alternate, CanBeTaken, IsAlong, IsDue, chosen_by}
 use Rattle.jfluid_cli.proofs.ActionLemmas.{IsFrom, keeps-all, keeps-none, rise, all-weaken}

@@ -5,9 +5,9 @@ use Rattle.jf_bytes.specs.Streams.{Rose, greatest}
 use Rattle.jvm_model.specs.declared.program.Program.{Program}
 use Rattle.jvm_model.specs.declared.state.State.{State}
 use Rattle.admit_check.specs.declared.error.AdmitError.{AdmitError}
-use Rattle.jvm_model.specs.Originals.{original}
-use Rattle.jvm_model.specs.Run.{ending_of}
-use Rattle.jvm_model.proofs.Growth.{run-stays}
+use Rattle.jvm_model.specs.Codes.Originals.{original}
+use Rattle.jvm_model.specs.Running.Run.{ending_of}
+use Rattle.jvm_model.proofs.Running.Growth.{run-stays}
 use Rattle.profile_session.specs.Sessions.{Profiling, world_of}
 use Rattle.jfluid_cli.specs.Runs.{ending_at, IsCarriedOut, world_on}
 use Rattle.jfluid_cli.specs.Top.{IsCalm}

@@ -9,7 +9,7 @@ use Rattle.jf_bytes.specs.Streams.{Told, PutsAll, PutsFront, Rose}
 use Rattle.const_pool.specs.declared.class.ClassFile.{ClassFile}
 use Rattle.plan_text.specs.declared.plan.Plan.{Plan}
 use Rattle.jvm_model.specs.declared.program.Program.{Program}
-use Rattle.jvm_model.specs.Run.{ending_of}
+use Rattle.jvm_model.specs.Running.Run.{ending_of}
 use Rattle.command_line.specs.Words.{Read}
 use Rattle.profile_session.specs.Sessions.{Profiling}
 use Rattle.jfluid_cli.specs.declared.kept.Kept.{Kept}

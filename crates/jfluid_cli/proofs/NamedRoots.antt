@@ -14,9 +14,9 @@ use Rattle.plan_text.specs.declared.plan.RootName.{RootName}
 use Rattle.plan_text.specs.Lines.{same_root}
 use Rattle.jvm_model.specs.declared.program.MethodPlace.{MethodPlace}
 use Rattle.jvm_model.specs.declared.program.Program.{Program}
-use Rattle.jvm_model.specs.Descriptors.{same_text}
-use Rattle.jvm_model.specs.Methods.{is_member, method_from, method_named, same_text_at}
-use Rattle.jvm_model.specs.Programs.{class_at, class_named, declared_method, has_name, name_of, no_class, number_from, number_of_method, same_place}
+use Rattle.jvm_model.specs.Basis.Descriptors.{same_text}
+use Rattle.jvm_model.specs.Basis.Methods.{is_member, method_from, method_named, same_text_at}
+use Rattle.jvm_model.specs.Basis.Programs.{class_at, class_named, declared_method, has_name, name_of, no_class, number_from, number_of_method, same_place}
 use Rattle.admit_check.specs.Admission.{root_in}
 
 -- ---- texts

@@ -1,6 +1,6 @@
 -- What was admitted can be run and profiled.
 use Rattle.jvm_model.specs.declared.program.Program.{Program}
-use Rattle.jvm_model.proofs.SoundAnswers.{whole-sound}
+use Rattle.jvm_model.proofs.Soundness.SoundAnswers.{whole-sound}
 use Rattle.profile_session.specs.Beginning.{CanBeProfiled}
 use Rattle.program_fit.proofs.Runs.{runnable}
 use Rattle.program_fit.specs.Runnable.{IsAdmitted}

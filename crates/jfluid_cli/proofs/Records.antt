@@ -3,7 +3,7 @@ use Rattle.std.proofs.Common.{◌≡◌, ℕ, zero, suc, List, [], ◌∷◌, �
 use Rattle.std.specs.Prelude.{slice_get}
 use Rattle.std.proofs.lemmas.List.{append_assoc}
 use Rattle.std.proofs.lemmas.Option.{same_Some}
-use Rattle.jvm_model.specs.Growth.{Extends}
+use Rattle.jvm_model.specs.Running.Growth.{Extends}
 use Rattle.profile_session.specs.declared.swap.Swap.{Swap}
 use Rattle.jfluid_cli.specs.Images.{swap_record, swap_records}
 

@@ -4,9 +4,9 @@ use Rattle.std.specs.List.{AllByRecursion}
 use Rattle.plan_text.specs.declared.plan.Action.{Action}
 use Rattle.plan_text.specs.Lines.{selected_after}
 use Rattle.jvm_model.specs.declared.event.Act.{Act}
-use Rattle.jvm_model.specs.Calls.{AreFrom}
-use Rattle.jvm_model.specs.Load.{is_among}
-use Rattle.jvm_model.specs.Points.{chosen}
+use Rattle.jvm_model.specs.Soundness.Calls.{AreFrom}
+use Rattle.jvm_model.specs.Classes.Load.{is_among}
+use Rattle.jvm_model.specs.Profiling.Points.{chosen}
 use Rattle.profile_session.specs.Sessions.{LiveRunOn, Profiling}
 use Rattle.jfluid_cli.specs.declared.running.Reached.{Reached}
 use Rattle.jfluid_cli.specs.Runs.{IsPlanned, is_ended_at}

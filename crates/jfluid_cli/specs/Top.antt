@@ -13,11 +13,11 @@ use Rattle.profile_session.specs.Sessions.{Profiling}
 use Rattle.jfluid_cli.specs.Contents.{AreFiles, classes_for}
 use Rattle.jfluid_cli.specs.Runs.{acts_until, world_on}
 use Rattle.profile_report.specs.Reports.{report_text}
-use Rattle.jvm_model.specs.Projection.{projection}
-use Rattle.jvm_model.specs.Originals.{original}
-use Rattle.jvm_model.specs.Run.{ending_of}
-use Rattle.jvm_model.specs.Swaps.{swaps_in}
-use Rattle.jvm_model.specs.Targets.{operations_of}
+use Rattle.jvm_model.specs.Profiling.Projection.{projection}
+use Rattle.jvm_model.specs.Codes.Originals.{original}
+use Rattle.jvm_model.specs.Running.Run.{ending_of}
+use Rattle.jvm_model.specs.Profiling.Swaps.{swaps_in}
+use Rattle.jvm_model.specs.Profiling.Targets.{operations_of}
 
 -- ---- statuses
 

@@ -13,13 +13,13 @@ use Rattle.code_model.specs.declared.instr.Arg.TheVariants as arg
 use Rattle.jvm_model.specs.declared.family.Family.{Family}
 use Rattle.jvm_model.specs.declared.family.Family.TheVariants as family
 use Rattle.jvm_model.specs.declared.family.Test.{Test}
-use Rattle.jvm_model.specs.Data.{Locals, Operands, Keys, Local, Constant, Load, Store, Iinc, Branch, Goto, Jsr, Ret, Switch}
-use Rattle.jvm_model.specs.Data.{Next as Behind, Target, Back}
-use Rattle.jvm_model.specs.Data.{Outcome as Asked, GoesOn as AsksOn, Breaks as AsksBreak}
-use Rattle.jvm_model.specs.Lines.{value_in, slot_in, increment_in, target_in, keys_in, targets_of}
-use Rattle.jvm_model.specs.LocalRules
-use Rattle.jvm_model.specs.StackForms.{forms_of}
-use Rattle.jvm_model.specs.Values.{datum_of, loaded, is_storable, local_in, has_slots, stored, int_of, arranged}
+use Rattle.jvm_model.specs.Basis.Data.{Locals, Operands, Keys, Local, Constant, Load, Store, Iinc, Branch, Goto, Jsr, Ret, Switch}
+use Rattle.jvm_model.specs.Basis.Data.{Next as Behind, Target, Back}
+use Rattle.jvm_model.specs.Basis.Data.{Outcome as Asked, GoesOn as AsksOn, Breaks as AsksBreak}
+use Rattle.jvm_model.specs.Codes.Lines.{value_in, slot_in, increment_in, target_in, keys_in, targets_of}
+use Rattle.jvm_model.specs.Instructions.LocalRules
+use Rattle.jvm_model.specs.Basis.StackForms.{forms_of}
+use Rattle.jvm_model.specs.Basis.Values.{datum_of, loaded, is_storable, local_in, has_slots, stored, int_of, arranged}
 use Rattle.jvm_basic.specs.Outcomes.{Rule, Leaves, top_locals, effect_in, frames_in, effect_of, after}
 use Rattle.jvm_basic.specs.Rules.{datum_in, placed, going, needs, does, rule_by}
 

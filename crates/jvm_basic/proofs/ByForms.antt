@@ -2,9 +2,9 @@
 use Rattle.std.proofs.Common.{◌≡◌, ℕ, Bool, true, false, List, [], ◌∷◌, drop, refl}
 use Rattle.std.specs.Prelude.{◌&&◌}
 use Rattle.std.proofs.lemmas.Bool.{false≢true}
-use Rattle.jvm_model.specs.Data.{Locals, Operands}
+use Rattle.jvm_model.specs.Basis.Data.{Locals, Operands}
 use Rattle.jvm_basic.specs.Outcomes.{GoesOn}
-use Rattle.jvm_model.specs.Values.{has_form, puts_on}
+use Rattle.jvm_model.specs.Basis.Values.{has_form, puts_on}
 use Rattle.jvm_basic.specs.Copies.{copies_one, copies_two, swaps}
 
 never : (b : Bool) → (b && false) ≡ true → ⊥

@@ -6,9 +6,9 @@ use Rattle.heap_objects.specs.declared.Value.{Value}
 use Rattle.frame_stack.specs.Widths.{height_of}
 use Rattle.frame_stack.specs.FrameLists.{PlacedFrame, FramesView, with_frames, top_operands, can_push, with_operand, without_operand, with_place}
 use Rattle.jvm_basic.proofs.Tops.{can_push-is}
-use Rattle.jvm_model.specs.Data.{Operands}
+use Rattle.jvm_model.specs.Basis.Data.{Operands}
 use Rattle.jvm_basic.specs.Outcomes.{top_locals, can_hold, with_top, effect_of, after}
-use Rattle.jvm_model.specs.Values.{with_value as above}
+use Rattle.jvm_model.specs.Basis.Values.{with_value as above}
 use Rattle.jvm_basic.specs.Copies.{inserted, inserts, with_operands}
 use Rattle.jvm_basic.specs.declared.effect.Effect.TheVariants.{Next, Bad}
 

@@ -19,16 +19,16 @@ use Rattle.jvm_basic.specs.declared.effect.Effect.TheVariants.{Next, Throws, Bad
 use Rattle.jvm_model.specs.declared.family.Division.{Division}
 use Rattle.jvm_model.specs.declared.family.Family.{Family}
 use Rattle.jvm_model.specs.declared.family.Family.TheVariants as family
-use Rattle.jvm_model.specs.Families.{rows, family_of}
-use Rattle.jvm_model.specs.Data.{Locals, Operands}
+use Rattle.jvm_model.specs.Basis.Families.{rows, family_of}
+use Rattle.jvm_model.specs.Basis.Data.{Locals, Operands}
 use Rattle.jvm_basic.specs.Outcomes.{Outcome, GoesOn, Raises, Breaks, Leaves, Rule, can_hold, with_top, effect_in, frames_in, asked, effect_of, after}
-use Rattle.jvm_model.specs.Values.{loaded, int_of, ints_of, longs_of, local_in}
-use Rattle.jvm_model.specs.StackForms.{forms_of}
-use Rattle.jvm_model.specs.Values.{arranged}
-use Rattle.jvm_model.specs.Data.{Keys, Next as Behind, Target, Back}
-use Rattle.jvm_model.specs.Data.{Outcome as Asked, GoesOn as AsksOn, Breaks as AsksBreak}
-use Rattle.jvm_model.specs.Lines.{value_in, slot_in, increment_in, target_in, keys_in, targets_of}
-use Rattle.jvm_model.specs.LocalRules
+use Rattle.jvm_model.specs.Basis.Values.{loaded, int_of, ints_of, longs_of, local_in}
+use Rattle.jvm_model.specs.Basis.StackForms.{forms_of}
+use Rattle.jvm_model.specs.Basis.Values.{arranged}
+use Rattle.jvm_model.specs.Basis.Data.{Keys, Next as Behind, Target, Back}
+use Rattle.jvm_model.specs.Basis.Data.{Outcome as Asked, GoesOn as AsksOn, Breaks as AsksBreak}
+use Rattle.jvm_model.specs.Codes.Lines.{value_in, slot_in, increment_in, target_in, keys_in, targets_of}
+use Rattle.jvm_model.specs.Instructions.LocalRules
 use Rattle.jvm_basic.specs.Rules.{datum_in, arithmetic_exception, goes_at, placed, needs, does, rule_by, rule_of}
 use Rattle.jvm_basic.proofs.Fitting.{arithmetic-position}
 use Rattle.jvm_basic.proofs.Asked.{is_simple, pushes-simple, replaces-simple, leaves-simple, stores-simple, increments-simple, back-simple, does-is}

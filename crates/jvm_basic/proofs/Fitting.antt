@@ -2,16 +2,16 @@
 use Rattle.std.proofs.Common.{◌≡◌, ℕ, ◌≤◌, ℤ, Bool, true, List, [], ◌∷◌, drop, refl, arith}
 use Rattle.std.specs.Prelude.{nat_le, Some, None, slice_get, codes}
 use Rattle.const_pool.specs.BuiltIn.{built_in_names}
-use Rattle.jvm_model.specs.LocalRules
+use Rattle.jvm_model.specs.Instructions.LocalRules
 use Rattle.jvm_basic.specs.Rules.{class_position, arithmetic_exception}
 use Rattle.std.proofs.lemmas.Bool.{le-leb}
 use Rattle.heap_objects.specs.declared.Value.{Value}
 use Rattle.heap_objects.specs.declared.Value.TheVariants.{Int, Long, Ref, Addr}
 use Rattle.frame_stack.specs.Widths.{height_of}
 use Rattle.frame_stack.specs.FrameLists.{PlacedFrame, AreSound, top_operands}
-use Rattle.jvm_model.specs.Data.{Operands}
+use Rattle.jvm_model.specs.Basis.Data.{Operands}
 use Rattle.jvm_basic.specs.Outcomes.{can_hold}
-use Rattle.jvm_model.specs.Values.{ints_of, longs_of, long_and_int_of}
+use Rattle.jvm_model.specs.Basis.Values.{ints_of, longs_of, long_and_int_of}
 
 -- the value on top of those left is within a height
 abbrev fits : Operands → ℕ → Value → Bool

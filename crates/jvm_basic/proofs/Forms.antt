@@ -4,8 +4,8 @@ use Rattle.std.specs.Prelude.{Some, None, slice_get, ◌&&◌}
 use Rattle.std.proofs.lemmas.Bool.{false≢true}
 use Rattle.heap_objects.specs.declared.Value.{Value}
 use Rattle.frame_stack.specs.Widths.{is_long}
-use Rattle.jvm_model.specs.Data.{Operands}
-use Rattle.jvm_model.specs.Values.{same_width, has_form}
+use Rattle.jvm_model.specs.Basis.Data.{Operands}
+use Rattle.jvm_model.specs.Basis.Values.{same_width, has_form}
 use Rattle.jvm_basic.proofs.Keys.{drop-at, drop-past}
 
 unlike : (b c more : Bool) → (b ≡ c → ⊥) → (same_width b c && more) ≡ false

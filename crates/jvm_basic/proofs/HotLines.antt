@@ -10,7 +10,7 @@ use Rattle.code_model.specs.declared.instr.Instr.{Instr}
 use Rattle.const_pool.specs.declared.descriptor.Kind.{Kind}
 use Rattle.const_pool.specs.declared.descriptor.Kind.TheVariants as kind
 use Rattle.frame_stack.specs.FrameLists.{FramesView}
-use Rattle.jvm_model.specs.Families.{family_of}
+use Rattle.jvm_model.specs.Basis.Families.{family_of}
 use Rattle.jvm_model.specs.declared.family.Family.{Family}
 use Rattle.jvm_model.specs.declared.family.Family.TheVariants as family
 use Rattle.jvm_model.specs.declared.family.Test.{Test}

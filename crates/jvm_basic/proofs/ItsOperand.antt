@@ -11,8 +11,8 @@ use Rattle.code_model.specs.declared.instr.Instr.{Instr}
 use Rattle.code_model.specs.Operands.{form_of}
 use Rattle.code_model.proofs.Spelled.{HasShape, instruction_spelled}
 use Rattle.code_model.proofs.Readings.{stands_from}
-use Rattle.jvm_model.specs.Families.{rows, family_of}
-use Rattle.jvm_model.specs.Lines.{value_in, slot_in, increment_in, target_in, keys_in}
+use Rattle.jvm_model.specs.Basis.Families.{rows, family_of}
+use Rattle.jvm_model.specs.Codes.Lines.{value_in, slot_in, increment_in, target_in, keys_in}
 use Rattle.jvm_basic.specs.Laws.{Need, Nothing, Number, Slot, Increment, Place, Choice, need_of, has_operand, HasItsOperand}
 use Rattle.jvm_basic.proofs.Exact.{holds-below}
 

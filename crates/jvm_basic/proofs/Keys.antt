@@ -7,7 +7,7 @@ use Rattle.std.proofs.lemmas.Bool.{lt-ltb, ltb-true}
 use Rattle.std.proofs.lemmas.Bool.Decides.{Decides-int_eq}
 use Rattle.std.proofs.lemmas.Int.{to_z-of_z}
 use Rattle.std.proofs.lemmas.Option.{slice_get_within, get_or_from_slice_get}
-use Rattle.jvm_model.specs.LocalRules.{target_at, target_of}
+use Rattle.jvm_model.specs.Instructions.LocalRules.{target_at, target_of}
 
 none : {A : Type 0} (x : A) → Some x ≡ None → ⊥
 none x e = cc

@@ -16,17 +16,17 @@ use Rattle.jvm_model.specs.declared.family.Test.{Test}
 use Rattle.jvm_model.specs.declared.family.Test.TheVariants.{WithZero, OfInts, OfReferences, IsNull}
 use Rattle.jvm_model.specs.declared.family.Family.{Family}
 use Rattle.jvm_model.specs.declared.family.Family.TheVariants as family
-use Rattle.jvm_model.specs.Families.{family_of}
-use Rattle.jvm_model.specs.Data.{Locals, Operands}
+use Rattle.jvm_model.specs.Basis.Families.{family_of}
+use Rattle.jvm_model.specs.Basis.Data.{Locals, Operands}
 use Rattle.jvm_basic.specs.Outcomes.{Rule, Outcome, GoesOn, Raises, Breaks, Leaves, top_locals, can_hold, effect_in, asked, effect_of}
-use Rattle.jvm_model.specs.Values.{int_of, long_of, ref_of, ints_of, longs_of, long_and_int_of, refs_of, local_in, has_kind, loaded, is_storable, has_slots, stored}
-use Rattle.jvm_model.specs.Data.{StackForm}
-use Rattle.jvm_model.specs.StackForms.{forms_of}
-use Rattle.jvm_model.specs.Values.{has_form, puts_on, arranged}
-use Rattle.jvm_model.specs.Data.{Keys, Next as Behind}
-use Rattle.jvm_model.specs.Data.{GoesOn as AsksOn, Breaks as AsksBreak}
-use Rattle.jvm_model.specs.Lines.{value_in, slot_in, increment_in, target_in, keys_in, targets_of}
-use Rattle.jvm_model.specs.LocalRules
+use Rattle.jvm_model.specs.Basis.Values.{int_of, long_of, ref_of, ints_of, longs_of, long_and_int_of, refs_of, local_in, has_kind, loaded, is_storable, has_slots, stored}
+use Rattle.jvm_model.specs.Basis.Data.{StackForm}
+use Rattle.jvm_model.specs.Basis.StackForms.{forms_of}
+use Rattle.jvm_model.specs.Basis.Values.{has_form, puts_on, arranged}
+use Rattle.jvm_model.specs.Basis.Data.{Keys, Next as Behind}
+use Rattle.jvm_model.specs.Basis.Data.{GoesOn as AsksOn, Breaks as AsksBreak}
+use Rattle.jvm_model.specs.Codes.Lines.{value_in, slot_in, increment_in, target_in, keys_in, targets_of}
+use Rattle.jvm_model.specs.Instructions.LocalRules
 use Rattle.jvm_basic.specs.Rules.{datum_in, goes_at, placed, going, needs, loads, stores, increments, branches, chosen, switches, goes_back, does, rule_by, rule_of}
 use Rattle.jvm_basic.proofs.Asked.{does-is}
 use Rattle.jvm_basic.specs.Needs.{int, long, reference, address, stand, is_as, reads, takes_slots, fits_form, operands_of, has_needs, too_deep}

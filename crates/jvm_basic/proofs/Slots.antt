@@ -11,9 +11,9 @@ use Rattle.frame_stack.specs.FrameLists.{PlacedFrame, AreSound, local_of, has_sl
 use Rattle.jvm_basic.proofs.Tops.{tops, dropped}
 use Rattle.jvm_basic.proofs.TopReads.{int_narrow}
 use Rattle.jvm_basic.proofs.Exchanged.{shrunk}
-use Rattle.jvm_model.specs.Data.{Locals, Operands}
+use Rattle.jvm_model.specs.Basis.Data.{Locals, Operands}
 use Rattle.jvm_basic.specs.Outcomes.{top_locals, can_hold, with_top}
-use Rattle.jvm_model.specs.Values.{local_in, has_slots, stored}
+use Rattle.jvm_model.specs.Basis.Values.{local_in, has_slots, stored}
 
 pub local_of-is : (slot : ℕ) (fs : List PlacedFrame) → local_of slot fs ≡ local_in (top_locals fs) slot
 local_of-is slot [] = refl

@@ -5,11 +5,11 @@ use Rattle.std.specs.Option.{option_map}
 use Rattle.heap_objects.specs.declared.Value.TheVariants.{Int, Long, Ref, Addr}
 use Rattle.frame_stack.specs.Tops as tops
 use Rattle.frame_stack.specs.Tops.{AreNarrow}
-use Rattle.jvm_model.specs.Data.{Operands}
-use Rattle.jvm_model.specs.Values.{int_of, ref_of, ints_of, refs_of}
+use Rattle.jvm_model.specs.Basis.Data.{Operands}
+use Rattle.jvm_model.specs.Basis.Values.{int_of, ref_of, ints_of, refs_of}
 use Rattle.jvm_model.specs.declared.family.Test.{Test}
 use Rattle.jvm_model.specs.declared.family.Test.TheVariants.{WithZero, OfInts, OfReferences, IsNull}
-use Rattle.jvm_model.specs.LocalRules.{compares, holds, is_same, tests}
+use Rattle.jvm_model.specs.Instructions.LocalRules.{compares, holds, is_same, tests}
 
 pub int-is : (o : Operands) → tops.int_of o ≡ int_of o
 int-is [] = refl

@@ -5,7 +5,7 @@ use Rattle.std.proofs.lemmas.Bool.{le-leb}
 use Rattle.heap_objects.specs.declared.Value.{Value}
 use Rattle.frame_stack.specs.Widths.{height_of}
 use Rattle.frame_stack.specs.FrameLists.{PlacedFrame, AreSound, has_frame, top_operands, can_push, with_operand, without_operand, with_place}
-use Rattle.jvm_model.specs.Data.{Locals, Operands}
+use Rattle.jvm_model.specs.Basis.Data.{Locals, Operands}
 use Rattle.jvm_basic.specs.Outcomes.{top_locals, can_hold, with_top}
 
 -- ---- as it is, and with a value more

@@ -10,8 +10,8 @@ use Rattle.code_model.specs.Reading.{read_instruction, number_at, behind_opcode_
 use Rattle.frame_stack.specs.FrameLists.{PlacedFrame, FramesView, place_of}
 use Rattle.jvm_basic.specs.declared.effect.Effect.{Effect}
 use Rattle.jvm_basic.specs.declared.effect.Effect.TheVariants.{Next, Bad, Other}
-use Rattle.jvm_model.specs.Families.{rows, family_of}
-use Rattle.jvm_model.specs.Data.{Locals, Operands}
+use Rattle.jvm_model.specs.Basis.Families.{rows, family_of}
+use Rattle.jvm_model.specs.Basis.Data.{Locals, Operands}
 use Rattle.jvm_basic.specs.Outcomes.{effect_of, after}
 use Rattle.jvm_basic.specs.Rules.{rule_of}
 

@@ -2,8 +2,8 @@
 use Rattle.std.specs.Prelude.{ℕ, Bool, List, [], ◌∷◌, ◌++◌, take, drop, Option, Some, None, slice_get}
 use Rattle.heap_objects.specs.declared.Value.{Value}
 use Rattle.frame_stack.specs.FrameLists.{PlacedFrame, FramesView, with_frames, top_operands}
-use Rattle.jvm_model.specs.Data.{Operands}
-use Rattle.jvm_model.specs.Values.{with_value}
+use Rattle.jvm_model.specs.Basis.Data.{Operands}
+use Rattle.jvm_model.specs.Basis.Values.{with_value}
 use Rattle.jvm_basic.specs.Outcomes.{Rule, GoesOn, Breaks, can_hold}
 
 -- these values, below so many operands

@@ -10,10 +10,10 @@ use Rattle.code_model.specs.declared.instr.Instr.{Instr}
 use Rattle.code_model.specs.Instructions.{instruction_at}
 use Rattle.jvm_model.specs.declared.family.Family.{Family}
 use Rattle.jvm_model.specs.declared.family.Family.TheVariants.{DivisionOfInts, DivisionOfLongs, Immediate, Load, Store, Ret, Iinc, Branch, Goto, Jsr, Switch}
-use Rattle.jvm_model.specs.Data.{Operands}
-use Rattle.jvm_model.specs.Families.{family_of}
-use Rattle.jvm_model.specs.Lines.{value_in, slot_in, increment_in, target_in, keys_in}
-use Rattle.jvm_model.specs.Values.{ints_of, longs_of}
+use Rattle.jvm_model.specs.Basis.Data.{Operands}
+use Rattle.jvm_model.specs.Basis.Families.{family_of}
+use Rattle.jvm_model.specs.Codes.Lines.{value_in, slot_in, increment_in, target_in, keys_in}
+use Rattle.jvm_model.specs.Basis.Values.{ints_of, longs_of}
 
 abbrev pub is_no_instruction : Form → Bool
 is_no_instruction Wide = true

@@ -12,11 +12,11 @@ use Rattle.jvm_model.specs.declared.family.Test.{Test}
 use Rattle.jvm_model.specs.declared.family.Test.TheVariants.{WithZero, OfInts, OfReferences, IsNull}
 use Rattle.jvm_model.specs.declared.family.Family.{Family}
 use Rattle.jvm_model.specs.declared.family.Family.TheVariants as family
-use Rattle.jvm_model.specs.Data.{Locals, Operands, StackForm}
-use Rattle.jvm_model.specs.Families.{family_of}
-use Rattle.jvm_model.specs.Lines.{value_in, slot_in, increment_in, target_in}
-use Rattle.jvm_model.specs.StackForms.{forms_of}
-use Rattle.jvm_model.specs.Values.{int_of, local_in, has_kind, is_storable, has_slots, has_form}
+use Rattle.jvm_model.specs.Basis.Data.{Locals, Operands, StackForm}
+use Rattle.jvm_model.specs.Basis.Families.{family_of}
+use Rattle.jvm_model.specs.Codes.Lines.{value_in, slot_in, increment_in, target_in}
+use Rattle.jvm_model.specs.Basis.StackForms.{forms_of}
+use Rattle.jvm_model.specs.Basis.Values.{int_of, local_in, has_kind, is_storable, has_slots, has_form}
 use Rattle.jvm_basic.specs.Outcomes.{Outcome, GoesOn, Raises, Breaks, Leaves, top_locals, can_hold, asked}
 use Rattle.jvm_basic.specs.Rules.{datum_in, chosen, rule_of}
 

@@ -2,7 +2,7 @@
 use Rattle.std.specs.Prelude.{ℕ, Bool, false, List, [], ◌∷◌, nat_le, if◌then◌else◌}
 use Rattle.frame_stack.specs.Widths.{height_of}
 use Rattle.frame_stack.specs.FrameLists.{PlacedFrame, FramesView, with_frames, top_operands}
-use Rattle.jvm_model.specs.Data.{Locals, Operands}
+use Rattle.jvm_model.specs.Basis.Data.{Locals, Operands}
 use Rattle.jvm_basic.specs.declared.effect.Effect.{Effect}
 use Rattle.jvm_basic.specs.declared.effect.Effect.TheVariants.{Next, Throws, Bad, Other}
 

@@ -18,15 +18,15 @@ use Rattle.jvm_model.specs.declared.family.LongShift.{LongShift}
 use Rattle.jvm_model.specs.declared.family.OfInt.{OfInt}
 use Rattle.jvm_model.specs.declared.family.OfLong.{OfLong}
 use Rattle.jvm_model.specs.declared.family.Test.{Test}
-use Rattle.jvm_model.specs.Data.{Locals, Operands, StackForm, Constant, Load, Iinc, Goto, Jsr, Ret, Nop}
-use Rattle.jvm_model.specs.Data.{Where, Next, Target, Back, Subroutine}
-use Rattle.jvm_model.specs.Data.{Outcome as Asked, GoesOn as AsksOn, Raises as AsksRaise, Breaks as AsksBreak}
-use Rattle.jvm_model.specs.Descriptors.{same_text}
-use Rattle.jvm_model.specs.Families.{family_of}
-use Rattle.jvm_model.specs.Lines.{value_in, slot_in, increment_in, target_in, keys_in, local_of, targets_of}
-use Rattle.jvm_model.specs.LocalRules
-use Rattle.jvm_model.specs.StackForms.{forms_of}
-use Rattle.jvm_model.specs.Values.{arranged}
+use Rattle.jvm_model.specs.Basis.Data.{Locals, Operands, StackForm, Constant, Load, Iinc, Goto, Jsr, Ret, Nop}
+use Rattle.jvm_model.specs.Basis.Data.{Where, Next, Target, Back, Subroutine}
+use Rattle.jvm_model.specs.Basis.Data.{Outcome as Asked, GoesOn as AsksOn, Raises as AsksRaise, Breaks as AsksBreak}
+use Rattle.jvm_model.specs.Basis.Descriptors.{same_text}
+use Rattle.jvm_model.specs.Basis.Families.{family_of}
+use Rattle.jvm_model.specs.Codes.Lines.{value_in, slot_in, increment_in, target_in, keys_in, local_of, targets_of}
+use Rattle.jvm_model.specs.Instructions.LocalRules
+use Rattle.jvm_model.specs.Basis.StackForms.{forms_of}
+use Rattle.jvm_model.specs.Basis.Values.{arranged}
 use Rattle.jvm_basic.specs.Outcomes.{Rule, Outcome, GoesOn, Raises, Breaks, Leaves}
 
 -- ---- places

@@ -3,8 +3,8 @@
 ghost use Rattle.std.specs.Prelude.{◌≡◌};
 ghost use Rattle.std.specs.Int.{w32, w64};
 ghost use Rattle.jvm_basic.specs.Outcomes.{effect_of, after};
-ghost use Rattle.jvm_model.specs.LocalRules.{calculated, calculated_long, shifted, divided};
-ghost use Rattle.jvm_model.specs.LocalRules.{of_int, of_long};
+ghost use Rattle.jvm_model.specs.Instructions.LocalRules.{calculated, calculated_long, shifted, divided};
+ghost use Rattle.jvm_model.specs.Instructions.LocalRules.{of_int, of_long};
 ghost use Rattle.jvm_basic.specs.Rules.{compares_longs, divides_ints};
 ghost use Rattle.jvm_basic.specs.Rules.{calculates, calculates_long, shifts};
 ghost use Rattle.jvm_basic.specs.Rules.{divides_longs, converts_int, converts_long};

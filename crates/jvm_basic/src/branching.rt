@@ -2,10 +2,10 @@
 
 ghost use Rattle.std.specs.Prelude.{◌≡◌, ℤ, ◌-ℤ◌, ◌∷◌, Some, length, slice_get};
 ghost use Rattle.frame_stack.specs.FrameLists.{AreSound, top_operands};
-ghost use Rattle.jvm_model.specs.Values.{int_of};
+ghost use Rattle.jvm_model.specs.Basis.Values.{int_of};
 ghost use Rattle.jvm_basic.specs.Outcomes.{effect_of, after};
-ghost use Rattle.jvm_model.specs.Lines.{target_in};
-ghost use Rattle.jvm_model.specs.LocalRules.{compares, is_same, holds, tests, target_at, target_of};
+ghost use Rattle.jvm_model.specs.Codes.Lines.{target_in};
+ghost use Rattle.jvm_model.specs.Instructions.LocalRules.{compares, is_same, holds, tests, target_at, target_of};
 ghost use Rattle.jvm_basic.specs.Rules.{branches, goes_to, calls_subroutine};
 ghost use Rattle.jvm_basic.specs.Rules.{chosen, switches};
 

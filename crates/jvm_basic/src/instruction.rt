@@ -4,11 +4,11 @@ ghost use Rattle.std.specs.Prelude.{◌≡◌, ◌≢◌, ◌↔◌, ℕ, IsTrue
 ghost use Rattle.const_pool.specs.BuiltIn.{built_in_names};
 ghost use Rattle.frame_stack.specs.FrameLists.{top_operands};
 ghost use Rattle.jvm_basic.specs.declared.effect.Effect.TheVariants.{Next, Throws, Bad, Other};
-ghost use Rattle.jvm_model.specs.Families.{family_of};
+ghost use Rattle.jvm_model.specs.Basis.Families.{family_of};
 ghost use Rattle.jvm_basic.specs.Needs.{is_bad};
 ghost use Rattle.jvm_basic.specs.Laws.{is_elsewhere, divides_by_zero, HasItsOperand};
 ghost use Rattle.jvm_basic.specs.Outcomes.{GoesOn, effect_of, after};
-ghost use Rattle.jvm_model.specs.Values.{as_value};
+ghost use Rattle.jvm_model.specs.Basis.Values.{as_value};
 ghost use Rattle.jvm_basic.specs.Rules.{arithmetic_exception, does, gives, pushes_number, rule_of};
 
 use crate::arithmetic::{

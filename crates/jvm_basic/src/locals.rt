@@ -1,10 +1,10 @@
 //! Loads and stores, iinc, and ret, which reads a local too (JVM Specification 2.6.1, 6.5).
 
 ghost use Rattle.std.specs.Prelude.{◌≡◌, Some};
-ghost use Rattle.jvm_model.specs.Values.{has_kind, is_storable};
+ghost use Rattle.jvm_model.specs.Basis.Values.{has_kind, is_storable};
 ghost use Rattle.const_pool.specs.declared.descriptor.Kind.TheVariants.{Int};
 ghost use Rattle.jvm_basic.specs.Outcomes.{effect_of, after};
-ghost use Rattle.jvm_model.specs.Lines.{slot_in, increment_in};
+ghost use Rattle.jvm_model.specs.Codes.Lines.{slot_in, increment_in};
 ghost use Rattle.jvm_basic.specs.Rules.{loads, stores, increments, goes_back};
 
 use crate::effect::Effect;

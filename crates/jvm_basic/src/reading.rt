@@ -2,8 +2,8 @@
 
 ghost use Rattle.std.specs.Prelude.{◌≡◌};
 ghost use Rattle.frame_stack.specs.FrameLists.{AreSound, top_operands};
-ghost use Rattle.jvm_model.specs.Values.{int_of, long_of, ref_of};
-ghost use Rattle.jvm_model.specs.Values.{ints_of, longs_of, long_and_int_of, refs_of};
+ghost use Rattle.jvm_model.specs.Basis.Values.{int_of, long_of, ref_of};
+ghost use Rattle.jvm_model.specs.Basis.Values.{ints_of, longs_of, long_and_int_of, refs_of};
 
 use frame_stack::Frames;
 use heap_objects::Value;

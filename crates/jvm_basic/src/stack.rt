@@ -4,8 +4,8 @@ ghost use Rattle.std.specs.Prelude.{◌≡◌, ◌∷◌, ◌≤◌, [], IsTrue,
 ghost use Rattle.frame_stack.specs.Widths.{is_long};
 ghost use Rattle.frame_stack.specs.FrameLists.{AreSound, top_operands};
 ghost use Rattle.jvm_basic.specs.Outcomes.{effect_of, after};
-ghost use Rattle.jvm_model.specs.Values.{has_form};
-ghost use Rattle.jvm_model.specs.StackForms.{forms_of};
+ghost use Rattle.jvm_model.specs.Basis.Values.{has_form};
+ghost use Rattle.jvm_model.specs.Basis.StackForms.{forms_of};
 ghost use Rattle.jvm_basic.specs.Copies.{values_of, has_room_for, has_room_for_some, with_some};
 ghost use Rattle.jvm_basic.specs.Copies.{with_inserted, inserts, copies_one, copies_two, swaps};
 ghost use Rattle.jvm_basic.specs.Rules.{arranges};

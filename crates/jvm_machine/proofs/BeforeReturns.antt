@@ -11,21 +11,21 @@ use Rattle.jvm_model.specs.declared.ending.Ending.{Ending}
 use Rattle.jvm_model.specs.declared.state.Entry.{Entry}
 use Rattle.jvm_model.specs.declared.state.Entry.TheVariants.{Active, Initializing}
 use Rattle.jvm_model.specs.declared.state.Frame.{Frame}
-use Rattle.jvm_model.specs.InHand.{original_of}
-use Rattle.jvm_model.specs.Moved.{moved_stack, self}
-use Rattle.jvm_model.specs.Originals.{original}
-use Rattle.jvm_model.specs.Pauses.{is_end, later_of}
-use Rattle.jvm_model.specs.Rest.{Attempt, Todo}
-use Rattle.jvm_model.specs.Run.{turn}
-use Rattle.jvm_model.specs.StandsForRun.{at_homes, forgotten, norm_by}
-use Rattle.jvm_model.specs.StepPauses.{Awaits, is_at_return}
-use Rattle.jvm_model.specs.Told.{held_by, helds}
+use Rattle.jvm_model.specs.Turns.InHand.{original_of}
+use Rattle.jvm_model.specs.Codes.Moved.{moved_stack, self}
+use Rattle.jvm_model.specs.Codes.Originals.{original}
+use Rattle.jvm_model.specs.Turns.Pauses.{is_end, later_of}
+use Rattle.jvm_model.specs.Turns.Rest.{Attempt, Todo}
+use Rattle.jvm_model.specs.Running.Run.{turn}
+use Rattle.jvm_model.specs.Rewriting.StandsForRun.{at_homes, forgotten, norm_by}
+use Rattle.jvm_model.specs.Turns.StepPauses.{Awaits, is_at_return}
+use Rattle.jvm_model.specs.Turns.Told.{held_by, helds}
 use Rattle.jvm_steps.specs.declared.hands.Gone.{Gone}
 use Rattle.jvm_steps.specs.declared.hands.Hand.{Hand}
-use Rattle.jvm_steps.specs.Hands.{HasInHand, IsLeft, todo_of, versioned_in}
-use Rattle.jvm_steps.specs.Ready.{IsSoundEntryIn, IsSoundIn}
-use Rattle.jvm_steps.specs.Standing.{places_of}
-use Rattle.jvm_steps.specs.Versions.{Setup, mark_of, method_of}
+use Rattle.jvm_steps.specs.Moves.Hands.{HasInHand, IsLeft, todo_of, versioned_in}
+use Rattle.jvm_steps.specs.Machine.Ready.{IsSoundEntryIn, IsSoundIn}
+use Rattle.jvm_steps.specs.Machine.Standing.{places_of}
+use Rattle.jvm_steps.specs.Codes.Versions.{Setup, mark_of, method_of}
 use Rattle.jvm_machine.specs.declared.advancing.Telling.TheVariants as telling
 use Rattle.jvm_machine.specs.Advances.{left_in}
 use Rattle.jvm_machine.specs.Machine.{IsMachine, IsSoundOnce, seen}

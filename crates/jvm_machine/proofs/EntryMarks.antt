@@ -15,12 +15,12 @@ use Rattle.jvm_model.specs.declared.event.EventKind.{EventKind}
 use Rattle.jvm_model.specs.declared.event.EventKind.TheVariants as kind
 use Rattle.jvm_model.specs.declared.event.Mark.{Mark}
 use Rattle.jvm_model.specs.declared.event.Mark.TheVariants.{Off, Plain, Root}
-use Rattle.jvm_model.specs.Images.{IsImage, IsOriginal, IsRewritten, all_off, is_off}
-use Rattle.jvm_model.specs.StandsFor.{invoked_probe, probe_kind}
-use Rattle.jvm_model.specs.Versions.{IsVersion, entry_probe, groups_of, probe_bytes, unwind_code}
-use Rattle.jvm_model.proofs.ImagePools.{enter-named, root-named}
-use Rattle.jvm_model.proofs.ImageProbes.{invokestatic_at}
-use Rattle.jvm_steps.specs.Rewritten.{entry_mark, mark_of_kind}
+use Rattle.jvm_model.specs.Rewriting.Images.{IsImage, IsOriginal, IsRewritten, all_off, is_off}
+use Rattle.jvm_model.specs.Rewriting.StandsFor.{invoked_probe, probe_kind}
+use Rattle.jvm_model.specs.Rewriting.Versions.{IsVersion, entry_probe, groups_of, probe_bytes, unwind_code}
+use Rattle.jvm_model.proofs.Images.ImagePools.{enter-named, root-named}
+use Rattle.jvm_model.proofs.Images.ImageProbes.{invokestatic_at}
+use Rattle.jvm_steps.specs.Codes.Rewritten.{entry_mark, mark_of_kind}
 
 -- what invokestatic behind three bytes invokes
 invoked-mark : (image : ClassFile) (p ys : List ℕ) (index : ℕ) (r : Reference) (kind : EventKind) → length p ≡ 3 → index < 2 ^ 16 → named_method image.pool index ≡ Some r → probe_kind r ≡ Some kind

@@ -4,18 +4,18 @@ use Rattle.std.specs.Prelude.{Result, Ok, Err, OnErr, IfNone, is_some, if◌then
 use Rattle.std.specs.Option.{IfSome}
 use Rattle.frame_stack.specs.FrameLists.{PlacedFrame}
 use Rattle.jvm_model.specs.declared.state.State.{State}
-use Rattle.jvm_model.specs.Data.{Turn, World}
-use Rattle.jvm_model.specs.Run.{starts_with, with_loaded}
-use Rattle.jvm_model.specs.Told.{Held, helds}
+use Rattle.jvm_model.specs.Basis.Data.{Turn, World}
+use Rattle.jvm_model.specs.Running.Run.{starts_with, with_loaded}
+use Rattle.jvm_model.specs.Turns.Told.{Held, helds}
 use Rattle.jvm_steps.specs.declared.hands.Gone.{Gone}
 use Rattle.jvm_steps.specs.declared.hands.Hand.{Hand}
-use Rattle.jvm_steps.specs.Hands.{HasGoneOn, HasInHand, IsLeft}
-use Rattle.jvm_steps.specs.Ready.{CanRun, IsSoundIn}
-use Rattle.jvm_steps.specs.Standing.{HasVersions, IsPinned}
-use Rattle.jvm_steps.specs.Tables.{Releases}
-use Rattle.jvm_steps.specs.Turning.{loads_in, loads_none}
-use Rattle.jvm_steps.specs.Versions.{Setup, mark_of}
-use Rattle.jvm_steps.proofs.StandingSteps.{set-up-runs}
+use Rattle.jvm_steps.specs.Moves.Hands.{HasGoneOn, HasInHand, IsLeft}
+use Rattle.jvm_steps.specs.Machine.Ready.{CanRun, IsSoundIn}
+use Rattle.jvm_steps.specs.Machine.Standing.{HasVersions, IsPinned}
+use Rattle.jvm_steps.specs.Codes.Tables.{Releases}
+use Rattle.jvm_steps.specs.Moves.Turning.{loads_in, loads_none}
+use Rattle.jvm_steps.specs.Codes.Versions.{Setup, mark_of}
+use Rattle.jvm_steps.proofs.Moves.StandingSteps.{set-up-runs}
 use Rattle.jvm_machine.specs.Advances.{Stops, TellsClasses, broken_in, clock_in, left_in, taken_hand, taken_loads, taken_state}
 use Rattle.jvm_machine.specs.Machine.{IsMachine, IsSoundOnce, seen}
 use Rattle.jvm_machine.specs.View.{View, advanced, is_resting}

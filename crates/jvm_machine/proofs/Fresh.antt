@@ -9,15 +9,15 @@ use Rattle.jvm_model.specs.declared.event.Mark.TheVariants.{Off}
 use Rattle.jvm_model.specs.declared.program.MethodPlace.{MethodPlace}
 use Rattle.jvm_model.specs.declared.program.Program.{Program}
 use Rattle.jvm_model.specs.declared.state.State.{State}
-use Rattle.jvm_model.specs.Programs.{class_at}
-use Rattle.jvm_model.specs.Run.{before}
-use Rattle.jvm_model.specs.Told.{helds}
+use Rattle.jvm_model.specs.Basis.Programs.{class_at}
+use Rattle.jvm_model.specs.Running.Run.{before}
+use Rattle.jvm_model.specs.Turns.Told.{helds}
 use Rattle.jvm_steps.specs.declared.hands.Hand.{Hand}
-use Rattle.jvm_steps.specs.Before.{IsAtStart}
-use Rattle.jvm_steps.specs.Entries.{no_version, original_slot, original_version, original_versions, version_entry, version_in, version_of}
-use Rattle.jvm_steps.specs.Standing.{IsSetUp}
-use Rattle.jvm_steps.specs.Tables.{Version, Versions}
-use Rattle.jvm_steps.specs.Versions.{Setup, mark_of}
+use Rattle.jvm_steps.specs.Machine.Before.{IsAtStart}
+use Rattle.jvm_steps.specs.Codes.Entries.{no_version, original_slot, original_version, original_versions, version_entry, version_in, version_of}
+use Rattle.jvm_steps.specs.Machine.Standing.{IsSetUp}
+use Rattle.jvm_steps.specs.Codes.Tables.{Version, Versions}
+use Rattle.jvm_steps.specs.Codes.Versions.{Setup, mark_of}
 use Rattle.jvm_machine.specs.Machine.{IsMachine, marks_of, seen}
 use Rattle.jvm_machine.specs.View.{View, made}
 

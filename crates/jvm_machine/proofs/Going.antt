@@ -8,32 +8,32 @@ use Rattle.jvm_model.specs.declared.due.Due.TheVariants.{Nothing, Ends, Begins}
 use Rattle.jvm_model.specs.declared.event.Mark.{Mark}
 use Rattle.jvm_model.specs.declared.event.Mark.TheVariants.{Off}
 use Rattle.jvm_model.specs.declared.state.State.{State}
-use Rattle.jvm_model.specs.Applies.{still}
-use Rattle.jvm_model.specs.Data.{Change, Text, Turn, World}
-use Rattle.jvm_model.specs.InHand.{InHand, behind_load, original_of}
-use Rattle.jvm_model.specs.Load.{Fault}
-use Rattle.jvm_model.specs.Moves.{settled}
-use Rattle.jvm_model.specs.Originals.{original}
-use Rattle.jvm_model.specs.Pauses.{Stop, change_due, is_end, stop_by, stop_from, stop_in}
-use Rattle.jvm_model.specs.Rest.{Todo, loads_first, step_loads}
-use Rattle.jvm_model.specs.Run.{arguments_made, before, loaded_turn, main_classes, main_loading, main_loads, opened, run, starts_if, starts_unless, starts_with, step, turn, turn_in-more, turn_in-zero, with_loaded}
-use Rattle.jvm_model.specs.SharedState.{arguments_fit}
-use Rattle.jvm_model.specs.StandsFor.{mark_at}
-use Rattle.jvm_model.specs.StandsForRun.{StandsFor}
-use Rattle.jvm_model.specs.StepPauses.{IsLoaded}
-use Rattle.jvm_model.specs.Told.{Held, held_after, helds}
-use Rattle.jvm_model.proofs.ClosedPrograms.{program-agrees}
-use Rattle.jvm_model.proofs.HandBegins.{begin-loads, hand-begins, hand-starts}
-use Rattle.jvm_model.proofs.RestStands.{step_loads-same}
-use Rattle.jvm_model.proofs.RestTells.{NoLoads, no-first, rest-no}
+use Rattle.jvm_model.specs.Running.Applies.{still}
+use Rattle.jvm_model.specs.Basis.Data.{Change, Text, Turn, World}
+use Rattle.jvm_model.specs.Turns.InHand.{InHand, behind_load, original_of}
+use Rattle.jvm_model.specs.Classes.Load.{Fault}
+use Rattle.jvm_model.specs.Running.Moves.{settled}
+use Rattle.jvm_model.specs.Codes.Originals.{original}
+use Rattle.jvm_model.specs.Turns.Pauses.{Stop, change_due, is_end, stop_by, stop_from, stop_in}
+use Rattle.jvm_model.specs.Turns.Rest.{Todo, loads_first, step_loads}
+use Rattle.jvm_model.specs.Running.Run.{arguments_made, before, loaded_turn, main_classes, main_loading, main_loads, opened, run, starts_if, starts_unless, starts_with, step, turn, turn_in-more, turn_in-zero, with_loaded}
+use Rattle.jvm_model.specs.Basis.SharedState.{arguments_fit}
+use Rattle.jvm_model.specs.Rewriting.StandsFor.{mark_at}
+use Rattle.jvm_model.specs.Rewriting.StandsForRun.{StandsFor}
+use Rattle.jvm_model.specs.Turns.StepPauses.{IsLoaded}
+use Rattle.jvm_model.specs.Turns.Told.{Held, held_after, helds}
+use Rattle.jvm_model.proofs.Elsewhere.ClosedPrograms.{program-agrees}
+use Rattle.jvm_model.proofs.Turns.HandBegins.{begin-loads, hand-begins, hand-starts}
+use Rattle.jvm_model.proofs.Turns.RestStands.{step_loads-same}
+use Rattle.jvm_model.proofs.Turns.RestTells.{NoLoads, no-first, rest-no}
 use Rattle.jvm_steps.specs.declared.hands.Gone.{Gone}
 use Rattle.jvm_steps.specs.declared.hands.Hand.{Hand}
-use Rattle.jvm_steps.specs.Hands.{HasGoneOn, HasInHand, IsLeft, todo_of, versioned_in}
-use Rattle.jvm_steps.specs.Standing.{HasVersions, places_of}
-use Rattle.jvm_steps.specs.Tables.{Version}
-use Rattle.jvm_steps.specs.Turning.{loads_in, loads_none}
-use Rattle.jvm_steps.specs.Versions.{Setup, current_of, mark_of, method_of, text_of}
-use Rattle.jvm_steps.proofs.VersionsAgree.{versions-agree}
+use Rattle.jvm_steps.specs.Moves.Hands.{HasGoneOn, HasInHand, IsLeft, todo_of, versioned_in}
+use Rattle.jvm_steps.specs.Machine.Standing.{HasVersions, places_of}
+use Rattle.jvm_steps.specs.Codes.Tables.{Version}
+use Rattle.jvm_steps.specs.Moves.Turning.{loads_in, loads_none}
+use Rattle.jvm_steps.specs.Codes.Versions.{Setup, current_of, mark_of, method_of, text_of}
+use Rattle.jvm_steps.proofs.Codes.VersionsAgree.{versions-agree}
 use Rattle.jvm_machine.specs.Advances.{left_in, passed_then, told_in}
 use Rattle.jvm_machine.specs.Machine.{Stands, marks_of, seen}
 use Rattle.jvm_machine.specs.View.{View, loads_next, next_stop, to_come}

@@ -27,27 +27,27 @@ use Rattle.jvm_model.specs.declared.event.Mark.{Mark}
 use Rattle.jvm_model.specs.declared.event.Mark.TheVariants.{Off, Plain, Root}
 use Rattle.jvm_model.specs.declared.program.MethodPlace.{MethodPlace}
 use Rattle.jvm_model.specs.declared.program.Program.{Program}
-use Rattle.jvm_model.specs.Data.{Operation}
-use Rattle.jvm_model.specs.Images.{AreMemberImages, IsImage, IsMarkedMember, IsMemberImage, IsOriginal, IsRewritten, all_off, is_off, next_number, number_behind}
-use Rattle.jvm_model.specs.Lines.{operation_of}
-use Rattle.jvm_model.specs.Methods.{code_among, code_of, method_code}
-use Rattle.jvm_model.specs.StandsFor.{mark_at}
-use Rattle.jvm_model.specs.Swaps.{first_number}
-use Rattle.jvm_model.specs.Versions.{IsVersion, entry_probe, groups_of, laid_version, leave_probe}
-use Rattle.jvm_model.specs.Whole.{instrs_of}
-use Rattle.jvm_model.proofs.ImageLines.{instrs-groups}
-use Rattle.jvm_model.proofs.ImageMethods.{code_of-marked}
-use Rattle.jvm_model.proofs.ImagePools.{named_class-more}
-use Rattle.jvm_model.proofs.MethodsOfImages.{HasCodeFor, HasMarkedCode, HasVersion, StaysLike, image-code, image-stays}
-use Rattle.jvm_model.proofs.MoreEntries.{operation-more}
-use Rattle.jvm_model.proofs.NumbersOfMethods.{place-behind}
-use Rattle.jvm_model.proofs.PoolTexts.{have-texts, named-there}
-use Rattle.jvm_model.specs.ProgramPlaces.{HasClosedCodes}
-use Rattle.jvm_steps.specs.ClassVersions.{AreRising, FitsImage, class_version, homes_at, version_by}
-use Rattle.jvm_steps.specs.LaidMethods.{NamesClass}
-use Rattle.jvm_steps.specs.Prepared.{HasShortCode, HasShortCodes}
-use Rattle.jvm_steps.specs.Standing.{AreMethodImages, IsMethodImage}
-use Rattle.jvm_steps.proofs.MethodImages.{code-is}
+use Rattle.jvm_model.specs.Basis.Data.{Operation}
+use Rattle.jvm_model.specs.Rewriting.Images.{AreMemberImages, IsImage, IsMarkedMember, IsMemberImage, IsOriginal, IsRewritten, all_off, is_off, next_number, number_behind}
+use Rattle.jvm_model.specs.Codes.Lines.{operation_of}
+use Rattle.jvm_model.specs.Basis.Methods.{code_among, code_of, method_code}
+use Rattle.jvm_model.specs.Rewriting.StandsFor.{mark_at}
+use Rattle.jvm_model.specs.Profiling.Swaps.{first_number}
+use Rattle.jvm_model.specs.Rewriting.Versions.{IsVersion, entry_probe, groups_of, laid_version, leave_probe}
+use Rattle.jvm_model.specs.Soundness.Whole.{instrs_of}
+use Rattle.jvm_model.proofs.Images.ImageLines.{instrs-groups}
+use Rattle.jvm_model.proofs.Images.ImageMethods.{code_of-marked}
+use Rattle.jvm_model.proofs.Images.ImagePools.{named_class-more}
+use Rattle.jvm_model.proofs.Images.MethodsOfImages.{HasCodeFor, HasMarkedCode, HasVersion, StaysLike, image-code, image-stays}
+use Rattle.jvm_model.proofs.Soundness.MoreEntries.{operation-more}
+use Rattle.jvm_model.proofs.Images.NumbersOfMethods.{place-behind}
+use Rattle.jvm_model.proofs.Soundness.PoolTexts.{have-texts, named-there}
+use Rattle.jvm_model.specs.Codes.ProgramPlaces.{HasClosedCodes}
+use Rattle.jvm_steps.specs.Codes.ClassVersions.{AreRising, FitsImage, class_version, homes_at, version_by}
+use Rattle.jvm_steps.specs.Codes.LaidMethods.{NamesClass}
+use Rattle.jvm_steps.specs.Codes.Prepared.{HasShortCode, HasShortCodes}
+use Rattle.jvm_steps.specs.Machine.Standing.{AreMethodImages, IsMethodImage}
+use Rattle.jvm_steps.proofs.Codes.MethodImages.{code-is}
 use Rattle.jvm_machine.specs.Installs.{IsFormed, IsImageOf}
 use Rattle.jvm_machine.proofs.EntryMarks.{rewritten-pool, version-mark}
 use Rattle.jvm_machine.proofs.Fresh.{original-plain}

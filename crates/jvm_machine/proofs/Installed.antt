@@ -9,20 +9,20 @@ use Rattle.code_model.specs.declared.laying.Homes.{Homes}
 use Rattle.frame_stack.specs.FrameLists.{PlacedFrame, pins_of}
 use Rattle.jvm_model.specs.declared.event.Mark.{Mark}
 use Rattle.jvm_model.specs.declared.state.State.{State}
-use Rattle.jvm_model.specs.Data.{World}
-use Rattle.jvm_model.specs.Run.{turn}
-use Rattle.jvm_model.specs.Told.{helds}
+use Rattle.jvm_model.specs.Basis.Data.{World}
+use Rattle.jvm_model.specs.Running.Run.{turn}
+use Rattle.jvm_model.specs.Turns.Told.{helds}
 use Rattle.jvm_steps.specs.declared.hands.Hand.{Hand}
-use Rattle.jvm_steps.specs.ClassVersions.{class_versions}
-use Rattle.jvm_steps.specs.Hands.{HasInHand}
-use Rattle.jvm_steps.specs.Ready.{IsKept}
-use Rattle.jvm_steps.specs.Standing.{IsOfProgram, IsPinned, places_of}
-use Rattle.jvm_steps.specs.Tables.{Adds, IsAdded, Version, Versions, version_at}
-use Rattle.jvm_steps.specs.Versions.{Setup, mark_of}
-use Rattle.jvm_steps.specs.VersionTexts.{homes_with}
-use Rattle.jvm_steps.proofs.ClassVersionLaws.{versions-of}
-use Rattle.jvm_steps.proofs.StandingSteps.{has-one}
-use Rattle.jvm_steps.proofs.VersionsRun.{count-added, same-added}
+use Rattle.jvm_steps.specs.Codes.ClassVersions.{class_versions}
+use Rattle.jvm_steps.specs.Moves.Hands.{HasInHand}
+use Rattle.jvm_steps.specs.Machine.Ready.{IsKept}
+use Rattle.jvm_steps.specs.Machine.Standing.{IsOfProgram, IsPinned, places_of}
+use Rattle.jvm_steps.specs.Codes.Tables.{Adds, IsAdded, Version, Versions, version_at}
+use Rattle.jvm_steps.specs.Codes.Versions.{Setup, mark_of}
+use Rattle.jvm_steps.specs.Codes.VersionTexts.{homes_with}
+use Rattle.jvm_steps.proofs.Codes.ClassVersionLaws.{versions-of}
+use Rattle.jvm_steps.proofs.Moves.StandingSteps.{has-one}
+use Rattle.jvm_steps.proofs.Codes.VersionsRun.{count-added, same-added}
 use Rattle.jvm_machine.specs.Installs.{IsFormed, IsImageOf, marks_over, with_class}
 use Rattle.jvm_machine.specs.Machine.{IsMachine, marks_of, seen}
 use Rattle.jvm_machine.specs.View.{View, is_resting, run_state}

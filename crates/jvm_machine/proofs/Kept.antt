@@ -8,22 +8,22 @@ use Rattle.jvm_model.specs.declared.event.Mark.TheVariants.{Off}
 use Rattle.jvm_model.specs.declared.state.Entry.{Entry}
 use Rattle.jvm_model.specs.declared.state.Entry.TheVariants.{Active, Initializing}
 use Rattle.jvm_model.specs.declared.state.State.{State}
-use Rattle.jvm_model.specs.Data.{Turn, World}
-use Rattle.jvm_model.specs.Load.{Fault}
-use Rattle.jvm_model.specs.Originals.{original}
-use Rattle.jvm_model.specs.Run.{arguments_made, before, main_classes, main_loading, opened, starts_if, starts_unless, starts_with, with_loaded}
-use Rattle.jvm_model.specs.SharedState.{arguments_fit}
-use Rattle.jvm_model.specs.SoundTexts.{IsSoundEntry}
-use Rattle.jvm_model.specs.StandsForRun.{KeepVersions}
-use Rattle.jvm_model.specs.Told.{Held, helds}
-use Rattle.jvm_model.proofs.HandBegins.{hand-kept}
+use Rattle.jvm_model.specs.Basis.Data.{Turn, World}
+use Rattle.jvm_model.specs.Classes.Load.{Fault}
+use Rattle.jvm_model.specs.Codes.Originals.{original}
+use Rattle.jvm_model.specs.Running.Run.{arguments_made, before, main_classes, main_loading, opened, starts_if, starts_unless, starts_with, with_loaded}
+use Rattle.jvm_model.specs.Basis.SharedState.{arguments_fit}
+use Rattle.jvm_model.specs.Soundness.SoundTexts.{IsSoundEntry}
+use Rattle.jvm_model.specs.Rewriting.StandsForRun.{KeepVersions}
+use Rattle.jvm_model.specs.Turns.Told.{Held, helds}
+use Rattle.jvm_model.proofs.Turns.HandBegins.{hand-kept}
 use Rattle.jvm_steps.specs.declared.hands.Hand.{Hand}
-use Rattle.jvm_steps.specs.Hands.{HasInHand, todo_of, versioned_in}
-use Rattle.jvm_steps.specs.Ready.{IsKept, IsSoundIn, RunsIn}
-use Rattle.jvm_steps.specs.Standing.{HasVersions, IsPinned, places_of}
-use Rattle.jvm_steps.specs.Tables.{Version, Versions, version_at}
-use Rattle.jvm_steps.specs.Versions.{Setup, mark_of, method_of}
-use Rattle.jvm_steps.proofs.VersionsRun.{kept-entries, kept-stands}
+use Rattle.jvm_steps.specs.Moves.Hands.{HasInHand, todo_of, versioned_in}
+use Rattle.jvm_steps.specs.Machine.Ready.{IsKept, IsSoundIn, RunsIn}
+use Rattle.jvm_steps.specs.Machine.Standing.{HasVersions, IsPinned, places_of}
+use Rattle.jvm_steps.specs.Codes.Tables.{Version, Versions, version_at}
+use Rattle.jvm_steps.specs.Codes.Versions.{Setup, mark_of, method_of}
+use Rattle.jvm_steps.proofs.Codes.VersionsRun.{kept-entries, kept-stands}
 use Rattle.jvm_machine.specs.Machine.{IsSoundOnce, Stands}
 
 -- each frame runs a version that is held, or none that will ever be

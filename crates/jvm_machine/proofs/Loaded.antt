@@ -7,30 +7,30 @@ use Rattle.jvm_model.specs.declared.ending.Ending.{Ending}
 use Rattle.jvm_model.specs.declared.state.Entry.{Entry}
 use Rattle.jvm_model.specs.declared.state.Entry.TheVariants.{Active, Initializing}
 use Rattle.jvm_model.specs.declared.state.State.{State}
-use Rattle.jvm_model.specs.Applies.{still}
+use Rattle.jvm_model.specs.Running.Applies.{still}
 use Rattle.jvm_model.specs.declared.state.Frame.{Frame}
-use Rattle.jvm_model.specs.Data.{Instruction, Text, Turn, World}
-use Rattle.jvm_model.specs.Does.{does, loads}
-use Rattle.jvm_model.specs.InHand.{original_of}
-use Rattle.jvm_model.specs.Originals.{original}
-use Rattle.jvm_model.specs.Rest.{loads_at, loads_on, rest, step_loads}
-use Rattle.jvm_model.specs.Run.{before, run, step, steps_at, steps_by, steps_on, turn, with_loaded}
-use Rattle.jvm_model.specs.Sound.{IsFit}
-use Rattle.jvm_model.specs.Told.{Held, helds}
-use Rattle.jvm_model.specs.SoundTexts.{IsSound, IsSoundEntry, IsSoundText}
-use Rattle.jvm_model.proofs.Attempts.{loaded-after}
-use Rattle.jvm_model.proofs.ClosedPrograms.{program-agrees}
-use Rattle.jvm_model.proofs.LoadedMoves.{settled-loaded}
-use Rattle.jvm_model.proofs.SoundRuns.{with-loaded-is}
-use Rattle.jvm_model.proofs.SoundTextRuns.{at-goes}
+use Rattle.jvm_model.specs.Basis.Data.{Instruction, Text, Turn, World}
+use Rattle.jvm_model.specs.Instructions.Does.{does, loads}
+use Rattle.jvm_model.specs.Turns.InHand.{original_of}
+use Rattle.jvm_model.specs.Codes.Originals.{original}
+use Rattle.jvm_model.specs.Turns.Rest.{loads_at, loads_on, rest, step_loads}
+use Rattle.jvm_model.specs.Running.Run.{before, run, step, steps_at, steps_by, steps_on, turn, with_loaded}
+use Rattle.jvm_model.specs.Soundness.Sound.{IsFit}
+use Rattle.jvm_model.specs.Turns.Told.{Held, helds}
+use Rattle.jvm_model.specs.Soundness.SoundTexts.{IsSound, IsSoundEntry, IsSoundText}
+use Rattle.jvm_model.proofs.Running.Attempts.{loaded-after}
+use Rattle.jvm_model.proofs.Elsewhere.ClosedPrograms.{program-agrees}
+use Rattle.jvm_model.proofs.Loading.LoadedMoves.{settled-loaded}
+use Rattle.jvm_model.proofs.Soundness.SoundRuns.{with-loaded-is}
+use Rattle.jvm_model.proofs.Soundness.SoundTextRuns.{at-goes}
 use Rattle.jvm_steps.specs.declared.hands.Hand.{Hand}
-use Rattle.jvm_steps.specs.Hands.{HasInHand, todo_of, versioned_in}
-use Rattle.jvm_steps.specs.Ready.{IsSoundIn, RunsIn}
-use Rattle.jvm_steps.specs.Standing.{HasVersions, places_of}
-use Rattle.jvm_steps.specs.Turning.{loads_in}
-use Rattle.jvm_steps.specs.Versions.{Setup, mark_of, text_of}
-use Rattle.jvm_steps.proofs.StandingSteps.{set-up-runs}
-use Rattle.jvm_steps.proofs.VersionsRun.{step-stands}
+use Rattle.jvm_steps.specs.Moves.Hands.{HasInHand, todo_of, versioned_in}
+use Rattle.jvm_steps.specs.Machine.Ready.{IsSoundIn, RunsIn}
+use Rattle.jvm_steps.specs.Machine.Standing.{HasVersions, places_of}
+use Rattle.jvm_steps.specs.Moves.Turning.{loads_in}
+use Rattle.jvm_steps.specs.Codes.Versions.{Setup, mark_of, text_of}
+use Rattle.jvm_steps.proofs.Moves.StandingSteps.{set-up-runs}
+use Rattle.jvm_steps.proofs.Codes.VersionsRun.{step-stands}
 use Rattle.jvm_machine.specs.Machine.{IsMachine, IsSoundOnce, Stands, seen}
 use Rattle.jvm_machine.specs.View.{View, is_resting, run_state}
 use Rattle.jvm_machine.proofs.Going.{in-hand-loads}

@@ -6,20 +6,20 @@ use Rattle.frame_stack.specs.FrameLists.{PlacedFrame}
 use Rattle.jvm_model.specs.declared.due.Due.{Due}
 use Rattle.jvm_model.specs.declared.due.Due.TheVariants.{Nothing, Ends, Begins}
 use Rattle.jvm_model.specs.declared.state.State.{State}
-use Rattle.jvm_model.specs.Data.{Turn}
-use Rattle.jvm_model.specs.InHand.{behind_load}
-use Rattle.jvm_model.specs.Pauses.{is_end}
-use Rattle.jvm_model.specs.Rest.{loads_first}
-use Rattle.jvm_model.specs.Run.{before, main_loads, run, starts_with, turn, with_loaded}
-use Rattle.jvm_model.specs.Told.{Held, helds}
+use Rattle.jvm_model.specs.Basis.Data.{Turn}
+use Rattle.jvm_model.specs.Turns.InHand.{behind_load}
+use Rattle.jvm_model.specs.Turns.Pauses.{is_end}
+use Rattle.jvm_model.specs.Turns.Rest.{loads_first}
+use Rattle.jvm_model.specs.Running.Run.{before, main_loads, run, starts_with, turn, with_loaded}
+use Rattle.jvm_model.specs.Turns.Told.{Held, helds}
 use Rattle.jvm_steps.specs.declared.hands.Gone.{Gone}
 use Rattle.jvm_steps.specs.declared.hands.Hand.{Hand}
-use Rattle.jvm_steps.specs.Hands.{HasGoneOn, HasInHand, IsLeft}
-use Rattle.jvm_steps.specs.Ready.{IsSoundIn}
-use Rattle.jvm_steps.specs.Standing.{HasVersions, IsPinned}
-use Rattle.jvm_steps.specs.Tables.{Releases, Versions}
-use Rattle.jvm_steps.specs.Turning.{loads_in, loads_none}
-use Rattle.jvm_steps.specs.Versions.{Setup, mark_of}
+use Rattle.jvm_steps.specs.Moves.Hands.{HasGoneOn, HasInHand, IsLeft}
+use Rattle.jvm_steps.specs.Machine.Ready.{IsSoundIn}
+use Rattle.jvm_steps.specs.Machine.Standing.{HasVersions, IsPinned}
+use Rattle.jvm_steps.specs.Codes.Tables.{Releases, Versions}
+use Rattle.jvm_steps.specs.Moves.Turning.{loads_in, loads_none}
+use Rattle.jvm_steps.specs.Codes.Versions.{Setup, mark_of}
 use Rattle.jvm_machine.specs.Advances.{Stops, TellsClasses, clock_in, left_in, passed_then, taken_hand, taken_loads, taken_state, told_in}
 use Rattle.jvm_machine.specs.Machine.{IsMachine, IsSoundOnce, IsWhole, Stands, seen}
 use Rattle.jvm_machine.specs.View.{View, advanced, begun, is_resting, loads_next, next_stop}

@@ -10,8 +10,8 @@ use Rattle.const_pool.specs.declared.class.CodeAttribute.{CodeAttribute}
 use Rattle.const_pool.specs.declared.class.Member.{Member}
 use Rattle.jvm_model.specs.declared.program.MethodPlace.{MethodPlace}
 use Rattle.jvm_model.specs.declared.program.Program.{Program}
-use Rattle.jvm_model.specs.Methods.{code_of, method_code}
-use Rattle.jvm_model.specs.Programs.{class_at, coded_from, number_from, number_of_method, numbered, numbered_from, place_of_method, same_place}
+use Rattle.jvm_model.specs.Basis.Methods.{code_of, method_code}
+use Rattle.jvm_model.specs.Basis.Programs.{class_at, coded_from, number_from, number_of_method, numbered, numbered_from, place_of_method, same_place}
 
 -- what holds of all holds of each
 pub each-of : {A : Type 0} (P : A → Type 0) (xs : List A) (k : ℕ) (x : A) → AllByRecursion P xs → slice_get xs k ≡ Some x → P x

@@ -5,29 +5,29 @@ use Rattle.std.proofs.lemmas.Bool.{and_parts}
 use Rattle.jvm_model.specs.declared.due.Due.TheVariants.{Nothing}
 use Rattle.jvm_model.specs.declared.event.Mark.{Mark}
 use Rattle.jvm_model.specs.declared.state.State.{State}
-use Rattle.jvm_model.specs.Data.{Change, Text, Turn}
-use Rattle.jvm_model.specs.Originals.{original}
-use Rattle.jvm_model.specs.Pauses.{Pause, Stop, stop_from, stop_in}
-use Rattle.jvm_model.specs.Rest.{Attempt, loads_first}
-use Rattle.jvm_model.specs.Run.{before, run, step, turn, turn_in-more}
-use Rattle.jvm_model.specs.StandsFor.{mark_at}
-use Rattle.jvm_model.specs.StepPauses.{step_pause}
-use Rattle.jvm_model.specs.Told.{Held, helds, mark_now}
-use Rattle.jvm_model.proofs.ClosedPrograms.{program-agrees}
-use Rattle.jvm_model.proofs.OnlyReturns.{ends-by-return}
-use Rattle.jvm_model.proofs.RestStands.{rest-same_changes}
-use Rattle.jvm_model.proofs.RestTells.{no-first, rest-no}
-use Rattle.jvm_model.proofs.StepPausing.{step-paused}
+use Rattle.jvm_model.specs.Basis.Data.{Change, Text, Turn}
+use Rattle.jvm_model.specs.Codes.Originals.{original}
+use Rattle.jvm_model.specs.Turns.Pauses.{Pause, Stop, stop_from, stop_in}
+use Rattle.jvm_model.specs.Turns.Rest.{Attempt, loads_first}
+use Rattle.jvm_model.specs.Running.Run.{before, run, step, turn, turn_in-more}
+use Rattle.jvm_model.specs.Rewriting.StandsFor.{mark_at}
+use Rattle.jvm_model.specs.Turns.StepPauses.{step_pause}
+use Rattle.jvm_model.specs.Turns.Told.{Held, helds, mark_now}
+use Rattle.jvm_model.proofs.Elsewhere.ClosedPrograms.{program-agrees}
+use Rattle.jvm_model.proofs.Running.OnlyReturns.{ends-by-return}
+use Rattle.jvm_model.proofs.Turns.RestStands.{rest-same_changes}
+use Rattle.jvm_model.proofs.Turns.RestTells.{no-first, rest-no}
+use Rattle.jvm_model.proofs.Turns.StepPausing.{step-paused}
 use Rattle.jvm_steps.specs.declared.hands.Hand.{Hand}
 use Rattle.jvm_steps.specs.declared.markers.Marker.{Marker}
 use Rattle.jvm_steps.specs.declared.parts.Parts.{Parts}
-use Rattle.jvm_steps.specs.Markers.{state_of}
-use Rattle.jvm_steps.specs.Passing.{AreSilent, IsSilent, Passes as Silent, runs}
-use Rattle.jvm_steps.specs.Runs.{Leads, steps_from, steps_from-suc, steps_from-zero}
-use Rattle.jvm_steps.specs.Standing.{IsRunOf, places_of}
-use Rattle.jvm_steps.specs.Versions.{Setup, current_of, mark_of, method_of, text_of}
-use Rattle.jvm_steps.proofs.StandingSteps.{run-of-more}
-use Rattle.jvm_steps.proofs.VersionsAgree.{versions-agree}
+use Rattle.jvm_steps.specs.Machine.Markers.{state_of}
+use Rattle.jvm_steps.specs.Instructions.Passing.{AreSilent, IsSilent, Passes as Silent, runs}
+use Rattle.jvm_steps.specs.Machine.Runs.{Leads, steps_from, steps_from-suc, steps_from-zero}
+use Rattle.jvm_steps.specs.Machine.Standing.{IsRunOf, places_of}
+use Rattle.jvm_steps.specs.Codes.Versions.{Setup, current_of, mark_of, method_of, text_of}
+use Rattle.jvm_steps.proofs.Moves.StandingSteps.{run-of-more}
+use Rattle.jvm_steps.proofs.Codes.VersionsAgree.{versions-agree}
 use Rattle.jvm_machine.specs.Machine.{IsMachine, IsTidy, Stands, marks_of, seen}
 use Rattle.jvm_machine.proofs.Going.{marks-same}
 use Rattle.jvm_machine.specs.Several.{Passes, more, none}

@@ -7,17 +7,17 @@ use Rattle.frame_stack.specs.FrameLists.{PlacedFrame, pins_of}
 use Rattle.method_versions.specs.Tables.{is_superseded_in}
 use Rattle.jvm_model.specs.declared.event.Mark.TheVariants.{Off}
 use Rattle.jvm_model.specs.declared.state.State.{State}
-use Rattle.jvm_model.specs.Data.{Turn}
-use Rattle.jvm_model.specs.Told.{Held, helds}
+use Rattle.jvm_model.specs.Basis.Data.{Turn}
+use Rattle.jvm_model.specs.Turns.Told.{Held, helds}
 use Rattle.jvm_steps.specs.declared.hands.Hand.{Hand}
-use Rattle.jvm_steps.specs.Hands.{HasInHand}
-use Rattle.jvm_steps.specs.Ready.{IsKept, IsSoundIn}
-use Rattle.jvm_steps.specs.Standing.{HasVersions, IsPinned, places_of}
-use Rattle.jvm_steps.specs.Tables.{Releases, Version, Versions, version_at}
-use Rattle.jvm_steps.specs.Versions.{Setup, current_of, mark_of}
-use Rattle.jvm_steps.specs.VersionTexts.{HasCurrent, homes_left}
-use Rattle.jvm_steps.proofs.StandingSteps.{has-left}
-use Rattle.jvm_steps.proofs.VersionsRun.{same-left}
+use Rattle.jvm_steps.specs.Moves.Hands.{HasInHand}
+use Rattle.jvm_steps.specs.Machine.Ready.{IsKept, IsSoundIn}
+use Rattle.jvm_steps.specs.Machine.Standing.{HasVersions, IsPinned, places_of}
+use Rattle.jvm_steps.specs.Codes.Tables.{Releases, Version, Versions, version_at}
+use Rattle.jvm_steps.specs.Codes.Versions.{Setup, current_of, mark_of}
+use Rattle.jvm_steps.specs.Codes.VersionTexts.{HasCurrent, homes_left}
+use Rattle.jvm_steps.proofs.Moves.StandingSteps.{has-left}
+use Rattle.jvm_steps.proofs.Codes.VersionsRun.{same-left}
 use Rattle.jvm_machine.specs.Machine.{Stands, marks_of}
 use Rattle.jvm_machine.proofs.Kept.{AreKept, hand-stays, same-helds, sound-stays, stands-stays}
 

@@ -14,12 +14,12 @@ use Rattle.code_model.specs.declared.instr.Arg.TheVariants as arg
 use Rattle.code_model.specs.declared.instr.Instr.{Instr}
 use Rattle.jvm_model.specs.declared.family.Family.{Family}
 use Rattle.jvm_model.specs.declared.family.Family.TheVariants as family
-use Rattle.jvm_model.specs.Data.{Arrange, BinaryOfInts, BinaryOfLongs, Branch, Constant, Datum, DivisionOfInts, DivisionOfLongs, Goto, Iinc, Jsr, Lcmp, LdcClass, LdcString, Load, Local, Named, Naming, Newarray, Nop, Operation, Ret, ShiftOfLong, Store, Switch, UnaryOfInt, UnaryOfLong, Within}
-use Rattle.jvm_model.specs.Families.{family_of, rows}
-use Rattle.jvm_model.specs.Lines.{ObjectRow, constant_in, given_operation, has_dimensions, increment_in, interface_naming, keys_in, multi_naming, named_by, naming_of, newarray_of, object_among, object_constant, object_constant_in, object_rows, operation_by, operation_of, other_operation, slot_in, target_in, value_in}
-use Rattle.jvm_model.specs.StepPauses.{is_return}
-use Rattle.jvm_model.specs.Versions.{is_return_opcode}
-use Rattle.jvm_model.proofs.Opcodes.{all_below, all_below-each}
+use Rattle.jvm_model.specs.Basis.Data.{Arrange, BinaryOfInts, BinaryOfLongs, Branch, Constant, Datum, DivisionOfInts, DivisionOfLongs, Goto, Iinc, Jsr, Lcmp, LdcClass, LdcString, Load, Local, Named, Naming, Newarray, Nop, Operation, Ret, ShiftOfLong, Store, Switch, UnaryOfInt, UnaryOfLong, Within}
+use Rattle.jvm_model.specs.Basis.Families.{family_of, rows}
+use Rattle.jvm_model.specs.Codes.Lines.{ObjectRow, constant_in, given_operation, has_dimensions, increment_in, interface_naming, keys_in, multi_naming, named_by, naming_of, newarray_of, object_among, object_constant, object_constant_in, object_rows, operation_by, operation_of, other_operation, slot_in, target_in, value_in}
+use Rattle.jvm_model.specs.Turns.StepPauses.{is_return}
+use Rattle.jvm_model.specs.Rewriting.Versions.{is_return_opcode}
+use Rattle.jvm_model.proofs.Running.Opcodes.{all_below, all_below-each}
 
 -- ---- by the family of an opcode
 

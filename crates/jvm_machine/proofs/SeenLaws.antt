@@ -5,24 +5,24 @@ use Rattle.std.specs.Prelude.{not, ◌==◌, ◌&&◌}
 use Rattle.std.specs.Option.{option_map_or}
 use Rattle.jvm_model.specs.declared.event.Event.{Event}
 use Rattle.jvm_model.specs.declared.event.Mark.{Mark}
-use Rattle.jvm_model.specs.Data.{Change, Loads, Began, Left, Unwound, World}
-use Rattle.jvm_model.specs.Activations.{all_changed, trace, trace_before, trace_in-suc, trace_in-zero}
-use Rattle.jvm_model.specs.EventLists.{Marking, step_events}
-use Rattle.jvm_model.specs.Originals.{original}
-use Rattle.jvm_model.specs.Run.{turn}
-use Rattle.jvm_model.specs.StandsFor.{mark_at}
-use Rattle.jvm_model.specs.Told.{Held, held_in, all_held, changes_told}
+use Rattle.jvm_model.specs.Basis.Data.{Change, Loads, Began, Left, Unwound, World}
+use Rattle.jvm_model.specs.Profiling.Activations.{all_changed, trace, trace_before, trace_in-suc, trace_in-zero}
+use Rattle.jvm_model.specs.Profiling.EventLists.{Marking, step_events}
+use Rattle.jvm_model.specs.Codes.Originals.{original}
+use Rattle.jvm_model.specs.Running.Run.{turn}
+use Rattle.jvm_model.specs.Rewriting.StandsFor.{mark_at}
+use Rattle.jvm_model.specs.Turns.Told.{Held, held_in, all_held, changes_told}
 use Rattle.jvm_model.specs.declared.due.Due.{Due}
 use Rattle.jvm_model.specs.declared.due.Due.TheVariants.{Begins, Ends, Nothing}
-use Rattle.jvm_model.specs.Pauses.{Stop, told_at, told_from, is_end, IsStop}
-use Rattle.jvm_model.specs.Rest.{loads_first}
+use Rattle.jvm_model.specs.Turns.Pauses.{Stop, told_at, told_from, is_end, IsStop}
+use Rattle.jvm_model.specs.Turns.Rest.{loads_first}
 use Rattle.jvm_machine.specs.Turns.{Settles, Tells}
 use Rattle.jvm_machine.specs.View.{View, begun, events_left, is_resting, live_then, next_event, next_stop, stopped, to_come, world}
 use Rattle.jvm_machine.proofs.Going.{stop-begins}
-use Rattle.jvm_model.proofs.Stops.{stop_from-is}
-use Rattle.jvm_model.proofs.Traces.{IsTrace, no_trace-is, trace_in-is}
-use Rattle.jvm_model.proofs.ToldTraces.{all_changed-held, all-told}
-use Rattle.jvm_model.proofs.GoesOn.{drop-passed}
+use Rattle.jvm_model.proofs.Turns.Stops.{stop_from-is}
+use Rattle.jvm_model.proofs.Events.Traces.{IsTrace, no_trace-is, trace_in-is}
+use Rattle.jvm_model.proofs.Events.ToldTraces.{all_changed-held, all-told}
+use Rattle.jvm_model.proofs.Turns.GoesOn.{drop-passed}
 
 at-stop : (v : View) → IsStop (mark_at v.marks) v.clock v.passed v.told v.live (to_come v) (next_stop v)
 at-stop v = stop_from-is (mark_at v.marks) v.clock v.told v.passed v.live (to_come v)

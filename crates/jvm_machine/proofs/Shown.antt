@@ -6,13 +6,13 @@ use Rattle.jvm_model.specs.declared.event.Mark.{Mark}
 use Rattle.jvm_model.specs.declared.state.Entry.{Entry}
 use Rattle.jvm_model.specs.declared.state.Entry.TheVariants.{Active, Initializing}
 use Rattle.jvm_model.specs.declared.state.State.{State}
-use Rattle.jvm_model.specs.Applies.{live_in}
-use Rattle.jvm_model.specs.Run.{before, run}
-use Rattle.jvm_model.specs.StandsForRun.{at_homes, forgotten}
-use Rattle.jvm_model.specs.Told.{helds}
-use Rattle.jvm_model.proofs.AppliesMoves.{live-moves}
+use Rattle.jvm_model.specs.Running.Applies.{live_in}
+use Rattle.jvm_model.specs.Running.Run.{before, run}
+use Rattle.jvm_model.specs.Rewriting.StandsForRun.{at_homes, forgotten}
+use Rattle.jvm_model.specs.Turns.Told.{helds}
+use Rattle.jvm_model.proofs.Elsewhere.AppliesMoves.{live-moves}
 use Rattle.jvm_steps.specs.declared.hands.Hand.{Hand}
-use Rattle.jvm_steps.specs.Versions.{Setup, mark_of, method_of}
+use Rattle.jvm_steps.specs.Codes.Versions.{Setup, mark_of, method_of}
 use Rattle.jvm_machine.specs.Machine.{IsMachine, Stands, seen}
 use Rattle.jvm_machine.specs.Turns.{Ends}
 use Rattle.jvm_machine.specs.View.{View, begun, has_ended, is_resting, rested, run_state}

@@ -20,21 +20,21 @@ use Rattle.jvm_model.specs.declared.event.Mark.{Mark}
 use Rattle.jvm_model.specs.declared.event.Mark.TheVariants as mark
 use Rattle.jvm_model.specs.declared.program.MethodPlace.{MethodPlace}
 use Rattle.jvm_model.specs.declared.program.Program.{Program}
-use Rattle.jvm_model.specs.Data.{Began, Change, Instruction, Left, Loads, Operation, Unwound}
-use Rattle.jvm_model.specs.Images.{is_off}
-use Rattle.jvm_model.specs.Lines.{code_instruction, instruction_of, method_instruction, operation_of}
-use Rattle.jvm_model.specs.Methods.{method_code}
-use Rattle.jvm_model.specs.Originals.{original}
-use Rattle.jvm_model.specs.Pauses.{begin_kind, end_due, stop_by, stop_from, stop_in, told_at}
-use Rattle.jvm_model.specs.Programs.{class_at, code_of_method, place_of_method}
-use Rattle.jvm_model.specs.StepPauses.{is_return}
-use Rattle.jvm_model.specs.Told.{Held, held_after}
-use Rattle.jvm_model.specs.Versions.{IsVersion, probe_bytes}
-use Rattle.jvm_model.specs.ProgramPlaces.{IsClosedCode, IsStartOrEnd}
-use Rattle.jvm_model.specs.StandsFor.{mark_at}
-use Rattle.jvm_model.specs.Versions.{is_return_opcode}
-use Rattle.jvm_model.proofs.PlacesOf.{places-of}
-use Rattle.jvm_model.proofs.Starts.{Reads-nth}
+use Rattle.jvm_model.specs.Basis.Data.{Began, Change, Instruction, Left, Loads, Operation, Unwound}
+use Rattle.jvm_model.specs.Rewriting.Images.{is_off}
+use Rattle.jvm_model.specs.Codes.Lines.{code_instruction, instruction_of, method_instruction, operation_of}
+use Rattle.jvm_model.specs.Basis.Methods.{method_code}
+use Rattle.jvm_model.specs.Codes.Originals.{original}
+use Rattle.jvm_model.specs.Turns.Pauses.{begin_kind, end_due, stop_by, stop_from, stop_in, told_at}
+use Rattle.jvm_model.specs.Basis.Programs.{class_at, code_of_method, place_of_method}
+use Rattle.jvm_model.specs.Turns.StepPauses.{is_return}
+use Rattle.jvm_model.specs.Turns.Told.{Held, held_after}
+use Rattle.jvm_model.specs.Rewriting.Versions.{IsVersion, probe_bytes}
+use Rattle.jvm_model.specs.Codes.ProgramPlaces.{IsClosedCode, IsStartOrEnd}
+use Rattle.jvm_model.specs.Rewriting.StandsFor.{mark_at}
+use Rattle.jvm_model.specs.Rewriting.Versions.{is_return_opcode}
+use Rattle.jvm_model.proofs.Elsewhere.PlacesOf.{places-of}
+use Rattle.jvm_model.proofs.Running.Starts.{Reads-nth}
 use Rattle.code_model.proofs.Readings.{instruction_at_within}
 use Rattle.jvm_machine.specs.declared.advancing.Telling.TheVariants as telling
 use Rattle.jvm_machine.specs.Advances.{Stops, told_in}

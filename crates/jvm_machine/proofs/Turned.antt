@@ -7,10 +7,10 @@ use Rattle.jvm_model.specs.declared.event.EventKind.{EventKind}
 use Rattle.jvm_model.specs.declared.event.EventKind.TheVariants as kind
 use Rattle.jvm_model.specs.declared.event.Mark.{Mark}
 use Rattle.jvm_model.specs.declared.event.Mark.TheVariants.{Off, Plain, Root}
-use Rattle.jvm_model.specs.Data.{Change, Loads, Began, Left, Unwound}
-use Rattle.jvm_model.specs.StandsFor.{mark_at}
-use Rattle.jvm_model.specs.Told.{Held, held_after}
-use Rattle.jvm_model.specs.Pauses.{begin_kind, unless_off, end_due, Stop, stop_by, stop_in, stop_from, told_at}
+use Rattle.jvm_model.specs.Basis.Data.{Change, Loads, Began, Left, Unwound}
+use Rattle.jvm_model.specs.Rewriting.StandsFor.{mark_at}
+use Rattle.jvm_model.specs.Turns.Told.{Held, held_after}
+use Rattle.jvm_model.specs.Turns.Pauses.{begin_kind, unless_off, end_due, Stop, stop_by, stop_in, stop_from, told_at}
 use Rattle.jvm_machine.specs.View.{View, has_ended, is_resting, begun, to_come, next_stop, next_event, rested, stopped, IsGoingOn}
 use Rattle.jvm_machine.specs.declared.turn.Turn.TheVariants.{Ended, Settled}
 use Rattle.jvm_machine.specs.Advances.{Stops, told_in}

@@ -7,11 +7,11 @@ use Rattle.code_model.specs.declared.laying.Homes.{Homes}
 use Rattle.jvm_model.specs.declared.event.Mark.{Mark}
 use Rattle.jvm_model.specs.declared.program.MethodPlace.{MethodPlace}
 use Rattle.jvm_model.specs.declared.program.Program.{Program}
-use Rattle.jvm_model.specs.Images.{IsImage}
-use Rattle.jvm_model.specs.Programs.{class_at, numbered}
-use Rattle.jvm_model.specs.SoundPrograms.{HasOperations}
-use Rattle.jvm_model.specs.StandsFor.{mark_at}
-use Rattle.jvm_model.specs.Swaps.{first_number}
+use Rattle.jvm_model.specs.Rewriting.Images.{IsImage}
+use Rattle.jvm_model.specs.Basis.Programs.{class_at, numbered}
+use Rattle.jvm_model.specs.Soundness.SoundPrograms.{HasOperations}
+use Rattle.jvm_model.specs.Rewriting.StandsFor.{mark_at}
+use Rattle.jvm_model.specs.Profiling.Swaps.{first_number}
 use Rattle.jvm_machine.specs.View.{View}
 
 -- What images are made of: its classes are class files, its methods are those that have Code, and each of their instructions does something

@@ -5,17 +5,17 @@ use Rattle.method_versions.specs.Tables.{is_superseded_in}
 use Rattle.jvm_model.specs.declared.event.Mark.{Mark}
 use Rattle.jvm_model.specs.declared.state.Entry.{Entry}
 use Rattle.jvm_model.specs.declared.state.State.{State}
-use Rattle.jvm_model.specs.Run.{starts_with, turn}
-use Rattle.jvm_model.specs.StandsForRun.{StandsFor}
-use Rattle.jvm_model.specs.Told.{helds}
+use Rattle.jvm_model.specs.Running.Run.{starts_with, turn}
+use Rattle.jvm_model.specs.Rewriting.StandsForRun.{StandsFor}
+use Rattle.jvm_model.specs.Turns.Told.{helds}
 use Rattle.jvm_steps.specs.declared.hands.Hand.{Hand}
-use Rattle.jvm_steps.specs.Before.{IsAtStart}
-use Rattle.jvm_steps.specs.Hands.{HasInHand}
-use Rattle.jvm_steps.specs.Passing.{runs}
-use Rattle.jvm_steps.specs.Ready.{IsSoundIn}
-use Rattle.jvm_steps.specs.Standing.{HasVersions, places_of}
-use Rattle.jvm_steps.specs.Tables.{Versions}
-use Rattle.jvm_steps.specs.Versions.{Setup, mark_of, method_of}
+use Rattle.jvm_steps.specs.Machine.Before.{IsAtStart}
+use Rattle.jvm_steps.specs.Moves.Hands.{HasInHand}
+use Rattle.jvm_steps.specs.Instructions.Passing.{runs}
+use Rattle.jvm_steps.specs.Machine.Ready.{IsSoundIn}
+use Rattle.jvm_steps.specs.Machine.Standing.{HasVersions, places_of}
+use Rattle.jvm_steps.specs.Codes.Tables.{Versions}
+use Rattle.jvm_steps.specs.Codes.Versions.{Setup, mark_of, method_of}
 use Rattle.jvm_machine.specs.View.{View, is_resting, run_state}
 
 -- ---- what is seen

@@ -12,16 +12,16 @@ use Rattle.jvm_model.specs.declared.event.EventKind.{EventKind}
 use Rattle.jvm_model.specs.declared.event.EventKind.TheVariants.{Root, Enter, Leave, Unwind}
 use Rattle.jvm_model.specs.declared.event.Mark.{Mark}
 use Rattle.jvm_model.specs.declared.program.Program.{Program}
-use Rattle.jvm_model.specs.Data.{Instruction}
-use Rattle.jvm_model.specs.Images.{is_off}
-use Rattle.jvm_model.specs.Moved.{IsPlace}
-use Rattle.jvm_model.specs.Originals.{original}
-use Rattle.jvm_model.specs.ProgramPlaces.{IsClosedCode}
-use Rattle.jvm_model.specs.Programs.{code_of_method}
-use Rattle.jvm_model.specs.StepPauses.{is_return}
-use Rattle.jvm_model.specs.Told.{Held}
-use Rattle.jvm_model.specs.Versions.{IsVersion, probe_bytes}
-use Rattle.jvm_steps.specs.Standing.{places_of}
+use Rattle.jvm_model.specs.Basis.Data.{Instruction}
+use Rattle.jvm_model.specs.Rewriting.Images.{is_off}
+use Rattle.jvm_model.specs.Codes.Moved.{IsPlace}
+use Rattle.jvm_model.specs.Codes.Originals.{original}
+use Rattle.jvm_model.specs.Codes.ProgramPlaces.{IsClosedCode}
+use Rattle.jvm_model.specs.Basis.Programs.{code_of_method}
+use Rattle.jvm_model.specs.Turns.StepPauses.{is_return}
+use Rattle.jvm_model.specs.Turns.Told.{Held}
+use Rattle.jvm_model.specs.Rewriting.Versions.{IsVersion, probe_bytes}
+use Rattle.jvm_steps.specs.Machine.Standing.{places_of}
 use Rattle.jvm_machine.specs.declared.advancing.Telling.{Telling}
 use Rattle.jvm_machine.specs.declared.advancing.Telling.TheVariants as telling
 use Rattle.jvm_machine.specs.View.{View}

@@ -5,12 +5,12 @@ use Rattle.jvm_model.specs.declared.event.Mark.{Mark}
 use Rattle.jvm_model.specs.declared.event.Mark.TheVariants.{Off}
 use Rattle.jvm_model.specs.declared.program.Program.{Program}
 use Rattle.jvm_model.specs.declared.state.State.{State}
-use Rattle.jvm_model.specs.Data.{Change, World}
-use Rattle.jvm_model.specs.Pauses.{Stop, is_end, stop_from, told_at, told_from}
-use Rattle.jvm_model.specs.Rest.{loads_first}
-use Rattle.jvm_model.specs.Run.{before, run, turn}
-use Rattle.jvm_model.specs.StandsFor.{mark_at}
-use Rattle.jvm_model.specs.Told.{Held, all_held}
+use Rattle.jvm_model.specs.Basis.Data.{Change, World}
+use Rattle.jvm_model.specs.Turns.Pauses.{Stop, is_end, stop_from, told_at, told_from}
+use Rattle.jvm_model.specs.Turns.Rest.{loads_first}
+use Rattle.jvm_model.specs.Running.Run.{before, run, turn}
+use Rattle.jvm_model.specs.Rewriting.StandsFor.{mark_at}
+use Rattle.jvm_model.specs.Turns.Told.{Held, all_held}
 
 -- A machine of a program, with its input; the marks of the versions in which methods begin now, by the methods' numbers; whether it has made
 -- the start; whether memory has run out; the number of steps begun after the start; how many changes of the step in hand are behind it, its load

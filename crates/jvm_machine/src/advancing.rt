@@ -1,11 +1,11 @@
 //! How a step is taken up, and what it has come to.
 
 ghost use Rattle.std.specs.Prelude.{◌≡◌, ◌+◌, ◌++◌, ◌^◌, ◌<◌, drop, false, true, IfOk, OnErr, OnOk};
-ghost use Rattle.jvm_model.specs.InHand.{behind_load};
-ghost use Rattle.jvm_model.specs.Run.{main_loads, starts_with};
-ghost use Rattle.jvm_model.specs.Sound.{IsFit};
-ghost use Rattle.jvm_steps.specs.Before.{IsAtStart};
-ghost use Rattle.jvm_steps.specs.Markers.{state_of};
+ghost use Rattle.jvm_model.specs.Turns.InHand.{behind_load};
+ghost use Rattle.jvm_model.specs.Running.Run.{main_loads, starts_with};
+ghost use Rattle.jvm_model.specs.Soundness.Sound.{IsFit};
+ghost use Rattle.jvm_steps.specs.Machine.Before.{IsAtStart};
+ghost use Rattle.jvm_steps.specs.Machine.Markers.{state_of};
 ghost use Rattle.jvm_machine.specs.Advances.{clock_in, left_in};
 ghost use Rattle.jvm_machine.specs.Advances.{taken_hand, taken_loads, taken_state};
 

@@ -2,13 +2,13 @@
 
 ghost use Rattle.std.specs.Prelude.{◌≡◌, ◌+◌, ◌^◌, ◌<◌, ◌≤◌, ◌&&◌, true, false, None, length};
 ghost use Rattle.std.specs.Prelude.{OnErr, IfOk, OnOk};
-ghost use Rattle.jvm_model.specs.Applies.{live_in};
-ghost use Rattle.jvm_model.specs.Pauses.{told_at};
-ghost use Rattle.jvm_model.specs.ProgramPlaces.{HasClosedCodes};
-ghost use Rattle.jvm_model.specs.Sound.{IsFit};
-ghost use Rattle.jvm_steps.specs.Before.{CanStart};
-ghost use Rattle.jvm_steps.specs.Prepared.{FitsOriginals};
-ghost use Rattle.jvm_steps.specs.Runs.{IsCalm};
+ghost use Rattle.jvm_model.specs.Running.Applies.{live_in};
+ghost use Rattle.jvm_model.specs.Turns.Pauses.{told_at};
+ghost use Rattle.jvm_model.specs.Codes.ProgramPlaces.{HasClosedCodes};
+ghost use Rattle.jvm_model.specs.Soundness.Sound.{IsFit};
+ghost use Rattle.jvm_steps.specs.Machine.Before.{CanStart};
+ghost use Rattle.jvm_steps.specs.Codes.Prepared.{FitsOriginals};
+ghost use Rattle.jvm_steps.specs.Machine.Runs.{IsCalm};
 ghost use Rattle.jvm_machine.specs.Advances.{Advances, broken_in};
 ghost use Rattle.jvm_machine.specs.Installs.{IsFormed, IsImageOf, with_class};
 ghost use Rattle.jvm_machine.specs.Probes.{IfLeaves};
@@ -43,7 +43,7 @@ pub struct Vm {
 }
 
 impl Model for Vm {
-    ghost use Rattle.jvm_steps.specs.Markers.{state_of};
+    ghost use Rattle.jvm_steps.specs.Machine.Markers.{state_of};
     ghost use Rattle.jvm_machine.specs.Machine.{Keeps, viewed};
     ghost use Rattle.jvm_machine.specs.View.{View};
 
@@ -65,7 +65,7 @@ fn is_settled(turn: &Turn) -> bool
 }
 
 /// Whether the run goes on, nothing is thrown, and no initialization stands on the current frame.
-#[tactic(auto, unfolding(jvm_steps::specs::Markers::marker_on))]
+#[tactic(auto, unfolding(jvm_steps::specs::Machine::Markers::marker_on))]
 #[inline(always)]
 fn is_calm(parts: &Parts, markers: &Stack<Marker>) -> bool
     ensures { result ≡ true → IsCalm (length parts.now.frames.frames) markers.now parts.now }

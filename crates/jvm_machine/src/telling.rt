@@ -1,10 +1,10 @@
 //! What a probe has told.
 
 ghost use Rattle.std.specs.Prelude.{◌≡◌};
-ghost use Rattle.jvm_model.specs.Pauses.{begin_kind, told_at};
-ghost use Rattle.jvm_model.specs.Told.{helds};
-ghost use Rattle.jvm_steps.specs.Markers.{state_of};
-ghost use Rattle.jvm_steps.specs.Versions.{mark_of};
+ghost use Rattle.jvm_model.specs.Turns.Pauses.{begin_kind, told_at};
+ghost use Rattle.jvm_model.specs.Turns.Told.{helds};
+ghost use Rattle.jvm_steps.specs.Machine.Markers.{state_of};
+ghost use Rattle.jvm_steps.specs.Codes.Versions.{mark_of};
 
 use jf_bytes::Stack;
 use jvm_model::{Due, Event, EventKind, Mark};

@@ -6,7 +6,7 @@ use Rattle.std.proofs.lemmas.List.FromFn.{length-map-range_with_len, get_or-map-
 use Rattle.std.proofs.lemmas.Option.{slice_get_within, get_or_from_slice_get}
 use Rattle.jvm_model.specs.declared.family.Family.{Family}
 use Rattle.jvm_model.specs.declared.families.TheConstants.{FAMILIES}
-use Rattle.jvm_model.specs.Families.{rows, family_of}
+use Rattle.jvm_model.specs.Basis.Families.{rows, family_of}
 
 families_are : FAMILIES ≡ map family_of (range_with_len 0 256)
 unfolding family_of rows

@@ -1,7 +1,7 @@
 //! The families by opcode. A row reads `[mnemonic family]`, and `-` is an opcode that sees more than its frame, or none.
 
 ghost use Rattle.std.specs.Prelude.{◌≡◌, ◌<◌, Some, slice_get};
-ghost use Rattle.jvm_model.specs.Families.{family_of};
+ghost use Rattle.jvm_model.specs.Basis.Families.{family_of};
 
 use crate::family::Arrangement::{Dup, Dup2, Dup2X1, Dup2X2, DupX1, DupX2, Pop, Pop2, Swap};
 use crate::family::Comparison::{AtLeast, AtMost, Equal, Greater, Less, NotEqual};

@@ -6,14 +6,14 @@ use Rattle.std.specs.Prelude.{Option, Some, None, Ok, drop, length, ◌==◌, if
 use Rattle.frame_stack.specs.FrameLists.{FramesView, top_operands}
 use Rattle.jvm_model.specs.declared.program.Program.{Program}
 use Rattle.jvm_model.specs.declared.state.Shared.{Shared}
-use Rattle.jvm_model.specs.Data.{Operands}
-use Rattle.jvm_model.specs.Kinds.{Element, Primitive, Named, kind_named, meaning_of}
-use Rattle.jvm_model.specs.Load.{Fault, Loading, There, Begun, Fresh, behind_needs, by_standing, done, is_among, load_element, load_named, load_needs, load_of, needs_of, standing_of}
-use Rattle.jvm_model.specs.Programs.{class_named}
-use Rattle.jvm_model.proofs.LoadsAgain.{newly-again, newly-loaded}
-use Rattle.jvm_model.specs.Naming.{Naming, kind_unless, newly_loaded, resolved_kind, resolved_name, resolves}
-use Rattle.jvm_model.specs.NamingRules.{does_named}
-use Rattle.jvm_model.specs.ObjectRules.{done as done_with}
+use Rattle.jvm_model.specs.Basis.Data.{Operands}
+use Rattle.jvm_model.specs.Classes.Kinds.{Element, Primitive, Named, kind_named, meaning_of}
+use Rattle.jvm_model.specs.Classes.Load.{Fault, Loading, There, Begun, Fresh, behind_needs, by_standing, done, is_among, load_element, load_named, load_needs, load_of, needs_of, standing_of}
+use Rattle.jvm_model.specs.Basis.Programs.{class_named}
+use Rattle.jvm_model.proofs.Loading.LoadsAgain.{newly-again, newly-loaded}
+use Rattle.jvm_model.specs.Instructions.Naming.{Naming, kind_unless, newly_loaded, resolved_kind, resolved_name, resolves}
+use Rattle.jvm_model.specs.Instructions.NamingRules.{does_named}
+use Rattle.jvm_model.specs.Instructions.ObjectRules.{done as done_with}
 use Rattle.class_linker.specs.Linkers.{LinkerView}
 use Rattle.jvm_named.specs.declared.known.Known.{Known}
 use Rattle.jvm_basic.specs.Outcomes.{top_locals}

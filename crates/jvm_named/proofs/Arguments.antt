@@ -13,15 +13,15 @@ use Rattle.heap_objects.specs.declared.Value.TheVariants.{Int, Long, Ref, Addr}
 use Rattle.const_pool.specs.declared.descriptor.Kind.{Kind}
 use Rattle.const_pool.specs.declared.descriptor.Kind.TheVariants as kind
 use Rattle.frame_stack.proofs.Passing.{get-none}
-use Rattle.jvm_model.specs.Data.{Operands}
+use Rattle.jvm_model.specs.Basis.Data.{Operands}
 use Rattle.const_pool.specs.Descriptors.{slot_count, slots}
 use Rattle.const_pool.specs.References.{NameAndType}
 use Rattle.std.proofs.lemmas.List.Sums.{sum_by-cons}
 use Rattle.const_pool.specs.declared.descriptor.Shape.{Shape}
-use Rattle.jvm_model.specs.Descriptors.{shape_of}
-use Rattle.jvm_model.specs.InvocationRules.{arguments_by, receiver_in, with_receiver}
-use Rattle.jvm_model.specs.Values.{arguments, data_of, datum_of}
-use Rattle.jvm_model.proofs.Shapes.{method_sound}
+use Rattle.jvm_model.specs.Basis.Descriptors.{shape_of}
+use Rattle.jvm_model.specs.Instructions.InvocationRules.{arguments_by, receiver_in, with_receiver}
+use Rattle.jvm_model.specs.Basis.Values.{arguments, data_of, datum_of}
+use Rattle.jvm_model.proofs.Running.Shapes.{method_sound}
 use Rattle.jvm_named.specs.Members.{params_by}
 use Rattle.jvm_named.specs.Targets.{as_datum, data_in, is_reference, reference_in}
 

@@ -10,10 +10,10 @@ use Rattle.heap_objects.specs.declared.Value.TheVariants.{Int, Long, Ref, Addr}
 use Rattle.frame_stack.specs.FrameLists.{FramesView, PlacedFrame, AreSound, top_operands, with_frames, without_arguments}
 use Rattle.frame_stack.specs.Widths.{height_of}
 use Rattle.jvm_basic.specs.Outcomes.{can_hold}
-use Rattle.jvm_model.specs.CreationRules.{counts_from, counts_of, lengths_of, with_arrays, with_parts}
-use Rattle.jvm_model.specs.KindNumbers.{first_array, user_count}
+use Rattle.jvm_model.specs.Instructions.CreationRules.{counts_from, counts_of, lengths_of, with_arrays, with_parts}
+use Rattle.jvm_model.specs.Basis.KindNumbers.{first_array, user_count}
 use Rattle.class_linker.specs.Linkers.{IsLoaded, LinkerView}
-use Rattle.jvm_model.specs.Data.{Operands, GoesOn, Next}
+use Rattle.jvm_model.specs.Basis.Data.{Operands, GoesOn, Next}
 use Rattle.jvm_named.specs.Answers.{frames_of}
 use Rattle.jvm_named.specs.Arrays.{int_at, lengths_from}
 use Rattle.jvm_named.specs.Objects.{AreLoaded, IsUsable}

@@ -7,12 +7,12 @@ use Rattle.heap_objects.specs.Heaps.{HeapView}
 use Rattle.jvm_basic.specs.Outcomes.{top_locals}
 use Rattle.jvm_model.specs.declared.program.Program.{Program}
 use Rattle.jvm_model.specs.declared.state.Shared.{Shared}
-use Rattle.jvm_model.specs.Data.{Operands, World}
-use Rattle.jvm_model.specs.Load.{load_of}
-use Rattle.jvm_model.specs.Naming.{Naming, Invokespecial, newly_loaded, resolved_kind, resolved_name, resolves, unless_refused}
-use Rattle.jvm_model.specs.NamingRules.{does_named}
-use Rattle.jvm_model.specs.ObjectRules.{done}
-use Rattle.jvm_model.proofs.LoadsAgain.{newly-loaded, resolved-again}
+use Rattle.jvm_model.specs.Basis.Data.{Operands, World}
+use Rattle.jvm_model.specs.Classes.Load.{load_of}
+use Rattle.jvm_model.specs.Instructions.Naming.{Naming, Invokespecial, newly_loaded, resolved_kind, resolved_name, resolves, unless_refused}
+use Rattle.jvm_model.specs.Instructions.NamingRules.{does_named}
+use Rattle.jvm_model.specs.Instructions.ObjectRules.{done}
+use Rattle.jvm_model.proofs.Loading.LoadsAgain.{newly-loaded, resolved-again}
 use Rattle.class_linker.specs.Linkers.{LinkerView}
 use Rattle.jvm_named.specs.declared.asked.Refusal.{Refusal}
 use Rattle.jvm_named.specs.Answers.{done_on, found_view, refusal_view}

@@ -2,17 +2,17 @@
 use Rattle.std.proofs.Common.{◌≡◌, Bool, true, false, refl}
 use Rattle.std.specs.Prelude.{Some, Result, Ok, Err, not, pos, if◌then◌else◌}
 use Rattle.heap_objects.specs.declared.Value.TheVariants.{Int}
-use Rattle.jvm_model.specs.CreationRules.{answers, casts_to}
+use Rattle.jvm_model.specs.Instructions.CreationRules.{answers, casts_to}
 use Rattle.jvm_model.specs.declared.state.Shared.{Shared}
-use Rattle.jvm_model.specs.Data.{Locals, Operands, World, Next, Outcome, GoesOn, Done}
-use Rattle.jvm_model.specs.FieldRules.{gets_of, held_of, kind_by, pushes_static, puts_into, putting_of, sets_static}
-use Rattle.jvm_model.specs.InvocationRules.{Virtual, OfInterface, Special, arguments_by, invokes_on, invokes_with_static}
-use Rattle.jvm_model.specs.LocalRules.{replaces}
-use Rattle.jvm_model.specs.Naming.{◌>>=◌, Naming, New, Getfield, Putfield, Getstatic, Putstatic, Invokevirtual, Invokespecial, Invokestatic, Invokeinterface, Checkcast, Instanceof, Anewarray, Multianewarray, LdcClass, is_null, resolved_kind, resolved_name, resolves, unless_refused}
-use Rattle.jvm_model.specs.NamingRules.{does_named}
-use Rattle.jvm_model.specs.ObjectRules.{done}
-use Rattle.jvm_model.specs.Rules.{initialized}
-use Rattle.jvm_model.specs.Values.{ref_of}
+use Rattle.jvm_model.specs.Basis.Data.{Locals, Operands, World, Next, Outcome, GoesOn, Done}
+use Rattle.jvm_model.specs.Instructions.FieldRules.{gets_of, held_of, kind_by, pushes_static, puts_into, putting_of, sets_static}
+use Rattle.jvm_model.specs.Instructions.InvocationRules.{Virtual, OfInterface, Special, arguments_by, invokes_on, invokes_with_static}
+use Rattle.jvm_model.specs.Instructions.LocalRules.{replaces}
+use Rattle.jvm_model.specs.Instructions.Naming.{◌>>=◌, Naming, New, Getfield, Putfield, Getstatic, Putstatic, Invokevirtual, Invokespecial, Invokestatic, Invokeinterface, Checkcast, Instanceof, Anewarray, Multianewarray, LdcClass, is_null, resolved_kind, resolved_name, resolves, unless_refused}
+use Rattle.jvm_model.specs.Instructions.NamingRules.{does_named}
+use Rattle.jvm_model.specs.Instructions.ObjectRules.{done}
+use Rattle.jvm_model.specs.Instructions.Rules.{initialized}
+use Rattle.jvm_model.specs.Basis.Values.{ref_of}
 use Rattle.jvm_named.specs.Resolved.{does_resolved, field_found, method_found, skips}
 
 false_true : false ≡ true → ⊥

@@ -7,12 +7,12 @@ use Rattle.frame_stack.specs.FrameLists.{FramesView, top_operands}
 use Rattle.heap_objects.specs.declared.datum.Datum.{Datum}
 use Rattle.jvm_basic.specs.Outcomes.{top_locals}
 use Rattle.jvm_model.specs.declared.state.Shared.{Shared}
-use Rattle.jvm_model.specs.Data.{Locals, Operands, World, Invokes, Raises, Breaks}
-use Rattle.jvm_model.specs.InvocationRules.{abstract_method, invokes_number, invokes_selected, reference_to, unsatisfied_link}
-use Rattle.jvm_model.specs.Lookup.{MemberPlace}
-use Rattle.jvm_model.specs.NativeRules.{runs_native, runs_number}
-use Rattle.jvm_model.specs.ObjectRules.{done}
-use Rattle.jvm_model.specs.Programs.{number_of_method}
+use Rattle.jvm_model.specs.Basis.Data.{Locals, Operands, World, Invokes, Raises, Breaks}
+use Rattle.jvm_model.specs.Instructions.InvocationRules.{abstract_method, invokes_number, invokes_selected, reference_to, unsatisfied_link}
+use Rattle.jvm_model.specs.Classes.Lookup.{MemberPlace}
+use Rattle.jvm_model.specs.Instructions.NativeRules.{runs_native, runs_number}
+use Rattle.jvm_model.specs.Instructions.ObjectRules.{done}
+use Rattle.jvm_model.specs.Basis.Programs.{number_of_method}
 use Rattle.jvm_named.specs.declared.asked.Asked.TheVariants.{Invokes as Calling}
 use Rattle.jvm_named.specs.Answers.{Calls}
 use Rattle.jvm_named.specs.Callees.{IsCode, IsNative}

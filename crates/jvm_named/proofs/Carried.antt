@@ -7,8 +7,8 @@ use Rattle.jvm_model.specs.declared.program.Program.{Program}
 use Rattle.jvm_model.specs.declared.state.Shared.{Shared}
 use Rattle.jvm_model.specs.declared.state.Phase.{Phase}
 use Rattle.jvm_model.specs.declared.state.Phase.TheVariants.{Ready, Running}
-use Rattle.jvm_model.specs.Data.{Done}
-use Rattle.jvm_model.specs.Rules.{when_ready}
+use Rattle.jvm_model.specs.Basis.Data.{Done}
+use Rattle.jvm_model.specs.Instructions.Rules.{when_ready}
 use Rattle.std.specs.Prelude.{IfOk, OnOk}
 use Rattle.jvm_named.specs.declared.asked.Asked.{Asked}
 use Rattle.jvm_named.specs.Answers.{Answers, Moves, Rule, Shares, answer_in, answer_view, done_on, frames_in, wrote_by}

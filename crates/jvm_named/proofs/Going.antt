@@ -8,7 +8,7 @@ use Rattle.frame_stack.specs.FrameLists.{AreSound, FramesView, PlacedFrame, top_
 use Rattle.frame_stack.specs.Widths.{height_of, width}
 use Rattle.jvm_basic.specs.declared.effect.Effect.TheVariants.{Next, Bad}
 use Rattle.jvm_basic.specs.Outcomes.{can_hold}
-use Rattle.jvm_model.specs.Data.{Operands}
+use Rattle.jvm_model.specs.Basis.Data.{Operands}
 use Rattle.jvm_named.specs.Answers.{Continues, Exceeds, answer_view, asked_by}
 
 pub asked_if : (b : Bool) → answer_view (asked_by (if b then Next else Bad)) ≡ (if b then Continues else Exceeds)

@@ -4,8 +4,8 @@ use Rattle.std.proofs.lemmas.Nat.{mod-mul-add}
 use Rattle.std.proofs.Math.Nat.{mod-add-div', mod-lt}
 use Rattle.std.specs.Prelude.{length, Option, Some, None, nat_lt, unwrap_or, ◌/◌, ◌%◌, ◌^◌, if◌then◌else◌}
 use Rattle.jvm_model.specs.declared.program.Program.{Program}
-use Rattle.jvm_model.specs.KindNumbers.{base_of_class, class_of_base, user_count}
-use Rattle.jvm_model.specs.SharedState.{class_of_kind}
+use Rattle.jvm_model.specs.Basis.KindNumbers.{base_of_class, class_of_base, user_count}
+use Rattle.jvm_model.specs.Basis.SharedState.{class_of_kind}
 use Rattle.class_linker.specs.Linkers.{IsLoaded, LinkerView}
 use Rattle.jvm_named.specs.Objects.{IsUsable}
 

@@ -2,8 +2,8 @@
 use Rattle.std.proofs.Common.{ℕ, List}
 use Rattle.jvm_model.specs.declared.program.Program.{Program}
 use Rattle.const_pool.specs.References.{Reference}
-use Rattle.jvm_model.specs.InvocationRules.{Selecting, Virtual, OfInterface, Special}
-use Rattle.jvm_model.specs.Naming.{Naming, New, Checkcast, Instanceof}
+use Rattle.jvm_model.specs.Instructions.InvocationRules.{Selecting, Virtual, OfInterface, Special}
+use Rattle.jvm_model.specs.Instructions.Naming.{Naming, New, Checkcast, Instanceof}
 use Rattle.jvm_named.specs.declared.known.Found.{Found}
 use Rattle.jvm_named.specs.declared.known.Found.TheVariants as found
 use Rattle.jvm_named.specs.declared.known.Site.{Site}

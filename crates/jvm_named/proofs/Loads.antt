@@ -5,10 +5,10 @@ use Rattle.std.specs.Prelude.{◌/◌, length, Option, Some, None, position, nat
 use Rattle.std.specs.List.{position_or_len}
 use Rattle.std.specs.Option.{option_map}
 use Rattle.jvm_model.specs.declared.program.Program.{Program}
-use Rattle.jvm_model.specs.KindNumbers.{base_of_class, kind_number, user_count}
-use Rattle.jvm_model.specs.Kinds.{Element, Primitive, Named, Meaning, array_from, array_of, before_semicolon, element_of, kind_named, meaning_of, parts_named, primitive_code}
-use Rattle.jvm_model.specs.Load.{Fault, NoClass, Circular, Loading, There, Begun, Fresh, behind_needs, by_standing, done, is_among, load_element, load_named, load_needs, load_of, needs_of, standing_of, unless}
-use Rattle.jvm_model.specs.Programs.{class_named, has_name}
+use Rattle.jvm_model.specs.Basis.KindNumbers.{base_of_class, kind_number, user_count}
+use Rattle.jvm_model.specs.Classes.Kinds.{Element, Primitive, Named, Meaning, array_from, array_of, before_semicolon, element_of, kind_named, meaning_of, parts_named, primitive_code}
+use Rattle.jvm_model.specs.Classes.Load.{Fault, NoClass, Circular, Loading, There, Begun, Fresh, behind_needs, by_standing, done, is_among, load_element, load_named, load_needs, load_of, needs_of, standing_of, unless}
+use Rattle.jvm_model.specs.Basis.Programs.{class_named, has_name}
 use Rattle.class_linker.specs.Linkers.{IsLoaded, LinkerView}
 use Rattle.jvm_named.specs.Objects.{IsUsable}
 use Rattle.jvm_named.proofs.KindLemmas.{base-below, class-back, none-some, of-class, of-primitive, some-some}

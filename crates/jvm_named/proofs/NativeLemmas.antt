@@ -23,9 +23,9 @@ use Rattle.native_ops.proofs.KindsKept.{class-kept, kinds-kept}
 use Rattle.native_ops.proofs.KindsMade.{AreMade}
 use Rattle.native_ops.specs.Making.{heap_after_class}
 use Rattle.jvm_model.specs.declared.state.Shared.{Shared}
-use Rattle.jvm_model.specs.Data.{Locals, Operands, World, Outcome, Throws, Raises, Breaks, Done}
-use Rattle.jvm_model.specs.KindNumbers.{class_of_base, user_count}
-use Rattle.jvm_model.specs.NativeRules.{kinds_in, outcome_of, runs_number, seen_by_natives, thrown_by}
+use Rattle.jvm_model.specs.Basis.Data.{Locals, Operands, World, Outcome, Throws, Raises, Breaks, Done}
+use Rattle.jvm_model.specs.Basis.KindNumbers.{class_of_base, user_count}
+use Rattle.jvm_model.specs.Instructions.NativeRules.{kinds_in, outcome_of, runs_number, seen_by_natives, thrown_by}
 use Rattle.class_linker.specs.Linkers.{IsLoaded, LinkerView}
 use Rattle.jvm_named.specs.declared.asked.Asked.{Asked}
 use Rattle.jvm_named.specs.Answers.{answer_of, answer_view, frames_of}

@@ -8,8 +8,8 @@ use Rattle.const_pool.specs.declared.class.ClassFile.{ClassFile}
 use Rattle.const_pool.specs.declared.class.Member.{Member}
 use Rattle.jvm_model.specs.declared.program.MethodPlace.{MethodPlace}
 use Rattle.jvm_model.specs.declared.program.Program.{Program}
-use Rattle.jvm_model.specs.Methods.{code_of}
-use Rattle.jvm_model.specs.Programs.{coded_from, number_from, numbered, numbered_from}
+use Rattle.jvm_model.specs.Basis.Methods.{code_of}
+use Rattle.jvm_model.specs.Basis.Programs.{coded_from, number_from, numbered, numbered_from}
 use Rattle.jvm_named.specs.Numbers.{AreNumbers, Row, coded, number_in, row_from, rows_from}
 
 abbrev place : ℕ → ℕ → MethodPlace

@@ -8,9 +8,9 @@ use Rattle.heap_objects.specs.declared.object.Object.{Object}
 use Rattle.heap_objects.specs.declared.object.Object.TheVariants.{Instance, Array, Text}
 use Rattle.heap_objects.specs.Heaps.{HeapView, kind_at, with_object, with_slot_at}
 use Rattle.heap_objects.specs.Objects.{changed_at, kind_of, with_slot}
-use Rattle.jvm_model.specs.KindNumbers.{user_count}
-use Rattle.jvm_model.specs.Load.{is_among}
-use Rattle.jvm_model.specs.SharedState.{class_of_kind}
+use Rattle.jvm_model.specs.Basis.KindNumbers.{user_count}
+use Rattle.jvm_model.specs.Classes.Load.{is_among}
+use Rattle.jvm_model.specs.Basis.SharedState.{class_of_kind}
 use Rattle.class_linker.specs.Linkers.{IsLoaded, LinkerView}
 use Rattle.jvm_named.specs.Objects.{IsUsable}
 use Rattle.jvm_named.specs.Objects.{AreLoaded, IsOfLoaded}

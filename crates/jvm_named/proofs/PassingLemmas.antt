@@ -7,19 +7,19 @@ use Rattle.std.specs.Prelude.{Ok, IfSome}
 use Rattle.std.specs.Option.{option_map}
 use Rattle.const_pool.specs.References.{Reference}
 use Rattle.heap_objects.specs.Heaps.{with_slot_at}
-use Rattle.jvm_model.specs.FieldRules.{Putting, field_owner, kind_by, puts_into, putting_of, slot_of}
-use Rattle.jvm_model.specs.Lookup.{MemberPlace}
-use Rattle.jvm_model.specs.Naming.{unless_refused}
-use Rattle.jvm_model.specs.ObjectRules.{done}
+use Rattle.jvm_model.specs.Instructions.FieldRules.{Putting, field_owner, kind_by, puts_into, putting_of, slot_of}
+use Rattle.jvm_model.specs.Classes.Lookup.{MemberPlace}
+use Rattle.jvm_model.specs.Instructions.Naming.{unless_refused}
+use Rattle.jvm_model.specs.Instructions.ObjectRules.{done}
 use Rattle.jvm_model.specs.declared.program.Program.{Program}
 use Rattle.jvm_model.specs.declared.state.Phase.{Phase}
 use Rattle.jvm_model.specs.declared.state.Phase.TheVariants.{Erroneous, Fresh, Ready, Running}
 use Rattle.jvm_model.specs.declared.state.Shared.{Shared}
-use Rattle.jvm_model.specs.Data.{Back, Breaks, Done, Exits, GoesOn, Initializes, Invokes, Locals, Next, Operands, Outcome, Raises, Returns, Subroutine, Target, Throws, World}
-use Rattle.jvm_model.specs.Rules.{when_ready}
+use Rattle.jvm_model.specs.Basis.Data.{Back, Breaks, Done, Exits, GoesOn, Initializes, Invokes, Locals, Next, Operands, Outcome, Raises, Returns, Subroutine, Target, Throws, World}
+use Rattle.jvm_model.specs.Instructions.Rules.{when_ready}
 use Rattle.jvm_named.specs.Answers.{Answer, Calls, Continues, Exceeds, Stops, answer_in, frames_in}
 use Rattle.jvm_named.specs.Fields.{writes}
-use Rattle.jvm_model.specs.InvocationRules.{invokes_selected}
+use Rattle.jvm_model.specs.Instructions.InvocationRules.{invokes_selected}
 use Rattle.jvm_named.specs.declared.known.Callee.TheVariants as callee
 use Rattle.jvm_named.specs.declared.known.Chosen.{Chosen}
 use Rattle.jvm_named.specs.declared.targets.Target.{Target as TheTarget}

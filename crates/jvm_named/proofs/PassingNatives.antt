@@ -20,9 +20,9 @@ use Rattle.native_ops.specs.KindsViews.{KindsView}
 use Rattle.native_ops.specs.MadeViews.{MadeView}
 use Rattle.native_ops.specs.Worlds as natives
 use Rattle.jvm_model.specs.declared.state.Shared.{Shared}
-use Rattle.jvm_model.specs.Data.{Locals, Operands, Outcome, Done, World}
-use Rattle.jvm_model.specs.NativeRules.{kinds_in, runs_number, seen_by_natives}
-use Rattle.jvm_model.specs.Values.{as_value, with_value}
+use Rattle.jvm_model.specs.Basis.Data.{Locals, Operands, Outcome, Done, World}
+use Rattle.jvm_model.specs.Instructions.NativeRules.{kinds_in, runs_number, seen_by_natives}
+use Rattle.jvm_model.specs.Basis.Values.{as_value, with_value}
 use Rattle.jvm_named.specs.declared.asked.Asked.TheVariants as asked
 use Rattle.jvm_named.specs.Answers.{Continues, Exceeds, answer_in, answer_of, frames_of}
 use Rattle.jvm_named.specs.Does.{Changed, changed}

@@ -3,22 +3,22 @@ use Rattle.std.proofs.Common.{◌≡◌, ℕ, ◌+◌, Bool, true, false, List, 
 use Rattle.std.proofs.lemmas.List.{append-nil}
 use Rattle.std.specs.Prelude.{Option, Some, None, Result, Ok, Err, OnOk, length, map, ℤ, pos, negsuc, nat_le, if◌then◌else◌}
 use Rattle.heap_objects.specs.Heaps.{HeapView, with_instance, with_text}
-use Rattle.jvm_model.specs.Layouts.{layout}
+use Rattle.jvm_model.specs.Classes.Layouts.{layout}
 use Rattle.jvm_model.specs.declared.program.Program.{Program}
 use Rattle.jvm_model.specs.declared.state.Shared.{Shared}
-use Rattle.jvm_model.specs.ConstantRules.{pushes_object_of}
-use Rattle.jvm_model.specs.CreationRules.{allocates, array_over, has_no_instances, instantiation_error, is_text_class, slots_of_arrays, with_arrays, zero_of, counts_of, lengths_of, makes_arrays, makes_by_counts, makes_instance, makes_object}
+use Rattle.jvm_model.specs.Instructions.ConstantRules.{pushes_object_of}
+use Rattle.jvm_model.specs.Instructions.CreationRules.{allocates, array_over, has_no_instances, instantiation_error, is_text_class, slots_of_arrays, with_arrays, zero_of, counts_of, lengths_of, makes_arrays, makes_by_counts, makes_instance, makes_object}
 use Rattle.jvm_model.specs.declared.state.Phase.{Phase}
 use Rattle.jvm_model.specs.declared.state.Phase.TheVariants.{Fresh, Running, Ready, Erroneous}
 use Rattle.heap_objects.specs.declared.datum.Datum.{Datum}
-use Rattle.jvm_model.specs.Data.{Locals, Operands, Outcome, Raises, Done}
-use Rattle.jvm_model.specs.FieldRules.{Putting, gets_of, kind_by, held_of, puts_into, putting_of, sets_static}
-use Rattle.jvm_model.specs.Lookup.{MemberPlace}
-use Rattle.jvm_model.specs.Naming.{unless_refused}
-use Rattle.jvm_model.specs.ObjectRules.{done, makes}
-use Rattle.jvm_model.specs.Rules.{when_ready}
-use Rattle.jvm_model.specs.SharedState.{class_of_kind, phase_of}
-use Rattle.jvm_model.specs.Values.{int_of, ref_of}
+use Rattle.jvm_model.specs.Basis.Data.{Locals, Operands, Outcome, Raises, Done}
+use Rattle.jvm_model.specs.Instructions.FieldRules.{Putting, gets_of, kind_by, held_of, puts_into, putting_of, sets_static}
+use Rattle.jvm_model.specs.Classes.Lookup.{MemberPlace}
+use Rattle.jvm_model.specs.Instructions.Naming.{unless_refused}
+use Rattle.jvm_model.specs.Instructions.ObjectRules.{done, makes}
+use Rattle.jvm_model.specs.Instructions.Rules.{when_ready}
+use Rattle.jvm_model.specs.Basis.SharedState.{class_of_kind, phase_of}
+use Rattle.jvm_model.specs.Basis.Values.{int_of, ref_of}
 use Rattle.const_pool.specs.References.{Reference}
 use Rattle.jvm_named.specs.Resolved.{field_found, gets_instance, gets_static, makes_new, puts_instance, puts_static}
 

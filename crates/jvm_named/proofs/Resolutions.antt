@@ -4,12 +4,12 @@ use Rattle.std.specs.Prelude.{◌/◌, length, drop, Option, Some, None, Ok, Err
 use Rattle.class_linker.specs.declared.answers.Loaded.TheVariants.{New, Already, Throws}
 use Rattle.class_linker.specs.Linkers.{absent_name, answer_by, answer_of, error_number}
 use Rattle.jvm_model.specs.declared.program.Program.{Program}
-use Rattle.jvm_model.specs.Data.{Raises}
-use Rattle.jvm_model.specs.KindNumbers.{user_count}
-use Rattle.jvm_model.specs.Kinds.{kind_named, meaning_of}
-use Rattle.jvm_model.specs.Load.{Fault, NoClass, Circular, Incompatible, error_of, is_among, load_of}
-use Rattle.jvm_model.specs.Naming.{New as NewNaming, kind_unless, message_of, resolved_kind}
-use Rattle.jvm_model.proofs.LoadsAgain.{newly-loaded}
+use Rattle.jvm_model.specs.Basis.Data.{Raises}
+use Rattle.jvm_model.specs.Basis.KindNumbers.{user_count}
+use Rattle.jvm_model.specs.Classes.Kinds.{kind_named, meaning_of}
+use Rattle.jvm_model.specs.Classes.Load.{Fault, NoClass, Circular, Incompatible, error_of, is_among, load_of}
+use Rattle.jvm_model.specs.Instructions.Naming.{New as NewNaming, kind_unless, message_of, resolved_kind}
+use Rattle.jvm_model.proofs.Loading.LoadsAgain.{newly-loaded}
 use Rattle.jvm_named.specs.Answers.{exception_name, exception_numbered}
 use Rattle.jvm_named.specs.Objects.{IsResolved, IsUsable}
 use Rattle.jvm_named.proofs.Loads.{resolves}

@@ -6,14 +6,14 @@ use Rattle.const_pool.specs.References.{Reference}
 use Rattle.class_linker.specs.Linkers.{LinkerView}
 use Rattle.heap_objects.specs.declared.datum.Datum.{Datum}
 use Rattle.heap_objects.specs.Heaps.{HeapView, kind_at}
-use Rattle.jvm_model.specs.Data.{Operands, Outcome, Raises}
+use Rattle.jvm_model.specs.Basis.Data.{Operands, Outcome, Raises}
 use Rattle.jvm_model.specs.declared.program.Program.{Program}
-use Rattle.jvm_model.specs.InvocationRules.{Selecting, Virtual, OfInterface, Special, arguments_by, names_interface, not_of_class, receiver_in, selected_by}
-use Rattle.jvm_model.specs.SharedState.{null_pointer}
-use Rattle.jvm_model.specs.Kinds.{kind_named}
-use Rattle.jvm_model.specs.Lookup.{MemberPlace}
-use Rattle.jvm_model.specs.Naming.{◌>>=◌, is_below_kind, present, receiver}
-use Rattle.jvm_model.specs.SharedState.{class_of_kind}
+use Rattle.jvm_model.specs.Instructions.InvocationRules.{Selecting, Virtual, OfInterface, Special, arguments_by, names_interface, not_of_class, receiver_in, selected_by}
+use Rattle.jvm_model.specs.Basis.SharedState.{null_pointer}
+use Rattle.jvm_model.specs.Classes.Kinds.{kind_named}
+use Rattle.jvm_model.specs.Classes.Lookup.{MemberPlace}
+use Rattle.jvm_model.specs.Instructions.Naming.{◌>>=◌, is_below_kind, present, receiver}
+use Rattle.jvm_model.specs.Basis.SharedState.{class_of_kind}
 use Rattle.jvm_named.specs.declared.known.Chosen.{Chosen}
 use Rattle.jvm_named.specs.declared.known.Found.{Found}
 use Rattle.jvm_named.specs.declared.known.Found.TheVariants as found

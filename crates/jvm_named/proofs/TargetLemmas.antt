@@ -10,13 +10,13 @@ use Rattle.frame_stack.specs.FrameLists.{FramesView}
 use Rattle.jvm_model.specs.declared.state.Phase.{Phase}
 use Rattle.jvm_model.specs.declared.state.Phase.TheVariants.{Fresh, Running, Ready, Erroneous}
 use Rattle.jvm_model.specs.declared.state.Shared.{Shared}
-use Rattle.jvm_model.specs.Data.{Locals, Operands, World, Outcome, Done}
-use Rattle.jvm_model.specs.InvocationRules.{Selecting, arguments_by, invokes_on, invokes_selected, invokes_with_static, names_interface, not_of_class, receiver_in, selected_by}
-use Rattle.jvm_model.specs.Lookup.{MemberPlace}
-use Rattle.jvm_model.specs.Naming.{◌>>=◌, is_instance, present, receiver, unless_refused}
-use Rattle.jvm_model.specs.ObjectRules.{done}
-use Rattle.jvm_model.specs.Rules.{when_ready}
-use Rattle.jvm_model.specs.SharedState.{class_of, phase_of}
+use Rattle.jvm_model.specs.Basis.Data.{Locals, Operands, World, Outcome, Done}
+use Rattle.jvm_model.specs.Instructions.InvocationRules.{Selecting, arguments_by, invokes_on, invokes_selected, invokes_with_static, names_interface, not_of_class, receiver_in, selected_by}
+use Rattle.jvm_model.specs.Classes.Lookup.{MemberPlace}
+use Rattle.jvm_model.specs.Instructions.Naming.{◌>>=◌, is_instance, present, receiver, unless_refused}
+use Rattle.jvm_model.specs.Instructions.ObjectRules.{done}
+use Rattle.jvm_model.specs.Instructions.Rules.{when_ready}
+use Rattle.jvm_model.specs.Basis.SharedState.{class_of, phase_of}
 use Rattle.jvm_named.specs.declared.asked.Asked.TheVariants.{Refused}
 use Rattle.jvm_named.specs.declared.asked.Refusal.{Refusal}
 use Rattle.jvm_named.specs.declared.asked.Refusal.TheVariants as refusal

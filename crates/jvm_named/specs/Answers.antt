@@ -7,13 +7,13 @@ use Rattle.frame_stack.specs.FrameLists.{PlacedFrame, FramesView, with_frames, t
 use Rattle.jvm_basic.specs.declared.effect.Effect.{Effect}
 use Rattle.jvm_basic.specs.declared.effect.Effect.TheVariants as effect
 use Rattle.jvm_basic.specs.Outcomes.{can_hold, top_locals, with_top}
-use Rattle.jvm_model.specs.CreationRules.{class_cast, instantiation_error}
+use Rattle.jvm_model.specs.Instructions.CreationRules.{class_cast, instantiation_error}
 use Rattle.jvm_model.specs.declared.state.Shared.{Shared}
-use Rattle.jvm_model.specs.Data.{Locals, Operands, Next, Outcome, GoesOn, Invokes, Raises, Throws, Initializes, Exits, Breaks, Done}
-use Rattle.jvm_model.specs.InvocationRules.{abstract_method, unsatisfied_link}
-use Rattle.jvm_model.specs.Load.{circular_class}
-use Rattle.jvm_model.specs.Lookup.{MemberPlace, incompatible_change}
-use Rattle.jvm_model.specs.SharedState.{negative_array_size, no_class_definition, no_such_field, no_such_method, null_pointer}
+use Rattle.jvm_model.specs.Basis.Data.{Locals, Operands, Next, Outcome, GoesOn, Invokes, Raises, Throws, Initializes, Exits, Breaks, Done}
+use Rattle.jvm_model.specs.Instructions.InvocationRules.{abstract_method, unsatisfied_link}
+use Rattle.jvm_model.specs.Classes.Load.{circular_class}
+use Rattle.jvm_model.specs.Classes.Lookup.{MemberPlace, incompatible_change}
+use Rattle.jvm_model.specs.Basis.SharedState.{negative_array_size, no_class_definition, no_such_field, no_such_method, null_pointer}
 use Rattle.jvm_named.specs.declared.place.Place.{Place}
 use Rattle.jvm_named.specs.Members.{at_place}
 use Rattle.jvm_named.specs.declared.asked.Exception.{Exception}

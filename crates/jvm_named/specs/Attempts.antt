@@ -3,9 +3,9 @@ use Rattle.std.specs.Prelude.{◌≡◌, ℕ, Bool, true, false, List, ◌++◌,
 use Rattle.frame_stack.specs.FrameLists.{FramesView, top_operands}
 use Rattle.jvm_model.specs.declared.program.Program.{Program}
 use Rattle.jvm_model.specs.declared.state.Shared.{Shared}
-use Rattle.jvm_model.specs.Data.{Operands, World}
-use Rattle.jvm_model.specs.Naming.{Naming, newly_loaded, resolved_kind, resolved_name, resolves}
-use Rattle.jvm_model.specs.NamingRules.{does_named}
+use Rattle.jvm_model.specs.Basis.Data.{Operands, World}
+use Rattle.jvm_model.specs.Instructions.Naming.{Naming, newly_loaded, resolved_kind, resolved_name, resolves}
+use Rattle.jvm_model.specs.Instructions.NamingRules.{does_named}
 use Rattle.class_linker.specs.Linkers.{LinkerView}
 use Rattle.jvm_named.specs.declared.asked.Refusal.{Refusal}
 use Rattle.jvm_named.specs.Answers.{Rule, refusal_view}

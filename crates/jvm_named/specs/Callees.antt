@@ -3,11 +3,11 @@ use Rattle.std.specs.Prelude.{◌≡◌, ℕ, false, Some, None, IsSome, nat_lt,
 use Rattle.std.specs.Option.{option_and_then}
 use Rattle.base_classes.specs.Natives.{native_methods, native_number}
 use Rattle.jvm_model.specs.declared.program.Program.{Program}
-use Rattle.jvm_model.specs.InvocationRules.{reference_to}
-use Rattle.jvm_model.specs.KindNumbers.{user_count}
-use Rattle.jvm_model.specs.Lookup.{MemberPlace}
-use Rattle.jvm_model.specs.Programs.{number_of_method}
-use Rattle.jvm_model.specs.Selection.{is_abstract}
+use Rattle.jvm_model.specs.Instructions.InvocationRules.{reference_to}
+use Rattle.jvm_model.specs.Basis.KindNumbers.{user_count}
+use Rattle.jvm_model.specs.Classes.Lookup.{MemberPlace}
+use Rattle.jvm_model.specs.Basis.Programs.{number_of_method}
+use Rattle.jvm_model.specs.Classes.Selection.{is_abstract}
 use Rattle.jvm_named.specs.declared.known.Callee.{Callee}
 use Rattle.jvm_named.specs.declared.known.Callee.TheVariants as callee
 use Rattle.jvm_named.specs.declared.known.Chosen.{Chosen}

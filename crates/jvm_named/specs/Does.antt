@@ -3,7 +3,7 @@ use Rattle.std.specs.Prelude.{◌≡◌, ℕ, List, ◌++◌, Result, Ok, Err}
 use Rattle.jf_bytes.specs.declared.error.NoMemory.{NoMemory}
 use Rattle.frame_stack.specs.FrameLists.{FramesView, with_frames}
 use Rattle.jvm_model.specs.declared.state.Shared.{Shared}
-use Rattle.jvm_model.specs.Data.{Done}
+use Rattle.jvm_model.specs.Basis.Data.{Done}
 use Rattle.jvm_named.specs.declared.asked.Asked.{Asked}
 use Rattle.jvm_named.specs.Answers.{answer_in, answer_view, frames_in}
 

@@ -2,13 +2,13 @@
 use Rattle.std.specs.Prelude.{ℕ, ◌&&◌, drop, not, Bool, Option, Some, Result, Ok, Err}
 use Rattle.heap_objects.specs.Heaps.{with_slot_at}
 use Rattle.const_pool.specs.declared.class.Member.{Member}
-use Rattle.jvm_model.specs.Methods.{has_flag}
+use Rattle.jvm_model.specs.Basis.Methods.{has_flag}
 use Rattle.jvm_model.specs.declared.program.Program.{Program}
 use Rattle.jvm_model.specs.declared.state.Shared.{Shared}
-use Rattle.jvm_model.specs.Data.{Datum, Locals, Operands, Next, Outcome, GoesOn, Done}
-use Rattle.jvm_model.specs.FieldRules as rules
-use Rattle.jvm_model.specs.Naming.{extends, is_below_kind}
-use Rattle.jvm_model.specs.ObjectRules.{done}
+use Rattle.jvm_model.specs.Basis.Data.{Datum, Locals, Operands, Next, Outcome, GoesOn, Done}
+use Rattle.jvm_model.specs.Instructions.FieldRules as rules
+use Rattle.jvm_model.specs.Instructions.Naming.{extends, is_below_kind}
+use Rattle.jvm_model.specs.Instructions.ObjectRules.{done}
 use Rattle.jvm_named.specs.declared.asked.Refusal.{Refusal}
 use Rattle.jvm_named.specs.declared.fields.Owner.{Owner}
 use Rattle.jvm_named.specs.declared.fields.Putting.{Putting}

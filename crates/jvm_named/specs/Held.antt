@@ -1,10 +1,10 @@
 -- The constant of a field as the code has it, and the static fields of all classes with one of them set.
 use Rattle.std.specs.Prelude.{◌≡◌, ℕ, List, Option, Result, IfOk, slice_get, slice_set}
 use Rattle.std.specs.Option.{option_map_or}
-use Rattle.jvm_model.specs.Constants as model
+use Rattle.jvm_model.specs.Running.Constants as model
 use Rattle.heap_objects.specs.declared.datum.Datum.{Datum}
 use Rattle.jvm_model.specs.declared.state.Shared.{Shared}
-use Rattle.jvm_model.specs.SharedState.{Field}
+use Rattle.jvm_model.specs.Basis.SharedState.{Field}
 use Rattle.jf_bytes.specs.declared.error.NoMemory.{NoMemory}
 use Rattle.jvm_named.specs.declared.constants.FieldConstant.{FieldConstant}
 use Rattle.jvm_named.specs.declared.constants.FieldConstant.TheVariants.{Number, Units}

@@ -4,12 +4,12 @@ use Rattle.std.specs.Prelude.{◌≡◌, ℕ, Bool, true, false, Some, Ok}
 use Rattle.const_pool.specs.References.{Reference}
 use Rattle.class_linker.specs.Linkers.{LinkerView}
 use Rattle.jvm_model.specs.declared.program.Program.{Program}
-use Rattle.jvm_model.specs.CreationRules.{has_no_instances, is_text_class}
-use Rattle.jvm_model.specs.FieldRules.{slot_of}
-use Rattle.jvm_model.specs.Load.{done, load_of}
-use Rattle.jvm_model.specs.InvocationRules.{Selecting, Virtual, OfInterface, Special, names_interface, selected_by}
-use Rattle.jvm_model.specs.Naming.{Naming, Getfield, Putfield, Getstatic, Putstatic, Invokevirtual, Invokespecial, Invokestatic, Invokeinterface, is_below_kind, resolved_name}
-use Rattle.jvm_model.specs.SharedState.{class_of_kind}
+use Rattle.jvm_model.specs.Instructions.CreationRules.{has_no_instances, is_text_class}
+use Rattle.jvm_model.specs.Instructions.FieldRules.{slot_of}
+use Rattle.jvm_model.specs.Classes.Load.{done, load_of}
+use Rattle.jvm_model.specs.Instructions.InvocationRules.{Selecting, Virtual, OfInterface, Special, names_interface, selected_by}
+use Rattle.jvm_model.specs.Instructions.Naming.{Naming, Getfield, Putfield, Getstatic, Putstatic, Invokevirtual, Invokespecial, Invokestatic, Invokeinterface, is_below_kind, resolved_name}
+use Rattle.jvm_model.specs.Basis.SharedState.{class_of_kind}
 use Rattle.jvm_named.specs.declared.known.Chosen.{Chosen}
 use Rattle.jvm_named.specs.declared.known.Found.{Found}
 use Rattle.jvm_named.specs.declared.known.Found.TheVariants as found

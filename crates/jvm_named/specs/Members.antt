@@ -4,8 +4,8 @@ use Rattle.std.specs.Option.{option_map}
 use Rattle.const_pool.specs.declared.descriptor.Kind.{Kind}
 use Rattle.const_pool.specs.declared.descriptor.Shape.{Shape}
 use Rattle.const_pool.specs.References.{Reference, name_type_of}
-use Rattle.jvm_model.specs.Descriptors.{shape_of}
-use Rattle.jvm_model.specs.Lookup.{MemberPlace, place_in}
+use Rattle.jvm_model.specs.Basis.Descriptors.{shape_of}
+use Rattle.jvm_model.specs.Classes.Lookup.{MemberPlace, place_in}
 use Rattle.jvm_named.specs.declared.naming.MemberName.{MemberName}
 use Rattle.jvm_named.specs.declared.place.Place.{Place}
 

@@ -1,5 +1,5 @@
 -- The instructions with the names that they give, as the definitions have them.
-use Rattle.jvm_model.specs.Naming as model
+use Rattle.jvm_model.specs.Instructions.Naming as model
 use Rattle.jvm_named.specs.declared.naming.Naming.{Naming}
 use Rattle.jvm_named.specs.declared.naming.Naming.TheVariants as naming
 use Rattle.jvm_named.specs.Members.{reference_of}

@@ -4,16 +4,16 @@ use Rattle.frame_stack.specs.FrameLists.{FramesView, with_frames}
 use Rattle.jvm_model.specs.declared.state.Phase.{Phase}
 use Rattle.jvm_model.specs.declared.state.Phase.TheVariants.{Ready, Running}
 use Rattle.jvm_model.specs.declared.state.Shared.{Shared}
-use Rattle.jvm_model.specs.Data.{Datum, Done, Invokes, Operands}
-use Rattle.jvm_model.specs.ObjectRules.{done}
+use Rattle.jvm_model.specs.Basis.Data.{Datum, Done, Invokes, Operands}
+use Rattle.jvm_model.specs.Instructions.ObjectRules.{done}
 use Rattle.std.specs.Prelude.{Option, Some}
 use Rattle.jvm_named.specs.declared.passing.Call.{Call}
 use Rattle.std.specs.Prelude.{◌≤◌, IsSome, drop, slice_get}
 use Rattle.base_classes.specs.Natives.{native_methods}
 use Rattle.frame_stack.specs.FrameLists.{PlacedFrame, top_operands}
 use Rattle.jvm_basic.specs.Outcomes.{top_locals}
-use Rattle.jvm_model.specs.Data.{World}
-use Rattle.jvm_model.specs.NativeRules.{runs_number}
+use Rattle.jvm_model.specs.Basis.Data.{World}
+use Rattle.jvm_model.specs.Instructions.NativeRules.{runs_number}
 use Rattle.jvm_named.specs.declared.asked.Asked.TheVariants as asked
 use Rattle.jvm_named.specs.declared.passing.Invoked.{Invoked}
 use Rattle.jvm_named.specs.declared.passing.Invoked.TheVariants as invoked

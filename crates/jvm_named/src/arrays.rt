@@ -1,9 +1,9 @@
 //! anewarray (JVM Specification 6.5), where the name was resolved.
 
 ghost use Rattle.std.specs.Prelude.{◌≡◌, ◌+◌, ◌<◌, ◌^◌, OnOk};
-ghost use Rattle.jvm_model.specs.CreationRules.{array_over};
-ghost use Rattle.jvm_model.specs.ObjectRules.{makes, makes_array};
-ghost use Rattle.jvm_model.specs.Values.{int_of};
+ghost use Rattle.jvm_model.specs.Instructions.CreationRules.{array_over};
+ghost use Rattle.jvm_model.specs.Instructions.ObjectRules.{makes, makes_array};
+ghost use Rattle.jvm_model.specs.Basis.Values.{int_of};
 ghost use Rattle.jvm_named.specs.Answers.{Answers, Moves, Shares};
 ghost use Rattle.jvm_named.specs.Objects.{AreLoaded, IsUsable};
 

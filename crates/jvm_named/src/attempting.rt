@@ -3,9 +3,9 @@
 ghost use Rattle.std.specs.Prelude.{◌≡◌, ◌++◌, is_some, true, IfOk, IfSome, IfNone, OnOk};
 ghost use Rattle.class_linker.specs.Linkers.{IsLoaded};
 ghost use Rattle.frame_stack.specs.FrameLists.{top_operands};
-ghost use Rattle.jvm_model.specs.KindNumbers.{user_count};
-ghost use Rattle.jvm_model.specs.Naming.{is_null, newly_loaded, resolved_name, resolves};
-ghost use Rattle.jvm_model.specs.NamingRules.{does_named};
+ghost use Rattle.jvm_model.specs.Basis.KindNumbers.{user_count};
+ghost use Rattle.jvm_model.specs.Instructions.Naming.{is_null, newly_loaded, resolved_name, resolves};
+ghost use Rattle.jvm_model.specs.Instructions.NamingRules.{does_named};
 ghost use Rattle.jvm_named.specs.Answers.{Answers, Moves, Shares, answer_of, answer_view};
 ghost use Rattle.jvm_named.specs.Answers.{answer_by, frames_by, frames_of, shared_by, wrote_by};
 ghost use Rattle.jvm_named.specs.Attempts.{IsFound, attempts, linker_loaded, linker_with};

@@ -1,8 +1,8 @@
 //! What is invoked of a method, by its number (JVM Specification 2.11.8, 4.6).
 
 ghost use Rattle.std.specs.Prelude.{◌≡◌, false, None};
-ghost use Rattle.jvm_model.specs.Programs.{number_of_method};
-ghost use Rattle.jvm_model.specs.Selection.{is_abstract};
+ghost use Rattle.jvm_model.specs.Basis.Programs.{number_of_method};
+ghost use Rattle.jvm_model.specs.Classes.Selection.{is_abstract};
 ghost use Rattle.jvm_named.specs.Callees.{IsCallee};
 ghost use Rattle.jvm_named.specs.Members.{at_place};
 ghost use Rattle.jvm_named.specs.Numbers.{AreNumbers};

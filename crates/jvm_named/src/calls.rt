@@ -5,11 +5,11 @@ ghost use Rattle.std.specs.Prelude.{◌≡◌, ◌≤◌, ◌++◌, Some, length
 ghost use Rattle.std.specs.Option.{option_map};
 ghost use Rattle.frame_stack.specs.FrameLists.{top_operands};
 ghost use Rattle.jvm_basic.specs.Outcomes.{top_locals};
-ghost use Rattle.jvm_model.specs.InvocationRules.{OfInterface, Special, Virtual};
-ghost use Rattle.jvm_model.specs.InvocationRules.{invokes_native, invokes_selected};
-ghost use Rattle.jvm_model.specs.Naming as model;
-ghost use Rattle.jvm_model.specs.Naming.{Invokeinterface, Invokespecial, Invokestatic};
-ghost use Rattle.jvm_model.specs.Naming.{Invokevirtual};
+ghost use Rattle.jvm_model.specs.Instructions.InvocationRules.{OfInterface, Special, Virtual};
+ghost use Rattle.jvm_model.specs.Instructions.InvocationRules.{invokes_native, invokes_selected};
+ghost use Rattle.jvm_model.specs.Instructions.Naming as model;
+ghost use Rattle.jvm_model.specs.Instructions.Naming.{Invokeinterface, Invokespecial, Invokestatic};
+ghost use Rattle.jvm_model.specs.Instructions.Naming.{Invokevirtual};
 ghost use Rattle.jvm_named.specs.Answers.{Answers, Moves, Shares, wrote_by};
 ghost use Rattle.jvm_named.specs.Attempts.{world_over};
 ghost use Rattle.jvm_named.specs.Callees.{HasCallee, chosen_place};

@@ -1,7 +1,7 @@
 //! ldc of a Class (JVM Specification 5.1, 6.5), where the name was resolved.
 
 ghost use Rattle.std.specs.Prelude.{◌≡◌, IfOk, OnOk};
-ghost use Rattle.jvm_model.specs.ConstantRules.{pushes_object_of};
+ghost use Rattle.jvm_model.specs.Instructions.ConstantRules.{pushes_object_of};
 ghost use Rattle.native_ops.specs.Making.{answer_of_class, heap_after_class, made_after_class};
 ghost use Rattle.jvm_named.specs.Answers.{Answers, Moves, Shares};
 ghost use Rattle.jvm_named.specs.Natives.{HasBuiltIn, object_or_full};

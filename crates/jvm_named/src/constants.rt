@@ -3,10 +3,10 @@
 ghost use Rattle.std.specs.Prelude.{◌≡◌, IfOk, OnOk};
 ghost use Rattle.std.specs.Option.{option_map};
 ghost use Rattle.const_pool.specs.References.{named_text};
-ghost use Rattle.jvm_model.specs.Constants.{Units};
-ghost use Rattle.jvm_model.specs.Constants.{constant_among, constant_at, constant_for, constant_of};
-ghost use Rattle.jvm_model.specs.Constants.{sets_constants, sets_field, sets_fields, sets_string};
-ghost use Rattle.jvm_model.specs.SharedState.{kind_for, string};
+ghost use Rattle.jvm_model.specs.Running.Constants.{Units};
+ghost use Rattle.jvm_model.specs.Running.Constants.{constant_among, constant_at, constant_for, constant_of};
+ghost use Rattle.jvm_model.specs.Running.Constants.{sets_constants, sets_field, sets_fields, sets_string};
+ghost use Rattle.jvm_model.specs.Basis.SharedState.{kind_for, string};
 ghost use Rattle.jvm_named.specs.Held.{IsSetting, constant_view, field_of};
 
 use crate::held::{field_kind, narrowed};

@@ -2,11 +2,11 @@
 
 ghost use Rattle.std.specs.Prelude.{◌≡◌, ◌+◌, [], true, length, map, IfNone, IfOk, IfSome, OnOk};
 ghost use Rattle.heap_objects.specs.Heaps.{with_instance, with_text};
-ghost use Rattle.jvm_model.specs.CreationRules.{allocates, has_no_instances, makes_instance};
-ghost use Rattle.jvm_model.specs.CreationRules.{makes_object, zero_of};
-ghost use Rattle.jvm_model.specs.Layouts.{layout};
-ghost use Rattle.jvm_model.specs.Rules.{initialized};
-ghost use Rattle.jvm_model.specs.SharedState.{class_of_kind};
+ghost use Rattle.jvm_model.specs.Instructions.CreationRules.{allocates, has_no_instances, makes_instance};
+ghost use Rattle.jvm_model.specs.Instructions.CreationRules.{makes_object, zero_of};
+ghost use Rattle.jvm_model.specs.Classes.Layouts.{layout};
+ghost use Rattle.jvm_model.specs.Instructions.Rules.{initialized};
+ghost use Rattle.jvm_model.specs.Basis.SharedState.{class_of_kind};
 ghost use Rattle.class_linker.specs.Linkers.{IsLoaded};
 ghost use Rattle.jvm_named.specs.Answers.{Answers, Moves, Shares};
 ghost use Rattle.jvm_named.specs.Known.{IsClassFound, IsMade};

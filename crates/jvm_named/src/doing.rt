@@ -1,7 +1,7 @@
 //! What an instruction that names a class or a member does, where the name was resolved.
 
 ghost use Rattle.std.specs.Prelude.{◌≡◌, ◌++◌, OnOk};
-ghost use Rattle.jvm_model.specs.Naming.{resolved_name};
+ghost use Rattle.jvm_model.specs.Instructions.Naming.{resolved_name};
 ghost use Rattle.jvm_named.specs.Answers.{Answers, Moves, Shares, wrote_by};
 ghost use Rattle.jvm_named.specs.Attempts.{world_over};
 ghost use Rattle.jvm_named.specs.Known.{IsFoundAs};

@@ -2,10 +2,10 @@
 
 ghost use Rattle.std.specs.Prelude.{◌≡◌};
 ghost use Rattle.class_linker.specs.Linkers.{IsLoaded};
-ghost use Rattle.jvm_model.specs.FieldRules.{is_static_field};
-ghost use Rattle.jvm_model.specs.Lookup.{resolved_field};
-ghost use Rattle.jvm_model.specs.Naming.{found};
-ghost use Rattle.jvm_model.specs.SharedState.{class_of_kind};
+ghost use Rattle.jvm_model.specs.Instructions.FieldRules.{is_static_field};
+ghost use Rattle.jvm_model.specs.Classes.Lookup.{resolved_field};
+ghost use Rattle.jvm_model.specs.Instructions.Naming.{found};
+ghost use Rattle.jvm_model.specs.Basis.SharedState.{class_of_kind};
 ghost use Rattle.jvm_named.specs.Answers.{place_found};
 ghost use Rattle.jvm_named.specs.Members.{at_place, reference_of};
 ghost use Rattle.jvm_named.specs.Objects.{IsUsable};

@@ -3,7 +3,7 @@
 ghost use Rattle.std.specs.Prelude.{◌≡◌, ◌≤◌, ◌∷◌, drop, length, true};
 ghost use Rattle.frame_stack.specs.FrameLists.{top_operands};
 ghost use Rattle.jvm_basic.specs.Outcomes.{can_hold};
-ghost use Rattle.jvm_model.specs.Data.{GoesOn, Next};
+ghost use Rattle.jvm_model.specs.Basis.Data.{GoesOn, Next};
 ghost use Rattle.jvm_named.specs.Answers.{answer_of, answer_view, asked_by, frames_of};
 
 use crate::asked::Asked;

@@ -1,8 +1,8 @@
 //! The numbers of methods (JVM Specification 4.6): those that have Code are numbered over all classes.
 
 ghost use Rattle.std.specs.Prelude.{◌≡◌, ◌+◌, ◌<◌, ◌^◌, is_some, IfOk};
-ghost use Rattle.jvm_model.specs.Methods.{code_of};
-ghost use Rattle.jvm_model.specs.Programs.{numbered};
+ghost use Rattle.jvm_model.specs.Basis.Methods.{code_of};
+ghost use Rattle.jvm_model.specs.Basis.Programs.{numbered};
 ghost use Rattle.jvm_named.specs.Numbers.{AreNumbers, all_coded, coded};
 ghost use Rattle.jvm_named.specs.Numbers.{number_in, row_from, rows_from};
 

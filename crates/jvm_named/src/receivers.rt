@@ -4,8 +4,8 @@ ghost use Rattle.std.specs.Prelude.{◌≡◌, ◌<◌, ◌≤◌, ◌-◌, ◌^
 ghost use Rattle.std.specs.Prelude.{true, length, is_some, slice_get, IfSome, IsTrue};
 ghost use Rattle.std.specs.Option.{option_map};
 ghost use Rattle.frame_stack.specs.FrameLists.{top_operands};
-ghost use Rattle.jvm_model.specs.InvocationRules.{arguments_by, receiver_in, with_receiver};
-ghost use Rattle.jvm_model.specs.Values.{arguments, datum_of};
+ghost use Rattle.jvm_model.specs.Instructions.InvocationRules.{arguments_by, receiver_in, with_receiver};
+ghost use Rattle.jvm_model.specs.Basis.Values.{arguments, datum_of};
 ghost use Rattle.jvm_named.specs.Targets.{data_in, is_reference, reference_in};
 
 use crate::naming::MethodName;

@@ -3,9 +3,9 @@
 ghost use Rattle.std.specs.Prelude.{◌≡◌, ◌≤◌, ◌<◌, IfSome, length, true};
 ghost use Rattle.std.specs.Option.{option_copied};
 ghost use Rattle.class_linker.specs.Linkers.{IsKnown};
-ghost use Rattle.jvm_model.specs.KindNumbers.{base_of_class, class_of_base, user_count};
-ghost use Rattle.jvm_model.specs.Programs.{name_at, super_of};
-ghost use Rattle.jvm_model.specs.NativeRules.{is_known, loaded_class};
+ghost use Rattle.jvm_model.specs.Basis.KindNumbers.{base_of_class, class_of_base, user_count};
+ghost use Rattle.jvm_model.specs.Basis.Programs.{name_at, super_of};
+ghost use Rattle.jvm_model.specs.Instructions.NativeRules.{is_known, loaded_class};
 
 use class_linker::Linker;
 use jf_bytes::Text16;
@@ -110,7 +110,7 @@ fn is_known(linker: &Linker, kind: u32) -> bool
 }
 
 impl Kinds for LinkedKinds<'_> {
-    ghost use Rattle.jvm_model.specs.NativeRules.{kinds_in};
+    ghost use Rattle.jvm_model.specs.Instructions.NativeRules.{kinds_in};
 
     ghost seen = { λ k. kinds_in k.linker.now.program k.linker.now.loaded };
 

@@ -1,8 +1,8 @@
 //! arraylength and newarray (JVM Specification 6.5).
 
 ghost use Rattle.std.specs.Prelude.{◌≡◌, OnOk};
-ghost use Rattle.jvm_model.specs.ObjectRules.{array_length};
-ghost use Rattle.jvm_steps.specs.Acts.{IsTop, Becomes, acts_arraylength, acts_newarray};
+ghost use Rattle.jvm_model.specs.Instructions.ObjectRules.{array_length};
+ghost use Rattle.jvm_steps.specs.Instructions.Acts.{IsTop, Becomes, acts_arraylength, acts_newarray};
 
 use crate::line::Line;
 use crate::objects::ARRAY;

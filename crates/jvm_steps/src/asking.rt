@@ -3,11 +3,11 @@
 
 ghost use Rattle.std.specs.Prelude.{◌≡◌, Some, None, IfOk, OnOk};
 ghost use Rattle.std.specs.Option.{option_map};
-ghost use Rattle.jvm_model.specs.Run.{starts};
+ghost use Rattle.jvm_model.specs.Running.Run.{starts};
 ghost use Rattle.jvm_named.specs.Answers.{answer_view, exception_name, refusal_view};
-ghost use Rattle.jvm_steps.specs.Acts.{raised_in};
-ghost use Rattle.jvm_steps.specs.Asked.{concluded, refused_in, starts_in};
-ghost use Rattle.jvm_steps.specs.States.{state_in};
+ghost use Rattle.jvm_steps.specs.Instructions.Acts.{raised_in};
+ghost use Rattle.jvm_steps.specs.Instructions.Asked.{concluded, refused_in, starts_in};
+ghost use Rattle.jvm_steps.specs.Machine.States.{state_in};
 
 use crate::exceptions::kind_raised;
 use crate::invoking::call;

@@ -2,16 +2,16 @@
 //! `main` begins.
 
 ghost use Rattle.std.specs.Prelude.{◌≡◌, ◌++◌, true, OnOk};
-ghost use Rattle.jvm_model.specs.Run.{main_class, main_loads, start, starts_if, starts_with};
-ghost use Rattle.jvm_model.specs.SharedState.{arguments_fit};
-ghost use Rattle.jvm_model.specs.Sound.{IsFit};
-ghost use Rattle.jvm_model.specs.Starting.{ready_in, unmade_in};
+ghost use Rattle.jvm_model.specs.Running.Run.{main_class, main_loads, start, starts_if, starts_with};
+ghost use Rattle.jvm_model.specs.Basis.SharedState.{arguments_fit};
+ghost use Rattle.jvm_model.specs.Soundness.Sound.{IsFit};
+ghost use Rattle.jvm_model.specs.Classes.Starting.{ready_in, unmade_in};
 ghost use Rattle.jvm_named.specs.Answers.{found_view};
-ghost use Rattle.jvm_steps.specs.Before.{IsAtStart, begun_by, with_first};
-ghost use Rattle.jvm_steps.specs.Markers.{state_of};
-ghost use Rattle.jvm_steps.specs.Standing.{IsRunOf, IsSetUp};
-ghost use Rattle.jvm_steps.specs.States.{state_in};
-ghost use Rattle.jvm_steps.specs.Versions.{text_of};
+ghost use Rattle.jvm_steps.specs.Machine.Before.{IsAtStart, begun_by, with_first};
+ghost use Rattle.jvm_steps.specs.Machine.Markers.{state_of};
+ghost use Rattle.jvm_steps.specs.Machine.Standing.{IsRunOf, IsSetUp};
+ghost use Rattle.jvm_steps.specs.Machine.States.{state_in};
+ghost use Rattle.jvm_steps.specs.Codes.Versions.{text_of};
 
 use crate::asking::raise_named;
 use crate::handlers::class_of;

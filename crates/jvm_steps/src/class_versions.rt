@@ -2,12 +2,12 @@
 
 ghost use Rattle.std.specs.Prelude.{◌≡◌, ◌<◌, ◌^◌, ◌++◌, length, slice_get, IfOk, OnOk};
 ghost use Rattle.std.specs.Option.{option_and_then, option_copied, option_flatten, IfSome};
-ghost use Rattle.jvm_model.specs.Methods.{code_of, method_code};
+ghost use Rattle.jvm_model.specs.Basis.Methods.{code_of, method_code};
 ghost use Rattle.jvm_named.specs.Numbers.{AreNumbers};
-ghost use Rattle.jvm_steps.specs.ClassVersions.{AreRising, FitsImage, class_version, class_versions};
-ghost use Rattle.jvm_steps.specs.ClassVersions.{alone, homes_at, member_version};
-ghost use Rattle.jvm_steps.specs.ClassVersions.{versions_from};
-ghost use Rattle.jvm_steps.specs.Prepared.{FitsOriginals, HasShortCodes};
+ghost use Rattle.jvm_steps.specs.Codes.ClassVersions.{AreRising, FitsImage, class_version, class_versions};
+ghost use Rattle.jvm_steps.specs.Codes.ClassVersions.{alone, homes_at, member_version};
+ghost use Rattle.jvm_steps.specs.Codes.ClassVersions.{versions_from};
+ghost use Rattle.jvm_steps.specs.Codes.Prepared.{FitsOriginals, HasShortCodes};
 
 use crate::members::code_of;
 use crate::preparing::original_version;

@@ -3,7 +3,7 @@
 ghost use Rattle.std.specs.Prelude.{◌≡◌, ◌↔◌, Some, IfOk};
 ghost use Rattle.const_pool.specs.Descriptors.{IsMethod};
 ghost use Rattle.const_pool.specs.declared.descriptor.Shape.{Shape as TheShape};
-ghost use Rattle.jvm_model.specs.Descriptors.{shape_of};
+ghost use Rattle.jvm_model.specs.Basis.Descriptors.{shape_of};
 
 use const_pool::{DescriptorError, Shape, parse_method};
 use jf_bytes::{NoMemory, Text16};

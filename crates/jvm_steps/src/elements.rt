@@ -9,16 +9,16 @@ ghost use Rattle.heap_objects.specs.Heaps.{has_slot_at};
 ghost use Rattle.heap_objects.specs.Kinds.{element_of};
 ghost use Rattle.jvm_basic.specs.Outcomes.{after, effect_of};
 ghost use Rattle.jvm_basic.specs.Rules.{replaces};
-ghost use Rattle.jvm_model.specs.Values.{as_value};
-ghost use Rattle.jvm_model.specs.ObjectRules.{Inside, access_to, index_in, place_of};
-ghost use Rattle.jvm_model.specs.ObjectRules.{serves, serves_object, storing_of};
-ghost use Rattle.jvm_steps.specs.Acts.{IsTop, Becomes, acts_load, acts_store, on_parts};
-ghost use Rattle.jvm_steps.specs.Elements.{access_of, acts_loaded, acts_refused, acts_stored};
+ghost use Rattle.jvm_model.specs.Basis.Values.{as_value};
+ghost use Rattle.jvm_model.specs.Instructions.ObjectRules.{Inside, access_to, index_in, place_of};
+ghost use Rattle.jvm_model.specs.Instructions.ObjectRules.{serves, serves_object, storing_of};
+ghost use Rattle.jvm_steps.specs.Instructions.Acts.{IsTop, Becomes, acts_load, acts_store, on_parts};
+ghost use Rattle.jvm_steps.specs.Instructions.Elements.{access_of, acts_loaded, acts_refused, acts_stored};
 ghost use Rattle.jvm_named.specs.Objects.{AreLoaded};
-ghost use Rattle.jvm_steps.specs.Elements.{IsLoaded, IsStored, drops_three, element_at, is_number, place_by, storing_by};
-ghost use Rattle.jvm_steps.specs.Linked.{linker_in};
-ghost use Rattle.jvm_steps.specs.States.{state_in};
-ghost use Rattle.jvm_steps.specs.Versions.{text_of};
+ghost use Rattle.jvm_steps.specs.Instructions.Elements.{IsLoaded, IsStored, drops_three, element_at, is_number, place_by, storing_by};
+ghost use Rattle.jvm_steps.specs.Codes.Linked.{linker_in};
+ghost use Rattle.jvm_steps.specs.Machine.States.{state_in};
+ghost use Rattle.jvm_steps.specs.Codes.Versions.{text_of};
 
 use crate::going::datum_of;
 use crate::kinds::fits_array;
@@ -85,7 +85,7 @@ fn serves_object(heap: &Heap, kind: Kind, object: u32) -> bool
 }
 
 /// Whether an object has this slot.
-#[tactic(auto, using(crate::proofs::ElementLemmas::is_slot))]
+#[tactic(auto, using(crate::proofs::Instructions::ElementLemmas::is_slot))]
 #[inline(always)]
 fn has_slot(heap: &Heap, object: u32, slot: u32) -> bool
     ensures { result ≡ has_slot_at object slot heap.now }
@@ -171,7 +171,7 @@ fn refuse(
 }
 
 /// The array and the index on top.
-#[tactic(auto, using(crate::proofs::QuickElements::place_is))]
+#[tactic(auto, using(crate::proofs::Instructions::QuickElements::place_is))]
 #[inline(always)]
 fn place_of(frames: &Frames) -> Option<Place>
     ensures { option_map place_by result ≡ place_of (top_operands frames.now.frames) }
@@ -230,7 +230,7 @@ fn storing_of(frames: &Frames, kind: Kind) -> Option<Storing>
 }
 
 /// The element to which an instruction of a kind is led.
-#[tactic(auto, using(crate::proofs::ElementLemmas::element_in))]
+#[tactic(auto, using(crate::proofs::Instructions::ElementLemmas::element_in))]
 #[inline(always)]
 fn element_at(heap: &Heap, kind: Kind, place: &Place) -> Option<Datum>
     ensures { let access = access_to kind place.now.array place.now.index heap.now in
@@ -416,7 +416,7 @@ fn slot_for(heap: &Heap, kind: Kind, place: &Place) -> Option<u32>
 }
 
 /// Puts an element in place of its array and the index.
-#[tactic(auto, using(crate::proofs::QuickElements::place_narrow))]
+#[tactic(auto, using(crate::proofs::Instructions::QuickElements::place_narrow))]
 #[inline(always)]
 fn put_element(frames: &mut Frames, datum: Datum, next: u16) -> Effect
     requires place { IsSome (place_of (top_operands frames.old.frames)) }
@@ -450,7 +450,7 @@ pub fn pass_load(parts: &mut Parts, line: &Line, kind: Kind) -> bool
 }
 
 /// Takes the array, the index and the int off.
-#[tactic(auto, using(crate::proofs::QuickElements::storing_narrow))]
+#[tactic(auto, using(crate::proofs::Instructions::QuickElements::storing_narrow))]
 #[inline(always)]
 fn drop_ints(frames: &mut Frames, next: u16) -> Effect
     requires sound { AreSound frames.old.frames }

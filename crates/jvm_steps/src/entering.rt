@@ -4,7 +4,7 @@ ghost use Rattle.std.specs.Prelude.{◌≡◌, ◌+◌, ◌<◌, length};
 ghost use Rattle.std.specs.Bool.{IsTrue};
 ghost use Rattle.heap_objects.specs.Changes.{changed_if};
 ghost use Rattle.frame_stack.specs.FrameLists.{can_enter, has_room};
-ghost use Rattle.jvm_steps.specs.Arguments.{with_version_frame};
+ghost use Rattle.jvm_steps.specs.Instructions.Arguments.{with_version_frame};
 
 use crate::originals::Originals;
 use frame_stack::Frames;

@@ -1,7 +1,7 @@
 //! The exceptions that the instructions with names raise, by the kinds of their classes.
 
 ghost use Rattle.std.specs.Prelude.{◌≡◌, IfOk};
-ghost use Rattle.jvm_model.specs.SharedState.{kind_for};
+ghost use Rattle.jvm_model.specs.Basis.SharedState.{kind_for};
 ghost use Rattle.jvm_named.specs.Answers.{exception_name};
 
 use crate::originals::{Exception, Originals};

@@ -3,10 +3,10 @@
 ghost use Rattle.std.specs.Prelude.{◌≡◌, slice_get};
 ghost use Rattle.frame_stack.specs.FrameLists.{top_operands};
 ghost use Rattle.jvm_basic.specs.Outcomes.{GoesOn, effect_of, after};
-ghost use Rattle.jvm_model.specs.Values.{as_value, datum_of};
-ghost use Rattle.jvm_model.specs.Families.{family_of};
-ghost use Rattle.jvm_steps.specs.Versions.{is_athrow, is_last_family, next_in};
-ghost use Rattle.jvm_steps.specs.Going.{takes_result, resume_effect, resume_frames, top_datum};
+ghost use Rattle.jvm_model.specs.Basis.Values.{as_value, datum_of};
+ghost use Rattle.jvm_model.specs.Basis.Families.{family_of};
+ghost use Rattle.jvm_steps.specs.Codes.Versions.{is_athrow, is_last_family, next_in};
+ghost use Rattle.jvm_steps.specs.Instructions.Going.{takes_result, resume_effect, resume_frames, top_datum};
 
 use crate::line::{Action, Line};
 use const_pool::Kind;

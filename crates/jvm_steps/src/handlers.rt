@@ -2,11 +2,11 @@
 
 ghost use Rattle.std.specs.Prelude.{◌≡◌, ◌<◌, ◌^◌, true, length, map};
 ghost use Rattle.std.specs.Option.{option_map_or};
-ghost use Rattle.jvm_model.specs.Lookup.{is_below};
-ghost use Rattle.jvm_model.specs.Moves.{covers, handler_for};
+ghost use Rattle.jvm_model.specs.Classes.Lookup.{is_below};
+ghost use Rattle.jvm_model.specs.Running.Moves.{covers, handler_for};
 ghost use Rattle.heap_objects.specs.Heaps.{kind_at};
-ghost use Rattle.jvm_model.specs.SharedState.{class_of_kind};
-ghost use Rattle.jvm_steps.specs.Versions.{catcher_in, text_of};
+ghost use Rattle.jvm_model.specs.Basis.SharedState.{class_of_kind};
+ghost use Rattle.jvm_steps.specs.Codes.Versions.{catcher_in, text_of};
 
 use crate::objects::class_of_kind;
 use crate::originals::Originals;

@@ -2,15 +2,15 @@
 
 ghost use Rattle.std.specs.Prelude.{◌≡◌, ◌||◌, true, false, ℕ, List, is_some, IfNone, IfOk, OnOk};
 ghost use Rattle.std.specs.Option.{IfSome};
-ghost use Rattle.jvm_model.specs.Data.{Turn};
-ghost use Rattle.jvm_model.specs.Pauses.{is_end, later_of};
-ghost use Rattle.jvm_model.specs.Run.{starts_with, with_loaded};
-ghost use Rattle.jvm_model.specs.Told.{Held};
-ghost use Rattle.jvm_steps.specs.Hands.{HasGoneOn, HasInHand, IsLeft, goes_in, todo_of};
-ghost use Rattle.jvm_steps.specs.Markers.{state_of};
-ghost use Rattle.jvm_steps.specs.Ready.{CanRun, IsSoundIn};
-ghost use Rattle.jvm_steps.specs.Standing.{HasVersions};
-ghost use Rattle.jvm_steps.specs.Turning.{loads_in, loads_none, pause_at};
+ghost use Rattle.jvm_model.specs.Basis.Data.{Turn};
+ghost use Rattle.jvm_model.specs.Turns.Pauses.{is_end, later_of};
+ghost use Rattle.jvm_model.specs.Running.Run.{starts_with, with_loaded};
+ghost use Rattle.jvm_model.specs.Turns.Told.{Held};
+ghost use Rattle.jvm_steps.specs.Moves.Hands.{HasGoneOn, HasInHand, IsLeft, goes_in, todo_of};
+ghost use Rattle.jvm_steps.specs.Machine.Markers.{state_of};
+ghost use Rattle.jvm_steps.specs.Machine.Ready.{CanRun, IsSoundIn};
+ghost use Rattle.jvm_steps.specs.Machine.Standing.{HasVersions};
+ghost use Rattle.jvm_steps.specs.Moves.Turning.{loads_in, loads_none, pause_at};
 
 use crate::markers::Marker;
 use crate::originals::Originals;

@@ -1,18 +1,18 @@
 //! The initialization of classes (JVM Specification 5.5), part by part.
 
 ghost use Rattle.std.specs.Prelude.{◌≡◌, suc, [], true, None, length, IfOk, OnOk};
-ghost use Rattle.jvm_model.specs.Applies.{new_frame, with_frame};
-ghost use Rattle.jvm_model.specs.Constants.{sets_constants};
-ghost use Rattle.jvm_model.specs.Lookup.{is_below};
-ghost use Rattle.jvm_model.specs.Moves.{after_super, initializes, runs_initializer};
-ghost use Rattle.jvm_model.specs.Moves.{with_constants, with_super, wrapped};
-ghost use Rattle.jvm_model.specs.Programs.{initializer_of, super_of};
-ghost use Rattle.jvm_model.specs.SharedState.{class_of, error, phase_of, with_phase};
-ghost use Rattle.jvm_steps.specs.Initializing.{begins_class, failing};
-ghost use Rattle.jvm_steps.specs.Invoking.{may_begin};
-ghost use Rattle.jvm_steps.specs.Turning.{begun_in};
-ghost use Rattle.jvm_steps.specs.Markers.{marker_on, state_of};
-ghost use Rattle.jvm_steps.specs.Versions.{text_of};
+ghost use Rattle.jvm_model.specs.Running.Applies.{new_frame, with_frame};
+ghost use Rattle.jvm_model.specs.Running.Constants.{sets_constants};
+ghost use Rattle.jvm_model.specs.Classes.Lookup.{is_below};
+ghost use Rattle.jvm_model.specs.Running.Moves.{after_super, initializes, runs_initializer};
+ghost use Rattle.jvm_model.specs.Running.Moves.{with_constants, with_super, wrapped};
+ghost use Rattle.jvm_model.specs.Basis.Programs.{initializer_of, super_of};
+ghost use Rattle.jvm_model.specs.Basis.SharedState.{class_of, error, phase_of, with_phase};
+ghost use Rattle.jvm_steps.specs.Instructions.Initializing.{begins_class, failing};
+ghost use Rattle.jvm_steps.specs.Instructions.Invoking.{may_begin};
+ghost use Rattle.jvm_steps.specs.Moves.Turning.{begun_in};
+ghost use Rattle.jvm_steps.specs.Machine.Markers.{marker_on, state_of};
+ghost use Rattle.jvm_steps.specs.Codes.Versions.{text_of};
 
 use crate::entering::enter;
 use crate::handlers::class_of;

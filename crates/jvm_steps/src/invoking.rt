@@ -3,14 +3,14 @@
 ghost use Rattle.std.specs.Prelude.{◌≡◌, ◌<◌, ◌≤◌, ◌^◌, false, true, length, is_some, IfOk, OnErr, OnOk};
 ghost use Rattle.frame_stack.specs.FrameLists.{top_operands};
 ghost use Rattle.frame_stack.specs.Widths.{width};
-ghost use Rattle.jvm_model.specs.Values.{data_of, datum_of};
-ghost use Rattle.jvm_model.specs.Programs.{name_at};
+ghost use Rattle.jvm_model.specs.Basis.Values.{data_of, datum_of};
+ghost use Rattle.jvm_model.specs.Basis.Programs.{name_at};
 ghost use Rattle.jvm_steps.specs.declared.originals.Exception.TheVariants.{NoClassDefinition};
-ghost use Rattle.jvm_steps.specs.Acts.{raising};
-ghost use Rattle.jvm_steps.specs.Arguments.{arguments_of, can_begin, with_begun};
-ghost use Rattle.jvm_steps.specs.Arguments.{fits_params, is_long_kind, slots_for, taken_slots};
-ghost use Rattle.jvm_steps.specs.Invoking.{called, may_begin};
-ghost use Rattle.jvm_steps.specs.States.{state_in};
+ghost use Rattle.jvm_steps.specs.Instructions.Acts.{raising};
+ghost use Rattle.jvm_steps.specs.Instructions.Arguments.{arguments_of, can_begin, with_begun};
+ghost use Rattle.jvm_steps.specs.Instructions.Arguments.{fits_params, is_long_kind, slots_for, taken_slots};
+ghost use Rattle.jvm_steps.specs.Instructions.Invoking.{called, may_begin};
+ghost use Rattle.jvm_steps.specs.Machine.States.{state_in};
 
 use crate::entering::enter;
 use crate::going::datum_of;

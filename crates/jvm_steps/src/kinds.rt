@@ -3,7 +3,7 @@
 
 ghost use Rattle.std.specs.Prelude.{◌≡◌};
 ghost use Rattle.heap_objects.specs.Heaps.{kind_at};
-ghost use Rattle.jvm_model.specs.ObjectRules.{fits_array, is_element};
+ghost use Rattle.jvm_model.specs.Instructions.ObjectRules.{fits_array, is_element};
 ghost use Rattle.jvm_named.specs.Objects.{AreLoaded};
 
 use crate::objects::ARRAY;

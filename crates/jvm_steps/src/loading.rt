@@ -3,9 +3,9 @@
 ghost use Rattle.std.specs.Prelude.{◌≡◌, ◌<◌, ◌^◌, [], false, length, unwrap_or, IfOk, OnOk};
 ghost use Rattle.std.specs.Option.{option_map_or};
 ghost use Rattle.class_linker.specs.Linkers.{IsAnswer, load_answer, loaded_by};
-ghost use Rattle.jvm_model.specs.Load.{load_of};
-ghost use Rattle.jvm_model.specs.Programs.{class_at, has_built_in_name, name_at, name_of};
-ghost use Rattle.jvm_steps.specs.Prepared.{built_in_then, load_built_in, main_name};
+ghost use Rattle.jvm_model.specs.Classes.Load.{load_of};
+ghost use Rattle.jvm_model.specs.Basis.Programs.{class_at, has_built_in_name, name_at, name_of};
+ghost use Rattle.jvm_steps.specs.Codes.Prepared.{built_in_then, load_built_in, main_name};
 
 use crate::lookup::main_class;
 use crate::naming::copy_of;

@@ -3,9 +3,9 @@
 ghost use Rattle.std.specs.Prelude.{◌≡◌, ◌<◌, ◌^◌, length, position, IfSome};
 ghost use Rattle.std.specs.Option.{option_copied};
 ghost use Rattle.const_pool.specs.Members.{reference_view};
-ghost use Rattle.jvm_model.specs.Programs.{class_named, has_name, name_at};
-ghost use Rattle.jvm_model.specs.Run.{main_class};
-ghost use Rattle.jvm_model.specs.Programs.{declared_method, initializer_of, number_from, same_place, super_of};
+ghost use Rattle.jvm_model.specs.Basis.Programs.{class_named, has_name, name_at};
+ghost use Rattle.jvm_model.specs.Running.Run.{main_class};
+ghost use Rattle.jvm_model.specs.Basis.Programs.{declared_method, initializer_of, number_from, same_place, super_of};
 
 use crate::members::{initializer_in, method_named};
 use const_pool::{ClassFile, MemberRef};
@@ -58,7 +58,7 @@ pub fn position_of_bytes(classes: &[ClassFile], name: &[u8]) -> Option<usize>
 }
 
 /// The position of the class with this name.
-#[tactic(auto, using(crate::proofs::Positions::position_within))]
+#[tactic(auto, using(crate::proofs::Codes::Positions::position_within))]
 pub fn class_named(program: &Program, name: &Text16) -> Option<u32>
     requires { length program.now.classes < 2 ^ 32 }
     ensures { result ≡ class_named program.now name.now }
@@ -68,7 +68,7 @@ pub fn class_named(program: &Program, name: &Text16) -> Option<u32>
 }
 
 /// The position of the class whose name is these bytes.
-#[tactic(auto, using(crate::proofs::Positions::position_within))]
+#[tactic(auto, using(crate::proofs::Codes::Positions::position_within))]
 pub fn class_of_bytes(program: &Program, name: &[u8]) -> Option<u32>
     requires { length program.now.classes < 2 ^ 32 }
     ensures class { result ≡ class_named program.now name.now }

@@ -1,8 +1,8 @@
 //! Initializations of classes in hand (JVM Specification 5.5), as markers beside the frames.
 
 ghost use Rattle.std.specs.Prelude.{◌≡◌, suc, length, None, OnOk};
-ghost use Rattle.jvm_model.specs.Moves.{at_part};
-ghost use Rattle.jvm_steps.specs.Markers.{TakesMarker, marker_on, state_of};
+ghost use Rattle.jvm_model.specs.Running.Moves.{at_part};
+ghost use Rattle.jvm_steps.specs.Machine.Markers.{TakesMarker, marker_on, state_of};
 
 use crate::parts::Parts;
 use jf_bytes::{NoMemory, Stack};
@@ -18,7 +18,7 @@ pub struct Marker {
 }
 
 /// The marker on top of so many frames, if one stands there.
-#[tactic(auto, unfolding(crate::specs::Markers::marker_on))]
+#[tactic(auto, unfolding(crate::specs::Machine::Markers::marker_on))]
 #[inline(always)]
 pub fn marker_on(markers: &Stack<Marker>, depth: u32) -> Option<Marker>
     ensures { result ≡ marker_on depth markers.now }

@@ -4,10 +4,10 @@ ghost use Rattle.std.specs.Prelude.{◌≡◌, ◌<◌, length, IfSome};
 ghost use Rattle.std.specs.Option.{option_copied, option_map};
 ghost use Rattle.const_pool.specs.Members.{reference_view};
 ghost use Rattle.const_pool.specs.References.{name_type_of, named_field, named_method};
-ghost use Rattle.jvm_model.specs.Lines.{named_interface_method};
-ghost use Rattle.jvm_model.specs.Methods.{code_of, same_text_at, is_member, method_named};
-ghost use Rattle.jvm_model.specs.Programs.{initializer_name};
-ghost use Rattle.jvm_model.specs.Rules.{is_reference, is_out, is_println};
+ghost use Rattle.jvm_model.specs.Codes.Lines.{named_interface_method};
+ghost use Rattle.jvm_model.specs.Basis.Methods.{code_of, same_text_at, is_member, method_named};
+ghost use Rattle.jvm_model.specs.Basis.Programs.{initializer_name};
+ghost use Rattle.jvm_model.specs.Instructions.Rules.{is_reference, is_out, is_println};
 
 use const_pool::{Attribute, ClassFile, CodeAttribute, Const, Member, MemberRef, Pool};
 use jf_bytes::Text16;

@@ -2,7 +2,7 @@
 //! is left.
 
 ghost use Rattle.std.specs.Prelude.{◌≡◌, OnOk};
-ghost use Rattle.jvm_steps.specs.Acts.{IsTop, Becomes, acts_monitor};
+ghost use Rattle.jvm_steps.specs.Instructions.Acts.{IsTop, Becomes, acts_monitor};
 
 use crate::line::Line;
 use crate::originals::{Exception, Originals};

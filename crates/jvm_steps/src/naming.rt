@@ -4,13 +4,13 @@ ghost use Rattle.std.specs.Prelude.{◌≡◌, IfOk};
 ghost use Rattle.std.specs.Option.{option_and_then, option_map};
 ghost use Rattle.const_pool.specs.Members.{reference_view};
 ghost use Rattle.const_pool.specs.References.{named_class, named_field, named_method, named_text};
-ghost use Rattle.jvm_model.specs.Data.{LdcClass, Named};
-ghost use Rattle.jvm_model.specs.Lines.{has_dimensions, interface_naming, multi_naming};
-ghost use Rattle.jvm_model.specs.Lines.{named_interface_method, naming_of, special_of};
-ghost use Rattle.jvm_model.specs.Programs.{name_of};
+ghost use Rattle.jvm_model.specs.Basis.Data.{LdcClass, Named};
+ghost use Rattle.jvm_model.specs.Codes.Lines.{has_dimensions, interface_naming, multi_naming};
+ghost use Rattle.jvm_model.specs.Codes.Lines.{named_interface_method, naming_of, special_of};
+ghost use Rattle.jvm_model.specs.Basis.Programs.{name_of};
 ghost use Rattle.jvm_named.specs.Members.{params_by};
 ghost use Rattle.jvm_named.specs.Names.{naming_view};
-ghost use Rattle.jvm_steps.specs.Lines.{action_of, member_as, named_action, named_as};
+ghost use Rattle.jvm_steps.specs.Codes.Lines.{action_of, member_as, named_action, named_as};
 
 use crate::descriptor::shape_of;
 use crate::line::Action;

@@ -3,11 +3,11 @@
 ghost use Rattle.std.specs.Prelude.{◌≡◌, ◌<◌, ◌≤◌, ◌+◌, ◌^◌, ◌==◌, false, length, nat_le};
 ghost use Rattle.std.specs.Prelude.{IfOk, OnOk, unwrap_or};
 ghost use Rattle.heap_objects.specs.Heaps.{with_instance};
-ghost use Rattle.jvm_model.specs.KindNumbers.{base_of_class, class_of_base, user_count};
-ghost use Rattle.jvm_model.specs.Programs.{class_named};
-ghost use Rattle.jvm_model.specs.SharedState.{arguments_cost, arguments_fit, texts_cost};
-ghost use Rattle.jvm_model.specs.SharedState.{class_of_kind, heap_before, kind_for};
-ghost use Rattle.jvm_model.specs.SharedState.{with_arguments, with_text_in, with_texts};
+ghost use Rattle.jvm_model.specs.Basis.KindNumbers.{base_of_class, class_of_base, user_count};
+ghost use Rattle.jvm_model.specs.Basis.Programs.{class_named};
+ghost use Rattle.jvm_model.specs.Basis.SharedState.{arguments_cost, arguments_fit, texts_cost};
+ghost use Rattle.jvm_model.specs.Basis.SharedState.{class_of_kind, heap_before, kind_for};
+ghost use Rattle.jvm_model.specs.Basis.SharedState.{with_arguments, with_text_in, with_texts};
 
 use crate::lookup::class_of_bytes;
 use class_index::Index;
@@ -97,7 +97,7 @@ pub fn kind_for(program: &Program, name: &[u8]) -> u32
 }
 
 /// The position of the class of this name, found by hashing; 0 where there is none.
-#[tactic(auto, using(crate::proofs::Positions::position_within))]
+#[tactic(auto, using(crate::proofs::Codes::Positions::position_within))]
 fn position_named(index: &Index, name: &[u16]) -> u32
     requires { length index.now.classes < 2 ^ 24 }
     ensures class { result ≡ unwrap_or (class_named index.now name.now) 0 }

@@ -5,12 +5,12 @@ ghost use Rattle.std.specs.Prelude.{ℕ, ◌≡◌, ◌<◌, ◌^◌, ◌++◌, 
 ghost use Rattle.std.specs.Prelude.{IfNone, IfOk, OnErr, OnOk};
 ghost use Rattle.std.specs.Option.{option_and_then, option_copied, option_map, IfSome};
 ghost use Rattle.class_linker.specs.Linkers.{IsLoaded, LinkerView};
-ghost use Rattle.jvm_model.specs.Families.{family_of};
-ghost use Rattle.jvm_model.specs.KindNumbers.{user_count};
-ghost use Rattle.jvm_model.specs.Load.{load_of};
-ghost use Rattle.jvm_model.specs.Naming.{resolved_kind};
-ghost use Rattle.jvm_model.specs.Programs.{max_stack_of, max_locals_of, params_of_method};
-ghost use Rattle.jvm_model.specs.SharedState.{built_in_from, kind_for, string};
+ghost use Rattle.jvm_model.specs.Basis.Families.{family_of};
+ghost use Rattle.jvm_model.specs.Basis.KindNumbers.{user_count};
+ghost use Rattle.jvm_model.specs.Classes.Load.{load_of};
+ghost use Rattle.jvm_model.specs.Instructions.Naming.{resolved_kind};
+ghost use Rattle.jvm_model.specs.Basis.Programs.{max_stack_of, max_locals_of, params_of_method};
+ghost use Rattle.jvm_model.specs.Basis.SharedState.{built_in_from, kind_for, string};
 ghost use Rattle.jvm_named.specs.Answers.{Answers, Moves, Shares, found_view, wrote_by};
 ghost use Rattle.jvm_named.specs.Answers.{answer_by, answer_view, frames_by, shared_by};
 ghost use Rattle.jvm_named.specs.Attempts.{attempts, is_loaded, loaded_for};
@@ -20,21 +20,21 @@ ghost use Rattle.jvm_named.specs.Natives.{HasBuiltIn};
 ghost use Rattle.jvm_named.specs.Numbers.{AreNumbers};
 ghost use Rattle.jvm_named.specs.Objects.{AreLoaded, HasDimensions, HasLoadedCaller};
 ghost use Rattle.jvm_named.specs.Selections.{AreSelections};
-ghost use Rattle.jvm_steps.specs.Tables.{Adds, AreAllCurrent, Releases, version_at};
+ghost use Rattle.jvm_steps.specs.Codes.Tables.{Adds, AreAllCurrent, Releases, version_at};
 ghost use Rattle.method_versions.specs.Tables.{is_superseded_in};
-ghost use Rattle.jvm_steps.specs.Kept.{IsLater};
-ghost use Rattle.jvm_steps.specs.Lines.{IfNamed, IfNamedBy};
-ghost use Rattle.jvm_steps.specs.Linked.{linker_in};
-ghost use Rattle.jvm_steps.specs.Prepared.{FitsOriginals, built_in_named, exception_kind};
-ghost use Rattle.jvm_steps.specs.Prepared.{main_name};
-ghost use Rattle.jvm_steps.specs.Entries.{original_versions};
-ghost use Rattle.jvm_steps.specs.Versions.{ArePrepared, current_of, first_of, mark_of};
+ghost use Rattle.jvm_steps.specs.Codes.Kept.{IsLater};
+ghost use Rattle.jvm_steps.specs.Codes.Lines.{IfNamed, IfNamedBy};
+ghost use Rattle.jvm_steps.specs.Codes.Linked.{linker_in};
+ghost use Rattle.jvm_steps.specs.Codes.Prepared.{FitsOriginals, built_in_named, exception_kind};
+ghost use Rattle.jvm_steps.specs.Codes.Prepared.{main_name};
+ghost use Rattle.jvm_steps.specs.Codes.Entries.{original_versions};
+ghost use Rattle.jvm_steps.specs.Codes.Versions.{ArePrepared, current_of, first_of, mark_of};
 ghost use Rattle.jvm_model.specs.declared.state.State.{State};
-ghost use Rattle.jvm_model.specs.Sound.{IsFit};
-ghost use Rattle.jvm_steps.specs.ClassVersions.{FitsImage, class_versions};
-ghost use Rattle.jvm_model.specs.ProgramPlaces.{HasClosedCodes};
-ghost use Rattle.jvm_steps.specs.Standing.{AreMethodImages, IsPinned, IsRunOf, IsSetUp};
-ghost use Rattle.jvm_steps.specs.Versions.{line_at};
+ghost use Rattle.jvm_model.specs.Soundness.Sound.{IsFit};
+ghost use Rattle.jvm_steps.specs.Codes.ClassVersions.{FitsImage, class_versions};
+ghost use Rattle.jvm_model.specs.Codes.ProgramPlaces.{HasClosedCodes};
+ghost use Rattle.jvm_steps.specs.Machine.Standing.{AreMethodImages, IsPinned, IsRunOf, IsSetUp};
+ghost use Rattle.jvm_steps.specs.Codes.Versions.{line_at};
 
 use crate::cells::Cells;
 use crate::class_versions::class_versions;
@@ -127,9 +127,9 @@ pub struct Originals {
 }
 
 impl Model for Originals {
-    ghost use Rattle.jvm_steps.specs.Kept.{IsKept};
-    ghost use Rattle.jvm_steps.specs.Linked.{Linked};
-    ghost use Rattle.jvm_steps.specs.Prepared.{world_in};
+    ghost use Rattle.jvm_steps.specs.Codes.Kept.{IsKept};
+    ghost use Rattle.jvm_steps.specs.Codes.Linked.{Linked};
+    ghost use Rattle.jvm_steps.specs.Codes.Prepared.{world_in};
 
     ghost Value = { Linked };
 
@@ -154,7 +154,7 @@ fn built_in_named(place: u16) -> &'static str
 
 /// Attempts a line that names something, and tells what its names came to; another one does nothing.
 #[inline(never)]
-#[tactic(auto, using(crate::proofs::CellLemmas::later_same, crate::proofs::CellLemmas::later_loaded))]
+#[tactic(auto, using(crate::proofs::Codes::CellLemmas::later_same, crate::proofs::Codes::CellLemmas::later_loaded))]
 fn attempt_line(
     alloc: Global,
     linker: &mut Linker,
@@ -207,7 +207,7 @@ fn attempt_line(
 
 /// The same in two parts: where it loads classes nothing else is done, and None is the answer.
 #[inline(never)]
-#[tactic(auto, using(crate::proofs::CellLemmas::later_same, crate::proofs::CellLemmas::later_loaded))]
+#[tactic(auto, using(crate::proofs::Codes::CellLemmas::later_same, crate::proofs::Codes::CellLemmas::later_loaded))]
 fn attempt_line_loaded(
     alloc: Global,
     linker: &mut Linker,

@@ -1,7 +1,7 @@
 //! The parts of a machine that move.
 
 ghost use Rattle.std.specs.Prelude.{◌≡◌};
-ghost use Rattle.jvm_steps.specs.States.{here_of};
+ghost use Rattle.jvm_steps.specs.Machine.States.{here_of};
 
 use frame_stack::Frames;
 use jf_bytes::Seq;

@@ -1,10 +1,10 @@
 //! All moves behind an instruction over versions with probes, up to the first of which a probe tells.
 
 ghost use Rattle.std.specs.Prelude.{◌≡◌, suc, OnOk, IfOk};
-ghost use Rattle.jvm_model.specs.InHand.{popped};
-ghost use Rattle.jvm_steps.specs.Markers.{state_of};
-ghost use Rattle.jvm_steps.specs.Turning.{goes_by_moves, pause_at, paused_in};
-ghost use Rattle.jvm_steps.specs.Turning.{resumed, resumed_count};
+ghost use Rattle.jvm_model.specs.Turns.InHand.{popped};
+ghost use Rattle.jvm_steps.specs.Machine.Markers.{state_of};
+ghost use Rattle.jvm_steps.specs.Moves.Turning.{goes_by_moves, pause_at, paused_in};
+ghost use Rattle.jvm_steps.specs.Moves.Turning.{resumed, resumed_count};
 
 use crate::markers::{Marker, marker_on};
 use crate::originals::Originals;

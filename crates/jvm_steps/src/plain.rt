@@ -9,11 +9,11 @@ ghost use Rattle.jvm_basic.specs.declared.hot.Hot.TheVariants.{Cold, LoadElement
 ghost use Rattle.jvm_basic.specs.Hot.{does_hot, is_alone};
 ghost use Rattle.jvm_basic.specs.Outcomes.{effect_of, after};
 ghost use Rattle.jvm_basic.specs.Rules.{rule_of};
-ghost use Rattle.jvm_model.specs.Families.{family_of};
-ghost use Rattle.jvm_steps.specs.Elements.{IsLoaded, IsPassed, IsStored};
-ghost use Rattle.jvm_steps.specs.Ready.{CanRun};
-ghost use Rattle.jvm_steps.specs.Runs.{LeadsAlone, RunsVersion, IsLineIn, top_version};
-ghost use Rattle.jvm_steps.specs.Versions.{ArePrepared, IsPrepared, Setup};
+ghost use Rattle.jvm_model.specs.Basis.Families.{family_of};
+ghost use Rattle.jvm_steps.specs.Instructions.Elements.{IsLoaded, IsPassed, IsStored};
+ghost use Rattle.jvm_steps.specs.Machine.Ready.{CanRun};
+ghost use Rattle.jvm_steps.specs.Machine.Runs.{LeadsAlone, RunsVersion, IsLineIn, top_version};
+ghost use Rattle.jvm_steps.specs.Codes.Versions.{ArePrepared, IsPrepared, Setup};
 
 use crate::elements::{pass_load, pass_store};
 use crate::line::{Action, Line};

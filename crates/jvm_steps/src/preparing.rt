@@ -1,15 +1,15 @@
 //! Preparing the methods of a program: what is kept of each.
 
 ghost use Rattle.std.specs.Prelude.{◌≡◌, ◌<◌, ◌^◌, length, map, unwrap_or, IfOk};
-ghost use Rattle.jvm_model.specs.SharedState.{kind_for, string};
+ghost use Rattle.jvm_model.specs.Basis.SharedState.{kind_for, string};
 ghost use Rattle.jvm_steps.specs.declared.originals.Exception.{Exception as TheException};
-ghost use Rattle.jvm_steps.specs.Entries.{code_line, lines_of, params_of};
+ghost use Rattle.jvm_steps.specs.Codes.Entries.{code_line, lines_of, params_of};
 ghost use Rattle.std.specs.List.{range_with_len};
-ghost use Rattle.jvm_steps.specs.Entries.{entry_at, entry_of, no_method};
-ghost use Rattle.jvm_steps.specs.Entries.{catching_of, no_version, own_number, original_version, original_versions};
-ghost use Rattle.jvm_steps.specs.Entries.{version_entry, version_of};
-ghost use Rattle.jvm_steps.specs.Prepared.{FitsOriginals, HasShortCode};
-ghost use Rattle.jvm_steps.specs.Prepared.{exception_kind, exception_in};
+ghost use Rattle.jvm_steps.specs.Codes.Entries.{entry_at, entry_of, no_method};
+ghost use Rattle.jvm_steps.specs.Codes.Entries.{catching_of, no_version, own_number, original_version, original_versions};
+ghost use Rattle.jvm_steps.specs.Codes.Entries.{version_entry, version_of};
+ghost use Rattle.jvm_steps.specs.Codes.Prepared.{FitsOriginals, HasShortCode};
+ghost use Rattle.jvm_steps.specs.Codes.Prepared.{exception_kind, exception_in};
 
 use crate::descriptor::shape_of;
 use crate::line::Line;

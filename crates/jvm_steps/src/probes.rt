@@ -2,8 +2,8 @@
 
 ghost use Rattle.std.specs.Prelude.{◌≡◌, IfOk};
 ghost use Rattle.const_pool.specs.Members.{reference_view};
-ghost use Rattle.jvm_model.specs.StandsFor.{probe_kind, invoked_kind};
-ghost use Rattle.jvm_steps.specs.Rewritten.{entry_mark, mark_of_kind};
+ghost use Rattle.jvm_model.specs.Rewriting.StandsFor.{probe_kind, invoked_kind};
+ghost use Rattle.jvm_steps.specs.Codes.Rewritten.{entry_mark, mark_of_kind};
 
 use crate::members::{is_reference, method_at};
 use code_model::{Arg, instr_at};

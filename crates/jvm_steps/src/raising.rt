@@ -2,11 +2,11 @@
 
 ghost use Rattle.std.specs.Prelude.{◌≡◌, None, Some, IfOk, OnOk};
 ghost use Rattle.heap_objects.specs.Heaps.{next_number, with_text};
-ghost use Rattle.jvm_steps.specs.Acts.{ended, ended_unless, raising};
-ghost use Rattle.jvm_model.specs.SharedState.{kind_for, string};
-ghost use Rattle.jvm_steps.specs.Raising.{heap_made, heap_with_both, reference_made};
-ghost use Rattle.jvm_steps.specs.Raising.{reference_of_both, throwing, throwing_with, with_both};
-ghost use Rattle.jvm_steps.specs.Settling.{own_of};
+ghost use Rattle.jvm_steps.specs.Instructions.Acts.{ended, ended_unless, raising};
+ghost use Rattle.jvm_model.specs.Basis.SharedState.{kind_for, string};
+ghost use Rattle.jvm_steps.specs.Instructions.Raising.{heap_made, heap_with_both, reference_made};
+ghost use Rattle.jvm_steps.specs.Instructions.Raising.{reference_of_both, throwing, throwing_with, with_both};
+ghost use Rattle.jvm_steps.specs.Moves.Settling.{own_of};
 
 use crate::originals::{Exception, Originals};
 use crate::parts::{Here, Parts};

@@ -4,15 +4,15 @@ ghost use Rattle.std.specs.Prelude.{◌≡◌, ◌<◌, ◌^◌, IfOk};
 ghost use Rattle.std.specs.Int.{is_in_range};
 ghost use Rattle.std.specs.Option.{option_map};
 ghost use Rattle.code_model.specs.Instructions.{end_of};
-ghost use Rattle.jvm_model.specs.Data.{Within};
-ghost use Rattle.jvm_model.specs.Lines.{constant_in, local_of, number_of};
-ghost use Rattle.jvm_model.specs.Lines.{given_operation, object_constant, object_constant_in};
-ghost use Rattle.jvm_model.specs.Values.{as_value};
+ghost use Rattle.jvm_model.specs.Basis.Data.{Within};
+ghost use Rattle.jvm_model.specs.Codes.Lines.{constant_in, local_of, number_of};
+ghost use Rattle.jvm_model.specs.Codes.Lines.{given_operation, object_constant, object_constant_in};
+ghost use Rattle.jvm_model.specs.Basis.Values.{as_value};
 ghost use Rattle.jvm_model.specs.declared.family.Family.TheVariants.{Given};
-ghost use Rattle.jvm_model.specs.Lines.{newarray_of, object_among, object_rows};
-ghost use Rattle.jvm_model.specs.Lines.{other_operation, operation_of};
-ghost use Rattle.jvm_model.specs.Families.{family_of};
-ghost use Rattle.jvm_steps.specs.Lines.{action_of, hot_in, line_of, line_with, local_action};
+ghost use Rattle.jvm_model.specs.Codes.Lines.{newarray_of, object_among, object_rows};
+ghost use Rattle.jvm_model.specs.Codes.Lines.{other_operation, operation_of};
+ghost use Rattle.jvm_model.specs.Basis.Families.{family_of};
+ghost use Rattle.jvm_steps.specs.Codes.Lines.{action_of, hot_in, line_of, line_with, local_action};
 
 use crate::line::{Action, Line};
 use crate::naming::{
@@ -174,7 +174,7 @@ fn object_action(op: u8) -> Option<Action>
 }
 
 /// What an instruction of no family does, by the form of its operand.
-#[tactic(auto, using(crate::proofs::Actions::named_acted))]
+#[tactic(auto, using(crate::proofs::Codes::Actions::named_acted))]
 fn other_action(
     alloc: Global,
     class: &ClassFile,

@@ -2,9 +2,9 @@
 
 ghost use Rattle.std.specs.Prelude.{◌≡◌};
 ghost use Rattle.frame_stack.specs.FrameLists.{top_operands};
-ghost use Rattle.jvm_steps.specs.Acts.{IsTop, acts_end, acts_return, gives_back_line, on_parts};
-ghost use Rattle.jvm_steps.specs.Returning.{has_result, left_by, returns_given};
-ghost use Rattle.jvm_steps.specs.States.{state_in};
+ghost use Rattle.jvm_steps.specs.Instructions.Acts.{IsTop, acts_end, acts_return, gives_back_line, on_parts};
+ghost use Rattle.jvm_steps.specs.Instructions.Returning.{has_result, left_by, returns_given};
+ghost use Rattle.jvm_steps.specs.Machine.States.{state_in};
 
 use crate::going::{next_in, resume, top_datum};
 use crate::line::Line;

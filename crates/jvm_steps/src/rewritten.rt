@@ -3,9 +3,9 @@
 ghost use Rattle.std.specs.Prelude.{◌≡◌, ◌<◌, ◌^◌, ◌-◌, length, map, take, IfOk};
 ghost use Rattle.std.specs.List.Sorted.{IsStrictlyIncreasing};
 ghost use Rattle.code_model.specs.Layout.{found_beside};
-ghost use Rattle.jvm_steps.specs.Entries.{catching_of};
-ghost use Rattle.jvm_steps.specs.Rewritten.{homed_line, homed_lines, line_for, own_handlers, own_line, placed_line};
-ghost use Rattle.jvm_steps.specs.Rewritten.{rewritten_version};
+ghost use Rattle.jvm_steps.specs.Codes.Entries.{catching_of};
+ghost use Rattle.jvm_steps.specs.Codes.Rewritten.{homed_line, homed_lines, line_for, own_handlers, own_line, placed_line};
+ghost use Rattle.jvm_steps.specs.Codes.Rewritten.{rewritten_version};
 
 use crate::line::Line;
 use crate::preparing::{code_line, handlers_of};

@@ -3,15 +3,15 @@
 //! begins `main`.
 
 ghost use Rattle.std.specs.Prelude.{◌≡◌, [], false, map, None, Some, is_some, IfOk, OnOk};
-ghost use Rattle.jvm_model.specs.Applies.{has_room, still};
-ghost use Rattle.jvm_model.specs.Moves.{argument_array, main_or_end, move, settled};
-ghost use Rattle.jvm_steps.specs.Initializing.{after_marker, marker_begins};
-ghost use Rattle.jvm_steps.specs.Markers.{state_of};
-ghost use Rattle.jvm_steps.specs.States.{active, here_of, state_in};
-ghost use Rattle.jvm_steps.specs.Settling.{emptied, fits_alone, with_alone};
-ghost use Rattle.jvm_steps.specs.Settling.{after_move, caught_at, caught_top, main_entries};
-ghost use Rattle.jvm_steps.specs.Turning.{begun_in};
-ghost use Rattle.jvm_steps.specs.Versions.{text_of};
+ghost use Rattle.jvm_model.specs.Running.Applies.{has_room, still};
+ghost use Rattle.jvm_model.specs.Running.Moves.{argument_array, main_or_end, move, settled};
+ghost use Rattle.jvm_steps.specs.Instructions.Initializing.{after_marker, marker_begins};
+ghost use Rattle.jvm_steps.specs.Machine.Markers.{state_of};
+ghost use Rattle.jvm_steps.specs.Machine.States.{active, here_of, state_in};
+ghost use Rattle.jvm_steps.specs.Moves.Settling.{emptied, fits_alone, with_alone};
+ghost use Rattle.jvm_steps.specs.Moves.Settling.{after_move, caught_at, caught_top, main_entries};
+ghost use Rattle.jvm_steps.specs.Moves.Turning.{begun_in};
+ghost use Rattle.jvm_steps.specs.Codes.Versions.{text_of};
 
 use crate::entering::enter;
 use crate::handlers::{class_of, handler_for};

@@ -3,10 +3,10 @@
 ghost use Rattle.std.specs.Prelude.{◌≡◌, ◌<◌, ◌≤◌, ◌^◌, [], IfOk, length, map, unwrap_or};
 ghost use Rattle.std.specs.Option.{option_and_then};
 ghost use Rattle.const_pool.specs.References.{named_text};
-ghost use Rattle.jvm_model.specs.SharedState.{built_in_from, phase_before, shared_before, static_zeros};
-ghost use Rattle.jvm_model.specs.SharedState.{system_static, system_stream, zero_for, zeros};
-ghost use Rattle.jvm_steps.specs.Before.{BeforeEach};
-ghost use Rattle.jvm_steps.specs.States.{state_in};
+ghost use Rattle.jvm_model.specs.Basis.SharedState.{built_in_from, phase_before, shared_before, static_zeros};
+ghost use Rattle.jvm_model.specs.Basis.SharedState.{system_static, system_stream, zero_for, zeros};
+ghost use Rattle.jvm_steps.specs.Machine.Before.{BeforeEach};
+ghost use Rattle.jvm_steps.specs.Machine.States.{state_in};
 
 use crate::loading::has_built_in_name;
 use crate::lookup::has_bytes;

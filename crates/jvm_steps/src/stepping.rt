@@ -1,17 +1,17 @@
 //! One step: the current frame's instruction, and all that follows from it.
 
 ghost use Rattle.std.specs.Prelude.{ℕ, ◌+◌, ◌≡◌, ◌≤◌, ◌<◌, true, None, is_some, IfOk, OnOk};
-ghost use Rattle.jvm_model.specs.Applies.{still};
-ghost use Rattle.jvm_model.specs.Moves.{settled};
-ghost use Rattle.jvm_model.specs.Run.{is_ready, step};
-ghost use Rattle.jvm_model.specs.SharedState.{phase_of};
-ghost use Rattle.jvm_steps.specs.Acts.{is_at_rest, goes_on_in};
-ghost use Rattle.jvm_steps.specs.Ready.{CanRun, IsSoundIn};
-ghost use Rattle.jvm_steps.specs.Markers.{is_unmarked, state_of};
-ghost use Rattle.jvm_steps.specs.Runs.{Leads};
-ghost use Rattle.jvm_steps.specs.Standing.{IsRunOf};
-ghost use Rattle.jvm_steps.specs.Tables.{AreAllCurrent, Releases};
-ghost use Rattle.jvm_steps.specs.Versions.{text_of};
+ghost use Rattle.jvm_model.specs.Running.Applies.{still};
+ghost use Rattle.jvm_model.specs.Running.Moves.{settled};
+ghost use Rattle.jvm_model.specs.Running.Run.{is_ready, step};
+ghost use Rattle.jvm_model.specs.Basis.SharedState.{phase_of};
+ghost use Rattle.jvm_steps.specs.Instructions.Acts.{is_at_rest, goes_on_in};
+ghost use Rattle.jvm_steps.specs.Machine.Ready.{CanRun, IsSoundIn};
+ghost use Rattle.jvm_steps.specs.Machine.Markers.{is_unmarked, state_of};
+ghost use Rattle.jvm_steps.specs.Machine.Runs.{Leads};
+ghost use Rattle.jvm_steps.specs.Machine.Standing.{IsRunOf};
+ghost use Rattle.jvm_steps.specs.Codes.Tables.{AreAllCurrent, Releases};
+ghost use Rattle.jvm_steps.specs.Codes.Versions.{text_of};
 
 use crate::attempting::attempt;
 use crate::markers::{Marker, marker_on};

@@ -1,7 +1,7 @@
 //! ldc of a String (JVM Specification 5.1, 6.5).
 
 ghost use Rattle.std.specs.Prelude.{◌≡◌, OnOk};
-ghost use Rattle.jvm_steps.specs.Acts.{IsTop, Becomes, acts_string};
+ghost use Rattle.jvm_steps.specs.Instructions.Acts.{IsTop, Becomes, acts_string};
 
 use crate::line::Line;
 use crate::originals::Originals;

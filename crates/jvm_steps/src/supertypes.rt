@@ -4,8 +4,8 @@ ghost use Rattle.std.specs.Prelude.{◌≡◌, ◌==◌, false};
 ghost use Rattle.std.specs.List.{list_any};
 ghost use Rattle.std.specs.Option.{option_and_then, option_map_or};
 ghost use Rattle.const_pool.specs.References.{named_class};
-ghost use Rattle.jvm_model.specs.Lookup.{is_below, is_subtype, supertypes_within};
-ghost use Rattle.jvm_model.specs.Programs.{class_named};
+ghost use Rattle.jvm_model.specs.Classes.Lookup.{is_below, is_subtype, supertypes_within};
+ghost use Rattle.jvm_model.specs.Basis.Programs.{class_named};
 
 use crate::lookup::{position_of, position_of_bytes};
 use class_linker::Linker;

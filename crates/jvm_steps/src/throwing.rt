@@ -1,9 +1,9 @@
 //! athrow (JVM Specification 2.10, 6.5).
 
 ghost use Rattle.std.specs.Prelude.{◌≡◌, OnOk};
-ghost use Rattle.jvm_model.specs.Lookup.{is_below};
-ghost use Rattle.jvm_model.specs.SharedState.{class_of, throwable};
-ghost use Rattle.jvm_steps.specs.Acts.{IsTop, Becomes, acts_athrow};
+ghost use Rattle.jvm_model.specs.Classes.Lookup.{is_below};
+ghost use Rattle.jvm_model.specs.Basis.SharedState.{class_of, throwable};
+ghost use Rattle.jvm_steps.specs.Instructions.Acts.{IsTop, Becomes, acts_athrow};
 
 use crate::handlers::class_of;
 use crate::line::Line;

@@ -1,13 +1,13 @@
 //! The moves behind an instruction over versions with probes, one at a time, up to the first of which a probe tells.
 
 ghost use Rattle.std.specs.Prelude.{◌≡◌, [], ◌∷◌, not, None, Some, IfOk, OnOk};
-ghost use Rattle.jvm_model.specs.Images.{is_off};
-ghost use Rattle.jvm_model.specs.Data.{Unwound};
-ghost use Rattle.jvm_steps.specs.Markers.{state_of};
-ghost use Rattle.jvm_steps.specs.States.{here_of, state_in};
-ghost use Rattle.jvm_steps.specs.Turning.{begun_as, moved_as, moved_by, moved_to};
-ghost use Rattle.jvm_steps.specs.Turning.{unwind_due, unwound_by};
-ghost use Rattle.jvm_steps.specs.Versions.{mark_of};
+ghost use Rattle.jvm_model.specs.Rewriting.Images.{is_off};
+ghost use Rattle.jvm_model.specs.Basis.Data.{Unwound};
+ghost use Rattle.jvm_steps.specs.Machine.Markers.{state_of};
+ghost use Rattle.jvm_steps.specs.Machine.States.{here_of, state_in};
+ghost use Rattle.jvm_steps.specs.Moves.Turning.{begun_as, moved_as, moved_by, moved_to};
+ghost use Rattle.jvm_steps.specs.Moves.Turning.{unwind_due, unwound_by};
+ghost use Rattle.jvm_steps.specs.Codes.Versions.{mark_of};
 
 use crate::handlers::{class_of, handler_for};
 use crate::markers::{Marker, take_marker};

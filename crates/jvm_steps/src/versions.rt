@@ -4,8 +4,8 @@
 ghost use Rattle.std.specs.Prelude.{◌≡◌, ◌≤◌, ℕ, false, length, true, IfSome, OnErr, OnOk};
 ghost use Rattle.std.specs.Option.{option_copied};
 ghost use Rattle.method_versions.specs.Tables.{IsFirst, is_superseded_in};
-ghost use Rattle.jvm_steps.specs.Tables.{Adds, AreAllCurrent, AreOfMethods, Releases, seen, version_at};
-ghost use Rattle.jvm_steps.specs.Versions.{current_of, first_of, line_at, line_in, mark_of};
+ghost use Rattle.jvm_steps.specs.Codes.Tables.{Adds, AreAllCurrent, AreOfMethods, Releases, seen, version_at};
+ghost use Rattle.jvm_steps.specs.Codes.Versions.{current_of, first_of, line_at, line_in, mark_of};
 
 use crate::line::Line;
 use frame_stack::Frames;
@@ -43,8 +43,8 @@ pub struct Versions {
 }
 
 impl Model for Versions {
-    ghost use Rattle.jvm_steps.specs.Tables as tables;
-    ghost use Rattle.jvm_steps.specs.Tables.{seen};
+    ghost use Rattle.jvm_steps.specs.Codes.Tables as tables;
+    ghost use Rattle.jvm_steps.specs.Codes.Tables.{seen};
 
     ghost Value = { tables.Versions };
 
@@ -134,7 +134,7 @@ pub fn current_of(versions: &Versions, method: u32) -> usize
 
 /// Whether a version is held, and its method begins in it.
 #[inline(always)]
-#[tactic(auto, using(crate::proofs::ReturnLemmas::is_current))]
+#[tactic(auto, using(crate::proofs::Silent::ReturnLemmas::is_current))]
 pub fn is_current(versions: &Versions, version: usize) -> bool
     ensures { result ≡ true
         → is_superseded_in versions.now.slots versions.now.current version ≡ false }

@@ -8,9 +8,9 @@ use Rattle.const_pool.specs.ClassFile.{IsClassFile, Spells}
 use Rattle.code_model.specs.declared.laying.Homes.{Homes}
 use Rattle.jvm_model.specs.declared.event.Mark.{Mark}
 use Rattle.jvm_model.specs.declared.program.Program.{Program}
-use Rattle.jvm_model.specs.Images.{IsImage}
-use Rattle.jvm_model.specs.Programs.{class_at}
-use Rattle.jvm_model.specs.Swaps.{first_number}
+use Rattle.jvm_model.specs.Rewriting.Images.{IsImage}
+use Rattle.jvm_model.specs.Basis.Programs.{class_at}
+use Rattle.jvm_model.specs.Profiling.Swaps.{first_number}
 use Rattle.class_reader.proofs.Files.{one_class}
 use Rattle.inject_events.specs.Answers.{IsReadableClass, MarkedHaveCode}
 use Rattle.hotswap.specs.Redefining.{SpellsImage}

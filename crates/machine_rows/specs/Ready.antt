@@ -5,7 +5,7 @@ use Rattle.const_pool.specs.ClassFile.{IsClassFile}
 use Rattle.code_model.specs.declared.laying.Homes.{Homes}
 use Rattle.jvm_model.specs.declared.event.Mark.{Mark}
 use Rattle.jvm_model.specs.declared.program.Program.{Program}
-use Rattle.jvm_model.specs.Programs.{class_at}
+use Rattle.jvm_model.specs.Basis.Programs.{class_at}
 use Rattle.class_shape.specs.Swaps.{IsSwap}
 use Rattle.jvm_machine.specs.Installs.{IsImageOf}
 use Rattle.jvm_machine.specs.View.{View, made}

@@ -3,8 +3,8 @@
 ghost use Rattle.std.specs.Prelude.{◌≡◌, ◌≢◌, ◌<◌, ◌≤◌, None, Some, Ok, true, length, IfOk, IfSome};
 ghost use Rattle.jvm_machine.specs.Installs.{with_class};
 ghost use Rattle.std.specs.Option.{option_copied};
-ghost use Rattle.jvm_model.specs.Programs.{class_at};
-ghost use Rattle.jvm_model.specs.Swaps.{first_number};
+ghost use Rattle.jvm_model.specs.Basis.Programs.{class_at};
+ghost use Rattle.jvm_model.specs.Profiling.Swaps.{first_number};
 ghost use Rattle.machine_rows.specs.Played.{IsNotRedefined};
 ghost use Rattle.machine_rows.specs.Ready.{IsImageFile, IsReady, IsUnfit};
 

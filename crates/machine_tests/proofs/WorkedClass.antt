@@ -12,17 +12,17 @@ use Rattle.const_pool.specs.declared.descriptor.Kind.TheVariants.{Int, Ref}
 use Rattle.const_pool.specs.declared.class.Member.{Member}
 use Rattle.const_pool.specs.Pool.{is_utf8, is_class, is_name_type, Names, IsEntry, AreEntries}
 use Rattle.const_pool.specs.ClassFile.{code_bytes, class_bytes, IsByte, IsCode, IsMember, IsMethodAttribute, IsClassFile}
-use Rattle.jvm_model.specs.Families.{family_of, rows}
-use Rattle.jvm_model.specs.PlainShape.{IsPlainCode, HasPlainShape}
+use Rattle.jvm_model.specs.Basis.Families.{family_of, rows}
+use Rattle.jvm_model.specs.Small.PlainShape.{IsPlainCode, HasPlainShape}
 use Rattle.code_model.specs.declared.instr.Arg.TheVariants.{Plain as no_operand, Value, Pool as index}
 use Rattle.code_model.specs.declared.instr.Code.{Code}
 use Rattle.op_table.specs.Opcodes.{row_of, groups}
 use Rattle.code_model.specs.Operands.{instr_with}
 use Rattle.code_model.specs.Reading.{read_instruction, behind_opcode_at, operand_at, value_at, index_at, signed_at, number_at}
 use Rattle.code_model.specs.Instructions.{instruction_at, IsReading}
-use Rattle.jvm_model.specs.SmallClass.{IsSmallMethod}
-use Rattle.jvm_model.proofs.PlainRun.{p1, p1_pool, code_with, method_with}
-use Rattle.jvm_model.specs.StandsFor.{IsBuilt}
+use Rattle.jvm_model.specs.Small.SmallClass.{IsSmallMethod}
+use Rattle.jvm_model.proofs.Worked.PlainRun.{p1, p1_pool, code_with, method_with}
+use Rattle.jvm_model.specs.Rewriting.StandsFor.{IsBuilt}
 use Rattle.class_reader.specs.Files.{IsFile}
 
 abbrev pub f_bytes : List ℕ

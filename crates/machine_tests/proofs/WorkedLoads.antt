@@ -1,10 +1,10 @@
 -- A step that loads several classes tells them in one change: the superclass, the interfaces in their order, and then the class itself
 -- (JVM Specification 5.3).
 use Rattle.std.specs.Prelude.{◌≡◌, [], ◌∷◌, codes, refl}
-use Rattle.jvm_model.specs.Data.{Loads}
-use Rattle.jvm_model.specs.Run.{turn_in}
-use Rattle.jvm_model.proofs.WorkedLibrary.{class, interface}
-use Rattle.jvm_model.proofs.WorkedPrograms.{Sketches, alone, at, changes_of, main_routine, new, pop, returns, sketch}
+use Rattle.jvm_model.specs.Basis.Data.{Loads}
+use Rattle.jvm_model.specs.Running.Run.{turn_in}
+use Rattle.jvm_model.proofs.Worked.WorkedLibrary.{class, interface}
+use Rattle.jvm_model.proofs.Worked.WorkedPrograms.{Sketches, alone, at, changes_of, main_routine, new, pop, returns, sketch}
 
 -- main makes an A, whose superclass is B, and which implements I and J
 abbrev four : Sketches

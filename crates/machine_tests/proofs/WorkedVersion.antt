@@ -11,9 +11,9 @@ use Rattle.const_pool.specs.Tail.{with_tail, root_index, enter_index, leave_inde
 use Rattle.code_model.specs.declared.laying.Homes.{Homes}
 use Rattle.code_model.specs.Layout.{home_in, place_in}
 use Rattle.jvm_model.specs.declared.event.Mark.TheVariants.{Off, Plain, Root}
-use Rattle.jvm_model.specs.Versions.{laid_version, IsVersion}
-use Rattle.jvm_model.specs.Images.{IsMarkedMember, IsImage}
-use Rattle.jvm_model.proofs.PlainRun.{p1, code_with}
+use Rattle.jvm_model.specs.Rewriting.Versions.{laid_version, IsVersion}
+use Rattle.jvm_model.specs.Rewriting.Images.{IsMarkedMember, IsImage}
+use Rattle.jvm_model.proofs.Worked.PlainRun.{p1, code_with}
 use Rattle.machine_tests.proofs.WorkedClass.{f_bytes, main_bytes, f_member, main_member, f_reading, main_reading, f_reads, main_reads}
 
 -- ---- the version of f

@@ -3,7 +3,7 @@
 ghost use Rattle.std.specs.Prelude.{◌≡◌, length, IfOk};
 ghost use Rattle.const_pool.specs.ClassFile.{class_bytes};
 ghost use Rattle.inject_events.specs.Answers.{IsReadableClass};
-ghost use Rattle.jvm_model.proofs.PlainRun.{p1};
+ghost use Rattle.jvm_model.proofs.Worked.PlainRun.{p1};
 
 use class_reader::{ReadError, read_class};
 use const_pool::{Attribute, ClassFile, CodeAttribute, Handler, Pool};

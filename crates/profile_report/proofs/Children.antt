@@ -2,7 +2,7 @@
 use Rattle.std.proofs.Common.{◌≡◌, ℕ, zero, suc, ◌+◌, ◌≤◌, Bool, true, false, List, [], ◌∷◌, ◌++◌, refl, ap, ◌∙◌, filter, length, None, Some, slice_get, if◌then◌else◌, arith}
 use Rattle.std.specs.List.{flat_map, enumerate_from, filter_map, cons_option}
 use Rattle.std.proofs.lemmas.List.{length_push}
-use Rattle.jvm_model.specs.Paths.{Context, same_path, is_outside}
+use Rattle.jvm_model.specs.Profiling.Paths.{Context, same_path, is_outside}
 use Rattle.context_tree.specs.Profiles.{is_child, last_method, numbered_child, parent_path}
 use Rattle.context_tree.proofs.SamePaths.{path-split, same_path-is}
 

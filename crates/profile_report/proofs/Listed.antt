@@ -6,7 +6,7 @@ use Rattle.std.proofs.lemmas.Grind.{flat_map-append}
 use Rattle.std.proofs.lemmas.List.{append_assoc, flat_map_more, take_all, take_more}
 use Rattle.std.proofs.lemmas.Option.{get_or_from_slice_get, slice_get_within}
 use Rattle.jvm_model.specs.declared.program.Program.{Program}
-use Rattle.jvm_model.specs.Paths.{Context}
+use Rattle.jvm_model.specs.Profiling.Paths.{Context}
 use Rattle.context_tree.specs.Profiles.{children_of, is_child, last_method, path_of_node, total_of}
 use Rattle.profile_report.specs.Nodes.{lines_below, lines_from, node_line}
 use Rattle.profile_report.specs.Reports.{below, context_line, line_text, listed, tree_text}

@@ -3,7 +3,7 @@ use Rattle.std.specs.Prelude.{ℕ, zero, suc, ◌+◌, ◌-◌, List, [], ◌++�
 use Rattle.std.specs.List.{flat_map}
 use Rattle.std.specs.Option.{option_map_or}
 use Rattle.context_tree.specs.Profiles.{Profile, children_of, last_method, path_of_node, total_of}
-use Rattle.jvm_model.specs.Paths.{Context}
+use Rattle.jvm_model.specs.Profiling.Paths.{Context}
 use Rattle.jvm_model.specs.declared.program.Program.{Program}
 use Rattle.context_tree.specs.declared.node.Node.{Node}
 use Rattle.profile_report.specs.Reports.{line_text}

@@ -6,8 +6,8 @@ use Rattle.std.specs.Fmt.{decimal, signed_decimal}
 use Rattle.const_pool.specs.declared.class.ClassFile.{ClassFile}
 use Rattle.const_pool.specs.References.{named_text}
 use Rattle.context_tree.specs.Profiles.{Profile, is_child, last_method, total_of}
-use Rattle.jvm_model.specs.Paths.{Context}
-use Rattle.jvm_model.specs.Programs.{class_at, name_of, name_at, place_of_method}
+use Rattle.jvm_model.specs.Profiling.Paths.{Context}
+use Rattle.jvm_model.specs.Basis.Programs.{class_at, name_of, name_at, place_of_method}
 use Rattle.jvm_model.specs.declared.program.MethodPlace.{MethodPlace}
 use Rattle.jvm_model.specs.declared.program.Program.{Program}
 use Rattle.jvm_model.specs.declared.ending.Ending.{Ending}

@@ -6,17 +6,17 @@ use Rattle.std.proofs.lemmas.Bool.{ne_eqb, eq-eqb}
 use Rattle.jvm_model.specs.declared.event.Act.{Act}
 use Rattle.jvm_model.specs.declared.event.Event.{Event}
 use Rattle.jvm_model.specs.declared.program.Program.{Program}
-use Rattle.jvm_model.specs.Activations.{Activation, no_trace, trace, trace_before}
-use Rattle.jvm_model.specs.Data.{World}
-use Rattle.jvm_model.specs.EventLists.{step_events}
-use Rattle.jvm_model.specs.Originals.{original}
-use Rattle.jvm_model.specs.Run.{turn}
+use Rattle.jvm_model.specs.Profiling.Activations.{Activation, no_trace, trace, trace_before}
+use Rattle.jvm_model.specs.Basis.Data.{World}
+use Rattle.jvm_model.specs.Profiling.EventLists.{step_events}
+use Rattle.jvm_model.specs.Codes.Originals.{original}
+use Rattle.jvm_model.specs.Running.Run.{turn}
 use Rattle.jvm_machine.specs.View.{View}
-use Rattle.jvm_model.specs.Told.{Held, held_at, held_in, held_of, nothing_held}
-use Rattle.jvm_model.proofs.LaterActs.{Early, early-at, trace-early, filter-push, filter-last, same-behind, same-all, same-events, same-marking}
-use Rattle.jvm_model.specs.Calls.{AreFrom, loads_of}
-use Rattle.jvm_model.specs.Points.{acts_at, acts_behind, marking_of}
-use Rattle.jvm_model.specs.Targets.{operations_of}
+use Rattle.jvm_model.specs.Turns.Told.{Held, held_at, held_in, held_of, nothing_held}
+use Rattle.jvm_model.proofs.Events.LaterActs.{Early, early-at, trace-early, filter-push, filter-last, same-behind, same-all, same-events, same-marking}
+use Rattle.jvm_model.specs.Soundness.Calls.{AreFrom, loads_of}
+use Rattle.jvm_model.specs.Profiling.Points.{acts_at, acts_behind, marking_of}
+use Rattle.jvm_model.specs.Profiling.Targets.{operations_of}
 use Rattle.profile_session.specs.Keeping.{Kept, first_kept, kept_act, kept_acts, kept_before, kept_by-zero, kept_by-suc, kept_end, kept_step, kept_told, marks_seen}
 use Rattle.profile_session.specs.Standing.{AtRest, told_before}
 

@@ -3,10 +3,10 @@ use Rattle.std.proofs.Common.{◌≡◌, ℕ, ◌≤◌, Bool, true, false, not,
 use Rattle.std.specs.Prelude.{fold}
 use Rattle.jvm_model.specs.declared.event.Act.{Act}
 use Rattle.jvm_model.specs.declared.program.Program.{Program}
-use Rattle.jvm_model.specs.EventLists.{entries}
-use Rattle.jvm_model.specs.Points.{is_empty}
-use Rattle.jvm_model.specs.Paths.{is_inside}
-use Rattle.jvm_model.specs.Revealed.{Revealed, marks_of, with_none_entered}
+use Rattle.jvm_model.specs.Profiling.EventLists.{entries}
+use Rattle.jvm_model.specs.Profiling.Points.{is_empty}
+use Rattle.jvm_model.specs.Profiling.Paths.{is_inside}
+use Rattle.jvm_model.specs.Profiling.Revealed.{Revealed, marks_of, with_none_entered}
 use Rattle.jvm_machine.specs.View.{View}
 use Rattle.call_revelation.specs.declared.reveal.Reveal.{Reveal}
 use Rattle.call_revelation.specs.Reveals.{IsRevelation, now_of}

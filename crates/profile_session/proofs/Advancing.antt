@@ -4,16 +4,16 @@ use Rattle.std.specs.Prelude.{fold}
 use Rattle.std.proofs.lemmas.List.{append-nil}
 use Rattle.jvm_model.specs.declared.event.Event.{Event}
 use Rattle.jvm_model.specs.declared.program.Program.{Program}
-use Rattle.jvm_model.specs.Calls.{AreFrom}
-use Rattle.jvm_model.specs.Data.{World}
-use Rattle.jvm_model.specs.EventLists.{entries}
-use Rattle.jvm_model.specs.KindNumbers.{user_count}
-use Rattle.jvm_model.specs.Load.{is_among}
-use Rattle.jvm_model.specs.Points.{has_class}
-use Rattle.jvm_model.specs.Revealed.{marks_of}
-use Rattle.jvm_model.specs.Revelation.{IsLoadOrder}
-use Rattle.jvm_model.specs.Whole.{IsWhole}
-use Rattle.jvm_model.proofs.TracesEntries.{entries-append}
+use Rattle.jvm_model.specs.Soundness.Calls.{AreFrom}
+use Rattle.jvm_model.specs.Basis.Data.{World}
+use Rattle.jvm_model.specs.Profiling.EventLists.{entries}
+use Rattle.jvm_model.specs.Basis.KindNumbers.{user_count}
+use Rattle.jvm_model.specs.Classes.Load.{is_among}
+use Rattle.jvm_model.specs.Profiling.Points.{has_class}
+use Rattle.jvm_model.specs.Profiling.Revealed.{marks_of}
+use Rattle.jvm_model.specs.Profiling.Revelation.{IsLoadOrder}
+use Rattle.jvm_model.specs.Soundness.Whole.{IsWhole}
+use Rattle.jvm_model.proofs.Events.TracesEntries.{entries-append}
 use Rattle.jvm_machine.specs.declared.turn.Turn.{Turn}
 use Rattle.jvm_machine.specs.declared.turn.Turn.TheVariants.{Settled, Loaded, Probe, Ended, Broken, NoMemory}
 use Rattle.jvm_machine.specs.Turns.{Turns}

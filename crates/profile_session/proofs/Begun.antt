@@ -7,13 +7,13 @@ use Rattle.jvm_model.specs.declared.event.EventKind.{EventKind}
 use Rattle.jvm_model.specs.declared.event.EventKind.TheVariants as kind
 use Rattle.jvm_model.specs.declared.event.Mark.{Mark}
 use Rattle.jvm_model.specs.declared.program.Program.{Program}
-use Rattle.jvm_model.specs.Calls.{AreCalled}
-use Rattle.jvm_model.specs.Data.{Change, Loads, Began, Left, Unwound, Operation}
-use Rattle.jvm_model.specs.Images.{is_off}
-use Rattle.jvm_model.specs.Changes.{without_first}
-use Rattle.jvm_model.specs.Pauses.{Stop, begin_kind, end_due, stop_by, stop_from, stop_in, told_at}
-use Rattle.jvm_model.specs.Points.{has_class}
-use Rattle.jvm_model.specs.Told.{Held, held_after}
+use Rattle.jvm_model.specs.Soundness.Calls.{AreCalled}
+use Rattle.jvm_model.specs.Basis.Data.{Change, Loads, Began, Left, Unwound, Operation}
+use Rattle.jvm_model.specs.Rewriting.Images.{is_off}
+use Rattle.jvm_model.specs.Running.Changes.{without_first}
+use Rattle.jvm_model.specs.Turns.Pauses.{Stop, begin_kind, end_due, stop_by, stop_from, stop_in, told_at}
+use Rattle.jvm_model.specs.Profiling.Points.{has_class}
+use Rattle.jvm_model.specs.Turns.Told.{Held, held_after}
 use Rattle.context_tree.specs.Counts.{opens}
 
 -- each method that begins

@@ -7,18 +7,18 @@ use Rattle.jvm_model.specs.declared.event.Mark.TheVariants.{Off}
 use Rattle.jvm_model.specs.declared.program.MethodPlace.{MethodPlace}
 use Rattle.jvm_model.specs.declared.program.Program.{Program}
 use Rattle.jvm_model.specs.declared.state.State.{State}
-use Rattle.jvm_model.specs.Calls.{AreFrom}
-use Rattle.jvm_model.specs.Data.{World}
-use Rattle.jvm_model.specs.EventLists.{entries}
-use Rattle.jvm_model.specs.KindNumbers.{user_count}
-use Rattle.jvm_model.specs.Load.{is_among}
-use Rattle.jvm_model.specs.Points.{has_class, marking_of}
-use Rattle.jvm_model.specs.Revealed.{Revealed, mark_of, marks_of, with_loaded}
-use Rattle.jvm_model.specs.Revelation.{IsLoadOrder}
-use Rattle.jvm_model.specs.Run.{before, run}
-use Rattle.jvm_model.specs.Whole.{IsWhole}
-use Rattle.jvm_model.proofs.LoadOrder.{before-order}
-use Rattle.jvm_model.proofs.Revealable.{revealable}
+use Rattle.jvm_model.specs.Soundness.Calls.{AreFrom}
+use Rattle.jvm_model.specs.Basis.Data.{World}
+use Rattle.jvm_model.specs.Profiling.EventLists.{entries}
+use Rattle.jvm_model.specs.Basis.KindNumbers.{user_count}
+use Rattle.jvm_model.specs.Classes.Load.{is_among}
+use Rattle.jvm_model.specs.Profiling.Points.{has_class, marking_of}
+use Rattle.jvm_model.specs.Profiling.Revealed.{Revealed, mark_of, marks_of, with_loaded}
+use Rattle.jvm_model.specs.Profiling.Revelation.{IsLoadOrder}
+use Rattle.jvm_model.specs.Running.Run.{before, run}
+use Rattle.jvm_model.specs.Soundness.Whole.{IsWhole}
+use Rattle.jvm_model.proofs.Loading.LoadOrder.{before-order}
+use Rattle.jvm_model.proofs.Revealing.Revealable.{revealable}
 use Rattle.class_linker.specs.Linkers.{LinkerView}
 use Rattle.call_revelation.specs.declared.reveal.Reveal.{Reveal}
 use Rattle.call_revelation.specs.Reveals.{IsAhead, IsFront, IsRevelation, nothing_revealed, now_of}

@@ -5,10 +5,10 @@ use Rattle.jvm_model.specs.declared.event.Event.{Event}
 use Rattle.jvm_model.specs.declared.event.EventKind.{EventKind}
 use Rattle.jvm_model.specs.declared.event.EventKind.TheVariants.{Root, Enter, Leave, Unwind}
 use Rattle.jvm_model.specs.declared.event.Mark.{Mark}
-use Rattle.jvm_model.specs.EventLists.{entries_by}
-use Rattle.jvm_model.specs.Paths.{is_outside}
-use Rattle.jvm_model.specs.Points.{with_entered}
-use Rattle.jvm_model.specs.Revealed.{Revealed, marks_of, with_loaded, with_method_entered, with_none_entered}
+use Rattle.jvm_model.specs.Profiling.EventLists.{entries_by}
+use Rattle.jvm_model.specs.Profiling.Paths.{is_outside}
+use Rattle.jvm_model.specs.Profiling.Points.{with_entered}
+use Rattle.jvm_model.specs.Profiling.Revealed.{Revealed, marks_of, with_loaded, with_method_entered, with_none_entered}
 use Rattle.jvm_machine.specs.declared.turn.Turn.TheVariants.{Settled, Loaded, Probe, Ended}
 use Rattle.jvm_machine.specs.View.{View}
 use Rattle.context_tree.specs.Counts.{opens, path_after}

@@ -11,11 +11,11 @@ use Rattle.class_reader.proofs.Files.{one_class}
 use Rattle.jvm_model.specs.declared.event.Mark.{Mark}
 use Rattle.jvm_model.specs.declared.event.Mark.TheVariants.{Off}
 use Rattle.jvm_model.specs.declared.program.Program.{Program}
-use Rattle.jvm_model.specs.Images.{IsImage, is_off}
-use Rattle.jvm_model.specs.Methods.{code_of}
-use Rattle.jvm_model.specs.Programs.{no_class, number_of_method, numbered}
-use Rattle.jvm_model.specs.Revealed.{Revealed, mark_of}
-use Rattle.jvm_model.specs.Swaps.{first_number}
+use Rattle.jvm_model.specs.Rewriting.Images.{IsImage, is_off}
+use Rattle.jvm_model.specs.Basis.Methods.{code_of}
+use Rattle.jvm_model.specs.Basis.Programs.{no_class, number_of_method, numbered}
+use Rattle.jvm_model.specs.Profiling.Revealed.{Revealed, mark_of}
+use Rattle.jvm_model.specs.Profiling.Swaps.{first_number}
 use Rattle.inject_events.specs.declared.image.Image.{Image}
 use Rattle.inject_events.specs.Answers.{IsReadableClass, MarkedHaveCode}
 use Rattle.inject_events.specs.Rewriting.{image_of}

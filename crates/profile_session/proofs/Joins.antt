@@ -10,23 +10,23 @@ use Rattle.jvm_model.specs.declared.event.Mark.{Mark}
 use Rattle.jvm_model.specs.declared.event.Mark.TheVariants.{Off, Plain, Root}
 use Rattle.jvm_model.specs.declared.program.MethodPlace.{MethodPlace}
 use Rattle.jvm_model.specs.declared.program.Program.{Program}
-use Rattle.jvm_model.specs.Changes.{EndThenBegin, AreOrdered}
-use Rattle.jvm_model.specs.Data.{Change, Loads, Began, Left, Unwound, Operation, World}
-use Rattle.jvm_model.specs.EventLists.{Marking, step_events}
-use Rattle.jvm_model.specs.Load.{is_among}
-use Rattle.jvm_model.specs.Originals.{original}
-use Rattle.jvm_model.specs.Paths.{is_inside}
-use Rattle.jvm_model.specs.Run.{turn}
-use Rattle.jvm_model.specs.StandsFor.{mark_at}
-use Rattle.jvm_model.specs.Rest.{loads_first}
-use Rattle.jvm_model.proofs.Order.{run-ordered}
-use Rattle.jvm_model.specs.Whole.{IsWhole}
+use Rattle.jvm_model.specs.Running.Changes.{EndThenBegin, AreOrdered}
+use Rattle.jvm_model.specs.Basis.Data.{Change, Loads, Began, Left, Unwound, Operation, World}
+use Rattle.jvm_model.specs.Profiling.EventLists.{Marking, step_events}
+use Rattle.jvm_model.specs.Classes.Load.{is_among}
+use Rattle.jvm_model.specs.Codes.Originals.{original}
+use Rattle.jvm_model.specs.Profiling.Paths.{is_inside}
+use Rattle.jvm_model.specs.Running.Run.{turn}
+use Rattle.jvm_model.specs.Rewriting.StandsFor.{mark_at}
+use Rattle.jvm_model.specs.Turns.Rest.{loads_first}
+use Rattle.jvm_model.proofs.Events.Order.{run-ordered}
+use Rattle.jvm_model.specs.Soundness.Whole.{IsWhole}
 use Rattle.context_tree.proofs.Headline.{session-whole}
-use Rattle.jvm_model.specs.Calls.{AreFrom, loads_of}
+use Rattle.jvm_model.specs.Soundness.Calls.{AreFrom, loads_of}
 use Rattle.context_tree.specs.Counts.{opens}
-use Rattle.jvm_model.specs.Points.{Standing, acts_at, acts_behind, after_change, before_begin, is_empty, is_target, mark_in, marking_of, standing_in}
+use Rattle.jvm_model.specs.Profiling.Points.{Standing, acts_at, acts_behind, after_change, before_begin, is_empty, is_target, mark_in, marking_of, standing_in}
 use Rattle.context_tree.specs.Seen.{Matches, Seen, seen_acts, seen_before, seen_before-zero, seen_before-suc, seen_end, seen_event, seen_load}
-use Rattle.jvm_model.specs.Targets.{operations_of}
+use Rattle.jvm_model.specs.Profiling.Targets.{operations_of}
 use Rattle.profile_session.specs.Keeping.{Kept, first_kept, at_point, kept_act, kept_acts, kept_before, kept_by, kept_by-zero, kept_by-suc, kept_end, kept_event, kept_load, kept_told, mark_seen, marks_seen, stand}
 
 -- ---- what is kept has what is seen

@@ -6,8 +6,8 @@ use Rattle.const_pool.specs.declared.class.ClassFile.{ClassFile}
 use Rattle.const_pool.specs.declared.class.Member.{Member}
 use Rattle.jvm_model.specs.declared.program.MethodPlace.{MethodPlace}
 use Rattle.jvm_model.specs.declared.program.Program.{Program}
-use Rattle.jvm_model.specs.Methods.{code_of}
-use Rattle.jvm_model.specs.Programs.{coded_from, no_class, number_from, number_of_method, numbered, numbered_from, same_place}
+use Rattle.jvm_model.specs.Basis.Methods.{code_of}
+use Rattle.jvm_model.specs.Basis.Programs.{coded_from, no_class, number_from, number_of_method, numbered, numbered_from, same_place}
 use Rattle.profile_session.specs.Images.{class_in}
 
 abbrev place_at : ℕ → ℕ → MethodPlace

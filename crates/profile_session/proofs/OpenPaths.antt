@@ -3,8 +3,8 @@ use Rattle.std.proofs.Common.{◌≡◌, ℕ, ◌+◌, ◌-◌, ◌≤◌, Bool,
 use Rattle.jvm_model.specs.declared.event.Event.{Event}
 use Rattle.jvm_model.specs.declared.event.EventKind.{EventKind}
 use Rattle.jvm_model.specs.declared.event.EventKind.TheVariants.{Root, Enter, Leave, Unwind}
-use Rattle.jvm_model.specs.EventLists.{entries_by}
-use Rattle.jvm_model.specs.Paths.{is_outside}
+use Rattle.jvm_model.specs.Profiling.EventLists.{entries_by}
+use Rattle.jvm_model.specs.Profiling.Paths.{is_outside}
 use Rattle.context_tree.specs.Counts.{path_after, path_by}
 use Rattle.context_tree.specs.Profiles.{parent_path}
 

@@ -9,20 +9,20 @@ use Rattle.jvm_model.specs.declared.event.Mark.{Mark}
 use Rattle.jvm_model.specs.declared.event.Mark.TheVariants.{Off, Plain, Root}
 use Rattle.jvm_model.specs.declared.program.MethodPlace.{MethodPlace}
 use Rattle.jvm_model.specs.declared.program.Program.{Program}
-use Rattle.jvm_model.specs.Data.{Operation, World}
-use Rattle.jvm_model.specs.EventLists.{Marking, step_events}
-use Rattle.jvm_model.specs.Paths.{is_inside}
-use Rattle.jvm_model.specs.Run.{turn}
+use Rattle.jvm_model.specs.Basis.Data.{Operation, World}
+use Rattle.jvm_model.specs.Profiling.EventLists.{Marking, step_events}
+use Rattle.jvm_model.specs.Profiling.Paths.{is_inside}
+use Rattle.jvm_model.specs.Running.Run.{turn}
 use Rattle.jvm_machine.specs.Several.{Passes, none, more}
 use Rattle.jvm_machine.specs.Turns.{Settles}
 use Rattle.jvm_machine.specs.View.{View, advanced, begun, is_resting, loads_next, next_stop, rested}
-use Rattle.jvm_model.specs.Whole.{IsWhole}
-use Rattle.jvm_model.specs.Calls.{AreFrom, loads_of}
-use Rattle.jvm_model.specs.Points.{Standing, acts_at, acts_behind, chosen, is_empty, mark_in, marking_of}
+use Rattle.jvm_model.specs.Soundness.Whole.{IsWhole}
+use Rattle.jvm_model.specs.Soundness.Calls.{AreFrom, loads_of}
+use Rattle.jvm_model.specs.Profiling.Points.{Standing, acts_at, acts_behind, chosen, is_empty, mark_in, marking_of}
 use Rattle.context_tree.specs.Seen.{Seen, first_seen, seen_act, seen_acts, seen_before, seen_before-zero, seen_before-suc, seen_end, seen_event, seen_load}
-use Rattle.jvm_model.specs.Swaps.{differs, same_mark}
-use Rattle.jvm_model.specs.Targets.{operations_of}
-use Rattle.jvm_model.specs.Revealed.{Revealed, changed_of, stand_of}
+use Rattle.jvm_model.specs.Profiling.Swaps.{differs, same_mark}
+use Rattle.jvm_model.specs.Profiling.Targets.{operations_of}
+use Rattle.jvm_model.specs.Profiling.Revealed.{Revealed, changed_of, stand_of}
 use Rattle.profile_session.specs.Keeping.{Kept, at_point, is_idle, kept_before, kept_end, marks_seen, revealed, swapped_now}
 use Rattle.profile_session.specs.Standing.{AtRest}
 use Rattle.profile_session.proofs.Joins.{kept-seen}

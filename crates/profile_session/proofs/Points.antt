@@ -6,12 +6,12 @@ use Rattle.std.proofs.lemmas.List.{append-nil}
 use Rattle.std.proofs.lemmas.Option.{slice_get_within}
 use Rattle.jvm_model.specs.declared.program.MethodPlace.{MethodPlace}
 use Rattle.jvm_model.specs.declared.program.Program.{Program}
-use Rattle.jvm_model.specs.KindNumbers.{user_count}
-use Rattle.jvm_model.specs.Load.{is_among}
-use Rattle.jvm_model.specs.Points.{has_class}
-use Rattle.jvm_model.specs.Programs.{place_of_method}
-use Rattle.jvm_model.specs.Revealed.{Revealed, changed_of, marks_of, with_loaded}
-use Rattle.jvm_model.specs.Sound.{HasClass}
+use Rattle.jvm_model.specs.Basis.KindNumbers.{user_count}
+use Rattle.jvm_model.specs.Classes.Load.{is_among}
+use Rattle.jvm_model.specs.Profiling.Points.{has_class}
+use Rattle.jvm_model.specs.Basis.Programs.{place_of_method}
+use Rattle.jvm_model.specs.Profiling.Revealed.{Revealed, changed_of, marks_of, with_loaded}
+use Rattle.jvm_model.specs.Soundness.Sound.{HasClass}
 use Rattle.class_linker.specs.Linkers.{LinkerView}
 use Rattle.call_revelation.specs.declared.reveal.Reveal.{Reveal}
 use Rattle.call_revelation.specs.Reveals.{IsAhead, IsFront, IsRevelation, now_of}

@@ -1,7 +1,7 @@
 -- Steps that tell nothing, slices, and as many steps as are asked for.
 use Rattle.std.proofs.Common.{◌≡◌, ℕ, suc, ◌+◌, ◌-◌, ◌<◌, ◌≤◌, Bool, true, false, ◌&&◌, length, Result, Ok, Err, if◌then◌else◌, refl, sym, ap, subst, ◌∙◌, arith}
-use Rattle.jvm_model.specs.Revealed.{marks_of}
-use Rattle.jvm_model.specs.Whole.{IsWhole}
+use Rattle.jvm_model.specs.Profiling.Revealed.{marks_of}
+use Rattle.jvm_model.specs.Soundness.Whole.{IsWhole}
 use Rattle.jvm_machine.specs.declared.turn.Turn.{Turn}
 use Rattle.jvm_machine.specs.declared.turn.Turn.TheVariants.{Settled}
 use Rattle.jvm_machine.specs.Several.{Passes, RunsOn, none, more}

@@ -8,36 +8,36 @@ use Rattle.jvm_model.specs.declared.event.Act.{Act}
 use Rattle.jvm_model.specs.declared.event.Event.{Event}
 use Rattle.jvm_model.specs.declared.event.Mark.{Mark}
 use Rattle.jvm_model.specs.declared.program.Program.{Program}
-use Rattle.jvm_model.specs.Activations.{trace, trace_before}
-use Rattle.jvm_model.specs.Changes.{EndThenBegin, AreOrdered}
-use Rattle.jvm_model.specs.Data.{Change, Loads, Began, Left, Unwound, World}
-use Rattle.jvm_model.specs.EventLists.{Marking, events_of, events_of-zero, events_of-suc, step_events}
-use Rattle.jvm_model.specs.Originals.{original}
+use Rattle.jvm_model.specs.Profiling.Activations.{trace, trace_before}
+use Rattle.jvm_model.specs.Running.Changes.{EndThenBegin, AreOrdered}
+use Rattle.jvm_model.specs.Basis.Data.{Change, Loads, Began, Left, Unwound, World}
+use Rattle.jvm_model.specs.Profiling.EventLists.{Marking, events_of, events_of-zero, events_of-suc, step_events}
+use Rattle.jvm_model.specs.Codes.Originals.{original}
 use Rattle.jvm_model.specs.declared.due.Due.{Due}
 use Rattle.jvm_model.specs.declared.due.Due.TheVariants.{Nothing, Ends, Begins}
-use Rattle.jvm_model.specs.Pauses.{begin_kind, end_due, Stop, passed_by, stop_by, stop_in, stop_from, told_at, told_from}
-use Rattle.jvm_model.specs.Run.{before, run, turn}
-use Rattle.jvm_model.specs.Rest.{loads_first}
+use Rattle.jvm_model.specs.Turns.Pauses.{begin_kind, end_due, Stop, passed_by, stop_by, stop_in, stop_from, told_at, told_from}
+use Rattle.jvm_model.specs.Running.Run.{before, run, turn}
+use Rattle.jvm_model.specs.Turns.Rest.{loads_first}
 use Rattle.jvm_machine.specs.Turns.{TellsLoads}
 use Rattle.jvm_machine.specs.View.{View, IsGoingOn, has_ended, world, advanced, begun, is_resting, to_come, loads_next, next_stop, next_event, stopped, rested, events_left, live_then}
-use Rattle.jvm_model.specs.StandsFor.{mark_at}
-use Rattle.jvm_model.specs.Told.{Held, held_after, held_in, all_held, changes_told}
+use Rattle.jvm_model.specs.Rewriting.StandsFor.{mark_at}
+use Rattle.jvm_model.specs.Turns.Told.{Held, held_after, held_in, all_held, changes_told}
 use Rattle.jvm_model.specs.declared.event.EventKind.{EventKind}
 use Rattle.jvm_model.specs.declared.event.EventKind.TheVariants as kind
-use Rattle.jvm_model.specs.Images.{is_off}
-use Rattle.jvm_model.proofs.GoesOn.{drop-passed}
-use Rattle.jvm_model.proofs.Order.{run-ordered}
-use Rattle.jvm_model.proofs.Stops.{stop_from-is}
+use Rattle.jvm_model.specs.Rewriting.Images.{is_off}
+use Rattle.jvm_model.proofs.Turns.GoesOn.{drop-passed}
+use Rattle.jvm_model.proofs.Events.Order.{run-ordered}
+use Rattle.jvm_model.proofs.Turns.Stops.{stop_from-is}
 use Rattle.jvm_machine.proofs.SeenLaws.{stop-tells, stop-lives, end-tells, end-lives, all-events, all-lives, first-loads}
-use Rattle.jvm_model.specs.Whole.{IsWhole}
-use Rattle.jvm_model.proofs.Revealable.{calls-told, revealable}
+use Rattle.jvm_model.specs.Soundness.Whole.{IsWhole}
+use Rattle.jvm_model.proofs.Revealing.Revealable.{calls-told, revealable}
 use Rattle.context_tree.proofs.Headline.{session-whole}
-use Rattle.jvm_model.proofs.Marked as marked
-use Rattle.jvm_model.specs.Calls.{IsTold, loaded_before}
-use Rattle.jvm_model.specs.Targets.{operations_of}
-use Rattle.jvm_model.specs.Calls.{AreFrom, loads_of}
+use Rattle.jvm_model.proofs.Events.Marked as marked
+use Rattle.jvm_model.specs.Soundness.Calls.{IsTold, loaded_before}
+use Rattle.jvm_model.specs.Profiling.Targets.{operations_of}
+use Rattle.jvm_model.specs.Soundness.Calls.{AreFrom, loads_of}
 use Rattle.context_tree.specs.Counts.{AreInOrder, opens}
-use Rattle.jvm_model.specs.Points.{with_entered, acts_behind, marking_of}
+use Rattle.jvm_model.specs.Profiling.Points.{with_entered, acts_behind, marking_of}
 use Rattle.context_tree.specs.Seen.{Seen, seen_event}
 use Rattle.profile_session.specs.Keeping.{Kept, at_point, kept_acts, kept_before, kept_behind, kept_by-suc, kept_end, kept_event, kept_load, marks_seen}
 use Rattle.profile_session.specs.Standing.{AtRest, InStep, next_step, told_before}

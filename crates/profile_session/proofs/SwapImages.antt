@@ -7,11 +7,11 @@ use Rattle.const_pool.specs.declared.class.ClassFile.{ClassFile}
 use Rattle.const_pool.specs.ClassFile.{IsClassFile, class_bytes}
 use Rattle.jvm_model.specs.declared.program.MethodPlace.{MethodPlace}
 use Rattle.jvm_model.specs.declared.program.Program.{Program}
-use Rattle.jvm_model.specs.Points.{Standing, mark_in}
-use Rattle.jvm_model.specs.Programs.{class_at, no_class}
-use Rattle.jvm_model.specs.Revealed.{Revealed, revealed_in}
-use Rattle.jvm_model.specs.Swaps.{HasBytes, Point, Swapped, differs, first_number, same_mark, swapped, swapped_at, swaps_from}
-use Rattle.jvm_model.specs.Targets.{operations_of}
+use Rattle.jvm_model.specs.Profiling.Points.{Standing, mark_in}
+use Rattle.jvm_model.specs.Basis.Programs.{class_at, no_class}
+use Rattle.jvm_model.specs.Profiling.Revealed.{Revealed, revealed_in}
+use Rattle.jvm_model.specs.Profiling.Swaps.{HasBytes, Point, Swapped, differs, first_number, same_mark, swapped, swapped_at, swaps_from}
+use Rattle.jvm_model.specs.Profiling.Targets.{operations_of}
 use Rattle.inject_events.specs.declared.image.Image.{Image}
 use Rattle.inject_events.specs.Answers.{IsProfilable, IsReadableClass, MarkedHaveCode}
 use Rattle.inject_events.specs.Rewriting.{image_of}

@@ -12,33 +12,33 @@ use Rattle.jvm_model.specs.declared.program.Program.{Program}
 use Rattle.std.proofs.Common.{Option, Some, None, length, zero, suc, ◌==◌}
 use Rattle.std.specs.List.{AllByRecursion}
 use Rattle.std.proofs.lemmas.Bool.{eqb-true}
-use Rattle.jvm_model.specs.Originals.{original}
-use Rattle.jvm_model.specs.Run.{turn}
-use Rattle.jvm_model.proofs.Order.{run-ordered}
-use Rattle.jvm_model.specs.Whole.{IsWhole}
-use Rattle.jvm_model.proofs.Revealable.{calls-told, revealable}
-use Rattle.jvm_model.proofs.Marked as marked
-use Rattle.jvm_model.proofs.Marked.{suits-run}
-use Rattle.jvm_model.specs.Calls.{AreFrom, IsTold}
+use Rattle.jvm_model.specs.Codes.Originals.{original}
+use Rattle.jvm_model.specs.Running.Run.{turn}
+use Rattle.jvm_model.proofs.Events.Order.{run-ordered}
+use Rattle.jvm_model.specs.Soundness.Whole.{IsWhole}
+use Rattle.jvm_model.proofs.Revealing.Revealable.{calls-told, revealable}
+use Rattle.jvm_model.proofs.Events.Marked as marked
+use Rattle.jvm_model.proofs.Events.Marked.{suits-run}
+use Rattle.jvm_model.specs.Soundness.Calls.{AreFrom, IsTold}
 use Rattle.std.specs.Option.{option_map_or}
-use Rattle.jvm_model.specs.Activations.{Activation, Trace, all_changed, current, changed, trace_before}
-use Rattle.jvm_model.specs.Data.{Change, Loads, Began, Left, Unwound, World}
-use Rattle.jvm_model.specs.EventLists.{Marking, all_told, begin_events, current_activation, end_events, end_of, step_events, told}
-use Rattle.jvm_model.specs.Changes.{EndThenBegin, AreOrdered}
-use Rattle.jvm_model.specs.Projection.{is_selected}
-use Rattle.jvm_model.specs.Calls.{loads_of}
-use Rattle.jvm_model.proofs.Chains.{path_at-last, slice_get_at}
-use Rattle.jvm_model.proofs.Traces.{IsTrace, changed-keeps, no_trace-is, trace_in-is}
-use Rattle.jvm_model.specs.Paths.{is_inside}
+use Rattle.jvm_model.specs.Profiling.Activations.{Activation, Trace, all_changed, current, changed, trace_before}
+use Rattle.jvm_model.specs.Basis.Data.{Change, Loads, Began, Left, Unwound, World}
+use Rattle.jvm_model.specs.Profiling.EventLists.{Marking, all_told, begin_events, current_activation, end_events, end_of, step_events, told}
+use Rattle.jvm_model.specs.Running.Changes.{EndThenBegin, AreOrdered}
+use Rattle.jvm_model.specs.Profiling.Projection.{is_selected}
+use Rattle.jvm_model.specs.Soundness.Calls.{loads_of}
+use Rattle.jvm_model.proofs.Events.Chains.{path_at-last, slice_get_at}
+use Rattle.jvm_model.proofs.Events.Traces.{IsTrace, changed-keeps, no_trace-is, trace_in-is}
+use Rattle.jvm_model.specs.Profiling.Paths.{is_inside}
 use Rattle.context_tree.proofs.Projected.{Telling, in_full, outside, gone_on, is_inside-push, telling}
 use Rattle.context_tree.proofs.SeenRuns.{acts-match, after-trace, change-matches, end-matches, settled-trace, first-suited}
-use Rattle.jvm_model.specs.Suited.{Suits, AreSuited, StaySuited}
+use Rattle.jvm_model.specs.Soundness.Suited.{Suits, AreSuited, StaySuited}
 use Rattle.context_tree.specs.Counts.{opens}
-use Rattle.jvm_model.specs.Points.{Standing, acts_at, acts_behind, after_act, after_acts, chosen, marking_of, settled, standing_in, standing_in-zero, standing_in-suc, after_change, after_changes, is_profiled, nothing, with_entered}
+use Rattle.jvm_model.specs.Profiling.Points.{Standing, acts_at, acts_behind, after_act, after_acts, chosen, marking_of, settled, standing_in, standing_in-zero, standing_in-suc, after_change, after_changes, is_profiled, nothing, with_entered}
 use Rattle.context_tree.specs.Seen.{Matches, Seen, open_of, seen_act, seen_end, seen_event}
-use Rattle.jvm_model.specs.Swaps.{Point, Swapped, act_points, points_before, points_in, points_in-zero, points_in-suc, step_points, change_point, change_points, point, last_standing, swapped_at, swaps_from}
-use Rattle.jvm_model.specs.Targets.{operations_of}
-use Rattle.jvm_model.specs.Revealed.{Revealed, changed_of, revealed_in}
+use Rattle.jvm_model.specs.Profiling.Swaps.{Point, Swapped, act_points, points_before, points_in, points_in-zero, points_in-suc, step_points, change_point, change_points, point, last_standing, swapped_at, swaps_from}
+use Rattle.jvm_model.specs.Profiling.Targets.{operations_of}
+use Rattle.jvm_model.specs.Profiling.Revealed.{Revealed, changed_of, revealed_in}
 use Rattle.profile_session.specs.Images.{marks_for}
 use Rattle.profile_session.specs.Keeping.{Kept, at_point, first_kept, is_idle, kept_act, kept_acts, kept_before, kept_by-zero, kept_by-suc, kept_end, kept_event, kept_load, kept_told, revealed, swap_of, swapped_now}
 use Rattle.profile_session.proofs.Joins.{ends-load, events-seen}

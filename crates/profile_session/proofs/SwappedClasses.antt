@@ -12,13 +12,13 @@ use Rattle.jvm_model.specs.declared.event.Mark.{Mark}
 use Rattle.jvm_model.specs.declared.event.Mark.TheVariants.{Off, Plain, Root}
 use Rattle.jvm_model.specs.declared.program.MethodPlace.{MethodPlace}
 use Rattle.jvm_model.specs.declared.program.Program.{Program}
-use Rattle.jvm_model.specs.Load.{is_among}
-use Rattle.jvm_model.specs.Points.{is_target}
-use Rattle.jvm_model.specs.Programs.{number_of_method, numbered}
-use Rattle.jvm_model.specs.Revealed.{Revealed, changed_of, mark_of, marks_of, stand_of}
-use Rattle.jvm_model.specs.StandsFor.{mark_at}
-use Rattle.jvm_model.specs.Swaps.{differs, same_mark}
-use Rattle.jvm_model.specs.Targets.{operations_of}
+use Rattle.jvm_model.specs.Classes.Load.{is_among}
+use Rattle.jvm_model.specs.Profiling.Points.{is_target}
+use Rattle.jvm_model.specs.Basis.Programs.{number_of_method, numbered}
+use Rattle.jvm_model.specs.Profiling.Revealed.{Revealed, changed_of, mark_of, marks_of, stand_of}
+use Rattle.jvm_model.specs.Rewriting.StandsFor.{mark_at}
+use Rattle.jvm_model.specs.Profiling.Swaps.{differs, same_mark}
+use Rattle.jvm_model.specs.Profiling.Targets.{operations_of}
 use Rattle.jvm_machine.specs.Installs.{marks_over, with_class}
 use Rattle.jvm_machine.specs.View.{View, world}
 use Rattle.profile_session.specs.declared.swap.Swap.{Swap}

@@ -4,11 +4,11 @@ use Rattle.std.specs.Prelude.{fold, ◌^◌}
 use Rattle.jvm_model.specs.declared.event.Event.{Event}
 use Rattle.jvm_model.specs.declared.event.EventKind.{EventKind}
 use Rattle.jvm_model.specs.declared.event.EventKind.TheVariants.{Root, Enter, Leave, Unwind}
-use Rattle.jvm_model.specs.EventLists.{entries, entries_by}
-use Rattle.jvm_model.specs.KindNumbers.{user_count}
-use Rattle.jvm_model.specs.Load.{is_among}
-use Rattle.jvm_model.specs.Paths.{is_outside}
-use Rattle.jvm_model.proofs.TracesEntries.{entries-append}
+use Rattle.jvm_model.specs.Profiling.EventLists.{entries, entries_by}
+use Rattle.jvm_model.specs.Basis.KindNumbers.{user_count}
+use Rattle.jvm_model.specs.Classes.Load.{is_among}
+use Rattle.jvm_model.specs.Profiling.Paths.{is_outside}
+use Rattle.jvm_model.proofs.Events.TracesEntries.{entries-append}
 use Rattle.context_tree.specs.Counts.{AreInOrder, path_after}
 use Rattle.context_tree.specs.Profiles.{Profile, calls_of, credited, opened, taken, told}
 use Rattle.context_tree.proofs.EventCalls.{calls_of-taken}

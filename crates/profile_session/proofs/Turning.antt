@@ -6,18 +6,18 @@ use Rattle.jvm_model.specs.declared.event.Act.{Act}
 use Rattle.jvm_model.specs.declared.event.Event.{Event}
 use Rattle.jvm_model.specs.declared.program.Program.{Program}
 use Rattle.jvm_model.specs.declared.state.State.{State}
-use Rattle.jvm_model.specs.Calls.{AreFrom}
-use Rattle.jvm_model.specs.Data.{World}
-use Rattle.jvm_model.specs.EventLists.{entries, entries_by, events_of}
-use Rattle.jvm_model.specs.Points.{has_class, marking_of, with_entered}
-use Rattle.jvm_model.specs.Revelation.{IsLoadOrder}
-use Rattle.jvm_model.specs.Run.{before, run, turn}
-use Rattle.jvm_model.specs.StandsFor.{mark_at}
-use Rattle.jvm_model.specs.Targets.{operations_of}
-use Rattle.jvm_model.specs.Whole.{IsWhole}
-use Rattle.jvm_model.specs.Calls.{methods_before}
-use Rattle.jvm_model.proofs.Revealable.{revealable, run-order}
-use Rattle.jvm_model.proofs.TracesEntries.{entries-append, events_of-entries}
+use Rattle.jvm_model.specs.Soundness.Calls.{AreFrom}
+use Rattle.jvm_model.specs.Basis.Data.{World}
+use Rattle.jvm_model.specs.Profiling.EventLists.{entries, entries_by, events_of}
+use Rattle.jvm_model.specs.Profiling.Points.{has_class, marking_of, with_entered}
+use Rattle.jvm_model.specs.Profiling.Revelation.{IsLoadOrder}
+use Rattle.jvm_model.specs.Running.Run.{before, run, turn}
+use Rattle.jvm_model.specs.Rewriting.StandsFor.{mark_at}
+use Rattle.jvm_model.specs.Profiling.Targets.{operations_of}
+use Rattle.jvm_model.specs.Soundness.Whole.{IsWhole}
+use Rattle.jvm_model.specs.Soundness.Calls.{methods_before}
+use Rattle.jvm_model.proofs.Revealing.Revealable.{revealable, run-order}
+use Rattle.jvm_model.proofs.Events.TracesEntries.{entries-append, events_of-entries}
 use Rattle.context_tree.specs.Counts.{opens}
 use Rattle.context_tree.specs.Seen.{Seen, seen_event}
 use Rattle.jvm_machine.specs.declared.turn.Turn.{Turn}

@@ -7,11 +7,11 @@ use Rattle.jvm_model.specs.declared.event.Mark.{Mark}
 use Rattle.jvm_model.specs.declared.event.Mark.TheVariants.{Off, Plain, Root}
 use Rattle.jvm_model.specs.declared.program.MethodPlace.{MethodPlace}
 use Rattle.jvm_model.specs.declared.program.Program.{Program}
-use Rattle.jvm_model.specs.Load.{is_among}
-use Rattle.jvm_model.specs.Points.{mark_in}
-use Rattle.jvm_model.specs.Revealed.{Revealed, changed_of, stand_of, with_method_entered}
-use Rattle.jvm_model.specs.Swaps.{differs, same_mark}
-use Rattle.jvm_model.specs.Targets.{operations_of}
+use Rattle.jvm_model.specs.Classes.Load.{is_among}
+use Rattle.jvm_model.specs.Profiling.Points.{mark_in}
+use Rattle.jvm_model.specs.Profiling.Revealed.{Revealed, changed_of, stand_of, with_method_entered}
+use Rattle.jvm_model.specs.Profiling.Swaps.{differs, same_mark}
+use Rattle.jvm_model.specs.Profiling.Targets.{operations_of}
 use Rattle.profile_session.specs.declared.parts.Parts.{Parts}
 use Rattle.profile_session.specs.Keeping.{swapped_now}
 use Rattle.profile_session.specs.Parts.{AreFit, AreShown, IsPoint, Shows, revealed_in}

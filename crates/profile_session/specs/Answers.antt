@@ -1,6 +1,6 @@
 -- What the calls of a session answer.
 use Rattle.std.specs.Prelude.{◌≡◌, ℕ, ◌+◌, ◌≤◌, ◌<◌, Bool, true, false, not, Option, Some, None, is_some}
-use Rattle.jvm_model.specs.Run.{ending_of}
+use Rattle.jvm_model.specs.Running.Run.{ending_of}
 use Rattle.profile_session.specs.declared.answer.ActError.{ActError}
 use Rattle.profile_session.specs.declared.answer.ActError.TheVariants as act
 use Rattle.profile_session.specs.declared.answer.Run.{Run}

@@ -8,11 +8,11 @@ use Rattle.inject_events.specs.Answers.{IsProfilable, IsReadableClass}
 use Rattle.inject_events.specs.Rewriting.{image_of}
 use Rattle.jvm_model.specs.declared.event.Mark.{Mark}
 use Rattle.jvm_model.specs.declared.program.Program.{Program}
-use Rattle.jvm_model.specs.Programs.{class_at, no_class, numbered}
-use Rattle.jvm_model.specs.Revealed.{Revealed, stand_of}
-use Rattle.jvm_model.specs.SoundPrograms.{HasOperations}
-use Rattle.jvm_model.specs.Swaps.{first_number, marks_of_class}
-use Rattle.jvm_model.specs.Targets.{operations_of}
+use Rattle.jvm_model.specs.Basis.Programs.{class_at, no_class, numbered}
+use Rattle.jvm_model.specs.Profiling.Revealed.{Revealed, stand_of}
+use Rattle.jvm_model.specs.Soundness.SoundPrograms.{HasOperations}
+use Rattle.jvm_model.specs.Profiling.Swaps.{first_number, marks_of_class}
+use Rattle.jvm_model.specs.Profiling.Targets.{operations_of}
 
 abbrev pub class_in : Program → ℕ → ClassFile
 class_in p class = unwrap_or (class_at p class) no_class

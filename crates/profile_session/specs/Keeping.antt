@@ -5,14 +5,14 @@ use Rattle.jvm_model.specs.declared.event.Act.{Act}
 use Rattle.jvm_model.specs.declared.event.Event.{Event}
 use Rattle.jvm_model.specs.declared.event.Mark.{Mark}
 use Rattle.jvm_model.specs.declared.program.Program.{Program}
-use Rattle.jvm_model.specs.Calls.{loads_of}
-use Rattle.jvm_model.specs.Data.{World}
-use Rattle.jvm_model.specs.EventLists.{Marking, step_events}
-use Rattle.jvm_model.specs.Paths.{is_inside}
-use Rattle.jvm_model.specs.Points.{Standing, acts_at, acts_behind, is_empty, marking_of}
-use Rattle.jvm_model.specs.Revealed.{Revealed, changed_of, mark_of, marks_of, stand_of}
-use Rattle.jvm_model.specs.Run.{turn}
-use Rattle.jvm_model.specs.Swaps.{Swapped}
+use Rattle.jvm_model.specs.Soundness.Calls.{loads_of}
+use Rattle.jvm_model.specs.Basis.Data.{World}
+use Rattle.jvm_model.specs.Profiling.EventLists.{Marking, step_events}
+use Rattle.jvm_model.specs.Profiling.Paths.{is_inside}
+use Rattle.jvm_model.specs.Profiling.Points.{Standing, acts_at, acts_behind, is_empty, marking_of}
+use Rattle.jvm_model.specs.Profiling.Revealed.{Revealed, changed_of, mark_of, marks_of, stand_of}
+use Rattle.jvm_model.specs.Running.Run.{turn}
+use Rattle.jvm_model.specs.Profiling.Swaps.{Swapped}
 use Rattle.context_tree.specs.Counts.{opens}
 use Rattle.context_tree.specs.Seen.{Seen, first_seen, seen_act, seen_event, seen_load}
 use Rattle.profile_session.specs.declared.swap.Swap.{Swap}

@@ -6,16 +6,16 @@ use Rattle.jvm_model.specs.declared.event.Event.{Event}
 use Rattle.jvm_model.specs.declared.event.Mark.{Mark}
 use Rattle.jvm_model.specs.declared.program.MethodPlace.{MethodPlace}
 use Rattle.jvm_model.specs.declared.program.Program.{Program}
-use Rattle.jvm_model.specs.Calls.{AreFrom}
-use Rattle.jvm_model.specs.EventLists.{entries, entries_by}
-use Rattle.jvm_model.specs.KindNumbers.{user_count}
-use Rattle.jvm_model.specs.Load.{is_among}
-use Rattle.jvm_model.specs.Points.{chosen, has_class}
-use Rattle.jvm_model.specs.Revealed.{Revealed, mark_of, marks_of}
-use Rattle.jvm_model.specs.Revelation.{IsLoadOrder}
-use Rattle.jvm_model.specs.StandsFor.{mark_at}
-use Rattle.jvm_model.specs.Swaps.{same_mark}
-use Rattle.jvm_model.specs.Whole.{IsWhole}
+use Rattle.jvm_model.specs.Soundness.Calls.{AreFrom}
+use Rattle.jvm_model.specs.Profiling.EventLists.{entries, entries_by}
+use Rattle.jvm_model.specs.Basis.KindNumbers.{user_count}
+use Rattle.jvm_model.specs.Classes.Load.{is_among}
+use Rattle.jvm_model.specs.Profiling.Points.{chosen, has_class}
+use Rattle.jvm_model.specs.Profiling.Revealed.{Revealed, mark_of, marks_of}
+use Rattle.jvm_model.specs.Profiling.Revelation.{IsLoadOrder}
+use Rattle.jvm_model.specs.Rewriting.StandsFor.{mark_at}
+use Rattle.jvm_model.specs.Profiling.Swaps.{same_mark}
+use Rattle.jvm_model.specs.Soundness.Whole.{IsWhole}
 use Rattle.jvm_machine.specs.declared.turn.Turn.{Turn}
 use Rattle.jvm_machine.specs.declared.turn.Turn.TheVariants.{Settled, Loaded, Probe, Ended, Broken, NoMemory}
 use Rattle.jvm_machine.specs.View.{View, is_resting, run_state, world}

@@ -5,16 +5,16 @@ use Rattle.jvm_model.specs.declared.event.Mark.{Mark}
 use Rattle.jvm_model.specs.declared.ending.Ending.{Ending}
 use Rattle.jvm_model.specs.declared.program.Program.{Program}
 use Rattle.jvm_model.specs.declared.state.State.{State}
-use Rattle.jvm_model.specs.Activations.{trace_before}
-use Rattle.jvm_model.specs.Data.{World}
-use Rattle.jvm_model.specs.Load.{is_among}
-use Rattle.jvm_model.specs.Originals.{original}
-use Rattle.jvm_model.specs.Points.{Standing, mark_in, marking_of, nothing, standing_in}
-use Rattle.jvm_model.specs.Projection.{projection}
-use Rattle.jvm_model.specs.Run.{before, run}
-use Rattle.jvm_model.specs.Swaps.{HasBytes, Swapped, points_before, swaps_from}
-use Rattle.jvm_model.specs.Targets.{operations_of}
-use Rattle.jvm_model.specs.Told.{Held, held_in}
+use Rattle.jvm_model.specs.Profiling.Activations.{trace_before}
+use Rattle.jvm_model.specs.Basis.Data.{World}
+use Rattle.jvm_model.specs.Classes.Load.{is_among}
+use Rattle.jvm_model.specs.Codes.Originals.{original}
+use Rattle.jvm_model.specs.Profiling.Points.{Standing, mark_in, marking_of, nothing, standing_in}
+use Rattle.jvm_model.specs.Profiling.Projection.{projection}
+use Rattle.jvm_model.specs.Running.Run.{before, run}
+use Rattle.jvm_model.specs.Profiling.Swaps.{HasBytes, Swapped, points_before, swaps_from}
+use Rattle.jvm_model.specs.Profiling.Targets.{operations_of}
+use Rattle.jvm_model.specs.Turns.Told.{Held, held_in}
 use Rattle.context_tree.specs.Profiles.{Profile}
 use Rattle.profile_session.specs.declared.parts.Parts.{Parts}
 use Rattle.profile_session.specs.declared.swap.Swap.{Swap}

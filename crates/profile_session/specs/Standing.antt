@@ -3,13 +3,13 @@ use Rattle.std.specs.Prelude.{◌≡◌, ◌≤◌, ◌<◌, is_some, ℕ, ◌+�
 use Rattle.std.specs.List.{AllByRecursion}
 use Rattle.jvm_model.specs.declared.event.Act.{Act}
 use Rattle.jvm_model.specs.declared.event.Event.{Event}
-use Rattle.jvm_model.specs.Activations.{trace, trace_before}
-use Rattle.jvm_model.specs.Changes.{AreOrdered}
-use Rattle.jvm_model.specs.Data.{World}
-use Rattle.jvm_model.specs.EventLists.{Marking, events_of}
-use Rattle.jvm_model.specs.Points.{acts_behind, marking_of}
-use Rattle.jvm_model.specs.Run.{run}
-use Rattle.jvm_model.specs.Told.{held_in}
+use Rattle.jvm_model.specs.Profiling.Activations.{trace, trace_before}
+use Rattle.jvm_model.specs.Running.Changes.{AreOrdered}
+use Rattle.jvm_model.specs.Basis.Data.{World}
+use Rattle.jvm_model.specs.Profiling.EventLists.{Marking, events_of}
+use Rattle.jvm_model.specs.Profiling.Points.{acts_behind, marking_of}
+use Rattle.jvm_model.specs.Running.Run.{run}
+use Rattle.jvm_model.specs.Turns.Told.{held_in}
 use Rattle.jvm_machine.specs.View.{View, events_left, is_resting, live_then, to_come, world}
 use Rattle.profile_session.specs.Keeping.{Kept, kept_event, kept_before, kept_behind, marks_seen}
 

@@ -5,8 +5,8 @@ use Rattle.std.specs.Option.{option_map_or}
 use Rattle.jvm_model.specs.declared.event.Mark.{Mark}
 use Rattle.jvm_model.specs.declared.event.Mark.TheVariants.{Off}
 use Rattle.jvm_model.specs.declared.program.Program.{Program}
-use Rattle.jvm_model.specs.Programs.{number_of_method}
-use Rattle.jvm_model.specs.Revealed.{Revealed, mark_of}
+use Rattle.jvm_model.specs.Basis.Programs.{number_of_method}
+use Rattle.jvm_model.specs.Profiling.Revealed.{Revealed, mark_of}
 use Rattle.const_pool.specs.ClassFile.{IsClassFile}
 use Rattle.inject_events.specs.declared.image.Image.{Image}
 use Rattle.jvm_machine.specs.Installs.{IsImageOf, with_class}

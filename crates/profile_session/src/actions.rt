@@ -3,7 +3,7 @@
 ghost use Rattle.std.specs.Prelude.{◌≡◌, MatchResult, OnOk, if◌then◌else◌};
 ghost use Rattle.jvm_model.specs.declared.program.Program.{Program};
 ghost use Rattle.call_revelation.specs.Reveals.{IsRevelation, now_of};
-ghost use Rattle.jvm_model.specs.Revealed.{with_none_entered};
+ghost use Rattle.jvm_model.specs.Profiling.Revealed.{with_none_entered};
 ghost use Rattle.profile_session.specs.Parts.{Acts, AreFit, AreShown, Brings, IsSameRun, chosen_by};
 
 use crate::parts::Parts;

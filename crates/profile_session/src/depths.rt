@@ -2,7 +2,7 @@
 
 ghost use Rattle.std.specs.Prelude.{List, ℕ, ◌≡◌, ◌≤◌, ◌+◌, ◌^◌, length};
 ghost use Rattle.jvm_model.specs.declared.event.Event.{Event as TheEvent};
-ghost use Rattle.jvm_model.specs.EventLists.{entries_by};
+ghost use Rattle.jvm_model.specs.Profiling.EventLists.{entries_by};
 ghost use Rattle.context_tree.specs.Counts.{opens, path_after};
 
 use jvm_model::EventKind;

@@ -1,8 +1,8 @@
 //! The parts of a session that move, and what it does behind each turn.
 
 ghost use Rattle.std.specs.Prelude.{◌≡◌, length, true, IfOk, MatchResult};
-ghost use Rattle.jvm_model.specs.Points.{has_class};
-ghost use Rattle.jvm_model.specs.Revealed.{with_loaded, with_method_entered, with_none_entered};
+ghost use Rattle.jvm_model.specs.Profiling.Points.{has_class};
+ghost use Rattle.jvm_model.specs.Profiling.Revealed.{with_loaded, with_method_entered, with_none_entered};
 ghost use Rattle.jvm_machine.specs.declared.turn.Turn.TheVariants as Turn;
 ghost use Rattle.context_tree.specs.Counts.{opens};
 ghost use Rattle.profile_session.specs.Keeping.{is_idle};

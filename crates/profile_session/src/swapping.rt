@@ -2,7 +2,7 @@
 
 ghost use Rattle.std.specs.Prelude.{◌≡◌, ◌≤◌, ◌<◌, false, length, map, IfOk, MatchResult};
 ghost use Rattle.std.specs.List.{range_with_len};
-ghost use Rattle.jvm_model.specs.Swaps.{first_number};
+ghost use Rattle.jvm_model.specs.Profiling.Swaps.{first_number};
 ghost use Rattle.inject_events.specs.Answers.{MarkedHaveCode};
 ghost use Rattle.jvm_machine.specs.Installs.{with_class};
 ghost use Rattle.jvm_machine.specs.View.{world};

@@ -9,12 +9,12 @@ use Rattle.std.proofs.lemmas.Bool.{eq-eqb, ltb-false, ltb-true, ne_eqb}
 use Rattle.std.proofs.lemmas.List.{append-nil}
 use Rattle.const_pool.specs.declared.class.ClassFile.{ClassFile}
 use Rattle.jvm_model.specs.declared.program.Program.{Program}
-use Rattle.jvm_model.specs.Load.{Loading, Need, Incompatible, behind_needs, class_needs, done, go_on, is_among, is_met, load_named, load_needs, load_of, need_fault, needs_of, unless}
-use Rattle.jvm_model.specs.Lookup.{is_interface}
-use Rattle.jvm_model.specs.Methods.{has_flag}
-use Rattle.jvm_model.specs.Programs.{class_at, class_named, has_built_in_name, has_name, name_of}
-use Rattle.jvm_model.specs.SharedState.{built_in_from}
-use Rattle.jvm_steps.specs.Prepared.{load_built_in, with_built_in}
+use Rattle.jvm_model.specs.Classes.Load.{Loading, Need, Incompatible, behind_needs, class_needs, done, go_on, is_among, is_met, load_named, load_needs, load_of, need_fault, needs_of, unless}
+use Rattle.jvm_model.specs.Classes.Lookup.{is_interface}
+use Rattle.jvm_model.specs.Basis.Methods.{has_flag}
+use Rattle.jvm_model.specs.Basis.Programs.{class_at, class_named, has_built_in_name, has_name, name_of}
+use Rattle.jvm_model.specs.Basis.SharedState.{built_in_from}
+use Rattle.jvm_steps.specs.Codes.Prepared.{load_built_in, with_built_in}
 use Rattle.admit_check.proofs.FitNames.{IsOwnClass}
 use Rattle.admit_check.proofs.FitPlaces.{AreOrdered, is_before}
 use Rattle.program_fit.proofs.Loads.{load-fresh, load-there}

@@ -2,9 +2,9 @@
 use Rattle.std.proofs.Common.{◌≡◌, ℕ, suc, Bool, true, false, List, [], ◌∷◌, ◌++◌, cond, Some, ap, ◌∙◌}
 use Rattle.std.specs.Prelude.{unwrap_or}
 use Rattle.jvm_model.specs.declared.program.Program.{Program}
-use Rattle.jvm_model.specs.Kinds.{Element, Named, Meaning, array_from, array_of, is_array_name}
-use Rattle.jvm_model.specs.Load.{Loading, There, Begun, Fresh, behind_needs, by_standing, done, is_among, load_element, load_named, load_needs, needs_of, standing_of}
-use Rattle.jvm_model.specs.Programs.{class_named}
+use Rattle.jvm_model.specs.Classes.Kinds.{Element, Named, Meaning, array_from, array_of, is_array_name}
+use Rattle.jvm_model.specs.Classes.Load.{Loading, There, Begun, Fresh, behind_needs, by_standing, done, is_among, load_element, load_named, load_needs, needs_of, standing_of}
+use Rattle.jvm_model.specs.Basis.Programs.{class_named}
 
 module _ (p : Program) where
   abbrev element_by : Bool → List ℕ → Element

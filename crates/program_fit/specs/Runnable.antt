@@ -2,10 +2,10 @@
 use Rattle.std.specs.Prelude.{ℕ, List}
 use Rattle.const_pool.specs.declared.class.ClassFile.{ClassFile}
 use Rattle.jvm_model.specs.declared.program.Program.{Program}
-use Rattle.jvm_model.specs.ProgramPlaces.{HasClosedCodes}
-use Rattle.jvm_model.specs.Sound.{IsFit}
-use Rattle.jvm_steps.specs.Before.{CanStart}
-use Rattle.jvm_steps.specs.Prepared.{FitsOriginals}
+use Rattle.jvm_model.specs.Codes.ProgramPlaces.{HasClosedCodes}
+use Rattle.jvm_model.specs.Soundness.Sound.{IsFit}
+use Rattle.jvm_steps.specs.Machine.Before.{CanStart}
+use Rattle.jvm_steps.specs.Codes.Prepared.{FitsOriginals}
 use Rattle.jvm_machine.specs.Installs.{IsFormed}
 use Rattle.admit_check.specs.Admission.{IsAdmittedProgram}
 

@@ -2,9 +2,9 @@
 use Rattle.std.proofs.Common.{◌≡◌, ℕ, ◌+◌, List, add-one, ap, sym, subst, refl, ◌∙◌}
 use Rattle.std.specs.Prelude.{Result, Ok, Err, OnOk}
 use Rattle.jvm_model.specs.declared.program.Program.{Program}
-use Rattle.jvm_model.specs.KindNumbers.{user_count}
-use Rattle.jvm_model.specs.Load.{load_of}
-use Rattle.jvm_model.specs.Revealed.{Revealed, marks_of, with_loaded, with_method_entered}
+use Rattle.jvm_model.specs.Basis.KindNumbers.{user_count}
+use Rattle.jvm_model.specs.Classes.Load.{load_of}
+use Rattle.jvm_model.specs.Profiling.Revealed.{Revealed, marks_of, with_loaded, with_method_entered}
 use Rattle.class_linker.specs.Linkers.{IsLoaded, LinkerView, linker_of}
 use Rattle.program_fit.specs.Runnable.{IsAdmitted}
 use Rattle.call_revelation.specs.declared.reveal.Reveal.{Reveal}

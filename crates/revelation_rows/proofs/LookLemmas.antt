@@ -9,9 +9,9 @@ use Rattle.jvm_model.specs.declared.event.Mark.{Mark}
 use Rattle.jvm_model.specs.declared.event.Mark.TheVariants.{Off, Plain, Root}
 use Rattle.jvm_model.specs.declared.program.MethodPlace.{MethodPlace}
 use Rattle.jvm_model.specs.declared.program.Program.{Program}
-use Rattle.jvm_model.specs.Load.{is_among}
-use Rattle.jvm_model.specs.Revealed.{Revealed, mark_of, marks_of}
-use Rattle.jvm_model.specs.Targets.{targets}
+use Rattle.jvm_model.specs.Classes.Load.{is_among}
+use Rattle.jvm_model.specs.Profiling.Revealed.{Revealed, mark_of, marks_of}
+use Rattle.jvm_model.specs.Profiling.Targets.{targets}
 use Rattle.call_revelation.specs.Tables.{IsRising}
 use Rattle.revelation_rows.specs.declared.item.Fact.{Fact}
 use Rattle.revelation_rows.specs.declared.item.Fact.TheVariants.{Marks}

@@ -5,14 +5,14 @@ use Rattle.std.specs.Option.{option_map_or}
 use Rattle.std.proofs.lemmas.Option.{slice_get_within}
 use Rattle.jvm_model.specs.declared.program.MethodPlace.{MethodPlace}
 use Rattle.jvm_model.specs.declared.program.Program.{Program}
-use Rattle.jvm_model.specs.KindNumbers.{user_count}
-use Rattle.jvm_model.specs.Load.{is_among, load_of}
-use Rattle.jvm_model.specs.Points.{has_class}
-use Rattle.jvm_model.specs.Programs.{place_of_method}
-use Rattle.jvm_model.specs.Revealed.{Revealed, with_loaded}
-use Rattle.jvm_model.specs.Sound.{HasClass, HasSupertypes}
-use Rattle.jvm_model.proofs.LoadOrder.{load-order}
-use Rattle.jvm_model.proofs.SoundClasses.{named-load}
+use Rattle.jvm_model.specs.Basis.KindNumbers.{user_count}
+use Rattle.jvm_model.specs.Classes.Load.{is_among, load_of}
+use Rattle.jvm_model.specs.Profiling.Points.{has_class}
+use Rattle.jvm_model.specs.Basis.Programs.{place_of_method}
+use Rattle.jvm_model.specs.Profiling.Revealed.{Revealed, with_loaded}
+use Rattle.jvm_model.specs.Soundness.Sound.{HasClass, HasSupertypes}
+use Rattle.jvm_model.proofs.Loading.LoadOrder.{load-order}
+use Rattle.jvm_model.proofs.Soundness.SoundClasses.{named-load}
 use Rattle.class_linker.specs.declared.answers.Loaded.{Loaded}
 use Rattle.class_linker.specs.declared.answers.Loaded.TheVariants.{New, Already, Throws, NoMemory}
 use Rattle.class_linker.specs.Linkers.{IsLoaded, LinkerView, linker_of, loaded_by}

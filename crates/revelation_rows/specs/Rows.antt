@@ -2,10 +2,10 @@
 use Rattle.std.specs.Prelude.{◌≡◌, ◌≢◌, ℕ, zero, suc, Bool, true, false, not, List, [], ◌∷◌, Option, Some, None}
 use Rattle.jvm_model.specs.declared.event.Mark.{Mark}
 use Rattle.jvm_model.specs.declared.program.Program.{Program}
-use Rattle.jvm_model.specs.Load.{is_among, load_of}
-use Rattle.jvm_model.specs.Points.{has_class, is_empty}
-use Rattle.jvm_model.specs.Revealed.{Revealed, changed_of, marks_of, with_loaded, with_method_entered, with_none_entered, with_selected, without_selected}
-use Rattle.jvm_model.specs.Targets.{targets}
+use Rattle.jvm_model.specs.Classes.Load.{is_among, load_of}
+use Rattle.jvm_model.specs.Profiling.Points.{has_class, is_empty}
+use Rattle.jvm_model.specs.Profiling.Revealed.{Revealed, changed_of, marks_of, with_loaded, with_method_entered, with_none_entered, with_selected, without_selected}
+use Rattle.jvm_model.specs.Profiling.Targets.{targets}
 use Rattle.call_revelation.specs.Reveals.{nothing_revealed}
 use Rattle.call_revelation.specs.Tables.{IsRising}
 use Rattle.revelation_rows.specs.declared.item.Difference.{Difference}

@@ -2,10 +2,10 @@
 use Rattle.std.specs.Prelude.{◌≡◌, ℕ, false, List, [], Option, Some, None}
 use Rattle.jvm_model.specs.declared.event.Mark.{Mark}
 use Rattle.jvm_model.specs.declared.program.Program.{Program}
-use Rattle.jvm_model.specs.KindNumbers.{user_count}
-use Rattle.jvm_model.specs.Load.{load_of}
-use Rattle.jvm_model.specs.Revealed.{marks_of}
-use Rattle.jvm_model.specs.Revelation.{IsLoadOrder}
+use Rattle.jvm_model.specs.Basis.KindNumbers.{user_count}
+use Rattle.jvm_model.specs.Classes.Load.{load_of}
+use Rattle.jvm_model.specs.Profiling.Revealed.{marks_of}
+use Rattle.jvm_model.specs.Profiling.Revelation.{IsLoadOrder}
 use Rattle.class_linker.specs.Linkers.{IsLoaded, LinkerView}
 use Rattle.program_fit.specs.Runnable.{IsAdmitted}
 use Rattle.call_revelation.specs.declared.reveal.Reveal.{Reveal}

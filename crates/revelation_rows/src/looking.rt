@@ -1,8 +1,8 @@
 //! What is the case in a scene, beside what a row says of it.
 
 ghost use Rattle.std.specs.Prelude.{◌≡◌, ◌≢◌, true, false, IfOk};
-ghost use Rattle.jvm_model.specs.Points.{has_class};
-ghost use Rattle.jvm_model.specs.Revealed.{marks_of};
+ghost use Rattle.jvm_model.specs.Profiling.Points.{has_class};
+ghost use Rattle.jvm_model.specs.Profiling.Revealed.{marks_of};
 ghost use Rattle.call_revelation.specs.Reveals.{now_of};
 ghost use Rattle.revelation_rows.specs.Rows.{AreTargets};
 ghost use Rattle.revelation_rows.specs.Scenes.{IsAnswered, IsReady};

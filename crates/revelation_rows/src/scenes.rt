@@ -1,9 +1,9 @@
 //! A program whose classes are loaded and whose methods are entered and selected as a row says.
 
 ghost use Rattle.std.specs.Prelude.{◌≡◌, true, IfOk, OnOk};
-ghost use Rattle.jvm_model.specs.KindNumbers.{user_count};
-ghost use Rattle.jvm_model.specs.Points.{has_class};
-ghost use Rattle.jvm_model.specs.Revealed.{with_loaded};
+ghost use Rattle.jvm_model.specs.Basis.KindNumbers.{user_count};
+ghost use Rattle.jvm_model.specs.Profiling.Points.{has_class};
+ghost use Rattle.jvm_model.specs.Profiling.Revealed.{with_loaded};
 ghost use Rattle.class_linker.specs.Linkers.{IsLoaded};
 ghost use Rattle.program_fit.specs.Runnable.{IsAdmitted};
 ghost use Rattle.call_revelation.specs.Reveals.{now_of};

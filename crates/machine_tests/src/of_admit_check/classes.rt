@@ -3,7 +3,7 @@
 ghost use Rattle.std.specs.Prelude.{◌<◌, ◌≤◌, ◌^◌, length, IfSome};
 ghost use Rattle.std.specs.List.{AllByRecursion};
 ghost use Rattle.const_pool.specs.ClassFile.{IsClassFile};
-ghost use Rattle.jvm_model.specs.SoundPrograms.{IsHeapLimit};
+ghost use Rattle.jvm_model.specs.Soundness.SoundPrograms.{IsHeapLimit};
 
 use admit_check::{AdmitError, admit};
 use class_reader::read_class;

@@ -1,6 +1,6 @@
 -- what is left of the attributes decides
 use Rattle.std.proofs.Common.{◌≡◌, drop}
-use Rattle.jvm_model.specs.Methods.{code_among, code_of}
+use Rattle.jvm_model.specs.Basis.Methods.{code_among, code_of}
 use Rattle.admit_check.proofs.codes.code_of.Given as goal
 
 abbrev pub invariant-loop-attribute : goal.invariant-loop-attribute

@@ -1,6 +1,6 @@
 -- the places so far, and those still to come
 use Rattle.std.proofs.Common.{◌≡◌, ◌++◌, drop}
-use Rattle.jvm_model.specs.Programs.{coded_from}
+use Rattle.jvm_model.specs.Basis.Programs.{coded_from}
 use Rattle.admit_check.proofs.program.add_coded.Given as goal
 
 abbrev pub invariant-loop-at : goal.invariant-loop-at

@@ -1,7 +1,7 @@
 -- what is left of the methods decides
 use Rattle.std.proofs.Common.{◌≡◌, drop}
 use Rattle.const_pool.specs.References.{name_type_of}
-use Rattle.jvm_model.specs.Methods.{method_from, method_named}
+use Rattle.jvm_model.specs.Basis.Methods.{method_from, method_named}
 use Rattle.admit_check.proofs.program.method_named.Given as goal
 
 abbrev pub invariant-loop-at : goal.invariant-loop-at

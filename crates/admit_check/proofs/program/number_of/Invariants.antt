@@ -1,6 +1,6 @@
 -- what is left of the places decides
 use Rattle.std.proofs.Common.{◌≡◌, drop}
-use Rattle.jvm_model.specs.Programs.{number_from}
+use Rattle.jvm_model.specs.Basis.Programs.{number_from}
 use Rattle.admit_check.proofs.program.number_of.Given as goal
 
 abbrev pub invariant-loop-number : goal.invariant-loop-number

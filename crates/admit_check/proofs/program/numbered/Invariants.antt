@@ -1,6 +1,6 @@
 -- the places so far, and those of the classes still to come
 use Rattle.std.proofs.Common.{◌≡◌, ◌++◌, drop}
-use Rattle.jvm_model.specs.Programs.{numbered, numbered_from}
+use Rattle.jvm_model.specs.Basis.Programs.{numbered, numbered_from}
 use Rattle.admit_check.proofs.program.numbered.Given as goal
 
 abbrev pub invariant-loop-number : goal.invariant-loop-number

@@ -1,7 +1,7 @@
 use Rattle.std.proofs.Common.{◌≡◌, ◌∙◌, ap, false, rules, subst, sym}
 use Rattle.std.specs.Prelude.{OnOk}
-use Rattle.jvm_model.specs.Naming.{Invokespecial}
-use Rattle.jvm_model.specs.Targets.{begun_by}
+use Rattle.jvm_model.specs.Instructions.Naming.{Invokespecial}
+use Rattle.jvm_model.specs.Profiling.Targets.{begun_by}
 use Rattle.jvm_named.specs.Names.{naming_view}
 use Rattle.call_revelation.specs.Tables.{Adds}
 use Rattle.call_revelation.proofs.BegunLemmas.{begun-by-name, is_special}

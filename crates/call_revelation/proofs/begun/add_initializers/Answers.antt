@@ -2,7 +2,7 @@ use Rattle.std.proofs.Common.{◌≡◌, ap₂}
 use Rattle.std.specs.Prelude.{filter_map}
 use Rattle.std.specs.Str.{chars}
 use Rattle.std.proofs.lemmas.Result.{on_ok_weaker}
-use Rattle.jvm_model.specs.Targets.{initializers}
+use Rattle.jvm_model.specs.Profiling.Targets.{initializers}
 use Rattle.class_index.specs.Orders.{with_classes}
 use Rattle.call_revelation.specs.Lineages.{initializer_in}
 use Rattle.call_revelation.specs.Tables.{Adds}

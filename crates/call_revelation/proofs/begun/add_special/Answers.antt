@@ -1,8 +1,8 @@
 use Rattle.std.proofs.Common.{◌∙◌, [], subst, sym}
 use Rattle.std.specs.Prelude.{OnOk}
 use Rattle.std.specs.Option.{option_map_or}
-use Rattle.jvm_model.specs.InvocationRules.{Special}
-use Rattle.jvm_model.specs.Targets.{begun_on}
+use Rattle.jvm_model.specs.Instructions.InvocationRules.{Special}
+use Rattle.jvm_model.specs.Profiling.Targets.{begun_on}
 use Rattle.jvm_named.specs.Members.{reference_of}
 use Rattle.call_revelation.specs.Tables.{Adds}
 use Rattle.call_revelation.proofs.begun.add_special.Goals as goal

@@ -1,6 +1,6 @@
 -- a flag says that what is left has it
 use Rattle.std.proofs.Common.{◌≡◌, ℕ, true, length}
-use Rattle.jvm_model.specs.Load.{is_among}
+use Rattle.jvm_model.specs.Classes.Load.{is_among}
 use Rattle.call_revelation.specs.Ranks.{flag_at}
 use Rattle.call_revelation.proofs.entering.leave_all.Given as goal
 

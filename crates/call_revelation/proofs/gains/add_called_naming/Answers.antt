@@ -1,6 +1,6 @@
 use Rattle.std.proofs.Common.{◌∙◌, ap, subst, sym}
 use Rattle.std.specs.Prelude.{OnOk}
-use Rattle.jvm_model.specs.Naming.{Invokeinterface, Invokevirtual}
+use Rattle.jvm_model.specs.Instructions.Naming.{Invokeinterface, Invokevirtual}
 use Rattle.jvm_named.specs.Names.{naming_view}
 use Rattle.call_revelation.specs.Books.{called_on}
 use Rattle.call_revelation.specs.Tables.{Adds}

@@ -2,9 +2,9 @@
 use Rattle.std.proofs.Common.{◌≡◌, ℕ, map, drop}
 use Rattle.std.specs.Prelude.{flat_map, ◌||◌}
 use Rattle.std.specs.List.{AllByRecursion}
-use Rattle.jvm_model.specs.Load.{is_among}
-use Rattle.jvm_model.specs.Sound.{HasLoadedCaller}
-use Rattle.jvm_model.specs.Targets.{begun_by}
+use Rattle.jvm_model.specs.Classes.Load.{is_among}
+use Rattle.jvm_model.specs.Soundness.Sound.{HasLoadedCaller}
+use Rattle.jvm_model.specs.Profiling.Targets.{begun_by}
 use Rattle.jvm_named.specs.Names.{naming_view}
 use Rattle.call_revelation.proofs.gathering.add_all_begun.Given as goal
 

@@ -1,7 +1,7 @@
 -- what is no further on is below the bound
 use Rattle.std.proofs.Common.{◌≡◌, ◌<◌, ◌^◌, ◌+◌, ℕ, true, drop}
 use Rattle.std.specs.Prelude.{◌⊎◌}
-use Rattle.jvm_model.specs.Load.{is_among}
+use Rattle.jvm_model.specs.Classes.Load.{is_among}
 use Rattle.call_revelation.proofs.gathering.bound_of.Given as goal
 
 abbrev pub invariant-loop-number : goal.invariant-loop-number

@@ -1,10 +1,10 @@
 use Rattle.std.proofs.Common.{◌∙◌, [], map, subst, sym, ap}
 use Rattle.std.specs.Prelude.{flat_map}
 use Rattle.std.specs.List.{AllByRecursion}
-use Rattle.jvm_model.specs.Load.{is_among}
-use Rattle.jvm_model.specs.Sound.{HasLoadedCaller}
-use Rattle.jvm_model.specs.Targets.{begun_by, operations_of}
-use Rattle.jvm_model.specs.Revelation.{namings_of}
+use Rattle.jvm_model.specs.Classes.Load.{is_among}
+use Rattle.jvm_model.specs.Soundness.Sound.{HasLoadedCaller}
+use Rattle.jvm_model.specs.Profiling.Targets.{begun_by, operations_of}
+use Rattle.jvm_model.specs.Profiling.Revelation.{namings_of}
 use Rattle.jvm_named.specs.Names.{naming_view}
 use Rattle.jvm_named.specs.Numbers.{AreNumbers}
 use Rattle.call_revelation.specs.Tables.{Adds}

@@ -1,6 +1,6 @@
 -- what is left decides, behind so many dimensions
 use Rattle.std.proofs.Common.{◌≡◌, drop}
-use Rattle.jvm_model.specs.Kinds.{array_from}
+use Rattle.jvm_model.specs.Classes.Kinds.{array_from}
 use Rattle.class_index.proofs.meaning.array_of.Given as goal
 
 abbrev pub invariant-loop-at : goal.invariant-loop-at

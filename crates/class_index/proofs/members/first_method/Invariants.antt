@@ -1,6 +1,6 @@
 -- the first among the classes that are left is the first of all
 use Rattle.std.proofs.Common.{◌≡◌, drop}
-use Rattle.jvm_model.specs.Lookup.{first_in, method_at}
+use Rattle.jvm_model.specs.Classes.Lookup.{first_in, method_at}
 use Rattle.class_index.specs.Members.{wanted_view}
 use Rattle.class_index.proofs.members.first_method.Given as goal
 

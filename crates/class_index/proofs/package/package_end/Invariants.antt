@@ -1,6 +1,6 @@
 -- what is left decides, with the end so far
 use Rattle.std.proofs.Common.{◌≡◌, ◌≤◌, drop}
-use Rattle.jvm_model.specs.Selection.{package_end}
+use Rattle.jvm_model.specs.Classes.Selection.{package_end}
 use Rattle.class_index.proofs.package.package_end.Given as goal
 
 abbrev pub invariant-loop-at : goal.invariant-loop-at

@@ -1,6 +1,6 @@
 -- what is left of the needs decides, with what is loaded by then
 use Rattle.std.proofs.Common.{◌≡◌, ◌-◌, ◌++◌, ◌∷◌, [], drop, map}
-use Rattle.jvm_model.specs.Load.{load_named, load_needs, needs_of}
+use Rattle.jvm_model.specs.Classes.Load.{load_named, load_needs, needs_of}
 use Rattle.class_linker.specs.States.{IsLater, IsState, need_view}
 use Rattle.class_linker.proofs.loading.+load_named.Given as goal
 

@@ -1,7 +1,7 @@
 -- what is left of the classes decides
 use Rattle.std.proofs.Common.{◌≡◌, true, drop}
 use Rattle.std.specs.List.{list_any}
-use Rattle.jvm_model.specs.Selection.{passed_at}
+use Rattle.jvm_model.specs.Classes.Selection.{passed_at}
 use Rattle.class_linker.specs.Places.{at_place}
 use Rattle.class_linker.specs.Rows.{all_rows}
 use Rattle.class_linker.proofs.overriding.passed_among.Given as goal

@@ -2,8 +2,8 @@
 use Rattle.std.proofs.Common.{◌≡◌, ◌++◌, drop, map, filter}
 use Rattle.std.specs.Prelude.{not}
 use Rattle.const_pool.specs.declared.class.Member.{Member}
-use Rattle.jvm_model.specs.Layouts.{field_kind, own_kinds}
-use Rattle.jvm_model.specs.Methods.{has_flag}
+use Rattle.jvm_model.specs.Classes.Layouts.{field_kind, own_kinds}
+use Rattle.jvm_model.specs.Basis.Methods.{has_flag}
 use Rattle.class_linker.proofs.rows.add_own.Given as goal
 
 abbrev pub invariant-loop-field : goal.invariant-loop-field

@@ -1,7 +1,7 @@
 -- what is left of the classes decides, and where the search knows that nothing passes the method on, nothing does to these
 use Rattle.std.proofs.Common.{◌≡◌, true, false, drop}
-use Rattle.jvm_model.specs.Lookup.{first_in}
-use Rattle.jvm_model.specs.Selection.{candidate}
+use Rattle.jvm_model.specs.Classes.Lookup.{first_in}
+use Rattle.jvm_model.specs.Classes.Selection.{candidate}
 use Rattle.class_linker.specs.Passing.{AreUnpassed, IsChain}
 use Rattle.class_linker.specs.Places.{at_place}
 use Rattle.class_linker.specs.Rows.{all_rows}

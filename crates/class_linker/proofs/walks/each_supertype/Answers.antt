@@ -1,5 +1,5 @@
 use Rattle.std.proofs.Common.{◌∙◌, ap}
-use Rattle.jvm_model.specs.Load.{is_among}
+use Rattle.jvm_model.specs.Classes.Load.{is_among}
 use Rattle.class_linker.proofs.Walked.{subtype_walked}
 use Rattle.class_linker.proofs.walks.each_supertype.Goals as goal
 

@@ -1,5 +1,5 @@
 use Rattle.std.proofs.Common.{sym, subst}
-use Rattle.jvm_model.specs.Lookup.{superinterfaces}
+use Rattle.jvm_model.specs.Classes.Lookup.{superinterfaces}
 use Rattle.class_index.specs.Orders.{IsSearchedAs}
 use Rattle.class_linker.proofs.Walked.{superinterfaces_walked}
 use Rattle.class_linker.proofs.walks.superinterfaces_of.Goals as goal

@@ -1,5 +1,5 @@
 use Rattle.std.proofs.Common.{◌∙◌, ap, sym, subst}
-use Rattle.jvm_model.specs.Lookup.{supertypes}
+use Rattle.jvm_model.specs.Classes.Lookup.{supertypes}
 use Rattle.class_index.specs.Orders.{IsSearchedAs}
 use Rattle.class_linker.specs.Rows.{all_rows}
 use Rattle.class_linker.proofs.Walked.{supertypes_rows, supertypes_walked}

@@ -1,7 +1,7 @@
 -- what is left decides
 use Rattle.std.proofs.Common.{◌≡◌, drop}
 use Rattle.std.specs.Prelude.{None}
-use Rattle.jvm_model.specs.ImageTables.{rise_from}
+use Rattle.jvm_model.specs.Rewriting.ImageTables.{rise_from}
 use Rattle.inject_events.proofs.frame_tables.rise.Given as goal
 
 abbrev pub invariant-loop-frame : goal.invariant-loop-frame

@@ -4,7 +4,7 @@ use Rattle.std.specs.Prelude.{All}
 use Rattle.stackmap_shift.specs.declared.frames.Frame.{Frame}
 use Rattle.stackmap_shift.specs.Conditions.{FitsFrame}
 use Rattle.stackmap_shift.specs.Moves.{moved_frames}
-use Rattle.jvm_model.specs.ImageTables.{last_frame}
+use Rattle.jvm_model.specs.Rewriting.ImageTables.{last_frame}
 use Rattle.inject_events.specs.Tables.{version_frames}
 use Rattle.inject_events.proofs.Framing.{FitsFrame-version}
 use Rattle.inject_events.proofs.frame_tables.version_frames.Goals as goal

@@ -1,6 +1,6 @@
 -- they rise, and each fits
 use Rattle.std.proofs.Common.{sym, ap, ◌∙◌}
-use Rattle.jvm_model.specs.ImageTables.{is_writable}
+use Rattle.jvm_model.specs.Rewriting.ImageTables.{is_writable}
 use Rattle.inject_events.proofs.Framing.{AreWritable-is}
 use Rattle.inject_events.proofs.frame_tables.written_or_kept.Goals as goal
 

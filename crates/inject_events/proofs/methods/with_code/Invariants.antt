@@ -1,6 +1,6 @@
 -- the attributes so far stand in front of what is left
 use Rattle.std.proofs.Common.{◌≡◌, ◌++◌, drop}
-use Rattle.jvm_model.specs.Images.{with_code_among}
+use Rattle.jvm_model.specs.Rewriting.Images.{with_code_among}
 use Rattle.inject_events.specs.Probing.{coded_among}
 use Rattle.inject_events.proofs.methods.with_code.Given as goal
 

@@ -4,7 +4,7 @@ use Rattle.std.specs.Prelude.{map}
 use Rattle.code_model.specs.declared.laying.Group.{Group}
 use Rattle.code_model.specs.declared.laying.Laid.{Laid}
 use Rattle.code_model.specs.Layout.{homes_of}
-use Rattle.jvm_model.specs.Versions.{group_of}
+use Rattle.jvm_model.specs.Rewriting.Versions.{group_of}
 use Rattle.inject_events.proofs.InstrsIn.{AreGroups-in, rise-in}
 use Rattle.inject_events.proofs.rewriting.laid_with.Goals as goal
 

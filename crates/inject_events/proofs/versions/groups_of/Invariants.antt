@@ -1,7 +1,7 @@
 -- the groups so far
 use Rattle.std.proofs.Common.{◌≡◌}
 use Rattle.std.specs.Prelude.{map}
-use Rattle.jvm_model.specs.Versions.{group_of}
+use Rattle.jvm_model.specs.Rewriting.Versions.{group_of}
 use Rattle.inject_events.proofs.versions.groups_of.Given as goal
 
 abbrev pub invariant-loop-instr : goal.invariant-loop-instr

@@ -4,7 +4,7 @@ use Rattle.std.specs.Prelude.{IsTrue, ◌↔◌}
 use Rattle.frame_stack.specs.FrameLists.{top_operands}
 use Rattle.jvm_basic.specs.declared.effect.Effect.{Effect}
 use Rattle.jvm_basic.specs.declared.effect.Effect.TheVariants.{Throws, Bad, Other}
-use Rattle.jvm_model.specs.Families.{family_of}
+use Rattle.jvm_model.specs.Basis.Families.{family_of}
 use Rattle.jvm_basic.specs.Laws.{is_elsewhere, divides_by_zero}
 use Rattle.jvm_basic.specs.Needs.{is_bad}
 use Rattle.jvm_basic.specs.Outcomes.{effect_of, after}

@@ -1,6 +1,6 @@
 -- the rule of its family is the instruction's
 use Rattle.std.proofs.Common.{◌∙◌, ap}
-use Rattle.jvm_model.specs.Families.{family_of}
+use Rattle.jvm_model.specs.Basis.Families.{family_of}
 use Rattle.jvm_basic.specs.Outcomes.{effect_of, after}
 use Rattle.jvm_basic.specs.Rules.{does}
 use Rattle.jvm_basic.proofs.Asked.{effect-is, after-is}

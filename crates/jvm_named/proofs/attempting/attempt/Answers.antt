@@ -1,5 +1,5 @@
 use Rattle.frame_stack.specs.FrameLists.{top_operands}
-use Rattle.jvm_model.specs.Naming.{newly_loaded}
+use Rattle.jvm_model.specs.Instructions.Naming.{newly_loaded}
 use Rattle.jvm_named.specs.Names.{naming_view}
 use Rattle.jvm_named.proofs.Again.{loads-in}
 use Rattle.jvm_named.proofs.Attempted.{is_more, objects_later}

@@ -1,6 +1,6 @@
 use Rattle.std.proofs.Common.{◌≡◌, true, rules}
 use Rattle.frame_stack.specs.FrameLists.{top_operands}
-use Rattle.jvm_model.specs.Naming.{resolves}
+use Rattle.jvm_model.specs.Instructions.Naming.{resolves}
 use Rattle.jvm_named.specs.Attempts.{attempts, world_over}
 use Rattle.jvm_named.specs.Names.{naming_view}
 use Rattle.jvm_named.specs.Resolved.{does_resolved}

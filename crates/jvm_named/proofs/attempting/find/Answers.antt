@@ -1,7 +1,7 @@
 use Rattle.std.proofs.Common.{◌≡◌, ◌∙◌, true, IfOk, ap, subst, rules}
 use Rattle.frame_stack.specs.FrameLists.{top_operands}
-use Rattle.jvm_model.specs.Load.{load_of}
-use Rattle.jvm_model.specs.Naming.{resolved_kind, resolves}
+use Rattle.jvm_model.specs.Classes.Load.{load_of}
+use Rattle.jvm_model.specs.Instructions.Naming.{resolved_kind, resolves}
 use Rattle.jvm_named.specs.Names.{naming_view}
 use Rattle.jvm_named.specs.Objects.{IsResolved}
 use Rattle.jvm_named.proofs.Attempted.{all_loaded, found_by, resolved_later}

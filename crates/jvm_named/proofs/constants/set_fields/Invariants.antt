@@ -1,6 +1,6 @@
 -- what is left to set leads to what all of it leads to
 use Rattle.std.proofs.Common.{◌≡◌, drop}
-use Rattle.jvm_model.specs.Constants.{sets_fields}
+use Rattle.jvm_model.specs.Running.Constants.{sets_fields}
 use Rattle.jvm_named.proofs.constants.set_fields.Given as goal
 
 abbrev pub invariant-loop-position : goal.invariant-loop-position

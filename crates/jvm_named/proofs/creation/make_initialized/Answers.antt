@@ -1,8 +1,8 @@
 use Rattle.frame_stack.specs.FrameLists.{top_operands}
 use Rattle.jvm_basic.specs.Outcomes.{top_locals}
-use Rattle.jvm_model.specs.CreationRules.{makes_instance}
-use Rattle.jvm_model.specs.Rules.{initialized}
-use Rattle.jvm_model.specs.SharedState.{phase_of}
+use Rattle.jvm_model.specs.Instructions.CreationRules.{makes_instance}
+use Rattle.jvm_model.specs.Instructions.Rules.{initialized}
+use Rattle.jvm_model.specs.Basis.SharedState.{phase_of}
 use Rattle.jvm_named.proofs.Carried.{answers_by, moves_by, shares_by, when_it_is_ready, when_it_is_running}
 use Rattle.jvm_named.proofs.creation.make_initialized.Goals as goal
 

@@ -1,6 +1,6 @@
 -- the fields so far, and those of the kinds that are left
 use Rattle.std.proofs.Common.{◌≡◌, ◌++◌, drop, map}
-use Rattle.jvm_model.specs.CreationRules.{zero_of}
+use Rattle.jvm_model.specs.Instructions.CreationRules.{zero_of}
 use Rattle.jvm_named.proofs.creation.zeros.Given as goal
 
 abbrev pub invariant-loop-kind : goal.invariant-loop-kind

@@ -1,8 +1,8 @@
 use Rattle.std.proofs.Common.{◌∙◌, ap, subst, sym}
 use Rattle.frame_stack.specs.FrameLists.{top_operands}
 use Rattle.jvm_basic.specs.Outcomes.{top_locals}
-use Rattle.jvm_model.specs.FieldRules.{kind_by, putting_of}
-use Rattle.jvm_model.specs.Layouts.{held_by}
+use Rattle.jvm_model.specs.Instructions.FieldRules.{kind_by, putting_of}
+use Rattle.jvm_model.specs.Classes.Layouts.{held_by}
 use Rattle.jvm_named.specs.Fields.{putting_view}
 use Rattle.jvm_named.specs.Members.{at_place, reference_of}
 use Rattle.jvm_named.specs.Objects.{AreLoaded}

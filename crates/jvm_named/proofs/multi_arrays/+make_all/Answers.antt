@@ -1,7 +1,7 @@
 use Rattle.std.proofs.Common.{◌∙◌, ◌+◌, ◌-◌, ◌<◌, ap, rules, sym}
 use Rattle.heap_objects.specs.declared.datum.Datum.TheVariants.{Ref}
 use Rattle.heap_objects.specs.Heaps.{with_slot_at}
-use Rattle.jvm_model.specs.CreationRules.{with_arrays, with_parts}
+use Rattle.jvm_model.specs.Instructions.CreationRules.{with_arrays, with_parts}
 use Rattle.jvm_named.proofs.ArraysMade.{parts_step}
 use Rattle.jvm_named.proofs.multi_arrays.+make_all.Goals as goal
 

@@ -1,6 +1,6 @@
 use Rattle.std.proofs.Common.{◌≡◌, ◌-◌, length}
 use Rattle.heap_objects.specs.Heaps.{next_number}
-use Rattle.jvm_model.specs.CreationRules.{with_arrays, with_parts}
+use Rattle.jvm_model.specs.Instructions.CreationRules.{with_arrays, with_parts}
 use Rattle.jvm_named.proofs.multi_arrays.+make_all.Given as goal
 
 -- the parts that are left lead to what all of them do

@@ -2,7 +2,7 @@ use Rattle.std.proofs.Common.{◌≡◌, ◌∙◌, ◌<◌, ◌-◌, ◌++◌, 
 use Rattle.std.specs.Prelude.{None, slice_get}
 use Rattle.std.specs.Option.{option_map}
 use Rattle.frame_stack.specs.FrameLists.{top_operands}
-use Rattle.jvm_model.specs.CreationRules.{counts_from}
+use Rattle.jvm_model.specs.Instructions.CreationRules.{counts_from}
 use Rattle.jvm_named.specs.Arrays.{int_at}
 use Rattle.jvm_named.proofs.ArraysMade.{count_next, count_none}
 use Rattle.jvm_named.proofs.multi_arrays.counts_of.Goals as goal

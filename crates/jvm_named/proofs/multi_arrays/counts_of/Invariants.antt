@@ -2,7 +2,7 @@
 use Rattle.std.proofs.Common.{◌≡◌, ◌++◌, []}
 use Rattle.std.specs.Option.{option_map}
 use Rattle.frame_stack.specs.FrameLists.{top_operands}
-use Rattle.jvm_model.specs.CreationRules.{counts_from, counts_of}
+use Rattle.jvm_model.specs.Instructions.CreationRules.{counts_from, counts_of}
 use Rattle.jvm_named.proofs.multi_arrays.counts_of.Given as goal
 
 abbrev pub invariant-loop-left : goal.invariant-loop-left

@@ -1,6 +1,6 @@
 use Rattle.std.proofs.Common.{◌≡◌, ◌∙◌, ◌≤◌, ◌/◌, Some, length, ap, subst, sym}
 use Rattle.frame_stack.specs.FrameLists.{top_operands}
-use Rattle.jvm_model.specs.CreationRules.{counts_of}
+use Rattle.jvm_model.specs.Instructions.CreationRules.{counts_of}
 use Rattle.jvm_named.proofs.ArraysMade.{counts_count, fits_below}
 use Rattle.jvm_named.proofs.multi_arrays.make_arrays.Goals as goal
 

@@ -1,5 +1,5 @@
 use Rattle.std.proofs.Common.{◌≡◌, ◌∙◌, ◌≤◌, ◌/◌, Some, length, ap, subst, sym}
-use Rattle.jvm_model.specs.CreationRules.{lengths_of}
+use Rattle.jvm_model.specs.Instructions.CreationRules.{lengths_of}
 use Rattle.jvm_named.proofs.ArraysMade.{lengths_count}
 use Rattle.jvm_named.proofs.multi_arrays.make_counts.Goals as goal
 

@@ -1,6 +1,6 @@
 use Rattle.std.proofs.Common.{◌∙◌, sym, subst}
 use Rattle.frame_stack.specs.FrameLists.{top_operands}
-use Rattle.jvm_model.specs.NativeRules.{kinds_in, seen_by_natives}
+use Rattle.jvm_model.specs.Instructions.NativeRules.{kinds_in, seen_by_natives}
 use Rattle.native_ops.specs.Calls.{is_done}
 use Rattle.jvm_named.specs.Attempts.{world_over}
 use Rattle.jvm_named.specs.Objects.{AreLoaded}

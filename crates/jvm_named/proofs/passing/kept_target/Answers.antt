@@ -2,7 +2,7 @@ use Rattle.std.proofs.Common.{◌≡◌, Some, true, false, rules}
 use Rattle.std.specs.Prelude.{◌==◌}
 use Rattle.frame_stack.specs.FrameLists.{top_operands}
 use Rattle.heap_objects.specs.Heaps.{kind_at}
-use Rattle.jvm_model.specs.InvocationRules.{arguments_by, receiver_in}
+use Rattle.jvm_model.specs.Instructions.InvocationRules.{arguments_by, receiver_in}
 use Rattle.jvm_named.specs.Targets.{data_in, selecting_view}
 use Rattle.jvm_named.proofs.SelectionLemmas.{target_kept}
 use Rattle.jvm_named.proofs.passing.kept_target.Goals as goal

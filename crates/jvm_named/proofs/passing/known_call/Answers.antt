@@ -1,6 +1,6 @@
 use Rattle.std.proofs.Common.{sym, subst, refl}
 use Rattle.std.specs.Prelude.{IfSome}
-use Rattle.jvm_model.specs.Naming.{Invokeinterface, Invokespecial, Invokestatic, Invokevirtual}
+use Rattle.jvm_model.specs.Instructions.Naming.{Invokeinterface, Invokespecial, Invokestatic, Invokevirtual}
 use Rattle.jvm_named.specs.declared.naming.Naming.{Naming as Kept}
 use Rattle.jvm_named.specs.Answers.{done_on}
 use Rattle.jvm_named.specs.Attempts.{attempts, world_over}

@@ -1,5 +1,5 @@
 use Rattle.std.proofs.Common.{sym, subst, refl}
-use Rattle.jvm_model.specs.Naming.{Getfield, Getstatic, Putfield, Putstatic}
+use Rattle.jvm_model.specs.Instructions.Naming.{Getfield, Getstatic, Putfield, Putstatic}
 use Rattle.jvm_named.specs.declared.naming.Naming.{Naming as Kept}
 use Rattle.jvm_named.specs.Answers.{done_on}
 use Rattle.jvm_named.specs.Attempts.{attempts, world_over}

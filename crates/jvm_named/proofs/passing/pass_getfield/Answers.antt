@@ -1,10 +1,10 @@
 use Rattle.std.proofs.Common.{[], sym, ap, subst, refl, ◌∙◌}
 use Rattle.frame_stack.specs.FrameLists.{top_operands, with_frames}
 use Rattle.jvm_basic.specs.Outcomes.{top_locals}
-use Rattle.jvm_model.specs.Data.{Done}
-use Rattle.jvm_model.specs.FieldRules.{gets_of}
-use Rattle.jvm_model.specs.Naming.{Getfield, unless_refused}
-use Rattle.jvm_model.specs.Values.{ref_of}
+use Rattle.jvm_model.specs.Basis.Data.{Done}
+use Rattle.jvm_model.specs.Instructions.FieldRules.{gets_of}
+use Rattle.jvm_model.specs.Instructions.Naming.{Getfield, unless_refused}
+use Rattle.jvm_model.specs.Basis.Values.{ref_of}
 use Rattle.jvm_named.specs.Answers.{answer_in, answer_view, done_on, frames_in}
 use Rattle.jvm_named.specs.Known.{IsField, IsFoundAs}
 use Rattle.jvm_named.specs.Members.{reference_of}

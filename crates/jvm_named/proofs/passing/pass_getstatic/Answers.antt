@@ -2,13 +2,13 @@ use Rattle.std.proofs.Common.{◌≡◌, [], sym, ap, subst, refl, ◌∙◌}
 use Rattle.std.specs.Option.{option_map}
 use Rattle.frame_stack.specs.FrameLists.{top_operands, with_frames}
 use Rattle.jvm_basic.specs.Outcomes.{top_locals}
-use Rattle.jvm_model.specs.Data.{Done}
-use Rattle.jvm_model.specs.FieldRules.{pushes_static, static_field}
-use Rattle.jvm_model.specs.LocalRules.{pushes}
-use Rattle.jvm_model.specs.Naming.{Getstatic, unless_refused}
-use Rattle.jvm_model.specs.ObjectRules.{done}
-use Rattle.jvm_model.specs.SharedState.{phase_of, static_at}
-use Rattle.jvm_model.specs.Values.{as_value}
+use Rattle.jvm_model.specs.Basis.Data.{Done}
+use Rattle.jvm_model.specs.Instructions.FieldRules.{pushes_static, static_field}
+use Rattle.jvm_model.specs.Instructions.LocalRules.{pushes}
+use Rattle.jvm_model.specs.Instructions.Naming.{Getstatic, unless_refused}
+use Rattle.jvm_model.specs.Instructions.ObjectRules.{done}
+use Rattle.jvm_model.specs.Basis.SharedState.{phase_of, static_at}
+use Rattle.jvm_model.specs.Basis.Values.{as_value}
 use Rattle.jvm_named.specs.Answers.{answer_in, answer_view, done_on, frames_in}
 use Rattle.jvm_named.specs.Known.{IsFoundAs}
 use Rattle.jvm_named.specs.Members.{at_place, reference_of}

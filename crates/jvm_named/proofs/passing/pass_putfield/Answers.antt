@@ -2,10 +2,10 @@ use Rattle.std.proofs.Common.{◌≡◌, true, drop, Some, sym, ap, subst, refl,
 use Rattle.frame_stack.specs.FrameLists.{top_operands}
 use Rattle.jvm_basic.specs.Outcomes.{top_locals}
 use Rattle.jvm_model.specs.declared.state.Shared.{Shared}
-use Rattle.jvm_model.specs.Data.{GoesOn, Next}
-use Rattle.jvm_model.specs.FieldRules.{kind_by, putting_of}
-use Rattle.jvm_model.specs.Layouts.{held_by}
-use Rattle.jvm_model.specs.Naming.{Putfield}
+use Rattle.jvm_model.specs.Basis.Data.{GoesOn, Next}
+use Rattle.jvm_model.specs.Instructions.FieldRules.{kind_by, putting_of}
+use Rattle.jvm_model.specs.Classes.Layouts.{held_by}
+use Rattle.jvm_model.specs.Instructions.Naming.{Putfield}
 use Rattle.jvm_named.specs.Answers.{answer_view, done_on}
 use Rattle.jvm_named.specs.Fields.{putting_view, writes}
 use Rattle.jvm_named.specs.Known.{IsField, IsFoundAs}

@@ -2,12 +2,12 @@ use Rattle.std.proofs.Common.{◌≡◌, true, drop, Some, sym, ap, subst, refl,
 use Rattle.frame_stack.specs.FrameLists.{top_operands}
 use Rattle.jvm_basic.specs.Outcomes.{top_locals}
 use Rattle.jvm_model.specs.declared.state.Shared.{Shared}
-use Rattle.jvm_model.specs.Data.{Done, GoesOn, Next}
-use Rattle.jvm_model.specs.FieldRules.{held_of, kind_by, sets_static}
-use Rattle.jvm_model.specs.Layouts.{held_by}
-use Rattle.jvm_model.specs.Naming.{Putstatic, unless_refused}
-use Rattle.jvm_model.specs.Rules.{initialized}
-use Rattle.jvm_model.specs.SharedState.{phase_of}
+use Rattle.jvm_model.specs.Basis.Data.{Done, GoesOn, Next}
+use Rattle.jvm_model.specs.Instructions.FieldRules.{held_of, kind_by, sets_static}
+use Rattle.jvm_model.specs.Classes.Layouts.{held_by}
+use Rattle.jvm_model.specs.Instructions.Naming.{Putstatic, unless_refused}
+use Rattle.jvm_model.specs.Instructions.Rules.{initialized}
+use Rattle.jvm_model.specs.Basis.SharedState.{phase_of}
 use Rattle.jvm_named.specs.Answers.{answer_view, done_on}
 use Rattle.jvm_named.specs.Known.{IsFoundAs}
 use Rattle.jvm_named.specs.Members.{at_place, reference_of}

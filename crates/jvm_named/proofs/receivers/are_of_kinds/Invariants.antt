@@ -2,7 +2,7 @@
 use Rattle.std.proofs.Common.{◌≡◌, ◌≤◌, ◌<◌, drop, length, take}
 use Rattle.std.specs.Prelude.{is_some, reverse}
 use Rattle.frame_stack.specs.FrameLists.{top_operands}
-use Rattle.jvm_model.specs.Values.{arguments, data_of}
+use Rattle.jvm_model.specs.Basis.Values.{arguments, data_of}
 use Rattle.jvm_named.proofs.receivers.are_of_kinds.Given as goal
 
 abbrev pub invariant-loop-i : goal.invariant-loop-i

@@ -1,7 +1,7 @@
 use Rattle.std.proofs.Common.{sym, ap, ◌∙◌, arith, length, true, false}
 use Rattle.frame_stack.specs.FrameLists.{top_operands}
-use Rattle.jvm_model.specs.InvocationRules.{arguments_by, with_receiver}
-use Rattle.jvm_model.specs.Values.{arguments}
+use Rattle.jvm_model.specs.Instructions.InvocationRules.{arguments_by, with_receiver}
+use Rattle.jvm_model.specs.Basis.Values.{arguments}
 use Rattle.jvm_named.proofs.Arguments.{by-shape, few-params, no-shape}
 use Rattle.jvm_named.proofs.receivers.argument_count.Goals as goal
 

@@ -1,5 +1,5 @@
 use Rattle.std.proofs.Common.{◌∙◌, ap, subst, sym, ◌++◌, Err}
-use Rattle.jvm_model.specs.Data.{Raises}
+use Rattle.jvm_model.specs.Basis.Data.{Raises}
 use Rattle.jvm_named.specs.Answers.{exception_name}
 use Rattle.std.proofs.lemmas.List.{append-nil}
 use Rattle.class_linker.specs.Linkers.{LinkerView}

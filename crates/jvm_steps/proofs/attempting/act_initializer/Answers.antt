@@ -1,5 +1,5 @@
 use Rattle.std.proofs.lemmas.Result.{on_ok_weaker}
-use Rattle.jvm_steps.proofs.Beneath.{does-beneath, ends-beneath, within-unless}
+use Rattle.jvm_steps.proofs.Marked.Beneath.{does-beneath, ends-beneath, within-unless}
 use Rattle.jvm_steps.proofs.attempting.act_initializer.Goals as goal
 
 pub returns-in-Return : goal.returns-in-Return

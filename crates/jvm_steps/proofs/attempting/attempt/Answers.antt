@@ -1,8 +1,8 @@
 use Rattle.std.proofs.Common.{sym, ap, ◌∙◌}
-use Rattle.jvm_steps.specs.Acts.{attempts_on, awaited_on}
-use Rattle.jvm_steps.specs.Markers.{state_of}
-use Rattle.jvm_steps.proofs.Beneath.{awaits-unnamed, loads-unnamed, nothing-there}
-use Rattle.jvm_steps.proofs.Sounded.{objects-linked}
+use Rattle.jvm_steps.specs.Instructions.Acts.{attempts_on, awaited_on}
+use Rattle.jvm_steps.specs.Machine.Markers.{state_of}
+use Rattle.jvm_steps.proofs.Marked.Beneath.{awaits-unnamed, loads-unnamed, nothing-there}
+use Rattle.jvm_steps.proofs.Moves.Sounded.{objects-linked}
 use Rattle.jvm_steps.proofs.attempting.attempt.Goals as goal
 
 pub returns-in_default-clause-answer : goal.returns-in_default-clause-answer

@@ -1,6 +1,6 @@
 use Rattle.std.proofs.Common.{sym, ap, ◌∙◌}
-use Rattle.jvm_steps.specs.Markers.{state_of}
-use Rattle.jvm_steps.proofs.Beneath.{breaks-there, done-there}
+use Rattle.jvm_steps.specs.Machine.Markers.{state_of}
+use Rattle.jvm_steps.proofs.Marked.Beneath.{breaks-there, done-there}
 use Rattle.jvm_steps.proofs.attempting.attempt_line.Goals as goal
 
 pub returns-in_default : goal.returns-in_default

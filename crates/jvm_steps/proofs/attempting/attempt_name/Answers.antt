@@ -1,7 +1,7 @@
 use Rattle.std.proofs.Common.{sym, ◌∙◌}
-use Rattle.jvm_steps.specs.Markers.{state_of}
-use Rattle.jvm_steps.proofs.NamedAttempts.{awaits-told, begins-on, concluded-in, goes-on, loads-told}
-use Rattle.jvm_steps.proofs.Sounded.{built-in-linked, caller-linked, objects-linked}
+use Rattle.jvm_steps.specs.Machine.Markers.{state_of}
+use Rattle.jvm_steps.proofs.Instructions.NamedAttempts.{awaits-told, begins-on, concluded-in, goes-on, loads-told}
+use Rattle.jvm_steps.proofs.Moves.Sounded.{built-in-linked, caller-linked, objects-linked}
 use Rattle.jvm_steps.proofs.attempting.attempt_name.Goals as goal
 
 pub attempt_named-requires-clause-built_in : goal.attempt_named-requires-clause-built_in

@@ -1,7 +1,7 @@
 use Rattle.std.proofs.Common.{sym, ap, ◌∙◌}
 use Rattle.std.proofs.lemmas.Result.{on_ok_weaker}
-use Rattle.jvm_model.specs.SharedState.{arguments_fit}
-use Rattle.jvm_steps.proofs.StartLoads.{begun-loads, begun-none}
+use Rattle.jvm_model.specs.Basis.SharedState.{arguments_fit}
+use Rattle.jvm_steps.proofs.Loads.StartLoads.{begun-loads, begun-none}
 use Rattle.jvm_steps.proofs.beginning.begin_start.Goals as goal
 
 pub returns-then-arguments_fit-clause-loads : goal.returns-then-arguments_fit-clause-loads

@@ -1,10 +1,10 @@
 use Rattle.std.proofs.Common.{◌+◌, ◌≤◌, sym, ap, subst, ◌∙◌}
 use Rattle.jvm_model.specs.declared.program.Program.{Program}
-use Rattle.jvm_model.specs.Run.{main_class}
-use Rattle.jvm_model.specs.SharedState.{arguments_cost, with_arguments}
+use Rattle.jvm_model.specs.Running.Run.{main_class}
+use Rattle.jvm_model.specs.Basis.SharedState.{arguments_cost, with_arguments}
 use Rattle.jvm_named.specs.Answers.{found_view}
-use Rattle.jvm_steps.specs.Markers.{state_of}
-use Rattle.jvm_steps.proofs.Starts.{begins-all, fits-room, root-before}
+use Rattle.jvm_steps.specs.Machine.Markers.{state_of}
+use Rattle.jvm_steps.proofs.Loads.Starts.{begins-all, fits-room, root-before}
 use Rattle.jvm_steps.proofs.beginning.load_main.Goals as goal
 
 pub make_arguments-requires-clause-room : goal.make_arguments-requires-clause-room

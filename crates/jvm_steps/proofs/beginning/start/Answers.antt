@@ -1,8 +1,8 @@
 use Rattle.std.proofs.lemmas.Result.{on_ok_weaker}
-use Rattle.jvm_steps.specs.Markers.{state_of}
-use Rattle.jvm_steps.proofs.Behind.{loaded-behind}
-use Rattle.jvm_steps.proofs.StandingSteps.{run-of-starts}
-use Rattle.jvm_steps.proofs.Starts.{start-is}
+use Rattle.jvm_steps.specs.Machine.Markers.{state_of}
+use Rattle.jvm_steps.proofs.Marked.Behind.{loaded-behind}
+use Rattle.jvm_steps.proofs.Moves.StandingSteps.{run-of-starts}
+use Rattle.jvm_steps.proofs.Loads.Starts.{start-is}
 use Rattle.jvm_steps.proofs.beginning.start.Goals as goal
 
 pub returns-clause-linked : goal.returns-clause-linked

@@ -1,6 +1,6 @@
 -- nothing that was known is lost
 use Rattle.std.proofs.Common.{◌≡◌, ℕ}
-use Rattle.jvm_steps.specs.Cells.{cell_at}
+use Rattle.jvm_steps.specs.Codes.Cells.{cell_at}
 use Rattle.jvm_steps.proofs.cells.add_rows.Given as goal
 
 abbrev pub invariant-loop : goal.invariant-loop

@@ -1,6 +1,6 @@
 -- with what is left of the methods
 use Rattle.std.proofs.Common.{◌≡◌, ◌++◌, drop}
-use Rattle.jvm_steps.specs.ClassVersions.{versions_from}
+use Rattle.jvm_steps.specs.Codes.ClassVersions.{versions_from}
 use Rattle.jvm_steps.proofs.class_versions.versions_of.Given as goal
 
 abbrev pub invariant-loop-at : goal.invariant-loop-at

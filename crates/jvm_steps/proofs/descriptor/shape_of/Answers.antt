@@ -4,7 +4,7 @@ use Rattle.const_pool.specs.declared.descriptor.DescriptorError.{DescriptorError
 use Rattle.const_pool.specs.declared.descriptor.DescriptorError.TheVariants.{BadDescriptor}
 use Rattle.const_pool.specs.declared.descriptor.Shape.{Shape}
 use Rattle.const_pool.specs.Descriptors.{IsReadAs}
-use Rattle.jvm_model.proofs.Shapes.{method_read, no_shape, shape_grammar}
+use Rattle.jvm_model.proofs.Running.Shapes.{method_read, no_shape, shape_grammar}
 use Rattle.jvm_steps.proofs.descriptor.shape_of.Goals as goal
 
 refused : (error : DescriptorError) (at : ℕ) (shape : Shape) → error ≡ BadDescriptor at → IsReadAs (Err error) shape → ⊥

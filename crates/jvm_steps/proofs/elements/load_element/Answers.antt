@@ -1,7 +1,7 @@
 use Rattle.std.proofs.Common.{sym, ap, ◌∙◌}
 use Rattle.std.specs.Option.{option_map}
-use Rattle.jvm_steps.specs.Elements.{place_by}
-use Rattle.jvm_steps.proofs.ElementActs.{is-loaded}
+use Rattle.jvm_steps.specs.Instructions.Elements.{place_by}
+use Rattle.jvm_steps.proofs.Instructions.ElementActs.{is-loaded}
 use Rattle.jvm_steps.proofs.elements.load_element.Goals as goal
 
 pub returns : goal.returns

@@ -2,7 +2,7 @@ use Rattle.std.proofs.Common.{ℕ, refl, to_z-of_z}
 use Rattle.const_pool.specs.declared.descriptor.Kind.TheVariants as kind
 use Rattle.heap_objects.specs.declared.datum.Datum.TheVariants as datum
 use Rattle.heap_objects.specs.declared.element.Element.TheVariants as element
-use Rattle.jvm_steps.proofs.QuickElements.{quick-index}
+use Rattle.jvm_steps.proofs.Instructions.QuickElements.{quick-index}
 use Rattle.jvm_steps.proofs.elements.reference_for.Goals as goal
 
 pub returns : goal.returns

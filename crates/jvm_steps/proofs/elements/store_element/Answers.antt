@@ -1,6 +1,6 @@
 use Rattle.std.proofs.Common.{sym, ap, ◌∙◌}
-use Rattle.jvm_steps.specs.Elements.{access_of}
-use Rattle.jvm_steps.proofs.ElementActs.{slot-there}
+use Rattle.jvm_steps.specs.Instructions.Elements.{access_of}
+use Rattle.jvm_steps.proofs.Instructions.ElementActs.{slot-there}
 use Rattle.jvm_steps.proofs.elements.store_element.Goals as goal
 
 pub store-requires-clause-slot : goal.store-requires-clause-slot

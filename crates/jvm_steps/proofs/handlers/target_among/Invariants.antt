@@ -1,8 +1,8 @@
 -- none of the handlers so far covers the place
 use Rattle.std.proofs.Common.{◌≡◌, drop}
 use Rattle.std.specs.Prelude.{map}
-use Rattle.jvm_model.specs.Moves.{handler_for}
-use Rattle.jvm_steps.specs.Versions.{catcher_in}
+use Rattle.jvm_model.specs.Running.Moves.{handler_for}
+use Rattle.jvm_steps.specs.Codes.Versions.{catcher_in}
 use Rattle.jvm_steps.proofs.handlers.target_among.Given as goal
 
 abbrev pub invariant-loop-handler : goal.invariant-loop-handler

@@ -1,7 +1,7 @@
 use Rattle.std.proofs.Common.{sym, ◌∙◌}
 use Rattle.std.proofs.lemmas.Bool.{false≢true}
-use Rattle.jvm_steps.specs.Markers.{state_of}
-use Rattle.jvm_steps.proofs.HandLaws.{attempt-sound, hands-on, moves-linked, moves-sound, reaches-attempt, reaches-moves, start-sound}
+use Rattle.jvm_steps.specs.Machine.Markers.{state_of}
+use Rattle.jvm_steps.proofs.Moves.HandLaws.{attempt-sound, hands-on, moves-linked, moves-sound, reaches-attempt, reaches-moves, start-sound}
 use Rattle.jvm_steps.proofs.hands.go.Goals as goal
 
 -- by moves

@@ -1,4 +1,4 @@
-use Rattle.jvm_steps.proofs.InitializerFrames.{begins-on}
+use Rattle.jvm_steps.proofs.Instructions.InitializerFrames.{begins-on}
 use Rattle.jvm_steps.proofs.initializing.begin_initializer.Goals as goal
 
 pub returns : goal.returns

@@ -2,8 +2,8 @@
 use Rattle.std.proofs.Common.{◌≡◌, ◌≤◌, ◌<◌, drop, length}
 use Rattle.std.specs.Prelude.{is_some}
 use Rattle.frame_stack.specs.FrameLists.{top_operands}
-use Rattle.jvm_model.specs.Values.{data_of}
-use Rattle.jvm_steps.specs.Arguments.{arguments_of}
+use Rattle.jvm_model.specs.Basis.Values.{data_of}
+use Rattle.jvm_steps.specs.Instructions.Arguments.{arguments_of}
 use Rattle.jvm_steps.proofs.invoking.are_of_kinds.Given as goal
 
 abbrev pub invariant-loop-i : goal.invariant-loop-i

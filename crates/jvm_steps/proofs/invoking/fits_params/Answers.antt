@@ -1,8 +1,8 @@
 use Rattle.std.proofs.Common.{length, nat_le, sym, ap, ◌∙◌, arith}
 use Rattle.std.specs.Prelude.{is_some}
-use Rattle.jvm_model.specs.Values.{data_of}
-use Rattle.jvm_steps.specs.Arguments.{arguments_of, slots_for}
-use Rattle.jvm_steps.proofs.Callees.{fits-by, fits-nowhere}
+use Rattle.jvm_model.specs.Basis.Values.{data_of}
+use Rattle.jvm_steps.specs.Instructions.Arguments.{arguments_of, slots_for}
+use Rattle.jvm_steps.proofs.Instructions.Callees.{fits-by, fits-nowhere}
 use Rattle.jvm_steps.proofs.invoking.fits_params.Goals as goal
 
 pub returns-then-len-max_locals : goal.returns-then-len-max_locals

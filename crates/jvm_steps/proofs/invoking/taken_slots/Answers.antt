@@ -1,7 +1,7 @@
 use Rattle.std.proofs.Common.{sym, ◌∙◌, ap, take, add-one, arith}
 use Rattle.frame_stack.specs.FrameLists.{top_operands}
 use Rattle.frame_stack.specs.Widths.{height_of}
-use Rattle.jvm_steps.proofs.Arguments.{height-next, within-next}
+use Rattle.jvm_steps.proofs.Instructions.Arguments.{height-next, within-next}
 use Rattle.jvm_steps.proofs.invoking.taken_slots.Goals as goal
 
 pub loop-i-preserved : goal.loop-i-preserved

@@ -1,5 +1,5 @@
 use Rattle.std.proofs.Common.{◌<◌, ◌∙◌, length, rules}
-use Rattle.jvm_steps.proofs.BuiltInLoads.{loads-more}
+use Rattle.jvm_steps.proofs.Loads.BuiltInLoads.{loads-more}
 use Rattle.jvm_steps.proofs.loading.load_built_in.Goals as goal
 
 pub loop-class-preserved : goal.loop-class-preserved

@@ -1,6 +1,6 @@
 -- the classes that are left are still to be loaded
 use Rattle.std.proofs.Common.{◌≡◌, drop}
-use Rattle.jvm_steps.specs.Prepared.{load_built_in}
+use Rattle.jvm_steps.specs.Codes.Prepared.{load_built_in}
 use Rattle.jvm_steps.proofs.loading.load_built_in.Given as goal
 
 abbrev pub invariant-loop-class : goal.invariant-loop-class

@@ -1,4 +1,4 @@
-use Rattle.jvm_steps.proofs.MarkedParts.{marked-at, marked-below}
+use Rattle.jvm_steps.proofs.Marked.MarkedParts.{marked-at, marked-below}
 use Rattle.jvm_steps.proofs.markers.mark.Goals as goal
 
 pub returns-clause-state : goal.returns-clause-state

@@ -1,6 +1,6 @@
 use Rattle.std.proofs.Common.{sym, ap, ◌∙◌}
-use Rattle.jvm_steps.specs.Markers.{marker_on}
-use Rattle.jvm_steps.proofs.MarkedParts.{taken}
+use Rattle.jvm_steps.specs.Machine.Markers.{marker_on}
+use Rattle.jvm_steps.proofs.Marked.MarkedParts.{taken}
 use Rattle.jvm_steps.proofs.markers.take_marker.Goals as goal
 
 pub returns : goal.returns

@@ -1,7 +1,7 @@
 -- what is left of the methods decides
 use Rattle.std.proofs.Common.{◌≡◌, drop}
-use Rattle.jvm_model.specs.Methods.{method_from, method_named}
-use Rattle.jvm_model.specs.Programs.{initializer_name}
+use Rattle.jvm_model.specs.Basis.Methods.{method_from, method_named}
+use Rattle.jvm_model.specs.Basis.Programs.{initializer_name}
 use Rattle.jvm_steps.proofs.members.initializer_in.Given as goal
 
 abbrev pub invariant-loop-at : goal.invariant-loop-at

@@ -1,6 +1,6 @@
 -- what is left makes the same of what is there, and there is room for it
 use Rattle.std.proofs.Common.{◌≡◌, ◌+◌, ◌≤◌, drop}
-use Rattle.jvm_model.specs.SharedState.{texts_cost, with_texts}
+use Rattle.jvm_model.specs.Basis.SharedState.{texts_cost, with_texts}
 use Rattle.jvm_steps.proofs.objects.put_texts.Given as goal
 
 abbrev pub invariant-loop-at : goal.invariant-loop-at

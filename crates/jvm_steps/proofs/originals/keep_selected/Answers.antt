@@ -1,6 +1,6 @@
 use Rattle.std.proofs.Common.{subst}
 use Rattle.jvm_named.specs.Known.{IsKnown}
-use Rattle.jvm_steps.specs.Lines.{IfNamedBy}
+use Rattle.jvm_steps.specs.Codes.Lines.{IfNamedBy}
 use Rattle.jvm_steps.proofs.originals.keep_selected.Goals as goal
 
 pub returns-in-Named : goal.returns-in-Named

@@ -7,8 +7,8 @@ use Rattle.jvm_named.specs.Known.{IsKnown}
 use Rattle.jvm_named.specs.Names.{naming_view}
 use Rattle.jvm_named.specs.Objects.{AreLoaded}
 use Rattle.jvm_named.specs.Passing.{IfPassed}
-use Rattle.jvm_steps.proofs.PassingSteps.{access-passes}
-use Rattle.jvm_steps.proofs.Sounded.{objects-linked}
+use Rattle.jvm_steps.proofs.Silent.PassingSteps.{access-passes}
+use Rattle.jvm_steps.proofs.Moves.Sounded.{objects-linked}
 use Rattle.jvm_steps.proofs.passing.pass_access.Goals as goal
 
 pub pass_field-requires-clause-linked : goal.pass_field-requires-clause-linked

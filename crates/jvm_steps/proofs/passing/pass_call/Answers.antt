@@ -10,11 +10,11 @@ use Rattle.jvm_named.specs.Numbers.{AreNumbers}
 use Rattle.jvm_named.specs.Objects.{AreLoaded}
 use Rattle.jvm_named.specs.Selections.{AreSelections}
 use Rattle.jvm_named.specs.Passing.{IfRan, IsCall, IsInvoked, IsNativeCall}
-use Rattle.jvm_steps.specs.Passing.{changed_in}
-use Rattle.jvm_steps.proofs.PassingCalls.{called-passes}
-use Rattle.jvm_steps.proofs.PassingSteps.{native-passes, native-there, nothing-new}
-use Rattle.jvm_steps.proofs.Sounded.{objects-linked}
-use Rattle.jvm_steps.proofs.SilentSteps.{passes_none}
+use Rattle.jvm_steps.specs.Instructions.Passing.{changed_in}
+use Rattle.jvm_steps.proofs.Silent.PassingCalls.{called-passes}
+use Rattle.jvm_steps.proofs.Silent.PassingSteps.{native-passes, native-there, nothing-new}
+use Rattle.jvm_steps.proofs.Moves.Sounded.{objects-linked}
+use Rattle.jvm_steps.proofs.Silent.SilentSteps.{passes_none}
 use Rattle.jvm_steps.proofs.passing.pass_call.Goals as goal
 
 pub known_call-requires-clause-linked : goal.known_call-requires-clause-linked

@@ -1,6 +1,6 @@
 use Rattle.std.proofs.Common.{sym, ap, ◌∙◌}
 use Rattle.std.specs.Option.{option_copied}
-use Rattle.jvm_steps.proofs.SilentSteps.{passes_none}
+use Rattle.jvm_steps.proofs.Silent.SilentSteps.{passes_none}
 use Rattle.jvm_steps.proofs.passing.pass_line.Goals as goal
 
 pub pass_named-requires-clause-here : goal.pass_named-requires-clause-here

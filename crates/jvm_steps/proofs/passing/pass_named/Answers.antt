@@ -1,8 +1,8 @@
 use Rattle.jvm_named.specs.Known.{IsKnown}
-use Rattle.jvm_steps.specs.Linked.{linker_in}
-use Rattle.jvm_steps.specs.Versions.{line_at}
-use Rattle.jvm_steps.proofs.PassingSteps.{held-there}
-use Rattle.jvm_steps.proofs.SilentSteps.{passes_none}
+use Rattle.jvm_steps.specs.Codes.Linked.{linker_in}
+use Rattle.jvm_steps.specs.Codes.Versions.{line_at}
+use Rattle.jvm_steps.proofs.Silent.PassingSteps.{held-there}
+use Rattle.jvm_steps.proofs.Silent.SilentSteps.{passes_none}
 use Rattle.jvm_steps.proofs.passing.pass_named.Goals as goal
 
 pub pass_call-requires-clause-known : goal.pass_call-requires-clause-known

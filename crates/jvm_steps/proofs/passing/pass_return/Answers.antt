@@ -1,11 +1,11 @@
 use Rattle.std.proofs.Common.{◌≡◌, subst}
 use Rattle.std.specs.Option.{IfSome}
 use Rattle.frame_stack.specs.FrameLists.{top_operands}
-use Rattle.jvm_model.specs.Data.{Returns}
-use Rattle.jvm_model.specs.LocalRules.{returns as gives}
-use Rattle.jvm_steps.specs.Passing.{ReturnsTo}
-use Rattle.jvm_steps.proofs.ReturnLemmas.{gives-passes}
-use Rattle.jvm_steps.proofs.SilentSteps.{passes_none}
+use Rattle.jvm_model.specs.Basis.Data.{Returns}
+use Rattle.jvm_model.specs.Instructions.LocalRules.{returns as gives}
+use Rattle.jvm_steps.specs.Instructions.Passing.{ReturnsTo}
+use Rattle.jvm_steps.proofs.Silent.ReturnLemmas.{gives-passes}
+use Rattle.jvm_steps.proofs.Silent.SilentSteps.{passes_none}
 use Rattle.jvm_steps.proofs.passing.pass_return.Goals as goal
 
 pub returns-in_default : goal.returns-in_default

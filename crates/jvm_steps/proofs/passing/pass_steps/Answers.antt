@@ -1,8 +1,8 @@
 use Rattle.std.proofs.Common.{◌≡◌, ◌+◌, sym, subst, ◌∙◌, arith}
-use Rattle.jvm_steps.specs.Markers.{state_of}
-use Rattle.jvm_steps.specs.Passing.{Passes, steps_if}
-use Rattle.jvm_steps.proofs.Behind.{leads-sound}
-use Rattle.jvm_steps.proofs.SilentSteps.{passes-alone, passes-on}
+use Rattle.jvm_steps.specs.Machine.Markers.{state_of}
+use Rattle.jvm_steps.specs.Instructions.Passing.{Passes, steps_if}
+use Rattle.jvm_steps.proofs.Marked.Behind.{leads-sound}
+use Rattle.jvm_steps.proofs.Silent.SilentSteps.{passes-alone, passes-on}
 use Rattle.jvm_steps.proofs.passing.pass_steps.Goals as goal
 
 pub loop-made-init : goal.loop-made-init

@@ -1,6 +1,6 @@
 -- so many steps lead to the parts and tell nothing
 use Rattle.std.proofs.Common.{◌≤◌, ◌-◌}
-use Rattle.jvm_steps.specs.Passing.{Passes}
+use Rattle.jvm_steps.specs.Instructions.Passing.{Passes}
 use Rattle.jvm_steps.proofs.passing.pass_steps.Given as goal
 
 abbrev pub invariant-loop-made : goal.invariant-loop-made

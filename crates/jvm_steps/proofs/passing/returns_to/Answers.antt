@@ -1,8 +1,8 @@
 use Rattle.std.proofs.Common.{◌-◌, sym, ap, ◌∙◌}
 use Rattle.std.specs.Option.{option_copied}
-use Rattle.jvm_steps.specs.Markers.{marker_on}
-use Rattle.jvm_steps.proofs.Beneath.{not-some}
-use Rattle.jvm_steps.proofs.ReturnLemmas.{caller-there, returns-there}
+use Rattle.jvm_steps.specs.Machine.Markers.{marker_on}
+use Rattle.jvm_steps.proofs.Marked.Beneath.{not-some}
+use Rattle.jvm_steps.proofs.Silent.ReturnLemmas.{caller-there, returns-there}
 use Rattle.jvm_steps.proofs.passing.returns_to.Goals as goal
 
 pub returns : goal.returns

@@ -1,8 +1,8 @@
 use Rattle.std.proofs.Common.{sym, ◌∙◌}
-use Rattle.jvm_steps.specs.Markers.{state_of}
-use Rattle.jvm_steps.specs.Versions.{text_of}
-use Rattle.jvm_steps.proofs.LineSteps.{rest-moves}
-use Rattle.jvm_steps.proofs.OneMove.{rest-pauses}
+use Rattle.jvm_steps.specs.Machine.Markers.{state_of}
+use Rattle.jvm_steps.specs.Codes.Versions.{text_of}
+use Rattle.jvm_steps.proofs.Moves.LineSteps.{rest-moves}
+use Rattle.jvm_steps.proofs.Moves.OneMove.{rest-pauses}
 use Rattle.jvm_steps.proofs.pausing.pause.Goals as goal
 
 pub returns-then-is_at_rest : goal.returns-then-is_at_rest

@@ -1,8 +1,8 @@
 -- the pause is that of the state at the start
 use Rattle.std.proofs.Common.{◌≡◌}
-use Rattle.jvm_model.specs.Moves.{left}
-use Rattle.jvm_steps.specs.Markers.{state_of}
-use Rattle.jvm_steps.specs.Turning.{paused_in}
+use Rattle.jvm_model.specs.Running.Moves.{left}
+use Rattle.jvm_steps.specs.Machine.Markers.{state_of}
+use Rattle.jvm_steps.specs.Moves.Turning.{paused_in}
 use Rattle.jvm_steps.proofs.pausing.pause_on.Given as goal
 
 abbrev pub invariant-loop-passed : goal.invariant-loop-passed

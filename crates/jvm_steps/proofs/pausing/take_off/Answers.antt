@@ -1,7 +1,7 @@
 use Rattle.std.proofs.Common.{sym, ap, ◌∙◌}
-use Rattle.jvm_steps.specs.Markers.{marker_on}
-use Rattle.jvm_steps.proofs.Beneath.{not-some}
-use Rattle.jvm_steps.proofs.TurnsCarried.{popped-there}
+use Rattle.jvm_steps.specs.Machine.Markers.{marker_on}
+use Rattle.jvm_steps.proofs.Marked.Beneath.{not-some}
+use Rattle.jvm_steps.proofs.Moves.TurnsCarried.{popped-there}
 use Rattle.jvm_steps.proofs.pausing.take_off.Goals as goal
 
 pub returns : goal.returns

@@ -1,7 +1,7 @@
 use Rattle.std.proofs.Common.{ap}
 use Rattle.frame_stack.specs.FrameLists.{FramesView}
 use Rattle.jvm_steps.specs.declared.parts.Parts.{Parts}
-use Rattle.jvm_steps.proofs.PassedLines.{passed-alone, passed-load, passed-store}
+use Rattle.jvm_steps.proofs.Silent.PassedLines.{passed-alone, passed-load, passed-store}
 use Rattle.jvm_steps.proofs.plain.pass_cold.Goals as goal
 
 pub returns-in-Local-clause-gone : goal.returns-in-Local-clause-gone

@@ -1,6 +1,6 @@
 use Rattle.std.proofs.Common.{refl, sym}
 use Rattle.std.proofs.lemmas.Bool.{false≢true}
-use Rattle.jvm_steps.proofs.PassedLines.{kept-alone, passed-as}
+use Rattle.jvm_steps.proofs.Silent.PassedLines.{kept-alone, passed-as}
 use Rattle.jvm_steps.proofs.plain.pass_line.Goals as goal
 
 pub returns-in-Next : goal.returns-in-Next

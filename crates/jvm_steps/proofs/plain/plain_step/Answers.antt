@@ -1,6 +1,6 @@
 use Rattle.std.proofs.lemmas.Bool.{false≢true}
-use Rattle.jvm_steps.proofs.ElementSteps.{stands-there}
-use Rattle.jvm_steps.proofs.PassedLines.{passed-leads, stays-by}
+use Rattle.jvm_steps.proofs.Instructions.ElementSteps.{stands-there}
+use Rattle.jvm_steps.proofs.Silent.PassedLines.{passed-leads, stays-by}
 use Rattle.jvm_steps.proofs.plain.plain_step.Goals as goal
 
 pub returns-clause-gone : goal.returns-clause-gone

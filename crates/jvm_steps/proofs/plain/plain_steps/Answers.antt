@@ -1,10 +1,10 @@
 use Rattle.std.proofs.Common.{sym, subst, ap, ◌∙◌, refl, arith}
 use Rattle.std.specs.Option.{option_and_then, option_copied}
 use Rattle.jvm_steps.specs.declared.parts.Parts.{Parts}
-use Rattle.jvm_steps.specs.Runs.{LeadsAlone, RunsVersion}
-use Rattle.jvm_steps.specs.Tables.{version_at}
-use Rattle.jvm_steps.proofs.Leading.{alone-none, alone-on}
-use Rattle.jvm_steps.proofs.PlainSteps.{runs-here}
+use Rattle.jvm_steps.specs.Machine.Runs.{LeadsAlone, RunsVersion}
+use Rattle.jvm_steps.specs.Codes.Tables.{version_at}
+use Rattle.jvm_steps.proofs.Silent.Leading.{alone-none, alone-on}
+use Rattle.jvm_steps.proofs.Silent.PlainSteps.{runs-here}
 use Rattle.jvm_steps.proofs.plain.plain_steps.Goals as goal
 
 pub returns-in_default-clause-made : goal.returns-in_default-clause-made

@@ -1,6 +1,6 @@
 use Rattle.std.proofs.Common.{Some, ap}
-use Rattle.jvm_steps.specs.Entries.{original_slot}
-use Rattle.jvm_steps.proofs.Tabled.{tabled-more}
+use Rattle.jvm_steps.specs.Codes.Entries.{original_slot}
+use Rattle.jvm_steps.proofs.Codes.Tabled.{tabled-more}
 use Rattle.jvm_steps.proofs.preparing.all_versions.Goals as goal
 
 pub loop-method-preserved : goal.loop-method-preserved

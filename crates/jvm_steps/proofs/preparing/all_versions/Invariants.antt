@@ -2,7 +2,7 @@
 use Rattle.std.proofs.Common.{◌≡◌}
 use Rattle.std.specs.Prelude.{map}
 use Rattle.std.specs.List.{range_with_len}
-use Rattle.jvm_steps.specs.Entries.{original_slot}
+use Rattle.jvm_steps.specs.Codes.Entries.{original_slot}
 use Rattle.jvm_steps.proofs.preparing.all_versions.Given as goal
 
 abbrev pub invariant-loop-method : goal.invariant-loop-method

@@ -1,5 +1,5 @@
-use Rattle.jvm_steps.specs.Entries.{code_line}
-use Rattle.jvm_steps.proofs.Tabled.{tabled-more}
+use Rattle.jvm_steps.specs.Codes.Entries.{code_line}
+use Rattle.jvm_steps.proofs.Codes.Tabled.{tabled-more}
 use Rattle.jvm_steps.proofs.preparing.lines_of.Goals as goal
 
 pub loop-at-preserved : goal.loop-at-preserved

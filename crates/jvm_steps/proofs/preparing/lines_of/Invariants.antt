@@ -2,7 +2,7 @@
 use Rattle.std.proofs.Common.{◌≡◌}
 use Rattle.std.specs.Prelude.{map}
 use Rattle.std.specs.List.{range_with_len}
-use Rattle.jvm_steps.specs.Entries.{code_line}
+use Rattle.jvm_steps.specs.Codes.Entries.{code_line}
 use Rattle.jvm_steps.proofs.preparing.lines_of.Given as goal
 
 abbrev pub invariant-loop-at : goal.invariant-loop-at

@@ -1,6 +1,6 @@
 use Rattle.std.proofs.Common.{refl}
-use Rattle.jvm_steps.specs.Entries.{own_number}
-use Rattle.jvm_steps.proofs.Tabled.{tabled-more}
+use Rattle.jvm_steps.specs.Codes.Entries.{own_number}
+use Rattle.jvm_steps.proofs.Codes.Tabled.{tabled-more}
 use Rattle.jvm_steps.proofs.preparing.numbers_to.Goals as goal
 
 pub loop-method-preserved : goal.loop-method-preserved

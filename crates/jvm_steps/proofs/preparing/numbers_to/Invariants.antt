@@ -1,7 +1,7 @@
 -- the numbers so far
 use Rattle.std.proofs.Common.{◌≡◌, map}
 use Rattle.std.specs.List.{range_with_len}
-use Rattle.jvm_steps.specs.Entries.{own_number}
+use Rattle.jvm_steps.specs.Codes.Entries.{own_number}
 use Rattle.jvm_steps.proofs.preparing.numbers_to.Given as goal
 
 abbrev pub invariant-loop-method : goal.invariant-loop-method

@@ -1,7 +1,7 @@
 -- the methods so far
 use Rattle.std.proofs.Common.{◌≡◌, take}
 use Rattle.std.specs.Prelude.{map}
-use Rattle.jvm_steps.specs.Entries.{entry_at}
+use Rattle.jvm_steps.specs.Codes.Entries.{entry_at}
 use Rattle.jvm_steps.proofs.preparing.prepare_methods.Given as goal
 
 abbrev pub invariant-loop-place : goal.invariant-loop-place

@@ -1,9 +1,9 @@
 use Rattle.std.proofs.Common.{List, Option, ℕ, map, sym, ap, subst, ◌∙◌, arith}
 use Rattle.std.specs.List.{range_with_len}
 use Rattle.method_versions.specs.Tables.{IsFirst}
-use Rattle.jvm_steps.specs.Entries.{original_versions, own_number}
-use Rattle.jvm_steps.specs.Tables.{Version}
-use Rattle.jvm_steps.proofs.OriginalsRun.{original-first}
+use Rattle.jvm_steps.specs.Codes.Entries.{original_versions, own_number}
+use Rattle.jvm_steps.specs.Codes.Tables.{Version}
+use Rattle.jvm_steps.proofs.Codes.OriginalsRun.{original-first}
 use Rattle.jvm_steps.proofs.preparing.prepare_versions.Goals as goal
 
 pub of-requires : goal.of-requires

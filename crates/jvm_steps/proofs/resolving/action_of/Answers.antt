@@ -1,8 +1,8 @@
 use Rattle.std.proofs.Common.{ap, ◌∙◌}
 use Rattle.std.specs.Option.{option_map}
-use Rattle.jvm_model.specs.Lines.{operation_by}
-use Rattle.jvm_steps.specs.Lines.{action_of}
-use Rattle.jvm_steps.proofs.Actions.{family-acted}
+use Rattle.jvm_model.specs.Codes.Lines.{operation_by}
+use Rattle.jvm_steps.specs.Codes.Lines.{action_of}
+use Rattle.jvm_steps.proofs.Codes.Actions.{family-acted}
 use Rattle.jvm_steps.proofs.resolving.action_of.Goals as goal
 
 pub returns-in_default : goal.returns-in_default

@@ -3,7 +3,7 @@ use Rattle.std.proofs.Common.{Ok, Err, subst, nat_cmp, ◌∙◌}
 use Rattle.std.specs.List.Sorted.{IsBinarySearchResult}
 use Rattle.std.proofs.lemmas.List.Sorted.{searched}
 use Rattle.code_model.proofs.Searches.{rise-le}
-use Rattle.jvm_steps.proofs.Halves.{found_nowhere, found_there}
+use Rattle.jvm_steps.proofs.Codes.Halves.{found_nowhere, found_there}
 use Rattle.jvm_steps.proofs.rewritten.found_beside.Goals as goal
 
 pub returns-in-Ok : goal.returns-in-Ok

@@ -1,5 +1,5 @@
-use Rattle.jvm_steps.specs.Rewritten.{homed_line}
-use Rattle.jvm_steps.proofs.Tabled.{tabled-more}
+use Rattle.jvm_steps.specs.Codes.Rewritten.{homed_line}
+use Rattle.jvm_steps.proofs.Codes.Tabled.{tabled-more}
 use Rattle.jvm_steps.proofs.rewritten.homed_lines.Goals as goal
 
 pub loop-home-preserved : goal.loop-home-preserved

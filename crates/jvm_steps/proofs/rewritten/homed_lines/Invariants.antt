@@ -2,7 +2,7 @@
 use Rattle.std.proofs.Common.{◌≡◌}
 use Rattle.std.specs.Prelude.{map}
 use Rattle.std.specs.List.{range_with_len}
-use Rattle.jvm_steps.specs.Rewritten.{homed_line}
+use Rattle.jvm_steps.specs.Codes.Rewritten.{homed_line}
 use Rattle.jvm_steps.proofs.rewritten.homed_lines.Given as goal
 
 abbrev pub invariant-loop-home : goal.invariant-loop-home

@@ -1,4 +1,4 @@
-use Rattle.jvm_steps.proofs.MainFrames.{main_frame}
+use Rattle.jvm_steps.proofs.Instructions.MainFrames.{main_frame}
 use Rattle.jvm_steps.proofs.settling.begin_frame.Goals as goal
 
 pub returns-clause-frames : goal.returns-clause-frames

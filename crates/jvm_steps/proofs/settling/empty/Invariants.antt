@@ -1,7 +1,7 @@
 -- the operands alone have changed, and are fewer
 use Rattle.std.proofs.Common.{◌≡◌, length}
 use Rattle.frame_stack.specs.FrameLists.{top_operands}
-use Rattle.jvm_steps.specs.Settling.{emptied}
+use Rattle.jvm_steps.specs.Moves.Settling.{emptied}
 use Rattle.jvm_steps.proofs.settling.empty.Given as goal
 
 abbrev pub invariant-loop : goal.invariant-loop

@@ -1,9 +1,9 @@
 use Rattle.std.proofs.Common.{◌≡◌, subst, ap, ◌∙◌}
 use Rattle.std.specs.Prelude.{IfOk}
 use Rattle.std.proofs.lemmas.Result.{on_ok_weaker}
-use Rattle.jvm_steps.specs.Markers.{state_of, with_markers}
-use Rattle.jvm_steps.proofs.Carried.{move-carried}
-use Rattle.jvm_steps.proofs.MarkedParts.{not-taken}
+use Rattle.jvm_steps.specs.Machine.Markers.{state_of, with_markers}
+use Rattle.jvm_steps.proofs.Marked.Carried.{move-carried}
+use Rattle.jvm_steps.proofs.Marked.MarkedParts.{not-taken}
 use Rattle.jvm_steps.proofs.settling.make_move.Goals as goal
 
 pub returns-in_default-clause-answer : goal.returns-in_default-clause-answer

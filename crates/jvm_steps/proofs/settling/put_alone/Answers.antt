@@ -1,4 +1,4 @@
-use Rattle.jvm_steps.proofs.OperandsAlone.{put_alone_frames}
+use Rattle.jvm_steps.proofs.Instructions.OperandsAlone.{put_alone_frames}
 use Rattle.jvm_steps.proofs.settling.put_alone.Goals as goal
 
 pub returns-clause-frames : goal.returns-clause-frames

@@ -1,10 +1,10 @@
 -- the normal form is that of the state at the start
 use Rattle.std.proofs.Common.{◌≡◌}
-use Rattle.jvm_model.specs.Applies.{still}
-use Rattle.jvm_model.specs.Moves.{left, settled}
-use Rattle.jvm_steps.specs.Markers.{state_of}
+use Rattle.jvm_model.specs.Running.Applies.{still}
+use Rattle.jvm_model.specs.Running.Moves.{left, settled}
+use Rattle.jvm_steps.specs.Machine.Markers.{state_of}
 use Rattle.jvm_steps.proofs.settling.settle.Given as goal
-use Rattle.jvm_steps.specs.Versions.{text_of}
+use Rattle.jvm_steps.specs.Codes.Versions.{text_of}
 
 abbrev pub invariant-loop : goal.invariant-loop
 invariant-loop l =

@@ -1,6 +1,6 @@
 -- those so far, and those that are left
 use Rattle.std.proofs.Common.{◌≡◌, ◌++◌, drop}
-use Rattle.jvm_model.specs.SharedState.{built_in_from}
+use Rattle.jvm_model.specs.Basis.SharedState.{built_in_from}
 use Rattle.jvm_steps.proofs.starting.loaded_of.Given as goal
 
 abbrev pub invariant-loop-at : goal.invariant-loop-at

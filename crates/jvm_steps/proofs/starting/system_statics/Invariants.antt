@@ -1,7 +1,7 @@
 -- those of the fields so far
 use Rattle.std.proofs.Common.{◌≡◌, take}
 use Rattle.std.specs.Prelude.{map}
-use Rattle.jvm_model.specs.SharedState.{system_static}
+use Rattle.jvm_model.specs.Basis.SharedState.{system_static}
 use Rattle.jvm_steps.proofs.starting.system_statics.Given as goal
 
 abbrev pub invariant-loop-field : goal.invariant-loop-field

@@ -2,7 +2,7 @@
 use Rattle.std.proofs.Common.{◌≡◌, take}
 use Rattle.std.specs.Prelude.{[], map, unwrap_or}
 use Rattle.const_pool.specs.References.{named_text}
-use Rattle.jvm_model.specs.SharedState.{zero_for}
+use Rattle.jvm_model.specs.Basis.SharedState.{zero_for}
 use Rattle.jvm_steps.proofs.starting.zeros.Given as goal
 
 abbrev pub invariant-loop-field : goal.invariant-loop-field

@@ -1,8 +1,8 @@
 use Rattle.std.proofs.Common.{ap}
 use Rattle.std.specs.Prelude.{is_some}
-use Rattle.jvm_steps.specs.Markers.{state_of}
-use Rattle.jvm_steps.proofs.Behind.{leads-sound}
-use Rattle.jvm_steps.proofs.Leading.{leads-one, leads-on}
+use Rattle.jvm_steps.specs.Machine.Markers.{state_of}
+use Rattle.jvm_steps.proofs.Marked.Behind.{leads-sound}
+use Rattle.jvm_steps.proofs.Silent.Leading.{leads-one, leads-on}
 use Rattle.jvm_steps.proofs.stepping.step_on.Goals as goal
 
 pub step_once-requires-clause-sound : goal.step_once-requires-clause-sound

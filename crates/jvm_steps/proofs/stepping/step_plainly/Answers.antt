@@ -1,8 +1,8 @@
 use Rattle.std.proofs.Common.{sym, ◌∙◌}
-use Rattle.jvm_steps.specs.Markers.{state_of}
-use Rattle.jvm_steps.proofs.Beneath.{not-some}
-use Rattle.jvm_steps.proofs.Leading.{leads-none}
-use Rattle.jvm_steps.proofs.LineSteps.{none-of}
+use Rattle.jvm_steps.specs.Machine.Markers.{state_of}
+use Rattle.jvm_steps.proofs.Marked.Beneath.{not-some}
+use Rattle.jvm_steps.proofs.Silent.Leading.{leads-none}
+use Rattle.jvm_steps.proofs.Moves.LineSteps.{none-of}
 use Rattle.jvm_steps.proofs.stepping.step_plainly.Goals as goal
 use Rattle.std.proofs.Common.{length}
 

@@ -1,9 +1,9 @@
 use Rattle.std.proofs.Common.{sym, subst, refl, ◌∙◌, arith}
-use Rattle.jvm_steps.specs.Ready.{CanRun, IsSoundIn}
-use Rattle.jvm_steps.specs.Markers.{state_of}
-use Rattle.jvm_steps.specs.Runs.{Leads}
-use Rattle.jvm_steps.proofs.Behind.{leads-sound}
-use Rattle.jvm_steps.proofs.Leading.{leads-none, leads-on}
+use Rattle.jvm_steps.specs.Machine.Ready.{CanRun, IsSoundIn}
+use Rattle.jvm_steps.specs.Machine.Markers.{state_of}
+use Rattle.jvm_steps.specs.Machine.Runs.{Leads}
+use Rattle.jvm_steps.proofs.Marked.Behind.{leads-sound}
+use Rattle.jvm_steps.proofs.Silent.Leading.{leads-none, leads-on}
 use Rattle.jvm_steps.proofs.stepping.steps_on.Goals as goal
 
 pub loop-made-init : goal.loop-made-init

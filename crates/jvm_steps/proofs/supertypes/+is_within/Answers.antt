@@ -1,6 +1,6 @@
 use Rattle.std.proofs.Common.{◌-◌, ap, sym, ◌∙◌}
 use Rattle.std.specs.Option.{option_copied}
-use Rattle.jvm_steps.proofs.Above.{by_interface, by_none, by_superclass, found, passed}
+use Rattle.jvm_steps.proofs.Loads.Above.{by_interface, by_none, by_superclass, found, passed}
 use Rattle.jvm_steps.proofs.supertypes.+is_within.Goals as goal
 
 pub returns-then-is_within : goal.returns-then-is_within

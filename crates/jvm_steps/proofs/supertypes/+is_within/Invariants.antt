@@ -1,6 +1,6 @@
 -- none of the interfaces so far has it above itself
 use Rattle.std.proofs.Common.{◌≡◌, ◌-◌, drop}
-use Rattle.jvm_steps.proofs.Above.{above}
+use Rattle.jvm_steps.proofs.Loads.Above.{above}
 use Rattle.jvm_steps.proofs.supertypes.+is_within.Given as goal
 
 abbrev pub decreases-is_within : goal.decreases-is_within

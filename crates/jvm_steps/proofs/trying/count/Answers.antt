@@ -1,6 +1,6 @@
 use Rattle.std.proofs.Common.{◌≡◌, subst, ◌∙◌}
 use Rattle.std.specs.Prelude.{IfOk}
-use Rattle.jvm_steps.proofs.Followed.{counts_one}
+use Rattle.jvm_steps.proofs.Moves.Followed.{counts_one}
 use Rattle.jvm_steps.proofs.trying.count.Goals as goal
 
 pub returns : goal.returns

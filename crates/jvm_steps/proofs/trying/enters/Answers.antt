@@ -1,8 +1,8 @@
 use Rattle.std.proofs.Common.{sym, ap, ◌∙◌, arith}
 use Rattle.std.specs.Prelude.{not}
-use Rattle.jvm_model.specs.Images.{is_off}
-use Rattle.jvm_steps.specs.Versions.{mark_of}
-use Rattle.jvm_steps.proofs.Followed.{enters_top}
+use Rattle.jvm_model.specs.Rewriting.Images.{is_off}
+use Rattle.jvm_steps.specs.Codes.Versions.{mark_of}
+use Rattle.jvm_steps.proofs.Moves.Followed.{enters_top}
 use Rattle.jvm_steps.proofs.trying.enters.Goals as goal
 
 pub returns-in-Some : goal.returns-in-Some

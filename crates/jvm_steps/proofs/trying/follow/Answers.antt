@@ -1,9 +1,9 @@
 use Rattle.std.proofs.Common.{◌≡◌, sym, subst, ◌∙◌}
 use Rattle.std.specs.Prelude.{IfOk}
-use Rattle.jvm_steps.specs.Markers.{state_of}
-use Rattle.jvm_steps.specs.Turning.{pause_at, paused_in}
-use Rattle.jvm_steps.specs.Versions.{text_of, mark_of}
-use Rattle.jvm_steps.proofs.Followed.{follows-on, follows-told, left-loaded, paused-loaded}
+use Rattle.jvm_steps.specs.Machine.Markers.{state_of}
+use Rattle.jvm_steps.specs.Moves.Turning.{pause_at, paused_in}
+use Rattle.jvm_steps.specs.Codes.Versions.{text_of, mark_of}
+use Rattle.jvm_steps.proofs.Moves.Followed.{follows-on, follows-told, left-loaded, paused-loaded}
 use Rattle.jvm_steps.proofs.trying.follow.Goals as goal
 
 pub returns-then-enters-clause-reaches : goal.returns-then-enters-clause-reaches

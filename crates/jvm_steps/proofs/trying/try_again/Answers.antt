@@ -1,6 +1,6 @@
-use Rattle.jvm_steps.specs.Acts.{attempts_on}
-use Rattle.jvm_steps.specs.Markers.{state_of}
-use Rattle.jvm_steps.proofs.Followed.{follows-in}
+use Rattle.jvm_steps.specs.Instructions.Acts.{attempts_on}
+use Rattle.jvm_steps.specs.Machine.Markers.{state_of}
+use Rattle.jvm_steps.proofs.Moves.Followed.{follows-in}
 use Rattle.jvm_steps.proofs.trying.try_again.Goals as goal
 
 pub returns-clause-reaches : goal.returns-clause-reaches

@@ -1,9 +1,9 @@
 use Rattle.std.proofs.Common.{sym, subst, ◌∙◌}
-use Rattle.jvm_steps.specs.Markers.{state_of}
-use Rattle.jvm_steps.specs.Ready.{CanRun}
-use Rattle.jvm_steps.specs.Turning.{pause_at}
-use Rattle.jvm_steps.proofs.Behind.{none-there}
-use Rattle.jvm_steps.proofs.TriedSteps.{line-no-more, line-once, line-sound, line-twice, line-unmarked}
+use Rattle.jvm_steps.specs.Machine.Markers.{state_of}
+use Rattle.jvm_steps.specs.Machine.Ready.{CanRun}
+use Rattle.jvm_steps.specs.Moves.Turning.{pause_at}
+use Rattle.jvm_steps.proofs.Marked.Behind.{none-there}
+use Rattle.jvm_steps.proofs.Moves.TriedSteps.{line-no-more, line-once, line-sound, line-twice, line-unmarked}
 use Rattle.jvm_steps.proofs.trying.try_line.Goals as goal
 
 pub attempt_loaded-requires-clause-unmarked : goal.attempt_loaded-requires-clause-unmarked

@@ -1,6 +1,6 @@
 use Rattle.std.proofs.lemmas.Result.{on_ok_weaker}
-use Rattle.jvm_steps.proofs.MarkedParts.{not-taken}
-use Rattle.jvm_steps.proofs.TurnsCarried.{carried-as, carried-to}
+use Rattle.jvm_steps.proofs.Marked.MarkedParts.{not-taken}
+use Rattle.jvm_steps.proofs.Moves.TurnsCarried.{carried-as, carried-to}
 use Rattle.jvm_steps.proofs.turning.make_move.Goals as goal
 
 pub returns-in_default-clause-answer : goal.returns-in_default-clause-answer

@@ -2,8 +2,8 @@ use Rattle.std.proofs.Common.{◌≡◌, ◌<◌, ◌∷◌, [], length, sym, su
 use Rattle.std.proofs.lemmas.Iterator.Adapters.{YieldsList-from_vec}
 use Rattle.std.proofs.lemmas.Iterator.Consumers.{YieldsList-turn}
 use Rattle.std.proofs.lemmas.List.{length-append}
-use Rattle.jvm_steps.specs.Tables.{seen}
-use Rattle.jvm_steps.proofs.Added.{adds-count, adds-more, of-methods-at}
+use Rattle.jvm_steps.specs.Codes.Tables.{seen}
+use Rattle.jvm_steps.proofs.Codes.Added.{adds-count, adds-more, of-methods-at}
 use Rattle.jvm_steps.proofs.versions.add_each.Goals as goal
 
 pub add-requires-clause-method : goal.add-requires-clause-method

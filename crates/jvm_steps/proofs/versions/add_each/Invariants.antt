@@ -1,6 +1,6 @@
 -- the versions so far, and there is room for those that are left
 use Rattle.std.proofs.Common.{◌≤◌, ◌+◌, length}
-use Rattle.jvm_steps.specs.Tables.{Adds, seen}
+use Rattle.jvm_steps.specs.Codes.Tables.{Adds, seen}
 use Rattle.jvm_steps.proofs.versions.add_each.Given as goal
 
 abbrev pub invariant-loop-version : goal.invariant-loop-version

@@ -1,7 +1,7 @@
 use Rattle.std.proofs.Common.{◌≡◌, ◌+◌, ◌≤◌, drop}
 use Rattle.std.specs.Prelude.{count_by, nat_lt}
 use Rattle.jvm_model.specs.declared.program.MethodPlace.{MethodPlace}
-use Rattle.jvm_model.specs.Swaps.{first_number}
+use Rattle.jvm_model.specs.Profiling.Swaps.{first_number}
 use Rattle.machine_rows.proofs.installing.first_number.Given as goal
 
 abbrev pub invariant-loop-place : goal.invariant-loop-place

@@ -1,6 +1,6 @@
 use Rattle.std.proofs.Common.{◌≤◌, ◌∙◌, ap, length, subst, sym}
-use Rattle.jvm_model.specs.Swaps.{first_number}
-use Rattle.jvm_model.specs.Images.{IsImage}
+use Rattle.jvm_model.specs.Profiling.Swaps.{first_number}
+use Rattle.jvm_model.specs.Rewriting.Images.{IsImage}
 use Rattle.inject_events.specs.Answers.{MarkedHaveCode}
 use Rattle.machine_rows.proofs.Images.{few-methods, image-file, readable}
 use Rattle.machine_rows.proofs.installing.image_of.Goals as goal

@@ -6,7 +6,7 @@ use Rattle.class_reader.specs.declared.error.ReadError.{ReadError}
 use Rattle.class_reader.specs.declared.error.ReadError.TheVariants.{NoMemory}
 use Rattle.class_reader.specs.Files.{IsFile}
 use Rattle.jf_bytes.specs.Results.{IsUnless}
-use Rattle.jvm_model.proofs.PlainRun.{p1}
+use Rattle.jvm_model.proofs.Worked.PlainRun.{p1}
 use Rattle.inject_events.specs.Answers.{IsReadableClass}
 use Rattle.inject_events.proofs.Built.{IsReadableClass-built}
 use Rattle.machine_tests.proofs.WorkedClass.{p1_built, p1_file}

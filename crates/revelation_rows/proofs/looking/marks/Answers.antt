@@ -1,6 +1,6 @@
 use Rattle.std.proofs.Common.{ap, ◌∙◌}
 use Rattle.jvm_model.specs.declared.program.Program.{Program}
-use Rattle.jvm_model.specs.Revealed.{marks_of}
+use Rattle.jvm_model.specs.Profiling.Revealed.{marks_of}
 use Rattle.call_revelation.specs.Reveals.{now_of}
 use Rattle.revelation_rows.proofs.LookLemmas.{marks-all, marks-first, marks-next}
 use Rattle.revelation_rows.proofs.looking.marks.Goals as goal

@@ -2,7 +2,7 @@
 use Rattle.std.proofs.Common.{◌≡◌, ◌++◌, ℕ, drop, map}
 use Rattle.std.specs.List.{enumerate_from}
 use Rattle.jvm_model.specs.declared.program.MethodPlace.{MethodPlace}
-use Rattle.jvm_model.specs.Revealed.{mark_of, marks_of}
+use Rattle.jvm_model.specs.Profiling.Revealed.{mark_of, marks_of}
 use Rattle.call_revelation.specs.Reveals.{now_of}
 use Rattle.revelation_rows.proofs.looking.marks.Given as goal
 

@@ -1,6 +1,6 @@
 use Rattle.std.specs.Prelude.{IfOk}
 use Rattle.std.proofs.Common.{◌≡◌, subst}
-use Rattle.jvm_model.specs.Revealed.{changed_of}
+use Rattle.jvm_model.specs.Profiling.Revealed.{changed_of}
 use Rattle.call_revelation.specs.Reveals.{now_of}
 use Rattle.revelation_rows.proofs.ToldLemmas.{told-begins, told-changed, told-marks, told-selected, told-selects}
 use Rattle.revelation_rows.proofs.looking.told.Goals as goal

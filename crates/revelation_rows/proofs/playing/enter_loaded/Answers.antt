@@ -1,5 +1,5 @@
 use Rattle.std.proofs.Common.{ap, refl, sym, ◌∙◌}
-use Rattle.jvm_model.specs.Points.{has_class}
+use Rattle.jvm_model.specs.Profiling.Points.{has_class}
 use Rattle.revelation_rows.specs.declared.item.Happening.TheVariants.{Entered}
 use Rattle.revelation_rows.proofs.RowLemmas.{cannot-happen, goes-on-as}
 use Rattle.revelation_rows.proofs.playing.enter_loaded.Goals as goal

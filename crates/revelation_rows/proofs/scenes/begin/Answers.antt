@@ -1,5 +1,5 @@
 use Rattle.std.proofs.Common.{ap, sym, ◌∙◌}
-use Rattle.jvm_model.specs.Load.{is_among}
+use Rattle.jvm_model.specs.Classes.Load.{is_among}
 use Rattle.revelation_rows.proofs.HappeningLemmas.{fresh}
 use Rattle.revelation_rows.proofs.SceneLemmas.{along-linked}
 use Rattle.revelation_rows.proofs.scenes.begin.Goals as goal

@@ -1,5 +1,5 @@
 use Rattle.std.proofs.Common.{ap, ◌∙◌}
-use Rattle.jvm_model.specs.Revealed.{marks_of}
+use Rattle.jvm_model.specs.Profiling.Revealed.{marks_of}
 use Rattle.program_fit.proofs.Runs.{runnable}
 use Rattle.revelation_rows.proofs.HappeningLemmas.{blank}
 use Rattle.revelation_rows.proofs.scenes.blank_scene.Goals as goal

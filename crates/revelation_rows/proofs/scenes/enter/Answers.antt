@@ -1,6 +1,6 @@
 use Rattle.std.proofs.Common.{◌≡◌, refl, true, subst, sym, arith}
 use Rattle.class_linker.specs.Linkers.{LinkerView}
-use Rattle.jvm_model.specs.Points.{has_class}
+use Rattle.jvm_model.specs.Profiling.Points.{has_class}
 use Rattle.revelation_rows.specs.declared.item.Happening.TheVariants.{Entered}
 use Rattle.revelation_rows.specs.Scenes.{HasHappened, IsReady}
 use Rattle.revelation_rows.proofs.HappeningLemmas.{entered-first, entered-next}

@@ -1,6 +1,6 @@
 use Rattle.std.proofs.Common.{ap, ◌∙◌}
 use Rattle.std.specs.List.{list_any}
-use Rattle.jvm_model.specs.Descriptors.{same_text}
+use Rattle.jvm_model.specs.Basis.Descriptors.{same_text}
 use Rattle.admit_check.proofs.NamesSeen.{any_seen}
 use Rattle.admit_check.proofs.name_set.NameSet.has.Goals as goal
 

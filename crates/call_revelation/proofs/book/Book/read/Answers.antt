@@ -2,8 +2,8 @@ use Rattle.std.proofs.Common.{◌<◌, ◌∙◌, false, length, map, subst, sym
 use Rattle.std.specs.Prelude.{is_some}
 use Rattle.std.specs.Vec.{with_items}
 use Rattle.std.proofs.lemmas.List.{with_items_is}
-use Rattle.jvm_model.specs.Revelation.{namings_of}
-use Rattle.jvm_model.specs.Targets.{operations_of}
+use Rattle.jvm_model.specs.Profiling.Revelation.{namings_of}
+use Rattle.jvm_model.specs.Profiling.Targets.{operations_of}
 use Rattle.jvm_named.specs.Names.{naming_view}
 use Rattle.call_revelation.specs.Books.{code_at, with_uses}
 use Rattle.call_revelation.proofs.BookLemmas.{book-kept, has-read, still-read}

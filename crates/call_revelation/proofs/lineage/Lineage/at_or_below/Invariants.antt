@@ -1,6 +1,6 @@
 -- what stands in the lists of those that were gone through is among them
 use Rattle.std.proofs.Common.{◌≡◌, take, true}
-use Rattle.jvm_model.specs.Load.{is_among}
+use Rattle.jvm_model.specs.Classes.Load.{is_among}
 use Rattle.call_revelation.specs.Lineages.{AreFollowed}
 use Rattle.call_revelation.proofs.lineage.Lineage.at_or_below.Given as goal
 

@@ -1,7 +1,7 @@
 use Rattle.std.proofs.Common.{◌≡◌, ◌∙◌, ap, refl, sym, subst, arith}
 use Rattle.std.specs.Vec.{with_items}
 use Rattle.std.proofs.lemmas.List.{with_items_is}
-use Rattle.jvm_model.specs.Load.{is_among}
+use Rattle.jvm_model.specs.Classes.Load.{is_among}
 use Rattle.call_revelation.specs.Lineages.{IsClosed, IsNoted, noted}
 use Rattle.call_revelation.proofs.CalledLemmas.{handed-kept, handed-noted}
 use Rattle.call_revelation.proofs.named.Named.add.Goals as goal

@@ -1,6 +1,6 @@
 use Rattle.std.proofs.Common.{ap, arith, get_or, ◌∙◌}
 use Rattle.std.specs.Prelude.{flat_map, ◌||◌}
-use Rattle.jvm_model.specs.Load.{is_among}
+use Rattle.jvm_model.specs.Classes.Load.{is_among}
 use Rattle.class_index.specs.Orders.{with_classes}
 use Rattle.call_revelation.specs.Tables.{list_at}
 use Rattle.call_revelation.proofs.Adding.{adds-equal}

@@ -2,7 +2,7 @@
 use Rattle.std.proofs.Common.{◌≡◌, ℕ, map, drop, true}
 use Rattle.std.specs.Prelude.{flat_map, ◌||◌}
 use Rattle.jvm_model.specs.declared.program.Program.{Program}
-use Rattle.jvm_model.specs.Load.{is_among}
+use Rattle.jvm_model.specs.Classes.Load.{is_among}
 use Rattle.jvm_named.specs.Names.{naming_view}
 use Rattle.call_revelation.specs.CalledClasses.{AreHanded, called_class}
 use Rattle.call_revelation.specs.Lineages.{IsLineage}

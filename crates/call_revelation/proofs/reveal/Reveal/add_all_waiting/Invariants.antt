@@ -1,8 +1,8 @@
 -- what is left is added to what is there
 use Rattle.std.proofs.Common.{◌≡◌, ℕ, drop}
 use Rattle.std.specs.Prelude.{flat_map, ◌||◌}
-use Rattle.jvm_model.specs.Load.{is_among}
-use Rattle.jvm_model.specs.Targets.{begun_by}
+use Rattle.jvm_model.specs.Classes.Load.{is_among}
+use Rattle.jvm_model.specs.Profiling.Targets.{begun_by}
 use Rattle.call_revelation.specs.Books.{of_entered}
 use Rattle.call_revelation.proofs.reveal.Reveal.add_all_waiting.Given as goal
 

@@ -1,7 +1,7 @@
 -- what is left is added to what is there
 use Rattle.std.proofs.Common.{◌≡◌, ℕ, drop}
 use Rattle.std.specs.Prelude.{flat_map, ◌||◌}
-use Rattle.jvm_model.specs.Load.{is_among}
+use Rattle.jvm_model.specs.Classes.Load.{is_among}
 use Rattle.call_revelation.specs.Books.{called_from}
 use Rattle.call_revelation.proofs.reveal.Reveal.add_calls_above.Given as goal
 

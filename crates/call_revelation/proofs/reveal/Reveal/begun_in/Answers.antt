@@ -1,8 +1,8 @@
 use Rattle.std.proofs.Common.{◌∙◌, map, subst, sym, ap, refl}
 use Rattle.std.specs.Prelude.{flat_map}
 use Rattle.std.specs.List.{AllByRecursion}
-use Rattle.jvm_model.specs.Sound.{HasLoadedCaller}
-use Rattle.jvm_model.specs.Targets.{begun_by}
+use Rattle.jvm_model.specs.Soundness.Sound.{HasLoadedCaller}
+use Rattle.jvm_model.specs.Profiling.Targets.{begun_by}
 use Rattle.jvm_named.specs.declared.naming.Naming.{Naming}
 use Rattle.jvm_named.specs.Names.{naming_view}
 use Rattle.call_revelation.specs.Tables.{Adds}

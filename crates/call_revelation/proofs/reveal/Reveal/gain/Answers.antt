@@ -1,6 +1,6 @@
 use Rattle.std.proofs.Common.{false, is_ok, refl, subst, ◌∙◌}
 use Rattle.std.specs.Prelude.{flat_map}
-use Rattle.jvm_model.specs.Targets.{begun_by}
+use Rattle.jvm_model.specs.Profiling.Targets.{begun_by}
 use Rattle.call_revelation.specs.Books.{called_from, of_entered}
 use Rattle.call_revelation.specs.Tables.{Adds, list_at}
 use Rattle.call_revelation.proofs.Callers.{gathered-both}

@@ -1,5 +1,5 @@
 use Rattle.std.proofs.Common.{ap, subst, sym, ◌∙◌}
-use Rattle.jvm_model.specs.Load.{is_among}
+use Rattle.jvm_model.specs.Classes.Load.{is_among}
 use Rattle.call_revelation.specs.CalledClasses.{uppers_of}
 use Rattle.call_revelation.specs.Lineages.{LeadTo}
 use Rattle.call_revelation.proofs.CalledLemmas.{all-uppers, handed-before, handed-more}

@@ -1,6 +1,6 @@
 use Rattle.std.proofs.Common.{ap, subst, sym, drop, ◌∙◌, arith}
 use Rattle.std.specs.List.{AllByRecursion}
-use Rattle.jvm_model.specs.Revelation.{IsLoadOrder}
+use Rattle.jvm_model.specs.Profiling.Revelation.{IsLoadOrder}
 use Rattle.class_linker.specs.Linkers.{IsLoaded}
 use Rattle.call_revelation.proofs.Fronts.{front-long}
 use Rattle.call_revelation.proofs.Grown.{went-back}

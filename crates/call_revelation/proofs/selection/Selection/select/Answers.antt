@@ -1,6 +1,6 @@
 use Rattle.std.proofs.Common.{◌≡◌, ◌∷◌, rules, subst, sym, true}
 use Rattle.std.specs.Prelude.{slice_set}
-use Rattle.jvm_model.specs.Revealed.{without_method}
+use Rattle.jvm_model.specs.Profiling.Revealed.{without_method}
 use Rattle.call_revelation.specs.Ranks.{AreFlagged}
 use Rattle.call_revelation.proofs.RankLemmas.{flagged-more, flagged-padded}
 use Rattle.call_revelation.proofs.selection.Selection.select.Goals as goal

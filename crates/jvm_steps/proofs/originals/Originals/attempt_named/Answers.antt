@@ -2,12 +2,12 @@ use Rattle.std.proofs.Common.{◌≡◌, Some, sym, subst, ap, ◌∙◌, rules}
 use Rattle.std.specs.Option.{option_copied}
 use Rattle.jvm_named.specs.Objects.{AreLoaded}
 use Rattle.jvm_named.specs.Selections.{AreSelections}
-use Rattle.jvm_steps.specs.Cells.{cell_at}
-use Rattle.jvm_steps.specs.Kept.{AreKnown}
-use Rattle.jvm_steps.specs.Linked.{linker_in}
-use Rattle.jvm_steps.specs.Prepared.{IsPrepared}
-use Rattle.jvm_steps.proofs.CellLemmas.{known-at, learnt-kept, renewed}
-use Rattle.jvm_steps.proofs.Dimensions.{line-fits}
+use Rattle.jvm_steps.specs.Codes.Cells.{cell_at}
+use Rattle.jvm_steps.specs.Codes.Kept.{AreKnown}
+use Rattle.jvm_steps.specs.Codes.Linked.{linker_in}
+use Rattle.jvm_steps.specs.Codes.Prepared.{IsPrepared}
+use Rattle.jvm_steps.proofs.Codes.CellLemmas.{known-at, learnt-kept, renewed}
+use Rattle.jvm_steps.proofs.Codes.Dimensions.{line-fits}
 use Rattle.jvm_steps.proofs.originals.Originals.attempt_named.Goals as goal
 
 pub attempt_line-requires-clause-dimensions : goal.attempt_line-requires-clause-dimensions

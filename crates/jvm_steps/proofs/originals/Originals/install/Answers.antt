@@ -3,17 +3,17 @@ use Rattle.std.specs.List.{AllByRecursion}
 use Rattle.std.proofs.lemmas.Result.{on_ok_weaker}
 use Rattle.jvm_model.specs.declared.program.Program.{Program}
 use Rattle.jvm_model.specs.declared.state.State.{State}
-use Rattle.jvm_steps.specs.ClassVersions.{class_versions}
-use Rattle.jvm_steps.specs.Kept.{AreKnown}
-use Rattle.jvm_steps.specs.Linked.{Linked}
-use Rattle.jvm_steps.specs.Prepared.{IsPrepared, world_in}
-use Rattle.jvm_steps.specs.Standing.{AreMethodImages, IsPinned, IsRunOf, IsSetUp}
-use Rattle.jvm_steps.specs.Tables.{Adds, AreOfMethods, Versions}
-use Rattle.jvm_steps.specs.Versions.{HasOwnLines, Setup}
-use Rattle.jvm_steps.proofs.Added.{adds-count, either, has-lines-all}
-use Rattle.jvm_steps.proofs.CellLemmas.{nil-known}
-use Rattle.jvm_steps.proofs.ClassVersionLaws.{versions-below, versions-keep}
-use Rattle.jvm_steps.proofs.StandingSteps.{installed-set_up, installed-stands}
+use Rattle.jvm_steps.specs.Codes.ClassVersions.{class_versions}
+use Rattle.jvm_steps.specs.Codes.Kept.{AreKnown}
+use Rattle.jvm_steps.specs.Codes.Linked.{Linked}
+use Rattle.jvm_steps.specs.Codes.Prepared.{IsPrepared, world_in}
+use Rattle.jvm_steps.specs.Machine.Standing.{AreMethodImages, IsPinned, IsRunOf, IsSetUp}
+use Rattle.jvm_steps.specs.Codes.Tables.{Adds, AreOfMethods, Versions}
+use Rattle.jvm_steps.specs.Codes.Versions.{HasOwnLines, Setup}
+use Rattle.jvm_steps.proofs.Codes.Added.{adds-count, either, has-lines-all}
+use Rattle.jvm_steps.proofs.Codes.CellLemmas.{nil-known}
+use Rattle.jvm_steps.proofs.Codes.ClassVersionLaws.{versions-below, versions-keep}
+use Rattle.jvm_steps.proofs.Moves.StandingSteps.{installed-set_up, installed-stands}
 use Rattle.jvm_steps.proofs.originals.Originals.install.Goals as goal
 
 pub add_all-requires : goal.add_all-requires

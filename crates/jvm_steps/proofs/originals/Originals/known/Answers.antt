@@ -1,9 +1,9 @@
 use Rattle.std.proofs.Common.{sym, ap, subst, ◌∙◌}
 use Rattle.std.specs.Option.{option_copied}
 use Rattle.jvm_named.specs.Known.{IsKnown}
-use Rattle.jvm_steps.specs.Lines.{IfNamed}
-use Rattle.jvm_steps.specs.Linked.{Linked, linker_in}
-use Rattle.jvm_steps.specs.Versions.{line_at}
+use Rattle.jvm_steps.specs.Codes.Lines.{IfNamed}
+use Rattle.jvm_steps.specs.Codes.Linked.{Linked, linker_in}
+use Rattle.jvm_steps.specs.Codes.Versions.{line_at}
 use Rattle.jvm_steps.proofs.originals.Originals.known.Goals as goal
 
 pub returns : goal.returns

@@ -1,4 +1,4 @@
-use Rattle.jvm_steps.proofs.LineFamilies.{keeps-family}
+use Rattle.jvm_steps.proofs.Codes.LineFamilies.{keeps-family}
 use Rattle.jvm_steps.proofs.originals.Originals.line.Goals as goal
 
 pub returns-clause-family : goal.returns-clause-family

@@ -1,8 +1,8 @@
 use Rattle.std.proofs.Common.{sym, subst, ◌∙◌}
 use Rattle.jvm_named.specs.Selections.{AreSelections}
-use Rattle.jvm_steps.specs.Kept.{AreKnown}
-use Rattle.jvm_steps.specs.Prepared.{IsPrepared}
-use Rattle.jvm_steps.proofs.CellLemmas.{known-later, later-resolved}
+use Rattle.jvm_steps.specs.Codes.Kept.{AreKnown}
+use Rattle.jvm_steps.specs.Codes.Prepared.{IsPrepared}
+use Rattle.jvm_steps.proofs.Codes.CellLemmas.{known-later, later-resolved}
 use Rattle.jvm_steps.proofs.originals.Originals.load_main.Goals as goal
 
 pub invariant_of-self-2 : goal.invariant_of-self-2

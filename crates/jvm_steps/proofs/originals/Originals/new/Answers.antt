@@ -1,13 +1,13 @@
 use Rattle.std.proofs.Common.{◌≡◌, ◌<◌, ◌≤◌, ◌^◌, length, subst, sym, arith, rules}
 use Rattle.jvm_named.specs.Selections.{AreSelections}
 use Rattle.jvm_named.proofs.SelectionLemmas.{no_selections}
-use Rattle.jvm_steps.specs.Kept.{AreKnown}
-use Rattle.jvm_steps.proofs.CellLemmas.{nil-known}
-use Rattle.jvm_steps.proofs.BuiltInLoads.{few-coded}
-use Rattle.jvm_steps.proofs.Entries.{IsPrepared-entries, IsPrepared-same}
-use Rattle.jvm_steps.specs.Prepared.{world_in}
-use Rattle.jvm_steps.specs.Versions.{Setup}
-use Rattle.jvm_steps.proofs.StandingSteps.{made-set_up}
+use Rattle.jvm_steps.specs.Codes.Kept.{AreKnown}
+use Rattle.jvm_steps.proofs.Codes.CellLemmas.{nil-known}
+use Rattle.jvm_steps.proofs.Loads.BuiltInLoads.{few-coded}
+use Rattle.jvm_steps.proofs.Codes.Entries.{IsPrepared-entries, IsPrepared-same}
+use Rattle.jvm_steps.specs.Codes.Prepared.{world_in}
+use Rattle.jvm_steps.specs.Codes.Versions.{Setup}
+use Rattle.jvm_steps.proofs.Moves.StandingSteps.{made-set_up}
 use Rattle.jvm_steps.proofs.originals.Originals.new.Goals as goal
 
 pub new-requires-clause-few : goal.new-requires-clause-few

@@ -1,6 +1,6 @@
 use Rattle.std.proofs.Common.{length, ap, ◌∙◌}
-use Rattle.jvm_steps.proofs.Added.{has-lines-left}
-use Rattle.jvm_steps.proofs.CellLemmas.{known-left}
+use Rattle.jvm_steps.proofs.Codes.Added.{has-lines-left}
+use Rattle.jvm_steps.proofs.Codes.CellLemmas.{known-left}
 use Rattle.jvm_steps.proofs.originals.Originals.release.Goals as goal
 
 pub invariant_of-self : goal.invariant_of-self

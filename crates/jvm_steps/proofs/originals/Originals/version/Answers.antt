@@ -1,4 +1,4 @@
-use Rattle.jvm_steps.proofs.LineFamilies.{keeps-prepared}
+use Rattle.jvm_steps.proofs.Codes.LineFamilies.{keeps-prepared}
 use Rattle.jvm_steps.proofs.originals.Originals.version.Goals as goal
 
 pub returns-clause-prepared : goal.returns-clause-prepared

@@ -1,6 +1,6 @@
 use Rattle.std.proofs.Common.{sym, subst, ◌∙◌}
-use Rattle.jvm_steps.specs.Tables.{AreAllCurrent, Releases, seen}
-use Rattle.jvm_steps.proofs.Added.{none-released}
+use Rattle.jvm_steps.specs.Codes.Tables.{AreAllCurrent, Releases, seen}
+use Rattle.jvm_steps.proofs.Codes.Added.{none-released}
 use Rattle.jvm_steps.proofs.versions.Versions.release.Goals as goal
 
 pub returns-clause-same : goal.returns-clause-same

@@ -1,6 +1,6 @@
 use Rattle.std.proofs.Common.{◌<◌, ◌∙◌, sym, subst, refl, length}
-use Rattle.jvm_model.specs.Revealed.{with_method_entered}
-use Rattle.jvm_model.specs.Sound.{HasClass}
+use Rattle.jvm_model.specs.Profiling.Revealed.{with_method_entered}
+use Rattle.jvm_model.specs.Soundness.Sound.{HasClass}
 use Rattle.class_linker.specs.Linkers.{LinkerView}
 use Rattle.call_revelation.specs.Reveals.{IsRevelation}
 use Rattle.profile_session.specs.Parts.{loaded_in, revealed_in}

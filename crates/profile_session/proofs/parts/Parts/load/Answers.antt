@@ -1,6 +1,6 @@
 use Rattle.std.proofs.Common.{sym, subst, []}
-use Rattle.jvm_model.specs.Revealed.{with_loaded}
-use Rattle.jvm_model.specs.Revelation.{IsLoadOrder}
+use Rattle.jvm_model.specs.Profiling.Revealed.{with_loaded}
+use Rattle.jvm_model.specs.Profiling.Revelation.{IsLoadOrder}
 use Rattle.class_linker.specs.Linkers.{LinkerView}
 use Rattle.call_revelation.specs.Reveals.{IsFront, IsRevelation}
 use Rattle.profile_session.specs.Parts.{loaded_in, revealed_in}

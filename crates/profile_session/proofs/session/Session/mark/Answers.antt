@@ -1,5 +1,5 @@
 use Rattle.std.proofs.Common.{ap, ◌∙◌}
-use Rattle.jvm_model.specs.Targets.{operations_of}
+use Rattle.jvm_model.specs.Profiling.Targets.{operations_of}
 use Rattle.profile_session.specs.Sessions.{Profiling, mark_in_session, standing_of}
 use Rattle.profile_session.proofs.Sessions.{mark-is, quiet-mark}
 use Rattle.profile_session.proofs.session.Session.mark.Goals as goal

@@ -1,0 +1,13 @@
+pub mod WithinMoves
+pub mod ObjectMoves
+pub mod NamedMoves
+pub mod AppliesMoves
+pub mod MovesMove
+pub mod StepMoves
+pub mod ClosedCode
+pub mod MovedOperations
+pub mod ClosedPrograms
+pub mod PlacesOf
+pub mod StandsForRun
+pub mod StandingFrames
+pub mod ClosedBy

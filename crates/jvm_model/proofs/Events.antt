@@ -1,0 +1,11 @@
+pub mod Methods
+pub mod Helds
+pub mod Order
+pub mod Chains
+pub mod Traces
+pub mod TracesEvents
+pub mod TracesFrames
+pub mod TracesEntries
+pub mod ToldTraces
+pub mod Marked
+pub mod LaterActs

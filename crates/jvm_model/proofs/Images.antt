@@ -1,0 +1,12 @@
+pub mod ImagePools
+pub mod ImageMethods
+pub mod ImageProbes
+pub mod ImageLines
+pub mod LaidLengths
+pub mod MethodsOfImages
+pub mod ImageSizes
+pub mod NumbersOfMethods
+pub mod HomedLines
+pub mod HomedTexts
+pub mod HomesRise
+pub mod LaidHomes

@@ -1,0 +1,4 @@
+pub mod LoadsAgain
+pub mod LoadedMoves
+pub mod Library
+pub mod LoadOrder

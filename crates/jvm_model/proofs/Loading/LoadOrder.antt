@@ -1,0 +1,252 @@
+-- Classes are loaded once, and behind what stands above them: in each list of loaded classes of a run (JVM Specification 5.3).
+use Rattle.std.proofs.Common.{◌≡◌, ℕ, zero, suc, ◌+◌, ◌<◌, ◌≤◌, Bool, true, false, List, [], ◌∷◌, ◌++◌, length, ap, sym, subst, refl, ◌∙◌, eqb-true, arith}
+use Rattle.std.proofs.lemmas.Bool.{ne_eqb}
+use Rattle.std.proofs.lemmas.List.{append-nil, append_assoc}
+use Rattle.std.specs.Prelude.{Option, Some, None, ◌==◌, ◌||◌, if◌then◌else◌}
+use Rattle.std.specs.List.{AllByRecursion}
+use Rattle.const_pool.specs.declared.class.ClassFile.{ClassFile}
+use Rattle.jvm_model.specs.Basis.Data.{Program, World}
+use Rattle.jvm_model.specs.Classes.Kinds.{Element, Primitive, Named, meaning_of}
+use Rattle.jvm_model.specs.Classes.Load.{Fault, Loading, Need, There, Begun, Fresh as Unloaded, behind_needs, by_standing, done, is_among, load_element, load_named, load_needs, load_of, need_fault, needs_of, standing_of, unless}
+use Rattle.jvm_model.specs.Basis.Programs.{class_named, has_built_in_name}
+use Rattle.jvm_model.specs.Profiling.Revelation.{IsLoadOrder}
+use Rattle.jvm_model.specs.Running.Run.{before}
+use Rattle.jvm_model.specs.Basis.SharedState.{built_in_from}
+use Rattle.jvm_model.specs.Soundness.Sound.{HasSupertypes}
+use Rattle.jvm_model.proofs.Soundness.Ranked.{AreInOrder}
+use Rattle.jvm_model.proofs.Soundness.SoundClasses.{AreLoads, HasLoaded, among-front, named-load, needs-load, one-more}
+
+false_true : false ≡ true → ⊥
+false_true e = cc
+
+among-append : (class : ℕ) (xs ys : List ℕ) → is_among class (xs ++ ys) ≡ (is_among class xs || is_among class ys)
+among-append class [] ys = refl
+among-append class (x ∷ xs) ys = by (class == x) (among-append class xs ys)
+  where
+    by : (b : Bool) → is_among class (xs ++ ys) ≡ (is_among class xs || is_among class ys)
+        → (b || is_among class (xs ++ ys)) ≡ ((b || is_among class xs) || is_among class ys)
+    by true h = refl
+    by false h = h
+
+-- ---- what holds of the loaded classes and is kept by one more that is not on the path holds at the end
+
+module _ (p : Program) (P : List ℕ → Type 0) (first : List ℕ)
+    (one_more : (loaded : List ℕ) (class : ℕ) → is_among class first ≡ false → P loaded → P (loaded ++ class ∷ [])) where
+  unless_kept : (o : Option Fault) (loaded : List ℕ) (next : List ℕ → Loading) → P loaded → ((l : List ℕ) → P l → P (next l).loaded)
+      → P (unless o loaded next).loaded
+  unless_kept None loaded next h k = k loaded h
+  unless_kept (Some fault) loaded next h k = h
+
+  needs_kept : (load : List ℕ → List ℕ → Loading) → ((name loaded : List ℕ) → P loaded → P (load name loaded).loaded)
+      → (needs : List Need) (loaded : List ℕ) → P loaded → P (load_needs p load needs loaded).loaded
+  needs_kept load k [] loaded h = h
+  needs_kept load k (n ∷ rest) loaded h =
+      unless_kept (load n.name loaded).fault (load n.name loaded).loaded (λ after. unless (need_fault p n) after (load_needs p load rest)) (k n.name loaded h)
+      (λ l g. unless_kept (need_fault p n) l (load_needs p load rest) g (needs_kept load k rest))
+
+  behind_kept : (class : ℕ) (l : Loading) → is_among class first ≡ false → P l.loaded → P (behind_needs class l).loaded
+  behind_kept class l other h = unless_kept l.fault l.loaded (λ loaded. done (loaded ++ class ∷ [])) h (λ loaded g. one_more loaded class other g)
+
+  -- the path has the first classes
+  Begins : List ℕ → Type 0
+  Begins path = (class : ℕ) → is_among class path ≡ false → is_among class first ≡ false
+
+  class_kept : (path name loaded : List ℕ) (fresh : ℕ → Loading) (o : Option ℕ) → P loaded
+      → ((class : ℕ) → is_among class path ≡ false → P (fresh class).loaded)
+      → P (by_standing (standing_of path loaded o) name loaded fresh).loaded
+  class_kept path name loaded fresh None h k = h
+  class_kept path name loaded fresh (Some class) h k = by (is_among class loaded) (is_among class path) refl
+    where
+      by : (a b : Bool) → is_among class path ≡ b
+          → P (by_standing (if a then There else if b then Begun else Unloaded class) name loaded fresh).loaded
+      by true b e = h
+      by false true e = h
+      by false false e = k class e
+
+  element_kept : (loaded : List ℕ) (load : List ℕ → Loading) (e : Element) → P loaded → ((name : List ℕ) → P (load name).loaded)
+      → P (load_element e loaded load).loaded
+  element_kept loaded load (Primitive code) h k = h
+  element_kept loaded load (Named name) h k = k name
+
+  longer : (path : List ℕ) (class : ℕ) → ((c : ℕ) → is_among c path ≡ false → is_among c first ≡ false)
+      → (c : ℕ) → is_among c (path ++ class ∷ []) ≡ false → is_among c first ≡ false
+  longer path class begins c out = begins c (by (is_among c path) refl)
+    where
+      by : (b : Bool) → is_among c path ≡ b → is_among c path ≡ false
+      by false e = e
+      by true e = absurd (false_true (sym out ∙ among-front c path (class ∷ []) e))
+
+  named_kept : (depth : ℕ) (path : List ℕ) → ((c : ℕ) → is_among c path ≡ false → is_among c first ≡ false)
+      → (name loaded : List ℕ) → P loaded → P (load_named p depth path name loaded).loaded
+  named_kept zero path begins name loaded h = h
+  named_kept (suc n) path begins name loaded h =
+      let within : ℕ → List ℕ → List ℕ → Loading = λ class. load_named p n (path ++ class ∷ []) in
+      let fresh : ℕ → Loading = λ class. behind_needs class (load_needs p (within class) (needs_of p class) loaded) in
+      element_kept loaded (λ class_name. by_standing (standing_of path loaded (class_named p class_name)) class_name loaded fresh) (meaning_of name).element h
+      (λ class_name. class_kept path class_name loaded fresh (class_named p class_name) h
+      (λ class out. behind_kept class (load_needs p (within class) (needs_of p class) loaded) (begins class out)
+      (needs_kept (within class) (named_kept n (path ++ class ∷ []) (longer path class begins)) (needs_of p class) loaded h)))
+
+-- ---- what is being loaded is not loaded
+
+module _ (p : Program) (c : ℕ) where
+  -- one more that is not the class
+  not_more : (l : List ℕ) (class : ℕ) → is_among class (c ∷ []) ≡ false → is_among c l ≡ false → is_among c (l ++ class ∷ []) ≡ false
+  not_more l class other g = among-append c l (class ∷ []) ∙ (ap (λ b. b || ((c == class) || false)) g ∙ ap (λ b. b || false) (apart (class == c) refl other))
+    where
+      apart : (b : Bool) → (class == c) ≡ b → (b || false) ≡ false → (c == class) ≡ false
+      apart true e h = absurd (false_true (sym h))
+      apart false e h = grind (arith)
+
+  on_path : (path : List ℕ) → is_among c path ≡ true → (class : ℕ) → is_among class path ≡ false → is_among class (c ∷ []) ≡ false
+  on_path path has class out = by (class == c) refl
+    where
+      by : (b : Bool) → (class == c) ≡ b → (b || false) ≡ false
+      by true e = absurd (false_true (sym out ∙ (ap (λ k. is_among k path) (eqb-true class c e) ∙ has)))
+      by false e = refl
+
+  not_loaded : (depth : ℕ) (path : List ℕ) (needs : List Need) (loaded : List ℕ) → is_among c path ≡ true → is_among c loaded ≡ false
+      → is_among c (load_needs p (load_named p depth path) needs loaded).loaded ≡ false
+  not_loaded depth path needs loaded has h =
+      needs_kept p (λ l. is_among c l ≡ false) (c ∷ []) not_more (load_named p depth path)
+      (named_kept p (λ l. is_among c l ≡ false) (c ∷ []) not_more depth path (on_path path has)) needs loaded h
+
+-- ---- what is kept by one more that is not loaded, behind what it needs
+
+module _ (p : Program) (P : List ℕ → Type 0)
+    (one_more : (loaded : List ℕ) (class : ℕ) → is_among class loaded ≡ false → AllByRecursion (HasLoaded p loaded) (needs_of p class) → P loaded
+    → P (loaded ++ class ∷ [])) where
+  behind_ordered : (class : ℕ) (l : Loading) → is_among class l.loaded ≡ false → (l.fault ≡ None → AllByRecursion (HasLoaded p l.loaded) (needs_of p class))
+      → P l.loaded → P (behind_needs class l).loaded
+  behind_ordered class l new needs h = by l.fault refl
+    where
+      by : (o : Option Fault) → l.fault ≡ o → P (unless o l.loaded (λ loaded. done (loaded ++ class ∷ []))).loaded
+      by None e = one_more l.loaded class new (needs e) h
+      by (Some fault) e = h
+
+  class_ordered : (path name loaded : List ℕ) (fresh : ℕ → Loading) (o : Option ℕ) → P loaded
+      → ((class : ℕ) → is_among class loaded ≡ false → P (fresh class).loaded)
+      → P (by_standing (standing_of path loaded o) name loaded fresh).loaded
+  class_ordered path name loaded fresh None h k = h
+  class_ordered path name loaded fresh (Some class) h k = by (is_among class loaded) (is_among class path) refl
+    where
+      by : (a b : Bool) → is_among class loaded ≡ a
+          → P (by_standing (if a then There else if b then Begun else Unloaded class) name loaded fresh).loaded
+      by true b e = h
+      by false true e = h
+      by false false e = k class e
+
+  among-last : (class : ℕ) (xs : List ℕ) → is_among class (xs ++ class ∷ []) ≡ true
+  among-last class xs = among-append class xs (class ∷ []) ∙ by (is_among class xs)
+    where
+      by : (b : Bool) → (b || ((class == class) || false)) ≡ true
+      by true = refl
+      by false = grind (arith)
+
+  needs_ordered : (load : List ℕ → List ℕ → Loading) → ((name loaded : List ℕ) → P loaded → P (load name loaded).loaded)
+      → (needs : List Need) (loaded : List ℕ) → P loaded → P (load_needs p load needs loaded).loaded
+  needs_ordered load k [] loaded h = h
+  needs_ordered load k (n ∷ rest) loaded h =
+      by (load n.name loaded).fault (need_fault p n) (k n.name loaded h) (needs_ordered load k rest (load n.name loaded).loaded)
+    where
+      by : (o q : Option Fault) → P (load n.name loaded).loaded → (P (load n.name loaded).loaded → P (load_needs p load rest (load n.name loaded).loaded).loaded)
+          → P (unless o (load n.name loaded).loaded (λ after. unless q after (load_needs p load rest))).loaded
+      by None None g more = more g
+      by None (Some fault) g more = g
+      by (Some fault) q g more = g
+
+  element_ordered : (loaded : List ℕ) (load : List ℕ → Loading) (e : Element) → P loaded → ((name : List ℕ) → P (load name).loaded)
+      → P (load_element e loaded load).loaded
+  element_ordered loaded load (Primitive code) h k = h
+  element_ordered loaded load (Named name) h k = k name
+
+  named_ordered : (depth : ℕ) (path name loaded : List ℕ) → P loaded → P (load_named p depth path name loaded).loaded
+  named_ordered zero path name loaded h = h
+  named_ordered (suc n) path name loaded h =
+      let within : ℕ → List ℕ → List ℕ → Loading = λ class. load_named p n (path ++ class ∷ []) in
+      let all : ℕ → Loading = λ class. load_needs p (within class) (needs_of p class) loaded in
+      let plain : (class : ℕ) → AreLoads p (λ l. Unit {0}) (needs_of p class) loaded (all class) =
+      λ class. needs-load p (λ l. Unit {0}) (λ l c needs u. tt) (within class) (named-load p (λ l. Unit {0}) (λ l c needs u. tt) n (path ++ class ∷ [])) (needs_of p class) loaded in
+      element_ordered loaded
+      (λ class_name. by_standing (standing_of path loaded (class_named p class_name)) class_name loaded (λ class. behind_needs class (all class))) (meaning_of name).element h
+      (λ class_name. class_ordered path class_name loaded (λ class. behind_needs class (all class)) (class_named p class_name) h
+      (λ class new. behind_ordered class (all class)
+      (not_loaded p class n (path ++ class ∷ []) (needs_of p class) loaded (among-last class path) new)
+      (plain class).there
+      (needs_ordered (within class) (named_ordered n (path ++ class ∷ [])) (needs_of p class) loaded h)))
+
+-- ---- the order
+
+order-above : (p : Program) (first rest all : List ℕ) → first ++ rest ≡ all → IsLoadOrder p first rest → HasSupertypes p all
+order-above p first [] all is order = subst (HasSupertypes p) (sym (append-nil first) ∙ is) order
+order-above p first (class ∷ rest) all is order = order-above p (first ++ class ∷ []) rest all (append_assoc first (class ∷ []) rest ∙ is) order.2
+
+order-push : (p : Program) (first rest all : List ℕ) (class : ℕ) → first ++ rest ≡ all → is_among class all ≡ false → HasSupertypes p (all ++ class ∷ []) → IsLoadOrder p first rest
+    → IsLoadOrder p first (rest ++ class ∷ [])
+order-push p first [] all class is new above order =
+    let same : all ≡ first = sym is ∙ append-nil first in
+    (order, subst (λ l. is_among class l ≡ false) same new, subst (λ l. HasSupertypes p (l ++ class ∷ [])) same above)
+order-push p first (c ∷ rest) all class is new above order =
+    (order.0, order.1, order-push p (first ++ c ∷ []) rest all class (append_assoc first (c ∷ []) rest ∙ is) new above order.2)
+
+-- one class more
+pub order-more : (p : Program) (loaded : List ℕ) (class : ℕ) → is_among class loaded ≡ false → AllByRecursion (HasLoaded p loaded) (needs_of p class) → IsLoadOrder p [] loaded
+    → IsLoadOrder p [] (loaded ++ class ∷ [])
+order-more p loaded class new needs order =
+    order-push p [] loaded loaded class refl new (one-more p loaded class needs (order-above p [] loaded loaded refl order)) order
+
+-- and all that a name loads
+pub load-order : (p : Program) (loaded name : List ℕ) → IsLoadOrder p [] loaded → IsLoadOrder p [] (load_of p loaded name).loaded
+load-order p loaded name = named_ordered p (IsLoadOrder p []) (order-more p) (length p.classes + 1) [] name loaded
+
+-- what is loaded behind a list comes in order behind it
+pub order-behind : (p : Program) (first front rest : List ℕ) → IsLoadOrder p first (front ++ rest) → IsLoadOrder p (first ++ front) rest
+order-behind p first [] rest order = subst (λ l. IsLoadOrder p l rest) (sym (append-nil first)) order
+order-behind p first (class ∷ front) rest order =
+    subst (λ l. IsLoadOrder p l rest) (append_assoc first (class ∷ []) front) (order-behind p (first ++ class ∷ []) front rest order.2)
+
+-- ---- what is loaded before the start
+
+-- each above the one before
+abbrev Rising : ℕ → List ℕ → Type 0
+Rising least [] = Unit {0}
+Rising least (x ∷ xs) = (least ≤ x) × Rising (suc x) xs
+
+rising-later : (less least : ℕ) (xs : List ℕ) → less ≤ least → Rising least xs → Rising less xs
+rising-later less least [] le rising = tt
+rising-later less least (x ∷ xs) le rising = (omega (arith, rising.0), rising.1)
+
+built-in-rising : (at : ℕ) (cs : List ClassFile) → Rising at (built_in_from at cs)
+built-in-rising at [] = tt
+built-in-rising at (c ∷ rest) = by (has_built_in_name c) (built-in-rising (at + 1) rest)
+  where
+    by : (b : Bool) → Rising (at + 1) (built_in_from (at + 1) rest) → Rising at (if b then at ∷ built_in_from (at + 1) rest else built_in_from (at + 1) rest)
+    by true h = (omega arith, rising-later (suc at) (at + 1) (built_in_from (at + 1) rest) (omega arith) h)
+    by false h = rising-later at (at + 1) (built_in_from (at + 1) rest) (omega arith) h
+
+above-all : (class : ℕ) (xs : List ℕ) → AllByRecursion (λ x. x < class) xs → is_among class xs ≡ false
+above-all class [] below = refl
+above-all class (x ∷ xs) below = ap (λ b. b || is_among class xs) (ne_eqb class x (λ same. omega (arith, same, below.0))) ∙ above-all class xs below.1
+
+all-above : (least class : ℕ) (xs : List ℕ) → least ≤ class → AllByRecursion (λ x. x < least) xs → AllByRecursion (λ x. x < suc class) (xs ++ class ∷ [])
+all-above least class [] le below = ((let less : class < suc class = omega arith in less), tt)
+all-above least class (x ∷ xs) le below = (omega (arith, below.0), all-above least class xs le below.1)
+
+all-less : (least class : ℕ) (xs : List ℕ) → least ≤ class → AllByRecursion (λ x. x < least) xs → AllByRecursion (λ x. x < class) xs
+all-less least class [] le below = tt
+all-less least class (x ∷ xs) le below = (omega (arith, below.0), all-less least class xs le below.1)
+
+rising-order : (p : Program) (least : ℕ) (first rest : List ℕ) → AreInOrder p first rest → Rising least rest → AllByRecursion (λ x. x < least) first → HasSupertypes p first
+    → IsLoadOrder p first rest
+rising-order p least first [] order rising below above = above
+rising-order p least first (class ∷ rest) order rising below above = (
+  above,
+  above-all class first (all-less least class first rising.0 below),
+  rising-order p (suc class) (first ++ class ∷ []) rest order.1 rising.1 (all-above least class first rising.0 below) (one-more p first class order.0 above),
+)
+
+-- the built-in classes, where each of them stands behind what it needs
+pub before-order : (w : World) → AreInOrder w.program [] (before w).shared.loaded → IsLoadOrder w.program [] (before w).shared.loaded
+before-order w order =
+    rising-order w.program 0 [] (before w).shared.loaded order (built-in-rising 0 w.program.classes) tt
+    (record { superclass = λ c h. absurd (false_true h); interfaces = λ c h. absurd (false_true h) })

@@ -1,0 +1,9 @@
+pub mod Callees
+pub mod IdleRules
+pub mod Growing
+pub mod CalledSteps
+pub mod CalledRuns
+pub mod Gained
+pub mod Kept
+pub mod Revealed
+pub mod Revealable

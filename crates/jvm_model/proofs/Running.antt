@@ -1,0 +1,12 @@
+pub mod Shapes
+pub mod Opcodes
+pub mod Starts
+pub mod Settles
+pub mod NormalForms
+pub mod LoopOfMoves
+pub mod Attempts
+pub mod Growth
+pub mod Operations
+pub mod QuietSettles
+pub mod ChangesBetween
+pub mod OnlyReturns

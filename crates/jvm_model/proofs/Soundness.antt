@@ -1,0 +1,13 @@
+pub mod SoundClasses
+pub mod SoundKinds
+pub mod SoundObjects
+pub mod SoundRules
+pub mod SoundAttempts
+pub mod SoundLines
+pub mod SoundRuns
+pub mod SoundTextSteps
+pub mod SoundTextRuns
+pub mod Ranked
+pub mod PoolTexts
+pub mod MoreEntries
+pub mod SoundAnswers

@@ -1,0 +1,93 @@
+-- What an instruction loads keeps what is shared sound, and nothing is left to load then (JVM Specification 5.3).
+use Rattle.std.proofs.Common.{◌≡◌, ℕ, Bool, true, false, List, [], ◌∷◌, ◌++◌, ap, sym, subst, refl, ◌∙◌, ◌⊎◌, inl, inr}
+use Rattle.std.proofs.lemmas.List.{append-nil}
+use Rattle.std.proofs.lemmas.Option.{IfSome_then}
+use Rattle.std.specs.Prelude.{drop, length, Option, Some, None, unwrap_or, if◌then◌else◌}
+use Rattle.std.specs.List.{AllByRecursion}
+use Rattle.std.specs.Option.{IfSome}
+use Rattle.jvm_model.specs.Running.Applies.{applies, still}
+use Rattle.jvm_model.specs.Basis.Data.{Operands, Frame, Entry, Active, Initializing, Ending, Uncaught, Breaks, Shared, State, Turn, Instruction, Done, Operation, Within, Named, Athrow, Monitor, Newarray, Arraylength, LoadElement, StoreElement, LdcString, Program, World}
+use Rattle.jvm_model.specs.Instructions.Does.{does, loads}
+use Rattle.jvm_model.specs.Classes.Kinds.{meaning_of}
+use Rattle.jvm_model.specs.Classes.Load.{Fault, NoClass, Circular, Incompatible, error_of, load_of}
+use Rattle.jvm_model.specs.Running.Moves.{move, moves, settled, then_turn}
+use Rattle.jvm_model.specs.Instructions.Naming.{New, message_of, newly_loaded, resolved_name, resolves}
+use Rattle.jvm_model.specs.Codes.Originals.{original}
+use Rattle.jvm_model.specs.Basis.Programs.{name_at}
+use Rattle.jvm_model.specs.Running.Run.{arguments_made, attempt, before, main_class, main_classes, main_loading, main_loads, opened, start, starts, starts_if, starts_unless, starts_with, step, steps_at, steps_by, steps_on, tries, with_loaded}
+use Rattle.jvm_model.specs.Basis.SharedState.{arguments_fit, class_of, null, raised, shared_before, with_arguments}
+use Rattle.jvm_model.specs.Soundness.Sound.{CanAttempt, HasClass, HasSupertypes, IsBuiltInName, IsFit, IsLoaded, IsSoundOutcome, IsSoundShared}
+use Rattle.jvm_model.proofs.Running.Attempts.{again-by, loaded-after, with_loaded-shared}
+use Rattle.jvm_model.proofs.Loading.LoadsAgain.{newly-again, newly-loaded}
+use Rattle.jvm_model.proofs.Running.Settles.{settled-keeps, settled-stops}
+use Rattle.jvm_model.proofs.Soundness.SoundAttempts.{sound-does}
+use Rattle.jvm_model.proofs.Soundness.SoundClasses.{all-then, among-front, load-supertypes, load-there, plain-element}
+use Rattle.jvm_model.proofs.Soundness.SoundLines.{can-attempt}
+use Rattle.jvm_model.proofs.Soundness.SoundObjects.{KeepsShared, arguments-sound, before-sound, exception-sound, objects-grow, with-heap}
+
+some-none : {A : Type 0} (x : A) → Some x ≡ None → ⊥
+some-none x e = cc
+
+none-some : {A : Type 0} (x : A) → None ≡ Some x → ⊥
+none-some x e = cc
+
+-- ---- classes are loaded
+
+pub with-loaded-is : (classes : List ℕ) (s : State) → (with_loaded classes s).shared.loaded ≡ s.shared.loaded ++ classes
+with-loaded-is [] s = sym (append-nil s.shared.loaded)
+with-loaded-is (c ∷ more) s = refl
+
+pub loads-supertypes : (w : World) (op : Operation) (s : Shared) (o : Operands) → HasSupertypes w.program s.loaded → HasSupertypes w.program (s.loaded ++ loads w op s o)
+loads-supertypes w (Named n) s o above = by (resolves n o) refl
+  where
+    by : (b : Bool) → resolves n o ≡ b → HasSupertypes w.program (s.loaded ++ newly_loaded w.program s.loaded n o)
+    by true does =
+        subst (HasSupertypes w.program) (sym (newly-loaded w.program s.loaded n o does)) (load-supertypes w.program s.loaded (resolved_name n) above)
+    by false does =
+        subst (HasSupertypes w.program)
+        (sym (ap (λ (b : Bool). s.loaded ++ (if b then drop (length s.loaded) (load_of w.program s.loaded (resolved_name n)).loaded else [])) does ∙ append-nil s.loaded)) above
+loads-supertypes w (Within i) s o above = subst (HasSupertypes w.program) (sym (append-nil s.loaded)) above
+loads-supertypes w Athrow s o above = subst (HasSupertypes w.program) (sym (append-nil s.loaded)) above
+loads-supertypes w Monitor s o above = subst (HasSupertypes w.program) (sym (append-nil s.loaded)) above
+loads-supertypes w (Newarray code) s o above = subst (HasSupertypes w.program) (sym (append-nil s.loaded)) above
+loads-supertypes w Arraylength s o above = subst (HasSupertypes w.program) (sym (append-nil s.loaded)) above
+loads-supertypes w (LoadElement k) s o above = subst (HasSupertypes w.program) (sym (append-nil s.loaded)) above
+loads-supertypes w (StoreElement k) s o above = subst (HasSupertypes w.program) (sym (append-nil s.loaded)) above
+loads-supertypes w (LdcString units) s o above = subst (HasSupertypes w.program) (sym (append-nil s.loaded)) above
+
+-- what is loaded is looked at alone
+pub loads-same : (w : World) (op : Operation) (a b : Shared) (o : Operands) → a.loaded ≡ b.loaded → loads w op a o ≡ loads w op b o
+loads-same w (Named n) a b o e = ap (λ loaded. newly_loaded w.program loaded n o) e
+loads-same w (Within i) a b o e = refl
+loads-same w Athrow a b o e = refl
+loads-same w Monitor a b o e = refl
+loads-same w (Newarray code) a b o e = refl
+loads-same w Arraylength a b o e = refl
+loads-same w (LoadElement k) a b o e = refl
+loads-same w (StoreElement k) a b o e = refl
+loads-same w (LdcString units) a b o e = refl
+
+-- nothing is left to load then
+pub loads-again : (w : World) (op : Operation) (s : State) (o : Operands) → loads w op (with_loaded (loads w op s.shared o) s).shared o ≡ []
+loads-again w (Named n) s o =
+    ap (λ loaded. newly_loaded w.program loaded n o) (with-loaded-is (newly_loaded w.program s.shared.loaded n o) s) ∙ newly-again w.program s.shared.loaded n o
+loads-again w (Within i) s o = refl
+loads-again w Athrow s o = refl
+loads-again w Monitor s o = refl
+loads-again w (Newarray code) s o = refl
+loads-again w Arraylength s o = refl
+loads-again w (LoadElement k) s o = refl
+loads-again w (StoreElement k) s o = refl
+loads-again w (LdcString units) s o = refl
+
+pub shared-more : (p : Program) (classes : List ℕ) (s : State) → HasSupertypes p (s.shared.loaded ++ classes) → IsSoundShared p s.shared
+    → IsSoundShared p (with_loaded classes s).shared
+shared-more p [] s above is = is
+shared-more p (c ∷ more) s above is = record {
+  built_in = record {
+    whole = is.built_in.whole;
+    each = λ class behind within. among-front class s.shared.loaded (c ∷ more) (is.built_in.each class behind within);
+  };
+  above = above;
+  objects = objects-grow p s.shared.loaded (s.shared.loaded ++ c ∷ more) (λ class h. among-front class s.shared.loaded (c ∷ more) h) s.shared.heap.objects is.objects;
+}

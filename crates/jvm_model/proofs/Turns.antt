@@ -1,0 +1,12 @@
+pub mod Rests
+pub mod Pausing
+pub mod AttemptPauses
+pub mod LoopOfPauses
+pub mod StepPausing
+pub mod PausesMove
+pub mod RestStands
+pub mod GoesOn
+pub mod GoesAll
+pub mod RestTells
+pub mod HandBegins
+pub mod Stops

@@ -1,0 +1,9 @@
+pub mod Descriptors
+pub mod Methods
+pub mod Data
+pub mod Families
+pub mod Values
+pub mod StackForms
+pub mod Programs
+pub mod KindNumbers
+pub mod SharedState

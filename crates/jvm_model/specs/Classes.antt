@@ -1,0 +1,8 @@
+pub mod Lookup
+pub mod Selection
+pub mod Layouts
+pub mod Kinds
+pub mod Load
+pub mod SuperCalls
+pub mod Starting
+pub mod Meanings

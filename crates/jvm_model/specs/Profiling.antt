@@ -1,0 +1,9 @@
+pub mod Paths
+pub mod Activations
+pub mod Projection
+pub mod EventLists
+pub mod Targets
+pub mod Points
+pub mod Swaps
+pub mod Revealed
+pub mod Revelation

@@ -1,0 +1,8 @@
+pub mod StandsForRun
+pub mod Versions
+pub mod ImageTables
+pub mod Images
+pub mod StandsFor
+pub mod Agreement
+pub mod Installed
+pub mod Attempts

@@ -1,0 +1,53 @@
+-- The words of the laws on changes: which methods the frames are of, and in which order a step changes them.
+use Rattle.std.specs.Prelude.{ℕ, suc, List, [], ◌∷◌}
+use Rattle.jvm_model.specs.Basis.Data.{Entry, Active, Initializing, Change, Loads, Began, Left, Unwound}
+
+-- the methods of the frames, the current one first
+abbrev pub methods : List Entry → List ℕ
+methods [] = []
+methods (Active f ∷ below) = f.method ∷ methods below
+methods (Initializing c part ∷ below) = methods below
+
+abbrev pub without_first : List ℕ → List ℕ
+without_first [] = []
+without_first (m ∷ ms) = ms
+
+-- the methods after a change, and after several
+abbrev pub after_change : List ℕ → Change → List ℕ
+after_change ms (Loads classes) = ms
+after_change ms (Began m) = m ∷ ms
+after_change ms Left = without_first ms
+after_change ms Unwound = without_first ms
+
+abbrev pub after_changes : List ℕ → List Change → List ℕ
+after_changes ms [] = ms
+after_changes ms (c ∷ more) = after_changes (after_change ms c) more
+
+-- how many activations begin
+abbrev pub begun : List Change → ℕ
+begun [] = 0
+begun (Loads classes ∷ more) = begun more
+begun (Began m ∷ more) = suc (begun more)
+begun (Left ∷ more) = begun more
+begun (Unwound ∷ more) = begun more
+
+-- activations end first, and behind them one begins at most
+abbrev pub EndThenBegin : List Change → Type 0
+EndThenBegin [] = Unit {0}
+EndThenBegin (Left ∷ more) = EndThenBegin more
+EndThenBegin (Unwound ∷ more) = EndThenBegin more
+EndThenBegin (Began m ∷ []) = Unit {0}
+EndThenBegin (Began m ∷ c ∷ more) = ⊥
+EndThenBegin (Loads classes ∷ more) = ⊥
+
+abbrev pub OnlyEnd : List Change → Type 0
+OnlyEnd [] = Unit {0}
+OnlyEnd (Left ∷ more) = OnlyEnd more
+OnlyEnd (Unwound ∷ more) = OnlyEnd more
+OnlyEnd (Began m ∷ more) = ⊥
+OnlyEnd (Loads classes ∷ more) = ⊥
+
+-- classes are loaded before that
+abbrev pub AreOrdered : List Change → Type 0
+AreOrdered (Loads classes ∷ more) = EndThenBegin more
+AreOrdered changes = EndThenBegin changes

@@ -1,0 +1,4 @@
+pub mod Resolved
+pub mod SmallClass
+pub mod PlainShape
+pub mod Quiet

@@ -1,0 +1,5 @@
+pub mod MarkedStacks
+pub mod Carried
+pub mod MarkedParts
+pub mod Beneath
+pub mod Behind

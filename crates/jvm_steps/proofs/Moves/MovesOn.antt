@@ -1,0 +1,46 @@
+-- A move keeps the state that all moves lead to, and makes what is left less; where none applies that state is reached.
+use Rattle.std.proofs.Common.{◌≡◌, ◌<◌, ◌++◌, ℕ, zero, suc, true, false, List, [], Option, Some, None, refl, ap, ◌∙◌}
+use Rattle.std.specs.Prelude.{is_some}
+use Rattle.std.specs.Option.{option_map_or}
+use Rattle.jvm_model.specs.declared.state.State.{State}
+use Rattle.jvm_model.specs.Basis.Data.{Change, Text, Turn}
+use Rattle.jvm_model.specs.Running.Applies.{still}
+use Rattle.jvm_model.specs.Running.Moves.{left, move, settled, settles, then_turn}
+use Rattle.jvm_model.proofs.Running.LoopOfMoves.{moved-less, moved-same, moved-end}
+use Rattle.jvm_steps.specs.Moves.Settling.{after_move}
+use Rattle.jvm_steps.specs.Codes.Versions.{Setup, text_of}
+
+-- the state that is reached is the same, whatever the changes before
+settles-after : (w : Setup) (t : Text) (n : ℕ) (s : State) (c d : List Change)
+    → (settles w.world t n (record { after = s; changes = c })).after ≡ (settles w.world t n (record { after = s; changes = d })).after
+settles-after w t zero s c d = refl
+settles-after w t (suc n) s c d = by (move w.world t s) (λ next. settles-after w t n next.after (c ++ next.changes) (d ++ next.changes)) where
+  turn_of : List Change → Turn
+  turn_of changes = record { after = s; changes = changes }
+
+  by : (found : Option Turn) → ((next : Turn) → (settles w.world t n (then_turn (turn_of c) next)).after ≡ (settles w.world t n (then_turn (turn_of d) next)).after)
+      → (option_map_or (λ next. settles w.world t n (then_turn (turn_of c) next)) found (turn_of c)).after ≡ (option_map_or (λ next. settles w.world t n (then_turn (turn_of d) next)) found (turn_of d)).after
+  by None rest = refl
+  by (Some next) rest = rest next
+
+abbrev by_text : Setup → Text
+by_text w = text_of w.versions
+
+pub moved_on : (w : Setup) (s : State) → (settled w.world (by_text w) (still (after_move w s))).after ≡ (settled w.world (by_text w) (still s)).after
+moved_on w s = by (move w.world (by_text w) s) refl where
+  by : (found : Option Turn) → move w.world (by_text w) s ≡ found
+      → (settled w.world (by_text w) (still (option_map_or (λ (turn : Turn). turn.after) found s))).after ≡ (settled w.world (by_text w) (still s)).after
+  by None e = refl
+  by (Some next) e = settles-after w (by_text w) (left next.after) next.after [] next.changes ∙ ap (λ (turn : Turn). turn.after) (moved-same w.world (by_text w) (still s) next e)
+
+pub fewer_left : (w : Setup) (s : State) → is_some (move w.world (by_text w) s) ≡ true → left (after_move w s) < left s
+fewer_left w s moved = by (move w.world (by_text w) s) refl moved where
+  by : (found : Option Turn) → move w.world (by_text w) s ≡ found → is_some found ≡ true → left (option_map_or (λ (turn : Turn). turn.after) found s) < left s
+  by None e m = absurd cc
+  by (Some next) e m = moved-less w.world (by_text w) (still s) next e
+
+pub none_left : (w : Setup) (s : State) → is_some (move w.world (by_text w) s) ≡ false → (settled w.world (by_text w) (still s)).after ≡ after_move w s
+none_left w s none = by (move w.world (by_text w) s) refl none where
+  by : (found : Option Turn) → move w.world (by_text w) s ≡ found → is_some found ≡ false → (settled w.world (by_text w) (still s)).after ≡ option_map_or (λ (turn : Turn). turn.after) found s
+  by None e m = ap (λ (turn : Turn). turn.after) (moved-end w.world (by_text w) (still s) e)
+  by (Some next) e m = absurd cc

@@ -1,0 +1,9 @@
+pub mod Leading
+mod QuietLines
+mod PlainSteps
+mod PassedLines
+pub mod SilentSteps
+pub mod PassingSteps
+pub mod PassingCalls
+pub mod PassingReturns
+pub mod ReturnLemmas

@@ -1,0 +1,12 @@
+pub mod Lines
+pub mod Tables
+pub mod Versions
+pub mod VersionTexts
+pub mod Rewritten
+pub mod LaidMethods
+pub mod Linked
+pub mod Prepared
+pub mod Entries
+pub mod ClassVersions
+pub mod Cells
+pub mod Kept

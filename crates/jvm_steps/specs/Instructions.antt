@@ -1,0 +1,10 @@
+pub mod Acts
+pub mod Going
+pub mod Returning
+pub mod Arguments
+pub mod Invoking
+pub mod Asked
+pub mod Initializing
+pub mod Raising
+pub mod Elements
+pub mod Passing

@@ -1,0 +1,25 @@
+-- Invocation over the parts of a machine (JVM Specification 2.6, 5.5, 6.5).
+use Rattle.std.specs.Prelude.{ℕ, Bool, List, None, length, nat_lt, if◌then◌else◌}
+use Rattle.frame_stack.specs.FrameLists.{PlacedFrame}
+use Rattle.jvm_model.specs.declared.state.State.{State}
+use Rattle.jvm_model.specs.Running.Applies.{most_live}
+use Rattle.jvm_steps.specs.declared.originals.Exception.TheVariants.{StackOverflow}
+use Rattle.jvm_steps.specs.declared.parts.Here.{Here}
+use Rattle.jvm_steps.specs.declared.parts.Parts.{Parts}
+use Rattle.jvm_steps.specs.Instructions.Acts.{ended, raising}
+use Rattle.jvm_steps.specs.Instructions.Arguments.{with_begun}
+use Rattle.jvm_steps.specs.Moves.Settling.{own_of}
+use Rattle.jvm_steps.specs.Machine.States.{state_with}
+use Rattle.jvm_steps.specs.Codes.Versions.{Setup}
+
+-- one more activation may be live beside these
+abbrev pub may_begin : List PlacedFrame → Bool
+may_begin fs = nat_lt (length fs) most_live
+
+-- A method is invoked on these frames with so many operands, by whether there may be one activation more, and whether they fit: it begins,
+-- or is one too many, or the run ends.
+abbrev pub called : Setup → Here → ℕ → ℕ → List PlacedFrame → Parts → Bool → Bool → State
+called w here callee count fs p few fits =
+    if fits
+    then if few then state_with (with_begun fits w callee count fs) p else state_with fs (raising w StackOverflow None p)
+    else state_with fs (ended here.method (own_of w here) p)

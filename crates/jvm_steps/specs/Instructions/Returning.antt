@@ -1,0 +1,29 @@
+-- Returns over the parts of a machine.
+use Rattle.std.specs.Prelude.{ℕ, Bool, true, Option, Some, None, is_some}
+use Rattle.heap_objects.specs.declared.datum.Datum.{Datum}
+use Rattle.const_pool.specs.declared.descriptor.Kind.{Kind}
+use Rattle.frame_stack.specs.FrameLists.{top_operands, without_frame}
+use Rattle.jvm_model.specs.Basis.Data.{Operands}
+use Rattle.jvm_steps.specs.Codes.Tables.{Versions}
+use Rattle.jvm_model.specs.declared.state.State.{State}
+use Rattle.jvm_steps.specs.declared.parts.Parts.{Parts}
+use Rattle.jvm_steps.specs.Instructions.Acts.{ended, gives_back_line}
+use Rattle.jvm_steps.specs.Instructions.Going.{top_datum}
+use Rattle.jvm_steps.specs.Machine.States.{state_in}
+
+-- without the current frame
+abbrev pub left_by : Parts → State
+left_by p = state_in (record p { frames = without_frame p.frames })
+
+-- with this operand, if it has one
+abbrev pub returns_found : Versions → ℕ → ℕ → Option Datum → Parts → State
+returns_found v method own None parts = left_by (ended method own parts)
+returns_found v method own (Some d) parts = let s = left_by parts in gives_back_line v s (Some d) s.stack
+
+abbrev pub returns_given : Versions → ℕ → ℕ → Kind → Parts → State
+returns_given v method own k parts = returns_found v method own (top_datum k (top_operands parts.frames.frames)) parts
+
+-- the operand on top is a result of this kind, where there is to be one
+abbrev pub has_result : Option Kind → Operands → Bool
+has_result None o = true
+has_result (Some k) o = is_some (top_datum k o)

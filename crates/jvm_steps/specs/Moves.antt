@@ -1,0 +1,4 @@
+pub mod Settling
+pub mod Turning
+pub mod Trying
+pub mod Hands

@@ -1,0 +1,64 @@
+-- What the moves of a run do to the parts of a machine: a throw goes to a handler or ends activations, and `main` begins (JVM Specification 2.10, 5.2).
+use Rattle.std.specs.Prelude.{ℕ, Bool, true, false, List, [], ◌∷◌, Some, None, nat_le, if◌then◌else◌}
+use Rattle.std.specs.Option.{option_map_or}
+use Rattle.heap_objects.specs.declared.Value.TheVariants.{Ref}
+use Rattle.frame_stack.specs.FrameLists.{PlacedFrame}
+use Rattle.jvm_model.specs.declared.state.State.{State}
+use Rattle.jvm_model.specs.declared.state.Entry.{Entry}
+use Rattle.jvm_model.specs.declared.state.Entry.TheVariants.{Active}
+use Rattle.jvm_model.specs.Basis.Data.{Instruction, Turn}
+use Rattle.jvm_model.specs.Running.Applies.{goes, new_frame}
+use Rattle.jvm_model.specs.Running.Moves.{argument_array, caught, handler_for, move, own_at}
+use Rattle.jvm_model.specs.Basis.SharedState.{class_of}
+use Rattle.jvm_steps.specs.declared.parts.Parts.{Parts}
+use Rattle.jvm_steps.specs.declared.parts.Here.{Here}
+use Rattle.jvm_steps.specs.Machine.States.{frame_in, state_in, state_with}
+use Rattle.jvm_steps.specs.Codes.Versions.{Setup, text_of}
+
+-- ---- the operands of the current frame
+
+abbrev pub emptied : List PlacedFrame → List PlacedFrame
+emptied [] = []
+emptied (f ∷ fs) = record f { operands = [] } ∷ fs
+
+-- there is room for an object alone
+abbrev pub fits_alone : List PlacedFrame → Bool
+fits_alone [] = false
+fits_alone (f ∷ fs) = nat_le 1 f.max_stack
+
+-- an object in the place of the operands, where there is room for it
+abbrev pub with_alone : ℕ → List PlacedFrame → List PlacedFrame
+with_alone r [] = []
+with_alone r (f ∷ fs) = if nat_le 1 f.max_stack then record f { operands = Ref r ∷ [] } ∷ fs else f ∷ fs
+
+-- ---- a throw meets the current frame
+
+-- the offset of the instruction at which it stands
+abbrev pub own_of : Setup → Here → ℕ
+own_of w here = option_map_or (λ (i : Instruction). i.own) ((text_of w.versions).at here.version here.place) 0
+
+-- it goes on at a handler's target, with the object alone on its operands
+abbrev pub caught_at : Setup → ℕ → ℕ → List PlacedFrame → Parts → State
+caught_at w r target [] p = state_in p
+caught_at w r target (f ∷ fs) p =
+    goes (record (state_with fs p) { thrown = None }) (frame_in f) (own_at (text_of w.versions) (frame_in f)) f.locals (Ref r ∷ []) (Some target)
+
+-- by the first handler that covers its place, or its activation ends
+abbrev pub caught_top : Setup → ℕ → List PlacedFrame → Parts → State
+caught_top w r [] p = state_in p
+caught_top w r (f ∷ fs) p =
+    let t = text_of w.versions in
+    (caught w.world t (state_with fs p) r (frame_in f) (handler_for w.world (class_of w.world.program p.shared r) f.place (t.handlers f.version))).after
+
+-- ---- `main` begins
+
+-- the one entry of the stack, if it has a local for its argument
+abbrev pub main_entries : Bool → Setup → List Entry
+main_entries true w = Active (new_frame w.world (text_of w.versions) w.world.program.main argument_array) ∷ []
+main_entries false w = []
+
+-- ---- every move
+
+-- the state after a move, or the same one where none applies
+abbrev pub after_move : Setup → State → State
+after_move w s = option_map_or (λ (turn : Turn). turn.after) (move w.world (text_of w.versions) s) s
