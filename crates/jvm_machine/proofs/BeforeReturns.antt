@@ -20,8 +20,8 @@ use Rattle.jvm_model.specs.Running.Run.{turn}
 use Rattle.jvm_model.specs.Rewriting.StandsForRun.{at_homes, forgotten, norm_by}
 use Rattle.jvm_model.specs.Turns.StepPauses.{Awaits, is_at_return}
 use Rattle.jvm_model.specs.Turns.Told.{held_by, helds}
-use Rattle.jvm_steps.specs.declared.hands.Gone.{Gone}
-use Rattle.jvm_steps.specs.declared.hands.Hand.{Hand}
+use Rattle.jvm_steps.specs.declared.turns.hands.Gone.{Gone}
+use Rattle.jvm_steps.specs.declared.turns.hands.Hand.{Hand}
 use Rattle.jvm_steps.specs.Moves.Hands.{HasInHand, IsLeft, todo_of, versioned_in}
 use Rattle.jvm_steps.specs.Machine.Ready.{IsSoundEntryIn, IsSoundIn}
 use Rattle.jvm_steps.specs.Machine.Standing.{places_of}

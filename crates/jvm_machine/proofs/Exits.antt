@@ -7,8 +7,8 @@ use Rattle.jvm_model.specs.declared.state.State.{State}
 use Rattle.jvm_model.specs.Basis.Data.{Turn, World}
 use Rattle.jvm_model.specs.Running.Run.{starts_with, with_loaded}
 use Rattle.jvm_model.specs.Turns.Told.{Held, helds}
-use Rattle.jvm_steps.specs.declared.hands.Gone.{Gone}
-use Rattle.jvm_steps.specs.declared.hands.Hand.{Hand}
+use Rattle.jvm_steps.specs.declared.turns.hands.Gone.{Gone}
+use Rattle.jvm_steps.specs.declared.turns.hands.Hand.{Hand}
 use Rattle.jvm_steps.specs.Moves.Hands.{HasGoneOn, HasInHand, IsLeft}
 use Rattle.jvm_steps.specs.Machine.Ready.{CanRun, IsSoundIn}
 use Rattle.jvm_steps.specs.Machine.Standing.{HasVersions, IsPinned}

@@ -12,7 +12,7 @@ use Rattle.jvm_model.specs.declared.state.State.{State}
 use Rattle.jvm_model.specs.Basis.Programs.{class_at}
 use Rattle.jvm_model.specs.Running.Run.{before}
 use Rattle.jvm_model.specs.Turns.Told.{helds}
-use Rattle.jvm_steps.specs.declared.hands.Hand.{Hand}
+use Rattle.jvm_steps.specs.declared.turns.hands.Hand.{Hand}
 use Rattle.jvm_steps.specs.Machine.Before.{IsAtStart}
 use Rattle.jvm_steps.specs.Codes.Entries.{no_version, original_slot, original_version, original_versions, version_entry, version_in, version_of}
 use Rattle.jvm_steps.specs.Machine.Standing.{IsSetUp}

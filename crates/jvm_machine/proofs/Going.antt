@@ -26,8 +26,8 @@ use Rattle.jvm_model.proofs.Elsewhere.ClosedPrograms.{program-agrees}
 use Rattle.jvm_model.proofs.Turns.HandBegins.{begin-loads, hand-begins, hand-starts}
 use Rattle.jvm_model.proofs.Turns.RestStands.{step_loads-same}
 use Rattle.jvm_model.proofs.Turns.RestTells.{NoLoads, no-first, rest-no}
-use Rattle.jvm_steps.specs.declared.hands.Gone.{Gone}
-use Rattle.jvm_steps.specs.declared.hands.Hand.{Hand}
+use Rattle.jvm_steps.specs.declared.turns.hands.Gone.{Gone}
+use Rattle.jvm_steps.specs.declared.turns.hands.Hand.{Hand}
 use Rattle.jvm_steps.specs.Moves.Hands.{HasGoneOn, HasInHand, IsLeft, todo_of, versioned_in}
 use Rattle.jvm_steps.specs.Machine.Standing.{HasVersions, places_of}
 use Rattle.jvm_steps.specs.Codes.Tables.{Version}

@@ -12,7 +12,7 @@ use Rattle.jvm_model.specs.declared.state.State.{State}
 use Rattle.jvm_model.specs.Basis.Data.{World}
 use Rattle.jvm_model.specs.Running.Run.{turn}
 use Rattle.jvm_model.specs.Turns.Told.{helds}
-use Rattle.jvm_steps.specs.declared.hands.Hand.{Hand}
+use Rattle.jvm_steps.specs.declared.turns.hands.Hand.{Hand}
 use Rattle.jvm_steps.specs.Codes.ClassVersions.{class_versions}
 use Rattle.jvm_steps.specs.Moves.Hands.{HasInHand}
 use Rattle.jvm_steps.specs.Machine.Ready.{IsKept}

@@ -17,7 +17,7 @@ use Rattle.jvm_model.specs.Soundness.SoundTexts.{IsSoundEntry}
 use Rattle.jvm_model.specs.Rewriting.StandsForRun.{KeepVersions}
 use Rattle.jvm_model.specs.Turns.Told.{Held, helds}
 use Rattle.jvm_model.proofs.Turns.HandBegins.{hand-kept}
-use Rattle.jvm_steps.specs.declared.hands.Hand.{Hand}
+use Rattle.jvm_steps.specs.declared.turns.hands.Hand.{Hand}
 use Rattle.jvm_steps.specs.Moves.Hands.{HasInHand, todo_of, versioned_in}
 use Rattle.jvm_steps.specs.Machine.Ready.{IsKept, IsSoundIn, RunsIn}
 use Rattle.jvm_steps.specs.Machine.Standing.{HasVersions, IsPinned, places_of}

@@ -23,7 +23,7 @@ use Rattle.jvm_model.proofs.Elsewhere.ClosedPrograms.{program-agrees}
 use Rattle.jvm_model.proofs.Loading.LoadedMoves.{settled-loaded}
 use Rattle.jvm_model.proofs.Soundness.SoundRuns.{with-loaded-is}
 use Rattle.jvm_model.proofs.Soundness.SoundTextRuns.{at-goes}
-use Rattle.jvm_steps.specs.declared.hands.Hand.{Hand}
+use Rattle.jvm_steps.specs.declared.turns.hands.Hand.{Hand}
 use Rattle.jvm_steps.specs.Moves.Hands.{HasInHand, todo_of, versioned_in}
 use Rattle.jvm_steps.specs.Machine.Ready.{IsSoundIn, RunsIn}
 use Rattle.jvm_steps.specs.Machine.Standing.{HasVersions, places_of}

@@ -12,8 +12,8 @@ use Rattle.jvm_model.specs.Turns.Pauses.{is_end}
 use Rattle.jvm_model.specs.Turns.Rest.{loads_first}
 use Rattle.jvm_model.specs.Running.Run.{before, main_loads, run, starts_with, turn, with_loaded}
 use Rattle.jvm_model.specs.Turns.Told.{Held, helds}
-use Rattle.jvm_steps.specs.declared.hands.Gone.{Gone}
-use Rattle.jvm_steps.specs.declared.hands.Hand.{Hand}
+use Rattle.jvm_steps.specs.declared.turns.hands.Gone.{Gone}
+use Rattle.jvm_steps.specs.declared.turns.hands.Hand.{Hand}
 use Rattle.jvm_steps.specs.Moves.Hands.{HasGoneOn, HasInHand, IsLeft}
 use Rattle.jvm_steps.specs.Machine.Ready.{IsSoundIn}
 use Rattle.jvm_steps.specs.Machine.Standing.{HasVersions, IsPinned}

@@ -18,9 +18,9 @@ use Rattle.jvm_model.proofs.Running.OnlyReturns.{ends-by-return}
 use Rattle.jvm_model.proofs.Turns.RestStands.{rest-same_changes}
 use Rattle.jvm_model.proofs.Turns.RestTells.{no-first, rest-no}
 use Rattle.jvm_model.proofs.Turns.StepPausing.{step-paused}
-use Rattle.jvm_steps.specs.declared.hands.Hand.{Hand}
-use Rattle.jvm_steps.specs.declared.markers.Marker.{Marker}
-use Rattle.jvm_steps.specs.declared.parts.Parts.{Parts}
+use Rattle.jvm_steps.specs.declared.turns.hands.Hand.{Hand}
+use Rattle.jvm_steps.specs.declared.initialize.markers.Marker.{Marker}
+use Rattle.jvm_steps.specs.declared.turns.parts.Parts.{Parts}
 use Rattle.jvm_steps.specs.Machine.Markers.{state_of}
 use Rattle.jvm_steps.specs.Instructions.Passing.{AreSilent, IsSilent, Passes as Silent, runs}
 use Rattle.jvm_steps.specs.Machine.Runs.{Leads, steps_from, steps_from-suc, steps_from-zero}

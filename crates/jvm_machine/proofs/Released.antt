@@ -9,7 +9,7 @@ use Rattle.jvm_model.specs.declared.event.Mark.TheVariants.{Off}
 use Rattle.jvm_model.specs.declared.state.State.{State}
 use Rattle.jvm_model.specs.Basis.Data.{Turn}
 use Rattle.jvm_model.specs.Turns.Told.{Held, helds}
-use Rattle.jvm_steps.specs.declared.hands.Hand.{Hand}
+use Rattle.jvm_steps.specs.declared.turns.hands.Hand.{Hand}
 use Rattle.jvm_steps.specs.Moves.Hands.{HasInHand}
 use Rattle.jvm_steps.specs.Machine.Ready.{IsKept, IsSoundIn}
 use Rattle.jvm_steps.specs.Machine.Standing.{HasVersions, IsPinned, places_of}

@@ -11,7 +11,7 @@ use Rattle.jvm_model.specs.Running.Run.{before, run}
 use Rattle.jvm_model.specs.Rewriting.StandsForRun.{at_homes, forgotten}
 use Rattle.jvm_model.specs.Turns.Told.{helds}
 use Rattle.jvm_model.proofs.Elsewhere.AppliesMoves.{live-moves}
-use Rattle.jvm_steps.specs.declared.hands.Hand.{Hand}
+use Rattle.jvm_steps.specs.declared.turns.hands.Hand.{Hand}
 use Rattle.jvm_steps.specs.Codes.Versions.{Setup, mark_of, method_of}
 use Rattle.jvm_machine.specs.Machine.{IsMachine, Stands, seen}
 use Rattle.jvm_machine.specs.Turns.{Ends}

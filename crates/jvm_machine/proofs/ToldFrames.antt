@@ -8,9 +8,9 @@ use Rattle.jvm_model.specs.declared.event.Mark.{Mark}
 use Rattle.jvm_model.specs.declared.state.Entry.{Entry}
 use Rattle.jvm_model.specs.Turns.Pauses.{begin_kind, told_at}
 use Rattle.jvm_model.specs.Turns.Told.{helds, held_by}
-use Rattle.jvm_steps.specs.declared.markers.Marker.{Marker}
-use Rattle.jvm_steps.specs.declared.parts.Here.{Here}
-use Rattle.jvm_steps.specs.declared.parts.Parts.{Parts}
+use Rattle.jvm_steps.specs.declared.initialize.markers.Marker.{Marker}
+use Rattle.jvm_steps.specs.declared.turns.parts.Here.{Here}
+use Rattle.jvm_steps.specs.declared.turns.parts.Parts.{Parts}
 use Rattle.jvm_steps.specs.Machine.Markers.{above, beneath, initializing, stack_of, state_of}
 use Rattle.jvm_steps.specs.Machine.States.{active, frame_in, here_of}
 

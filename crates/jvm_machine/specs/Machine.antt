@@ -8,7 +8,7 @@ use Rattle.jvm_model.specs.declared.state.State.{State}
 use Rattle.jvm_model.specs.Running.Run.{starts_with, turn}
 use Rattle.jvm_model.specs.Rewriting.StandsForRun.{StandsFor}
 use Rattle.jvm_model.specs.Turns.Told.{helds}
-use Rattle.jvm_steps.specs.declared.hands.Hand.{Hand}
+use Rattle.jvm_steps.specs.declared.turns.hands.Hand.{Hand}
 use Rattle.jvm_steps.specs.Machine.Before.{IsAtStart}
 use Rattle.jvm_steps.specs.Moves.Hands.{HasInHand}
 use Rattle.jvm_steps.specs.Instructions.Passing.{runs}

@@ -2,71 +2,33 @@
 //! machine, with all that follows from it.
 #![tactic(auto)]
 
-mod arrays;
-mod asking;
-mod attempting;
-mod beginning;
-mod cells;
-mod class_versions;
-mod descriptor;
-mod elements;
-mod entering;
-mod exceptions;
-mod going;
-mod handlers;
-mod hands;
-mod initializing;
-mod invoking;
-mod kinds;
-mod line;
-mod loading;
-mod lookup;
-mod markers;
-mod members;
-mod monitors;
-mod naming;
-mod objects;
-mod originals;
-mod parts;
-mod passing;
-mod pausing;
-mod plain;
-mod preparing;
-mod probes;
-mod raising;
-mod resolving;
-mod returning;
-mod rewritten;
-mod settling;
-mod starting;
-mod stepping;
-mod strings;
-mod supertypes;
-mod throwing;
-mod trying;
-mod turning;
-mod versions;
+mod execute;
+mod initialize;
+mod prepare;
+mod startup;
+mod turns;
+mod unwind;
 
-pub use beginning::{begin_start, end_unmade, make_ready, start};
-pub use descriptor::shape_of;
-pub use hands::{Gone, Hand, go};
-pub use invoking::{fits_params, may_begin};
-pub use line::{Action, Line};
-pub use markers::Marker;
-pub use members::{
+pub use execute::invoking::{fits_params, may_begin};
+pub use execute::passing::pass_steps;
+pub use execute::plain::plain_steps;
+pub use initialize::markers::Marker;
+pub use initialize::objects::arguments_fit;
+pub use prepare::descriptor::shape_of;
+pub use prepare::line::{Action, Line};
+pub use prepare::members::{
     code_of, field_at, initializer_in, is_initializer, is_out, is_println, is_reference, method_at,
     method_named,
 };
-pub use objects::arguments_fit;
-pub use originals::{Exception, Originals};
-pub use parts::{Here, Parts, where_now};
-pub use passing::pass_steps;
-pub use pausing::{go_by_moves, pause};
-pub use plain::plain_steps;
-pub use raising::raise;
-pub use resolving::line_of;
-pub use starting::parts_before;
-pub use stepping::{run, step};
-pub use trying::go_by_attempt;
-pub use turning::{Moved, make_move};
-pub use versions::{Catching, PreparedCode, Version, Versions};
+pub use prepare::originals::{Exception, Originals};
+pub use prepare::resolving::line_of;
+pub use prepare::versions::{Catching, PreparedCode, Version, Versions};
+pub use startup::beginning::{begin_start, end_unmade, make_ready, start};
+pub use startup::starting::parts_before;
+pub use turns::hands::{Gone, Hand, go};
+pub use turns::parts::{Here, Parts, where_now};
+pub use turns::pausing::{go_by_moves, pause};
+pub use turns::stepping::{run, step};
+pub use turns::trying::go_by_attempt;
+pub use turns::turning::{Moved, make_move};
+pub use unwind::raising::raise;

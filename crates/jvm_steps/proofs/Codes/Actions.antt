@@ -8,7 +8,7 @@ use Rattle.jvm_model.specs.declared.family.Family.TheVariants as family
 use Rattle.jvm_model.specs.Basis.Data.{Local, Within, Named, Naming, New, Getfield, Putfield, Getstatic, Putstatic, Invokevirtual, Invokespecial, Invokestatic, Invokeinterface, Checkcast, Instanceof, Anewarray, Multianewarray, LdcClass}
 use Rattle.jvm_model.specs.Codes.Lines.{local_of, constant_in, has_dimensions, named_by, operation_by}
 use Rattle.jvm_named.specs.Names.{naming_view}
-use Rattle.jvm_steps.specs.declared.line.Action.TheVariants as action
+use Rattle.jvm_steps.specs.declared.prepare.line.Action.TheVariants as action
 use Rattle.jvm_steps.specs.Codes.Lines.{action_of, local_action, named_action, named_as}
 
 -- ---- names

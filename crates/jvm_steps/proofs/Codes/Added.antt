@@ -7,7 +7,7 @@ use Rattle.std.proofs.lemmas.List.{ext_get_or, length-set}
 use Rattle.frame_stack.specs.FrameLists.{PlacedFrame, pins_of}
 use Rattle.method_versions.specs.Tables.{held_besides, is_number, is_superseded_in}
 use Rattle.jvm_named.specs.Objects.{HasDimensions}
-use Rattle.jvm_steps.specs.declared.line.Line.{Line}
+use Rattle.jvm_steps.specs.declared.prepare.line.Line.{Line}
 use Rattle.jvm_steps.specs.Codes.Lines.{IfNamedBy}
 use Rattle.jvm_steps.specs.Codes.Tables.{Adds, AreAllCurrent, AreOfMethods, IsAdded, Releases, Version, Versions, version_at}
 use Rattle.jvm_steps.specs.Codes.Versions.{HasLines, HasOwnLines, IsPrepared, line_at, line_in}

@@ -18,9 +18,9 @@ use Rattle.jvm_steps.specs.Codes.Kept.{AreKnown, IsLater}
 use Rattle.jvm_steps.specs.Codes.Lines.{IfNamed, IfNamedBy}
 use Rattle.jvm_steps.specs.Codes.Tables.{Releases, Versions, version_at}
 use Rattle.jvm_steps.specs.Codes.Versions.{line_at, line_in}
-use Rattle.jvm_steps.specs.declared.line.Action.{Action}
-use Rattle.jvm_steps.specs.declared.line.Action.TheVariants as action
-use Rattle.jvm_steps.specs.declared.line.Line.{Line}
+use Rattle.jvm_steps.specs.declared.prepare.line.Action.{Action}
+use Rattle.jvm_steps.specs.declared.prepare.line.Action.TheVariants as action
+use Rattle.jvm_steps.specs.declared.prepare.line.Line.{Line}
 
 -- with these classes loaded too
 abbrev with_more : LinkerView → List ℕ → LinkerView

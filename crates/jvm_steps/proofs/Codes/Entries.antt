@@ -13,9 +13,9 @@ use Rattle.jvm_model.specs.Basis.Methods.{code_of, method_code, method_params, m
 use Rattle.jvm_model.specs.Basis.Programs.{class_at}
 use Rattle.jvm_model.specs.Basis.SharedState.{kind_for, string}
 use Rattle.jvm_named.specs.Numbers.{AreNumbers, Row}
-use Rattle.jvm_steps.specs.declared.originals.Exception.{Exception}
-use Rattle.jvm_steps.specs.declared.originals.Exceptions.{Exceptions}
-use Rattle.jvm_steps.specs.declared.originals.Method.{Method}
+use Rattle.jvm_steps.specs.declared.prepare.originals.Exception.{Exception}
+use Rattle.jvm_steps.specs.declared.prepare.originals.Exceptions.{Exceptions}
+use Rattle.jvm_steps.specs.declared.prepare.originals.Method.{Method}
 use Rattle.jvm_steps.specs.Codes.Prepared.{FitsOriginals, IsPrepared, exception_in, exception_kind}
 use Rattle.jvm_steps.specs.Codes.Entries.{entry_of, no_method, entry_in, entry_at, original_versions, own_number}
 use Rattle.jvm_steps.specs.Codes.Versions.{HasLines}

@@ -9,8 +9,8 @@ use Rattle.jvm_model.specs.declared.program.Program.{Program}
 use Rattle.jvm_model.specs.Basis.Families.{family_of}
 use Rattle.jvm_model.specs.Basis.Methods.{method_code}
 use Rattle.jvm_model.specs.Basis.Programs.{class_at, place_of_method}
-use Rattle.jvm_steps.specs.declared.line.Action.{Action}
-use Rattle.jvm_steps.specs.declared.line.Line.{Line}
+use Rattle.jvm_steps.specs.declared.prepare.line.Action.{Action}
+use Rattle.jvm_steps.specs.declared.prepare.line.Line.{Line}
 use Rattle.jvm_steps.specs.Codes.Lines.{line_at, line_with}
 use Rattle.jvm_steps.specs.Codes.Versions as versions
 use Rattle.jvm_steps.specs.Codes.Versions.{ArePrepared, HasLines, IsPrepared, line_in}

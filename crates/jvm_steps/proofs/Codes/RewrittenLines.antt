@@ -11,7 +11,7 @@ use Rattle.code_model.specs.Instructions.{instruction_at}
 use Rattle.code_model.specs.Layout.{place_in}
 use Rattle.jvm_model.specs.Basis.Families.{family_of}
 use Rattle.jvm_model.specs.Codes.Lines.{instruction_of, operation_of}
-use Rattle.jvm_steps.specs.declared.line.Line.{Line}
+use Rattle.jvm_steps.specs.declared.prepare.line.Line.{Line}
 use Rattle.jvm_model.specs.Codes.Homed.{start_in}
 use Rattle.jvm_steps.specs.Codes.Lines.{action_of, line_of}
 use Rattle.jvm_steps.specs.Machine.Ready.{IsOwnLine}

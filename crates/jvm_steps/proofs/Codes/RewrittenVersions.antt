@@ -19,8 +19,8 @@ use Rattle.jvm_model.specs.Codes.Lines.{code_instruction, instruction_of}
 use Rattle.jvm_model.specs.Codes.Moved.{IsPlace, moved_catcher, moved_instruction}
 use Rattle.jvm_model.specs.Codes.Originals.{catcher_of, original}
 use Rattle.jvm_model.specs.Rewriting.Versions.{moved_handler}
-use Rattle.jvm_steps.specs.declared.line.Line.{Line}
-use Rattle.jvm_steps.specs.declared.versions.Catching.{Catching}
+use Rattle.jvm_steps.specs.declared.prepare.line.Line.{Line}
+use Rattle.jvm_steps.specs.declared.prepare.versions.Catching.{Catching}
 use Rattle.jvm_steps.specs.Codes.Tables.{Version}
 use Rattle.jvm_steps.specs.Codes.Entries.{catching_of, code_line}
 use Rattle.jvm_model.specs.Codes.ProgramPlaces.{IsStartOrEnd}

@@ -27,7 +27,7 @@ use Rattle.jvm_model.specs.Codes.Originals.{original}
 use Rattle.jvm_model.specs.Basis.Programs.{class_at, place_of_method}
 use Rattle.jvm_model.specs.Basis.Values.{as_value}
 use Rattle.jvm_basic.specs.Rules.{datum_in, placed, going, needs, rule_by, rule_of}
-use Rattle.jvm_steps.specs.declared.line.Line.{Line}
+use Rattle.jvm_steps.specs.declared.prepare.line.Line.{Line}
 use Rattle.jvm_steps.specs.Machine.Ready.{CanRun, HasLocal, IsOwnLine, IsRuleOf, IsTied}
 use Rattle.jvm_steps.specs.Codes.Versions.{Setup, instruction_by, instruction_in, is_athrow, is_last_family, next_in, operation_as, operation_in, text_of}
 use Rattle.jvm_steps.specs.Codes.Versions as versions

@@ -17,10 +17,10 @@ use Rattle.jvm_model.specs.Basis.Programs.{max_locals_of, max_stack_of, params_o
 use Rattle.jvm_model.specs.Basis.Values.{data_of, datum_of, spread}
 use Rattle.jvm_model.specs.Instructions.Rules.{invokes as invokes_outcome}
 use Rattle.jvm_model.specs.Running.Applies.{still, breaks, begins, live_in, most_live, with_frame, applies}
-use Rattle.jvm_steps.specs.declared.parts.Parts.{Parts}
-use Rattle.jvm_steps.specs.declared.line.Line.{Line}
-use Rattle.jvm_steps.specs.declared.originals.Exception.TheVariants.{StackOverflow}
-use Rattle.jvm_steps.specs.declared.parts.Here.{Here}
+use Rattle.jvm_steps.specs.declared.turns.parts.Parts.{Parts}
+use Rattle.jvm_steps.specs.declared.prepare.line.Line.{Line}
+use Rattle.jvm_steps.specs.declared.prepare.originals.Exception.TheVariants.{StackOverflow}
+use Rattle.jvm_steps.specs.declared.turns.parts.Here.{Here}
 use Rattle.jvm_steps.specs.Instructions.Acts.{ended, placed_line, raising}
 use Rattle.jvm_steps.specs.Instructions.Invoking.{called, may_begin}
 use Rattle.jvm_steps.specs.Moves.Settling.{own_of}

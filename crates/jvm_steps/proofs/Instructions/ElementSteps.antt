@@ -19,11 +19,11 @@ use Rattle.jvm_model.specs.Basis.Values.{as_value}
 use Rattle.jvm_basic.specs.declared.effect.Effect.TheVariants.{Next}
 use Rattle.jvm_basic.specs.Outcomes.{GoesOn as Goes, Rule, after, asked, effect_of, frames_in}
 use Rattle.jvm_basic.specs.Rules.{replaces, rule_of}
-use Rattle.jvm_steps.specs.declared.line.Action.TheVariants as action
-use Rattle.jvm_steps.specs.declared.line.Line.{Line}
-use Rattle.jvm_steps.specs.declared.markers.Marker.{Marker}
-use Rattle.jvm_steps.specs.declared.parts.Here.{Here}
-use Rattle.jvm_steps.specs.declared.parts.Parts.{Parts}
+use Rattle.jvm_steps.specs.declared.prepare.line.Action.TheVariants as action
+use Rattle.jvm_steps.specs.declared.prepare.line.Line.{Line}
+use Rattle.jvm_steps.specs.declared.initialize.markers.Marker.{Marker}
+use Rattle.jvm_steps.specs.declared.turns.parts.Here.{Here}
+use Rattle.jvm_steps.specs.declared.turns.parts.Parts.{Parts}
 use Rattle.jvm_steps.specs.Instructions.Acts.{acts, acts_asked, acts_by, acts_done, attempts_on, is_named, named_in, on_parts, on_top}
 use Rattle.jvm_steps.specs.Instructions.Elements.{IsLoaded, IsStored, drops_three, is_number}
 use Rattle.jvm_steps.specs.Machine.Markers.{marker_on, stack_of, state_of, with_markers}

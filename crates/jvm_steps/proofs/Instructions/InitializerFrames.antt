@@ -13,8 +13,8 @@ use Rattle.jvm_model.specs.Basis.Data.{Began, Text, Turn}
 use Rattle.jvm_model.specs.Running.Moves.{at_part, raises, runs_initializer}
 use Rattle.jvm_model.specs.Basis.Programs.{initializer_of, max_locals_of, max_stack_of}
 use Rattle.jvm_model.specs.Basis.SharedState.{stack_overflow}
-use Rattle.jvm_steps.specs.declared.markers.Marker.{Marker}
-use Rattle.jvm_steps.specs.declared.parts.Parts.{Parts}
+use Rattle.jvm_steps.specs.declared.initialize.markers.Marker.{Marker}
+use Rattle.jvm_steps.specs.declared.turns.parts.Parts.{Parts}
 use Rattle.jvm_steps.specs.Machine.Markers.{marker_on, stack_of, state_of}
 use Rattle.jvm_steps.specs.Machine.States.{active, state_in}
 use Rattle.jvm_steps.specs.Moves.Turning.{begun_in}

@@ -10,8 +10,8 @@ use Rattle.jvm_model.specs.Running.Run.{is_ready, step}
 use Rattle.jvm_model.specs.Basis.SharedState.{phase_of}
 use Rattle.jvm_model.proofs.Soundness.SoundTextRuns.{sound-step}
 use Rattle.jvm_model.proofs.Soundness.SoundTextSteps.{sound-settled}
-use Rattle.jvm_steps.specs.declared.markers.Marker.{Marker}
-use Rattle.jvm_steps.specs.declared.parts.Parts.{Parts}
+use Rattle.jvm_steps.specs.declared.initialize.markers.Marker.{Marker}
+use Rattle.jvm_steps.specs.declared.turns.parts.Parts.{Parts}
 use Rattle.jvm_steps.specs.Instructions.Acts.{attempts_on, awaited_in, goes_on_in}
 use Rattle.jvm_steps.specs.Machine.Markers.{is_unmarked, marker_on, state_of}
 use Rattle.jvm_steps.specs.Machine.Runs.{Leads, steps_from, steps_from-zero, steps_from-suc}

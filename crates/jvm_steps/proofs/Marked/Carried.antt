@@ -25,11 +25,11 @@ use Rattle.jvm_model.specs.Basis.SharedState.{Allocated, class_of, raised, stack
 use Rattle.jvm_model.specs.Basis.Values.{as_value, int_of, ref_of, with_value}
 use Rattle.jvm_basic.specs.Outcomes.{Outcome as Comes, GoesOn as Goes, Raises as Divides, Breaks as Fails, Leaves}
 use Rattle.jvm_basic.specs.Rules.{rule_of}
-use Rattle.jvm_steps.specs.declared.line.Action.{Action}
-use Rattle.jvm_steps.specs.declared.line.Action.TheVariants as action
-use Rattle.jvm_steps.specs.declared.line.Line.{Line}
-use Rattle.jvm_steps.specs.declared.markers.Marker.{Marker}
-use Rattle.jvm_steps.specs.declared.parts.Parts.{Parts}
+use Rattle.jvm_steps.specs.declared.prepare.line.Action.{Action}
+use Rattle.jvm_steps.specs.declared.prepare.line.Action.TheVariants as action
+use Rattle.jvm_steps.specs.declared.prepare.line.Line.{Line}
+use Rattle.jvm_steps.specs.declared.initialize.markers.Marker.{Marker}
+use Rattle.jvm_steps.specs.declared.turns.parts.Parts.{Parts}
 use Rattle.jvm_steps.specs.Instructions.Acts.{placed_line, comes_to, resumes_line, gives_back_line, returns_or_ends, acts_return, acts_by, acts, is_named, acts_end, ends_initializer}
 use Rattle.jvm_steps.specs.Machine.Markers.{initializing, marker_on, stack_of, with_markers}
 use Rattle.jvm_steps.specs.Moves.Settling.{after_move}

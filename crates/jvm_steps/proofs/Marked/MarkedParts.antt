@@ -5,8 +5,8 @@ use Rattle.std.proofs.lemmas.Bool.{le-leb}
 use Rattle.std.proofs.lemmas.Option.{none-some}
 use Rattle.jvm_model.specs.declared.state.Entry.{Entry}
 use Rattle.jvm_model.specs.Running.Moves.{at_part}
-use Rattle.jvm_steps.specs.declared.markers.Marker.{Marker}
-use Rattle.jvm_steps.specs.declared.parts.Parts.{Parts}
+use Rattle.jvm_steps.specs.declared.initialize.markers.Marker.{Marker}
+use Rattle.jvm_steps.specs.declared.turns.parts.Parts.{Parts}
 use Rattle.jvm_steps.specs.Machine.Markers.{TakesMarker, marker_on, stack_of, state_of}
 use Rattle.jvm_steps.specs.Machine.States.{active, state_in}
 use Rattle.jvm_steps.proofs.Marked.Carried.{length-active}

@@ -5,7 +5,7 @@ use Rattle.std.proofs.lemmas.Option.{same_Some, none-some}
 use Rattle.jvm_model.specs.declared.state.Entry.{Entry}
 use Rattle.jvm_model.specs.declared.state.Entry.TheVariants.{Active, Initializing}
 use Rattle.jvm_model.specs.Running.Applies.{live_in}
-use Rattle.jvm_steps.specs.declared.markers.Marker.{Marker}
+use Rattle.jvm_steps.specs.declared.initialize.markers.Marker.{Marker}
 use Rattle.jvm_steps.specs.Machine.Markers.{initializing, marker_on, above, beneath, stack_of}
 
 -- ---- the marker on top

@@ -19,8 +19,8 @@ use Rattle.jvm_model.specs.Turns.Told.{mark_now}
 use Rattle.jvm_model.specs.Turns.Pauses.{Pause, changes_due, passed_by, paused, unless_off}
 use Rattle.jvm_model.specs.Turns.StepPauses.{pause_behind}
 use Rattle.jvm_model.proofs.Turns.Pausing.{paused-is}
-use Rattle.jvm_steps.specs.declared.markers.Marker.{Marker}
-use Rattle.jvm_steps.specs.declared.parts.Parts.{Parts}
+use Rattle.jvm_steps.specs.declared.initialize.markers.Marker.{Marker}
+use Rattle.jvm_steps.specs.declared.turns.parts.Parts.{Parts}
 use Rattle.jvm_steps.specs.Machine.Markers.{above, beneath, initializing, stack_of, state_of}
 use Rattle.jvm_steps.specs.Machine.States.{active}
 use Rattle.jvm_steps.specs.Moves.Turning.{pause_at, paused_in}

@@ -13,8 +13,8 @@ use Rattle.jvm_model.specs.Turns.Told.{Held}
 use Rattle.jvm_model.proofs.Elsewhere.ClosedPrograms.{program-agrees}
 use Rattle.jvm_model.proofs.Turns.GoesAll.{all-goes}
 use Rattle.jvm_model.proofs.Running.OnlyReturns.{ends-by-return}
-use Rattle.jvm_steps.specs.declared.hands.Gone.{Gone}
-use Rattle.jvm_steps.specs.declared.hands.Hand.{Hand}
+use Rattle.jvm_steps.specs.declared.turns.hands.Gone.{Gone}
+use Rattle.jvm_steps.specs.declared.turns.hands.Hand.{Hand}
 use Rattle.jvm_steps.specs.Moves.Hands.{HasGoneOn, HasInHand, goes_as, goes_in, todo_of, versioned_in}
 use Rattle.jvm_steps.specs.Machine.Ready.{CanRun, IsSoundIn}
 use Rattle.jvm_steps.specs.Machine.Standing.{HasVersions, places_of}

@@ -24,9 +24,9 @@ use Rattle.jvm_model.specs.Basis.SharedState.{phase_of, with_phase}
 use Rattle.jvm_model.proofs.Running.Attempts.{loaded-after}
 use Rattle.jvm_model.proofs.Loading.LoadsAgain.{newly-again}
 use Rattle.jvm_model.proofs.Running.QuietSettles.{stops}
-use Rattle.jvm_steps.specs.declared.line.Line.{Line}
-use Rattle.jvm_steps.specs.declared.markers.Marker.{Marker}
-use Rattle.jvm_steps.specs.declared.parts.Parts.{Parts}
+use Rattle.jvm_steps.specs.declared.prepare.line.Line.{Line}
+use Rattle.jvm_steps.specs.declared.initialize.markers.Marker.{Marker}
+use Rattle.jvm_steps.specs.declared.turns.parts.Parts.{Parts}
 use Rattle.jvm_steps.specs.Instructions.Acts.{acts, acts_asked, acts_by, acts_named, attempts_line, attempts_on, awaited, awaited_by, awaited_in, awaited_on, is_at_rest, goes_on_in, named_done, ready_for, with_done}
 use Rattle.jvm_steps.specs.Machine.Markers.{initializing, marker_on, stack_of, state_of}
 use Rattle.jvm_steps.specs.Machine.States.{active, frame_in}

@@ -24,10 +24,10 @@ use Rattle.jvm_steps.specs.Machine.Ready.{CanRun, IsSoundEntryIn, IsSoundIn, IsT
 use Rattle.class_linker.specs.Linkers.{LinkerView}
 use Rattle.jvm_named.specs.Natives.{HasBuiltIn}
 use Rattle.jvm_named.specs.Objects.{AreLoaded, HasLoadedCaller, IsOfLoaded}
-use Rattle.jvm_steps.specs.declared.line.Line.{Line}
-use Rattle.jvm_steps.specs.declared.markers.Marker.{Marker}
-use Rattle.jvm_steps.specs.declared.parts.Here.{Here}
-use Rattle.jvm_steps.specs.declared.parts.Parts.{Parts}
+use Rattle.jvm_steps.specs.declared.prepare.line.Line.{Line}
+use Rattle.jvm_steps.specs.declared.initialize.markers.Marker.{Marker}
+use Rattle.jvm_steps.specs.declared.turns.parts.Here.{Here}
+use Rattle.jvm_steps.specs.declared.turns.parts.Parts.{Parts}
 use Rattle.jvm_steps.specs.Instructions.Acts.{acts, attempts_line, attempts_on, with_done}
 use Rattle.jvm_steps.specs.Codes.Lines.{IfNamed, IfNamedBy, action_of, local_action}
 use Rattle.jvm_steps.specs.Machine.Markers.{marker_on, stack_of, state_of}

@@ -23,8 +23,8 @@ use Rattle.jvm_steps.specs.Codes.Entries.{original_versions}
 use Rattle.jvm_steps.specs.Machine.OriginalRun.{original_setup}
 use Rattle.jvm_model.specs.Codes.ProgramPlaces.{HasClosedCodes}
 use Rattle.jvm_steps.specs.Machine.Ready.{CanRun, IsOwnLine, IsSoundIn, RunsIn}
-use Rattle.jvm_steps.specs.declared.markers.Marker.{Marker}
-use Rattle.jvm_steps.specs.declared.parts.Parts.{Parts}
+use Rattle.jvm_steps.specs.declared.initialize.markers.Marker.{Marker}
+use Rattle.jvm_steps.specs.declared.turns.parts.Parts.{Parts}
 use Rattle.jvm_steps.specs.Machine.Markers.{above, beneath, initializing, stack_of, state_of}
 use Rattle.jvm_steps.specs.Machine.States.{active}
 use Rattle.jvm_steps.specs.Machine.Runs.{steps_from, steps_from-zero, steps_from-suc}

@@ -30,10 +30,10 @@ use Rattle.jvm_model.specs.Turns.StepPauses.{again_pause, attempted, frame_pause
 use Rattle.jvm_model.proofs.Turns.AttemptPauses.{breaks-pause, goes-again, goes-once, leaves, settled-there, stays-once}
 use Rattle.jvm_model.proofs.Running.ChangesBetween.{applies-tell}
 use Rattle.jvm_model.proofs.Turns.LoopOfPauses.{paused-move}
-use Rattle.jvm_steps.specs.declared.line.Action.TheVariants as action
-use Rattle.jvm_steps.specs.declared.line.Line.{Line}
-use Rattle.jvm_steps.specs.declared.markers.Marker.{Marker}
-use Rattle.jvm_steps.specs.declared.parts.Parts.{Parts}
+use Rattle.jvm_steps.specs.declared.prepare.line.Action.TheVariants as action
+use Rattle.jvm_steps.specs.declared.prepare.line.Line.{Line}
+use Rattle.jvm_steps.specs.declared.initialize.markers.Marker.{Marker}
+use Rattle.jvm_steps.specs.declared.turns.parts.Parts.{Parts}
 use Rattle.jvm_steps.specs.Instructions.Acts.{acts, acts_by, acts_named, attempts_line, attempts_on, awaited, awaited_by, awaited_in, awaited_on, goes_on_in}
 use Rattle.jvm_steps.specs.Codes.Lines.{action_of, local_action}
 use Rattle.jvm_steps.specs.Machine.Markers.{initializing, marker_on, stack_of, state_of}

@@ -15,10 +15,10 @@ use Rattle.jvm_basic.specs.Outcomes.{after, effect_of}
 use Rattle.jvm_basic.specs.Rules.{rule_of}
 use Rattle.jvm_basic.proofs.Exact.{kept-unless-next}
 use Rattle.jvm_basic.proofs.HotLines.{hot-after, hot-effect, no-element}
-use Rattle.jvm_steps.specs.declared.line.Action.{Action}
-use Rattle.jvm_steps.specs.declared.line.Action.TheVariants as action
-use Rattle.jvm_steps.specs.declared.line.Line.{Line}
-use Rattle.jvm_steps.specs.declared.parts.Parts.{Parts}
+use Rattle.jvm_steps.specs.declared.prepare.line.Action.{Action}
+use Rattle.jvm_steps.specs.declared.prepare.line.Action.TheVariants as action
+use Rattle.jvm_steps.specs.declared.prepare.line.Line.{Line}
+use Rattle.jvm_steps.specs.declared.turns.parts.Parts.{Parts}
 use Rattle.jvm_steps.specs.Instructions.Elements.{IsLoaded, IsPassed, IsStored, is_plain}
 use Rattle.jvm_steps.specs.Codes.Lines.{hot_in}
 use Rattle.jvm_steps.specs.Machine.Ready.{CanRun}

@@ -34,11 +34,11 @@ use Rattle.jvm_named.specs.Answers.{Calls, answer_in, done_on, frames_in}
 use Rattle.jvm_named.specs.Attempts.{attempts}
 use Rattle.jvm_named.specs.Names.{naming_view}
 use Rattle.jvm_named.specs.Passing.{IsCall}
-use Rattle.jvm_steps.specs.declared.line.Action.TheVariants as action
-use Rattle.jvm_steps.specs.declared.line.Line.{Line}
-use Rattle.jvm_steps.specs.declared.markers.Marker.{Marker}
-use Rattle.jvm_steps.specs.declared.parts.Here.{Here}
-use Rattle.jvm_steps.specs.declared.parts.Parts.{Parts}
+use Rattle.jvm_steps.specs.declared.prepare.line.Action.TheVariants as action
+use Rattle.jvm_steps.specs.declared.prepare.line.Line.{Line}
+use Rattle.jvm_steps.specs.declared.initialize.markers.Marker.{Marker}
+use Rattle.jvm_steps.specs.declared.turns.parts.Here.{Here}
+use Rattle.jvm_steps.specs.declared.turns.parts.Parts.{Parts}
 use Rattle.jvm_steps.specs.Instructions.Arguments.{begun_frame, can_begin, with_begun}
 use Rattle.jvm_steps.specs.Instructions.Asked.{concluded, done_top}
 use Rattle.jvm_steps.specs.Instructions.Invoking.{called, may_begin}

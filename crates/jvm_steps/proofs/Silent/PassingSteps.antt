@@ -25,11 +25,11 @@ use Rattle.jvm_named.specs.Attempts.{attempts, loaded_for, loads_nothing, shared
 use Rattle.jvm_named.specs.Names.{naming_view}
 use Rattle.jvm_named.specs.Does.{Changed, IsDone, changed}
 use Rattle.jvm_named.specs.Passing.{HasPassed, IfPassed, IfRan}
-use Rattle.jvm_steps.specs.declared.line.Action.TheVariants as action
-use Rattle.jvm_steps.specs.declared.line.Line.{Line}
-use Rattle.jvm_steps.specs.declared.markers.Marker.{Marker}
-use Rattle.jvm_steps.specs.declared.parts.Here.{Here}
-use Rattle.jvm_steps.specs.declared.parts.Parts.{Parts}
+use Rattle.jvm_steps.specs.declared.prepare.line.Action.TheVariants as action
+use Rattle.jvm_steps.specs.declared.prepare.line.Line.{Line}
+use Rattle.jvm_steps.specs.declared.initialize.markers.Marker.{Marker}
+use Rattle.jvm_steps.specs.declared.turns.parts.Here.{Here}
+use Rattle.jvm_steps.specs.declared.turns.parts.Parts.{Parts}
 use Rattle.jvm_steps.specs.Instructions.Acts.{attempts_on, is_at_rest, is_named, named_in}
 use Rattle.jvm_steps.specs.Instructions.Asked.{concluded, done_top, starts_in}
 use Rattle.jvm_steps.specs.Codes.Lines.{IfNamed, IfNamedBy}

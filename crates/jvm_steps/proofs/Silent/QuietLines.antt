@@ -22,10 +22,10 @@ use Rattle.jvm_model.proofs.Running.QuietSettles.{stops}
 use Rattle.jvm_basic.specs.declared.effect.Effect.TheVariants.{Next}
 use Rattle.jvm_basic.specs.Outcomes.{effect_in}
 use Rattle.jvm_basic.specs.Rules.{placed, rule_of}
-use Rattle.jvm_steps.specs.declared.line.Action.TheVariants as action
-use Rattle.jvm_steps.specs.declared.line.Line.{Line}
-use Rattle.jvm_steps.specs.declared.markers.Marker.{Marker}
-use Rattle.jvm_steps.specs.declared.parts.Parts.{Parts}
+use Rattle.jvm_steps.specs.declared.prepare.line.Action.TheVariants as action
+use Rattle.jvm_steps.specs.declared.prepare.line.Line.{Line}
+use Rattle.jvm_steps.specs.declared.initialize.markers.Marker.{Marker}
+use Rattle.jvm_steps.specs.declared.turns.parts.Parts.{Parts}
 use Rattle.jvm_steps.specs.Machine.Markers.{stack_of, with_markers}
 use Rattle.jvm_steps.specs.Machine.Ready.{CanRun, IsOwnLine}
 use Rattle.jvm_steps.specs.Machine.Runs.{IsCalm, IsPlainLine}

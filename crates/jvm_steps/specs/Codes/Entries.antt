@@ -13,9 +13,9 @@ use Rattle.jvm_model.specs.declared.program.MethodPlace.{MethodPlace}
 use Rattle.jvm_model.specs.declared.program.Program.{Program}
 use Rattle.jvm_model.specs.Basis.Methods.{code_of, member_shape}
 use Rattle.jvm_model.specs.Basis.Programs.{class_at}
-use Rattle.jvm_steps.specs.declared.line.Line.{Line}
-use Rattle.jvm_steps.specs.declared.originals.Method.{Method}
-use Rattle.jvm_steps.specs.declared.versions.Catching.{Catching}
+use Rattle.jvm_steps.specs.declared.prepare.line.Line.{Line}
+use Rattle.jvm_steps.specs.declared.prepare.originals.Method.{Method}
+use Rattle.jvm_steps.specs.declared.prepare.versions.Catching.{Catching}
 use Rattle.jvm_steps.specs.Codes.Tables.{Version, Versions}
 use Rattle.jvm_steps.specs.Codes.Lines.{line_of}
 

@@ -6,8 +6,8 @@ use Rattle.jvm_named.specs.declared.known.Known.{Known}
 use Rattle.jvm_named.specs.Known.{IsKnown}
 use Rattle.jvm_named.specs.Numbers.{Row}
 use Rattle.jvm_named.specs.Selections.{AreSelections, Slots}
-use Rattle.jvm_steps.specs.declared.originals.Method.{Method}
-use Rattle.jvm_steps.specs.declared.originals.Exceptions.{Exceptions}
+use Rattle.jvm_steps.specs.declared.prepare.originals.Method.{Method}
+use Rattle.jvm_steps.specs.declared.prepare.originals.Exceptions.{Exceptions}
 use Rattle.jvm_steps.specs.Codes.Cells.{Rows, cell_at}
 use Rattle.jvm_steps.specs.Codes.Lines.{IfNamed}
 use Rattle.jvm_steps.specs.Codes.Prepared.{IsPrepared}

@@ -23,9 +23,9 @@ use Rattle.jvm_named.specs.declared.naming.MemberName.{MemberName}
 use Rattle.jvm_named.specs.declared.naming.Naming.{Naming}
 use Rattle.jvm_named.specs.declared.naming.Naming.TheVariants as naming
 use Rattle.jvm_named.specs.Names.{naming_view}
-use Rattle.jvm_steps.specs.declared.line.Action.{Action}
-use Rattle.jvm_steps.specs.declared.line.Action.TheVariants as action
-use Rattle.jvm_steps.specs.declared.line.Line.{Line}
+use Rattle.jvm_steps.specs.declared.prepare.line.Action.{Action}
+use Rattle.jvm_steps.specs.declared.prepare.line.Action.TheVariants as action
+use Rattle.jvm_steps.specs.declared.prepare.line.Line.{Line}
 
 -- ---- instructions with names
 

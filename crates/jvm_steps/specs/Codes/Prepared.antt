@@ -19,10 +19,10 @@ use Rattle.jvm_model.specs.Basis.Programs.{class_at, has_built_in_name, name_at,
 use Rattle.jvm_model.specs.Running.Run.{main_class}
 use Rattle.jvm_model.specs.Basis.SharedState.{built_in_from, kind_for, string, array_store, in_initializer, index_outside, negative_array_size, no_class_definition, no_such_field, no_such_method, null_pointer, stack_overflow}
 use Rattle.jvm_named.specs.Numbers.{AreNumbers, Row}
-use Rattle.jvm_steps.specs.declared.originals.Method.{Method}
-use Rattle.jvm_steps.specs.declared.originals.Exception.{Exception}
-use Rattle.jvm_steps.specs.declared.originals.Exception.TheVariants.{AbstractMethod, Arithmetic, ArrayStore, ClassCast, ClassCircularity, IncompatibleClassChange, InInitializer, IndexOutside, Instantiation, NegativeArraySize, NoClassDefinition, NoSuchField, NoSuchMethod, NullPointer, StackOverflow, UnsatisfiedLink}
-use Rattle.jvm_steps.specs.declared.originals.Exceptions.{Exceptions}
+use Rattle.jvm_steps.specs.declared.prepare.originals.Method.{Method}
+use Rattle.jvm_steps.specs.declared.prepare.originals.Exception.{Exception}
+use Rattle.jvm_steps.specs.declared.prepare.originals.Exception.TheVariants.{AbstractMethod, Arithmetic, ArrayStore, ClassCast, ClassCircularity, IncompatibleClassChange, InInitializer, IndexOutside, Instantiation, NegativeArraySize, NoClassDefinition, NoSuchField, NoSuchMethod, NullPointer, StackOverflow, UnsatisfiedLink}
+use Rattle.jvm_steps.specs.declared.prepare.originals.Exceptions.{Exceptions}
 use Rattle.jvm_steps.specs.Codes.Versions.{HasLines}
 use Rattle.jvm_steps.specs.Codes.Tables.{Versions}
 

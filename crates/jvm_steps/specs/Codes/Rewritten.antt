@@ -7,8 +7,8 @@ use Rattle.const_pool.specs.declared.class.CodeAttribute.{CodeAttribute}
 use Rattle.code_model.specs.declared.laying.Homes.{Homes}
 use Rattle.code_model.specs.Instructions.{instruction_at}
 use Rattle.code_model.specs.Layout.{home_of, place_in}
-use Rattle.jvm_steps.specs.declared.line.Line.{Line}
-use Rattle.jvm_steps.specs.declared.versions.Catching.{Catching}
+use Rattle.jvm_steps.specs.declared.prepare.line.Line.{Line}
+use Rattle.jvm_steps.specs.declared.prepare.versions.Catching.{Catching}
 use Rattle.jvm_steps.specs.Codes.Tables.{Version}
 use Rattle.jvm_steps.specs.Codes.Entries.{catching_of, code_line}
 use Rattle.jvm_model.specs.declared.event.EventKind.{EventKind}

@@ -4,7 +4,7 @@ use Rattle.std.specs.List.{AllByRecursion}
 use Rattle.frame_stack.specs.FrameLists.{PlacedFrame, pins_of}
 use Rattle.method_versions.specs.declared.versions.Held.{Held}
 use Rattle.method_versions.specs.Tables.{Table, current_in, held_besides, held_in, is_superseded_in}
-use Rattle.jvm_steps.specs.declared.versions.PreparedCode.{PreparedCode}
+use Rattle.jvm_steps.specs.declared.prepare.versions.PreparedCode.{PreparedCode}
 
 -- a version of a method, prepared
 abbrev pub Version : Type 0

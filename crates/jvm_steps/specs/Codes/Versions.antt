@@ -14,10 +14,10 @@ use Rattle.jvm_basic.specs.Rules.{datum_in}
 use Rattle.jvm_named.specs.Names.{naming_view}
 use Rattle.jvm_named.specs.Objects.{HasDimensions}
 use Rattle.jvm_steps.specs.Codes.Lines.{IfNamedBy, hot_in}
-use Rattle.jvm_steps.specs.declared.line.Action.{Action}
-use Rattle.jvm_steps.specs.declared.line.Action.TheVariants as action
-use Rattle.jvm_steps.specs.declared.line.Line.{Line}
-use Rattle.jvm_steps.specs.declared.versions.Catching.{Catching}
+use Rattle.jvm_steps.specs.declared.prepare.line.Action.{Action}
+use Rattle.jvm_steps.specs.declared.prepare.line.Action.TheVariants as action
+use Rattle.jvm_steps.specs.declared.prepare.line.Line.{Line}
+use Rattle.jvm_steps.specs.declared.prepare.versions.Catching.{Catching}
 use Rattle.jvm_steps.specs.Codes.Tables.{Version, Versions, version_at}
 
 -- ---- what is run

@@ -10,8 +10,8 @@ use Rattle.jvm_model.specs.Instructions.Naming.{newly_loaded}
 use Rattle.jvm_model.specs.Instructions.NamingRules.{does_named}
 use Rattle.jvm_model.specs.Running.Run.{starts}
 use Rattle.jvm_named.specs.Answers.{Answer, Continues, Exceeds, Calls, Stops, frames_in}
-use Rattle.jvm_steps.specs.declared.parts.Here.{Here}
-use Rattle.jvm_steps.specs.declared.parts.Parts.{Parts}
+use Rattle.jvm_steps.specs.declared.turns.parts.Here.{Here}
+use Rattle.jvm_steps.specs.declared.turns.parts.Parts.{Parts}
 use Rattle.jvm_steps.specs.Instructions.Acts.{ended, raised_in}
 use Rattle.jvm_steps.specs.Instructions.Arguments.{can_begin}
 use Rattle.jvm_steps.specs.Instructions.Invoking.{called, may_begin}

@@ -13,14 +13,14 @@ use Rattle.jvm_model.specs.Basis.Values.{as_value}
 use Rattle.jvm_basic.specs.declared.effect.Effect.TheVariants.{Next}
 use Rattle.jvm_basic.specs.Outcomes.{GoesOn, Rule, after, effect_of}
 use Rattle.jvm_basic.specs.Rules.{replaces, rule_of}
-use Rattle.jvm_steps.specs.declared.elements.Led.{Led}
-use Rattle.jvm_steps.specs.declared.elements.Led.TheVariants as led
-use Rattle.jvm_steps.specs.declared.elements.Place.{Place}
-use Rattle.jvm_steps.specs.declared.elements.Storing.{Storing as TheStoring}
-use Rattle.jvm_steps.specs.declared.line.Action.{Action}
-use Rattle.jvm_steps.specs.declared.line.Action.TheVariants as action
-use Rattle.jvm_steps.specs.declared.line.Line.{Line}
-use Rattle.jvm_steps.specs.declared.parts.Parts.{Parts}
+use Rattle.jvm_steps.specs.declared.execute.elements.Led.{Led}
+use Rattle.jvm_steps.specs.declared.execute.elements.Led.TheVariants as led
+use Rattle.jvm_steps.specs.declared.execute.elements.Place.{Place}
+use Rattle.jvm_steps.specs.declared.execute.elements.Storing.{Storing as TheStoring}
+use Rattle.jvm_steps.specs.declared.prepare.line.Action.{Action}
+use Rattle.jvm_steps.specs.declared.prepare.line.Action.TheVariants as action
+use Rattle.jvm_steps.specs.declared.prepare.line.Line.{Line}
+use Rattle.jvm_steps.specs.declared.turns.parts.Parts.{Parts}
 use Rattle.jvm_steps.specs.Instructions.Acts.{acts_asked}
 use Rattle.jvm_steps.specs.Codes.Versions.{Setup}
 

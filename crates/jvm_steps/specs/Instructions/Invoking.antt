@@ -3,9 +3,9 @@ use Rattle.std.specs.Prelude.{ℕ, Bool, List, None, length, nat_lt, if◌then�
 use Rattle.frame_stack.specs.FrameLists.{PlacedFrame}
 use Rattle.jvm_model.specs.declared.state.State.{State}
 use Rattle.jvm_model.specs.Running.Applies.{most_live}
-use Rattle.jvm_steps.specs.declared.originals.Exception.TheVariants.{StackOverflow}
-use Rattle.jvm_steps.specs.declared.parts.Here.{Here}
-use Rattle.jvm_steps.specs.declared.parts.Parts.{Parts}
+use Rattle.jvm_steps.specs.declared.prepare.originals.Exception.TheVariants.{StackOverflow}
+use Rattle.jvm_steps.specs.declared.turns.parts.Here.{Here}
+use Rattle.jvm_steps.specs.declared.turns.parts.Parts.{Parts}
 use Rattle.jvm_steps.specs.Instructions.Acts.{ended, raising}
 use Rattle.jvm_steps.specs.Instructions.Arguments.{with_begun}
 use Rattle.jvm_steps.specs.Moves.Settling.{own_of}

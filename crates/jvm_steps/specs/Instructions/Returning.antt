@@ -6,7 +6,7 @@ use Rattle.frame_stack.specs.FrameLists.{top_operands, without_frame}
 use Rattle.jvm_model.specs.Basis.Data.{Operands}
 use Rattle.jvm_steps.specs.Codes.Tables.{Versions}
 use Rattle.jvm_model.specs.declared.state.State.{State}
-use Rattle.jvm_steps.specs.declared.parts.Parts.{Parts}
+use Rattle.jvm_steps.specs.declared.turns.parts.Parts.{Parts}
 use Rattle.jvm_steps.specs.Instructions.Acts.{ended, gives_back_line}
 use Rattle.jvm_steps.specs.Instructions.Going.{top_datum}
 use Rattle.jvm_steps.specs.Machine.States.{state_in}

@@ -10,7 +10,7 @@ use Rattle.jvm_model.specs.Soundness.Sound.{IsFit}
 use Rattle.jvm_model.specs.declared.state.Entry.{Entry}
 use Rattle.jvm_model.specs.declared.state.State.{State}
 use Rattle.jvm_basic.specs.Rules.{datum_in, placed, rule_of}
-use Rattle.jvm_steps.specs.declared.line.Line.{Line}
+use Rattle.jvm_steps.specs.declared.prepare.line.Line.{Line}
 use Rattle.jvm_steps.specs.Codes.Lines.{action_of}
 use Rattle.jvm_model.specs.Soundness.SoundTexts.{IsSound, IsSoundEntry, IsSoundText}
 use Rattle.jvm_steps.specs.Codes.Versions.{Setup, line_at, method_of, next_in, operation_in, text_of}

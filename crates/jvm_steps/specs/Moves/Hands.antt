@@ -7,8 +7,8 @@ use Rattle.jvm_model.specs.Codes.Originals.{original}
 use Rattle.jvm_model.specs.Turns.Pauses.{Pause, is_end, later_of}
 use Rattle.jvm_model.specs.Turns.Rest.{Todo, Attempt, Moves}
 use Rattle.jvm_model.specs.Turns.Told.{Held}
-use Rattle.jvm_steps.specs.declared.hands.Gone.{Gone}
-use Rattle.jvm_steps.specs.declared.hands.Hand.{Hand}
+use Rattle.jvm_steps.specs.declared.turns.hands.Gone.{Gone}
+use Rattle.jvm_steps.specs.declared.turns.hands.Hand.{Hand}
 use Rattle.jvm_steps.specs.Machine.Standing.{places_of}
 use Rattle.jvm_steps.specs.Moves.Trying.{tried_in}
 use Rattle.jvm_steps.specs.Moves.Turning.{goes_by_moves, pause_at}

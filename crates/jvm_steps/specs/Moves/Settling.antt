@@ -10,8 +10,8 @@ use Rattle.jvm_model.specs.Basis.Data.{Instruction, Turn}
 use Rattle.jvm_model.specs.Running.Applies.{goes, new_frame}
 use Rattle.jvm_model.specs.Running.Moves.{argument_array, caught, handler_for, move, own_at}
 use Rattle.jvm_model.specs.Basis.SharedState.{class_of}
-use Rattle.jvm_steps.specs.declared.parts.Parts.{Parts}
-use Rattle.jvm_steps.specs.declared.parts.Here.{Here}
+use Rattle.jvm_steps.specs.declared.turns.parts.Parts.{Parts}
+use Rattle.jvm_steps.specs.declared.turns.parts.Here.{Here}
 use Rattle.jvm_steps.specs.Machine.States.{frame_in, state_in, state_with}
 use Rattle.jvm_steps.specs.Codes.Versions.{Setup, text_of}
 

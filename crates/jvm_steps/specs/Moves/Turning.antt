@@ -12,8 +12,8 @@ use Rattle.jvm_model.specs.declared.due.Due.{Due}
 use Rattle.jvm_model.specs.declared.due.Due.TheVariants.{Nothing, Ends, Begins}
 use Rattle.jvm_model.specs.declared.event.EventKind.TheVariants as kind
 use Rattle.jvm_model.specs.Turns.Pauses.{changes_due, end_due, unless_off, Pause, paused}
-use Rattle.jvm_steps.specs.declared.turning.Moved.{Moved}
-use Rattle.jvm_steps.specs.declared.turning.Moved.TheVariants as moved
+use Rattle.jvm_steps.specs.declared.turns.turning.Moved.{Moved}
+use Rattle.jvm_steps.specs.declared.turns.turning.Moved.TheVariants as moved
 use Rattle.jvm_steps.specs.Machine.States.{active}
 use Rattle.jvm_steps.specs.Moves.Settling.{after_move}
 use Rattle.jvm_steps.specs.Codes.Versions.{Setup, text_of, mark_of}

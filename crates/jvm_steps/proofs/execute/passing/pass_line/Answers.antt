@@ -1,0 +1,25 @@
+use Rattle.std.proofs.Common.{sym, ap, ◌∙◌}
+use Rattle.std.specs.Option.{option_copied}
+use Rattle.jvm_steps.proofs.Silent.SilentSteps.{passes_none}
+use Rattle.jvm_steps.proofs.execute.passing.pass_line.Goals as goal
+
+pub pass_named-requires-clause-here : goal.pass_named-requires-clause-here
+pass_named-requires-clause-here c = sym c.where_now.ensures ∙ c.in-Some.is
+
+pub pass_named-requires-clause-line : goal.pass_named-requires-clause-line
+pass_named-requires-clause-line c = sym c.line.ensures.line ∙ ap option_copied c.in-Some-line.is
+
+pub pass_return-requires-clause-here : goal.pass_return-requires-clause-here
+pass_return-requires-clause-here c = sym c.where_now.ensures ∙ c.in-Some.is
+
+pub pass_return-requires-clause-line : goal.pass_return-requires-clause-line
+pass_return-requires-clause-line c = sym c.line.ensures.line ∙ ap option_copied c.in-Some-line.is
+
+pub returns-in_default : goal.returns-in_default
+returns-in_default c = passes_none c.args.originals.now.setup c.args.markers.now c.args.parts.now c.requires.calm
+
+pub returns-in_default-line : goal.returns-in_default-line
+returns-in_default-line c = passes_none c.args.originals.now.setup c.args.markers.now c.args.parts.now c.requires.calm
+
+pub returns-in_default-action : goal.returns-in_default-action
+returns-in_default-action c = passes_none c.args.originals.now.setup c.args.markers.now c.args.parts.now c.requires.calm

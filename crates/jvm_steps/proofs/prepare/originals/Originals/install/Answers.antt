@@ -1,0 +1,84 @@
+use Rattle.std.proofs.Common.{◌≡◌, ℕ, length, refl, sym, ap, subst, ◌∙◌}
+use Rattle.std.specs.List.{AllByRecursion}
+use Rattle.std.proofs.lemmas.Result.{on_ok_weaker}
+use Rattle.jvm_model.specs.declared.program.Program.{Program}
+use Rattle.jvm_model.specs.declared.state.State.{State}
+use Rattle.jvm_steps.specs.Codes.ClassVersions.{class_versions}
+use Rattle.jvm_steps.specs.Codes.Kept.{AreKnown}
+use Rattle.jvm_steps.specs.Codes.Linked.{Linked}
+use Rattle.jvm_steps.specs.Codes.Prepared.{IsPrepared, world_in}
+use Rattle.jvm_steps.specs.Machine.Standing.{AreMethodImages, IsPinned, IsRunOf, IsSetUp}
+use Rattle.jvm_steps.specs.Codes.Tables.{Adds, AreOfMethods, Versions}
+use Rattle.jvm_steps.specs.Codes.Versions.{HasOwnLines, Setup}
+use Rattle.jvm_steps.proofs.Codes.Added.{adds-count, either, has-lines-all}
+use Rattle.jvm_steps.proofs.Codes.CellLemmas.{nil-known}
+use Rattle.jvm_steps.proofs.Codes.ClassVersionLaws.{versions-below, versions-keep}
+use Rattle.jvm_steps.proofs.Moves.StandingSteps.{installed-set_up, installed-stands}
+use Rattle.jvm_steps.proofs.prepare.originals.Originals.install.Goals as goal
+
+pub add_all-requires : goal.add_all-requires
+add_all-requires c =
+    let p : Program = c.self.inside.linker.program in
+    let made : c.in_ok-more.more ≡ class_versions p c.args.class c.args.image.now c.args.homes.now =
+    c.in_ok-more.ensures ∙ ap (λ (q : Program). class_versions q c.args.class c.args.image.now c.args.homes.now) c.program-program.ensures in
+    subst (λ n. AreOfMethods n c.in_ok-more.more) (sym c.self.invariant.prepared.count)
+    (subst (λ xs. AreOfMethods (length p.methods) xs) (sym made) (versions-below p c.args.class c.args.image.now c.args.homes.now))
+
+pub invariant_of-self : goal.invariant_of-self
+invariant_of-self c =
+    let p : Program = c.self.inside.linker.program in
+    let made : c.in_ok-more.more ≡ class_versions p c.args.class c.args.image.now c.args.homes.now =
+    c.in_ok-more.ensures ∙ ap (λ (q : Program). class_versions q c.args.class c.args.image.now c.args.homes.now) c.program-program.ensures in
+    let was = c.self.invariant.prepared in
+    let fs = c.args.frames.now.frames in
+    let own = subst (λ xs. AllByRecursion HasOwnLines xs) (sym made) (versions-keep p c.args.class c.args.image.now c.args.homes.now) in
+    record {
+      prepared =
+          either c.add_all.result c.add_all.ensures.ok c.add_all.ensures.err
+          (λ adds. record {
+            fits = was.fits;
+            few = was.few;
+            numbered = was.numbered;
+            params = was.params;
+            max_stack = was.max_stack;
+            max_locals = was.max_locals;
+            lines = has-lines-all fs c.in_ok-more.more c.self.inside.versions c.add_all.new.self adds own was.lines;
+            count = adds-count fs c.in_ok-more.more c.self.inside.versions c.add_all.new.self adds ∙ was.count;
+            raised = was.raised;
+            string = was.string;
+            numbers = was.numbers;
+          })
+          (λ same. subst (λ (v : Versions). IsPrepared p c.self.inside.methods v c.self.inside.exceptions c.self.inside.numbers) (sym same) was);
+      known = subst (AreKnown c.self.inside.linker c.add_all.new.self) (sym c.new-none.ensures) (nil-known c.self.inside.linker c.add_all.new.self);
+      selected = c.self.invariant.selected;
+    }
+
+pub returns-clause-set_up : goal.returns-clause-set_up
+returns-clause-set_up c =
+    let p : Program = c.self.inside.linker.program in
+    let made : c.in_ok-more.more ≡ class_versions p c.args.class c.args.image.now c.args.homes.now =
+    c.in_ok-more.ensures ∙ ap (λ (q : Program). class_versions q c.args.class c.args.image.now c.args.homes.now) c.program-program.ensures in
+    let fs = c.args.frames.now.frames in
+    let before : Setup = record { world = world_in p c.self.inside.input; versions = c.self.inside.versions } in
+    let after : Setup = record { world = world_in p c.self.inside.input; versions = c.add_all.new.self } in
+    let same : before ≡ c.args.self.now.setup = ap (λ (o : Linked). o.setup) c.self.view_is in
+    on_ok_weaker c.add_all.result
+    (λ adds. subst (λ (w : Setup). AreMethodImages w.world.program c.args.class c.args.image.now c.args.homes.now → IsSetUp w → IsSetUp after) same
+    (λ are set. installed-set_up before c.args.class c.args.image.now c.args.homes.now are fs after refl
+    (subst (λ xs. Adds fs xs before.versions after.versions) made adds) set))
+    c.add_all.ensures.ok
+
+pub returns-clause-stands : goal.returns-clause-stands
+returns-clause-stands c =
+    let p : Program = c.self.inside.linker.program in
+    let made : c.in_ok-more.more ≡ class_versions p c.args.class c.args.image.now c.args.homes.now =
+    c.in_ok-more.ensures ∙ ap (λ (q : Program). class_versions q c.args.class c.args.image.now c.args.homes.now) c.program-program.ensures in
+    let fs = c.args.frames.now.frames in
+    let before : Setup = record { world = world_in p c.self.inside.input; versions = c.self.inside.versions } in
+    let after : Setup = record { world = world_in p c.self.inside.input; versions = c.add_all.new.self } in
+    let same : before ≡ c.args.self.now.setup = ap (λ (o : Linked). o.setup) c.self.view_is in
+    on_ok_weaker c.add_all.result
+    (λ adds. subst (λ (w : Setup). AreMethodImages w.world.program c.args.class c.args.image.now c.args.homes.now → (clock : ℕ) (s : State) → IsPinned fs s.stack → IsRunOf w clock s → IsRunOf after clock s) same
+    (λ are clock s pinned is. installed-stands before c.args.class c.args.image.now c.args.homes.now are fs after refl
+    (subst (λ xs. Adds fs xs before.versions after.versions) made adds) clock s pinned is))
+    c.add_all.ensures.ok

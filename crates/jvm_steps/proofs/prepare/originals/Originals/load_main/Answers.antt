@@ -1,0 +1,17 @@
+use Rattle.std.proofs.Common.{sym, subst, ◌∙◌}
+use Rattle.jvm_named.specs.Selections.{AreSelections}
+use Rattle.jvm_steps.specs.Codes.Kept.{AreKnown}
+use Rattle.jvm_steps.specs.Codes.Prepared.{IsPrepared}
+use Rattle.jvm_steps.proofs.Codes.CellLemmas.{known-later, later-resolved}
+use Rattle.jvm_steps.proofs.prepare.originals.Originals.load_main.Goals as goal
+
+pub invariant_of-self-2 : goal.invariant_of-self-2
+invariant_of-self-2 c = record {
+  prepared = subst (λ p. IsPrepared p c.self.inside.methods c.self.inside.versions c.self.inside.exceptions c.self.inside.numbers)
+      (sym c.in_ok-found.ensures.program) c.self.invariant.prepared;
+  known = subst (AreKnown c.resolve.new.linker c.self.inside.versions) (sym c.replace-cells.ensures.value)
+      (known-later c.self.inside.linker c.resolve.new.linker c.self.inside.versions c.self.inside.cells
+      (later-resolved c.self.inside.linker c.resolve.new.linker c.in_ok-name.name c.in_ok-found.ensures.program (c.in_ok-found.ensures.linked ∙ c.in_ok-found.ensures.loaded))
+      c.self.invariant.known);
+  selected = subst (λ p. AreSelections p c.self.inside.selections) (sym c.in_ok-found.ensures.program) c.self.invariant.selected;
+}

@@ -1,8 +1,0 @@
-use Rattle.std.proofs.Common.{sym, ◌∙◌}
-use Rattle.jvm_steps.proofs.Moves.LineSteps.{rests}
-use Rattle.jvm_steps.proofs.stepping.finish.Goals as goal
-use Rattle.jvm_steps.specs.Codes.Versions.{text_of}
-
-pub returns-then-is_at_rest : goal.returns-then-is_at_rest
-returns-then-is_at_rest c =
-    rests c.args.originals.now.setup (text_of c.args.originals.now.setup.versions) c.args.markers.now c.args.parts.now (sym c.is_at_rest.ensures ∙ c.if-is_at_rest.true)

@@ -1,0 +1,12 @@
+use Rattle.std.proofs.Common.{sym, ◌∙◌}
+use Rattle.jvm_steps.specs.Machine.Markers.{state_of}
+use Rattle.jvm_steps.specs.Codes.Versions.{text_of}
+use Rattle.jvm_steps.proofs.Moves.LineSteps.{rest-moves}
+use Rattle.jvm_steps.proofs.Moves.OneMove.{rest-pauses}
+use Rattle.jvm_steps.proofs.turns.pausing.pause.Goals as goal
+
+pub returns-then-is_at_rest : goal.returns-then-is_at_rest
+returns-then-is_at_rest c =
+    let w = c.args.originals.now.setup in
+    sym (rest-pauses w c.args.passed.now (state_of c.args.markers.now c.args.parts.now)
+    (rest-moves w (text_of w.versions) c.args.markers.now c.args.parts.now (sym c.is_at_rest.ensures ∙ c.if-is_at_rest.true)))

@@ -1,0 +1,28 @@
+use Rattle.std.proofs.Common.{sym, ◌∙◌}
+use Rattle.jvm_steps.specs.Machine.Markers.{state_of}
+use Rattle.jvm_steps.proofs.Marked.Beneath.{not-some}
+use Rattle.jvm_steps.proofs.Silent.Leading.{leads-none}
+use Rattle.jvm_steps.proofs.Moves.LineSteps.{none-of}
+use Rattle.jvm_steps.proofs.turns.stepping.step_plainly.Goals as goal
+use Rattle.std.proofs.Common.{length}
+
+pub returns-then-is_some-clause-made : goal.returns-then-is_some-clause-made
+returns-then-is_some-clause-made c = leads-none c.args.originals.now.setup (state_of c.args.markers.now c.args.parts.now)
+
+pub pass_steps-requires-clause-calm : goal.pass_steps-requires-clause-calm
+pass_steps-requires-clause-calm c =
+    let p = c.args.parts.now in
+    record {
+      ending = c.requires.ending;
+      thrown = not-some p.thrown (sym c.is_some.ensures ∙ c.if-is_some.false);
+      unmarked = none-of c.args.markers.now (length p.frames.frames) (sym c.is_unmarked.ensures ∙ c.if-not-is_unmarked.false);
+    }
+
+pub returns-clause-made : goal.returns-clause-made
+returns-clause-made c = c.pass_steps.ensures.made.leads
+
+pub returns-clause-ending : goal.returns-clause-ending
+returns-clause-ending c = c.pass_steps.ensures.made.calm.ending
+
+pub returns-clause-loaded : goal.returns-clause-loaded
+returns-clause-loaded c = c.pass_steps.ensures.made.loaded

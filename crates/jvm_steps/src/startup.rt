@@ -1,0 +1,4 @@
+//! What comes before the first instruction (JVM Specification 5.2).
+
+pub mod beginning;
+pub mod starting;

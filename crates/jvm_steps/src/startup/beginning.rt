@@ -1,0 +1,165 @@
+//! The start (JVM Specification 5.2, 5.3, 5.5): the main class is loaded and initialized, and then
+//! `main` begins.
+
+ghost use Rattle.std.specs.Prelude.{◌≡◌, ◌++◌, true, OnOk};
+ghost use Rattle.jvm_model.specs.Running.Run.{main_class, main_loads, start, starts_if, starts_with};
+ghost use Rattle.jvm_model.specs.Basis.SharedState.{arguments_fit};
+ghost use Rattle.jvm_model.specs.Soundness.Sound.{IsFit};
+ghost use Rattle.jvm_model.specs.Classes.Starting.{ready_in, unmade_in};
+ghost use Rattle.jvm_named.specs.Answers.{found_view};
+ghost use Rattle.jvm_steps.specs.Machine.Before.{IsAtStart, begun_by, with_first};
+ghost use Rattle.jvm_steps.specs.Machine.Markers.{state_of};
+ghost use Rattle.jvm_steps.specs.Machine.Standing.{IsRunOf, IsSetUp};
+ghost use Rattle.jvm_steps.specs.Machine.States.{state_in};
+ghost use Rattle.jvm_steps.specs.Codes.Versions.{text_of};
+
+use crate::execute::asking::raise_named;
+use crate::initialize::initializing::{initialize, set_phase};
+use crate::initialize::markers::Marker;
+use crate::initialize::objects::{arguments_fit, make_arguments};
+use crate::prepare::lookup::main_class;
+use crate::prepare::originals::Originals;
+use crate::turns::parts::Parts;
+use crate::unwind::handlers::class_of;
+use crate::unwind::settling::settle;
+use jf_bytes::{NoMemory, Stack};
+use jvm_model::{Ending, Phase, Shared};
+use jvm_named::Refusal;
+use std::alloc::Global;
+
+/// The OutOfMemoryError that the machine throws.
+const OUT_OF_MEMORY: u32 = 1;
+
+// ---- the main class is ready by itself
+
+/// The main class, which is the first one, is loaded, and ready.
+fn load_first(shared: &mut Shared) -> Result<(), NoMemory>
+    ensures { OnOk result (shared.new ≡ with_first shared.old) }
+{
+    shared.loaded.push(0)?;
+    set_phase(shared, 0, Phase::Ready);
+    Ok(())
+}
+
+/// What comes before `main` where nothing else runs at the start: the arguments are made, for which
+/// there is room, and the main class is loaded, and ready.
+pub fn make_ready(originals: &Originals, parts: &mut Parts) -> Result<(), NoMemory>
+    requires at_start { IsAtStart originals.now.setup.world (state_in parts.old) }
+    requires fits { arguments_fit originals.now.setup.world.program ≡ true }
+    ensures { OnOk result (state_in parts.new ≡ ready_in originals.now.setup.world) }
+{
+    make_arguments(originals.program(), &mut parts.shared.heap)?;
+    load_first(&mut parts.shared)
+}
+
+/// There is no room for the arguments: object 1 is thrown, which nothing catches, and the run ends.
+pub fn end_unmade(originals: &Originals, parts: &mut Parts)
+    requires { IsAtStart originals.now.setup.world (state_in parts.old) }
+    ensures { state_in parts.new ≡ (unmade_in originals.now.setup.world).after }
+{
+    parts.thrown = Some(OUT_OF_MEMORY);
+    parts.ending = Some(Ending::Uncaught(class_of(
+        originals.program(),
+        &parts.shared.heap,
+        OUT_OF_MEMORY,
+    )));
+}
+
+// ---- the main class is loaded
+
+/// The initialization of the main class begins, or what stopped its loading is raised.
+fn begin_class(
+    alloc: Global,
+    originals: &Originals,
+    parts: &mut Parts,
+    markers: &mut Stack<Marker>,
+    class: u32,
+    found: Result<u32, Refusal>,
+) -> Result<(), NoMemory>
+    ensures state { OnOk result (state_of markers.new parts.new
+        ≡ begun_by originals.now.setup.world class (found_view found)
+        (state_of markers.old parts.old)) }
+    ensures loaded { OnOk result (parts.new.shared.loaded ≡ parts.old.shared.loaded) }
+{
+    match found {
+        Ok(_) => initialize(parts, markers, class),
+        Err(Refusal::Raises(exception, message)) => {
+            raise_named(alloc, originals, parts, exception, message)
+        }
+        // These do not come.
+        Err(Refusal::Throws(_)) => initialize(parts, markers, class),
+        Err(Refusal::Initializes(_)) => initialize(parts, markers, class),
+        Err(Refusal::Exits(_)) => initialize(parts, markers, class),
+        Err(Refusal::Breaks) => initialize(parts, markers, class),
+    }
+}
+
+/// The arguments are made, for which there is room, and the main class is loaded: its initialization
+/// begins, or what stopped its loading is raised.
+fn load_main(
+    alloc: Global,
+    originals: &mut Originals,
+    parts: &mut Parts,
+    markers: &mut Stack<Marker>,
+) -> Result<(), NoMemory>
+    requires at_start { IsAtStart originals.old.setup.world (state_of markers.old parts.old) }
+    requires fits { arguments_fit originals.old.setup.world.program ≡ true }
+    requires linked { originals.old.loaded ≡ parts.old.shared.loaded }
+    requires fit { IsFit originals.old.setup.world.program }
+    ensures world { originals.new.setup ≡ originals.old.setup }
+    ensures linked { OnOk result (originals.new.loaded ≡ parts.new.shared.loaded) }
+    ensures state { OnOk result
+        (state_of markers.new parts.new ≡ starts_if originals.old.setup.world true) }
+{
+    make_arguments(originals.program(), &mut parts.shared.heap)?;
+    let found = originals.load_main(alloc, &mut parts.shared.loaded)?;
+    let class = main_class(originals.program());
+    begin_class(alloc, originals, parts, markers, class, found)
+}
+
+/// What the start does before its moves: the same, or, where there is no room for the arguments, object 1 is thrown. The classes that
+/// it loads are the last ones then.
+pub fn begin_start(
+    alloc: Global,
+    originals: &mut Originals,
+    parts: &mut Parts,
+    markers: &mut Stack<Marker>,
+) -> Result<(), NoMemory>
+    requires at_start { IsAtStart originals.old.setup.world (state_of markers.old parts.old) }
+    requires linked { originals.old.loaded ≡ parts.old.shared.loaded }
+    requires fit { IsFit originals.old.setup.world.program }
+    ensures world { originals.new.setup ≡ originals.old.setup }
+    ensures linked { OnOk result (originals.new.loaded ≡ parts.new.shared.loaded) }
+    ensures state { OnOk result
+        (state_of markers.new parts.new ≡ starts_with originals.old.setup.world) }
+    ensures loads { let w = originals.old.setup.world in OnOk result
+        (parts.new.shared.loaded ≡ parts.old.shared.loaded ++ main_loads w) }
+{
+    if arguments_fit(originals.program()) {
+        return load_main(alloc, originals, parts, markers);
+    }
+    parts.thrown = Some(OUT_OF_MEMORY);
+    Ok(())
+}
+
+/// The start: the arguments are made, the main class is loaded and initialized, and `main` begins
+/// where no static initializer runs before; or the run ends.
+pub fn start(
+    alloc: Global,
+    originals: &mut Originals,
+    parts: &mut Parts,
+    markers: &mut Stack<Marker>,
+) -> Result<(), NoMemory>
+    requires at_start { IsAtStart originals.old.setup.world (state_of markers.old parts.old) }
+    requires linked { originals.old.loaded ≡ parts.old.shared.loaded }
+    requires fit { IsFit originals.old.setup.world.program }
+    ensures world { originals.new.setup ≡ originals.old.setup }
+    ensures linked { OnOk result (originals.new.loaded ≡ parts.new.shared.loaded) }
+    ensures state { let w = originals.old.setup in OnOk result
+        (state_of markers.new parts.new ≡ (start w.world (text_of w.versions)).after) }
+    ensures stands { let w = originals.old.setup in
+        IsSetUp w → OnOk result (IsRunOf w 0 (state_of markers.new parts.new)) }
+{
+    begin_start(alloc, originals, parts, markers)?;
+    settle(alloc, originals, parts, markers)
+}

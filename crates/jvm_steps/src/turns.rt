@@ -1,0 +1,9 @@
+//! A step, at one go or in the turns that a machine with probes makes of it.
+
+pub mod hands;
+pub mod parts;
+pub mod pausing;
+pub mod probes;
+pub mod stepping;
+pub mod trying;
+pub mod turning;

@@ -1,0 +1,129 @@
+//! All moves behind an instruction over versions with probes, up to the first of which a probe tells.
+
+ghost use Rattle.std.specs.Prelude.{◌≡◌, suc, OnOk, IfOk};
+ghost use Rattle.jvm_model.specs.Turns.InHand.{popped};
+ghost use Rattle.jvm_steps.specs.Machine.Markers.{state_of};
+ghost use Rattle.jvm_steps.specs.Moves.Turning.{goes_by_moves, pause_at, paused_in};
+ghost use Rattle.jvm_steps.specs.Moves.Turning.{resumed, resumed_count};
+
+use crate::initialize::markers::{Marker, marker_on};
+use crate::prepare::originals::Originals;
+use crate::turns::parts::{Parts, where_now};
+use crate::turns::stepping::is_at_rest;
+use crate::turns::turning::{Moved, make_move};
+use jf_bytes::{NoMemory, Stack};
+use jvm_model::{Due, EventKind};
+use std::alloc::Global;
+
+/// One change more. (More changes than fit do not come.)
+pub fn one_more(passed: u64) -> Result<u64, NoMemory>
+    ensures { IfOk result (λ n. n ≡ suc passed) }
+{
+    match passed.checked_add(1) {
+        Some(passed) => Ok(passed),
+        None => Err(NoMemory),
+    }
+}
+
+/// Makes moves up to where none applies, or to the first of which a probe tells: what is due then. It counts the changes of
+/// the step that are behind it.
+fn pause_on(
+    alloc: Global,
+    originals: &Originals,
+    parts: &mut Parts,
+    markers: &mut Stack<Marker>,
+    passed: &mut u64,
+) -> Result<Due, NoMemory>
+    ensures { let s = state_of markers.old parts.old in
+        IfOk result (λ due. pause_at (state_of markers.new parts.new) passed.new due
+        ≡ paused_in originals.now.setup passed.old s) }
+{
+    loop {
+        match make_move(alloc, originals, parts, markers)? {
+            Moved::Nothing => return Ok(Due::Nothing),
+            Moved::On => {}
+            Moved::Unwound => *passed = one_more(*passed)?,
+            Moved::Unwinds => return Ok(Due::Ends(EventKind::Unwind)),
+            Moved::Began => {
+                *passed = one_more(*passed)?;
+                return Ok(Due::Nothing);
+            }
+            Moved::Enters => {
+                *passed = one_more(*passed)?;
+                return Ok(Due::Begins);
+            }
+        }
+    }
+}
+
+/// The same; where nothing follows, as mostly, it is one test.
+#[inline(always)]
+pub fn pause(
+    alloc: Global,
+    originals: &Originals,
+    parts: &mut Parts,
+    markers: &mut Stack<Marker>,
+    passed: &mut u64,
+) -> Result<Due, NoMemory>
+    ensures { let s = state_of markers.old parts.old in
+        IfOk result (λ due. pause_at (state_of markers.new parts.new) passed.new due
+        ≡ paused_in originals.now.setup passed.old s) }
+{
+    if is_at_rest(parts, markers) {
+        return Ok(Due::Nothing);
+    }
+    pause_on(alloc, originals, parts, markers, passed)
+}
+
+// ---- where moves alone are left of a step
+
+/// Takes the current frame off, behind its unwind probe. (There is one then, and no marker stands on it.)
+fn take_off(parts: &mut Parts, markers: &Stack<Marker>) -> Result<(), NoMemory>
+    ensures { OnOk result
+        (state_of markers.now parts.new ≡ popped (state_of markers.now parts.old)) }
+{
+    let Some(_) = where_now(&parts.frames) else {
+        return Err(NoMemory);
+    };
+    if marker_on(markers, parts.frames.depth()).is_some() {
+        return Err(NoMemory);
+    }
+    parts.frames.leave();
+    Ok(())
+}
+
+/// Behind an unwind probe that has told, the current frame is taken off, which is one change more.
+fn resume(
+    parts: &mut Parts,
+    markers: &Stack<Marker>,
+    told: bool,
+    passed: &mut u64,
+) -> Result<(), NoMemory>
+    ensures state { OnOk result
+        (state_of markers.now parts.new ≡ resumed told (state_of markers.now parts.old)) }
+    ensures passed { OnOk result (passed.new ≡ resumed_count told passed.old) }
+{
+    if !told {
+        return Ok(());
+    }
+    take_off(parts, markers)?;
+    *passed = one_more(*passed)?;
+    Ok(())
+}
+
+/// Goes on with the moves that are left of a step; where the unwind probe of the current frame has told, it is taken off first.
+pub fn go_by_moves(
+    alloc: Global,
+    originals: &Originals,
+    parts: &mut Parts,
+    markers: &mut Stack<Marker>,
+    told: bool,
+    passed: &mut u64,
+) -> Result<Due, NoMemory>
+    ensures { let s = state_of markers.old parts.old in
+        IfOk result (λ due. pause_at (state_of markers.new parts.new) passed.new due
+        ≡ goes_by_moves originals.now.setup told passed.old s) }
+{
+    resume(parts, markers, told, passed)?;
+    pause(alloc, originals, parts, markers, passed)
+}

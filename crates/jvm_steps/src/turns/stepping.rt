@@ -1,0 +1,247 @@
+//! One step: the current frame's instruction, and all that follows from it.
+
+ghost use Rattle.std.specs.Prelude.{ℕ, ◌+◌, ◌≡◌, ◌≤◌, ◌<◌, true, None, is_some, IfOk, OnOk};
+ghost use Rattle.jvm_model.specs.Running.Applies.{still};
+ghost use Rattle.jvm_model.specs.Running.Moves.{settled};
+ghost use Rattle.jvm_model.specs.Running.Run.{is_ready, step};
+ghost use Rattle.jvm_model.specs.Basis.SharedState.{phase_of};
+ghost use Rattle.jvm_steps.specs.Instructions.Acts.{is_at_rest, goes_on_in};
+ghost use Rattle.jvm_steps.specs.Machine.Ready.{CanRun, IsSoundIn};
+ghost use Rattle.jvm_steps.specs.Machine.Markers.{is_unmarked, state_of};
+ghost use Rattle.jvm_steps.specs.Machine.Runs.{Leads};
+ghost use Rattle.jvm_steps.specs.Machine.Standing.{IsRunOf};
+ghost use Rattle.jvm_steps.specs.Codes.Tables.{AreAllCurrent, Releases};
+ghost use Rattle.jvm_steps.specs.Codes.Versions.{text_of};
+
+use crate::execute::attempting::attempt;
+use crate::execute::passing::pass_steps;
+use crate::initialize::markers::{Marker, marker_on};
+use crate::prepare::originals::Originals;
+use crate::turns::parts::Parts;
+use crate::unwind::settling::settle;
+use jf_bytes::{NoMemory, Stack};
+use jvm_model::{Phase, Shared};
+use std::alloc::Global;
+
+/// Whether no marker stands on the current frame.
+#[inline(always)]
+fn is_unmarked(parts: &Parts, markers: &Stack<Marker>) -> bool
+    ensures { result ≡ is_unmarked markers.now parts.now }
+{
+    marker_on(markers, parts.frames.depth()).is_none()
+}
+
+/// Whether nothing follows by itself: the run has ended, or nothing is thrown, and there is a frame
+/// with no marker on it.
+#[inline(always)]
+pub fn is_at_rest(parts: &Parts, markers: &Stack<Marker>) -> bool
+    ensures { result ≡ is_at_rest markers.now parts.now }
+{
+    parts.ending.is_some()
+        || (parts.thrown.is_none() && (parts.frames.depth() > 0 && is_unmarked(parts, markers)))
+}
+
+/// Whether the run has not ended, and there is a frame with no marker on it.
+#[inline(always)]
+pub fn goes_on(parts: &Parts, markers: &Stack<Marker>) -> bool
+    ensures { result ≡ goes_on_in markers.now parts.now }
+{
+    parts.ending.is_none() && (parts.frames.depth() > 0 && is_unmarked(parts, markers))
+}
+
+/// All that follows by itself.
+fn finish(
+    alloc: Global,
+    originals: &Originals,
+    parts: &mut Parts,
+    markers: &mut Stack<Marker>,
+) -> Result<(), NoMemory>
+    ensures { let w = originals.now.setup in
+        let turn = still (state_of markers.old parts.old) in OnOk result
+        (state_of markers.new parts.new ≡ (settled w.world (text_of w.versions) turn).after) }
+{
+    if is_at_rest(parts, markers) {
+        return Ok(());
+    }
+    settle(alloc, originals, parts, markers)
+}
+
+/// Whether a class is initialized.
+#[inline(always)]
+pub fn is_ready(shared: &Shared, class: u32) -> bool
+    ensures { result ≡ is_ready (phase_of shared.now class) }
+{
+    match shared.phases.at(class as usize) {
+        Some(Phase::Ready) => true,
+        Some(Phase::Fresh | Phase::Running | Phase::Erroneous) => false,
+        None => false,
+    }
+}
+
+/// One step of what is set up: an attempt of the current frame's instruction, with all that follows.
+/// Where a class was initialized before and is ready then, no code of its own has run, and the
+/// instruction is attempted again in the same step.
+fn step_once(
+    alloc: Global,
+    originals: &mut Originals,
+    parts: &mut Parts,
+    markers: &mut Stack<Marker>,
+) -> Result<(), NoMemory>
+    requires linked { originals.old.loaded ≡ parts.old.shared.loaded }
+    requires fit { CanRun originals.old.setup }
+    requires sound { IsSoundIn originals.old.setup (state_of markers.old parts.old) }
+    ensures world { originals.new.setup ≡ originals.old.setup }
+    ensures linked { OnOk result (originals.new.loaded ≡ parts.new.shared.loaded) }
+    ensures state { let w = originals.old.setup in let s = state_of markers.old parts.old in
+        OnOk result (state_of markers.new parts.new ≡ (step w.world (text_of w.versions) s).after) }
+{
+    if !goes_on(parts, markers) {
+        return Ok(());
+    }
+    let awaited = attempt(alloc, originals, parts, markers)?;
+    finish(alloc, originals, parts, markers)?;
+    let Some(class) = awaited else {
+        return Ok(());
+    };
+    if !is_ready(&parts.shared, class) {
+        return Ok(());
+    }
+    attempt(alloc, originals, parts, markers)?;
+    finish(alloc, originals, parts, markers)
+}
+
+/// The same, behind which the state stands for the run of original code where it has stood for it. A superseded version that
+/// no frame runs then is dropped.
+pub fn step(
+    alloc: Global,
+    originals: &mut Originals,
+    parts: &mut Parts,
+    markers: &mut Stack<Marker>,
+) -> Result<(), NoMemory>
+    requires linked { originals.old.loaded ≡ parts.old.shared.loaded }
+    requires fit { CanRun originals.old.setup }
+    requires sound { IsSoundIn originals.old.setup (state_of markers.old parts.old) }
+    ensures world { originals.new.setup.world ≡ originals.old.setup.world }
+    ensures released { OnOk result (Releases parts.new.frames.frames originals.old.setup.versions
+        originals.new.setup.versions) }
+    ensures same { AreAllCurrent originals.old.setup.versions
+        → originals.new.setup ≡ originals.old.setup }
+    ensures linked { OnOk result (originals.new.loaded ≡ parts.new.shared.loaded) }
+    ensures state { let w = originals.old.setup in let s = state_of markers.old parts.old in
+        OnOk result (state_of markers.new parts.new ≡ (step w.world (text_of w.versions) s).after) }
+    ensures stands { let w = originals.old.setup in
+        (clock : ℕ) → IsRunOf w clock (state_of markers.old parts.old)
+        → OnOk result (IsRunOf originals.new.setup (clock + 1) (state_of markers.new parts.new)) }
+{
+    step_once(alloc, originals, parts, markers)?;
+    originals.release(&parts.frames);
+    Ok(())
+}
+
+/// Steps from which nothing follows, at most so many: how many it has made.
+fn step_plainly(
+    alloc: Global,
+    originals: &Originals,
+    parts: &mut Parts,
+    markers: &Stack<Marker>,
+    most: u64,
+) -> u64
+    requires run { CanRun originals.now.setup }
+    requires linked { originals.now.loaded ≡ parts.old.shared.loaded }
+    requires sound { IsSoundIn originals.now.setup (state_of markers.now parts.old) }
+    requires ending { parts.old.ending ≡ None }
+    ensures within { result ≤ most }
+    ensures made { Leads originals.now.setup (state_of markers.now parts.old) result
+        (state_of markers.now parts.new) }
+    ensures ending { parts.new.ending ≡ None }
+    ensures loaded { parts.new.shared.loaded ≡ parts.old.shared.loaded }
+{
+    if parts.thrown.is_some() || !is_unmarked(parts, markers) {
+        return 0;
+    }
+    pass_steps(alloc, originals, parts, markers, most)
+}
+
+/// One step or more, at most so many: how many it has made.
+fn step_on(
+    alloc: Global,
+    originals: &mut Originals,
+    parts: &mut Parts,
+    markers: &mut Stack<Marker>,
+    most: u64,
+) -> Result<u64, NoMemory>
+    requires some { 0 < most }
+    requires ending { parts.old.ending ≡ None }
+    requires linked { originals.old.loaded ≡ parts.old.shared.loaded }
+    requires fit { CanRun originals.old.setup }
+    requires sound { IsSoundIn originals.old.setup (state_of markers.old parts.old) }
+    ensures world { originals.new.setup ≡ originals.old.setup }
+    ensures linked { OnOk result (originals.new.loaded ≡ parts.new.shared.loaded) }
+    ensures some { IfOk result (λ n. 0 < n) }
+    ensures within { IfOk result (λ n. n ≤ most) }
+    ensures made { IfOk result (λ n. Leads originals.old.setup (state_of markers.old parts.old) n
+        (state_of markers.new parts.new)) }
+{
+    let plain = step_plainly(alloc, originals, parts, markers, most);
+    if plain == most {
+        return Ok(plain);
+    }
+    step_once(alloc, originals, parts, markers)?;
+    Ok(plain + 1)
+}
+
+/// Steps of what is set up, at most so many, and none behind the end of the run: how many it has made.
+fn steps_on(
+    alloc: Global,
+    originals: &mut Originals,
+    parts: &mut Parts,
+    markers: &mut Stack<Marker>,
+    most: u64,
+) -> Result<u64, NoMemory>
+    requires linked { originals.old.loaded ≡ parts.old.shared.loaded }
+    requires fit { CanRun originals.old.setup }
+    requires sound { IsSoundIn originals.old.setup (state_of markers.old parts.old) }
+    ensures world { originals.new.setup ≡ originals.old.setup }
+    ensures linked { OnOk result (originals.new.loaded ≡ parts.new.shared.loaded) }
+    ensures within { IfOk result (λ n. n ≤ most) }
+    ensures made { IfOk result (λ n. Leads originals.old.setup (state_of markers.old parts.old) n
+        (state_of markers.new parts.new)) }
+    ensures ended { IfOk result (λ n. n < most → is_some parts.new.ending ≡ true) }
+{
+    let mut made = 0;
+    while made < most && parts.ending.is_none() {
+        made += step_on(alloc, originals, parts, markers, most - made)?;
+    }
+    Ok(made)
+}
+
+/// The same, behind which the state stands for the run of original code where it has stood for it. A superseded version that
+/// no frame runs then is dropped.
+pub fn run(
+    alloc: Global,
+    originals: &mut Originals,
+    parts: &mut Parts,
+    markers: &mut Stack<Marker>,
+    most: u64,
+) -> Result<u64, NoMemory>
+    requires linked { originals.old.loaded ≡ parts.old.shared.loaded }
+    requires fit { CanRun originals.old.setup }
+    requires sound { IsSoundIn originals.old.setup (state_of markers.old parts.old) }
+    ensures world { originals.new.setup.world ≡ originals.old.setup.world }
+    ensures released { OnOk result (Releases parts.new.frames.frames originals.old.setup.versions
+        originals.new.setup.versions) }
+    ensures same { AreAllCurrent originals.old.setup.versions
+        → originals.new.setup ≡ originals.old.setup }
+    ensures linked { OnOk result (originals.new.loaded ≡ parts.new.shared.loaded) }
+    ensures within { IfOk result (λ n. n ≤ most) }
+    ensures made { IfOk result (λ n. Leads originals.old.setup (state_of markers.old parts.old) n
+        (state_of markers.new parts.new)) }
+    ensures ended { IfOk result (λ n. n < most → is_some parts.new.ending ≡ true) }
+    ensures stands { let w = originals.old.setup in IfOk result (λ n. (clock : ℕ)
+        → IsRunOf w clock (state_of markers.old parts.old)
+        → IsRunOf originals.new.setup (clock + n) (state_of markers.new parts.new)) }
+{
+    let made = steps_on(alloc, originals, parts, markers, most)?;
+    originals.release(&parts.frames);
+    Ok(made)
+}

@@ -1,0 +1,7 @@
+//! A throw goes to its handler, or ends activations (JVM Specification 2.10).
+
+pub mod exceptions;
+pub mod handlers;
+pub mod raising;
+pub mod settling;
+pub mod supertypes;

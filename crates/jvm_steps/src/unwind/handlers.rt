@@ -1,0 +1,79 @@
+//! Which handler a throw goes to (JVM Specification 2.10, 4.7.3).
+
+ghost use Rattle.std.specs.Prelude.{◌≡◌, ◌<◌, ◌^◌, true, length, map};
+ghost use Rattle.std.specs.Option.{option_map_or};
+ghost use Rattle.jvm_model.specs.Classes.Lookup.{is_below};
+ghost use Rattle.jvm_model.specs.Running.Moves.{covers, handler_for};
+ghost use Rattle.heap_objects.specs.Heaps.{kind_at};
+ghost use Rattle.jvm_model.specs.Basis.SharedState.{class_of_kind};
+ghost use Rattle.jvm_steps.specs.Codes.Versions.{catcher_in, text_of};
+
+use crate::initialize::objects::class_of_kind;
+use crate::prepare::originals::Originals;
+use crate::prepare::versions::Catching;
+use crate::unwind::supertypes::is_below;
+use class_linker::Linker;
+use heap_objects::Heap;
+use jvm_model::Program;
+
+// ---- handlers
+
+/// Whether a handler catches objects of the class at a position.
+fn catches(linker: &Linker, handler: &Catching, class: usize) -> bool
+    ensures { result ≡ option_map_or (is_below linker.now.program class) handler.now.catches true }
+{
+    match &handler.catches {
+        Some(name) => is_below(linker, class, name),
+        None => true,
+    }
+}
+
+/// Whether it covers the place of a frame, too.
+fn covers(originals: &Originals, handler: &Catching, class: usize, place: u16) -> bool
+    ensures { result ≡ covers originals.now.setup.world class place (catcher_in handler.now) }
+{
+    handler.start <= place && place < handler.end && catches(originals.linker(), handler, class)
+}
+
+/// Where the first one of them goes on that covers the place.
+fn target_among(
+    originals: &Originals,
+    handlers: &[Catching],
+    class: usize,
+    place: u16,
+) -> Option<u16>
+    ensures { result ≡ handler_for originals.now.setup.world class place
+        (map catcher_in handlers.now) }
+{
+    for handler in handlers {
+        if covers(originals, handler, class, place) {
+            return Some(handler.target);
+        }
+    }
+    None
+}
+
+/// Where a frame goes on, at a place of a version, when an object of the class at a position is
+/// thrown there; None where no handler catches it.
+pub fn handler_for(originals: &Originals, version: usize, class: usize, place: u16) -> Option<u16>
+    ensures { result ≡ handler_for originals.now.setup.world class place
+        ((text_of originals.now.setup.versions).handlers version) }
+{
+    match originals.handlers(version) {
+        Some(handlers) => target_among(originals, handlers.as_slice(), class, place),
+        None => None,
+    }
+}
+
+// ---- objects
+
+/// The position of the class of an object; 0 where there is no object.
+pub fn class_of(program: &Program, heap: &Heap, reference: u32) -> u32
+    requires { length program.now.classes < 2 ^ 24 }
+    ensures { result ≡ option_map_or (class_of_kind program.now) (kind_at reference heap.now) 0 }
+{
+    match heap.kind(reference) {
+        Some(kind) => class_of_kind(program, kind),
+        None => 0,
+    }
+}
