@@ -1,7 +1,7 @@
 //! The original code of a program, prepared: what stands at each offset is looked up once, and is
 //! found by its offset from then on.
 
-ghost use Rattle.std.specs.Prelude.{ℕ, ◌≡◌, ◌<◌, ◌^◌, ◌++◌, length, slice_get, is_some, false, true};
+ghost use Rattle.std.specs.Prelude.{ℕ, ◌≡◌, ◌≢◌, Some, ◌<◌, ◌^◌, ◌++◌, length, slice_get, is_some, false, true};
 ghost use Rattle.std.specs.Prelude.{IfNone, IfOk, OnErr, OnOk};
 ghost use Rattle.std.specs.Option.{option_and_then, option_copied, option_map, IfSome};
 ghost use Rattle.class_linker.specs.Linkers.{IsLoaded, LinkerView};
@@ -24,11 +24,13 @@ ghost use Rattle.jvm_steps.specs.Codes.Tables.{Adds, AreAllCurrent, Releases, ve
 ghost use Rattle.method_versions.specs.Tables.{is_superseded_in};
 ghost use Rattle.jvm_steps.specs.Codes.Kept.{IsLater};
 ghost use Rattle.jvm_steps.specs.Codes.Lines.{IfNamed, IfNamedBy};
-ghost use Rattle.jvm_steps.specs.Codes.Linked.{linker_in};
+ghost use Rattle.jvm_steps.specs.Codes.Linked.{IsReady, linker_in};
+ghost use Rattle.jvm_steps.specs.Codes.Making.{passage_of};
 ghost use Rattle.jvm_steps.specs.Codes.Prepared.{FitsOriginals, built_in_named, exception_kind};
 ghost use Rattle.jvm_steps.specs.Codes.Prepared.{main_name};
 ghost use Rattle.jvm_steps.specs.Codes.Entries.{original_versions};
 ghost use Rattle.jvm_steps.specs.Codes.Versions.{ArePrepared, current_of, first_of, mark_of};
+ghost use Rattle.jvm_model.specs.declared.event.Mark.TheVariants.{Off};
 ghost use Rattle.jvm_model.specs.declared.state.State.{State};
 ghost use Rattle.jvm_model.specs.Soundness.Sound.{IsFit};
 ghost use Rattle.jvm_steps.specs.Codes.ClassVersions.{FitsImage, class_versions};
@@ -132,6 +134,7 @@ pub struct Originals {
 impl Model for Originals {
     ghost use Rattle.jvm_steps.specs.Codes.Kept.{IsKept};
     ghost use Rattle.jvm_steps.specs.Codes.Linked.{Linked};
+    ghost use Rattle.jvm_steps.specs.Codes.Making.{with_lines};
     ghost use Rattle.jvm_steps.specs.Codes.Prepared.{world_in};
 
     ghost Value = { Linked };
@@ -419,13 +422,17 @@ impl Originals {
         &self.selections
     }
 
-    /// The version with this number, as it is kept: it may be without its lines.
+    /// The version with this number. None where its lines are still to be made.
     pub fn version(&self, version: usize) -> Option<&Version>
-        ensures version { option_copied result ≡ version_at self.now.kept version }
-        ensures lines { IfSome result (λ x. HasLinesOf self.now.setup.versions version x.now) }
+        ensures version { IfSome result
+            (λ x. version_at self.now.setup.versions version ≡ Some x.now) }
         ensures prepared { IfSome result (λ x. ArePrepared x.now) }
     {
-        version_at(&self.versions, version)
+        let held = version_at(&self.versions, version)?;
+        if !held.prepared.has_lines {
+            return None;
+        }
+        Some(held)
     }
 
     /// The line at a place of a version, by two look-ups. None where it is still to be made.

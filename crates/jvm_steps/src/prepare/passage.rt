@@ -2,7 +2,7 @@
 
 ghost use Rattle.std.specs.Prelude.{◌≡◌};
 ghost use Rattle.std.specs.Option.{option_map};
-ghost use Rattle.jvm_steps.specs.Codes.Passages.{passage_of};
+ghost use Rattle.jvm_steps.specs.Codes.Making.{passage_of};
 ghost use Rattle.jvm_steps.specs.Codes.Versions.{ArePrepared, IsPrepared, line_in};
 
 use crate::execute::going::next_in;

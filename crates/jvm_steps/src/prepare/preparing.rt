@@ -6,7 +6,8 @@ ghost use Rattle.jvm_steps.specs.declared.prepare.originals.Exception.{Exception
 ghost use Rattle.jvm_steps.specs.Codes.Entries.{code_line, lines_of, params_of};
 ghost use Rattle.std.specs.List.{range_with_len};
 ghost use Rattle.jvm_steps.specs.Codes.Entries.{entry_at, entry_of, no_method};
-ghost use Rattle.jvm_steps.specs.Codes.Entries.{catching_of, no_version, own_number, original_version, original_versions};
+ghost use Rattle.jvm_steps.specs.Codes.Entries.{catching_of, no_version, own_number, original_version};
+ghost use Rattle.jvm_steps.specs.Codes.Making.{bare, bare_versions, without_lines};
 ghost use Rattle.jvm_steps.specs.Codes.Entries.{version_entry, version_of};
 ghost use Rattle.jvm_steps.specs.Codes.Prepared.{FitsOriginals, HasShortCode};
 ghost use Rattle.jvm_steps.specs.Codes.Prepared.{exception_kind, exception_in};
@@ -268,6 +269,7 @@ fn bare_entry(
 
 /// A version without lines.
 fn bare(alloc: Global, method: u32, handlers: Seq<Catching>) -> Version
+    ensures { result ≡ bare method handlers }
 {
     Held {
         method,

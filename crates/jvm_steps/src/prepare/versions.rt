@@ -1,9 +1,10 @@
 //! The code that is run, prepared: versions of methods, each with what stands at its places, and the version that each method
 //! begins in.
 
-ghost use Rattle.std.specs.Prelude.{◌≡◌, ◌≤◌, ℕ, false, length, true, IfSome, OnErr, OnOk};
+ghost use Rattle.std.specs.Prelude.{◌≡◌, ◌≤◌, ℕ, false, length, true, IfSome, OnErr, OnOk, Some};
 ghost use Rattle.std.specs.Option.{option_copied};
-ghost use Rattle.method_versions.specs.Tables.{IsFirst, is_superseded_in};
+ghost use Rattle.method_versions.specs.Tables.{IsFirst, is_superseded_in, method_in};
+ghost use Rattle.jvm_steps.specs.Codes.Making.{HasItsLines, IsReplaced, has_lines, with_lines};
 ghost use Rattle.jvm_steps.specs.Codes.Tables.{Adds, AreAllCurrent, AreOfMethods, Releases, seen, version_at};
 ghost use Rattle.jvm_steps.specs.Codes.Versions.{current_of, first_of, line_at, line_in, mark_of};
 
@@ -80,7 +81,7 @@ impl Versions {
 
     /// Puts another version of the same method in the place of the one with this number.
     pub fn replace(&mut self, number: usize, version: Version)
-        requires { is_of_method version.method (version_at self.old number) ≡ true }
+        requires { method_in self.old.slots number ≡ Some version.method }
         ensures { IsReplaced number version self.old self.new }
     {
         self.table.replace(number, version);
