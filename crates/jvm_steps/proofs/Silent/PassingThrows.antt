@@ -57,8 +57,8 @@ module _ (w : Setup) (s : State) (r target : ℕ) (f g : Frame) (rest : List Ent
     (own : handler_for w.world (class_of w.world.program s.shared r) f.place ((text_of w.versions).handlers f.version) ≡ None)
     (below : handler_for w.world (class_of w.world.program s.shared r) g.place ((text_of w.versions).handlers g.version) ≡ Some target)
     (fits : nat_le 1 g.max_stack ≡ true) where
-  abbrev t : Text
-  t = text_of w.versions
+  abbrev run_text : Text
+  run_text = text_of w.versions
 
   -- where the caller goes on
   abbrev pub back : State
@@ -70,30 +70,30 @@ module _ (w : Setup) (s : State) (r target : ℕ) (f g : Frame) (rest : List Ent
   abbrev unwinds : Turn
   unwinds = record { after = left; changes = Unwound ∷ [] }
 
-  first : move w.world t s ≡ Some unwinds
+  first : move w.world run_text s ≡ Some unwinds
   first =
-      ap (λ e. moves w.world t s e s.thrown s.stack) ending
-      ∙ (ap (λ o. moves w.world t s None o s.stack) thrown
-      ∙ (ap (moves w.world t s None (Some r)) stack
-      ∙ ap (λ o. Some (caught w.world t left r f o)) own))
+      ap (λ e. moves w.world run_text s e s.thrown s.stack) ending
+      ∙ (ap (λ o. moves w.world run_text s None o s.stack) thrown
+      ∙ (ap (moves w.world run_text s None (Some r)) stack
+      ∙ ap (λ o. Some (caught w.world run_text left r f o)) own))
 
-  second : move w.world t left ≡ Some (still back)
+  second : move w.world run_text left ≡ Some (still back)
   second =
       let under : State = record s { stack = rest } in
       let free : State = record under { thrown = None } in
-      ap (λ e. moves w.world t left e s.thrown (Active g ∷ rest)) ending
-      ∙ (ap (λ o. moves w.world t left None o (Active g ∷ rest)) thrown
-      ∙ (ap (λ o. Some (caught w.world t under r g o)) below
-      ∙ ap (λ b. Some (still (cond b (with_frame free (record g { place = target; operands = Ref r ∷ [] })) (breaks free g (own_at t g))))) fits))
+      ap (λ e. moves w.world run_text left e s.thrown (Active g ∷ rest)) ending
+      ∙ (ap (λ o. moves w.world run_text left None o (Active g ∷ rest)) thrown
+      ∙ (ap (λ o. Some (caught w.world run_text under r g o)) below
+      ∙ ap (λ b. Some (still (cond b (with_frame free (record g { place = target; operands = Ref r ∷ [] })) (breaks free g (own_at run_text g))))) fits))
 
-  third : move w.world t back ≡ None
-  third = ap (λ e. moves w.world t back e None back.stack) ending
+  third : move w.world run_text back ≡ None
+  third = ap (λ e. moves w.world run_text back e None back.stack) ending
 
-  pub settles-back : settled w.world t (still s) ≡ record { after = back; changes = Unwound ∷ [] }
+  pub settles-back : settled w.world run_text (still s) ≡ record { after = back; changes = Unwound ∷ [] }
   settles-back =
-      sym (moved-same w.world t (still s) unwinds first)
-      ∙ (sym (moved-same w.world t (then_turn (still s) unwinds) (still back) second)
-      ∙ moved-end w.world t (then_turn (then_turn (still s) unwinds) (still back)) third)
+      sym (moved-same w.world run_text (still s) unwinds first)
+      ∙ (sym (moved-same w.world run_text (then_turn (still s) unwinds) (still back) second)
+      ∙ moved-end w.world run_text (then_turn (then_turn (still s) unwinds) (still back)) third)
 
 -- ---- at an athrow
 

@@ -32,11 +32,11 @@ fn is_throwable(originals: &Originals, class: usize) -> bool
     requires { CanRun originals.now.setup }
     ensures { result ≡ true → is_below originals.now.setup.world.program class throwable ≡ true }
 {
-    let classes = originals.program().classes.as_slice();
-    let Some(upper) = classes.len().checked_sub(FROM_THROWABLE) else {
+    let program = originals.program();
+    let Some(upper) = program.classes.len().checked_sub(FROM_THROWABLE) else {
         return false;
     };
-    let Some(file) = classes.get(upper) else {
+    let Some(file) = program.classes.get(upper) else {
         return false;
     };
     if !has_bytes(b"java/lang/Throwable", file) {
