@@ -12,7 +12,7 @@ pub mod RewrittenLines
 pub mod OriginalTexts
 pub mod ImageVersions
 pub mod ClassVersionLaws
-mod WorkedVersions
+pub mod WorkedVersions
 pub mod Assembled
 pub mod MethodImages
 pub mod Positions
@@ -20,4 +20,4 @@ pub mod Entries
 pub mod LineFamilies
 pub mod Actions
 pub mod Dimensions
-mod CellLemmas
+pub mod CellLemmas
