@@ -8,3 +8,4 @@ mod Followed
 mod TriedSteps
 mod PausesSound
 mod HandLaws
+mod CalmSteps
