@@ -8,3 +8,4 @@ pub mod Followed
 pub mod TriedSteps
 pub mod PausesSound
 pub mod HandLaws
+pub mod CalmSteps

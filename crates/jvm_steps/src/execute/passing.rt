@@ -23,6 +23,7 @@ ghost use Rattle.jvm_steps.specs.Instructions.Passing.{changed_in, steps_if, wit
 ghost use Rattle.jvm_steps.specs.Machine.Ready.{CanRun, IsSoundIn};
 ghost use Rattle.jvm_steps.specs.Machine.Runs.{IsCalm};
 ghost use Rattle.jvm_steps.specs.Machine.States.{here_of};
+ghost use Rattle.jvm_steps.specs.Moves.Calmly.{GoesBack};
 ghost use Rattle.jvm_steps.specs.Codes.Versions.{current_of, line_at, mark_of};
 
 use crate::execute::going::{next_in, top_datum, value_of};
@@ -187,7 +188,7 @@ fn pass_access(
 // ---- a return
 
 /// The value that a datum is, if there is one.
-fn value_given(datum: Option<Datum>) -> Option<Value>
+pub fn value_given(datum: Option<Datum>) -> Option<Value>
     ensures { result ≡ option_map as_value datum }
 {
     match datum {
@@ -197,7 +198,7 @@ fn value_given(datum: Option<Datum>) -> Option<Value>
 }
 
 /// What a return gives back, where its operand is of the kind.
-fn result_of(frames: &Frames, kind: Option<Kind>) -> Option<Option<Datum>>
+pub fn result_of(frames: &Frames, kind: Option<Kind>) -> Option<Option<Datum>>
     ensures { IfSome result (λ d. returns kind (top_operands frames.now.frames) ≡ Returns d) }
 {
     let Some(kind) = kind else {
@@ -209,8 +210,28 @@ fn result_of(frames: &Frames, kind: Option<Kind>) -> Option<Option<Datum>>
     Some(Some(datum))
 }
 
-/// Where the caller of the current frame goes on. None where nothing does, where an initialization stands on it, or where the frame's
-/// version has probes, or is not its method's current one.
+/// Where the caller of the current frame goes on. None where nothing does, or where an initialization stands on it.
+pub fn goes_back(originals: &Originals, frames: &Frames, markers: &Stack<Marker>) -> Option<u16>
+    ensures { let w = originals.now.setup in
+        IfSome result (λ next. GoesBack w markers.now frames.now.frames next) }
+{
+    let depth = frames.depth();
+    if depth < 2 {
+        return None;
+    }
+    if marker_on(markers, depth - 1).is_some() {
+        return None;
+    }
+    let Some((version, place)) = frames.caller() else {
+        return None;
+    };
+    let Some(line) = originals.line(version, place) else {
+        return None;
+    };
+    next_in(line)
+}
+
+/// The same; None also where the frame's version has probes, or is not its method's current one.
 fn returns_to(
     originals: &Originals,
     frames: &Frames,
@@ -226,20 +247,7 @@ fn returns_to(
     if !originals.is_current(here.version) {
         return None;
     }
-    let depth = frames.depth();
-    if depth < 2 {
-        return None;
-    }
-    if marker_on(markers, depth - 1).is_some() {
-        return None;
-    }
-    let Some((version, place)) = frames.caller() else {
-        return None;
-    };
-    let Some(line) = originals.line(version, place) else {
-        return None;
-    };
-    next_in(line)
+    goes_back(originals, frames, markers)
 }
 
 /// A return.
@@ -299,7 +307,7 @@ fn pass_throw(
 
 /// Whether what is known is of a method.
 #[inline(always)]
-fn is_method(known: &Known) -> bool
+pub fn is_method(known: &Known) -> bool
     ensures { result ≡ is_method known.now.found }
 {
     match known.found {
