@@ -21,3 +21,4 @@ pub mod ToldFrames
 pub mod Turned
 pub mod SeveralTurns
 pub mod SeenLaws
+pub mod Calmly

@@ -1,6 +1,7 @@
 //! How a step is taken up, and what it has come to.
 
 ghost use Rattle.std.specs.Prelude.{◌≡◌, ◌+◌, ◌++◌, ◌^◌, ◌<◌, drop, false, true, IfOk, OnErr, OnOk};
+ghost use Rattle.jvm_model.specs.Basis.Data.{World};
 ghost use Rattle.jvm_model.specs.Turns.InHand.{behind_load};
 ghost use Rattle.jvm_model.specs.Running.Run.{main_loads, starts_with};
 ghost use Rattle.jvm_model.specs.Soundness.Sound.{IsFit};
@@ -31,6 +32,21 @@ pub fn clock_in(resting: bool, started: bool, clock: u64) -> u64
         return clock;
     }
     if started { clock + 1 } else { 0 }
+}
+
+/// What is in hand, or of the next step, once the start was made.
+#[inline(always)]
+pub fn hand_now(resting: bool, hand: Hand) -> Hand
+    ensures { (w : World) → result ≡ taken_hand w resting true hand }
+{
+    if !resting {
+        return hand;
+    }
+    Hand {
+        moves: false,
+        told: false,
+        passed: 0,
+    }
 }
 
 /// What is in hand where a step has stopped: nothing where it is done.

@@ -1,7 +1,7 @@
 //! The machine: one turn a call.
 
 ghost use Rattle.std.specs.Prelude.{◌≡◌, ◌+◌, ◌^◌, ◌<◌, ◌≤◌, ◌&&◌, true, false, None, length};
-ghost use Rattle.std.specs.Prelude.{OnErr, IfOk, OnOk};
+ghost use Rattle.std.specs.Prelude.{OnErr, IfNone, IfOk, IfSome, OnOk};
 ghost use Rattle.jvm_model.specs.Running.Applies.{live_in};
 ghost use Rattle.jvm_model.specs.Turns.Pauses.{told_at};
 ghost use Rattle.jvm_model.specs.Codes.ProgramPlaces.{HasClosedCodes};
@@ -9,14 +9,15 @@ ghost use Rattle.jvm_model.specs.Soundness.Sound.{IsFit};
 ghost use Rattle.jvm_steps.specs.Machine.Before.{CanStart};
 ghost use Rattle.jvm_steps.specs.Codes.Prepared.{FitsOriginals};
 ghost use Rattle.jvm_steps.specs.Machine.Runs.{IsCalm};
-ghost use Rattle.jvm_machine.specs.Advances.{Advances, broken_in};
+ghost use Rattle.jvm_machine.specs.declared.advancing.Telling.TheVariants as telling;
+ghost use Rattle.jvm_machine.specs.Advances.{Advances, Stops, broken_in};
 ghost use Rattle.jvm_machine.specs.Installs.{IsFormed, IsImageOf, with_class};
 ghost use Rattle.jvm_machine.specs.Probes.{IfLeaves};
 ghost use Rattle.jvm_machine.specs.Turns.{Turns, turn_by};
 ghost use Rattle.jvm_machine.specs.Several.{Passes, RunsOn, is_settled};
 ghost use Rattle.jvm_machine.specs.View.{IsGoingOn, has_ended, is_resting, made, run_state};
 
-use crate::advancing::{Telling, clock_in, left, loaded_since, take_up};
+use crate::advancing::{Telling, clock_in, hand_now, left, loaded_since, take_up};
 use crate::telling::told;
 use crate::turn::Turn;
 use class_linker::Linker;
@@ -24,7 +25,7 @@ use code_model::Homes;
 use const_pool::ClassFile;
 use jf_bytes::{NoMemory, Seq, Stack};
 use jvm_model::{Due, Ending, Event, Mark, Program};
-use jvm_steps::{Hand, Marker, Originals, Parts, go, parts_before, pass_steps};
+use jvm_steps::{Hand, Marker, Originals, Parts, go, go_calmly, parts_before, pass_steps};
 use std::alloc::Global;
 use std::marker::Model;
 
@@ -165,6 +166,38 @@ impl Vm {
         Ok(Telling::Due(gone.due))
     }
 
+    /// The same where that is quickly done and takes no memory. None, with nothing changed, where it is not.
+    #[inline(always)]
+    fn advance_calmly(&mut self) -> Option<Due>
+        requires below { self.old.clock < 2 ^ 63 }
+        ensures stops { IfSome result (λ due. Stops self.old due self.new) }
+        ensures leaves { IfSome result (λ due. IfLeaves (telling.Due due) self.new) }
+        ensures going { IfSome result (λ due. IsGoingOn self.old) }
+        ensures whole { IfSome result (λ due. self.old.broken ≡ false) }
+        ensures after { IfSome result (λ due. self.new.broken ≡ false) }
+        ensures none { IfNone result (self.new ≡ self.old) }
+        ensures held { self.new.stale ≡ false }
+    {
+        if self.broken || !self.started || !is_calm(&self.parts, &self.markers) {
+            return None;
+        }
+        let resting = self.is_resting();
+        let hand = hand_now(resting, self.hand);
+        let gone = go_calmly(
+            self.alloc,
+            &self.originals,
+            &mut self.parts,
+            &self.markers,
+            hand,
+        );
+        let Some(gone) = gone else {
+            return None;
+        };
+        self.clock = clock_in(resting, true, self.clock);
+        self.hand = left(gone);
+        Some(gone.due)
+    }
+
     /// Whether there is no step in hand, and the run has ended.
     #[inline(always)]
     fn is_over(&self) -> bool
@@ -197,14 +230,11 @@ impl Vm {
         }
     }
 
-    /// Goes on with the step in hand, or begins the next one, the start first: one turn. Where it loads classes these are told first.
-    /// Each probe that a frame executes tells its event in a turn of its own, an entry probe behind the instruction, the others before
-    /// the activation ends; then comes Settled, or Ended, exactly where the run has ended. After want of memory the machine is broken, and
-    /// does no more.
-    pub fn step(&mut self) -> Turn
+    /// One turn, however long it takes. It is a call of its own, so that a turn that is quickly done stays small.
+    #[inline(never)]
+    fn step_fully(&mut self) -> Turn
         requires { self.old.clock < 2 ^ 63 }
         ensures turns { Turns self.old result self.new }
-        // No version is held but those in which methods begin and those that live activations run.
         ensures held { self.new.stale ≡ false }
     {
         if self.broken {
@@ -217,6 +247,23 @@ impl Vm {
             Ok(Telling::Classes(classes)) => Turn::Loaded(classes),
             Ok(Telling::Due(due)) => self.turn(due),
             Err(_) => Turn::NoMemory,
+        }
+    }
+
+    /// Goes on with the step in hand, or begins the next one, the start first: one turn. Where it loads classes these are told first.
+    /// Each probe that a frame executes tells its event in a turn of its own, an entry probe behind the instruction, the others before
+    /// the activation ends; then comes Settled, or Ended, exactly where the run has ended. After want of memory the machine is broken, and
+    /// does no more.
+    #[inline(always)]
+    pub fn step(&mut self) -> Turn
+        requires { self.old.clock < 2 ^ 63 }
+        ensures turns { Turns self.old result self.new }
+        // No version is held but those in which methods begin and those that live activations run.
+        ensures held { self.new.stale ≡ false }
+    {
+        match self.advance_calmly() {
+            Some(due) => self.turn(due),
+            None => self.step_fully(),
         }
     }
 

@@ -2,9 +2,10 @@ pub mod MovesOn
 pub mod StandingSteps
 pub mod LineSteps
 pub mod Sounded
-mod TurnsCarried
-mod OneMove
-mod Followed
-mod TriedSteps
-mod PausesSound
-mod HandLaws
+pub mod TurnsCarried
+pub mod OneMove
+pub mod Followed
+pub mod TriedSteps
+pub mod PausesSound
+pub mod HandLaws
+pub mod CalmSteps

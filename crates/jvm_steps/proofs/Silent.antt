@@ -1,9 +1,11 @@
 pub mod Leading
-mod QuietLines
-mod PlainSteps
-mod PassedLines
+pub mod QuietLines
+pub mod PlainSteps
+pub mod PassedLines
 pub mod SilentSteps
 pub mod PassingSteps
 pub mod PassingCalls
 pub mod PassingReturns
+pub mod PassingThrows
+pub mod CatchLemmas
 pub mod ReturnLemmas

@@ -2,3 +2,4 @@ pub mod Settling
 pub mod Turning
 pub mod Trying
 pub mod Hands
+pub mod Calmly

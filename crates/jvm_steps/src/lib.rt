@@ -25,6 +25,7 @@ pub use prepare::resolving::line_of;
 pub use prepare::versions::{Catching, PreparedCode, Version, Versions};
 pub use startup::beginning::{begin_start, end_unmade, make_ready, start};
 pub use startup::starting::parts_before;
+pub use turns::calmly::go_calmly;
 pub use turns::hands::{Gone, Hand, go};
 pub use turns::parts::{Here, Parts, where_now};
 pub use turns::pausing::{go_by_moves, pause};

@@ -1,5 +1,6 @@
 //! A step, at one go or in the turns that a machine with probes makes of it.
 
+pub mod calmly;
 pub mod hands;
 pub mod parts;
 pub mod pausing;

@@ -11,6 +11,7 @@ use jf_bytes::NoMemory;
 use jvm_machine::Turn;
 
 /// Whether there was memory.
+#[inline(always)]
 fn is_telling(turn: &Turn) -> bool
     ensures { result ≡ is_telling turn.now }
 {
@@ -26,6 +27,7 @@ fn is_telling(turn: &Turn) -> bool
 
 impl Parts {
     /// The next turn of the step in hand, and what the session does behind it.
+    #[inline(always)]
     fn turn(&mut self) -> Result<Turn, NoMemory>
         requires busy { IsBusy self.old }
         requires below { self.old.vm.clock < 2 ^ 63 }
@@ -44,6 +46,7 @@ impl Parts {
     }
 
     /// Steps that tell nothing, the turn behind them, and what the session does behind that.
+    #[inline(always)]
     fn run(&mut self, most: u64) -> Result<Turn, NoMemory>
         requires rests { Rests self.old }
         requires going { IsGoingOn self.old.vm }
@@ -64,6 +67,7 @@ impl Parts {
     }
 
     /// The rest of the step in hand. Says whether the run has ended in it.
+    #[inline(always)]
     fn finish(&mut self) -> Result<bool, NoMemory>
         requires busy { IsBusy self.old }
         requires below { self.old.vm.clock < 2 ^ 63 }
@@ -85,6 +89,7 @@ impl Parts {
     }
 
     /// One step or several, no more than this. Says whether the run has ended.
+    #[inline(always)]
     fn slice(&mut self, most: u64) -> Result<bool, NoMemory>
         requires rests { Rests self.old }
         requires going { IsGoingOn self.old.vm }

@@ -87,6 +87,7 @@ impl Parts {
     }
 
     /// The event goes to the buffer; where it does not fit, the buffer is drained first.
+    #[inline(always)]
     fn push(&mut self, event: Event) -> Result<(), NoMemory>
         requires fit { AreFit self.old }
         requires now { event.clock ≡ self.old.vm.clock }
@@ -100,6 +101,7 @@ impl Parts {
     }
 
     /// Takes the event, and says whether it opens a path.
+    #[inline(always)]
     fn take(&mut self, event: Event) -> Result<bool, NoMemory>
         requires fit { AreFit self.old }
         requires tellable { IsTellable self.old event }
@@ -142,6 +144,7 @@ impl Parts {
     }
 
     /// A profiled activation of the method has begun.
+    #[inline(always)]
     fn enter(&mut self, method: u32) -> Result<(), NoMemory>
         requires fit { AreFit self.old }
         requires shown { AreShown self.old }
@@ -175,6 +178,7 @@ impl Parts {
     }
 
     /// Whether nothing is selected and no path is open.
+    #[inline(always)]
     pub fn is_idle(&self) -> bool
         requires { self.now.depth ≡ length (profile_in self.now).open }
         ensures { result ≡ is_idle (kept_in self.now).seen }
@@ -183,6 +187,7 @@ impl Parts {
     }
 
     /// A step has ended.
+    #[inline(always)]
     fn end(&mut self) -> Result<(), NoMemory>
         requires fit { AreFit self.old }
         requires shown { AreShown self.old }
@@ -197,6 +202,7 @@ impl Parts {
     }
 
     /// An event was told.
+    #[inline(always)]
     fn tell(&mut self, event: Event) -> Result<(), NoMemory>
         requires fit { AreFit self.old }
         requires shown { AreShown self.old }
@@ -212,6 +218,7 @@ impl Parts {
     }
 
     /// Does what a turn asks.
+    #[inline(always)]
     pub fn hear(&mut self, turn: &Turn) -> Result<(), NoMemory>
         requires telling { is_telling turn.now ≡ true }
         requires hearable { IsHearable self.old turn.now }

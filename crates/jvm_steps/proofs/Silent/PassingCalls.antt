@@ -45,6 +45,7 @@ use Rattle.jvm_steps.specs.Instructions.Invoking.{called, may_begin}
 use Rattle.jvm_steps.specs.Machine.Markers.{marker_on, stack_of, state_of, with_markers}
 use Rattle.jvm_steps.specs.Instructions.Passing.{AreKeptBy, Passes, on_frames, runs, steps_if}
 use Rattle.jvm_steps.specs.Machine.Ready.{CanRun}
+use Rattle.jvm_steps.specs.Moves.Calmly.{Attempted}
 use Rattle.jvm_steps.specs.Machine.Runs.{IsCalm, steps_from-zero}
 use Rattle.jvm_steps.specs.Machine.States.{active, frame_in, here_of, state_in, state_with}
 use Rattle.jvm_steps.specs.Codes.Versions.{Setup, current_of, instruction_in, line_at, mark_of, operation_as, text_of}
@@ -54,7 +55,7 @@ use Rattle.jvm_steps.proofs.Silent.Leading.{leads-one}
 use Rattle.jvm_steps.proofs.Moves.LineSteps.{top-frame}
 use Rattle.jvm_steps.proofs.Marked.MarkedStacks.{live-stack, none-more}
 use Rattle.jvm_steps.proofs.Instructions.NamedLaws.{Asks, Takes, is-named}
-use Rattle.jvm_steps.proofs.Silent.PassingSteps.{follows, is-step, reached, step-turn, under}
+use Rattle.jvm_steps.proofs.Silent.PassingSteps.{follows, is-attempt, is-awaited, is-step, reached, step-turn, under}
 use Rattle.jvm_steps.proofs.Silent.PlainSteps.{at-rest, framed}
 use Rattle.jvm_steps.proofs.Silent.QuietLines.{with-frame-rests}
 use Rattle.jvm_steps.proofs.Silent.SilentSteps.{silent-one}
@@ -167,7 +168,7 @@ module _ (w : Setup) (run : CanRun w) (ms : List Marker) (here : Here) (line : L
   length-without (f ∷ fs) = refl
 
   module _ (call : IsCall c (done_on (attempts w.world n old.shared old.frames) old.frames) old.shared) (may : may_begin old.frames.frames ≡ true)
-      (can : can_begin w c.method c.count old.frames.frames ≡ true) (off : marks (current_of w.versions c.method) ≡ Off) (frames : FramesView)
+      (can : can_begin w c.method c.count old.frames.frames ≡ true) (frames : FramesView)
       (are : frames.frames ≡ with_begun true w c.method c.count old.frames.frames) where
     abbrev new : Parts
     new = on_frames frames old
@@ -191,7 +192,7 @@ module _ (w : Setup) (run : CanRun w) (ms : List Marker) (here : Here) (line : L
         ∙ ap (λ b. called w here c.method c.count old.frames.frames old true b) can)
         ∙ sym (ap (concluded w here (Calls c.method c.count)) reached-is))
 
-    more : length frames.frames ≡ suc (length old.frames.frames)
+    pub more : length frames.frames ≡ suc (length old.frames.frames)
     more = ap length are ∙ ap suc (length-without old.frames.frames)
 
     free : marker_on (suc (length old.frames.frames)) ms ≡ None
@@ -206,9 +207,27 @@ module _ (w : Setup) (run : CanRun w) (ms : List Marker) (here : Here) (line : L
     abbrev live : List Held
     live = helds marks (state_of ms old).stack
 
-    pub call-passes : Passes w ms old 1 new
-    call-passes = record {
-      calm = record { ending = calm.ending; thrown = calm.thrown; unmarked = ap (λ k. marker_on k ms) more ∙ free };
+    calm-then : IsCalm (length frames.frames) ms new
+    calm-then = record { ending = calm.ending; thrown = calm.thrown; unmarked = ap (λ k. marker_on k ms) more ∙ free }
+
+    keeps-then : AreKeptBy w (state_of ms old).stack (state_of ms new).stack
+    keeps-then k superseded runs_old =
+        ap (λ fs. runs k (stack_of (map active fs) ms)) are ∙ keeps-by old.frames.frames stands calm.unmarked k superseded runs_old
+
+    -- whatever its version has
+    pub call-attempted : Attempted w ms old new
+    call-attempted = record {
+      calm = calm-then;
+      loaded = refl;
+      loads = loads-none old.frames.frames stands calm.unmarked nothing;
+      awaits = is-awaited w run ms here line kept old stands found named calm nothing (asked.Invokes c.method c.count) answers refl;
+      made = is-attempt w run ms here line kept old stands found named calm nothing (asked.Invokes c.method c.count) answers refl new concludes;
+      keeps = keeps-then;
+    }
+
+    pub call-passes : marks (current_of w.versions c.method) ≡ Off → Passes w ms old 1 new
+    call-passes off = record {
+      calm = calm-then;
       loaded = refl;
       leads = leads-one w (state_of ms old) (state_of ms new) (ap is_some calm.ending) stepped;
       silent = silent-one w (state_of ms old) (record {
@@ -217,9 +236,7 @@ module _ (w : Setup) (run : CanRun w) (ms : List Marker) (here : Here) (line : L
             ap (λ cs. (stop_in (mark_now marks t) 0 live cs).due) (call-changes old.frames.frames stands calm.unmarked nothing call may can)
             ∙ ap (λ (mark : Mark). (stop_by live (record { method = c.method; mark = mark } ∷ live) 0 (unless_off mark Begins)
             (record { live = record { method = c.method; mark = mark } ∷ live; passed = 1; due = Nothing })).due) off;
-        keeps = λ k superseded runs_old.
-            ap (λ (z : State). runs k z.stack) (sym stepped)
-            ∙ (ap (λ fs. runs k (stack_of (map active fs) ms)) are ∙ keeps-by old.frames.frames stands calm.unmarked k superseded runs_old);
+        keeps = λ k superseded runs_old. ap (λ (z : State). runs k z.stack) (sym stepped) ∙ keeps-then k superseded runs_old;
       });
     }
 
@@ -239,5 +256,5 @@ module _ (w : Setup) (run : CanRun w) (ms : List Marker) (here : Here) (line : L
       → (b ≡ true → may_begin old.frames.frames ≡ true) → (b ≡ true → can_begin w c.method c.count old.frames.frames ≡ true)
       → (b ≡ true → marks (current_of w.versions c.method) ≡ Off) → new.frames.frames ≡ with_begun b w c.method c.count old.frames.frames → new ≡ on_frames new.frames old
       → Passes w ms old (steps_if b) new
-  called-passes true new call may can off are same = subst (Passes w ms old 1) (sym same) (call-passes call (may refl) (can refl) (off refl) new.frames are)
+  called-passes true new call may can off are same = subst (Passes w ms old 1) (sym same) (call-passes call (may refl) (can refl) new.frames are (off refl))
   called-passes false new call may can off are same = subst (Passes w ms old 0) (sym same) (passes-still new.frames are)

@@ -35,6 +35,7 @@ use Rattle.jvm_steps.specs.Instructions.Acts.{acts, acts_by, attempts_on, is_nam
 use Rattle.jvm_steps.specs.Machine.Markers.{marker_on, stack_of, state_of, with_markers}
 use Rattle.jvm_steps.specs.Instructions.Passing.{AreKeptBy, Passes, caller_line, fits_given, gone_back, on_frames, runs}
 use Rattle.jvm_steps.specs.Machine.Ready.{CanRun}
+use Rattle.jvm_steps.specs.Moves.Calmly.{Attempted}
 use Rattle.jvm_steps.specs.Machine.Runs.{IsCalm}
 use Rattle.jvm_steps.specs.Machine.States.{active, frame_in, here_of, state_with}
 use Rattle.jvm_steps.specs.Codes.Versions.{Setup, instruction_in, line_at, mark_of, next_in, operation_as, text_of}
@@ -49,7 +50,7 @@ either : {A : Type 0} (b : Bool) → (b ≡ true → A) → (b ≡ false → A) 
 either true on off = on refl
 either false on off = off refl
 
--- what the code has found: the result, where its caller goes on, and that nothing is told of it
+-- what the code has found: the result, and where its caller goes on
 pub record GivesBack (w : Setup) (ms : List Marker) (here : Here) (k : Option Kind) (fs : List PlacedFrame) (d : Option Datum) (next : ℕ) : Type 0 where
   pub result : returns k (top_operands fs) ≡ Returns d
   pub caller : Line
@@ -57,7 +58,6 @@ pub record GivesBack (w : Setup) (ms : List Marker) (here : Here) (k : Option Ki
   pub goes_on : next_in caller ≡ Some next
   pub holds : fits_given (option_map as_value d) fs ≡ true
   pub unmarked : marker_on (length fs - 1) ms ≡ None
-  pub off : mark_of w.versions here.version ≡ Off
   pub current : is_superseded_in w.versions.slots w.versions.current here.version ≡ false
 
 module _ (w : Setup) (run : CanRun w) (ms : List Marker) (here : Here) (line : Line) (k : Option Kind) (old : Parts) (stands : here_of old.frames.frames ≡ Some here)
@@ -219,19 +219,42 @@ module _ (w : Setup) (run : CanRun w) (ms : List Marker) (here : Here) (line : L
         (at-rest old.ending old.thrown (has_frame frames.frames && is_none (marker_on (length frames.frames) ms)) calm.ending calm.thrown
         (framed (length frames.frames) ms frames.frames free refl has)))
 
-    pub return-passes : Passes w ms old 1 new
-    return-passes = record {
-      calm = record { ending = calm.ending; thrown = calm.thrown; unmarked = free };
+    calm-then : IsCalm (length frames.frames) ms new
+    calm-then = record { ending = calm.ending; thrown = calm.thrown; unmarked = free }
+
+    keeps-then : AreKeptBy w (state_of ms old).stack (state_of ms new).stack
+    keeps-then version superseded runs_old =
+        ap (λ fs. runs version (stack_of (map active fs) ms)) are
+        ∙ keeps-by old.frames.frames stands calm.unmarked is version superseded runs_old
+
+    -- one frame less, and one is left
+    pub fewer : length frames.frames ≡ length old.frames.frames - 1
+    fewer = ap length are ∙ one-less old.frames.frames is
+
+    pub has-caller : has_frame frames.frames ≡ true
+    has-caller = has
+
+    -- whatever its version has
+    pub return-attempted : Attempted w ms old new
+    return-attempted = record {
+      calm = calm-then;
+      loaded = refl;
+      loads = loads-none old.frames.frames stands calm.unmarked;
+      awaits = awaits-unnamed w ms old here stands calm.unmarked (ap named_in found ∙ unnamed);
+      made = attempted;
+      keeps = keeps-then;
+    }
+
+    pub return-passes : marks here.version ≡ Off → Passes w ms old 1 new
+    return-passes off = record {
+      calm = calm-then;
       loaded = refl;
       leads = leads-one w (state_of ms old) (state_of ms new) (ap is_some calm.ending) stepped;
       silent = silent-one w (state_of ms old) (record {
         loads = loads-none old.frames.frames stands calm.unmarked;
         untold =
             ap (λ cs. (stop_in (mark_now marks t) 0 (helds marks (state_of ms old).stack) cs).due) (return-changes old.frames.frames stands calm.unmarked is)
-            ∙ due-by old.frames.frames stands calm.unmarked is.off;
-        keeps = λ version superseded runs_old.
-            ap (λ (z : State). runs version z.stack) (sym stepped)
-            ∙ (ap (λ fs. runs version (stack_of (map active fs) ms)) are
-            ∙ keeps-by old.frames.frames stands calm.unmarked is version superseded runs_old);
+            ∙ due-by old.frames.frames stands calm.unmarked off;
+        keeps = λ version superseded runs_old. ap (λ (z : State). runs version z.stack) (sym stepped) ∙ keeps-then version superseded runs_old;
       });
     }

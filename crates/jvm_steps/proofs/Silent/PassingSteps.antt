@@ -30,7 +30,7 @@ use Rattle.jvm_steps.specs.declared.prepare.line.Line.{Line}
 use Rattle.jvm_steps.specs.declared.initialize.markers.Marker.{Marker}
 use Rattle.jvm_steps.specs.declared.turns.parts.Here.{Here}
 use Rattle.jvm_steps.specs.declared.turns.parts.Parts.{Parts}
-use Rattle.jvm_steps.specs.Instructions.Acts.{attempts_on, is_at_rest, is_named, named_in}
+use Rattle.jvm_steps.specs.Instructions.Acts.{attempts_on, awaited_in, is_at_rest, is_named, named_in}
 use Rattle.jvm_steps.specs.Instructions.Asked.{concluded, done_top, starts_in}
 use Rattle.jvm_steps.specs.Codes.Lines.{IfNamed, IfNamedBy}
 use Rattle.jvm_steps.specs.Machine.Markers.{marker_on, stack_of, state_of, with_markers}
@@ -124,18 +124,21 @@ module _ (w : Setup) (run : CanRun w) (ms : List Marker) (here : Here) (line : L
         (there-by (λ n next. loaded_for w.world.program (naming_view kept) old.shared old.frames ≡ loaded_for w.world.program n old.shared old.frames) refl)
         None new (sym quiet) refl concludes
 
-    pub is-step : (new : Parts) → state_in new ≡ concluded w here (answer_view a) reached → is_at_rest ms new ≡ true
-        → state_of ms new ≡ (step w.world t (state_of ms old)).after
-    is-step new concludes resting =
-        step-attempts w run (state_of ms old) going
-        (sym (awaits-told w ms here old named-there stands calm.unmarked reached.frames reached.shared reached.output (loaded_for w.world.program n old.shared old.frames) a
+    -- no class is awaited
+    pub is-awaited : awaited_in w (state_of ms old) ≡ None
+    is-awaited =
+        sym (awaits-told w ms here old named-there stands calm.unmarked reached.frames reached.shared reached.output (loaded_for w.world.program n old.shared old.frames) a
         (there-by (λ n next. answer_view a ≡ answer_by (attempts w.world n old.shared old.frames) old.frames) answers)
         (there-by (λ n next. reached.frames ≡ frames_by (attempts w.world n old.shared old.frames) next old.frames) refl)
         (there-by (λ n next. reached.shared ≡ (done_on (attempts w.world n old.shared old.frames) old.frames).shared) refl)
         (there-by (λ n next. reached.output ≡ old.output ++ wrote_by (attempts w.world n old.shared old.frames) old.frames) refl)
         (there-by (λ n next. loaded_for w.world.program (naming_view kept) old.shared old.frames ≡ loaded_for w.world.program n old.shared old.frames) refl)
-        None (sym quiet)))
-        (state_of ms new) (state_of ms new) (is-attempt new concludes) (rests w t ms new resting)
+        None (sym quiet))
+
+    pub is-step : (new : Parts) → state_in new ≡ concluded w here (answer_view a) reached → is_at_rest ms new ≡ true
+        → state_of ms new ≡ (step w.world t (state_of ms old)).after
+    is-step new concludes resting =
+        step-attempts w run (state_of ms old) going is-awaited (state_of ms new) (state_of ms new) (is-attempt new concludes) (rests w t ms new resting)
 
   -- ---- the turn of the step
 

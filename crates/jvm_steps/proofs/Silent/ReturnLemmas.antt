@@ -12,6 +12,7 @@ use Rattle.frame_stack.specs.FrameLists.{AreSound, FramesView, PlacedFrame, top_
 use Rattle.frame_stack.specs.FrameLists.{caller_of, can_give, given, with_given, with_result}
 use Rattle.frame_stack.specs.Widths.{height_of, width}
 use Rattle.method_versions.specs.Tables.{current_in, held_in, is_number, is_old, is_superseded_in}
+use Rattle.jvm_model.specs.declared.due.Due.TheVariants.{Nothing}
 use Rattle.jvm_model.specs.declared.event.Mark.TheVariants.{Off}
 use Rattle.jvm_model.specs.Basis.Data.{Operands, Returns}
 use Rattle.jvm_model.specs.Instructions.LocalRules.{returns}
@@ -21,14 +22,16 @@ use Rattle.jvm_steps.specs.declared.prepare.line.Line.{Line}
 use Rattle.jvm_steps.specs.declared.initialize.markers.Marker.{Marker}
 use Rattle.jvm_steps.specs.declared.turns.parts.Here.{Here}
 use Rattle.jvm_steps.specs.declared.turns.parts.Parts.{Parts}
-use Rattle.jvm_steps.specs.Machine.Markers.{marker_on}
+use Rattle.jvm_steps.specs.Machine.Markers.{marker_on, state_of}
 use Rattle.jvm_steps.specs.Instructions.Passing.{Passes, ReturnsTo, caller_line, fits_given, gone_back, on_frames, steps_if}
 use Rattle.jvm_steps.specs.Machine.Ready.{CanRun}
+use Rattle.jvm_steps.specs.Moves.Calmly.{GoesBack, TriesIf}
 use Rattle.jvm_steps.specs.Machine.Runs.{IsCalm}
 use Rattle.jvm_steps.specs.Machine.States.{here_of}
 use Rattle.jvm_steps.specs.Codes.Tables.{Version, Versions}
 use Rattle.jvm_steps.specs.Codes.Versions.{Setup, line_at, mark_of, next_in}
-use Rattle.jvm_steps.proofs.Silent.PassingReturns.{GivesBack, return-passes}
+use Rattle.jvm_steps.proofs.Moves.CalmSteps.{has-here, leaves-calmly}
+use Rattle.jvm_steps.proofs.Silent.PassingReturns.{GivesBack, fewer, has-caller, return-attempted, return-passes}
 use Rattle.jvm_steps.proofs.Silent.SilentSteps.{passes_none}
 
 -- a version that is held, and in which its method begins, is not superseded
@@ -47,12 +50,18 @@ caller-there v (f ∷ g ∷ fs) version place line is found =
     let same : (g.version, g.place) ≡ (version, place) = same_Some (g.version, g.place) (version, place) is in
     ap (λ (at : ℕ × ℕ). line_at v at.0 at.1) same ∙ found
 
-pub returns-there : (w : Setup) (ms : List Marker) (here : Here) (fs : List PlacedFrame) (line : Line) (o : Option ℕ) → o ≡ next_in line → caller_line w.versions fs ≡ Some line
-    → marker_on (length fs - 1) ms ≡ None → mark_of w.versions here.version ≡ Off → is_superseded_in w.versions.slots w.versions.current here.version ≡ false
+pub goes-there : (w : Setup) (ms : List Marker) (fs : List PlacedFrame) (line : Line) (o : Option ℕ) → o ≡ next_in line → caller_line w.versions fs ≡ Some line
+    → marker_on (length fs - 1) ms ≡ None → IfSome o (λ next. GoesBack w ms fs next)
+goes-there w ms fs line None is stands unmarked = tt
+goes-there w ms fs line (Some next) is stands unmarked = record { caller = line; stands = stands; goes_on = sym is; unmarked = unmarked }
+
+-- and nothing is told of it
+pub returns-there : (w : Setup) (ms : List Marker) (here : Here) (fs : List PlacedFrame) (o : Option ℕ) → IfSome o (λ next. GoesBack w ms fs next)
+    → mark_of w.versions here.version ≡ Off → is_superseded_in w.versions.slots w.versions.current here.version ≡ false
     → IfSome o (λ next. ReturnsTo w ms here fs next)
-returns-there w ms here fs line None is stands unmarked off current = tt
-returns-there w ms here fs line (Some next) is stands unmarked off current =
-    record { caller = line; stands = stands; goes_on = sym is; unmarked = unmarked; off = off; current = current }
+returns-there w ms here fs None to off current = tt
+returns-there w ms here fs (Some next) to off current =
+    record { caller = to.caller; stands = to.stands; goes_on = to.goes_on; unmarked = to.unmarked; off = off; current = current }
 
 -- the caller's operands are within its limit with the value, where they are without
 fits-by : (v : Option Value) (fs : List PlacedFrame) → AreSound fs → can_give v fs ≡ true → fits_given v fs ≡ true
@@ -78,24 +87,44 @@ same-back v next [] fits = absurd (false≢true fits)
 same-back v next (f ∷ []) fits = absurd (false≢true fits)
 same-back v next (f ∷ g ∷ fs) fits = ap (λ o. record g { place = next; operands = o } ∷ fs) (same-result v g.operands)
 
-pub gives-passes : (w : Setup) (run : CanRun w) (ms : List Marker) (here : Here) (line : Line) (k : Option Kind) (old : Parts) (stands : here_of old.frames.frames ≡ Some here)
+-- ---- the step
+
+module _ (w : Setup) (run : CanRun w) (ms : List Marker) (here : Here) (line : Line) (k : Option Kind) (old : Parts) (stands : here_of old.frames.frames ≡ Some here)
     (found : line_at w.versions here.version here.place ≡ Some line) (ends : line.action ≡ action.Return k) (calm : IsCalm (length old.frames.frames) ms old)
-    (d : Option Datum) (next : ℕ) (v : Option Value) (b : Bool) (frames : FramesView) → AreSound old.frames.frames → ReturnsTo w ms here old.frames.frames next
-    → returns k (top_operands old.frames.frames) ≡ Returns d → v ≡ option_map as_value d → b ≡ can_give v old.frames.frames
-    → frames ≡ changed_if b (with_given v next) old.frames → Passes w ms old (steps_if b) (on_frames frames old)
-gives-passes w run ms here line k old stands found ends calm d next v true frames sound to result value can are =
-    let gives : GivesBack w ms here k old.frames.frames d next = record {
-      result = result;
-      caller = to.caller;
-      stands = to.stands;
-      goes_on = to.goes_on;
-      holds = ap (λ x. fits_given x old.frames.frames) (sym value) ∙ fits-by v old.frames.frames sound (sym can);
-      unmarked = to.unmarked;
-      off = to.off;
-      current = to.current;
-    } in
-    return-passes w run ms here line k old stands found ends calm d next gives frames
-    (ap (λ (f : FramesView). f.frames) are
-    ∙ (same-back v next old.frames.frames (fits-by v old.frames.frames sound (sym can)) ∙ ap (λ x. gone_back x next old.frames.frames) value))
-gives-passes w run ms here line k old stands found ends calm d next v false frames sound to result value can are =
-    subst (λ (f : FramesView). Passes w ms old 0 (on_frames f old)) (sym are) (passes_none w ms old calm)
+    (d : Option Datum) (next : ℕ) (v : Option Value) (frames : FramesView) (sound : AreSound old.frames.frames)
+    (current : is_superseded_in w.versions.slots w.versions.current here.version ≡ false)
+    (result : returns k (top_operands old.frames.frames) ≡ Returns d) (value : v ≡ option_map as_value d) where
+  gives : (to : GoesBack w ms old.frames.frames next) → true ≡ can_give v old.frames.frames → GivesBack w ms here k old.frames.frames d next
+  gives to can = record {
+    result = result;
+    caller = to.caller;
+    stands = to.stands;
+    goes_on = to.goes_on;
+    holds = ap (λ x. fits_given x old.frames.frames) (sym value) ∙ fits-by v old.frames.frames sound (sym can);
+    unmarked = to.unmarked;
+    current = current;
+  }
+
+  back-there : true ≡ can_give v old.frames.frames → frames ≡ with_given v next old.frames → frames.frames ≡ gone_back (option_map as_value d) next old.frames.frames
+  back-there can are =
+      ap (λ (f : FramesView). f.frames) are
+      ∙ (same-back v next old.frames.frames (fits-by v old.frames.frames sound (sym can)) ∙ ap (λ x. gone_back x next old.frames.frames) value)
+
+  pub gives-passes : (b : Bool) → ReturnsTo w ms here old.frames.frames next → b ≡ can_give v old.frames.frames → frames ≡ changed_if b (with_given v next) old.frames
+      → Passes w ms old (steps_if b) (on_frames frames old)
+  gives-passes true to can are =
+      return-passes w run ms here line k old stands found ends calm d next
+      (gives (record { caller = to.caller; stands = to.stands; goes_on = to.goes_on; unmarked = to.unmarked }) can) frames (back-there can are) to.off
+  gives-passes false to can are = subst (λ (f : FramesView). Passes w ms old 0 (on_frames f old)) (sym are) (passes_none w ms old calm)
+
+  -- of which its probe has told
+  pub gives-tries : (b : Bool) → GoesBack w ms old.frames.frames next → b ≡ can_give v old.frames.frames → frames ≡ changed_if b (with_given v next) old.frames
+      → TriesIf b w ms true old Nothing (on_frames frames old)
+  gives-tries true to can are =
+      let is = gives to can in
+      let there = back-there can are in
+      leaves-calmly w run ms old (on_frames frames old) (has-here here old.frames.frames stands) calm
+      (return-attempted w run ms here line k old stands found ends calm d next is frames there)
+      (fewer w run ms here line k old stands found ends calm d next is frames there)
+      (has-caller w run ms here line k old stands found ends calm d next is frames there)
+  gives-tries false to can are = ap (λ (f : FramesView). state_of ms (on_frames f old)) are

@@ -23,6 +23,7 @@ ghost use Rattle.jvm_steps.specs.Instructions.Passing.{changed_in, steps_if, wit
 ghost use Rattle.jvm_steps.specs.Machine.Ready.{CanRun, IsSoundIn};
 ghost use Rattle.jvm_steps.specs.Machine.Runs.{IsCalm};
 ghost use Rattle.jvm_steps.specs.Machine.States.{here_of};
+ghost use Rattle.jvm_steps.specs.Moves.Calmly.{GoesBack};
 ghost use Rattle.jvm_steps.specs.Codes.Versions.{current_of, line_at, mark_of};
 
 use crate::execute::going::{next_in, top_datum, value_of};
@@ -33,6 +34,8 @@ use crate::prepare::line::{Action, Line};
 use crate::prepare::originals::Originals;
 use crate::turns::parts::{Here, Parts, where_now};
 use crate::turns::turning::is_marked;
+use crate::unwind::catching::{catch_below, caught_below, thrown_object};
+use crate::unwind::handlers::class_of;
 use const_pool::Kind;
 use frame_stack::Frames;
 use heap_objects::{Datum, Value};
@@ -48,7 +51,7 @@ use std::alloc::Global;
 
 /// Whether a version has no probes.
 #[inline(always)]
-fn is_off(mark: Mark) -> bool
+pub fn is_off(mark: Mark) -> bool
     ensures { result ≡ true → mark ≡ Off }
 {
     match mark {
@@ -185,7 +188,7 @@ fn pass_access(
 // ---- a return
 
 /// The value that a datum is, if there is one.
-fn value_given(datum: Option<Datum>) -> Option<Value>
+pub fn value_given(datum: Option<Datum>) -> Option<Value>
     ensures { result ≡ option_map as_value datum }
 {
     match datum {
@@ -195,7 +198,7 @@ fn value_given(datum: Option<Datum>) -> Option<Value>
 }
 
 /// What a return gives back, where its operand is of the kind.
-fn result_of(frames: &Frames, kind: Option<Kind>) -> Option<Option<Datum>>
+pub fn result_of(frames: &Frames, kind: Option<Kind>) -> Option<Option<Datum>>
     ensures { IfSome result (λ d. returns kind (top_operands frames.now.frames) ≡ Returns d) }
 {
     let Some(kind) = kind else {
@@ -207,8 +210,28 @@ fn result_of(frames: &Frames, kind: Option<Kind>) -> Option<Option<Datum>>
     Some(Some(datum))
 }
 
-/// Where the caller of the current frame goes on. None where nothing does, where an initialization stands on it, or where the frame's
-/// version has probes, or is not its method's current one.
+/// Where the caller of the current frame goes on. None where nothing does, or where an initialization stands on it.
+pub fn goes_back(originals: &Originals, frames: &Frames, markers: &Stack<Marker>) -> Option<u16>
+    ensures { let w = originals.now.setup in
+        IfSome result (λ next. GoesBack w markers.now frames.now.frames next) }
+{
+    let depth = frames.depth();
+    if depth < 2 {
+        return None;
+    }
+    if marker_on(markers, depth - 1).is_some() {
+        return None;
+    }
+    let Some((version, place)) = frames.caller() else {
+        return None;
+    };
+    let Some(line) = originals.line(version, place) else {
+        return None;
+    };
+    next_in(line)
+}
+
+/// The same; None also where the frame's version has probes, or is not its method's current one.
 fn returns_to(
     originals: &Originals,
     frames: &Frames,
@@ -224,20 +247,7 @@ fn returns_to(
     if !originals.is_current(here.version) {
         return None;
     }
-    let depth = frames.depth();
-    if depth < 2 {
-        return None;
-    }
-    if marker_on(markers, depth - 1).is_some() {
-        return None;
-    }
-    let Some((version, place)) = frames.caller() else {
-        return None;
-    };
-    let Some(line) = originals.line(version, place) else {
-        return None;
-    };
-    next_in(line)
+    goes_back(originals, frames, markers)
 }
 
 /// A return.
@@ -266,11 +276,38 @@ fn pass_return(
     parts.frames.give_back(value_given(datum), next)
 }
 
+// ---- a throw
+
+/// An athrow that the caller of the current frame catches.
+fn pass_throw(
+    originals: &Originals,
+    parts: &mut Parts,
+    markers: &Stack<Marker>,
+    here: Here,
+    line: &Line,
+) -> bool
+    requires run { CanRun originals.now.setup }
+    requires calm { IsCalm (length parts.old.frames.frames) markers.now parts.old }
+    requires here { here_of parts.old.frames.frames ≡ Some here }
+    requires line { line_at originals.now.setup.versions here.version here.place ≡ Some line.now }
+    requires throws { line.now.action ≡ action.Athrow }
+    ensures { Passes originals.now.setup markers.now parts.old (steps_if result) parts.new }
+{
+    let Some(object) = thrown_object(originals, &parts.shared, &parts.frames) else {
+        return false;
+    };
+    let class = class_of(originals.program(), &parts.shared.heap, object) as usize;
+    let Some(target) = caught_below(originals, &parts.frames, markers, here, class) else {
+        return false;
+    };
+    catch_below(&mut parts.frames, object, target)
+}
+
 // ---- a step
 
 /// Whether what is known is of a method.
 #[inline(always)]
-fn is_method(known: &Known) -> bool
+pub fn is_method(known: &Known) -> bool
     ensures { result ≡ is_method known.now.found }
 {
     match known.found {
@@ -358,6 +395,7 @@ fn pass_line(
     match &line.action {
         Action::Named(naming) => pass_named(alloc, originals, parts, markers, here, line, naming),
         Action::Return(kind) => pass_return(originals, parts, markers, here, line, *kind),
+        Action::Athrow => pass_throw(originals, parts, markers, here, line),
         _ => false,
     }
 }

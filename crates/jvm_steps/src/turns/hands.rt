@@ -62,7 +62,7 @@ fn is_by_moves(due: Due) -> bool
 
 /// Where a step has stopped, so many changes behind its begin.
 #[inline(always)]
-fn gone_to(due: Due, passed: u64) -> Gone
+pub fn gone_to(due: Due, passed: u64) -> Gone
     ensures due { result.due ≡ due }
     ensures passed { result.hand.passed ≡ passed }
     ensures left { IsLeft result }

@@ -1,49 +1,35 @@
-use Rattle.std.proofs.Common.{refl, sym, ap, subst, ◌∙◌}
-use Rattle.jvm_machine.specs.Advances.{Advances}
+use Rattle.std.proofs.Common.{◌≡◌, false, sym, ap, subst, ◌∙◌}
+use Rattle.std.specs.Prelude.{IfNone, IfSome}
+use Rattle.jvm_machine.specs.Advances.{Stops}
+use Rattle.jvm_machine.specs.declared.advancing.Telling.TheVariants as telling
 use Rattle.jvm_machine.specs.Probes.{IfLeaves}
 use Rattle.jvm_machine.specs.Turns.{Turns}
-use Rattle.jvm_machine.specs.View.{View}
-use Rattle.jvm_machine.proofs.HeldVersions.{never-stale}
-use Rattle.jvm_machine.proofs.Shown.{over-ends}
+use Rattle.jvm_machine.specs.View.{IsGoingOn, View}
 use Rattle.jvm_machine.proofs.Turned.{rests-then, turned}
 use Rattle.jvm_machine.proofs.machine.Vm.step.Goals as goal
 
-pub returns-then-is_over : goal.returns-then-is_over
-returns-then-is_over c =
-    let whole = sym (ap (λ (v : View). v.broken) c.self.view_is) ∙ c.if-self.false in
-    record {
-      turns = over-ends c.args.self.now whole (sym (c.is_over.ensures whole) ∙ c.if-is_over.true);
-      held = never-stale c.self.invariant c.self.view_is;
-    }
-
-pub advance-requires-clause-going : goal.advance-requires-clause-going
-advance-requires-clause-going c = sym (c.if-is_over.ensures (sym (ap (λ (v : View). v.broken) c.self.view_is) ∙ c.if-self.false))
+pub turn-requires-clause-whole : goal.turn-requires-clause-whole
+turn-requires-clause-whole c = subst (λ o. IfSome o (λ due. c.advance_calmly.new.self.broken ≡ false)) c.in-Some.is c.advance_calmly.ensures.after
 
 pub turn-requires-clause-rests : goal.turn-requires-clause-rests
 turn-requires-clause-rests c =
-    rests-then c.args.self.now c.advance.new.self c.in-Ok-Due.due (subst (λ t. Advances c.args.self.now t c.advance.new.self) c.in-Ok-Due.field-0-is c.in-Ok-Due.ensures.ok)
+    rests-then c.args.self.now c.advance_calmly.new.self c.in-Some.due
+    (subst (λ o. IfSome o (λ due. Stops c.args.self.now due c.advance_calmly.new.self)) c.in-Some.is c.advance_calmly.ensures.stops)
 
-pub returns-in-Ok-Due : goal.returns-in-Ok-Due
-returns-in-Ok-Due c =
-    let whole = sym (ap (λ (v : View). v.broken) c.self.view_is) ∙ c.if-self.false in
-    record {
-      turns = subst (λ t. Turns c.args.self.now t c.advance.new.self) (sym c.turn.ensures)
-          (turned c.args.self.now c.advance.new.self c.in-Ok-Due.due whole (sym (c.if-is_over.ensures whole))
-          (subst (λ t. Advances c.args.self.now t c.advance.new.self) c.in-Ok-Due.field-0-is c.in-Ok-Due.ensures.ok)
-          (subst (λ t. IfLeaves t c.advance.new.self) c.in-Ok-Due.field-0-is c.in-Ok-Due.ensures.leaves));
-      held = c.in-Ok-Due.ensures.held;
-    }
+pub returns-in-Some-clause-turns : goal.returns-in-Some-clause-turns
+returns-in-Some-clause-turns c =
+    subst (λ t. Turns c.args.self.now t c.advance_calmly.new.self) (sym c.turn.ensures)
+    (turned c.args.self.now c.advance_calmly.new.self c.in-Some.due
+    (subst (λ o. IfSome o (λ due. c.args.self.now.broken ≡ false)) c.in-Some.is c.advance_calmly.ensures.whole)
+    (subst (λ o. IfSome o (λ due. IsGoingOn c.args.self.now)) c.in-Some.is c.advance_calmly.ensures.going)
+    (subst (λ o. IfSome o (λ due. Stops c.args.self.now due c.advance_calmly.new.self)) c.in-Some.is c.advance_calmly.ensures.stops)
+    (subst (λ o. IfSome o (λ due. IfLeaves (telling.Due due) c.advance_calmly.new.self)) c.in-Some.is c.advance_calmly.ensures.leaves))
 
-pub returns-in-Err : goal.returns-in-Err
-returns-in-Err c =
-    let whole = sym (ap (λ (v : View). v.broken) c.self.view_is) ∙ c.if-self.false in
-    record {
-      turns = record { whole = whole; went_on = sym (c.if-is_over.ensures whole); stepped = c.in-Err.ensures.err };
-      held = c.in-Err.ensures.held;
-    }
+pub returns-in-None-clause-turns : goal.returns-in-None-clause-turns
+returns-in-None-clause-turns c =
+    subst (λ v. Turns v c.step_fully.result c.step_fully.new.self)
+    (subst (λ o. IfNone o (c.advance_calmly.new.self ≡ c.args.self.now)) c.in-None.is c.advance_calmly.ensures.none)
+    c.step_fully.ensures.turns
 
-pub returns-then-self : goal.returns-then-self
-returns-then-self c = record {
-  turns = record { broken = ap (λ (v : View). v.broken) (sym c.self.view_is) ∙ c.if-self.true; same = refl };
-  held = never-stale c.self.invariant c.self.view_is;
-}
+pub step_fully-requires : goal.step_fully-requires
+step_fully-requires c = ?

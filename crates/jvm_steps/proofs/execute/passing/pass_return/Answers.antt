@@ -18,8 +18,8 @@ pub returns : goal.returns
 returns c =
     let w = c.args.originals.now.setup in
     let p = c.args.parts.now in
+    let to = subst (λ o. IfSome o (λ next. ReturnsTo w c.args.markers.now c.args.here p.frames.frames next)) c.in-Some.is c.returns_to.ensures in
     gives-passes w c.requires.run c.args.markers.now c.args.here c.args.line.now c.args.kind p c.requires.here c.requires.line c.requires.ends c.requires.calm
-    c.in-Some-result_of.datum c.in-Some.next c.value_given.result c.give_back.result c.give_back.new.self c.recall.ensures
-    (subst (λ o. IfSome o (λ next. ReturnsTo w c.args.markers.now c.args.here p.frames.frames next)) c.in-Some.is c.returns_to.ensures)
+    c.in-Some-result_of.datum c.in-Some.next c.value_given.result c.give_back.new.self c.recall.ensures to.current
     (subst (λ o. IfSome o (λ d. gives c.args.kind (top_operands p.frames.frames) ≡ Returns d)) c.in-Some-result_of.is c.result_of.ensures)
-    c.value_given.ensures c.give_back.ensures.answer c.give_back.ensures.frames
+    c.value_given.ensures c.give_back.result to c.give_back.ensures.answer c.give_back.ensures.frames

@@ -1,17 +1,8 @@
-use Rattle.std.proofs.Common.{◌-◌, sym, ap, ◌∙◌}
-use Rattle.std.specs.Option.{option_copied}
-use Rattle.jvm_steps.specs.Machine.Markers.{marker_on}
-use Rattle.jvm_steps.proofs.Marked.Beneath.{not-some}
-use Rattle.jvm_steps.proofs.Silent.ReturnLemmas.{caller-there, returns-there}
+use Rattle.std.proofs.Common.{sym, ◌∙◌}
+use Rattle.jvm_steps.proofs.Silent.ReturnLemmas.{returns-there}
 use Rattle.jvm_steps.proofs.execute.passing.returns_to.Goals as goal
 
 pub returns : goal.returns
 returns c =
-    let w = c.args.originals.now.setup in
-    let ms = c.args.markers.now in
-    let fs = c.args.frames.now.frames in
-    returns-there w ms c.args.here fs c.in-Some-line.line.now c.next_in.result c.next_in.ensures
-    (caller-there w.versions fs c.in-Some.version c.in-Some.place c.in-Some-line.line.now (sym c.caller.ensures ∙ c.in-Some.is)
-    (sym c.line.ensures.line ∙ ap option_copied c.in-Some-line.is))
-    (ap (λ n. marker_on (n - 1) ms) (sym c.depth-depth.ensures) ∙ (sym c.marker_on.ensures ∙ not-some c.marker_on.result (sym c.is_some.ensures ∙ c.if-is_some.false)))
+    returns-there c.args.originals.now.setup c.args.markers.now c.args.here c.args.frames.now.frames c.goes_back.result c.goes_back.ensures
     (sym c.mark.ensures ∙ c.is_off.ensures c.if-not-is_off.false) (c.is_current.ensures c.if-not-is_current.false)
