@@ -20,4 +20,4 @@ pub mod Entries
 pub mod LineFamilies
 pub mod Actions
 pub mod Dimensions
-mod CellLemmas
+pub mod CellLemmas

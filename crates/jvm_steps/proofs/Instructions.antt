@@ -12,4 +12,4 @@ pub mod NamedAttempts
 pub mod ElementLemmas
 pub mod QuickElements
 pub mod ElementActs
-mod ElementSteps
+pub mod ElementSteps

@@ -1,8 +1,8 @@
 pub mod MovesLoad
-mod BuiltInLoads
+pub mod BuiltInLoads
 pub mod ActsLoad
 pub mod Starts
 pub mod Above
-mod LoadedApart
-mod StartLoads
-mod StartSound
+pub mod LoadedApart
+pub mod StartLoads
+pub mod StartSound

@@ -2,10 +2,11 @@ pub mod MovesOn
 pub mod StandingSteps
 pub mod LineSteps
 pub mod Sounded
-mod TurnsCarried
-mod OneMove
-mod Followed
-mod TriedSteps
-mod PausesSound
-mod HandLaws
-mod CalmSteps
+pub mod TurnsCarried
+pub mod OneMove
+pub mod Followed
+pub mod TriedSteps
+pub mod PausesSound
+pub mod HandLaws
+pub mod CalmSteps
+pub mod CalmHands

@@ -1,7 +1,7 @@
 pub mod Leading
-mod QuietLines
-mod PlainSteps
-mod PassedLines
+pub mod QuietLines
+pub mod PlainSteps
+pub mod PassedLines
 pub mod SilentSteps
 pub mod PassingSteps
 pub mod PassingCalls
