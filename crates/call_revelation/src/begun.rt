@@ -291,39 +291,16 @@ fn add_begun_at(
             alloc, linker, numbers, lineage, class, member, found,
         ),
         Naming::Invokestatic(method) => {
-            add_static_on(
-                alloc,
-                linker,
-                numbers,
-                lineage,
-                class,
-                method.member(),
-                found,
-            )
+            let member = method.member();
+            add_static_on(alloc, linker, numbers, lineage, class, member, found)
         }
         Naming::Invokevirtual(method) => {
-            add_begun_on(
-                alloc,
-                linker,
-                numbers,
-                lineage,
-                false,
-                class,
-                method.member(),
-                found,
-            )
+            let member = method.member();
+            add_begun_on(alloc, linker, numbers, lineage, false, class, member, found)
         }
         Naming::Invokeinterface(method) => {
-            add_begun_on(
-                alloc,
-                linker,
-                numbers,
-                lineage,
-                true,
-                class,
-                method.member(),
-                found,
-            )
+            let member = method.member();
+            add_begun_on(alloc, linker, numbers, lineage, true, class, member, found)
         }
         _ => Ok(()),
     }

@@ -12,7 +12,7 @@ pub mod RewrittenLines
 pub mod OriginalTexts
 pub mod ImageVersions
 pub mod ClassVersionLaws
-mod WorkedVersions
+pub mod WorkedVersions
 pub mod Assembled
 pub mod MethodImages
 pub mod Positions

@@ -6,4 +6,6 @@ pub mod SilentSteps
 pub mod PassingSteps
 pub mod PassingCalls
 pub mod PassingReturns
+pub mod PassingThrows
+pub mod CatchLemmas
 pub mod ReturnLemmas

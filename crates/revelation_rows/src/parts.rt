@@ -1,6 +1,7 @@
 //! The files of the rows, and why a row is not played.
 
 ghost use Rattle.std.specs.Prelude.{◌≡◌};
+ghost use Rattle.revelation_rows.specs.Lines.{is_row as row_line};
 
 use jf_bytes::{FetchError, Files, NoMemory};
 use std::alloc::{AllocError, AllocFailed, Global};
@@ -101,6 +102,11 @@ pub fn read_files<F: Files>(
 }
 
 /// Whether a line is a row, and neither empty nor a remark.
-pub fn is_row(line: &str) -> bool {
-    !line.is_empty() && !line.starts_with('#')
+pub fn is_row(line: &str) -> bool
+    ensures { result ≡ row_line line.now }
+{
+    match line.as_bytes().first() {
+        None => false,
+        Some(byte) => *byte != b'#',
+    }
 }

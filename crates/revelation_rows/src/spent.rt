@@ -1,5 +1,7 @@
 //! What a row takes of the processor.
 
+ghost use Rattle.std.specs.Prelude.{◌≡◌, ◌+◌, ◌-◌, ◌^◌, min};
+
 use std::fmt;
 use std::time::CpuClock;
 
@@ -22,7 +24,11 @@ impl fmt::Display for Spent {
 
 impl Spent {
     /// So much more was taken.
-    pub fn add(&mut self, linker: u64, revelation: u64) {
+    pub fn add(&mut self, linker: u64, revelation: u64)
+        ensures linker { self.new.linker ≡ min (self.old.linker + linker) (2 ^ 64 - 1) }
+        ensures revelation { let sum = self.old.revelation + revelation in
+            self.new.revelation ≡ min sum (2 ^ 64 - 1) }
+    {
         self.linker = self.linker.saturating_add(linker);
         self.revelation = self.revelation.saturating_add(revelation);
     }

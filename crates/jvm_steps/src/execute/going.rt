@@ -1,6 +1,7 @@
 //! How the current frame goes on by a line (JVM Specification 6.5).
 
 ghost use Rattle.std.specs.Prelude.{◌≡◌, slice_get};
+ghost use Rattle.const_pool.specs.declared.descriptor.Kind.TheVariants.{Int, Ref};
 ghost use Rattle.frame_stack.specs.FrameLists.{top_operands};
 ghost use Rattle.jvm_basic.specs.Outcomes.{GoesOn, effect_of, after};
 ghost use Rattle.jvm_model.specs.Basis.Values.{as_value, datum_of};
@@ -82,12 +83,46 @@ pub fn datum_of(kind: Kind, value: Value) -> Option<Datum>
     }
 }
 
-/// The topmost operand, where it is of this kind.
-pub fn top_datum(frames: &Frames, kind: Kind) -> Option<Datum>
+/// The topmost operand, where it is an int.
+#[inline(always)]
+fn top_int(frames: &Frames) -> Option<Datum>
+    ensures { result ≡ top_datum Int (top_operands frames.now.frames) }
+{
+    match frames.int() {
+        Some(n) => Some(Datum::Int(n)),
+        None => None,
+    }
+}
+
+/// The topmost operand, where it is a reference.
+#[inline(always)]
+fn top_reference(frames: &Frames) -> Option<Datum>
+    ensures { result ≡ top_datum Ref (top_operands frames.now.frames) }
+{
+    match frames.reference() {
+        Some(r) => Some(Datum::Ref(r)),
+        None => None,
+    }
+}
+
+/// The topmost operand, where it is of this kind, which need not be that of an operand.
+fn top_of(frames: &Frames, kind: Kind) -> Option<Datum>
     ensures { result ≡ top_datum kind (top_operands frames.now.frames) }
 {
     let value = frames.peek(0)?;
     datum_of(kind, value)
+}
+
+/// The topmost operand, where it is of this kind. An int or a reference is read where it stands.
+#[inline(always)]
+pub fn top_datum(frames: &Frames, kind: Kind) -> Option<Datum>
+    ensures { result ≡ top_datum kind (top_operands frames.now.frames) }
+{
+    match kind {
+        Kind::Int => top_int(frames),
+        Kind::Ref => top_reference(frames),
+        _ => top_of(frames, kind),
+    }
 }
 
 /// A caller goes on with its callee's result on top, where there is one.

@@ -34,6 +34,8 @@ use crate::prepare::line::{Action, Line};
 use crate::prepare::originals::Originals;
 use crate::turns::parts::{Here, Parts, where_now};
 use crate::turns::turning::is_marked;
+use crate::unwind::catching::{catch_below, caught_below, thrown_object};
+use crate::unwind::handlers::class_of;
 use const_pool::Kind;
 use frame_stack::Frames;
 use heap_objects::{Datum, Value};
@@ -49,7 +51,7 @@ use std::alloc::Global;
 
 /// Whether a version has no probes.
 #[inline(always)]
-fn is_off(mark: Mark) -> bool
+pub fn is_off(mark: Mark) -> bool
     ensures { result ≡ true → mark ≡ Off }
 {
     match mark {
@@ -274,6 +276,33 @@ fn pass_return(
     parts.frames.give_back(value_given(datum), next)
 }
 
+// ---- a throw
+
+/// An athrow that the caller of the current frame catches.
+fn pass_throw(
+    originals: &Originals,
+    parts: &mut Parts,
+    markers: &Stack<Marker>,
+    here: Here,
+    line: &Line,
+) -> bool
+    requires run { CanRun originals.now.setup }
+    requires calm { IsCalm (length parts.old.frames.frames) markers.now parts.old }
+    requires here { here_of parts.old.frames.frames ≡ Some here }
+    requires line { line_at originals.now.setup.versions here.version here.place ≡ Some line.now }
+    requires throws { line.now.action ≡ action.Athrow }
+    ensures { Passes originals.now.setup markers.now parts.old (steps_if result) parts.new }
+{
+    let Some(object) = thrown_object(originals, &parts.shared, &parts.frames) else {
+        return false;
+    };
+    let class = class_of(originals.program(), &parts.shared.heap, object) as usize;
+    let Some(target) = caught_below(originals, &parts.frames, markers, here, class) else {
+        return false;
+    };
+    catch_below(&mut parts.frames, object, target)
+}
+
 // ---- a step
 
 /// Whether what is known is of a method.
@@ -366,6 +395,7 @@ fn pass_line(
     match &line.action {
         Action::Named(naming) => pass_named(alloc, originals, parts, markers, here, line, naming),
         Action::Return(kind) => pass_return(originals, parts, markers, here, line, *kind),
+        Action::Athrow => pass_throw(originals, parts, markers, here, line),
         _ => false,
     }
 }

@@ -40,7 +40,7 @@ fn empty(frames: &mut Frames)
 
 /// Puts an object in the place of the operands. False, with nothing changed, where they have no room
 /// for it.
-fn put_alone(frames: &mut Frames, object: u32) -> bool
+pub fn put_alone(frames: &mut Frames, object: u32) -> bool
     ensures answer { result ≡ fits_alone frames.old.frames }
     ensures frames { frames.new.frames ≡ with_alone object frames.old.frames }
 {

@@ -23,3 +23,9 @@ returns-in_default-line c = passes_none c.args.originals.now.setup c.args.marker
 
 pub returns-in_default-action : goal.returns-in_default-action
 returns-in_default-action c = passes_none c.args.originals.now.setup c.args.markers.now c.args.parts.now c.requires.calm
+
+pub pass_throw-requires-clause-here : goal.pass_throw-requires-clause-here
+pass_throw-requires-clause-here c = sym c.where_now.ensures ∙ c.in-Some.is
+
+pub pass_throw-requires-clause-line : goal.pass_throw-requires-clause-line
+pass_throw-requires-clause-line c = sym c.line.ensures.line ∙ ap option_copied c.in-Some-line.is
