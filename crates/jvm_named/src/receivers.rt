@@ -66,7 +66,6 @@ fn are_of_kinds(params: &[Kind], frames: &Frames) -> bool
 }
 
 /// How many arguments a method takes, where they are there and of their kinds.
-#[inline(always)]
 fn count_without_receiver(params: &[Kind], frames: &Frames) -> Option<u16>
     requires { length params.now < 2 ^ 16 }
     ensures data { let o = top_operands frames.now.frames in
