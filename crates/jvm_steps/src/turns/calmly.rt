@@ -1,9 +1,10 @@
 //! A step in hand goes on to what is told next of it, where the run is calm: by a call into a version with probes, or a return from one,
 //! of what is known.
 
-ghost use Rattle.std.specs.Prelude.{ℕ, List, ◌≡◌, ◌||◌, true, false, length, not, IfNone, IfSome, Some};
+ghost use Rattle.std.specs.Prelude.{ℕ, Bool, List, ◌≡◌, ◌||◌, true, false, length, not, IfNone, IfSome, Some};
 ghost use Rattle.jvm_model.specs.Basis.Data.{Turn};
 ghost use Rattle.jvm_model.specs.Rewriting.Images.{is_off};
+ghost use Rattle.jvm_model.specs.Running.Run.{starts_with};
 ghost use Rattle.jvm_model.specs.Turns.Told.{Held};
 ghost use Rattle.jvm_model.specs.declared.due.Due.TheVariants as due;
 ghost use Rattle.jvm_named.specs.Known.{IsKnown};
@@ -271,6 +272,10 @@ pub fn go_calmly(
         → HasGoneOn w homes turn hand live gone (state_of markers.now parts.new)) }
     ensures sound { let w = originals.now.setup in let s = state_of markers.now parts.old in
         IfSome result (λ gone. IsSoundIn w s → IsSoundIn w (state_of markers.now parts.new)) }
+    // The moves of the start leave a sound state too.
+    ensures starts { let w = originals.now.setup in IfSome result (λ gone. hand.moves ≡ true
+        → hand.told ≡ false → state_of markers.now parts.old ≡ starts_with w.world
+        → IsSoundIn w (state_of markers.now parts.new)) }
     ensures none { IfNone result (state_of markers.now parts.new
         ≡ state_of markers.now parts.old) }
 {
