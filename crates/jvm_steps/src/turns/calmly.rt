@@ -91,13 +91,10 @@ fn invoke_known(
     let _next = line.next;
     let _place = here.place;
     let linker = originals.linker();
-    let numbers = originals.numbers();
     let selections = originals.selections();
     let shared = &parts.shared;
     let frames = &parts.frames;
-    let Some(invoked) = known_call(
-        alloc, linker, numbers, selections, shared, frames, naming, known,
-    ) else {
+    let Some(invoked) = known_call(linker, selections, shared, frames, naming, known) else {
         return false;
     };
     match invoked {
