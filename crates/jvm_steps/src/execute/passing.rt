@@ -208,6 +208,7 @@ pub fn result_of(frames: &Frames, kind: Option<Kind>) -> Option<Option<Datum>>
 }
 
 /// Where the caller of the current frame goes on. None where nothing does, or where an initialization stands on it.
+#[inline(always)]
 pub fn goes_back(originals: &Originals, frames: &Frames, markers: &Stack<Marker>) -> Option<u16>
     ensures { let w = originals.now.setup in
         IfSome result (λ next. GoesBack w markers.now frames.now.frames next) }

@@ -42,6 +42,7 @@ use std::alloc::Global;
 // ---- a call
 
 /// A method begins on the current frame, in a version with probes. False, with nothing of the frames changed, where it can't.
+#[inline(always)]
 fn begin_marked(originals: &Originals, parts: &mut Parts, call: Call) -> bool
     ensures few { result ≡ true → may_begin parts.old.frames.frames ≡ true }
     ensures fits { result ≡ true
@@ -66,6 +67,7 @@ fn begin_marked(originals: &Originals, parts: &mut Parts, call: Call) -> bool
 
 /// An invocation, by what its names came to, of a method that begins in a version with probes. False, with nothing of the run changed,
 /// where it is another one.
+#[inline(always)]
 fn invoke_known(
     alloc: Global,
     originals: &Originals,
@@ -104,6 +106,7 @@ fn invoke_known(
 }
 
 /// The same, where its names came to a method.
+#[inline(always)]
 fn invoke(
     alloc: Global,
     originals: &Originals,
@@ -136,6 +139,7 @@ fn invoke(
 
 /// A return of which its probe has told, from a version that is its method's current one. False, with nothing changed, where the caller
 /// can't go on.
+#[inline(always)]
 fn leave(
     originals: &Originals,
     parts: &mut Parts,
