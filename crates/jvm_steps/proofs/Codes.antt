@@ -20,4 +20,5 @@ pub mod Entries
 pub mod LineFamilies
 pub mod Actions
 pub mod Dimensions
+pub mod Made
 pub mod CellLemmas

@@ -7,6 +7,7 @@ pub mod LaidMethods
 pub mod Linked
 pub mod Prepared
 pub mod Entries
+pub mod Making
 pub mod ClassVersions
 pub mod Cells
 pub mod Kept

@@ -9,6 +9,7 @@ pub mod lookup;
 pub mod members;
 pub mod naming;
 pub mod originals;
+pub mod passage;
 pub mod preparing;
 pub mod resolving;
 pub mod rewritten;

@@ -1,10 +1,10 @@
 //! The table of versions.
 
-ghost use Rattle.std.specs.Prelude.{◌≡◌, ◌<◌, ◌+◌, ◌-◌, ◌≤◌, ◌++◌, ℕ, None, length, slice_set, if◌then◌else◌, ◌==◌, ◌&&◌, filter, not, vec_capacity, vec_len, OnOk, option_copied};
+ghost use Rattle.std.specs.Prelude.{◌≡◌, ◌<◌, ◌+◌, ◌-◌, ◌≤◌, ◌++◌, ℕ, None, Some, is_some, length, true, slice_set, if◌then◌else◌, ◌==◌, ◌&&◌, filter, not, vec_capacity, vec_len, OnOk, option_copied};
 ghost use Rattle.std.specs.List.{list_all};
 ghost use Rattle.frame_stack.specs.FrameLists.{pins_of};
 ghost use Rattle.slab.specs.Slab.{slab_len};
-ghost use Rattle.method_versions.specs.Tables.{IsFirst, current_of, held_at, held_in, held_for};
+ghost use Rattle.method_versions.specs.Tables.{IsFirst, current_of, held_at, held_in, held_for, method_in};
 ghost use Rattle.method_versions.specs.Tables.{held_but, held_with};
 
 use frame_stack::Frames;
@@ -118,6 +118,27 @@ fn drop_at<T: Drop>(first: &mut Vec<Option<Held<T>>>, later: &mut Slab<Held<T>>,
     }
 }
 
+/// Puts a version in the place of the one with this number.
+fn put_at<T: Drop>(
+    first: &mut Vec<Option<Held<T>>>,
+    later: &mut Slab<Held<T>>,
+    number: usize,
+    version: Held<T>,
+)
+    requires { is_some (held_in (first.old.items ++ later.old.slots) number) ≡ true }
+    ensures held { (other : ℕ) → held_in (first.new.items ++ later.new.slots) other
+        ≡ (if other == number then Some version
+        else held_in (first.old.items ++ later.old.slots) other) }
+    ensures first { length first.new.items ≡ length first.old.items }
+    ensures later { length later.new.slots ≡ length later.old.slots }
+{
+    if number < first.len() {
+        first[number] = Some(version);
+    } else if let Some(held) = later.get_mut(number - first.len()) {
+        *held = version;
+    }
+}
+
 /// Drops the version with a number, where there is one and no frame runs it.
 fn drop_free<T: Drop>(
     first: &mut Vec<Option<Held<T>>>,
@@ -198,6 +219,17 @@ impl<T: Drop> Versions<T> {
             self.superseded.push_reserved(former);
         }
         number
+    }
+
+    /// Puts another version of the same method in the place of the one with this number.
+    pub fn replace(&mut self, number: usize, version: Held<T>)
+        requires { method_in self.old.slots number ≡ Some version.method }
+        ensures held { (other : ℕ) → held_at self.new other
+            ≡ (if other == number then Some version else held_at self.old other) }
+        ensures current { self.new.current ≡ self.old.current }
+        ensures count { length self.new.slots ≡ length self.old.slots }
+    {
+        put_at(&mut self.first, &mut self.later, number, version);
     }
 
     /// Drops each superseded version that no frame runs. It is a call of its own, so that a step stays small.

@@ -22,6 +22,7 @@ use Rattle.jvm_steps.specs.Machine.Ready.{IsOwnLine}
 use Rattle.jvm_steps.specs.Machine.Standing.{AreMethodImages, IsMethodImage, IsOfProgram, places_of}
 use Rattle.jvm_steps.specs.Codes.Versions.{HasOwnLines, IsPrepared, line_in}
 use Rattle.jvm_steps.proofs.Codes.Dimensions.{Fits}
+use Rattle.jvm_steps.proofs.Codes.Made.{original-has-lines}
 use Rattle.jvm_steps.proofs.Codes.MethodImages.{code-is, method-image}
 use Rattle.jvm_steps.proofs.Codes.OriginalTexts.{is-original, own}
 use Rattle.jvm_steps.proofs.Codes.OriginalVersions.{original-lines, original-own}
@@ -190,5 +191,29 @@ versions-below p class image homes = by (class_at p class) where
       (from (at + 1) rest)
 
   by : (o : Option ClassFile) → AllByRecursion Below (option_map_or (λ (c : ClassFile). versions_from p class image homes 0 c.methods) o [])
+  by None = tt
+  by (Some c) = from 0 c.methods
+
+-- none is still without its lines
+have-by : (p : Program) (k : ℕ) (image : ClassFile) (old : CodeAttribute) (homes : Option Homes) (new : Option CodeAttribute) → (version_by p k image old homes new).prepared.has_lines ≡ true
+have-by p k image old (Some homes) (Some new) = refl
+have-by p k image old (Some homes) None = original-has-lines p k
+have-by p k image old None new = original-has-lines p k
+
+pub versions-have : (p : Program) (class : ℕ) (image : ClassFile) (homes : List (Option Homes)) → AllByRecursion (λ (x : Version). x.prepared.has_lines ≡ true) (class_versions p class image homes)
+versions-have p class image homes = by (class_at p class) where
+  Has : Version → Type 0
+  Has x = x.prepared.has_lines ≡ true
+
+  from : (at : ℕ) (ms : List Member) → AllByRecursion Has (versions_from p class image homes at ms)
+  from at [] = tt
+  from at (m ∷ rest) =
+      all-alone Has (member_version p class image homes at m) (versions_from p class image homes (at + 1) rest)
+      (if-coded Has (λ old. option_map (class_version p image homes at old) (number_of_method p class at)) (code_of m)
+      (λ old coded. if-numbered Has (class_version p image homes at old) (number_of_method p class at)
+      (λ k numbered. have-by p k image old (homes_at homes at) (method_code image at))))
+      (from (at + 1) rest)
+
+  by : (o : Option ClassFile) → AllByRecursion Has (option_map_or (λ (c : ClassFile). versions_from p class image homes 0 c.methods) o [])
   by None = tt
   by (Some c) = from 0 c.methods

@@ -1,5 +1,5 @@
 -- What is kept of one method of a program.
-use Rattle.std.specs.Prelude.{ℕ, List, [], length, map, slice_get, Option, Some, None, ◌==◌, if◌then◌else◌}
+use Rattle.std.specs.Prelude.{ℕ, List, [], length, map, slice_get, Option, Some, None, true, ◌==◌, if◌then◌else◌}
 use Rattle.std.specs.List.{range_with_len}
 use Rattle.std.specs.Option.{option_and_then, option_map, option_map_or}
 use Rattle.const_pool.specs.declared.class.ClassFile.{ClassFile}
@@ -60,6 +60,7 @@ abbrev pub version_entry : ℕ → ClassFile → Member → Version
 version_entry k c m = record {
   method = k;
   prepared = record {
+    has_lines = true;
     mark = Off;
     first = 0;
     lines = option_map_or (λ code. lines_of c code.code) (code_of m) [];
@@ -68,7 +69,7 @@ version_entry k c m = record {
 }
 
 abbrev pub no_version : ℕ → Version
-no_version k = record { method = k; prepared = record { mark = Off; first = 0; lines = []; handlers = [] } }
+no_version k = record { method = k; prepared = record { has_lines = true; mark = Off; first = 0; lines = []; handlers = [] } }
 
 abbrev pub version_in : ℕ → MethodPlace → ClassFile → Version
 version_in k place c = option_map_or (version_entry k c) (slice_get c.methods place.position) (no_version k)

@@ -10,6 +10,7 @@ use Rattle.jvm_steps.specs.declared.prepare.originals.Method.{Method}
 use Rattle.jvm_steps.specs.declared.prepare.originals.Exceptions.{Exceptions}
 use Rattle.jvm_steps.specs.Codes.Cells.{Rows, cell_at}
 use Rattle.jvm_steps.specs.Codes.Lines.{IfNamed}
+use Rattle.jvm_steps.specs.Codes.Making.{AreBare, with_lines}
 use Rattle.jvm_steps.specs.Codes.Prepared.{IsPrepared}
 use Rattle.jvm_steps.specs.Codes.Tables.{Versions}
 use Rattle.jvm_steps.specs.Codes.Versions.{line_at}
@@ -23,6 +24,7 @@ pub record IsLater (l new : LinkerView) : Type 0 where
   pub keeps : (n : Naming) (k : Known) → IsKnown l n k → IsKnown new n k
 
 pub record IsKept (l : LinkerView) (methods : List Method) (versions : Versions) (rows : Rows) (selections : Slots) (exceptions : Exceptions) (numbers : List Row) : Type 0 where
-  pub prepared : IsPrepared l.program methods versions exceptions numbers
-  pub known : AreKnown l versions rows
+  pub prepared : IsPrepared l.program methods (with_lines l.program versions) exceptions numbers
+  pub known : AreKnown l (with_lines l.program versions) rows
   pub selected : AreSelections l.program selections
+  pub bare : AreBare l.program versions

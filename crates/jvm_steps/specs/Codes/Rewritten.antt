@@ -1,5 +1,5 @@
 -- The version that rewritten code is: at the home of each offset the line that goes with it, behind the leave probe if one stands there.
-use Rattle.std.specs.Prelude.{ℕ, ◌-◌, nat_lt, List, length, map, take, Option, None, if◌then◌else◌}
+use Rattle.std.specs.Prelude.{ℕ, ◌-◌, nat_lt, List, length, map, take, Option, None, true, if◌then◌else◌}
 use Rattle.std.specs.List.{range_with_len}
 use Rattle.std.specs.Option.{option_and_then, option_map, option_map_or}
 use Rattle.const_pool.specs.declared.class.ClassFile.{ClassFile}
@@ -62,6 +62,7 @@ abbrev pub rewritten_version : ℕ → ClassFile → CodeAttribute → Homes →
 rewritten_version method image code homes len = record {
   method = method;
   prepared = record {
+    has_lines = true;
     mark = entry_mark image code.code;
     first = home_of homes 0;
     lines = homed_lines image code.code homes len;

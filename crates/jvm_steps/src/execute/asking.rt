@@ -65,7 +65,7 @@ fn refuse(
             Ok(None)
         }
         Refusal::Breaks => {
-            break_at(originals, parts, here);
+            break_at(alloc, originals, parts, here)?;
             Ok(None)
         }
     }
@@ -86,11 +86,11 @@ pub fn conclude(
     match asked {
         Asked::Next => Ok(None),
         Asked::TooDeep => {
-            break_at(originals, parts, here);
+            break_at(alloc, originals, parts, here)?;
             Ok(None)
         }
         Asked::Invokes(callee, args) => {
-            call(originals, parts, here, callee, args)?;
+            call(alloc, originals, parts, here, callee, args)?;
             Ok(None)
         }
         Asked::Refused(refusal) => refuse(alloc, originals, parts, here, refusal),

@@ -9,7 +9,7 @@ ghost use Rattle.jvm_named.specs.Objects.{AreLoaded};
 ghost use Rattle.jvm_steps.specs.Instructions.Acts.{IsTop, Becomes, ended};
 ghost use Rattle.jvm_steps.specs.Instructions.Acts.{acts, acts_alone, attempts_on};
 ghost use Rattle.jvm_steps.specs.Instructions.Acts.{BecomesBeneath, awaited_in, is_named, named_in};
-ghost use Rattle.jvm_steps.specs.Codes.Linked.{linker_in};
+ghost use Rattle.jvm_steps.specs.Codes.Linked.{IsReady, linker_in};
 ghost use Rattle.jvm_steps.specs.Machine.Ready.{CanRun, IsSoundIn};
 ghost use Rattle.jvm_steps.specs.Machine.Markers.{marker_on, state_of};
 ghost use Rattle.jvm_steps.specs.Machine.States.{here_of};
@@ -87,10 +87,7 @@ fn act(
 {
     match &line.action {
         Action::Local => act_alone(originals, parts, method, line),
-        Action::Return(kind) => {
-            return_by(originals, parts, method, line, *kind);
-            Ok(())
-        }
+        Action::Return(kind) => return_by(alloc, originals, parts, method, line, *kind),
         // Does not come here.
         Action::Named(_) => break_here(parts, method, line.instr.at),
         Action::Athrow => throw_object(originals, parts, method, line),
@@ -167,6 +164,7 @@ fn attempt_line(
     markers: &Stack<Marker>,
     here: Here,
 ) -> Result<(), NoMemory>
+    requires ready { IsReady originals.now here.version }
     requires here { here_of parts.old.frames.frames ≡ Some here }
     requires alone { named_in (line_at originals.now.setup.versions here.version here.place)
         ≡ false }
@@ -198,6 +196,7 @@ fn is_named(line: &Line) -> bool
 /// Whether the line at which a frame stands does.
 #[inline(always)]
 fn named_at(originals: &Originals, here: Here) -> bool
+    requires { IsReady originals.now here.version }
     ensures { result ≡ named_in (line_at originals.now.setup.versions here.version here.place) }
 {
     match originals.line(here.version, here.place) {
@@ -215,6 +214,7 @@ fn attempt_name(
     markers: &mut Stack<Marker>,
     here: Here,
 ) -> Result<Option<u32>, NoMemory>
+    requires ready { IsReady originals.old here.version }
     requires linked { originals.old.loaded ≡ parts.old.shared.loaded }
     requires fit { CanRun originals.old.setup }
     requires sound { IsSoundIn originals.old.setup (state_of markers.old parts.old) }
@@ -270,6 +270,7 @@ pub fn attempt(
     let Some(here) = where_now(&parts.frames) else {
         return Ok(None);
     };
+    originals.prepare(alloc, here.version)?;
     if named_at(originals, here) {
         return attempt_name(alloc, originals, parts, markers, here);
     }
@@ -287,6 +288,7 @@ fn attempt_name_loaded(
     markers: &mut Stack<Marker>,
     here: Here,
 ) -> Result<Option<Option<u32>>, NoMemory>
+    requires ready { IsReady originals.old here.version }
     requires linked { originals.old.loaded ≡ parts.old.shared.loaded }
     requires fit { CanRun originals.old.setup }
     requires sound { IsSoundIn originals.old.setup (state_of markers.old parts.old) }
@@ -356,6 +358,7 @@ pub fn attempt_loaded(
     let Some(here) = where_now(&parts.frames) else {
         return Ok(Some(None));
     };
+    originals.prepare(alloc, here.version)?;
     if named_at(originals, here) {
         return attempt_name_loaded(alloc, originals, parts, markers, here);
     }

@@ -22,6 +22,7 @@ use const_pool::Kind;
 use frame_stack::Frames;
 use heap_objects::Value;
 use jf_bytes::NoMemory;
+use std::alloc::Global;
 
 /// How many activations are live at most.
 const MOST_LIVE: u32 = 1024;
@@ -160,6 +161,7 @@ fn can_begin(originals: &Originals, frames: &Frames, method: u32, args: u16) -> 
 
 /// Begins a method with so many arguments: its caller stays at the line without them.
 fn begin(
+    alloc: Global,
     originals: &Originals,
     parts: &mut Parts,
     here: Here,
@@ -173,7 +175,7 @@ fn begin(
 {
     let begun = begin_frame(originals, &mut parts.frames, callee, args)?;
     if !begun {
-        break_at(originals, parts, here);
+        return break_at(alloc, originals, parts, here);
     }
     Ok(())
 }
@@ -181,6 +183,7 @@ fn begin(
 /// No more activation may be live: where the arguments fit, StackOverflowError is thrown at the
 /// caller, whose operands stay.
 fn overflow(
+    alloc: Global,
     originals: &Originals,
     parts: &mut Parts,
     here: Here,
@@ -194,12 +197,12 @@ fn overflow(
     if can_begin(originals, &parts.frames, callee, args) {
         return raise(originals, parts, Exception::StackOverflow);
     }
-    break_at(originals, parts, here);
-    Ok(())
+    break_at(alloc, originals, parts, here)
 }
 
 /// Begins a method with so many arguments, unless that were one activation too many.
 pub fn call(
+    alloc: Global,
     originals: &Originals,
     parts: &mut Parts,
     here: Here,
@@ -211,9 +214,9 @@ pub fn call(
         (may_begin fs) (can_begin originals.now.setup callee args fs)) }
 {
     if may_begin(&parts.frames) {
-        begin(originals, parts, here, callee, args)
+        begin(alloc, originals, parts, here, callee, args)
     } else {
-        overflow(originals, parts, here, callee, args)
+        overflow(alloc, originals, parts, here, callee, args)
     }
 }
 

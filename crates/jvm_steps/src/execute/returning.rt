@@ -1,12 +1,12 @@
 //! Returns (JVM Specification 2.6.4, 2.6.5).
 
-ghost use Rattle.std.specs.Prelude.{◌≡◌};
+ghost use Rattle.std.specs.Prelude.{◌≡◌, OnOk};
 ghost use Rattle.frame_stack.specs.FrameLists.{top_operands};
 ghost use Rattle.jvm_steps.specs.Instructions.Acts.{IsTop, acts_end, acts_return, gives_back_line, on_parts};
 ghost use Rattle.jvm_steps.specs.Instructions.Returning.{has_result, left_by, returns_given};
 ghost use Rattle.jvm_steps.specs.Machine.States.{state_in};
 
-use crate::execute::going::{next_in, resume, top_datum};
+use crate::execute::going::{resume, top_datum};
 use crate::prepare::line::Line;
 use crate::prepare::originals::Originals;
 use crate::turns::parts::{Parts, where_now};
@@ -14,62 +14,84 @@ use crate::unwind::raising::{break_off, end_unless};
 use const_pool::Kind;
 use frame_stack::Frames;
 use heap_objects::Datum;
+use jf_bytes::NoMemory;
+use std::alloc::Global;
 
 /// What is on top goes on behind its line, with the result.
-fn give_back(originals: &Originals, parts: &mut Parts, datum: Option<Datum>)
-    ensures state { let s = state_in parts.old in
-        state_in parts.new ≡ gives_back_line originals.now.setup.versions s datum s.stack }
+fn give_back(
+    alloc: Global,
+    originals: &Originals,
+    parts: &mut Parts,
+    datum: Option<Datum>,
+) -> Result<(), NoMemory>
+    ensures state { let s = state_in parts.old in OnOk result
+        (state_in parts.new ≡ gives_back_line originals.now.setup.versions s datum s.stack) }
 {
     let Some(caller) = where_now(&parts.frames) else {
-        return;
+        return Ok(());
     };
-    let Some(line) = originals.line(caller.version, caller.place) else {
-        return break_off(parts, caller.method, 0);
+    let Some(passage) = originals.passage(alloc, caller.version, caller.place)? else {
+        break_off(parts, caller.method, 0);
+        return Ok(());
     };
-    let own = line.instr.at;
-    let effect = resume(&mut parts.frames, datum, next_in(line));
-    end_unless(parts, caller.method, own, effect);
+    let effect = resume(&mut parts.frames, datum, passage.next);
+    end_unless(parts, caller.method, passage.own, effect);
+    Ok(())
 }
 
 /// The current activation ends with this result.
-fn return_with(originals: &Originals, parts: &mut Parts, datum: Option<Datum>)
-    ensures state { let s = left_by parts.old in
-        state_in parts.new ≡ gives_back_line originals.now.setup.versions s datum s.stack }
+fn return_with(
+    alloc: Global,
+    originals: &Originals,
+    parts: &mut Parts,
+    datum: Option<Datum>,
+) -> Result<(), NoMemory>
+    ensures state { let s = left_by parts.old in OnOk result
+        (state_in parts.new ≡ gives_back_line originals.now.setup.versions s datum s.stack) }
 {
     parts.frames.leave();
-    give_back(originals, parts, datum);
+    give_back(alloc, originals, parts, datum)
 }
 
 /// A return of a value of this kind: where its operand is missing or of another kind, the
 /// activation ends with the run.
-fn return_value(originals: &Originals, parts: &mut Parts, method: u32, own: u16, kind: Kind)
-    ensures state { state_in parts.new
-        ≡ returns_given originals.now.setup.versions method own kind parts.old }
+fn return_value(
+    alloc: Global,
+    originals: &Originals,
+    parts: &mut Parts,
+    method: u32,
+    own: u16,
+    kind: Kind,
+) -> Result<(), NoMemory>
+    ensures state { OnOk result (state_in parts.new
+        ≡ returns_given originals.now.setup.versions method own kind parts.old) }
 {
     match top_datum(&parts.frames, kind) {
-        Some(datum) => return_with(originals, parts, Some(datum)),
+        Some(datum) => return_with(alloc, originals, parts, Some(datum)),
         None => {
             parts.frames.leave();
             break_off(parts, method, own);
+            Ok(())
         }
     }
 }
 
 /// A return, with a result of this kind where there is one.
 pub fn return_by(
+    alloc: Global,
     originals: &Originals,
     parts: &mut Parts,
     method: u32,
     line: &Line,
     kind: Option<Kind>,
-)
+) -> Result<(), NoMemory>
     requires top { IsTop method parts.old.frames.frames }
-    ensures state { state_in parts.new
-        ≡ on_parts (acts_return originals.now.setup line.now kind) parts.old }
+    ensures state { OnOk result (state_in parts.new
+        ≡ on_parts (acts_return originals.now.setup line.now kind) parts.old) }
 {
     match kind {
-        None => return_with(originals, parts, None),
-        Some(kind) => return_value(originals, parts, method, line.instr.at, kind),
+        None => return_with(alloc, originals, parts, None),
+        Some(kind) => return_value(alloc, originals, parts, method, line.instr.at, kind),
     }
 }
 

@@ -1,7 +1,7 @@
 //! The original code of a program, prepared: what stands at each offset is looked up once, and is
 //! found by its offset from then on.
 
-ghost use Rattle.std.specs.Prelude.{ℕ, ◌≡◌, ◌<◌, ◌^◌, ◌++◌, length, slice_get, is_some, false, true};
+ghost use Rattle.std.specs.Prelude.{ℕ, ◌≡◌, ◌≢◌, Some, ◌<◌, ◌^◌, ◌++◌, length, slice_get, is_some, false, true};
 ghost use Rattle.std.specs.Prelude.{IfNone, IfOk, OnErr, OnOk};
 ghost use Rattle.std.specs.Option.{option_and_then, option_copied, option_map, IfSome};
 ghost use Rattle.class_linker.specs.Linkers.{IsLoaded, LinkerView};
@@ -24,11 +24,13 @@ ghost use Rattle.jvm_steps.specs.Codes.Tables.{Adds, AreAllCurrent, Releases, ve
 ghost use Rattle.method_versions.specs.Tables.{is_superseded_in};
 ghost use Rattle.jvm_steps.specs.Codes.Kept.{IsLater};
 ghost use Rattle.jvm_steps.specs.Codes.Lines.{IfNamed, IfNamedBy};
-ghost use Rattle.jvm_steps.specs.Codes.Linked.{linker_in};
+ghost use Rattle.jvm_steps.specs.Codes.Linked.{IsReady, linker_in};
+ghost use Rattle.jvm_steps.specs.Codes.Making.{passage_of};
 ghost use Rattle.jvm_steps.specs.Codes.Prepared.{FitsOriginals, built_in_named, exception_kind};
 ghost use Rattle.jvm_steps.specs.Codes.Prepared.{main_name};
 ghost use Rattle.jvm_steps.specs.Codes.Entries.{original_versions};
 ghost use Rattle.jvm_steps.specs.Codes.Versions.{ArePrepared, current_of, first_of, mark_of};
+ghost use Rattle.jvm_model.specs.declared.event.Mark.TheVariants.{Off};
 ghost use Rattle.jvm_model.specs.declared.state.State.{State};
 ghost use Rattle.jvm_model.specs.Soundness.Sound.{IsFit};
 ghost use Rattle.jvm_steps.specs.Codes.ClassVersions.{FitsImage, class_versions};
@@ -42,9 +44,11 @@ use crate::initialize::objects::kind_named;
 use crate::prepare::cells::Cells;
 use crate::prepare::class_versions::class_versions;
 use crate::prepare::line::{Action, Line};
-use crate::prepare::preparing::{exceptions_of, prepare_methods, prepare_versions};
+use crate::prepare::passage::{Passage, passage_in};
+use crate::prepare::preparing::{bare_versions, exceptions_of, original_version, prepare_methods};
 use crate::prepare::versions::{
-    Catching, Version, Versions, current_of, first_of, is_current, line_at, mark_of, version_at,
+    Catching, Version, Versions, current_of, first_of, has_lines, is_current, line_at, line_there,
+    mark_of, version_at,
 };
 use base_classes::built_in_name;
 use class_linker::Linker;
@@ -112,8 +116,9 @@ pub struct Exceptions {
     pub string: u32,
 }
 
-/// A program on an input, with its original code prepared, its linker, the numbers of its methods and what the names of its lines came
-/// to. A clause sees the program, the input and the loaded classes.
+/// A program on an input, with the versions of its methods, its linker, the numbers of its methods and what the names of its lines
+/// came to. The lines of a method's original code are made when it is first run; a clause sees the versions with all their lines,
+/// and those that are kept beside them.
 #[derive(Drop)]
 pub struct Originals {
     linker: Linker,
@@ -129,13 +134,18 @@ pub struct Originals {
 impl Model for Originals {
     ghost use Rattle.jvm_steps.specs.Codes.Kept.{IsKept};
     ghost use Rattle.jvm_steps.specs.Codes.Linked.{Linked};
+    ghost use Rattle.jvm_steps.specs.Codes.Making.{with_lines};
     ghost use Rattle.jvm_steps.specs.Codes.Prepared.{world_in};
 
     ghost Value = { Linked };
 
     ghost view = { λ o. record {
-      setup = record { world = world_in o.linker.program o.input; versions = o.versions };
+      setup = record {
+        world = world_in o.linker.program o.input;
+        versions = with_lines o.linker.program o.versions;
+      };
       loaded = o.linker.loaded;
+      kept = o.versions;
     } };
 
     ghost invariant = { λ o.
@@ -349,7 +359,7 @@ fn keep_selected(
 }
 
 impl Originals {
-    /// Prepares a program: each offset of each code is looked up once, and the built-in classes are loaded.
+    /// Prepares a program: its methods get their versions, still without lines, and the built-in classes are loaded.
     pub fn new(alloc: Global, program: Program, input: Seq<u8>) -> Result<Originals, NoMemory>
         requires { FitsOriginals program }
         ensures program { IfOk result (λ o. o.setup.world.program ≡ program) }
@@ -360,7 +370,7 @@ impl Originals {
         ensures loaded { IfOk result (λ o. o.loaded ≡ built_in_from 0 program.classes) }
     {
         let methods = prepare_methods(alloc, &program)?;
-        let versions = prepare_versions(alloc, &program)?;
+        let versions = bare_versions(alloc, &program)?;
         let exceptions = exceptions_of(&program);
         let numbers = MethodNumbers::new(alloc, &program)?;
         let mut linker = Linker::new(alloc, program)?;
@@ -410,21 +420,82 @@ impl Originals {
         &self.selections
     }
 
-    /// The version with this number.
+    /// The version with this number. None where its lines are still to be made.
     pub fn version(&self, version: usize) -> Option<&Version>
-        ensures version { option_copied result ≡ version_at self.now.setup.versions version }
+        ensures version { IfSome result
+            (λ x. version_at self.now.setup.versions version ≡ Some x.now) }
         ensures prepared { IfSome result (λ x. ArePrepared x.now) }
     {
-        version_at(&self.versions, version)
+        let held = version_at(&self.versions, version)?;
+        if !held.prepared.has_lines {
+            return None;
+        }
+        Some(held)
     }
 
-    /// The line at a place of a version, by two look-ups.
+    /// The line at a place of a version, by two look-ups. None where it is still to be made.
     #[inline(always)]
     pub fn line(&self, version: usize, place: u16) -> Option<&Line>
-        ensures line { option_copied result ≡ line_at self.now.setup.versions version place }
+        ensures kept { option_copied result ≡ line_at self.now.kept version place }
+        ensures line { IfSome result
+            (λ l. line_at self.now.setup.versions version place ≡ Some l.now) }
+        ensures marked { mark_of self.now.setup.versions version ≢ Off
+            → option_copied result ≡ line_at self.now.setup.versions version place }
         ensures family { IfSome result (λ l. l.now.family ≡ family_of l.now.instr.op) }
     {
         line_at(&self.versions, version, place)
+    }
+
+    /// Where the instruction at a place of a version stands, and where control goes on behind it. Lines that are still to be made are
+    /// made for it.
+    pub fn passage(
+        &self,
+        alloc: Global,
+        version: usize,
+        place: u16,
+    ) -> Result<Option<Passage>, NoMemory>
+        ensures { IfOk result (λ o. o
+            ≡ option_map passage_of (line_at self.now.setup.versions version place)) }
+    {
+        let Some(held) = version_at(&self.versions, version) else {
+            return Ok(None);
+        };
+        if held.prepared.has_lines {
+            return Ok(passage_in(held, place));
+        }
+        let made = original_version(alloc, self.linker.program(), held.method)?;
+        Ok(passage_in(&made, place))
+    }
+
+    /// Makes the lines of a version, which is its method's original code.
+    #[inline(never)]
+    fn make_lines(&mut self, alloc: Global, version: usize) -> Result<(), NoMemory>
+        ensures ready { OnOk result (IsReady self.new version) }
+        ensures setup { self.new.setup ≡ self.old.setup }
+        ensures loaded { self.new.loaded ≡ self.old.loaded }
+    {
+        let Some(held) = version_at(&self.versions, version) else {
+            return Ok(());
+        };
+        if held.prepared.has_lines {
+            return Ok(());
+        }
+        let made = original_version(alloc, self.linker.program(), held.method)?;
+        self.versions.replace(version, made);
+        Ok(())
+    }
+
+    /// Makes the lines of a version, where they are still to be made.
+    #[inline(always)]
+    pub fn prepare(&mut self, alloc: Global, version: usize) -> Result<(), NoMemory>
+        ensures ready { OnOk result (IsReady self.new version) }
+        ensures setup { self.new.setup ≡ self.old.setup }
+        ensures loaded { self.new.loaded ≡ self.old.loaded }
+    {
+        if has_lines(&self.versions, version) {
+            return Ok(());
+        }
+        self.make_lines(alloc, version)
     }
 
     /// The version in which a method begins.
@@ -633,6 +704,7 @@ impl Originals {
         frames: &mut Frames,
         output: &mut Seq<u8>,
     ) -> Result<Asked, NoMemory>
+        requires ready { IsReady self.old version }
         requires linked { self.old.loaded ≡ shared.old.loaded }
         requires built_in { HasBuiltIn (linker_in self.old) }
         requires objects { AreLoaded (linker_in self.old) shared.old.heap }
@@ -656,7 +728,7 @@ impl Originals {
         ensures objects { OnOk result (AreLoaded (linker_in self.new) shared.new.heap) }
         ensures world { self.new.setup ≡ self.old.setup }
     {
-        let Some(line) = line_at(&self.versions, version, place) else {
+        let Some(line) = line_there(&self.linker, &self.versions, version, place) else {
             return Ok(Asked::Refused(Refusal::Breaks));
         };
         if let Some(before) = self.cells.get(version, place) {
@@ -706,6 +778,7 @@ impl Originals {
         frames: &mut Frames,
         output: &mut Seq<u8>,
     ) -> Result<Option<Asked>, NoMemory>
+        requires ready { IsReady self.old version }
         requires linked { self.old.loaded ≡ shared.old.loaded }
         requires built_in { HasBuiltIn (linker_in self.old) }
         requires objects { AreLoaded (linker_in self.old) shared.old.heap }
@@ -737,7 +810,7 @@ impl Originals {
             (λ n next. OnOk result (self.new.loaded ≡ loaded_for p n shared.old frames.old)) }
         ensures world { self.new.setup ≡ self.old.setup }
     {
-        let Some(line) = line_at(&self.versions, version, place) else {
+        let Some(line) = line_there(&self.linker, &self.versions, version, place) else {
             return Ok(None);
         };
         if let Some(before) = self.cells.get(version, place) {

@@ -6,7 +6,8 @@ ghost use Rattle.jvm_steps.specs.declared.prepare.originals.Exception.{Exception
 ghost use Rattle.jvm_steps.specs.Codes.Entries.{code_line, lines_of, params_of};
 ghost use Rattle.std.specs.List.{range_with_len};
 ghost use Rattle.jvm_steps.specs.Codes.Entries.{entry_at, entry_of, no_method};
-ghost use Rattle.jvm_steps.specs.Codes.Entries.{catching_of, no_version, own_number, original_version, original_versions};
+ghost use Rattle.jvm_steps.specs.Codes.Entries.{catching_of, no_version, own_number, original_version};
+ghost use Rattle.jvm_steps.specs.Codes.Making.{bare, bare_versions, without_lines};
 ghost use Rattle.jvm_steps.specs.Codes.Entries.{version_entry, version_of};
 ghost use Rattle.jvm_steps.specs.Codes.Prepared.{FitsOriginals, HasShortCode};
 ghost use Rattle.jvm_steps.specs.Codes.Prepared.{exception_kind, exception_in};
@@ -181,6 +182,7 @@ fn no_version(alloc: Global, method: u32) -> Version
     Held {
         method,
         prepared: PreparedCode {
+            has_lines: true,
             mark: Mark::Off,
             first: 0,
             lines: Seq::new(alloc),
@@ -207,6 +209,7 @@ fn version_entry(
     Ok(Held {
         method,
         prepared: PreparedCode {
+            has_lines: true,
             mark: Mark::Off,
             first: 0,
             lines,
@@ -245,14 +248,79 @@ pub fn original_version(alloc: Global, program: &Program, method: u32) -> Result
     }
 }
 
-/// The version of each method, by its number.
+// ---- versions whose lines are still to be made
+
+/// The version that a method's original code is, without its lines.
+fn bare_entry(
+    alloc: Global,
+    method: u32,
+    class: &ClassFile,
+    member: &Member,
+) -> Result<Version, NoMemory>
+    ensures { IfOk result (λ version. version
+        ≡ without_lines (version_entry method class.now member.now)) }
+{
+    let handlers = match code_of(member) {
+        Some(code) => handlers_of(alloc, class, code.handlers.as_slice())?,
+        None => Seq::new(alloc),
+    };
+    Ok(bare(alloc, method, handlers))
+}
+
+/// A version without lines.
+fn bare(alloc: Global, method: u32, handlers: Seq<Catching>) -> Version
+    ensures { result ≡ bare method handlers }
+{
+    Held {
+        method,
+        prepared: PreparedCode {
+            has_lines: false,
+            mark: Mark::Off,
+            first: 0,
+            lines: Seq::new(alloc),
+            handlers,
+        },
+    }
+}
+
+/// The same of the method at a place of a program.
+fn bare_of(
+    alloc: Global,
+    program: &Program,
+    method: u32,
+    place: MethodPlace,
+) -> Result<Version, NoMemory>
+    ensures { IfOk result (λ version. version
+        ≡ without_lines (version_of program.now method place)) }
+{
+    let Some(class) = program.classes.get(place.class as usize) else {
+        return Ok(bare(alloc, method, Seq::new(alloc)));
+    };
+    match class.methods.get(place.position as usize) {
+        Some(member) => bare_entry(alloc, method, class, member),
+        None => Ok(bare(alloc, method, Seq::new(alloc))),
+    }
+}
+
+/// The same of the method with this number.
+fn bare_version(alloc: Global, program: &Program, method: u32) -> Result<Version, NoMemory>
+    ensures { IfOk result (λ version. version
+        ≡ without_lines (original_version program.now method)) }
+{
+    match program.methods.get(method as usize) {
+        Some(place) => bare_of(alloc, program, method, *place),
+        None => Ok(bare(alloc, method, Seq::new(alloc))),
+    }
+}
+
+/// The version of each method, by its number, without its lines.
 fn all_versions(alloc: Global, program: &Program) -> Result<Seq<Option<Version>>, NoMemory>
     requires { FitsOriginals program.now }
-    ensures { IfOk result (λ all. all ≡ (original_versions program.now).slots) }
+    ensures { IfOk result (λ all. all ≡ (bare_versions program.now).slots) }
 {
     let mut all = Seq::with_capacity(alloc, program.methods.len())?;
     for method in 0..program.methods.len() as u32 {
-        let version = original_version(alloc, program, method)?;
+        let version = bare_version(alloc, program, method)?;
         all.push(Some(version))?;
     }
     Ok(all)
@@ -269,10 +337,10 @@ fn numbers_to(alloc: Global, count: u32) -> Result<Seq<usize>, NoMemory>
     Ok(all)
 }
 
-/// Prepares the original code of a program.
-pub fn prepare_versions(alloc: Global, program: &Program) -> Result<Versions, NoMemory>
+/// The versions that the original code of a program is, each still without its lines.
+pub fn bare_versions(alloc: Global, program: &Program) -> Result<Versions, NoMemory>
     requires { FitsOriginals program.now }
-    ensures { IfOk result (λ versions. versions ≡ original_versions program.now) }
+    ensures { IfOk result (λ versions. versions ≡ bare_versions program.now) }
 {
     let all = all_versions(alloc, program)?;
     let current = numbers_to(alloc, program.methods.len() as u32)?;

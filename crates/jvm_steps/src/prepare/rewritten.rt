@@ -150,6 +150,7 @@ pub fn rewritten_version(
     Ok(Held {
         method,
         prepared: PreparedCode {
+            has_lines: true,
             mark,
             first: homes.home_of(0),
             lines,

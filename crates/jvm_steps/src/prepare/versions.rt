@@ -1,13 +1,15 @@
 //! The code that is run, prepared: versions of methods, each with what stands at its places, and the version that each method
 //! begins in.
 
-ghost use Rattle.std.specs.Prelude.{◌≡◌, ◌≤◌, ℕ, false, length, true, IfSome, OnErr, OnOk};
+ghost use Rattle.std.specs.Prelude.{◌≡◌, ◌≤◌, ℕ, false, length, true, IfSome, OnErr, OnOk, Some};
 ghost use Rattle.std.specs.Option.{option_copied};
-ghost use Rattle.method_versions.specs.Tables.{IsFirst, is_superseded_in};
+ghost use Rattle.method_versions.specs.Tables.{IsFirst, is_superseded_in, method_in};
+ghost use Rattle.jvm_steps.specs.Codes.Making.{HasItsLines, IsReplaced, has_lines, with_lines};
 ghost use Rattle.jvm_steps.specs.Codes.Tables.{Adds, AreAllCurrent, AreOfMethods, Releases, seen, version_at};
 ghost use Rattle.jvm_steps.specs.Codes.Versions.{current_of, first_of, line_at, line_in, mark_of};
 
 use crate::prepare::line::Line;
+use class_linker::Linker;
 use frame_stack::Frames;
 use jf_bytes::{NoMemory, Seq, Text16};
 use jvm_model::Mark;
@@ -24,9 +26,11 @@ pub struct Catching {
     pub catches: Option<Text16>,
 }
 
-/// The code of a version: whose probes stand in it, where it begins, the line at each of its places, and its handlers.
+/// The code of a version: whose probes stand in it, where it begins, the line at each of its places, and its handlers. Where its
+/// lines are still to be made it has none.
 #[derive(Drop)]
 pub struct PreparedCode {
+    pub has_lines: bool,
     pub mark: Mark,
     pub first: u16,
     pub lines: Seq<Option<Line>>,
@@ -75,6 +79,14 @@ impl Versions {
         Ok(())
     }
 
+    /// Puts another version of the same method in the place of the one with this number.
+    pub fn replace(&mut self, number: usize, version: Version)
+        requires { method_in self.old.slots number ≡ Some version.method }
+        ensures { IsReplaced number version self.old self.new }
+    {
+        self.table.replace(number, version);
+    }
+
     /// Drops each superseded version that no frame runs.
     #[inline(always)]
     pub fn release(&mut self, frames: &Frames)
@@ -119,6 +131,32 @@ pub fn line_at(versions: &Versions, version: usize, place: u16) -> Option<&Line>
     ensures { option_copied result ≡ line_at versions.now version place }
 {
     line_in(versions.table.get(version)?, place)
+}
+
+/// Whether a version that is held has its lines.
+#[inline(always)]
+pub fn has_lines(versions: &Versions, version: usize) -> bool
+    ensures { result ≡ has_lines versions.now version }
+{
+    match versions.table.get(version) {
+        Some(held) => held.prepared.has_lines,
+        None => true,
+    }
+}
+
+/// The line at a place of a version that has its lines.
+#[inline(always)]
+pub fn line_there<'a>(
+    linker: &Linker,
+    versions: &'a Versions,
+    version: usize,
+    place: u16,
+) -> Option<&'a Line>
+    requires { HasItsLines linker.now.program versions.now version }
+    ensures { option_copied result
+        ≡ line_at (with_lines linker.now.program versions.now) version place }
+{
+    line_at(versions, version, place)
 }
 
 /// The version in which a method begins.

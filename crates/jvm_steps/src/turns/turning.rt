@@ -81,38 +81,51 @@ fn unwind(originals: &Originals, frames: &mut Frames, here: Here) -> Moved
 }
 
 /// A throw meets the current frame.
-fn meet_frame(originals: &Originals, parts: &mut Parts, object: u32, here: Here) -> Moved
+fn meet_frame(
+    alloc: Global,
+    originals: &Originals,
+    parts: &mut Parts,
+    object: u32,
+    here: Here,
+) -> Result<Moved, NoMemory>
     requires ending { parts.old.ending ≡ None }
     requires thrown { parts.old.thrown ≡ Some object }
     requires here { here_of parts.old.frames.frames ≡ Some here }
-    ensures answer { result ≡ moved_as originals.now.setup (state_in parts.old) }
-    ensures state { state_in parts.new
-        ≡ moved_to originals.now.setup (state_in parts.old) }
+    ensures answer { IfOk result
+        (λ m. m ≡ moved_as originals.now.setup (state_in parts.old)) }
+    ensures state { OnOk result (state_in parts.new
+        ≡ moved_to originals.now.setup (state_in parts.old)) }
 {
     let class = class_of(originals.program(), &parts.shared.heap, object) as usize;
     match handler_for(originals, here.version, class, here.place) {
         Some(target) => {
-            go_to_handler(originals, parts, object, here, target);
-            Moved::On
+            go_to_handler(alloc, originals, parts, object, here, target)?;
+            Ok(Moved::On)
         }
-        None => unwind(originals, &mut parts.frames, here),
+        None => Ok(unwind(originals, &mut parts.frames, here)),
     }
 }
 
 /// A throw meets the current frame, or ends the run where there is none.
-fn meet_throw(originals: &Originals, parts: &mut Parts, object: u32) -> Moved
+fn meet_throw(
+    alloc: Global,
+    originals: &Originals,
+    parts: &mut Parts,
+    object: u32,
+) -> Result<Moved, NoMemory>
     requires ending { parts.old.ending ≡ None }
     requires thrown { parts.old.thrown ≡ Some object }
-    ensures answer { result ≡ moved_as originals.now.setup (state_in parts.old) }
-    ensures state { state_in parts.new
-        ≡ moved_to originals.now.setup (state_in parts.old) }
+    ensures answer { IfOk result
+        (λ m. m ≡ moved_as originals.now.setup (state_in parts.old)) }
+    ensures state { OnOk result (state_in parts.new
+        ≡ moved_to originals.now.setup (state_in parts.old)) }
 {
     let Some(here) = where_now(&parts.frames) else {
         let class = class_of(originals.program(), &parts.shared.heap, object);
         parts.ending = Some(Ending::Uncaught(class));
-        return Moved::On;
+        return Ok(Moved::On);
     };
-    meet_frame(originals, parts, object, here)
+    meet_frame(alloc, originals, parts, object, here)
 }
 
 /// With nothing thrown and no frame left `main` begins, or the run has returned.
@@ -134,7 +147,11 @@ fn begin_or_end(originals: &Originals, parts: &mut Parts) -> Result<Moved, NoMem
 }
 
 /// A move of the frames, where no marker stands on the current one.
-fn move_frame(originals: &Originals, parts: &mut Parts) -> Result<Moved, NoMemory>
+fn move_frame(
+    alloc: Global,
+    originals: &Originals,
+    parts: &mut Parts,
+) -> Result<Moved, NoMemory>
     ensures answer { IfOk result
         (λ m. m ≡ moved_as originals.now.setup (state_in parts.old)) }
     ensures state { OnOk result (state_in parts.new
@@ -144,7 +161,7 @@ fn move_frame(originals: &Originals, parts: &mut Parts) -> Result<Moved, NoMemor
         return Ok(Moved::Nothing);
     }
     if let Some(object) = parts.thrown {
-        return Ok(meet_throw(originals, parts, object));
+        return meet_throw(alloc, originals, parts, object);
     }
     if where_now(&parts.frames).is_some() {
         return Ok(Moved::Nothing);
@@ -170,7 +187,7 @@ pub fn make_move(
         return Ok(Moved::Nothing);
     }
     let Some(marker) = take_marker(parts, markers) else {
-        return move_frame(originals, parts);
+        return move_frame(alloc, originals, parts);
     };
     let method = move_marker(alloc, originals, parts, markers, marker)?;
     Ok(begun(originals, method))

@@ -14,6 +14,7 @@ use heap_objects::{Datum, Heap, HeapError};
 use jf_bytes::NoMemory;
 use jvm_basic::Effect;
 use jvm_model::Ending;
+use std::alloc::Global;
 
 /// The object that is thrown where an exception does not fit into the heap.
 pub const RESERVED: u32 = 1;
@@ -36,21 +37,28 @@ pub fn end_unless(parts: &mut Parts, method: u32, own: u16, effect: Effect)
 }
 
 /// The offset of the instruction at which a frame stands; 0 where there is none.
-pub fn own_of(originals: &Originals, here: Here) -> u16
-    ensures { result ≡ own_of originals.now.setup here }
+pub fn own_of(alloc: Global, originals: &Originals, here: Here) -> Result<u16, NoMemory>
+    ensures { IfOk result (λ own. own ≡ own_of originals.now.setup here) }
 {
-    match originals.line(here.version, here.place) {
-        Some(line) => line.instr.at,
-        None => 0,
+    match originals.passage(alloc, here.version, here.place)? {
+        Some(passage) => Ok(passage.own),
+        None => Ok(0),
     }
 }
 
 /// Ends the run at the line at which the current frame stands.
-pub fn break_at(originals: &Originals, parts: &mut Parts, here: Here)
-    ensures { parts.new ≡ ended here.method (own_of originals.now.setup here) parts.old }
+pub fn break_at(
+    alloc: Global,
+    originals: &Originals,
+    parts: &mut Parts,
+    here: Here,
+) -> Result<(), NoMemory>
+    ensures { OnOk result
+        (parts.new ≡ ended here.method (own_of originals.now.setup here) parts.old) }
 {
-    let own = own_of(originals, here);
+    let own = own_of(alloc, originals, here)?;
     break_off(parts, here.method, own);
+    Ok(())
 }
 
 /// Makes an exception of this kind without a message, with this cause, and gives its number.

@@ -50,49 +50,67 @@ pub fn put_alone(frames: &mut Frames, object: u32) -> bool
 }
 
 /// The current frame goes on at a handler, with the object that was thrown alone on its operands.
-pub fn go_to_handler(originals: &Originals, parts: &mut Parts, object: u32, here: Here, target: u16)
+pub fn go_to_handler(
+    alloc: Global,
+    originals: &Originals,
+    parts: &mut Parts,
+    object: u32,
+    here: Here,
+    target: u16,
+) -> Result<(), NoMemory>
     requires { here_of parts.old.frames.frames ≡ Some here }
-    ensures state { state_in parts.new ≡
-        caught_at originals.now.setup object target parts.old.frames.frames parts.old }
+    ensures state { OnOk result (state_in parts.new ≡
+        caught_at originals.now.setup object target parts.old.frames.frames parts.old) }
 {
     parts.thrown = None;
-    if put_alone(&mut parts.frames, object) {
-        parts.frames.go(target);
-    } else {
-        break_at(originals, parts, here);
+    if !put_alone(&mut parts.frames, object) {
+        return break_at(alloc, originals, parts, here);
     }
+    parts.frames.go(target);
+    Ok(())
 }
 
 /// A throw meets the current frame: it goes on at a handler, or its activation ends.
-fn meet_frame(originals: &Originals, parts: &mut Parts, object: u32, here: Here)
+fn meet_frame(
+    alloc: Global,
+    originals: &Originals,
+    parts: &mut Parts,
+    object: u32,
+    here: Here,
+) -> Result<(), NoMemory>
     requires { here_of parts.old.frames.frames ≡ Some here }
-    ensures state { state_in parts.new ≡
-        caught_top originals.now.setup object parts.old.frames.frames parts.old }
+    ensures state { OnOk result (state_in parts.new ≡
+        caught_top originals.now.setup object parts.old.frames.frames parts.old) }
 {
     let class = class_of(originals.program(), &parts.shared.heap, object) as usize;
     match handler_for(originals, here.version, class, here.place) {
-        Some(target) => go_to_handler(originals, parts, object, here, target),
+        Some(target) => go_to_handler(alloc, originals, parts, object, here, target),
         None => {
             parts.frames.leave();
+            Ok(())
         }
     }
 }
 
 /// A throw goes to a handler of the current frame or ends its activation, and with no frame left it
 /// ends the run.
-fn meet_throw(originals: &Originals, parts: &mut Parts, object: u32)
+fn meet_throw(
+    alloc: Global,
+    originals: &Originals,
+    parts: &mut Parts,
+    object: u32,
+) -> Result<(), NoMemory>
     requires ending { parts.old.ending ≡ None }
     requires thrown { parts.old.thrown ≡ Some object }
-    ensures state { state_in parts.new ≡ after_move originals.now.setup (state_in parts.old) }
+    ensures state { OnOk result
+        (state_in parts.new ≡ after_move originals.now.setup (state_in parts.old)) }
 {
-    match where_now(&parts.frames) {
-        Some(here) => meet_frame(originals, parts, object, here),
-        None => parts.ending = Some(Ending::Uncaught(class_of(
-            originals.program(),
-            &parts.shared.heap,
-            object,
-        ))),
-    }
+    let Some(here) = where_now(&parts.frames) else {
+        let class = class_of(originals.program(), &parts.shared.heap, object);
+        parts.ending = Some(Ending::Uncaught(class));
+        return Ok(());
+    };
+    meet_frame(alloc, originals, parts, object, here)
 }
 
 // ---- nothing is left
@@ -151,7 +169,11 @@ fn begin_or_end(originals: &Originals, parts: &mut Parts) -> Result<(), NoMemory
 
 /// A move of the frames, where no marker stands on the current one. False, with nothing changed,
 /// where none applies.
-fn move_frame(originals: &Originals, parts: &mut Parts) -> Result<bool, NoMemory>
+fn move_frame(
+    alloc: Global,
+    originals: &Originals,
+    parts: &mut Parts,
+) -> Result<bool, NoMemory>
     ensures answer { let w = originals.now.setup in
         IfOk result (λ b. b ≡ is_some (move w.world (text_of w.versions) (state_in parts.old))) }
     ensures state { OnOk result
@@ -161,7 +183,7 @@ fn move_frame(originals: &Originals, parts: &mut Parts) -> Result<bool, NoMemory
         return Ok(false);
     }
     if let Some(object) = parts.thrown {
-        meet_throw(originals, parts, object);
+        meet_throw(alloc, originals, parts, object)?;
         return Ok(true);
     }
     if where_now(&parts.frames).is_some() {
@@ -211,7 +233,7 @@ fn make_move(
         return Ok(false);
     }
     let Some(marker) = take_marker(parts, markers) else {
-        return move_frame(originals, parts);
+        return move_frame(alloc, originals, parts);
     };
     move_marker(alloc, originals, parts, markers, marker)?;
     Ok(true)

@@ -7,13 +7,13 @@ pub pass_named-requires-clause-here : goal.pass_named-requires-clause-here
 pass_named-requires-clause-here c = sym c.where_now.ensures ∙ c.in-Some.is
 
 pub pass_named-requires-clause-line : goal.pass_named-requires-clause-line
-pass_named-requires-clause-line c = sym c.line.ensures.line ∙ ap option_copied c.in-Some-line.is
+pass_named-requires-clause-line c = c.in-Some-line.ensures.line
 
 pub pass_return-requires-clause-here : goal.pass_return-requires-clause-here
 pass_return-requires-clause-here c = sym c.where_now.ensures ∙ c.in-Some.is
 
 pub pass_return-requires-clause-line : goal.pass_return-requires-clause-line
-pass_return-requires-clause-line c = sym c.line.ensures.line ∙ ap option_copied c.in-Some-line.is
+pass_return-requires-clause-line c = c.in-Some-line.ensures.line
 
 pub returns-in_default : goal.returns-in_default
 returns-in_default c = passes_none c.args.originals.now.setup c.args.markers.now c.args.parts.now c.requires.calm
@@ -28,4 +28,4 @@ pub pass_throw-requires-clause-here : goal.pass_throw-requires-clause-here
 pass_throw-requires-clause-here c = sym c.where_now.ensures ∙ c.in-Some.is
 
 pub pass_throw-requires-clause-line : goal.pass_throw-requires-clause-line
-pass_throw-requires-clause-line c = sym c.line.ensures.line ∙ ap option_copied c.in-Some-line.is
+pass_throw-requires-clause-line c = c.in-Some-line.ensures.line

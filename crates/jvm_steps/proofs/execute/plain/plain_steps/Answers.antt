@@ -19,7 +19,7 @@ loop-made-init c = (alone-none c.args.originals.now.setup c.args.parts.now, refl
 pub loop-made-preserved : goal.loop-made-preserved
 loop-made-preserved c =
     let w = c.args.originals.now.setup in
-    let held = sym c.version.ensures.version ∙ ap option_copied c.in-Some-version.is in
+    let held = c.in-Some-version.ensures.version in
     let runs : RunsVersion w c.in-Some-version.version.now c.args.parts.now.frames.frames =
     runs-here w c.args.parts.now.frames.frames c.in-Some.here c.in-Some-version.version.now (sym c.where_now.ensures ∙ c.in-Some.is) held in (
       alone-on w c.args.parts.now c.loop-made.parts c.plain_step.new.parts c.loop-made.made 1 c.loop-made.invariant.0

@@ -2,8 +2,8 @@
 use Rattle.std.proofs.Common.{◌≡◌}
 use Rattle.std.specs.Prelude.{map}
 use Rattle.std.specs.List.{range_with_len}
-use Rattle.jvm_steps.specs.Codes.Entries.{original_slot}
+use Rattle.jvm_steps.specs.Codes.Making.{bare_slot}
 use Rattle.jvm_steps.proofs.prepare.preparing.all_versions.Given as goal
 
 abbrev pub invariant-loop-method : goal.invariant-loop-method
-invariant-loop-method l = l.all ≡ map (original_slot l.program) (range_with_len 0 l.method)
+invariant-loop-method l = l.all ≡ map (bare_slot l.program) (range_with_len 0 l.method)

@@ -1,11 +1,15 @@
-use Rattle.std.proofs.Common.{◌≡◌, ◌<◌, ◌≤◌, ◌^◌, length, subst, sym, arith, rules}
+use Rattle.std.proofs.Common.{◌≡◌, ◌<◌, ◌≤◌, ◌^◌, length, subst, sym, ap, ◌∙◌, arith, rules}
 use Rattle.jvm_named.specs.Selections.{AreSelections}
 use Rattle.jvm_named.proofs.SelectionLemmas.{no_selections}
+use Rattle.jvm_model.specs.declared.program.Program.{Program}
+use Rattle.jvm_steps.specs.Codes.Entries.{original_versions}
 use Rattle.jvm_steps.specs.Codes.Kept.{AreKnown}
+use Rattle.jvm_steps.specs.Codes.Making.{AreBare, with_lines}
 use Rattle.jvm_steps.proofs.Codes.CellLemmas.{nil-known}
+use Rattle.jvm_steps.proofs.Codes.Made.{first-bare, first-versions}
 use Rattle.jvm_steps.proofs.Loads.BuiltInLoads.{few-coded}
-use Rattle.jvm_steps.proofs.Codes.Entries.{IsPrepared-entries, IsPrepared-same}
-use Rattle.jvm_steps.specs.Codes.Prepared.{world_in}
+use Rattle.jvm_steps.proofs.Codes.Entries.{IsPrepared-entries}
+use Rattle.jvm_steps.specs.Codes.Prepared.{IsPrepared, world_in}
 use Rattle.jvm_steps.specs.Codes.Versions.{Setup}
 use Rattle.jvm_steps.proofs.Moves.StandingSteps.{made-set_up}
 use Rattle.jvm_steps.proofs.prepare.originals.Originals.new.Goals as goal
@@ -15,20 +19,35 @@ new-requires-clause-few c = few-coded c.args.program c.requires.numbered c.requi
 
 pub invariant_of-result : goal.invariant_of-result
 invariant_of-result c =
-    let few : length c.args.program.classes < 2 ^ 24 = omega (arith, c.requires.linkable.count) in
-    let same : c.load_built_in.new.linker.program ≡ c.args.program = search rules in
+    let p : Program = c.args.program in
+    let q : Program = c.load_built_in.new.linker.program in
+    let few : length p.classes < 2 ^ 24 = omega (arith, c.requires.linkable.count) in
+    let same : q ≡ p = search rules in
+    let made : with_lines p c.in_ok-versions.versions ≡ original_versions p = ap (with_lines p) c.in_ok-versions.ensures ∙ first-versions p in
     record {
       prepared =
-          IsPrepared-same c.args.program c.load_built_in.new.linker.program c.in_ok-methods.methods c.in_ok-versions.versions c.exceptions_of-exceptions.result c.in_ok-numbers.numbers same
-          (IsPrepared-entries c.args.program c.in_ok-methods.methods c.in_ok-versions.versions c.exceptions_of-exceptions.result c.in_ok-numbers.numbers c.requires few c.requires.methods
-          c.in_ok-methods.ensures c.in_ok-versions.ensures c.exceptions_of-exceptions.ensures.raised c.exceptions_of-exceptions.ensures.string c.in_ok-numbers.ensures);
-      known = subst (AreKnown c.load_built_in.new.linker c.in_ok-versions.versions) (sym c.new-cells.ensures) (nil-known c.load_built_in.new.linker c.in_ok-versions.versions);
-      selected = subst (AreSelections c.load_built_in.new.linker.program) (sym c.new-selections.ensures) (no_selections c.load_built_in.new.linker.program);
+          subst (λ (r : Program). IsPrepared r c.in_ok-methods.methods (with_lines r c.in_ok-versions.versions) c.exceptions_of-exceptions.result c.in_ok-numbers.numbers) (sym same)
+          (IsPrepared-entries p c.in_ok-methods.methods (with_lines p c.in_ok-versions.versions) c.exceptions_of-exceptions.result c.in_ok-numbers.numbers c.requires few c.requires.methods
+          c.in_ok-methods.ensures made c.exceptions_of-exceptions.ensures.raised c.exceptions_of-exceptions.ensures.string c.in_ok-numbers.ensures);
+      known = subst (AreKnown c.load_built_in.new.linker (with_lines q c.in_ok-versions.versions)) (sym c.new-cells.ensures)
+          (nil-known c.load_built_in.new.linker (with_lines q c.in_ok-versions.versions));
+      selected = subst (AreSelections q) (sym c.new-selections.ensures) (no_selections q);
+      bare = subst (λ (r : Program). AreBare r c.in_ok-versions.versions) (sym same) (subst (AreBare p) (sym c.in_ok-versions.ensures) (first-bare p));
     }
+
+pub returns-clause-versions : goal.returns-clause-versions
+returns-clause-versions c =
+    let p : Program = c.args.program in
+    let same : c.load_built_in.new.linker.program ≡ p = search rules in
+    ap (λ (r : Program). with_lines r c.in_ok-versions.versions) same ∙ (ap (with_lines p) c.in_ok-versions.ensures ∙ first-versions p)
 
 pub returns-clause-set_up : goal.returns-clause-set_up
 returns-clause-set_up c = λ fit closed.
-    let few : length c.args.program.methods ≤ 4294967296 = omega (arith, c.requires.methods) in
-    let same : c.load_built_in.new.linker.program ≡ c.args.program = search rules in
-    let made : Setup = record { world = world_in c.load_built_in.new.linker.program c.args.input; versions = c.in_ok-versions.versions } in
-    made-set_up made c.args.program same c.in_ok-versions.ensures few fit closed
+    let p : Program = c.args.program in
+    let q : Program = c.load_built_in.new.linker.program in
+    let few : length p.methods ≤ 4294967296 = omega (arith, c.requires.methods) in
+    let same : q ≡ p = search rules in
+    let made : Setup = record { world = world_in q c.args.input; versions = with_lines q c.in_ok-versions.versions } in
+    let all : with_lines q c.in_ok-versions.versions ≡ original_versions p =
+    ap (λ (r : Program). with_lines r c.in_ok-versions.versions) same ∙ (ap (with_lines p) c.in_ok-versions.ensures ∙ first-versions p) in
+    made-set_up made p same all few fit closed

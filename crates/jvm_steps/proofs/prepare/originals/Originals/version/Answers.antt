@@ -1,5 +1,19 @@
-use Rattle.jvm_steps.proofs.Codes.LineFamilies.{keeps-prepared}
+use Rattle.std.proofs.Common.{◌≡◌, Some, sym, subst, ap, ◌∙◌}
+use Rattle.std.specs.Option.{option_copied}
+use Rattle.jvm_steps.specs.Codes.Linked.{Linked}
+use Rattle.jvm_steps.specs.Codes.Making.{with_lines}
+use Rattle.jvm_steps.specs.Codes.Tables.{Version, version_at}
+use Rattle.jvm_steps.proofs.Codes.Made.{are-prepared, version-made}
 use Rattle.jvm_steps.proofs.prepare.originals.Originals.version.Goals as goal
 
+pub returns-clause-version : goal.returns-clause-version
+returns-clause-version c =
+    let x : Version = c.in_ok-held.held.now in
+    subst (λ (o : Linked). version_at o.setup.versions c.args.version ≡ Some x) c.self.view_is
+    (version-made c.self.inside.linker.program c.self.inside.versions c.args.version x (sym c.version_at.ensures ∙ ap option_copied (c.in_ok-held.was tt)) c.if-not-held.false)
+
 pub returns-clause-prepared : goal.returns-clause-prepared
-returns-clause-prepared c = keeps-prepared c.self.inside.versions c.self.invariant.prepared.lines c.args.version c.version_at.result c.version_at.ensures
+returns-clause-prepared c =
+    let x : Version = c.in_ok-held.held.now in
+    are-prepared c.self.inside.linker.program c.self.inside.versions c.self.invariant.prepared.lines c.args.version x
+    (version-made c.self.inside.linker.program c.self.inside.versions c.args.version x (sym c.version_at.ensures ∙ ap option_copied (c.in_ok-held.was tt)) c.if-not-held.false)
