@@ -37,7 +37,6 @@ use jf_bytes::Stack;
 use jvm_basic::recall;
 use jvm_model::{Due, EventKind};
 use jvm_named::{Call, Invoked, Known, Naming, known_call};
-use std::alloc::Global;
 
 // ---- a call
 
@@ -69,7 +68,6 @@ fn begin_marked(originals: &Originals, parts: &mut Parts, call: Call) -> bool
 /// where it is another one.
 #[inline(always)]
 fn invoke_known(
-    alloc: Global,
     originals: &Originals,
     parts: &mut Parts,
     markers: &Stack<Marker>,
@@ -108,7 +106,6 @@ fn invoke_known(
 /// The same, where its names came to a method.
 #[inline(always)]
 fn invoke(
-    alloc: Global,
     originals: &Originals,
     parts: &mut Parts,
     markers: &Stack<Marker>,
@@ -132,7 +129,7 @@ fn invoke(
     if !is_method(known) {
         return false;
     }
-    invoke_known(alloc, originals, parts, markers, here, line, naming, known)
+    invoke_known(originals, parts, markers, here, line, naming, known)
 }
 
 // ---- a return
@@ -208,7 +205,6 @@ fn end(
 /// From an attempt. None, with nothing of the run changed, where the line does something else, or nothing is known of its names.
 #[inline(always)]
 fn try_calmly(
-    alloc: Global,
     originals: &Originals,
     parts: &mut Parts,
     markers: &Stack<Marker>,
@@ -231,7 +227,7 @@ fn try_calmly(
     };
     match &line.action {
         Action::Named(naming) => {
-            if !invoke(alloc, originals, parts, markers, here, line, naming) {
+            if !invoke(originals, parts, markers, here, line, naming) {
                 return None;
             }
             Some(Due::Begins)
@@ -256,7 +252,6 @@ fn passed_there(due: Due) -> u64
 /// it is not: `go` does it then.
 #[inline(always)]
 pub fn go_calmly(
-    alloc: Global,
     originals: &Originals,
     parts: &mut Parts,
     markers: &Stack<Marker>,
@@ -292,7 +287,7 @@ pub fn go_calmly(
     if hand.passed > 0 {
         return None;
     }
-    let Some(due) = try_calmly(alloc, originals, parts, markers, hand.told) else {
+    let Some(due) = try_calmly(originals, parts, markers, hand.told) else {
         return None;
     };
     Some(gone_to(due, passed_there(due)))
