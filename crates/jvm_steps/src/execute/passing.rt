@@ -135,13 +135,10 @@ fn pass_call(
     ensures { Passes originals.now.setup markers.now parts.old (steps_if result) parts.new }
 {
     let linker = originals.linker();
-    let numbers = originals.numbers();
     let selections = originals.selections();
     let shared = &parts.shared;
     let frames = &parts.frames;
-    let Some(invoked) = known_call(
-        alloc, linker, numbers, selections, shared, frames, naming, known,
-    ) else {
+    let Some(invoked) = known_call(linker, selections, shared, frames, naming, known) else {
         return false;
     };
     match invoked {
@@ -211,6 +208,7 @@ pub fn result_of(frames: &Frames, kind: Option<Kind>) -> Option<Option<Datum>>
 }
 
 /// Where the caller of the current frame goes on. None where nothing does, or where an initialization stands on it.
+#[inline(always)]
 pub fn goes_back(originals: &Originals, frames: &Frames, markers: &Stack<Marker>) -> Option<u16>
     ensures { let w = originals.now.setup in
         IfSome result (λ next. GoesBack w markers.now frames.now.frames next) }

@@ -12,5 +12,5 @@ returns c =
     let fs = c.args.frames.now.frames in
     goes-there w ms fs c.in-Some-line.line.now c.next_in.result c.next_in.ensures
     (caller-there w.versions fs c.in-Some.version c.in-Some.place c.in-Some-line.line.now (sym c.caller.ensures ∙ c.in-Some.is)
-    (sym c.line.ensures.line ∙ ap option_copied c.in-Some-line.is))
+    c.in-Some-line.ensures.line)
     (ap (λ n. marker_on (n - 1) ms) (sym c.depth-depth.ensures) ∙ (sym c.marker_on.ensures ∙ not-some c.marker_on.result (sym c.is_some.ensures ∙ c.if-is_some.false)))
