@@ -188,6 +188,7 @@ fn pass_access(
 // ---- a return
 
 /// The value that a datum is, if there is one.
+#[inline(always)]
 pub fn value_given(datum: Option<Datum>) -> Option<Value>
     ensures { result ≡ option_map as_value datum }
 {
@@ -198,6 +199,7 @@ pub fn value_given(datum: Option<Datum>) -> Option<Value>
 }
 
 /// What a return gives back, where its operand is of the kind.
+#[inline(always)]
 pub fn result_of(frames: &Frames, kind: Option<Kind>) -> Option<Option<Datum>>
     ensures { IfSome result (λ d. returns kind (top_operands frames.now.frames) ≡ Returns d) }
 {
@@ -211,6 +213,7 @@ pub fn result_of(frames: &Frames, kind: Option<Kind>) -> Option<Option<Datum>>
 }
 
 /// Where the caller of the current frame goes on. None where nothing does, or where an initialization stands on it.
+#[inline(always)]
 pub fn goes_back(originals: &Originals, frames: &Frames, markers: &Stack<Marker>) -> Option<u16>
     ensures { let w = originals.now.setup in
         IfSome result (λ next. GoesBack w markers.now frames.now.frames next) }
