@@ -56,6 +56,7 @@ impl Events {
     }
 
     /// Puts an event behind those that are held, where its record fits.
+    #[inline(always)]
     pub fn push(&mut self, event: Event) -> Result<(), Full>
         requires later { last_clock self.old ≤ event.clock }
         ensures full { IsErr result
@@ -75,6 +76,7 @@ impl Events {
     }
 
     /// Takes the first event out. It is None exactly where nothing is held.
+    #[inline(always)]
     pub fn pop(&mut self) -> Option<Event>
         ensures first { result ≡ slice_get self.old.events 0 }
         ensures rest { self.new ≡ rest_of self.old self.old.events }

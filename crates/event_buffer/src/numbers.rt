@@ -15,7 +15,21 @@ pub(crate) fn put_byte(bytes: &mut HeapCircularBuffer<u8>, byte: u8)
     bytes.push_back(byte);
 }
 
-/// How many bytes a number has.
+/// How many bytes a number has, byte after byte.
+fn length_of_bytes(number: u64) -> usize
+    ensures length { result ≡ length (leb128 number) }
+    ensures short { result ≤ 10 }
+    ensures narrow { number < 2 ^ 32 → result ≤ 5 }
+{
+    if number < 128 {
+        1
+    } else {
+        1 + length_of_bytes(number / 128)
+    }
+}
+
+/// The same; a small number, as mostly, has one.
+#[inline(always)]
 pub(crate) fn length_of_number(number: u64) -> usize
     ensures length { result ≡ length (leb128 number) }
     ensures short { result ≤ 10 }
@@ -24,7 +38,7 @@ pub(crate) fn length_of_number(number: u64) -> usize
     if number < 128 {
         1
     } else {
-        1 + length_of_number(number / 128)
+        length_of_bytes(number)
     }
 }
 

@@ -10,6 +10,7 @@ use crate::numbers::{length_of_number, put_byte, put_number};
 use circular_buffer::HeapCircularBuffer;
 use jvm_model::{Event, EventKind};
 
+#[inline(always)]
 fn number_of_kind(kind: EventKind) -> u8
     ensures { result ≡ kind_number kind }
 {
@@ -21,6 +22,7 @@ fn number_of_kind(kind: EventKind) -> u8
     }
 }
 
+#[inline(always)]
 pub(crate) fn kind_of_number(number: u8) -> EventKind
     ensures { result ≡ kind_numbered number }
 {
@@ -33,6 +35,7 @@ pub(crate) fn kind_of_number(number: u8) -> EventKind
 }
 
 /// How many bytes the record of an event has, behind one of the clock `before`.
+#[inline(always)]
 pub(crate) fn length_of_record(before: u64, event: Event) -> usize
     requires later { before ≤ event.clock }
     ensures length { result ≡ length (record_of before event) }
@@ -43,6 +46,7 @@ pub(crate) fn length_of_record(before: u64, event: Event) -> usize
 }
 
 /// Appends the record of an event that there is room for, behind one of the clock `before`.
+#[inline(always)]
 pub(crate) fn put_record(bytes: &mut HeapCircularBuffer<u8>, before: u64, event: Event)
     requires later { before ≤ event.clock }
     requires room { length bytes.old.items + length (record_of before event) ≤ bytes.old.capacity }

@@ -183,13 +183,7 @@ impl Vm {
         }
         let resting = self.is_resting();
         let hand = hand_now(resting, self.hand);
-        let gone = go_calmly(
-            self.alloc,
-            &self.originals,
-            &mut self.parts,
-            &self.markers,
-            hand,
-        );
+        let gone = go_calmly(&self.originals, &mut self.parts, &self.markers, hand);
         let Some(gone) = gone else {
             return None;
         };

@@ -1,6 +1,7 @@
 -- Values on top of a frame as the arguments of a method.
 use Rattle.std.proofs.Common.{drop-cons, ◌≡◌, ◌≢◌, ℕ, zero, suc, ◌+◌, ◌-◌, ◌<◌, ◌≤◌, Bool, true, false, List, [], ◌∷◌, ◌++◌, length, drop, take, map, get_or, min, cond, Option, Some, None, refl, sym, ap, ◌∙◌, ⊎_elim, add-one, arith, subst}
-use Rattle.std.specs.Prelude.{is_some, slice_get, reverse}
+use Rattle.std.specs.Prelude.{is_some, slice_get, reverse, ℤ}
+use Rattle.frame_stack.specs.Tops.{int_of, reference_of}
 use Rattle.std.specs.Option.{option_and_then, option_map}
 use Rattle.std.proofs.Math.Seq.{take-suc}
 use Rattle.std.proofs.lemmas.Bool.{cases_lt}
@@ -256,3 +257,19 @@ by-shape instance m o ks e = sym (by-params instance m o ∙ ap (option_and_then
 
 pub no-shape : (instance : Bool) (m : NameAndType) (o : Operands) → params_by m.descriptor ≡ None → None ≡ arguments_by instance m o
 no-shape instance m o e = sym (by-params instance m o ∙ ap (option_and_then (λ ks. arguments (with_receiver instance ks) o)) e)
+
+-- ---- what stands on top
+
+pub int_there : (o : Operands) (n : ℤ) → int_of o ≡ Some n → slice_get o 0 ≡ Some (Int n)
+int_there (Int m ∷ below) n is = ap (λ m. Some (Int m)) (same_Some m n is)
+int_there (Long m ∷ below) n is = absurd (none-some n is)
+int_there (Ref r ∷ below) n is = absurd (none-some n is)
+int_there (Addr t ∷ below) n is = absurd (none-some n is)
+int_there [] n is = absurd (none-some n is)
+
+pub reference_there : (o : Operands) (r : ℕ) → reference_of o ≡ Some r → slice_get o 0 ≡ Some (Ref r)
+reference_there (Ref m ∷ below) r is = ap (λ m. Some (Ref m)) (same_Some m r is)
+reference_there (Int m ∷ below) r is = absurd (none-some r is)
+reference_there (Long m ∷ below) r is = absurd (none-some r is)
+reference_there (Addr t ∷ below) r is = absurd (none-some r is)
+reference_there [] r is = absurd (none-some r is)

@@ -8,22 +8,19 @@ use Rattle.heap_objects.specs.declared.datum.Datum.{Datum}
 use Rattle.heap_objects.specs.Heaps.{HeapView, kind_at}
 use Rattle.jvm_model.specs.Basis.Data.{Operands, Outcome, Raises}
 use Rattle.jvm_model.specs.declared.program.Program.{Program}
-use Rattle.jvm_model.specs.Instructions.InvocationRules.{Selecting, Virtual, OfInterface, Special, arguments_by, names_interface, not_of_class, receiver_in, selected_by}
+use Rattle.jvm_model.specs.Instructions.InvocationRules.{Selecting, Special, arguments_by, not_of_class, receiver_in, selected_by}
 use Rattle.jvm_model.specs.Basis.SharedState.{null_pointer}
 use Rattle.jvm_model.specs.Classes.Kinds.{kind_named}
 use Rattle.jvm_model.specs.Classes.Lookup.{MemberPlace}
 use Rattle.jvm_model.specs.Instructions.Naming.{◌>>=◌, is_below_kind, present, receiver}
 use Rattle.jvm_model.specs.Basis.SharedState.{class_of_kind}
 use Rattle.jvm_named.specs.declared.known.Chosen.{Chosen}
-use Rattle.jvm_named.specs.declared.known.Found.{Found}
 use Rattle.jvm_named.specs.declared.known.Found.TheVariants as found
 use Rattle.jvm_named.specs.declared.known.Known.{Known}
 use Rattle.jvm_named.specs.declared.known.Site.{Site}
-use Rattle.jvm_named.specs.Callees.{chosen_place}
 use Rattle.jvm_named.specs.Known.{IsFoundAs, IsKnown, IsSite, naming_by}
 use Rattle.jvm_named.specs.Members.{at_place}
 use Rattle.jvm_named.specs.Objects.{class_at_kind}
-use Rattle.jvm_named.specs.Resolved.{method_found}
 use Rattle.jvm_named.specs.Targets.{Target, data_in, instance_target, receiver_class, target_in}
 use Rattle.jvm_named.proofs.KnownLemmas.{of_site}
 use Rattle.jvm_named.specs.declared.selections.Selection.{Selection}

@@ -2,6 +2,7 @@
 use Rattle.std.proofs.Common.{◌≡◌, ℕ, ◌≤◌, List, length, drop, take, min, Option, Some, None, refl, sym, ap, subst, ◌∙◌, arith}
 use Rattle.std.specs.Prelude.{false, true, reverse, Result, Ok, Err}
 use Rattle.std.specs.Option.{option_map}
+use Rattle.std.proofs.lemmas.Bool.{false≢true}
 use Rattle.std.proofs.lemmas.List.{append-nil, length-map, length-reverse, length-take}
 use Rattle.heap_objects.specs.declared.datum.Datum.{Datum}
 use Rattle.heap_objects.specs.Heaps.{kind_at}
@@ -17,6 +18,10 @@ use Rattle.jvm_model.specs.Instructions.Naming.{◌>>=◌, is_instance, present,
 use Rattle.jvm_model.specs.Instructions.ObjectRules.{done}
 use Rattle.jvm_model.specs.Instructions.Rules.{when_ready}
 use Rattle.jvm_model.specs.Basis.SharedState.{class_of, phase_of}
+use Rattle.jvm_model.specs.declared.program.Program.{Program}
+use Rattle.jvm_named.specs.declared.known.Chosen.{Chosen}
+use Rattle.jvm_named.specs.Known.{IsFixed}
+use Rattle.jvm_named.specs.Passing.{is_usable}
 use Rattle.jvm_named.specs.declared.asked.Asked.TheVariants.{Refused}
 use Rattle.jvm_named.specs.declared.asked.Refusal.{Refusal}
 use Rattle.jvm_named.specs.declared.asked.Refusal.TheVariants as refusal
@@ -118,3 +123,27 @@ refuses d next f s out e is = subst (λ d. IsDone d next (changed f s out) (chan
 pub refuses-target : (w : World) (found : Result Target Outcome) (s : Shared) (l : Locals) (o : Operands) (e : Refusal) → Err (refusal_view e) ≡ found
     → invokes_target w found s l o ≡ done s (refusal_view e)
 refuses-target w found s l o e is = ap (λ x. invokes_target w x s l o) (sym is)
+
+-- ---- a static method that was found
+
+ready-by : (p : Program) (class : ℕ) (phase : Option Phase) → is_usable phase ≡ true → unready_by p class phase ≡ None
+ready-by p class (Some Ready) is = refl
+ready-by p class (Some Running) is = refl
+ready-by p class (Some Fresh) is = absurd (false≢true is)
+ready-by p class (Some Erroneous) is = absurd (false≢true is)
+ready-by p class None is = absurd (false≢true is)
+
+module _ (p : Program) (kind : ℕ) (r : Reference) (s : Shared) (o : Operands) (m : Chosen) (count : ℕ) where
+  abbrev of_method : MemberPlace → List Datum → Result Target Outcome
+  of_method m args = Ok (record { selected = Some m; args = args })
+
+  abbrev with_found : Result MemberPlace Outcome → Result Target Outcome
+  with_found found =
+      found >>= λ m. unless_unready (unready_by p m.class (phase_of s m.class)) (present (arguments_by false r.member o)) >>= of_method m
+
+  pub target_fixed : IsFixed p kind r m → is_usable (phase_of s m.place.class) ≡ true → Some (data_in count o) ≡ arguments_by false r.member o
+      → Ok (target_in o (record { selected = Some m; count = count })) ≡ static_target p kind r s o
+  target_fixed is usable given =
+      sym (ap with_found is.named
+      ∙ (ap (λ asked. unless_unready asked (present (arguments_by false r.member o)) >>= of_method (chosen_place m)) (ready-by p m.place.class (phase_of s m.place.class) usable)
+      ∙ ap (λ args. present args >>= of_method (chosen_place m)) (sym given)))

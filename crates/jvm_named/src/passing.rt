@@ -1,7 +1,7 @@
 //! Accesses of fields, and which methods are invoked, where it is known what their names came to. Accesses are done only where they raise
 //! nothing; else nothing is done.
 
-ghost use Rattle.std.specs.Prelude.{◌≡◌, ◌≤◌, ℕ, List, drop, length, true, IfOk, IfSome, Ok};
+ghost use Rattle.std.specs.Prelude.{◌≡◌, ◌≤◌, ℕ, List, drop, length, true, IfSome, Ok, Some};
 ghost use Rattle.const_pool.specs.References.{Reference};
 ghost use Rattle.std.specs.Option.{option_map};
 ghost use Rattle.jvm_basic.specs.Outcomes.{top_locals};
@@ -11,33 +11,32 @@ ghost use Rattle.jvm_model.specs.Instructions.Naming.{Getfield, Getstatic, Invok
 ghost use Rattle.jvm_named.specs.Answers.{answer_view, done_on};
 ghost use Rattle.jvm_named.specs.Attempts.{attempts, loads_nothing, world_over};
 ghost use Rattle.jvm_named.specs.Callees.{HasCallee, chosen_place};
-ghost use Rattle.jvm_named.specs.Known.{IsFoundAs, IsKnown, IsSite, naming_by};
+ghost use Rattle.jvm_named.specs.Known.{IsFixed, IsFoundAs, IsKnown, IsSite, naming_by};
 ghost use Rattle.jvm_named.specs.Members.{reference_of};
 ghost use Rattle.jvm_named.specs.Names.{naming_view};
-ghost use Rattle.jvm_named.specs.Numbers.{AreNumbers};
 ghost use Rattle.jvm_named.specs.Objects.{AreLoaded, IsResolved, IsUsable};
 ghost use Rattle.jvm_named.specs.Passing.{IfPassed, IsCall, IsInvoked, is_next, is_usable};
+ghost use Rattle.jvm_model.specs.declared.program.Program.{Program};
 ghost use Rattle.jvm_model.specs.Basis.SharedState.{phase_of};
 ghost use Rattle.jvm_named.specs.Resolved.{gets_instance, gets_static, puts_instance};
 ghost use Rattle.jvm_named.specs.Resolved.{puts_static};
 ghost use Rattle.jvm_named.specs.Resolved.{invokes_instance, invokes_static_method};
 ghost use Rattle.jvm_named.specs.Selections.{AreSelections, site_for};
-ghost use Rattle.jvm_named.specs.Targets.{data_in, found_as, instance_target, invokes_target};
+ghost use Rattle.jvm_named.specs.Targets.{data_in, instance_target, static_target};
 ghost use Rattle.jvm_named.specs.Targets.{selecting_view, target_in};
 
-use crate::asked::{Asked, Refusal};
+use crate::asked::Asked;
 use crate::fields::{known_owner, put_slot, putting_of, read_known};
 use crate::held::held_by;
 use crate::instances::kind_of_object;
 use crate::known::{Callee, Chosen, Found, Known, Site};
 use crate::moving::{drop_one, drop_two};
 use crate::naming::{MemberName, MethodName, Naming};
-use crate::numbers::MethodNumbers;
 use crate::receivers::{argument_count, receiver_below};
 use crate::selections::Selections;
 use crate::static_fields::set_static;
 use crate::statics::{held_of, push_field};
-use crate::targets::{Selecting, Target, static_target};
+use crate::targets::{Selecting, Target};
 use class_linker::Linker;
 use frame_stack::Frames;
 use heap_objects::Heap;
@@ -213,6 +212,7 @@ pub enum Invoked {
 }
 
 /// What is invoked of a target, where that is known by a number.
+#[inline(always)]
 fn call_of(linker: &Linker, shared: &Shared, frames: &Frames, target: Target) -> Option<Invoked>
     requires within { target.count ≤ length (top_operands frames.now.frames) }
     requires callee { IfSome target.selected (HasCallee linker.now.program) }
@@ -238,50 +238,48 @@ fn call_of(linker: &Linker, shared: &Shared, frames: &Frames, target: Target) ->
     }
 }
 
-/// The same of a target that may be refused.
-fn target_call(
-    linker: &Linker,
-    shared: &Shared,
-    frames: &Frames,
-    found: &Result<Target, Refusal>,
-) -> Option<Invoked>
-    requires within { IfOk found.now (λ t. t.count ≤ length (top_operands frames.now.frames)) }
-    requires callee { IfOk found.now (λ t. IfSome t.selected (HasCallee linker.now.program)) }
-    ensures { (input : List ℕ) → let w = world_over linker.now input in
-        let fs = frames.now.frames in let o = top_operands fs in
-        let d = invokes_target w (found_as (target_in o) found.now) shared.now (top_locals fs) o
-        in IfSome result (λ c. IsInvoked w c d shared.now fs) }
+/// What a static method that was found is invoked on, where its class need not be initialized before.
+#[inline(always)]
+fn fixed_target(shared: &Shared, frames: &Frames, method: &MethodName, m: Chosen) -> Option<Target>
+    ensures target { (p : Program) (kind : ℕ) → IsFixed p kind method.now m
+        → let o = top_operands frames.now.frames in
+        IfSome result (λ t. Ok (target_in o t) ≡ static_target p kind method.now shared.now o) }
+    ensures within { IfSome result (λ t. t.count ≤ length (top_operands frames.now.frames)) }
+    ensures selected { IfSome result (λ t. t.selected ≡ Some m) }
 {
-    match found {
-        Ok(target) => call_of(linker, shared, frames, *target),
-        Err(_) => None,
+    if !is_usable(shared, m.place.class) {
+        return None;
+    }
+    match argument_count(false, method, frames) {
+        Some(count) => Some(Target {
+            selected: Some(m),
+            count,
+        }),
+        None => None,
     }
 }
 
-/// invokestatic.
+/// invokestatic, where its method was found.
+#[inline(always)]
 fn static_call(
-    alloc: Global,
     linker: &Linker,
-    numbers: &MethodNumbers,
     shared: &Shared,
     frames: &Frames,
     method: &MethodName,
     kind: u32,
     known: Found,
 ) -> Option<Invoked>
-    requires usable { IsUsable linker.now kind }
-    requires numbers { AreNumbers linker.now.program numbers.now }
     requires found { IsFoundAs known linker.now.program kind (Invokestatic method.now) }
     ensures { (input : List ℕ) → let w = world_over linker.now input in
         let d = done_on (invokes_static_method w kind method.now shared.now) frames.now in
         IfSome result (λ c. IsInvoked w c d shared.now frames.now.frames) }
 {
-    let mut found = known;
-    match static_target(
-        alloc, linker, numbers, shared, frames, method, kind, &mut found,
-    ) {
-        Ok(target) => target_call(linker, shared, frames, &target),
-        Err(_) => None,
+    let Found::Fixed(m) = known else {
+        return None;
+    };
+    match fixed_target(shared, frames, method, m) {
+        Some(target) => call_of(linker, shared, frames, target),
+        None => None,
     }
 }
 
@@ -391,11 +389,10 @@ fn instance_call(
 
 /// Which method an instruction invokes, by what its names came to and what was selected. None where it invokes none that is known by a
 /// number, or anything else would come, or where an attempt would learn more.
+#[inline(always)]
 #[tactic(auto, using(crate::proofs::Again::loads_none))]
 pub fn known_call(
-    alloc: Global,
     linker: &Linker,
-    numbers: &MethodNumbers,
     selections: &Selections,
     shared: &Shared,
     frames: &Frames,
@@ -404,7 +401,6 @@ pub fn known_call(
 ) -> Option<Invoked>
     requires linked { linker.now.loaded ≡ shared.now.loaded }
     requires known { IsKnown linker.now (naming_view naming.now) known.now }
-    requires numbers { AreNumbers linker.now.program numbers.now }
     requires selections { AreSelections linker.now.program selections.now }
     requires objects { AreLoaded linker.now shared.now.heap }
     ensures called { (input : List ℕ) → let w = world_over linker.now input in
@@ -414,21 +410,23 @@ pub fn known_call(
         shared.now.loaded n (top_operands frames.now.frames) ≡ true }
 {
     let kind = known.kind;
-    let found = known.found;
     match naming {
-        Naming::Invokestatic(method) => static_call(
-            alloc, linker, numbers, shared, frames, method, kind, found,
-        ),
+        Naming::Invokestatic(method) => {
+            static_call(linker, shared, frames, method, kind, known.found)
+        }
         Naming::Invokevirtual(method) => {
             let by = Selecting::Virtual;
+            let found = known.found;
             instance_call(linker, selections, shared, frames, by, method, kind, found)
         }
         Naming::Invokeinterface(method) => {
             let by = Selecting::OfInterface;
+            let found = known.found;
             instance_call(linker, selections, shared, frames, by, method, kind, found)
         }
         Naming::Invokespecial(caller, method, interface) => {
             let by = Selecting::Special(caller, *interface);
+            let found = known.found;
             instance_call(linker, selections, shared, frames, by, method, kind, found)
         }
         _ => None,
@@ -437,9 +435,7 @@ pub fn known_call(
 
 /// The same, where that method has Code.
 pub fn known_code(
-    alloc: Global,
     linker: &Linker,
-    numbers: &MethodNumbers,
     selections: &Selections,
     shared: &Shared,
     frames: &Frames,
@@ -448,7 +444,6 @@ pub fn known_code(
 ) -> Option<Call>
     requires linked { linker.now.loaded ≡ shared.now.loaded }
     requires known { IsKnown linker.now (naming_view naming.now) known.now }
-    requires numbers { AreNumbers linker.now.program numbers.now }
     requires selections { AreSelections linker.now.program selections.now }
     requires objects { AreLoaded linker.now shared.now.heap }
     ensures called { (input : List ℕ) → let w = world_over linker.now input in
@@ -457,9 +452,7 @@ pub fn known_code(
     ensures loads { let n = naming_view naming.now in loads_nothing linker.now.program
         shared.now.loaded n (top_operands frames.now.frames) ≡ true }
 {
-    let Some(invoked) = known_call(
-        alloc, linker, numbers, selections, shared, frames, naming, known,
-    ) else {
+    let Some(invoked) = known_call(linker, selections, shared, frames, naming, known) else {
         return None;
     };
     match invoked {

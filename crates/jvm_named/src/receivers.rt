@@ -14,6 +14,33 @@ use const_pool::Kind;
 use frame_stack::Frames;
 use heap_objects::Value;
 
+/// The topmost operand. An int or a reference is read where it stands.
+#[inline(always)]
+#[tactic(auto, using(crate::proofs::Arguments::int_there, crate::proofs::Arguments::reference_there))]
+fn top_operand(frames: &Frames) -> Option<Value>
+    ensures { result ≡ slice_get (top_operands frames.now.frames) 0 }
+{
+    if let Some(n) = frames.int() {
+        return Some(Value::Int(n));
+    }
+    if let Some(object) = frames.reference() {
+        return Some(Value::Ref(object));
+    }
+    frames.peek(0)
+}
+
+/// The operand that has so many above it.
+#[inline(always)]
+fn operand_at(frames: &Frames, above: u16) -> Option<Value>
+    ensures { result ≡ slice_get (top_operands frames.now.frames) above }
+{
+    if above == 0 {
+        top_operand(frames)
+    } else {
+        frames.peek(above)
+    }
+}
+
 /// Whether a parameter of this kind may have the value: boolean, byte, char and short are ints.
 fn is_of_kind(kind: Kind, value: Value) -> bool
     ensures { result ≡ is_some (datum_of kind value) }
@@ -28,7 +55,7 @@ fn are_of_kinds(params: &[Kind], frames: &Frames) -> bool
 {
     let count = params.len();
     for i in 0..count {
-        let Some(value) = frames.peek((count - 1 - i) as u16) else {
+        let Some(value) = operand_at(frames, (count - 1 - i) as u16) else {
             return false;
         };
         if !is_of_kind(params[i], value) {
@@ -58,7 +85,7 @@ fn has_receiver(frames: &Frames, count: u16) -> bool
     ensures answer { result ≡ is_reference (slice_get (top_operands frames.now.frames) count) }
     ensures within { IsTrue result → count < length (top_operands frames.now.frames) }
 {
-    match frames.peek(count) {
+    match operand_at(frames, count) {
         Some(Value::Ref(_)) => true,
         Some(Value::Int(_)) => false,
         Some(Value::Long(_)) => false,
@@ -110,7 +137,7 @@ pub fn argument_count(instance: bool, method: &MethodName, frames: &Frames) -> O
 fn reference_at(frames: &Frames, above: u16) -> u32
     ensures { result ≡ reference_in (slice_get (top_operands frames.now.frames) above) }
 {
-    match frames.peek(above) {
+    match operand_at(frames, above) {
         Some(Value::Ref(object)) => object,
         Some(Value::Int(_)) => 0,
         Some(Value::Long(_)) => 0,

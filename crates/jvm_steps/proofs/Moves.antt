@@ -9,3 +9,4 @@ pub mod TriedSteps
 pub mod PausesSound
 pub mod HandLaws
 pub mod CalmSteps
+pub mod CalmHands

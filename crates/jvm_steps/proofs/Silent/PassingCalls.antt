@@ -7,7 +7,7 @@ use Rattle.std.proofs.lemmas.List.{append-nil}
 use Rattle.std.proofs.lemmas.Option.{none-some, same_Some}
 use Rattle.heap_objects.specs.declared.Value.{Value}
 use Rattle.frame_stack.specs.Widths.{height_of}
-use Rattle.frame_stack.specs.FrameLists.{FramesView, PlacedFrame, has_frame, top_operands, with_frames, without_arguments}
+use Rattle.frame_stack.specs.FrameLists.{FramesView, PlacedFrame, has_frame, top_of, top_operands, with_frames, without_arguments}
 use Rattle.jvm_model.specs.declared.due.Due.TheVariants.{Begins, Nothing}
 use Rattle.jvm_model.specs.declared.event.Mark.{Mark}
 use Rattle.jvm_model.specs.declared.event.Mark.TheVariants.{Off}
@@ -22,6 +22,7 @@ use Rattle.jvm_model.specs.Instructions.Naming.{newly_loaded}
 use Rattle.jvm_model.specs.Turns.Pauses.{stop_by, stop_in, unless_off}
 use Rattle.jvm_model.specs.Basis.Programs.{max_locals_of}
 use Rattle.jvm_model.specs.Turns.Rest.{loads_at, loads_on, step_loads}
+use Rattle.jvm_model.specs.Rewriting.Images.{is_off}
 use Rattle.jvm_model.specs.Running.Run.{starts, step}
 use Rattle.jvm_model.specs.Basis.SharedState.{raised, stack_overflow}
 use Rattle.jvm_model.specs.Turns.Told.{Held, helds, mark_now}
@@ -45,7 +46,9 @@ use Rattle.jvm_steps.specs.Instructions.Invoking.{called, may_begin}
 use Rattle.jvm_steps.specs.Machine.Markers.{marker_on, stack_of, state_of, with_markers}
 use Rattle.jvm_steps.specs.Instructions.Passing.{AreKeptBy, Passes, on_frames, runs, steps_if}
 use Rattle.jvm_steps.specs.Machine.Ready.{CanRun}
-use Rattle.jvm_steps.specs.Moves.Calmly.{Attempted}
+use Rattle.jvm_steps.specs.Moves.Calmly.{Attempted, TriesCalmly, TriesIf}
+use Rattle.jvm_steps.specs.Moves.Trying.{returns_by}
+use Rattle.jvm_steps.proofs.Moves.CalmSteps.{begins-calmly, has-here, no-return}
 use Rattle.jvm_steps.specs.Machine.Runs.{IsCalm, steps_from-zero}
 use Rattle.jvm_steps.specs.Machine.States.{active, frame_in, here_of, state_in, state_with}
 use Rattle.jvm_steps.specs.Codes.Versions.{Setup, current_of, instruction_in, line_at, mark_of, operation_as, text_of}
@@ -258,3 +261,16 @@ module _ (w : Setup) (run : CanRun w) (ms : List Marker) (here : Here) (line : L
       → Passes w ms old (steps_if b) new
   called-passes true new call may can off are same = subst (Passes w ms old 1) (sym same) (call-passes call (may refl) (can refl) new.frames are (off refl))
   called-passes false new call may can off are same = subst (Passes w ms old 0) (sym same) (passes-still new.frames are)
+
+  -- in a version with probes
+  pub called-tries : (b : Bool) (new : Parts) → IsCall c (done_on (attempts w.world n old.shared old.frames) old.frames) old.shared
+      → (b ≡ true → may_begin old.frames.frames ≡ true) → (b ≡ true → can_begin w c.method c.count old.frames.frames ≡ true)
+      → (b ≡ true → is_off (marks (current_of w.versions c.method)) ≡ false) → new.frames.frames ≡ with_begun b w c.method c.count old.frames.frames
+      → new ≡ on_frames new.frames old → (told : Bool) → TriesIf b w ms told old Begins new
+  called-tries true after call may can marked are same told =
+      subst (λ x. TriesCalmly w ms told old Begins x) (sym same)
+      (begins-calmly w run ms old (on_frames new.frames old) (has-here here old.frames.frames stands) calm (call-attempted call (may refl) (can refl) new.frames are)
+      told (current_of w.versions c.method) c.method (no-return w here line old.frames.frames stands found (ap returns_by named)) (ap top_of are)
+      (more call (may refl) (can refl) new.frames are) (marked refl))
+  called-tries false new call may can marked are same told =
+      ap (state_of ms) same ∙ ap (λ fs. with_markers ms (state_with fs old)) are

@@ -135,13 +135,10 @@ fn pass_call(
     ensures { Passes originals.now.setup markers.now parts.old (steps_if result) parts.new }
 {
     let linker = originals.linker();
-    let numbers = originals.numbers();
     let selections = originals.selections();
     let shared = &parts.shared;
     let frames = &parts.frames;
-    let Some(invoked) = known_call(
-        alloc, linker, numbers, selections, shared, frames, naming, known,
-    ) else {
+    let Some(invoked) = known_call(linker, selections, shared, frames, naming, known) else {
         return false;
     };
     match invoked {

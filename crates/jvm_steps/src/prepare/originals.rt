@@ -326,9 +326,7 @@ fn attempt_line_known(
     match &line.action {
         Action::Named(naming) => {
             // Mostly a method that has Code is invoked.
-            let called = known_code(
-                alloc, linker, numbers, selections, shared, frames, naming, known,
-            );
+            let called = known_code(linker, selections, shared, frames, naming, known);
             if let Some(call) = called {
                 return Ok(Asked::Invokes(call.method, call.count));
             }

@@ -1,9 +1,10 @@
 //! A step in hand goes on to what is told next of it, where the run is calm: by a call into a version with probes, or a return from one,
 //! of what is known.
 
-ghost use Rattle.std.specs.Prelude.{ℕ, List, ◌≡◌, ◌||◌, true, false, length, not, IfNone, IfSome, Some};
+ghost use Rattle.std.specs.Prelude.{ℕ, Bool, List, ◌≡◌, ◌||◌, true, false, length, not, IfNone, IfSome, Some};
 ghost use Rattle.jvm_model.specs.Basis.Data.{Turn};
 ghost use Rattle.jvm_model.specs.Rewriting.Images.{is_off};
+ghost use Rattle.jvm_model.specs.Running.Run.{starts_with};
 ghost use Rattle.jvm_model.specs.Turns.Told.{Held};
 ghost use Rattle.jvm_model.specs.declared.due.Due.TheVariants as due;
 ghost use Rattle.jvm_named.specs.Known.{IsKnown};
@@ -36,11 +37,11 @@ use jf_bytes::Stack;
 use jvm_basic::recall;
 use jvm_model::{Due, EventKind};
 use jvm_named::{Call, Invoked, Known, Naming, known_call};
-use std::alloc::Global;
 
 // ---- a call
 
 /// A method begins on the current frame, in a version with probes. False, with nothing of the frames changed, where it can't.
+#[inline(always)]
 fn begin_marked(originals: &Originals, parts: &mut Parts, call: Call) -> bool
     ensures few { result ≡ true → may_begin parts.old.frames.frames ≡ true }
     ensures fits { result ≡ true
@@ -65,8 +66,8 @@ fn begin_marked(originals: &Originals, parts: &mut Parts, call: Call) -> bool
 
 /// An invocation, by what its names came to, of a method that begins in a version with probes. False, with nothing of the run changed,
 /// where it is another one.
+#[inline(always)]
 fn invoke_known(
-    alloc: Global,
     originals: &Originals,
     parts: &mut Parts,
     markers: &Stack<Marker>,
@@ -90,13 +91,10 @@ fn invoke_known(
     let _next = line.next;
     let _place = here.place;
     let linker = originals.linker();
-    let numbers = originals.numbers();
     let selections = originals.selections();
     let shared = &parts.shared;
     let frames = &parts.frames;
-    let Some(invoked) = known_call(
-        alloc, linker, numbers, selections, shared, frames, naming, known,
-    ) else {
+    let Some(invoked) = known_call(linker, selections, shared, frames, naming, known) else {
         return false;
     };
     match invoked {
@@ -106,8 +104,8 @@ fn invoke_known(
 }
 
 /// The same, where its names came to a method.
+#[inline(always)]
 fn invoke(
-    alloc: Global,
     originals: &Originals,
     parts: &mut Parts,
     markers: &Stack<Marker>,
@@ -131,13 +129,14 @@ fn invoke(
     if !is_method(known) {
         return false;
     }
-    invoke_known(alloc, originals, parts, markers, here, line, naming, known)
+    invoke_known(originals, parts, markers, here, line, naming, known)
 }
 
 // ---- a return
 
 /// A return of which its probe has told, from a version that is its method's current one. False, with nothing changed, where the caller
 /// can't go on.
+#[inline(always)]
 fn leave(
     originals: &Originals,
     parts: &mut Parts,
@@ -206,7 +205,6 @@ fn end(
 /// From an attempt. None, with nothing of the run changed, where the line does something else, or nothing is known of its names.
 #[inline(always)]
 fn try_calmly(
-    alloc: Global,
     originals: &Originals,
     parts: &mut Parts,
     markers: &Stack<Marker>,
@@ -229,7 +227,7 @@ fn try_calmly(
     };
     match &line.action {
         Action::Named(naming) => {
-            if !invoke(alloc, originals, parts, markers, here, line, naming) {
+            if !invoke(originals, parts, markers, here, line, naming) {
                 return None;
             }
             Some(Due::Begins)
@@ -254,7 +252,6 @@ fn passed_there(due: Due) -> u64
 /// it is not: `go` does it then.
 #[inline(always)]
 pub fn go_calmly(
-    alloc: Global,
     originals: &Originals,
     parts: &mut Parts,
     markers: &Stack<Marker>,
@@ -274,6 +271,10 @@ pub fn go_calmly(
         → HasGoneOn w homes turn hand live gone (state_of markers.now parts.new)) }
     ensures sound { let w = originals.now.setup in let s = state_of markers.now parts.old in
         IfSome result (λ gone. IsSoundIn w s → IsSoundIn w (state_of markers.now parts.new)) }
+    // The moves of the start leave a sound state too.
+    ensures starts { let w = originals.now.setup in IfSome result (λ gone. hand.moves ≡ true
+        → hand.told ≡ false → state_of markers.now parts.old ≡ starts_with w.world
+        → IsSoundIn w (state_of markers.now parts.new)) }
     ensures none { IfNone result (state_of markers.now parts.new
         ≡ state_of markers.now parts.old) }
 {
@@ -286,7 +287,7 @@ pub fn go_calmly(
     if hand.passed > 0 {
         return None;
     }
-    let Some(due) = try_calmly(alloc, originals, parts, markers, hand.told) else {
+    let Some(due) = try_calmly(originals, parts, markers, hand.told) else {
         return None;
     };
     Some(gone_to(due, passed_there(due)))

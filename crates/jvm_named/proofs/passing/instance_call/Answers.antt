@@ -1,10 +1,10 @@
-use Rattle.std.proofs.Common.{ap, subst, ◌∙◌}
+use Rattle.std.proofs.Common.{subst, ◌∙◌}
 use Rattle.std.specs.Prelude.{IfSome}
 use Rattle.frame_stack.specs.FrameLists.{top_operands}
 use Rattle.jvm_basic.specs.Outcomes.{top_locals}
 use Rattle.jvm_named.specs.Attempts.{world_over}
 use Rattle.jvm_named.specs.Passing.{IsInvoked}
-use Rattle.jvm_named.specs.Targets.{instance_target, invokes_target, selecting_view}
+use Rattle.jvm_named.specs.Targets.{instance_target, selecting_view}
 use Rattle.jvm_named.proofs.TargetLemmas.{does-target, instance-rule}
 use Rattle.jvm_named.proofs.passing.instance_call.Goals as goal
 

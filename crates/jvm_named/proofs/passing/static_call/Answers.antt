@@ -1,21 +1,34 @@
-use Rattle.std.proofs.Common.{◌≡◌, ap, subst, ◌∙◌}
-use Rattle.std.specs.Prelude.{IfOk, IfSome}
+use Rattle.std.proofs.Common.{sym, subst, ◌∙◌}
+use Rattle.std.specs.Prelude.{IfSome}
 use Rattle.frame_stack.specs.FrameLists.{top_operands}
 use Rattle.jvm_basic.specs.Outcomes.{top_locals}
+use Rattle.jvm_model.specs.Instructions.Naming.{Invokestatic}
 use Rattle.jvm_named.specs.Attempts.{world_over}
+use Rattle.jvm_named.specs.Callees.{HasCallee}
+use Rattle.jvm_named.specs.Known.{IsFixed, IsFoundAs}
 use Rattle.jvm_named.specs.Passing.{IsInvoked}
-use Rattle.jvm_named.specs.Targets.{found_as, invokes_target, static_target, target_in}
-use Rattle.jvm_named.proofs.TargetLemmas.{static-rule}
+use Rattle.jvm_named.specs.Targets.{static_target}
+use Rattle.jvm_named.proofs.TargetLemmas.{does-target, static-rule}
 use Rattle.jvm_named.proofs.passing.static_call.Goals as goal
 
-pub returns-in-Ok : goal.returns-in-Ok
-returns-in-Ok c input =
+pub call_of-requires-clause-callee : goal.call_of-requires-clause-callee
+call_of-requires-clause-callee c =
+    let p = c.args.linker.now.program in
+    let r = c.args.method.now in
+    let is : IsFixed p c.args.kind r c.in-Fixed.m = subst (λ x. IsFoundAs x p c.args.kind (Invokestatic r)) c.in-Fixed.is c.requires.found in
+    subst (λ o. IfSome o (HasCallee p)) (sym c.in-Some.ensures.selected) is.callee
+
+pub returns-in-Some : goal.returns-in-Some
+returns-in-Some c input =
     let w = world_over c.args.linker.now input in
+    let p = c.args.linker.now.program in
+    let r = c.args.method.now in
     let s = c.args.shared.now in
     let fs = c.args.frames.now.frames in
     let l = top_locals fs in
     let o = top_operands fs in
-    subst (λ d. IfSome c.target_call.result (λ x. IsInvoked w x d s fs))
-    (ap (λ x. invokes_target w x s l o) (subst (λ r. IfOk r (λ t. found_as (target_in o) t ≡ static_target w.program c.args.kind c.args.method.now s o)) c.in-Ok.is c.static_target.ensures.target)
-    ∙ static-rule w c.args.method.now s l o c.args.kind)
-    (c.target_call.ensures input)
+    let is : IsFixed p c.args.kind r c.in-Fixed.m = subst (λ x. IsFoundAs x p c.args.kind (Invokestatic r)) c.in-Fixed.is c.requires.found in
+    subst (λ d. IfSome c.call_of.result (λ x. IsInvoked w x d s fs))
+    (does-target w (static_target p c.args.kind r s o) s l o c.in-Some.target (c.in-Some.ensures.target p c.args.kind is) c.in-Some.ensures.within
+    ∙ static-rule w r s l o c.args.kind)
+    (c.call_of.ensures input)

@@ -1,10 +1,22 @@
-use Rattle.std.proofs.Common.{◌≡◌, refl, sym, ap, subst, ◌∙◌}
+use Rattle.std.proofs.Common.{◌≡◌, true, false, refl, sym, ap, subst, ◌∙◌}
+use Rattle.std.specs.Prelude.{IfNone}
 use Rattle.std.specs.Option.{IfSome}
+use Rattle.jvm_model.specs.Running.Run.{starts_with}
 use Rattle.jvm_steps.specs.Machine.Markers.{state_of}
+use Rattle.jvm_steps.specs.Machine.Ready.{IsSoundIn}
+use Rattle.jvm_steps.specs.Moves.Calmly.{GoesCalmly}
 use Rattle.jvm_steps.proofs.Moves.StandingSteps.{set-up-runs}
-use Rattle.jvm_machine.proofs.Calmly.{calm-attempted, calm-going, calm-leaves, calm-machine, calm-stops, calm-tidy, was-whole}
-use Rattle.jvm_machine.proofs.HeldVersions.{plain-view, seen-is}
+use Rattle.jvm_machine.specs.Advances.{Stops}
+use Rattle.jvm_machine.specs.declared.advancing.Telling.TheVariants as telling
+use Rattle.jvm_machine.specs.Machine.{Keeps}
+use Rattle.jvm_machine.specs.Probes.{IfLeaves}
+use Rattle.jvm_machine.proofs.Calmly.{calm-attempted, calm-going, calm-leaves, calm-machine, calm-stops, calm-tidy}
+use Rattle.jvm_machine.proofs.Exits.{GoesOnFrom}
+use Rattle.jvm_machine.proofs.HeldVersions.{never-stale, plain-view, seen-is}
 use Rattle.jvm_machine.proofs.machine.Vm.advance_calmly.Goals as goal
+
+pub returns-then-self-clause-held : goal.returns-then-self-clause-held
+returns-then-self-clause-held c = never-stale c.self.invariant c.self.view_is
 
 pub go_calmly-gone-requires-clause-linked : goal.go_calmly-gone-requires-clause-linked
 go_calmly-gone-requires-clause-linked c = (c.self.invariant.machine.whole c.if-self.false).linked
@@ -16,7 +28,96 @@ pub go_calmly-gone-requires-clause-sound : goal.go_calmly-gone-requires-clause-s
 go_calmly-gone-requires-clause-sound c =
     calm-attempted c.self.inside.originals.setup c.self.inside.originals.loaded c.self.inside.hand c.self.inside.started c.self.inside.broken c.self.inside.clock
     c.self.inside.markers c.self.inside.parts c.self.invariant.machine c.args.self.now (seen-is c.self.invariant c.self.view_is) c.if-not-self.false c.if-self.false
-    c.is_resting-resting.result c.is_resting-resting.ensures c.hand_now-hand.result (c.hand_now-hand.ensures c.self.inside.originals.setup.world)
+    c.is_resting-resting.result c.is_resting-resting.ensures
+    c.hand_now-hand.result (c.hand_now-hand.ensures c.self.inside.originals.setup.world)
 
 pub go_calmly-gone-requires-clause-calm : goal.go_calmly-gone-requires-clause-calm
 go_calmly-gone-requires-clause-calm c = c.is_calm.ensures c.if-not-is_calm.false
+
+-- nothing was done
+pub invariant_of-self : goal.invariant_of-self
+invariant_of-self c =
+    subst (λ s. Keeps c.self.inside.originals.setup c.self.inside.originals.loaded c.self.inside.hand c.self.inside.started c.self.inside.broken c.self.inside.clock s) (sym (subst (λ o. IfNone o (state_of c.self.inside.markers c.go_calmly-gone.new.parts ≡ state_of c.self.inside.markers c.self.inside.parts)) c.in_default.is c.go_calmly-gone.ensures.none)) c.self.invariant
+
+pub returns-in_default-clause-held : goal.returns-in_default-clause-held
+returns-in_default-clause-held c =
+    never-stale (subst (λ s. Keeps c.self.inside.originals.setup c.self.inside.originals.loaded c.self.inside.hand c.self.inside.started c.self.inside.broken c.self.inside.clock s) (sym (subst (λ o. IfNone o (state_of c.self.inside.markers c.go_calmly-gone.new.parts ≡ state_of c.self.inside.markers c.self.inside.parts)) c.in_default.is c.go_calmly-gone.ensures.none)) c.self.invariant) refl
+
+-- it has gone on
+pub invariant_of-self-2 : goal.invariant_of-self-2
+invariant_of-self-2 c = record {
+  machine = calm-machine c.self.inside.originals.setup c.self.inside.originals.loaded c.self.inside.hand c.self.inside.started c.self.inside.broken c.self.inside.clock
+    c.self.inside.markers c.self.inside.parts c.self.invariant.machine c.args.self.now (seen-is c.self.invariant c.self.view_is) c.if-not-self.false c.if-self.false
+    c.is_resting-resting.result c.is_resting-resting.ensures
+    c.hand_now-hand.result (c.hand_now-hand.ensures c.self.inside.originals.setup.world) c.go_calmly-gone.new.parts c.in-Some.gone
+    (subst (λ o. IfSome o (λ gone. GoesCalmly c.self.inside.originals.setup c.self.inside.markers c.hand_now-hand.result c.self.inside.parts gone c.go_calmly-gone.new.parts)) c.in-Some.is c.go_calmly-gone.ensures.goes)
+    (subst (λ o. IfSome o (λ gone. GoesOnFrom c.self.inside.originals.setup c.hand_now-hand.result (state_of c.self.inside.markers c.self.inside.parts) gone (state_of c.self.inside.markers c.go_calmly-gone.new.parts))) c.in-Some.is c.go_calmly-gone.ensures.hands)
+    (subst (λ o. IfSome o (λ gone. IsSoundIn c.self.inside.originals.setup (state_of c.self.inside.markers c.self.inside.parts) → IsSoundIn c.self.inside.originals.setup (state_of c.self.inside.markers c.go_calmly-gone.new.parts))) c.in-Some.is c.go_calmly-gone.ensures.sound)
+    (subst (λ o. IfSome o (λ gone. c.hand_now-hand.result.moves ≡ true → c.hand_now-hand.result.told ≡ false → state_of c.self.inside.markers c.self.inside.parts ≡ starts_with c.self.inside.originals.setup.world → IsSoundIn c.self.inside.originals.setup (state_of c.self.inside.markers c.go_calmly-gone.new.parts))) c.in-Some.is c.go_calmly-gone.ensures.starts)
+    c.clock_in-self-inside.result c.clock_in-self-inside.ensures c.left-self-inside.result c.left-self-inside.ensures;
+  tidy = λ whole. calm-tidy c.self.inside.originals.setup c.self.inside.originals.loaded c.self.inside.hand c.self.inside.started c.self.inside.broken c.self.inside.clock
+    c.self.inside.markers c.self.inside.parts c.self.invariant.machine c.args.self.now (seen-is c.self.invariant c.self.view_is) c.if-not-self.false c.if-self.false
+    c.is_resting-resting.result c.is_resting-resting.ensures
+    c.hand_now-hand.result (c.hand_now-hand.ensures c.self.inside.originals.setup.world) c.go_calmly-gone.new.parts c.in-Some.gone
+    (subst (λ o. IfSome o (λ gone. GoesCalmly c.self.inside.originals.setup c.self.inside.markers c.hand_now-hand.result c.self.inside.parts gone c.go_calmly-gone.new.parts)) c.in-Some.is c.go_calmly-gone.ensures.goes)
+    (subst (λ o. IfSome o (λ gone. GoesOnFrom c.self.inside.originals.setup c.hand_now-hand.result (state_of c.self.inside.markers c.self.inside.parts) gone (state_of c.self.inside.markers c.go_calmly-gone.new.parts))) c.in-Some.is c.go_calmly-gone.ensures.hands)
+    (subst (λ o. IfSome o (λ gone. IsSoundIn c.self.inside.originals.setup (state_of c.self.inside.markers c.self.inside.parts) → IsSoundIn c.self.inside.originals.setup (state_of c.self.inside.markers c.go_calmly-gone.new.parts))) c.in-Some.is c.go_calmly-gone.ensures.sound)
+    (subst (λ o. IfSome o (λ gone. c.hand_now-hand.result.moves ≡ true → c.hand_now-hand.result.told ≡ false → state_of c.self.inside.markers c.self.inside.parts ≡ starts_with c.self.inside.originals.setup.world → IsSoundIn c.self.inside.originals.setup (state_of c.self.inside.markers c.go_calmly-gone.new.parts))) c.in-Some.is c.go_calmly-gone.ensures.starts)
+    c.clock_in-self-inside.result c.clock_in-self-inside.ensures c.left-self-inside.result c.left-self-inside.ensures (c.self.invariant.tidy whole);
+}
+
+pub returns-clause-stops : goal.returns-clause-stops
+returns-clause-stops c =
+    subst (Stops c.args.self.now c.in-Some.gone.due)
+    (sym (plain-view c.self.inside.originals.setup c.self.inside.originals.loaded c.left-self-inside.result c.self.inside.started c.self.inside.broken c.clock_in-self-inside.result
+    (state_of c.self.inside.markers c.go_calmly-gone.new.parts) (λ whole. calm-tidy c.self.inside.originals.setup c.self.inside.originals.loaded c.self.inside.hand c.self.inside.started c.self.inside.broken c.self.inside.clock
+    c.self.inside.markers c.self.inside.parts c.self.invariant.machine c.args.self.now (seen-is c.self.invariant c.self.view_is) c.if-not-self.false c.if-self.false
+    c.is_resting-resting.result c.is_resting-resting.ensures
+    c.hand_now-hand.result (c.hand_now-hand.ensures c.self.inside.originals.setup.world) c.go_calmly-gone.new.parts c.in-Some.gone
+    (subst (λ o. IfSome o (λ gone. GoesCalmly c.self.inside.originals.setup c.self.inside.markers c.hand_now-hand.result c.self.inside.parts gone c.go_calmly-gone.new.parts)) c.in-Some.is c.go_calmly-gone.ensures.goes)
+    (subst (λ o. IfSome o (λ gone. GoesOnFrom c.self.inside.originals.setup c.hand_now-hand.result (state_of c.self.inside.markers c.self.inside.parts) gone (state_of c.self.inside.markers c.go_calmly-gone.new.parts))) c.in-Some.is c.go_calmly-gone.ensures.hands)
+    (subst (λ o. IfSome o (λ gone. IsSoundIn c.self.inside.originals.setup (state_of c.self.inside.markers c.self.inside.parts) → IsSoundIn c.self.inside.originals.setup (state_of c.self.inside.markers c.go_calmly-gone.new.parts))) c.in-Some.is c.go_calmly-gone.ensures.sound)
+    (subst (λ o. IfSome o (λ gone. c.hand_now-hand.result.moves ≡ true → c.hand_now-hand.result.told ≡ false → state_of c.self.inside.markers c.self.inside.parts ≡ starts_with c.self.inside.originals.setup.world → IsSoundIn c.self.inside.originals.setup (state_of c.self.inside.markers c.go_calmly-gone.new.parts))) c.in-Some.is c.go_calmly-gone.ensures.starts)
+    c.clock_in-self-inside.result c.clock_in-self-inside.ensures c.left-self-inside.result c.left-self-inside.ensures (c.self.invariant.tidy whole))))
+    (calm-stops c.self.inside.originals.setup c.self.inside.originals.loaded c.self.inside.hand c.self.inside.started c.self.inside.broken c.self.inside.clock
+    c.self.inside.markers c.self.inside.parts c.self.invariant.machine c.args.self.now (seen-is c.self.invariant c.self.view_is) c.if-not-self.false c.if-self.false
+    c.is_resting-resting.result c.is_resting-resting.ensures
+    c.hand_now-hand.result (c.hand_now-hand.ensures c.self.inside.originals.setup.world) c.go_calmly-gone.new.parts c.in-Some.gone
+    (subst (λ o. IfSome o (λ gone. GoesCalmly c.self.inside.originals.setup c.self.inside.markers c.hand_now-hand.result c.self.inside.parts gone c.go_calmly-gone.new.parts)) c.in-Some.is c.go_calmly-gone.ensures.goes)
+    (subst (λ o. IfSome o (λ gone. GoesOnFrom c.self.inside.originals.setup c.hand_now-hand.result (state_of c.self.inside.markers c.self.inside.parts) gone (state_of c.self.inside.markers c.go_calmly-gone.new.parts))) c.in-Some.is c.go_calmly-gone.ensures.hands)
+    (subst (λ o. IfSome o (λ gone. IsSoundIn c.self.inside.originals.setup (state_of c.self.inside.markers c.self.inside.parts) → IsSoundIn c.self.inside.originals.setup (state_of c.self.inside.markers c.go_calmly-gone.new.parts))) c.in-Some.is c.go_calmly-gone.ensures.sound)
+    (subst (λ o. IfSome o (λ gone. c.hand_now-hand.result.moves ≡ true → c.hand_now-hand.result.told ≡ false → state_of c.self.inside.markers c.self.inside.parts ≡ starts_with c.self.inside.originals.setup.world → IsSoundIn c.self.inside.originals.setup (state_of c.self.inside.markers c.go_calmly-gone.new.parts))) c.in-Some.is c.go_calmly-gone.ensures.starts)
+    c.clock_in-self-inside.result c.clock_in-self-inside.ensures c.left-self-inside.result c.left-self-inside.ensures)
+
+pub returns-clause-leaves : goal.returns-clause-leaves
+returns-clause-leaves c =
+    subst (IfLeaves (telling.Due c.in-Some.gone.due))
+    (sym (plain-view c.self.inside.originals.setup c.self.inside.originals.loaded c.left-self-inside.result c.self.inside.started c.self.inside.broken c.clock_in-self-inside.result
+    (state_of c.self.inside.markers c.go_calmly-gone.new.parts) (λ whole. calm-tidy c.self.inside.originals.setup c.self.inside.originals.loaded c.self.inside.hand c.self.inside.started c.self.inside.broken c.self.inside.clock
+    c.self.inside.markers c.self.inside.parts c.self.invariant.machine c.args.self.now (seen-is c.self.invariant c.self.view_is) c.if-not-self.false c.if-self.false
+    c.is_resting-resting.result c.is_resting-resting.ensures
+    c.hand_now-hand.result (c.hand_now-hand.ensures c.self.inside.originals.setup.world) c.go_calmly-gone.new.parts c.in-Some.gone
+    (subst (λ o. IfSome o (λ gone. GoesCalmly c.self.inside.originals.setup c.self.inside.markers c.hand_now-hand.result c.self.inside.parts gone c.go_calmly-gone.new.parts)) c.in-Some.is c.go_calmly-gone.ensures.goes)
+    (subst (λ o. IfSome o (λ gone. GoesOnFrom c.self.inside.originals.setup c.hand_now-hand.result (state_of c.self.inside.markers c.self.inside.parts) gone (state_of c.self.inside.markers c.go_calmly-gone.new.parts))) c.in-Some.is c.go_calmly-gone.ensures.hands)
+    (subst (λ o. IfSome o (λ gone. IsSoundIn c.self.inside.originals.setup (state_of c.self.inside.markers c.self.inside.parts) → IsSoundIn c.self.inside.originals.setup (state_of c.self.inside.markers c.go_calmly-gone.new.parts))) c.in-Some.is c.go_calmly-gone.ensures.sound)
+    (subst (λ o. IfSome o (λ gone. c.hand_now-hand.result.moves ≡ true → c.hand_now-hand.result.told ≡ false → state_of c.self.inside.markers c.self.inside.parts ≡ starts_with c.self.inside.originals.setup.world → IsSoundIn c.self.inside.originals.setup (state_of c.self.inside.markers c.go_calmly-gone.new.parts))) c.in-Some.is c.go_calmly-gone.ensures.starts)
+    c.clock_in-self-inside.result c.clock_in-self-inside.ensures c.left-self-inside.result c.left-self-inside.ensures (c.self.invariant.tidy whole))))
+    (calm-leaves c.self.inside.originals.setup c.self.inside.originals.loaded c.self.inside.hand c.self.inside.started c.self.inside.broken c.self.inside.clock
+    c.self.inside.markers c.self.inside.parts c.self.invariant.machine c.args.self.now (seen-is c.self.invariant c.self.view_is) c.if-not-self.false c.if-self.false
+    c.is_resting-resting.result c.is_resting-resting.ensures
+    c.hand_now-hand.result (c.hand_now-hand.ensures c.self.inside.originals.setup.world) c.go_calmly-gone.new.parts c.in-Some.gone
+    (subst (λ o. IfSome o (λ gone. GoesCalmly c.self.inside.originals.setup c.self.inside.markers c.hand_now-hand.result c.self.inside.parts gone c.go_calmly-gone.new.parts)) c.in-Some.is c.go_calmly-gone.ensures.goes)
+    (subst (λ o. IfSome o (λ gone. GoesOnFrom c.self.inside.originals.setup c.hand_now-hand.result (state_of c.self.inside.markers c.self.inside.parts) gone (state_of c.self.inside.markers c.go_calmly-gone.new.parts))) c.in-Some.is c.go_calmly-gone.ensures.hands)
+    (subst (λ o. IfSome o (λ gone. IsSoundIn c.self.inside.originals.setup (state_of c.self.inside.markers c.self.inside.parts) → IsSoundIn c.self.inside.originals.setup (state_of c.self.inside.markers c.go_calmly-gone.new.parts))) c.in-Some.is c.go_calmly-gone.ensures.sound)
+    (subst (λ o. IfSome o (λ gone. c.hand_now-hand.result.moves ≡ true → c.hand_now-hand.result.told ≡ false → state_of c.self.inside.markers c.self.inside.parts ≡ starts_with c.self.inside.originals.setup.world → IsSoundIn c.self.inside.originals.setup (state_of c.self.inside.markers c.go_calmly-gone.new.parts))) c.in-Some.is c.go_calmly-gone.ensures.starts)
+    c.clock_in-self-inside.result c.clock_in-self-inside.ensures c.left-self-inside.result c.left-self-inside.ensures)
+
+pub returns-clause-going : goal.returns-clause-going
+returns-clause-going c =
+    calm-going c.self.inside.originals.setup c.self.inside.originals.loaded c.self.inside.hand c.self.inside.started c.self.inside.broken c.self.inside.clock
+    c.self.inside.markers c.self.inside.parts c.self.invariant.machine c.args.self.now (seen-is c.self.invariant c.self.view_is) c.if-not-self.false c.if-self.false
+    c.is_resting-resting.result c.is_resting-resting.ensures
+    (c.is_calm.ensures c.if-not-is_calm.false).ending
+
+pub returns-clause-held : goal.returns-clause-held
+returns-clause-held c = never-stale (invariant_of-self-2 c) refl

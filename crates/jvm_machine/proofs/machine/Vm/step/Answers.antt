@@ -1,4 +1,4 @@
-use Rattle.std.proofs.Common.{◌≡◌, false, sym, ap, subst, ◌∙◌}
+use Rattle.std.proofs.Common.{◌≡◌, ◌<◌, false, sym, subst}
 use Rattle.std.specs.Prelude.{IfNone, IfSome}
 use Rattle.jvm_machine.specs.Advances.{Stops}
 use Rattle.jvm_machine.specs.declared.advancing.Telling.TheVariants as telling
@@ -32,4 +32,6 @@ returns-in-None-clause-turns c =
     c.step_fully.ensures.turns
 
 pub step_fully-requires : goal.step_fully-requires
-step_fully-requires c = ?
+step_fully-requires c =
+    subst (λ (v : View). v.clock < 9223372036854775808)
+    (sym (subst (λ o. IfNone o (c.advance_calmly.new.self ≡ c.args.self.now)) c.in-None.is c.advance_calmly.ensures.none)) c.requires

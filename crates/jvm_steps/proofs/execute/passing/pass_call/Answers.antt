@@ -6,7 +6,6 @@ use Rattle.jvm_named.specs.Answers.{done_on}
 use Rattle.jvm_named.specs.Attempts.{attempts, loads_nothing, world_over}
 use Rattle.jvm_named.specs.Known.{IsKnown}
 use Rattle.jvm_named.specs.Names.{naming_view}
-use Rattle.jvm_named.specs.Numbers.{AreNumbers}
 use Rattle.jvm_named.specs.Objects.{AreLoaded}
 use Rattle.jvm_named.specs.Selections.{AreSelections}
 use Rattle.jvm_named.specs.Passing.{IfRan, IsCall, IsInvoked, IsNativeCall}
@@ -27,10 +26,6 @@ pub known_call-requires-clause-objects : goal.known_call-requires-clause-objects
 known_call-requires-clause-objects c =
     subst (λ v. AreLoaded v c.args.parts.now.shared.heap) (sym c.linker-linker.ensures)
     (objects-linked c.args.originals.now.setup.world.program c.args.parts.now.shared c.args.originals.now.loaded c.requires.run.fit c.requires.sound.shared c.requires.linked)
-
-pub known_call-requires-clause-numbers : goal.known_call-requires-clause-numbers
-known_call-requires-clause-numbers c =
-    subst (λ (v : LinkerView). AreNumbers v.program c.numbers-numbers.result.now) (sym c.linker-linker.ensures) c.numbers-numbers.ensures
 
 pub known_call-requires-clause-selections : goal.known_call-requires-clause-selections
 known_call-requires-clause-selections c =
