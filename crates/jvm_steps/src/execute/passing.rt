@@ -185,6 +185,7 @@ fn pass_access(
 // ---- a return
 
 /// The value that a datum is, if there is one.
+#[inline(always)]
 pub fn value_given(datum: Option<Datum>) -> Option<Value>
     ensures { result ≡ option_map as_value datum }
 {
@@ -195,6 +196,7 @@ pub fn value_given(datum: Option<Datum>) -> Option<Value>
 }
 
 /// What a return gives back, where its operand is of the kind.
+#[inline(always)]
 pub fn result_of(frames: &Frames, kind: Option<Kind>) -> Option<Option<Datum>>
     ensures { IfSome result (λ d. returns kind (top_operands frames.now.frames) ≡ Returns d) }
 {
