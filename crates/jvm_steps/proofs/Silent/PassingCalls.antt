@@ -15,7 +15,7 @@ use Rattle.jvm_model.specs.declared.state.Entry.{Entry}
 use Rattle.jvm_model.specs.declared.state.Shared.{Shared}
 use Rattle.jvm_model.specs.declared.state.State.{State}
 use Rattle.jvm_model.specs.Running.Applies.{begins, begins_beside, breaks, has_room, invokes, live_in, most_live, new_frame, still, throws_at, with_frame}
-use Rattle.jvm_model.specs.Basis.Data.{Began, Datum, Done, Invokes, Naming, Operands, Text, Turn}
+use Rattle.jvm_model.specs.Basis.Data.{Began, Datum, Done, Naming, Operands, Text, Turn}
 use Rattle.jvm_model.specs.Instructions.Does.{loads}
 use Rattle.jvm_model.specs.Running.Moves.{left, settled}
 use Rattle.jvm_model.specs.Instructions.Naming.{newly_loaded}

@@ -1,7 +1,7 @@
 //! A step in hand goes on to what is told next of it, where the run is calm: by a call into a version with probes, or a return from one,
 //! of what is known.
 
-ghost use Rattle.std.specs.Prelude.{ℕ, Bool, List, ◌≡◌, ◌||◌, true, false, length, not, IfNone, IfSome, Some};
+ghost use Rattle.std.specs.Prelude.{ℕ, Bool, List, ◌≡◌, ◌||◌, true, false, length, IfNone, IfSome, Some};
 ghost use Rattle.jvm_model.specs.Basis.Data.{Turn};
 ghost use Rattle.jvm_model.specs.Rewriting.Images.{is_off};
 ghost use Rattle.jvm_model.specs.Running.Run.{starts_with};
