@@ -13,3 +13,4 @@ pub mod ElementLemmas
 pub mod QuickElements
 pub mod ElementActs
 pub mod ElementSteps
+pub mod Passages

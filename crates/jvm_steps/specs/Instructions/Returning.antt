@@ -1,15 +1,32 @@
 -- Returns over the parts of a machine.
-use Rattle.std.specs.Prelude.{ℕ, Bool, true, Option, Some, None, is_some}
+use Rattle.std.specs.Prelude.{ℕ, Bool, true, List, [], ◌∷◌, Option, Some, None, is_some}
+use Rattle.std.specs.Option.{option_map}
 use Rattle.heap_objects.specs.declared.datum.Datum.{Datum}
 use Rattle.const_pool.specs.declared.descriptor.Kind.{Kind}
 use Rattle.frame_stack.specs.FrameLists.{top_operands, without_frame}
 use Rattle.jvm_model.specs.Basis.Data.{Operands}
 use Rattle.jvm_steps.specs.Codes.Tables.{Versions}
+use Rattle.jvm_model.specs.Basis.Values.{as_value, with_value}
+use Rattle.jvm_model.specs.Running.Applies.{breaks, goes}
+use Rattle.jvm_model.specs.declared.state.Entry.{Entry}
+use Rattle.jvm_model.specs.declared.state.Entry.TheVariants.{Active, Initializing}
+use Rattle.jvm_model.specs.declared.state.Frame.{Frame}
 use Rattle.jvm_model.specs.declared.state.State.{State}
+use Rattle.jvm_steps.specs.declared.prepare.passage.Passage.{Passage}
 use Rattle.jvm_steps.specs.declared.turns.parts.Parts.{Parts}
 use Rattle.jvm_steps.specs.Instructions.Acts.{ended, gives_back_line}
 use Rattle.jvm_steps.specs.Instructions.Going.{top_datum}
 use Rattle.jvm_steps.specs.Machine.States.{state_in}
+
+-- a caller goes on, by what is known of its line
+abbrev pub resumes_by : State → Frame → Option Datum → Option Passage → State
+resumes_by s caller d None = breaks s caller 0
+resumes_by s caller d (Some q) = goes s caller q.own caller.locals (with_value (option_map as_value d) caller.operands) q.next
+
+abbrev pub gives_back_by : State → Option Datum → Option Passage → List Entry → State
+gives_back_by s d q [] = s
+gives_back_by s d q (Initializing c part ∷ below) = s
+gives_back_by s d q (Active caller ∷ below) = resumes_by (record s { stack = below }) caller d q
 
 -- without the current frame
 abbrev pub left_by : Parts → State

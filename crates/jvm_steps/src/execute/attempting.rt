@@ -247,6 +247,35 @@ fn attempt_name(
 
 // ---- every instruction
 
+/// Attempts what stands at a place of a version whose lines are made.
+#[inline(always)]
+fn attempt_there(
+    alloc: Global,
+    originals: &mut Originals,
+    parts: &mut Parts,
+    markers: &mut Stack<Marker>,
+    here: Here,
+) -> Result<Option<u32>, NoMemory>
+    requires ready { IsReady originals.old here.version }
+    requires linked { originals.old.loaded ≡ parts.old.shared.loaded }
+    requires fit { CanRun originals.old.setup }
+    requires sound { IsSoundIn originals.old.setup (state_of markers.old parts.old) }
+    requires here { here_of parts.old.frames.frames ≡ Some here }
+    requires unmarked { marker_on (length parts.old.frames.frames) markers.old ≡ None }
+    ensures world { originals.new.setup ≡ originals.old.setup }
+    ensures linked { OnOk result (originals.new.loaded ≡ parts.new.shared.loaded) }
+    ensures answer { IfOk result (λ o.
+        o ≡ awaited_in originals.old.setup (state_of markers.old parts.old)) }
+    ensures state { let w = originals.old.setup in let s = state_of markers.old parts.old in
+        OnOk result (state_of markers.new parts.new ≡ attempts_on w s s.stack) }
+{
+    if named_at(originals, here) {
+        return attempt_name(alloc, originals, parts, markers, here);
+    }
+    attempt_line(alloc, originals, parts, markers, here)?;
+    Ok(None)
+}
+
 /// Attempts what stands at the current frame's place: its instruction alone, without what follows
 /// from it. The classes that it names are loaded before. Where a class has to be initialized before,
 /// that has begun, and the class is the answer.
@@ -271,11 +300,7 @@ pub fn attempt(
         return Ok(None);
     };
     originals.prepare(alloc, here.version)?;
-    if named_at(originals, here) {
-        return attempt_name(alloc, originals, parts, markers, here);
-    }
-    attempt_line(alloc, originals, parts, markers, here)?;
-    Ok(None)
+    attempt_there(alloc, originals, parts, markers, here)
 }
 
 // ---- in two parts
@@ -329,6 +354,42 @@ fn attempt_name_loaded(
     Ok(Some(Some(class)))
 }
 
+/// The same where a version's lines are made.
+#[inline(always)]
+fn attempt_loaded_there(
+    alloc: Global,
+    originals: &mut Originals,
+    parts: &mut Parts,
+    markers: &mut Stack<Marker>,
+    here: Here,
+) -> Result<Option<Option<u32>>, NoMemory>
+    requires ready { IsReady originals.old here.version }
+    requires linked { originals.old.loaded ≡ parts.old.shared.loaded }
+    requires fit { CanRun originals.old.setup }
+    requires sound { IsSoundIn originals.old.setup (state_of markers.old parts.old) }
+    requires ending { parts.old.ending ≡ None }
+    requires here { here_of parts.old.frames.frames ≡ Some here }
+    requires unmarked { marker_on (length parts.old.frames.frames) markers.old ≡ None }
+    ensures world { originals.new.setup ≡ originals.old.setup }
+    ensures linked { OnOk result (originals.new.loaded ≡ parts.new.shared.loaded) }
+    ensures some { IfOk result (λ o. is_some o
+        ≡ loads_none originals.old.setup (state_of markers.old parts.old)) }
+    ensures answer { IfOk result (λ o. IfSome o (λ a.
+        a ≡ awaited_in originals.old.setup (state_of markers.old parts.old))) }
+    ensures state { let w = originals.old.setup in let s = state_of markers.old parts.old in
+        IfOk result (λ o. IfSome o (λ _.
+        state_of markers.new parts.new ≡ attempts_on w s s.stack)) }
+    ensures loads { let w = originals.old.setup in let s = state_of markers.old parts.old in
+        IfOk result (λ o. IfNone o
+        (state_of markers.new parts.new ≡ with_loaded (loads_in w s) s)) }
+{
+    if named_at(originals, here) {
+        return attempt_name_loaded(alloc, originals, parts, markers, here);
+    }
+    attempt_line(alloc, originals, parts, markers, here)?;
+    Ok(Some(None))
+}
+
 /// Attempts what stands at the current frame's place, in two parts. Where its classes are still to be loaded they are loaded, nothing
 /// else is done, and None is the answer. Else it is attempted, and the answer is the class that is initialized before.
 pub fn attempt_loaded(
@@ -359,9 +420,5 @@ pub fn attempt_loaded(
         return Ok(Some(None));
     };
     originals.prepare(alloc, here.version)?;
-    if named_at(originals, here) {
-        return attempt_name_loaded(alloc, originals, parts, markers, here);
-    }
-    attempt_line(alloc, originals, parts, markers, here)?;
-    Ok(Some(None))
+    attempt_loaded_there(alloc, originals, parts, markers, here)
 }

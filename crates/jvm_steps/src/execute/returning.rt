@@ -3,12 +3,13 @@
 ghost use Rattle.std.specs.Prelude.{◌≡◌, OnOk};
 ghost use Rattle.frame_stack.specs.FrameLists.{top_operands};
 ghost use Rattle.jvm_steps.specs.Instructions.Acts.{IsTop, acts_end, acts_return, gives_back_line, on_parts};
-ghost use Rattle.jvm_steps.specs.Instructions.Returning.{has_result, left_by, returns_given};
+ghost use Rattle.jvm_steps.specs.Instructions.Returning.{gives_back_by, has_result, left_by, returns_given};
 ghost use Rattle.jvm_steps.specs.Machine.States.{state_in};
 
 use crate::execute::going::{resume, top_datum};
 use crate::prepare::line::Line;
 use crate::prepare::originals::Originals;
+use crate::prepare::passage::Passage;
 use crate::turns::parts::{Parts, where_now};
 use crate::unwind::raising::{break_off, end_unless};
 use const_pool::Kind;
@@ -18,6 +19,22 @@ use jf_bytes::NoMemory;
 use std::alloc::Global;
 
 /// What is on top goes on behind its line, with the result.
+#[inline(always)]
+fn give_back_by(parts: &mut Parts, passage: Option<Passage>, datum: Option<Datum>)
+    ensures state { let s = state_in parts.old in
+        state_in parts.new ≡ gives_back_by s datum passage s.stack }
+{
+    let Some(caller) = where_now(&parts.frames) else {
+        return;
+    };
+    let Some(passage) = passage else {
+        return break_off(parts, caller.method, 0);
+    };
+    let effect = resume(&mut parts.frames, datum, passage.next);
+    end_unless(parts, caller.method, passage.own, effect);
+}
+
+/// The same, where its line is looked up.
 fn give_back(
     alloc: Global,
     originals: &Originals,
@@ -30,12 +47,8 @@ fn give_back(
     let Some(caller) = where_now(&parts.frames) else {
         return Ok(());
     };
-    let Some(passage) = originals.passage(alloc, caller.version, caller.place)? else {
-        break_off(parts, caller.method, 0);
-        return Ok(());
-    };
-    let effect = resume(&mut parts.frames, datum, passage.next);
-    end_unless(parts, caller.method, passage.own, effect);
+    let passage = originals.passage(alloc, caller.version, caller.place)?;
+    give_back_by(parts, passage, datum);
     Ok(())
 }
 

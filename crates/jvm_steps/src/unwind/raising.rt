@@ -40,7 +40,8 @@ pub fn end_unless(parts: &mut Parts, method: u32, own: u16, effect: Effect)
 pub fn own_of(alloc: Global, originals: &Originals, here: Here) -> Result<u16, NoMemory>
     ensures { IfOk result (λ own. own ≡ own_of originals.now.setup here) }
 {
-    match originals.passage(alloc, here.version, here.place)? {
+    let passage = originals.passage(alloc, here.version, here.place)?;
+    match passage {
         Some(passage) => Ok(passage.own),
         None => Ok(0),
     }

@@ -1,8 +1,14 @@
-use Rattle.std.proofs.Common.{sym, ap, ◌∙◌}
-use Rattle.jvm_steps.specs.Instructions.Acts.{attempts_on, awaited_on}
+use Rattle.std.proofs.Common.{◌≡◌, sym, subst, ap, ◌∙◌}
+use Rattle.std.specs.Prelude.{IfNone, IfOk, OnOk, is_some}
+use Rattle.std.specs.Option.{IfSome}
+use Rattle.jvm_model.specs.Running.Run.{with_loaded}
+use Rattle.jvm_steps.specs.Codes.Versions.{Setup}
+use Rattle.jvm_steps.specs.Instructions.Acts.{attempts_on, awaited_in, awaited_on}
 use Rattle.jvm_steps.specs.Machine.Markers.{state_of}
-use Rattle.jvm_steps.proofs.Marked.Beneath.{awaits-unnamed, loads-unnamed, nothing-there}
-use Rattle.jvm_steps.proofs.Moves.Sounded.{objects-linked}
+use Rattle.jvm_steps.specs.Machine.Ready.{CanRun, IsSoundIn}
+use Rattle.jvm_steps.specs.Moves.Turning.{loads_in, loads_none}
+use Rattle.jvm_steps.proofs.Marked.Beneath.{nothing-there}
+use Rattle.jvm_steps.proofs.Loads.LoadedApart.{nothing-loads}
 use Rattle.jvm_steps.proofs.execute.attempting.attempt.Goals as goal
 
 pub returns-in_default-clause-answer : goal.returns-in_default-clause-answer
@@ -17,17 +23,29 @@ returns-in_default-clause-state c =
     let p = c.args.parts.now in
     sym (ap (attempts_on w (state_of c.args.markers.now p)) (nothing-there w c.args.markers.now p (sym c.where_now.ensures ∙ c.in_default.is) c.requires.unmarked))
 
-pub attempt_line-requires-clause-objects : goal.attempt_line-requires-clause-objects
-attempt_line-requires-clause-objects c =
-    objects-linked c.args.originals.now.setup.world.program c.args.parts.now.shared c.args.originals.now.loaded c.requires.fit.fit c.requires.sound.shared c.requires.linked
+pub attempt_there-requires-clause-linked : goal.attempt_there-requires-clause-linked
+attempt_there-requires-clause-linked c = c.in_ok-prepare.ensures.loaded ∙ c.requires.linked
+
+pub attempt_there-requires-clause-fit : goal.attempt_there-requires-clause-fit
+attempt_there-requires-clause-fit c = subst CanRun (sym c.in_ok-prepare.ensures.setup) c.requires.fit
+
+pub attempt_there-requires-clause-sound : goal.attempt_there-requires-clause-sound
+attempt_there-requires-clause-sound c =
+    subst (λ (w : Setup). IsSoundIn w (state_of c.args.markers.now c.args.parts.now)) (sym c.in_ok-prepare.ensures.setup) c.requires.sound
+
+pub attempt_there-requires-clause-here : goal.attempt_there-requires-clause-here
+attempt_there-requires-clause-here c = sym c.where_now.ensures ∙ c.in-Some.is
+
+pub returns-clause-world : goal.returns-clause-world
+returns-clause-world c = c.attempt_there.ensures.world ∙ c.in_ok-prepare.ensures.setup
 
 pub returns-clause-answer : goal.returns-clause-answer
 returns-clause-answer c =
-    sym (awaits-unnamed c.args.originals.now.setup c.args.markers.now c.args.parts.now c.in-Some.here (sym c.where_now.ensures ∙ c.in-Some.is) c.requires.unmarked
-    (sym c.named_at.ensures ∙ c.if-named_at.false))
+    subst (λ (w : Setup). IfOk c.attempt_there.result (λ o. o ≡ awaited_in w (state_of c.args.markers.now c.args.parts.now))) c.in_ok-prepare.ensures.setup
+    c.attempt_there.ensures.answer
 
-pub returns-clause-linked : goal.returns-clause-linked
-returns-clause-linked c =
-    c.requires.linked
-    ∙ loads-unnamed c.args.originals.now.setup c.args.markers.now c.args.parts.now c.in-Some.here (sym c.where_now.ensures ∙ c.in-Some.is) c.requires.unmarked
-    (sym c.named_at.ensures ∙ c.if-named_at.false) (state_of c.args.markers.now c.attempt_line.new.parts) c.in_ok-attempt_line.ensures
+pub returns-clause-state : goal.returns-clause-state
+returns-clause-state c =
+    let s = state_of c.args.markers.now c.args.parts.now in
+    subst (λ (w : Setup). OnOk c.attempt_there.result (state_of c.attempt_there.new.markers c.attempt_there.new.parts ≡ attempts_on w s s.stack)) c.in_ok-prepare.ensures.setup
+    c.attempt_there.ensures.state

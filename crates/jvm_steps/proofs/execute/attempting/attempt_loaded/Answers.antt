@@ -1,9 +1,14 @@
-use Rattle.std.proofs.Common.{sym, ap, ◌∙◌}
-use Rattle.jvm_steps.specs.Instructions.Acts.{attempts_on, awaited_on}
+use Rattle.std.proofs.Common.{◌≡◌, sym, subst, ap, ◌∙◌}
+use Rattle.std.specs.Prelude.{IfNone, IfOk, OnOk, is_some}
+use Rattle.std.specs.Option.{IfSome}
+use Rattle.jvm_model.specs.Running.Run.{with_loaded}
+use Rattle.jvm_steps.specs.Codes.Versions.{Setup}
+use Rattle.jvm_steps.specs.Instructions.Acts.{attempts_on, awaited_in, awaited_on}
 use Rattle.jvm_steps.specs.Machine.Markers.{state_of}
-use Rattle.jvm_steps.proofs.Marked.Beneath.{awaits-unnamed, loads-unnamed, nothing-there}
-use Rattle.jvm_steps.proofs.Loads.LoadedApart.{nothing-loads, silent-loads}
-use Rattle.jvm_steps.proofs.Moves.Sounded.{objects-linked}
+use Rattle.jvm_steps.specs.Machine.Ready.{CanRun, IsSoundIn}
+use Rattle.jvm_steps.specs.Moves.Turning.{loads_in, loads_none}
+use Rattle.jvm_steps.proofs.Marked.Beneath.{nothing-there}
+use Rattle.jvm_steps.proofs.Loads.LoadedApart.{nothing-loads}
 use Rattle.jvm_steps.proofs.execute.attempting.attempt_loaded.Goals as goal
 
 -- there is no frame
@@ -23,23 +28,40 @@ pub returns-in_default-clause-some : goal.returns-in_default-clause-some
 returns-in_default-clause-some c =
     sym (nothing-loads c.args.originals.now.setup c.args.markers.now c.args.parts.now c.requires.ending (sym c.where_now.ensures ∙ c.in_default.is) c.requires.unmarked)
 
--- its line names nothing
-pub attempt_line-requires-clause-objects : goal.attempt_line-requires-clause-objects
-attempt_line-requires-clause-objects c =
-    objects-linked c.args.originals.now.setup.world.program c.args.parts.now.shared c.args.originals.now.loaded c.requires.fit.fit c.requires.sound.shared c.requires.linked
+pub attempt_loaded_there-requires-clause-linked : goal.attempt_loaded_there-requires-clause-linked
+attempt_loaded_there-requires-clause-linked c = c.in_ok-prepare.ensures.loaded ∙ c.requires.linked
 
-pub returns-clause-answer : goal.returns-clause-answer
-returns-clause-answer c =
-    sym (awaits-unnamed c.args.originals.now.setup c.args.markers.now c.args.parts.now c.in-Some.here (sym c.where_now.ensures ∙ c.in-Some.is) c.requires.unmarked
-    (sym c.named_at.ensures ∙ c.if-named_at.false))
+pub attempt_loaded_there-requires-clause-fit : goal.attempt_loaded_there-requires-clause-fit
+attempt_loaded_there-requires-clause-fit c = subst CanRun (sym c.in_ok-prepare.ensures.setup) c.requires.fit
+
+pub attempt_loaded_there-requires-clause-sound : goal.attempt_loaded_there-requires-clause-sound
+attempt_loaded_there-requires-clause-sound c =
+    subst (λ (w : Setup). IsSoundIn w (state_of c.args.markers.now c.args.parts.now)) (sym c.in_ok-prepare.ensures.setup) c.requires.sound
+
+pub attempt_loaded_there-requires-clause-here : goal.attempt_loaded_there-requires-clause-here
+attempt_loaded_there-requires-clause-here c = sym c.where_now.ensures ∙ c.in-Some.is
+
+pub returns-clause-world : goal.returns-clause-world
+returns-clause-world c = c.attempt_loaded_there.ensures.world ∙ c.in_ok-prepare.ensures.setup
 
 pub returns-clause-some : goal.returns-clause-some
 returns-clause-some c =
-    sym (silent-loads c.args.originals.now.setup c.args.markers.now c.args.parts.now c.requires.ending c.in-Some.here (sym c.where_now.ensures ∙ c.in-Some.is) c.requires.unmarked
-    (sym c.named_at.ensures ∙ c.if-named_at.false))
+    subst (λ (w : Setup). IfOk c.attempt_loaded_there.result (λ o. is_some o ≡ loads_none w (state_of c.args.markers.now c.args.parts.now))) c.in_ok-prepare.ensures.setup
+    c.attempt_loaded_there.ensures.some
 
-pub returns-clause-linked : goal.returns-clause-linked
-returns-clause-linked c =
-    c.requires.linked
-    ∙ loads-unnamed c.args.originals.now.setup c.args.markers.now c.args.parts.now c.in-Some.here (sym c.where_now.ensures ∙ c.in-Some.is) c.requires.unmarked
-    (sym c.named_at.ensures ∙ c.if-named_at.false) (state_of c.args.markers.now c.attempt_line.new.parts) c.in_ok-attempt_line.ensures
+pub returns-clause-answer : goal.returns-clause-answer
+returns-clause-answer c =
+    subst (λ (w : Setup). IfOk c.attempt_loaded_there.result (λ o. IfSome o (λ a. a ≡ awaited_in w (state_of c.args.markers.now c.args.parts.now)))) c.in_ok-prepare.ensures.setup
+    c.attempt_loaded_there.ensures.answer
+
+pub returns-clause-state : goal.returns-clause-state
+returns-clause-state c =
+    let s = state_of c.args.markers.now c.args.parts.now in
+    subst (λ (w : Setup). IfOk c.attempt_loaded_there.result (λ o. IfSome o (λ _. state_of c.attempt_loaded_there.new.markers c.attempt_loaded_there.new.parts ≡ attempts_on w s s.stack)))
+    c.in_ok-prepare.ensures.setup c.attempt_loaded_there.ensures.state
+
+pub returns-clause-loads : goal.returns-clause-loads
+returns-clause-loads c =
+    let s = state_of c.args.markers.now c.args.parts.now in
+    subst (λ (w : Setup). IfOk c.attempt_loaded_there.result (λ o. IfNone o (state_of c.attempt_loaded_there.new.markers c.attempt_loaded_there.new.parts ≡ with_loaded (loads_in w s) s)))
+    c.in_ok-prepare.ensures.setup c.attempt_loaded_there.ensures.loads

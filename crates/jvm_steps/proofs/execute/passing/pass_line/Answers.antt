@@ -1,5 +1,4 @@
-use Rattle.std.proofs.Common.{sym, ap, ◌∙◌}
-use Rattle.std.specs.Option.{option_copied}
+use Rattle.std.proofs.Common.{sym, ◌∙◌}
 use Rattle.jvm_steps.proofs.Silent.SilentSteps.{passes_none}
 use Rattle.jvm_steps.proofs.execute.passing.pass_line.Goals as goal
 

@@ -1,5 +1,5 @@
 use Rattle.std.proofs.Common.{sym, subst, ap, ◌∙◌, refl, arith}
-use Rattle.std.specs.Option.{option_and_then, option_copied}
+use Rattle.std.specs.Option.{option_and_then}
 use Rattle.jvm_steps.specs.declared.turns.parts.Parts.{Parts}
 use Rattle.jvm_steps.specs.Machine.Runs.{LeadsAlone, RunsVersion}
 use Rattle.jvm_steps.specs.Codes.Tables.{version_at}

@@ -1,9 +1,9 @@
-use Rattle.std.proofs.Common.{sym, subst}
+use Rattle.std.proofs.Common.{sym, subst, ◌∙◌}
 use Rattle.jvm_named.specs.Selections.{AreSelections}
 use Rattle.jvm_steps.specs.Codes.Kept.{AreKnown}
 use Rattle.jvm_steps.specs.Codes.Making.{AreBare, with_lines}
 use Rattle.jvm_steps.specs.Codes.Prepared.{IsPrepared, main_name}
-use Rattle.jvm_steps.proofs.Codes.CellLemmas.{known-later, later-resolved}
+use Rattle.jvm_steps.proofs.Codes.CellLemmas.{known-later, later-resolved, nil-known}
 use Rattle.jvm_steps.proofs.prepare.originals.Originals.link_main.Goals as goal
 
 pub invariant_of-self-2 : goal.invariant_of-self-2
@@ -17,4 +17,14 @@ invariant_of-self-2 c = record {
       c.self.invariant.known));
   bare = subst (λ p. AreBare p c.self.inside.versions) (sym c.in_ok-link_main.ensures.program) c.self.invariant.bare;
   selected = subst (λ p. AreSelections p c.self.inside.selections) (sym c.in_ok-link_main.ensures.program) c.self.invariant.selected;
+}
+
+pub invariant_of-self : goal.invariant_of-self
+invariant_of-self c = record {
+  prepared = subst (λ p. IsPrepared p c.self.inside.methods (with_lines p c.self.inside.versions) c.self.inside.exceptions c.self.inside.numbers)
+      (sym c.link_main.ensures.program) c.self.invariant.prepared;
+  known = subst (AreKnown c.link_main.new.linker (with_lines c.link_main.new.linker.program c.self.inside.versions)) (sym (c.replace-cells.ensures.after ∙ c.new.ensures))
+      (nil-known c.link_main.new.linker (with_lines c.link_main.new.linker.program c.self.inside.versions));
+  bare = subst (λ p. AreBare p c.self.inside.versions) (sym c.link_main.ensures.program) c.self.invariant.bare;
+  selected = subst (λ p. AreSelections p c.self.inside.selections) (sym c.link_main.ensures.program) c.self.invariant.selected;
 }

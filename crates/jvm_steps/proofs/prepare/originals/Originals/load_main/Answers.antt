@@ -3,7 +3,7 @@ use Rattle.jvm_named.specs.Selections.{AreSelections}
 use Rattle.jvm_steps.specs.Codes.Kept.{AreKnown}
 use Rattle.jvm_steps.specs.Codes.Making.{AreBare, with_lines}
 use Rattle.jvm_steps.specs.Codes.Prepared.{IsPrepared}
-use Rattle.jvm_steps.proofs.Codes.CellLemmas.{known-later, later-resolved}
+use Rattle.jvm_steps.proofs.Codes.CellLemmas.{known-later, later-resolved, nil-known}
 use Rattle.jvm_steps.proofs.prepare.originals.Originals.load_main.Goals as goal
 
 pub invariant_of-self-2 : goal.invariant_of-self-2
@@ -17,4 +17,14 @@ invariant_of-self-2 c = record {
       c.self.invariant.known));
   bare = subst (λ p. AreBare p c.self.inside.versions) (sym c.in_ok-found.ensures.program) c.self.invariant.bare;
   selected = subst (λ p. AreSelections p c.self.inside.selections) (sym c.in_ok-found.ensures.program) c.self.invariant.selected;
+}
+
+pub invariant_of-self : goal.invariant_of-self
+invariant_of-self c = record {
+  prepared = subst (λ p. IsPrepared p c.self.inside.methods (with_lines p c.self.inside.versions) c.self.inside.exceptions c.self.inside.numbers)
+      (sym c.resolve.ensures.program) c.self.invariant.prepared;
+  known = subst (AreKnown c.resolve.new.linker (with_lines c.resolve.new.linker.program c.self.inside.versions)) (sym (c.replace-cells.ensures.after ∙ c.new.ensures))
+      (nil-known c.resolve.new.linker (with_lines c.resolve.new.linker.program c.self.inside.versions));
+  bare = subst (λ p. AreBare p c.self.inside.versions) (sym c.resolve.ensures.program) c.self.invariant.bare;
+  selected = subst (λ p. AreSelections p c.self.inside.selections) (sym c.resolve.ensures.program) c.self.invariant.selected;
 }

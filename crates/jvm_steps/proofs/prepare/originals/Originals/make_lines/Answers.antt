@@ -16,7 +16,7 @@ replace-requires c =
     let p : Program = c.self.inside.linker.program in
     let x : Version = c.in-Some.held.now in
     let there : version_at c.self.inside.versions c.args.version ≡ Some x = sym c.version_at.ensures ∙ ap option_copied c.in-Some.is in
-    let is : c.in_ok-made.made ≡ original_version p x.method = c.in_ok-made.ensures tt ∙ ap (λ (q : Program). original_version q x.method) c.program.ensures in
+    let is : c.in_ok-made.made ≡ original_version p x.method = c.in_ok-made.ensures ∙ ap (λ (q : Program). original_version q x.method) c.program.ensures in
     ap (option_map (λ (y : Version). y.method)) there ∙ ap Some (sym (ap (λ (y : Version). y.method) is ∙ original-method p x.method))
 
 pub invariant_of-self : goal.invariant_of-self
@@ -27,7 +27,7 @@ invariant_of-self c =
     let new = c.replace.new.self in
     let y = c.in_ok-made.made in
     let there : version_at old c.args.version ≡ Some x = sym c.version_at.ensures ∙ ap option_copied c.in-Some.is in
-    let is : y ≡ original_version p x.method = c.in_ok-made.ensures tt ∙ ap (λ (q : Program). original_version q x.method) c.program.ensures in
+    let is : y ≡ original_version p x.method = c.in_ok-made.ensures ∙ ap (λ (q : Program). original_version q x.method) c.program.ensures in
     let same : with_lines p new ≡ with_lines p old = replaced-same p c.args.version x y old new there c.if-held.false is c.replace.ensures in
     record {
       prepared = subst (λ (v : Versions). IsPrepared p c.self.inside.methods v c.self.inside.exceptions c.self.inside.numbers) (sym same) c.self.invariant.prepared;
@@ -44,7 +44,7 @@ returns-clause-setup c =
     let new = c.replace.new.self in
     let y = c.in_ok-made.made in
     let there : version_at old c.args.version ≡ Some x = sym c.version_at.ensures ∙ ap option_copied c.in-Some.is in
-    let is : y ≡ original_version p x.method = c.in_ok-made.ensures tt ∙ ap (λ (q : Program). original_version q x.method) c.program.ensures in
+    let is : y ≡ original_version p x.method = c.in_ok-made.ensures ∙ ap (λ (q : Program). original_version q x.method) c.program.ensures in
     ap (λ (v : Versions). let w : Setup = record { world = world_in p c.self.inside.input; versions = v } in w)
     (replaced-same p c.args.version x y old new there c.if-held.false is c.replace.ensures)
     ∙ ap (λ (o : Linked). o.setup) c.self.view_is
