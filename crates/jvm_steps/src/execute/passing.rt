@@ -26,6 +26,7 @@ ghost use Rattle.jvm_steps.specs.Machine.States.{here_of};
 ghost use Rattle.jvm_steps.specs.Moves.Calmly.{GoesBack};
 ghost use Rattle.jvm_steps.specs.Codes.Versions.{current_of, line_at, mark_of};
 
+use crate::execute::arrays::pass_length;
 use crate::execute::going::{next_in, top_datum, value_of};
 use crate::execute::invoking::{begin_frame, may_begin};
 use crate::execute::plain::plain_steps;
@@ -180,6 +181,24 @@ fn pass_access(
         line.next,
         known,
     )
+}
+
+/// arraylength.
+fn pass_measure(
+    originals: &Originals,
+    parts: &mut Parts,
+    markers: &Stack<Marker>,
+    here: Here,
+    line: &Line,
+) -> bool
+    requires run { CanRun originals.now.setup }
+    requires calm { IsCalm (length parts.old.frames.frames) markers.now parts.old }
+    requires here { here_of parts.old.frames.frames ≡ Some here }
+    requires line { line_at originals.now.setup.versions here.version here.place ≡ Some line.now }
+    requires measures { line.now.action ≡ action.Arraylength }
+    ensures { Passes originals.now.setup markers.now parts.old (steps_if result) parts.new }
+{
+    pass_length(parts, line)
 }
 
 // ---- a return
@@ -396,6 +415,7 @@ fn pass_line(
         Action::Named(naming) => pass_named(alloc, originals, parts, markers, here, line, naming),
         Action::Return(kind) => pass_return(originals, parts, markers, here, line, *kind),
         Action::Athrow => pass_throw(originals, parts, markers, here, line),
+        Action::Arraylength => pass_measure(originals, parts, markers, here, line),
         _ => false,
     }
 }
