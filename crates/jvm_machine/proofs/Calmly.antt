@@ -2,9 +2,7 @@
 use Rattle.std.proofs.Common.{◌≡◌, ℕ, Bool, true, false, List, [], refl, sym, ap, ap₂, subst, ◌∙◌, None, inl, inr}
 use Rattle.std.specs.Prelude.{is_some, ◌&&◌, ◌||◌}
 use Rattle.jvm_model.specs.declared.state.State.{State}
-use Rattle.jvm_model.specs.Basis.Data.{Turn}
 use Rattle.jvm_model.specs.Running.Run.{starts_with}
-use Rattle.jvm_model.specs.Turns.Told.{Held}
 use Rattle.jvm_steps.specs.declared.initialize.markers.Marker.{Marker}
 use Rattle.jvm_steps.specs.declared.turns.hands.Gone.{Gone}
 use Rattle.jvm_steps.specs.declared.turns.hands.Hand.{Hand}
@@ -12,7 +10,6 @@ use Rattle.jvm_steps.specs.declared.turns.parts.Parts.{Parts}
 use Rattle.jvm_steps.specs.Codes.Versions.{Setup}
 use Rattle.jvm_steps.specs.Machine.Markers.{state_of}
 use Rattle.jvm_steps.specs.Machine.Ready.{IsSoundIn}
-use Rattle.jvm_steps.specs.Machine.Standing.{HasVersions}
 use Rattle.jvm_steps.specs.Moves.Calmly.{GoesCalmly}
 use Rattle.jvm_steps.specs.Moves.Hands.{IsLeft}
 use Rattle.jvm_steps.specs.Moves.Turning.{loads_none}

@@ -7,5 +7,6 @@ pub mod PassingSteps
 pub mod PassingCalls
 pub mod PassingReturns
 pub mod PassingThrows
+pub mod PassingLengths
 pub mod CatchLemmas
 pub mod ReturnLemmas

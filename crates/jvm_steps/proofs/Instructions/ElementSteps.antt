@@ -1,21 +1,23 @@
 -- A load or a store of an element that raises nothing is a step of the run, as one of the current frame alone is: nothing follows from it.
 use Rattle.std.proofs.Common.{◌≡◌, ℕ, Bool, true, false, List, [], ◌∷◌, drop, length, map, Option, Some, None, refl, sym, ap, ◌∙◌}
-use Rattle.std.specs.Prelude.{if◌then◌else◌, is_none, is_some, ◌&&◌}
+use Rattle.std.specs.Prelude.{if◌then◌else◌, is_none, is_some, pos, ◌&&◌}
 use Rattle.std.specs.Option.{option_map}
 use Rattle.std.proofs.lemmas.Bool.{false≢true}
 use Rattle.const_pool.specs.declared.descriptor.Kind.{Kind}
 use Rattle.heap_objects.specs.declared.datum.Datum.{Datum}
 use Rattle.heap_objects.specs.declared.datum.Datum.TheVariants as datum
+use Rattle.heap_objects.specs.declared.Value.TheVariants.{Int}
 use Rattle.heap_objects.specs.Heaps.{HeapView, with_slot_at}
 use Rattle.frame_stack.specs.FrameLists.{PlacedFrame, FramesView, has_frame, top_operands}
 use Rattle.jvm_model.specs.declared.state.Shared.{Shared}
 use Rattle.jvm_model.specs.declared.state.State.{State}
 use Rattle.jvm_model.specs.Basis.Data.{Done, GoesOn, Locals, Next as Following, Operands, Raises}
 use Rattle.jvm_model.specs.declared.program.Program.{Program}
-use Rattle.jvm_model.specs.Instructions.ObjectRules.{done, Storing, access_to, fits_array, loads_element, place_of, stores_at, stores_element, storing_of}
+use Rattle.jvm_model.specs.Instructions.ObjectRules.{done, Storing, access_to, array_length, fits_array, loads_element, measures, place_of, stores_at, stores_element, storing_of}
 use Rattle.jvm_model.specs.Running.Run.{step, steps_at, steps_on}
-use Rattle.jvm_model.specs.Basis.SharedState.{array_store}
-use Rattle.jvm_model.specs.Basis.Values.{as_value}
+use Rattle.jvm_model.specs.Instructions.LocalRules.{replaces as gives_way}
+use Rattle.jvm_model.specs.Basis.SharedState.{array_store, null_pointer}
+use Rattle.jvm_model.specs.Basis.Values.{as_value, ref_of}
 use Rattle.jvm_basic.specs.declared.effect.Effect.TheVariants.{Next}
 use Rattle.jvm_basic.specs.Outcomes.{GoesOn as Goes, Rule, after, asked, effect_of, frames_in}
 use Rattle.jvm_basic.specs.Rules.{replaces, rule_of}
@@ -25,7 +27,7 @@ use Rattle.jvm_steps.specs.declared.initialize.markers.Marker.{Marker}
 use Rattle.jvm_steps.specs.declared.turns.parts.Here.{Here}
 use Rattle.jvm_steps.specs.declared.turns.parts.Parts.{Parts}
 use Rattle.jvm_steps.specs.Instructions.Acts.{acts, acts_asked, acts_by, acts_done, attempts_on, is_named, named_in, on_parts, on_top}
-use Rattle.jvm_steps.specs.Instructions.Elements.{IsLoaded, IsStored, drops_three, is_number}
+use Rattle.jvm_steps.specs.Instructions.Elements.{IsLoaded, IsMeasured, IsStored, drops_three, is_number}
 use Rattle.jvm_steps.specs.Machine.Markers.{marker_on, stack_of, state_of, with_markers}
 use Rattle.jvm_steps.specs.Machine.Ready.{CanRun}
 use Rattle.jvm_steps.specs.Machine.Runs.{IsCalm, IsLineIn, IsPlainLine, LeadsAlone, RunsVersion, top_version}
@@ -39,7 +41,7 @@ use Rattle.jvm_steps.proofs.Instructions.ElementActs.{loads-at}
 use Rattle.jvm_steps.proofs.Silent.Leading.{leads-one, quiet-one}
 use Rattle.jvm_steps.proofs.Moves.LineSteps.{going-on, rests, step-attempts, top-frame}
 use Rattle.jvm_steps.proofs.Silent.PlainSteps.{at-rest, framed, goes, plain-one, same-version, still-framed, still-many}
-use Rattle.jvm_steps.proofs.Silent.QuietLines.{line-load-quiet, line-store-quiet}
+use Rattle.jvm_steps.proofs.Silent.QuietLines.{line-length-quiet, line-load-quiet, line-store-quiet}
 
 -- ---- where the current frame stands
 
@@ -122,6 +124,35 @@ module _ (w : Setup) (run : CanRun w) (line : Line) where
         next-is w line old (Goes f.locals (as_value is.datum ∷ drop 2 f.operands) line.next) f fs goes
         ∙ (sym (ap (acts_asked w line (state_with fs old) (frame_in f)) (load-asks (f ∷ fs) at f.locals))
         ∙ sym (ap (acts_by w line (state_with fs old) (frame_in f)) loads))
+
+  -- ---- lengths
+
+  module _ (length_of : line.action ≡ action.Arraylength) (old new : Parts) (is : IsMeasured line old new) where
+    abbrev own_rule : Rule
+    own_rule = replaces 1 (Some (Int (pos is.count))) line.next
+
+    length-asks : (fs : List PlacedFrame) → ref_of (top_operands fs) ≡ Some is.array → (l : Locals)
+        → measures (ref_of (top_operands fs)) old.shared l (top_operands fs) ≡ GoesOn l (Int (pos is.count) ∷ drop 1 (top_operands fs)) Following
+    length-asks fs at l =
+        ap (λ x. measures x old.shared l (top_operands fs)) at
+        ∙ (ap (λ b. if b then Raises null_pointer None else gives_way 1 (option_map (λ count. Int (pos count)) (array_length is.array old.shared.heap)) l (top_operands fs)) is.there
+        ∙ ap (λ n. gives_way 1 (option_map (λ count. Int (pos count)) n) l (top_operands fs)) is.long)
+
+    length-quiet : (fs : List PlacedFrame) (ms : List Marker) → ref_of (top_operands fs) ≡ Some is.array → IsCalm (length fs) ms old → StandsAt w fs line
+        → (step w.world (text_of w.versions) (with_markers ms (state_with fs old))).changes ≡ []
+    length-quiet [] ms at calm stands = absurd stands
+    length-quiet (f ∷ fs) ms at calm stands =
+        step-at old ms f fs calm stands
+        (line-length-quiet w line (under old ms fs) (frame_in f) f.locals (Int (pos is.count) ∷ drop 1 f.operands) length_of (length-asks (f ∷ fs) at f.locals) calm.ending calm.thrown)
+
+    length-done : (fs : List PlacedFrame) → StandsAt w fs line → ref_of (top_operands fs) ≡ Some is.array
+        → effect_of own_rule (record { frames = fs; room = old.frames.room }) ≡ Next
+        → state_with (frames_in (asked own_rule fs) fs) old ≡ on_top (acts w line) old fs
+    length-done [] stands at goes = absurd stands
+    length-done (f ∷ fs) stands at goes =
+        next-is w line old (Goes f.locals (Int (pos is.count) ∷ drop 1 f.operands) line.next) f fs goes
+        ∙ (sym (ap (acts_asked w line (state_with fs old) (frame_in f)) (length-asks (f ∷ fs) at f.locals))
+        ∙ sym (ap (acts_by w line (state_with fs old) (frame_in f)) length_of))
 
   -- ---- stores
 
@@ -241,6 +272,13 @@ module _ (w : Setup) (run : CanRun w) (line : Line) (k : Kind) (old new : Parts)
       (ap is_named stores) (ap goes_within stores)
       (ap state_in is.changed ∙ store-done w run line k stores old new is old.frames.frames stands is.at is.goes)
       (λ ms calm. store-quiet w run line k stores old new is old.frames.frames ms is.at calm stands)
+
+  pub length-alone : line.action ≡ action.Arraylength → IsMeasured line old new → LeadsAlone w old 1 new
+  length-alone length_of is =
+      alone-by (replaces 1 (Some (Int (pos is.count))) line.next) old.shared is.changed refl
+      (ap is_named length_of) (ap goes_within length_of)
+      (ap state_in is.changed ∙ length-done w run line length_of old new is old.frames.frames stands is.at is.goes)
+      (λ ms calm. length-quiet w run line length_of old new is old.frames.frames ms is.at calm stands)
 
 -- ---- a frame stays in its version
 

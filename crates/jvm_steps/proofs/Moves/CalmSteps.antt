@@ -1,5 +1,5 @@
 -- Where a step stops by an attempt that was made while the run is calm, and what is due there.
-use Rattle.std.proofs.Common.{◌≡◌, ◌-◌, ℕ, suc, Bool, true, false, List, [], ◌∷◌, length, Some, None, refl, sym, ap, subst, ◌∙◌, arith}
+use Rattle.std.proofs.Common.{◌≡◌, ◌-◌, ℕ, suc, Bool, true, false, List, [], ◌∷◌, length, Some, None, refl, sym, ap, ◌∙◌, arith}
 use Rattle.std.specs.Prelude.{is_none, not, ◌&&◌, ◌==◌}
 use Rattle.std.proofs.lemmas.Option.{none-some, same_Some}
 use Rattle.frame_stack.specs.FrameLists.{PlacedFrame, has_frame, top_of}
@@ -12,15 +12,15 @@ use Rattle.jvm_steps.specs.declared.prepare.line.Line.{Line}
 use Rattle.jvm_steps.specs.declared.turns.parts.Here.{Here}
 use Rattle.jvm_steps.specs.declared.turns.parts.Parts.{Parts}
 use Rattle.jvm_steps.specs.Codes.Versions.{Setup, current_of, line_at, mark_of, text_of}
-use Rattle.jvm_steps.specs.Instructions.Acts.{goes_on_in, is_at_rest}
+use Rattle.jvm_steps.specs.Instructions.Acts.{goes_on_in}
 use Rattle.jvm_steps.specs.Instructions.Arguments.{with_begun}
 use Rattle.jvm_steps.specs.Machine.Markers.{marker_on, state_of}
 use Rattle.jvm_steps.specs.Machine.Ready.{CanRun}
 use Rattle.jvm_steps.specs.Machine.Runs.{IsCalm}
 use Rattle.jvm_steps.specs.Machine.States.{here_of}
 use Rattle.jvm_steps.specs.Moves.Calmly.{Attempted, TriesCalmly}
-use Rattle.jvm_steps.specs.Moves.Trying.{is_return_line, leaves_at, leaves_in, pause_behind_attempt, returns_by, tried_in}
-use Rattle.jvm_steps.specs.Moves.Turning.{loads_in, loads_none, pause_at, paused_in}
+use Rattle.jvm_steps.specs.Moves.Trying.{is_return_line, leaves_at, leaves_in, returns_by}
+use Rattle.jvm_steps.specs.Moves.Turning.{loads_none, pause_at, paused_in}
 use Rattle.jvm_steps.proofs.Moves.Followed.{counts_one, enters_none, enters_top, follows-on, follows-told}
 use Rattle.jvm_steps.proofs.Moves.LineSteps.{rest-moves}
 use Rattle.jvm_steps.proofs.Moves.OneMove.{rest-pauses}

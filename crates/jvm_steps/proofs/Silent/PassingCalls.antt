@@ -15,7 +15,7 @@ use Rattle.jvm_model.specs.declared.state.Entry.{Entry}
 use Rattle.jvm_model.specs.declared.state.Shared.{Shared}
 use Rattle.jvm_model.specs.declared.state.State.{State}
 use Rattle.jvm_model.specs.Running.Applies.{begins, begins_beside, breaks, has_room, invokes, live_in, most_live, new_frame, still, throws_at, with_frame}
-use Rattle.jvm_model.specs.Basis.Data.{Began, Datum, Done, Invokes, Naming, Operands, Text, Turn}
+use Rattle.jvm_model.specs.Basis.Data.{Began, Datum, Done, Naming, Operands, Text, Turn}
 use Rattle.jvm_model.specs.Instructions.Does.{loads}
 use Rattle.jvm_model.specs.Running.Moves.{left, settled}
 use Rattle.jvm_model.specs.Instructions.Naming.{newly_loaded}
@@ -269,8 +269,8 @@ module _ (w : Setup) (run : CanRun w) (ms : List Marker) (here : Here) (line : L
       → new ≡ on_frames new.frames old → (told : Bool) → TriesIf b w ms told old Begins new
   called-tries true after call may can marked are same told =
       subst (λ x. TriesCalmly w ms told old Begins x) (sym same)
-      (begins-calmly w run ms old (on_frames new.frames old) (has-here here old.frames.frames stands) calm (call-attempted call (may refl) (can refl) new.frames are)
+      (begins-calmly w run ms old (on_frames after.frames old) (has-here here old.frames.frames stands) calm (call-attempted call (may refl) (can refl) after.frames are)
       told (current_of w.versions c.method) c.method (no-return w here line old.frames.frames stands found (ap returns_by named)) (ap top_of are)
-      (more call (may refl) (can refl) new.frames are) (marked refl))
-  called-tries false new call may can marked are same told =
+      (more call (may refl) (can refl) after.frames are) (marked refl))
+  called-tries false after call may can marked are same told =
       ap (state_of ms) same ∙ ap (λ fs. with_markers ms (state_with fs old)) are

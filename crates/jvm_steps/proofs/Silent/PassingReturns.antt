@@ -15,7 +15,7 @@ use Rattle.jvm_model.specs.declared.event.Mark.TheVariants.{Off}
 use Rattle.jvm_model.specs.declared.state.Entry.{Entry}
 use Rattle.jvm_model.specs.declared.state.State.{State}
 use Rattle.jvm_model.specs.Running.Applies.{breaks, gives_back, goes, resumes, with_frame}
-use Rattle.jvm_model.specs.Basis.Data.{Instruction, Left, Return, Returns, Text, Turn}
+use Rattle.jvm_model.specs.Basis.Data.{Instruction, Left, Returns, Text, Turn}
 use Rattle.jvm_model.specs.Instructions.LocalRules.{returns}
 use Rattle.jvm_model.specs.Running.Moves.{left, move}
 use Rattle.jvm_model.specs.Instructions.ObjectRules.{done}

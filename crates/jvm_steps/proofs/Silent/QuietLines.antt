@@ -11,12 +11,13 @@ use Rattle.jvm_model.specs.declared.state.Entry.TheVariants.{Active}
 use Rattle.jvm_model.specs.declared.state.Frame.{Frame}
 use Rattle.jvm_model.specs.declared.state.State.{State}
 use Rattle.jvm_model.specs.Running.Applies.{applies, enters_subroutine, goes, place_of, still, with_frame}
-use Rattle.jvm_model.specs.Basis.Data.{Breaks, Done, Exits, GoesOn, Initializes, Instruction, Invokes, LoadElement, Local, Locals, Operands, Operation, Outcome, Raises, Returns, StoreElement, Subroutine, Text, Throws, Turn, Where, Within, Next as Following}
+use Rattle.jvm_model.specs.Basis.Data.{Arraylength, Breaks, Done, Exits, GoesOn, Initializes, Instruction, Invokes, LoadElement, Local, Locals, Operands, Operation, Outcome, Raises, Returns, StoreElement, Subroutine, Text, Throws, Turn, Where, Within, Next as Following}
 use Rattle.jvm_model.specs.Instructions.Does.{does, loads}
 use Rattle.jvm_model.specs.Codes.Lines.{targets_of}
+use Rattle.jvm_model.specs.Basis.Values.{ref_of}
 use Rattle.jvm_model.specs.Instructions.LocalRules.{within}
 use Rattle.jvm_model.specs.Running.Moves.{left, move, moves, settled}
-use Rattle.jvm_model.specs.Instructions.ObjectRules.{done, loads_element, place_of as element_of, stores_element, storing_of}
+use Rattle.jvm_model.specs.Instructions.ObjectRules.{done, loads_element, measures, place_of as element_of, stores_element, storing_of}
 use Rattle.jvm_model.specs.Running.Run.{goes_again, loaded_turn, starts, step, steps_at, steps_by, steps_on, tries, with_loaded}
 use Rattle.jvm_model.proofs.Running.QuietSettles.{stops}
 use Rattle.jvm_basic.specs.declared.effect.Effect.TheVariants.{Next}
@@ -127,6 +128,22 @@ module _ (w : Setup) where
       subst (λ op. (step_by (instruction_in line) op s f).changes ≡ []) (sym (ap (operation_as line) stores))
       (store-quiet (instruction_in line) k s f
       (goes-on-quiet (instruction_in line) d.outcome l o Following (record s { shared = d.shared; output = s.output ++ d.wrote }) f is calm nothing))
+
+  -- ---- a length
+
+  length-quiet : (i : Instruction) (s : State) (f : Frame) → IsQuiet i (measures (ref_of f.operands) s.shared f.locals f.operands) (record s { output = s.output ++ [] }) f
+      → (step_by i Arraylength s f).changes ≡ []
+  length-quiet i s f is =
+      let d : Done = done s.shared (measures (ref_of f.operands) s.shared f.locals f.operands) in
+      ap (λ o. (goes_again w.world t i s f o (tries w.world t i s f d)).changes) is.alone ∙ is.quiet
+
+  pub line-length-quiet : (line : Line) (s : State) (f : Frame) (l : Locals) (o : Operands) → line.action ≡ action.Arraylength
+      → measures (ref_of f.operands) s.shared f.locals f.operands ≡ GoesOn l o Following → s.ending ≡ None → s.thrown ≡ None
+      → (steps_at w.world t s f (Some (instruction_in line))).changes ≡ []
+  line-length-quiet line s f l o length is calm nothing =
+      subst (λ op. (step_by (instruction_in line) op s f).changes ≡ []) (sym (ap (operation_as line) length))
+      (length-quiet (instruction_in line) s f
+      (goes-on-quiet (instruction_in line) (measures (ref_of f.operands) s.shared f.locals f.operands) l o Following (record s { output = s.output ++ [] }) f is calm nothing))
 
   line-quiet : (line : Line) (s : State) (f : Frame) (fs : List PlacedFrame) → line.action ≡ action.Local → IsOwnLine line
       → effect_in (rule_of line.instr line.constant line.next f.locals f.operands) fs ≡ Next → s.ending ≡ None → s.thrown ≡ None

@@ -1,15 +1,16 @@
 -- Elements of arrays (JVM Specification 6.5): where an array and an index lead, and what becomes of a state by that.
-use Rattle.std.specs.Prelude.{◌≡◌, ℕ, Bool, true, false, ◌∷◌, drop, Option, Some, None, ℤ}
+use Rattle.std.specs.Prelude.{◌≡◌, ℕ, Bool, true, false, ◌∷◌, drop, Option, Some, None, ℤ, pos, ◌==◌}
 use Rattle.const_pool.specs.declared.descriptor.Kind.{Kind}
 use Rattle.frame_stack.specs.FrameLists.{top_operands}
 use Rattle.heap_objects.specs.declared.datum.Datum.{Datum}
 use Rattle.heap_objects.specs.declared.datum.Datum.TheVariants as datum
+use Rattle.heap_objects.specs.declared.Value.TheVariants.{Int}
 use Rattle.heap_objects.specs.Heaps.{HeapView, slot_at, with_slot_at}
 use Rattle.jvm_model.specs.declared.state.Frame.{Frame}
 use Rattle.jvm_model.specs.declared.state.State.{State}
 use Rattle.jvm_model.specs.Running.Applies.{goes}
-use Rattle.jvm_model.specs.Instructions.ObjectRules.{Access, ToNull, ToAnother, Outside, Inside, Storing, access_to, place_of, refused, storing_of}
-use Rattle.jvm_model.specs.Basis.Values.{as_value}
+use Rattle.jvm_model.specs.Instructions.ObjectRules.{Access, ToNull, ToAnother, Outside, Inside, Storing, access_to, array_length, place_of, refused, storing_of}
+use Rattle.jvm_model.specs.Basis.Values.{as_value, ref_of}
 use Rattle.jvm_basic.specs.declared.effect.Effect.TheVariants.{Next}
 use Rattle.jvm_basic.specs.Outcomes.{GoesOn, Rule, after, effect_of}
 use Rattle.jvm_basic.specs.Rules.{replaces, rule_of}
@@ -85,6 +86,16 @@ pub record IsStored (line : Line) (k : Kind) (old new : Parts) : Type 0 where
     frames = after (drops_three line.next) old.frames;
     shared = record old.shared { heap = with_slot_at storing.array slot storing.datum old.shared.heap };
   }
+
+-- the length of the array stands in its place, and the frame goes on
+pub record IsMeasured (line : Line) (old new : Parts) : Type 0 where
+  pub array : ℕ
+  pub count : ℕ
+  pub at : ref_of (top_operands old.frames.frames) ≡ Some array
+  pub there : (array == 0) ≡ false
+  pub long : array_length array old.shared.heap ≡ Some count
+  pub goes : effect_of (replaces 1 (Some (Int (pos count))) line.next) old.frames ≡ Next
+  pub changed : new ≡ record old { frames = after (replaces 1 (Some (Int (pos count))) line.next) old.frames }
 
 -- ---- lines that a step passes by
 

@@ -1,7 +1,8 @@
 //! arraylength and newarray (JVM Specification 6.5).
 
-ghost use Rattle.std.specs.Prelude.{◌≡◌, OnOk};
+ghost use Rattle.std.specs.Prelude.{◌≡◌, true, false, OnOk};
 ghost use Rattle.jvm_model.specs.Instructions.ObjectRules.{array_length};
+ghost use Rattle.jvm_steps.specs.Instructions.Elements.{IsMeasured};
 ghost use Rattle.jvm_steps.specs.Instructions.Acts.{IsTop, Becomes, acts_arraylength, acts_newarray};
 
 use crate::initialize::objects::ARRAY;
@@ -11,7 +12,7 @@ use crate::turns::parts::Parts;
 use crate::unwind::raising::{RESERVED, break_off, end_unless, raise};
 use heap_objects::{Datum, Heap, HeapError, Value};
 use jf_bytes::NoMemory;
-use jvm_basic::{int_of, ref_of, replace};
+use jvm_basic::{Effect, int_of, ref_of, replace};
 
 /// The greatest int.
 const GREATEST: u32 = 2_147_483_647;
@@ -56,6 +57,27 @@ pub fn measure(
     let effect = replace(&mut parts.frames, Value::Int(count as i32), line.next);
     end_unless(parts, method, line.instr.at, effect);
     Ok(())
+}
+
+/// arraylength, where nothing is raised. False, with nothing changed, where the frame does not go on.
+pub fn pass_length(parts: &mut Parts, line: &Line) -> bool
+    ensures gone { result ≡ true → IsMeasured line.now parts.old parts.new }
+    ensures kept { result ≡ false → parts.new ≡ parts.old }
+{
+    let Some(array) = ref_of(&parts.frames) else {
+        return false;
+    };
+    if array == 0 {
+        return false;
+    }
+    let Some(count) = array_length(&parts.shared.heap, array) else {
+        return false;
+    };
+    if count > GREATEST {
+        return false;
+    }
+    let effect = replace(&mut parts.frames, Value::Int(count as i32), line.next);
+    matches!(effect, Effect::Next)
 }
 
 /// newarray: an array of this kind, of as many elements as the operand says.

@@ -26,6 +26,7 @@ ghost use Rattle.jvm_steps.specs.Machine.States.{here_of};
 ghost use Rattle.jvm_steps.specs.Moves.Calmly.{GoesBack};
 ghost use Rattle.jvm_steps.specs.Codes.Versions.{current_of, line_at, mark_of};
 
+use crate::execute::arrays::pass_length;
 use crate::execute::going::{next_in, top_datum, value_of};
 use crate::execute::invoking::{begin_frame, may_begin};
 use crate::execute::plain::plain_steps;
@@ -182,9 +183,28 @@ fn pass_access(
     )
 }
 
+/// arraylength.
+fn pass_measure(
+    originals: &Originals,
+    parts: &mut Parts,
+    markers: &Stack<Marker>,
+    here: Here,
+    line: &Line,
+) -> bool
+    requires run { CanRun originals.now.setup }
+    requires calm { IsCalm (length parts.old.frames.frames) markers.now parts.old }
+    requires here { here_of parts.old.frames.frames ≡ Some here }
+    requires line { line_at originals.now.setup.versions here.version here.place ≡ Some line.now }
+    requires measures { line.now.action ≡ action.Arraylength }
+    ensures { Passes originals.now.setup markers.now parts.old (steps_if result) parts.new }
+{
+    pass_length(parts, line)
+}
+
 // ---- a return
 
 /// The value that a datum is, if there is one.
+#[inline(always)]
 pub fn value_given(datum: Option<Datum>) -> Option<Value>
     ensures { result ≡ option_map as_value datum }
 {
@@ -195,6 +215,7 @@ pub fn value_given(datum: Option<Datum>) -> Option<Value>
 }
 
 /// What a return gives back, where its operand is of the kind.
+#[inline(always)]
 pub fn result_of(frames: &Frames, kind: Option<Kind>) -> Option<Option<Datum>>
     ensures { IfSome result (λ d. returns kind (top_operands frames.now.frames) ≡ Returns d) }
 {
@@ -394,6 +415,7 @@ fn pass_line(
         Action::Named(naming) => pass_named(alloc, originals, parts, markers, here, line, naming),
         Action::Return(kind) => pass_return(originals, parts, markers, here, line, *kind),
         Action::Athrow => pass_throw(originals, parts, markers, here, line),
+        Action::Arraylength => pass_measure(originals, parts, markers, here, line),
         _ => false,
     }
 }

@@ -1,7 +1,7 @@
 //! A step in hand goes on to what is told next of it, where the run is calm: by a call into a version with probes, or a return from one,
 //! of what is known.
 
-ghost use Rattle.std.specs.Prelude.{ℕ, Bool, List, ◌≡◌, ◌||◌, true, false, length, not, IfNone, IfSome, Some};
+ghost use Rattle.std.specs.Prelude.{ℕ, Bool, List, ◌≡◌, ◌||◌, true, false, length, IfNone, IfSome, Some};
 ghost use Rattle.jvm_model.specs.Basis.Data.{Turn};
 ghost use Rattle.jvm_model.specs.Rewriting.Images.{is_off};
 ghost use Rattle.jvm_model.specs.Running.Run.{starts_with};
@@ -87,9 +87,6 @@ fn invoke_known(
     ensures { let w = originals.now.setup in (told : Bool)
         → TriesIf result w markers.now told parts.old due.Begins parts.new }
 {
-    let _used = markers.peek(0);
-    let _next = line.next;
-    let _place = here.place;
     let linker = originals.linker();
     let selections = originals.selections();
     let shared = &parts.shared;
@@ -153,7 +150,6 @@ fn leave(
     ensures { let w = originals.now.setup in
         TriesIf result w markers.now true parts.old due.Nothing parts.new }
 {
-    let _next = line.next;
     if !originals.is_current(here.version) {
         return false;
     }

@@ -47,23 +47,23 @@ returns-in_default-clause-held c =
 pub invariant_of-self-2 : goal.invariant_of-self-2
 invariant_of-self-2 c = record {
   machine = calm-machine c.self.inside.originals.setup c.self.inside.originals.loaded c.self.inside.hand c.self.inside.started c.self.inside.broken c.self.inside.clock
-    c.self.inside.markers c.self.inside.parts c.self.invariant.machine c.args.self.now (seen-is c.self.invariant c.self.view_is) c.if-not-self.false c.if-self.false
-    c.is_resting-resting.result c.is_resting-resting.ensures
-    c.hand_now-hand.result (c.hand_now-hand.ensures c.self.inside.originals.setup.world) c.go_calmly-gone.new.parts c.in-Some.gone
-    (subst (λ o. IfSome o (λ gone. GoesCalmly c.self.inside.originals.setup c.self.inside.markers c.hand_now-hand.result c.self.inside.parts gone c.go_calmly-gone.new.parts)) c.in-Some.is c.go_calmly-gone.ensures.goes)
-    (subst (λ o. IfSome o (λ gone. GoesOnFrom c.self.inside.originals.setup c.hand_now-hand.result (state_of c.self.inside.markers c.self.inside.parts) gone (state_of c.self.inside.markers c.go_calmly-gone.new.parts))) c.in-Some.is c.go_calmly-gone.ensures.hands)
-    (subst (λ o. IfSome o (λ gone. IsSoundIn c.self.inside.originals.setup (state_of c.self.inside.markers c.self.inside.parts) → IsSoundIn c.self.inside.originals.setup (state_of c.self.inside.markers c.go_calmly-gone.new.parts))) c.in-Some.is c.go_calmly-gone.ensures.sound)
-    (subst (λ o. IfSome o (λ gone. c.hand_now-hand.result.moves ≡ true → c.hand_now-hand.result.told ≡ false → state_of c.self.inside.markers c.self.inside.parts ≡ starts_with c.self.inside.originals.setup.world → IsSoundIn c.self.inside.originals.setup (state_of c.self.inside.markers c.go_calmly-gone.new.parts))) c.in-Some.is c.go_calmly-gone.ensures.starts)
-    c.clock_in-self-inside.result c.clock_in-self-inside.ensures c.left-self-inside.result c.left-self-inside.ensures;
+      c.self.inside.markers c.self.inside.parts c.self.invariant.machine c.args.self.now (seen-is c.self.invariant c.self.view_is) c.if-not-self.false c.if-self.false
+      c.is_resting-resting.result c.is_resting-resting.ensures
+      c.hand_now-hand.result (c.hand_now-hand.ensures c.self.inside.originals.setup.world) c.go_calmly-gone.new.parts c.in-Some.gone
+      (subst (λ o. IfSome o (λ gone. GoesCalmly c.self.inside.originals.setup c.self.inside.markers c.hand_now-hand.result c.self.inside.parts gone c.go_calmly-gone.new.parts)) c.in-Some.is c.go_calmly-gone.ensures.goes)
+      (subst (λ o. IfSome o (λ gone. GoesOnFrom c.self.inside.originals.setup c.hand_now-hand.result (state_of c.self.inside.markers c.self.inside.parts) gone (state_of c.self.inside.markers c.go_calmly-gone.new.parts))) c.in-Some.is c.go_calmly-gone.ensures.hands)
+      (subst (λ o. IfSome o (λ gone. IsSoundIn c.self.inside.originals.setup (state_of c.self.inside.markers c.self.inside.parts) → IsSoundIn c.self.inside.originals.setup (state_of c.self.inside.markers c.go_calmly-gone.new.parts))) c.in-Some.is c.go_calmly-gone.ensures.sound)
+      (subst (λ o. IfSome o (λ gone. c.hand_now-hand.result.moves ≡ true → c.hand_now-hand.result.told ≡ false → state_of c.self.inside.markers c.self.inside.parts ≡ starts_with c.self.inside.originals.setup.world → IsSoundIn c.self.inside.originals.setup (state_of c.self.inside.markers c.go_calmly-gone.new.parts))) c.in-Some.is c.go_calmly-gone.ensures.starts)
+      c.clock_in-self-inside.result c.clock_in-self-inside.ensures c.left-self-inside.result c.left-self-inside.ensures;
   tidy = λ whole. calm-tidy c.self.inside.originals.setup c.self.inside.originals.loaded c.self.inside.hand c.self.inside.started c.self.inside.broken c.self.inside.clock
-    c.self.inside.markers c.self.inside.parts c.self.invariant.machine c.args.self.now (seen-is c.self.invariant c.self.view_is) c.if-not-self.false c.if-self.false
-    c.is_resting-resting.result c.is_resting-resting.ensures
-    c.hand_now-hand.result (c.hand_now-hand.ensures c.self.inside.originals.setup.world) c.go_calmly-gone.new.parts c.in-Some.gone
-    (subst (λ o. IfSome o (λ gone. GoesCalmly c.self.inside.originals.setup c.self.inside.markers c.hand_now-hand.result c.self.inside.parts gone c.go_calmly-gone.new.parts)) c.in-Some.is c.go_calmly-gone.ensures.goes)
-    (subst (λ o. IfSome o (λ gone. GoesOnFrom c.self.inside.originals.setup c.hand_now-hand.result (state_of c.self.inside.markers c.self.inside.parts) gone (state_of c.self.inside.markers c.go_calmly-gone.new.parts))) c.in-Some.is c.go_calmly-gone.ensures.hands)
-    (subst (λ o. IfSome o (λ gone. IsSoundIn c.self.inside.originals.setup (state_of c.self.inside.markers c.self.inside.parts) → IsSoundIn c.self.inside.originals.setup (state_of c.self.inside.markers c.go_calmly-gone.new.parts))) c.in-Some.is c.go_calmly-gone.ensures.sound)
-    (subst (λ o. IfSome o (λ gone. c.hand_now-hand.result.moves ≡ true → c.hand_now-hand.result.told ≡ false → state_of c.self.inside.markers c.self.inside.parts ≡ starts_with c.self.inside.originals.setup.world → IsSoundIn c.self.inside.originals.setup (state_of c.self.inside.markers c.go_calmly-gone.new.parts))) c.in-Some.is c.go_calmly-gone.ensures.starts)
-    c.clock_in-self-inside.result c.clock_in-self-inside.ensures c.left-self-inside.result c.left-self-inside.ensures (c.self.invariant.tidy whole);
+      c.self.inside.markers c.self.inside.parts c.self.invariant.machine c.args.self.now (seen-is c.self.invariant c.self.view_is) c.if-not-self.false c.if-self.false
+      c.is_resting-resting.result c.is_resting-resting.ensures
+      c.hand_now-hand.result (c.hand_now-hand.ensures c.self.inside.originals.setup.world) c.go_calmly-gone.new.parts c.in-Some.gone
+      (subst (λ o. IfSome o (λ gone. GoesCalmly c.self.inside.originals.setup c.self.inside.markers c.hand_now-hand.result c.self.inside.parts gone c.go_calmly-gone.new.parts)) c.in-Some.is c.go_calmly-gone.ensures.goes)
+      (subst (λ o. IfSome o (λ gone. GoesOnFrom c.self.inside.originals.setup c.hand_now-hand.result (state_of c.self.inside.markers c.self.inside.parts) gone (state_of c.self.inside.markers c.go_calmly-gone.new.parts))) c.in-Some.is c.go_calmly-gone.ensures.hands)
+      (subst (λ o. IfSome o (λ gone. IsSoundIn c.self.inside.originals.setup (state_of c.self.inside.markers c.self.inside.parts) → IsSoundIn c.self.inside.originals.setup (state_of c.self.inside.markers c.go_calmly-gone.new.parts))) c.in-Some.is c.go_calmly-gone.ensures.sound)
+      (subst (λ o. IfSome o (λ gone. c.hand_now-hand.result.moves ≡ true → c.hand_now-hand.result.told ≡ false → state_of c.self.inside.markers c.self.inside.parts ≡ starts_with c.self.inside.originals.setup.world → IsSoundIn c.self.inside.originals.setup (state_of c.self.inside.markers c.go_calmly-gone.new.parts))) c.in-Some.is c.go_calmly-gone.ensures.starts)
+      c.clock_in-self-inside.result c.clock_in-self-inside.ensures c.left-self-inside.result c.left-self-inside.ensures (c.self.invariant.tidy whole);
 }
 
 pub returns-clause-stops : goal.returns-clause-stops

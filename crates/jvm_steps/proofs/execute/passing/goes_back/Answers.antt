@@ -1,5 +1,4 @@
 use Rattle.std.proofs.Common.{◌-◌, sym, ap, ◌∙◌}
-use Rattle.std.specs.Option.{option_copied}
 use Rattle.jvm_steps.specs.Machine.Markers.{marker_on}
 use Rattle.jvm_steps.proofs.Marked.Beneath.{not-some}
 use Rattle.jvm_steps.proofs.Silent.ReturnLemmas.{caller-there, goes-there}

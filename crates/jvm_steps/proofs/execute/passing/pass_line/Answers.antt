@@ -28,3 +28,9 @@ pass_throw-requires-clause-here c = sym c.where_now.ensures ∙ c.in-Some.is
 
 pub pass_throw-requires-clause-line : goal.pass_throw-requires-clause-line
 pass_throw-requires-clause-line c = c.in-Some-line.ensures.line
+
+pub pass_measure-requires-clause-here : goal.pass_measure-requires-clause-here
+pass_measure-requires-clause-here c = sym c.where_now.ensures ∙ c.in-Some.is
+
+pub pass_measure-requires-clause-line : goal.pass_measure-requires-clause-line
+pass_measure-requires-clause-line c = c.in-Some-line.ensures.line

@@ -1,4 +1,4 @@
-use Rattle.std.proofs.Common.{◌≡◌, true, false, refl, sym, ap, subst, ◌∙◌}
+use Rattle.std.proofs.Common.{true, sym, ap, subst, ◌∙◌}
 use Rattle.jvm_model.specs.declared.due.Due.TheVariants.{Ends, Nothing}
 use Rattle.jvm_model.specs.declared.event.EventKind.TheVariants as kind
 use Rattle.jvm_steps.specs.Moves.Calmly.{TriesCalmly, TriesIf}

@@ -1,7 +1,7 @@
-use Rattle.std.proofs.Common.{◌≡◌, ◌≤◌, ℕ, true, false, refl, sym, ap, subst, ◌∙◌, arith}
+use Rattle.std.proofs.Common.{sym, subst, ◌∙◌, arith}
 use Rattle.std.specs.Option.{IfSome}
 use Rattle.std.proofs.lemmas.Bool.{false≢true}
-use Rattle.jvm_steps.specs.Moves.Calmly.{GoesCalmly, TriesCalmly}
+use Rattle.jvm_steps.specs.Moves.Calmly.{TriesCalmly}
 use Rattle.jvm_steps.proofs.Moves.CalmHands.{calm-moves, calm-tries, hands-calmly, sound-calmly, start-calmly}
 use Rattle.jvm_steps.proofs.turns.calmly.go_calmly.Goals as goal
 
