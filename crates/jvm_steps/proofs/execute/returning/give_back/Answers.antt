@@ -4,7 +4,9 @@ use Rattle.jvm_steps.proofs.Instructions.Passages.{gives-back-so}
 use Rattle.jvm_steps.proofs.execute.returning.give_back.Goals as goal
 
 pub returns : goal.returns
-returns c =
-    c.give_back_by.ensures.state
-    ∙ gives-back-so c.args.originals.now.setup.versions (state_in c.args.parts.now) c.args.datum c.args.parts.now.frames.frames c.in-Some.caller c.in_ok-passage.passage
-    (sym c.where_now.ensures ∙ c.in-Some.is) c.in_ok-passage.ensures
+returns c = record {
+  state =
+      c.give_back_by.ensures.state
+      ∙ gives-back-so c.args.originals.now.setup.versions (state_in c.args.parts.now) c.args.datum c.args.parts.now.frames.frames c.in-Some.caller c.in_ok-passage.passage
+      (sym c.where_now.ensures ∙ c.in-Some.is) c.in_ok-passage.ensures;
+}
